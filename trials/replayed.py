@@ -28,6 +28,10 @@ NAMES = [
 # How long a run may take, in seconds.
 PATIENCE = 60
 
+# A script of more events is long; so many of its events are run after the one that met the refusal was sent again.
+LONG = 100
+FEW = 24
+
 # Procedures of NFS version 3 (RFC 1813).
 LOOKUP, READ, WRITE, CREATE, MKDIR, REMOVE, RMDIR, RENAME, READDIR = 3, 6, 7, 8, 9, 12, 13, 14, 16
 NAMED = (LOOKUP, WRITE, CREATE, MKDIR, REMOVE, RMDIR, RENAME)
@@ -59,12 +63,21 @@ class Runner:
         self.page = Page(folder, f"page-{os.getpid()}")
         self.path = folder / f"script-{os.getpid()}"
         self.environment = environment(library, self.page)
+        self.written = None
+
+    def write(self, script, events, length):
+        """Writes a script with these events, of so many bytes in all."""
+        lines = [line.encode() + b"\n" for line in script.layout] + [event.spelled for event in events]
+        padding = length - sum(map(len, lines))
+        assert padding >= 2, f"{script.name}: no room for the padding"
+        with open(self.path, "wb") as file:
+            file.writelines(lines)
+            file.write(b"#" * (padding - 1) + b"\n")
+        self.written = events
 
     def run(self, script, events, length, refused=0, all_after=0):
-        text = "".join(line + "\n" for line in script.layout + [event.line for event in events])
-        padding = length - len(text)
-        assert padding >= 2, f"{script.name}: no room for the padding"
-        self.path.write_text(text + "#" * (padding - 1) + "\n")
+        if self.written is not events:
+            self.write(script, events, length)
         self.page.set(counting=1, refused=refused, all_after=all_after)
         try:
             done = subprocess.run(
@@ -144,6 +157,7 @@ class Plan:
         longest = max(len(event.line) for event in self.events)
         self.length = 2 * size + 2 * longest if size < 1 << 20 else size + 8 * longest
         self.references = {}
+        self.last = None
         self.learn(runner)
 
     @staticmethod
@@ -208,6 +222,11 @@ class Trial:
 
     def check(self):
         plan = self.plan
+        if plan.last is not None:
+            # mostly the refusal is met where the one before was
+            result = self.runner.run(plan.script, plan.last.events, plan.length, self.refused)
+            if result.refusals == 1 and plan.last.mismatch(result) is None:
+                return
         result = self.runner.run(plan.script, plan.events, plan.length, self.refused)
         if self.refused > plan.calls:
             if result.refusals or result.lines != plan.lines or result.status:
@@ -338,7 +357,8 @@ class Trial:
         return [events[self.at + 1]], others, [events[at] for at in own], rest
 
     def tail(self, before, again, rest):
-        """Probes, the event again, and the rest, whose probes at the end are on a connection with a later number."""
+        """Probes, the event again, and the rest, whose probes at the end are on a connection with a later number. Of a
+        long script's rest only the next few events are left."""
         plan = self.plan
         waiting, running = plan.before[self.at]
         if self.event.kind == "work":
@@ -349,15 +369,20 @@ class Trial:
             return volumes + again + rest
         middle = [Event("open")] + probes(plan.script, own, waiting, plan.reads(self.at + 1))
         last = len(plan.events) - len(plan.script.events)
-        at_end = [Event("open")] + probes(plan.script, plan.connections + 1, 0, plan.reads(len(plan.script.events)))
-        assert len(at_end) == last
-        keeps = max(0, len(rest) - last)
-        return middle + again + rest[:keeps] + at_end[last - (len(rest) - keeps) :]
+        if len(rest) <= last:
+            return middle + again
+        rest = rest[:-last]
+        if len(plan.script.events) > LONG:
+            rest = rest[:FEW]
+        opened = self.connections(before + middle + again + rest)
+        return middle + again + rest + [Event("open")] + probes(plan.script, opened, 0, plan.reads(self.at + 1))
 
     def reference(self, key, before, tail):
         """What the tail prints where nothing is refused."""
         plan = self.plan
         if key not in plan.references:
+            if len(plan.references) > 8:
+                plan.references.clear()
             result = self.runner.run(plan.script, before + tail, plan.length)
             blocks, rest = blocks_of(before + tail, result.lines)
             if rest or len(blocks) != len(before) + len(tail):
@@ -372,22 +397,35 @@ class Trial:
         tail = self.tail(plan.events[: self.at], again, rest)
         wanted = self.reference((self.at, self.build.__name__, getattr(self, "taken", None)), before, tail)
         events = plan.events[: self.at + 1] + after + tail
-        result = self.runner.run(plan.script, events, plan.length, self.refused)
-        blocks, lines = blocks_of(events, result.lines)
-        start = self.at + 1
-        if result.refusals != 1 or blocks[: self.at] != plan.blocks[: self.at] or blocks[self.at] != self.block:
-            self.fail("not so where other events follow")
+        blocks = plan.blocks[: self.at] + [self.block]
         if after:
             message = plan.events[plan.message[self.at]]
-            output = [f"out {message.number} {self.starved_output(Record(message.data))}"]
-            if blocks[start : start + 1] != [output]:
-                self.fail(f"then the call is finished with {clip(blocks[start])}")
-            start += 1
-        for event, got, expected in zip(events[start:], blocks[start:], wanted):
-            if got != expected:
-                self.fail(f"then `{event.line[:70]}` prints {clip(got)}, and without a refusal {clip(expected)}")
-        if lines or len(blocks) != len(events):
-            self.fail(f"then {len(blocks)} of {len(events)} events are run")
-        is_refused = any(line.startswith("refused ") for line in result.lines)
-        if result.status != int(is_refused):
-            self.fail(f"then the program ends with status {result.status}")
+            blocks.append([f"out {message.number} {self.starved_output(Record(message.data))}"])
+        plan.last = Case(events, blocks + wanted)
+        result = self.runner.run(plan.script, events, plan.length, self.refused)
+        if result.refusals != 1:
+            self.fail(f"then {result.refusals} calls are refused")
+        wrong = plan.last.mismatch(result)
+        if wrong is not None:
+            plan.last = None
+            self.fail(f"then {wrong}")
+
+
+class Case:
+    """A script in which an event meets the refusal, and what each of its events prints."""
+
+    def __init__(self, events, blocks):
+        self.events = events
+        self.blocks = blocks
+        self.lines = [line for block in blocks for line in block]
+        self.status = int(any(line.startswith("refused ") for line in self.lines))
+
+    def mismatch(self, result):
+        """What a run shows that it should not, if anything."""
+        if result.lines == self.lines:
+            return None if result.status == self.status else f"the program ends with status {result.status}"
+        blocks, rest = blocks_of(self.events, result.lines)
+        for event, got, wanted in zip(self.events, blocks, self.blocks):
+            if got != wanted:
+                return f"`{event.line[:70]}` prints {clip(got)}, and without a refusal {clip(wanted)}"
+        return f"{len(blocks)} of {len(self.events)} events are run, and {len(rest)} more lines printed"

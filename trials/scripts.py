@@ -24,6 +24,7 @@ class Event:
 
     def __init__(self, line, data=None):
         self.line = line
+        self.spelled = line.encode() + b"\n"
         self.data = data
         self.words = line.split(" ", 3)
         self.kind = self.words[0]
