@@ -25,6 +25,9 @@ NAMES = [
     "directories_and_hands",
 ]
 
+# Those that take some minutes of a processor.
+LONG_NAMES = ["full_volume", "blocks_in_a_hand"]
+
 # How long a run may take, in seconds.
 PATIENCE = 60
 
@@ -156,6 +159,7 @@ class Plan:
         size = sum(len(event.line) + 1 for event in self.events)
         longest = max(len(event.line) for event in self.events)
         self.length = 2 * size + 2 * longest if size < 1 << 20 else size + 8 * longest
+        self.is_short = len(self.script.events) <= LONG
         self.references = {}
         self.last = None
         self.learn(runner)
@@ -221,6 +225,31 @@ class Trial:
         self.refused = refused
 
     def check(self):
+        self.check_one()
+        if self.plan.is_short:
+            self.check_all_after()
+
+    def check_all_after(self):
+        """Where all calls from one on are refused, events go on that take no memory, and the others tell it."""
+        plan = self.plan
+        result = self.runner.run(plan.script, plan.events, plan.length, self.refused, all_after=1)
+        blocks, rest = blocks_of(plan.events, result.lines)
+        if rest or result.status not in (0, 1) and (result.status, result.lines) != (2, ["fault 60"]):
+            raise Wrong(f"with all calls refused from then on the program ends with status {result.status}")
+        is_ended = len(blocks) < len(plan.events)
+        met = False
+        for at, (event, got, wanted) in enumerate(zip(plan.events, blocks, plan.blocks)):
+            lacks = got == ["refused 90"]
+            is_last = is_ended and at + 1 == len(blocks)
+            may = event.kind in MAY_BE_REFUSED or is_last and (event.kind == "feed" or at == 0)
+            if lacks and not may:
+                raise Wrong(f"with all calls refused from then on `{event.line[:70]}` prints {clip(got)}")
+            if got != wanted and not met:
+                met = True
+                if not may and event.kind not in ("feed", "work"):
+                    raise Wrong(f"with all calls refused from then on `{event.line[:70]}` is the first to differ")
+
+    def check_one(self):
         plan = self.plan
         if plan.last is not None:
             # mostly the refusal is met where the one before was
@@ -372,7 +401,7 @@ class Trial:
         if len(rest) <= last:
             return middle + again
         rest = rest[:-last]
-        if len(plan.script.events) > LONG:
+        if not plan.is_short:
             rest = rest[:FEW]
         opened = self.connections(before + middle + again + rest)
         return middle + again + rest + [Event("open")] + probes(plan.script, opened, 0, plan.reads(self.at + 1))

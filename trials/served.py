@@ -21,6 +21,9 @@ CLIENTS = 3
 # How many rounds of calls each makes.
 ROUNDS = 5
 
+# How the server ends where it has no memory for a connection, or for a thread.
+LACKING = (("refused 90\n", 1), ("fault 66\n", 1))
+
 ROOT = 1
 REGULAR, DIRECTORY = 1, 2
 BLOCK = 4096
@@ -44,10 +47,10 @@ class Server:
         self.process = subprocess.Popen(
             [filer] + words, env=environment, stdin=subprocess.DEVNULL, stdout=subprocess.PIPE, stderr=subprocess.STDOUT
         )
-        line = self.process.stdout.readline().decode()
-        if not line.startswith("listening 127.0.0.1:"):
-            raise Wrong(f"it prints {line!r} as it starts")
-        self.port = int(line.rsplit(":", 1)[1])
+        self.printed = None
+        # the first line: where it listens, or why it doesn't
+        self.first = self.process.stdout.readline().decode()
+        self.port = int(self.first.rsplit(":", 1)[1]) if self.first.startswith("listening 127.0.0.1:") else None
 
     def wait(self, seconds):
         """What it printed since it listens and its status, once it has ended within so many seconds."""
@@ -58,7 +61,9 @@ class Server:
         status = self.process.returncode
         if status < 0:
             raise Wrong(f"the server is killed by {signal.Signals(-status).name}")
-        return self.process.stdout.read().decode(), status
+        if self.printed is None:
+            self.printed = self.process.stdout.read().decode()
+        return self.printed, status
 
     def kill(self):
         if self.process.poll() is None:
@@ -319,10 +324,10 @@ class Trial:
     def __init__(self, filer, library, folder, refused, in_batches):
         self.page = Page(folder, f"page-{os.getpid()}")
         self.page.set(from_accept=1, refused=refused)
-        self.refused = refused
         self.in_batches = in_batches
         self.xid = 0
         self.strange = 0
+        self.met_in_opening = False
         self.owners = [Owner(number) for number in range(CLIENTS)]
         self.server = Server(filer, environment(library, self.page), CLIENTS + 1)
         self.links = []
@@ -340,6 +345,8 @@ class Trial:
         return self.page.calls, self.page.refusals
 
     def serve(self):
+        if self.server.port is None:
+            raise Wrong(f"it prints {self.server.first!r} as it starts")
         for _ in range(CLIENTS):
             self.open()
         self.prepare()
@@ -352,31 +359,38 @@ class Trial:
         ended = self.server.wait(PATIENCE)
         if ended is None:
             raise Wrong(f"the server doesn't end within {PATIENCE} seconds")
+        if self.met_in_opening and ended in LACKING:
+            return
         expect("the server's end", ended, ("left 0\n", 0))
-        if self.strange > self.page.refusals:
-            raise Wrong(f"{self.strange} calls or connections without an answer, {self.page.refusals} refusals")
 
     def open(self):
         """Opens a connection, and makes a call. Where memory runs out at this, the server may end and tell it, or else the
         connection ends and the others go on."""
         before = self.page.refusals
-        link = Link(self.server.port)
-        self.links.append(link)
         self.xid += 1
-        link.send(null().record(self.xid))
-        got = link.receive()
-        if got is not None:
-            expect("NULL", wire.reply(got)[:2], (self.xid, wire.SUCCESS))
+        got = None
+        try:
+            link = Link(self.server.port)
+            self.links.append(link)
+            link.send(null().record(self.xid))
+            got = link.receive()
+        except (ConnectionRefusedError, ConnectionResetError):
+            pass
+        if self.page.refusals > before:
+            self.met_in_opening = True
+        if got is None:
+            self.is_unanswered("NULL on a new connection")
             return
-        if self.page.refusals == before:
-            raise Wrong("a connection ends as it is opened")
+        expect("NULL", wire.reply(got)[:2], (self.xid, wire.SUCCESS))
+
+    def is_unanswered(self, what):
+        """A connection has ended without an answer. So may the server where memory ran out as a connection was opened."""
         self.strange += 1
-        ended = self.server.wait(1)
-        if ended is None:
-            return
-        if ended not in (("refused 90\n", 1), ("fault 66\n", 1)):
-            raise Wrong(f"the server ends with {ended}")
-        raise Ended
+        if self.met_in_opening:
+            if self.server.wait(1) in LACKING:
+                raise Ended
+        if self.strange > self.page.refusals:
+            raise Wrong(f"{what} isn't answered")
 
     def link(self, preferred):
         """A connection that is open, the preferred one if it is."""
@@ -392,7 +406,7 @@ class Trial:
         expect("the xid", got, xid)
         if status == wire.SYSTEM_ERR:
             self.strange += 1
-            if not call.may_starve:
+            if not call.may_starve or self.strange > self.page.refusals:
                 raise Wrong(f"{call.name} is starved")
             reader.end()
             return True
@@ -410,11 +424,9 @@ class Trial:
             link.send(call.record(self.xid))
             record = link.receive()
             if record is None:
-                self.strange += 1
+                self.is_unanswered(call.name)
             elif not self.take(call, record, self.xid):
                 return
-            if self.strange > self.page.refusals:
-                raise Wrong(f"{call.name} isn't answered")
             self.look()
 
     def run_batch(self, batches):
@@ -435,7 +447,7 @@ class Trial:
             while numbered:
                 record = link.receive()
                 if record is None:
-                    self.strange += 1
+                    self.is_unanswered("a batch")
                     is_strange = True
                     if list(numbered) != order[len(order) - len(numbered) :]:
                         raise Wrong("a connection ends, and has answered a call after one that it hasn't")
@@ -444,8 +456,6 @@ class Trial:
                 if xid not in numbered:
                     raise Wrong("a reply to no call, or a second one")
                 is_strange |= self.take(numbered.pop(xid), record, xid)
-        if self.strange > self.page.refusals:
-            raise Wrong(f"{self.strange} calls or connections without an answer, {self.page.refusals} refusals")
         if is_strange:
             self.look()
 
@@ -547,10 +557,37 @@ class Trial:
                 link.send(call.record(self.xid))
                 record = link.receive()
                 if record is None:
-                    self.strange += 1
+                    self.is_unanswered(call.name)
                 elif not self.take(call, record, self.xid):
                     break
-                if self.strange > self.page.refusals:
-                    raise Wrong(f"{call.name} isn't answered")
             else:
                 raise Wrong(f"{call.name} isn't answered twice")
+
+
+class Start(Trial):
+    """A server one of whose allocations is refused, from its start on, that serves one connection."""
+
+    def __init__(self, filer, library, folder, refused):
+        self.page = Page(folder, f"page-{os.getpid()}")
+        self.page.set(counting=1, refused=refused)
+        self.xid = 0
+        self.strange = 0
+        self.met_in_opening = False
+        self.server = Server(filer, environment(library, self.page), 1)
+        self.links = []
+
+    def serve(self):
+        """Where it doesn't listen it tells why, and ends; else it serves and ends as any."""
+        if self.server.port is None:
+            output, status = self.server.wait(PATIENCE) or ("", None)
+            if (self.server.first + output, status) not in LACKING + (("fault 60\n", 2),):
+                raise Wrong(f"it prints {self.server.first + output!r} and ends with status {status}")
+            if not self.page.refusals:
+                raise Wrong("it has no memory where none was refused")
+            return
+        self.open()
+        for link in self.links:
+            link.close()
+        ended = self.server.wait(PATIENCE)
+        if ended != ("left 0\n", 0) and not (self.met_in_opening and ended in LACKING):
+            raise Wrong(f"the server ends with {ended}")
