@@ -6,7 +6,7 @@ import signal
 import subprocess
 
 from memory import Page, environment
-from scripts import Event, Record, Script, feed, is_as_typed, spelled
+from scripts import Event, Script, feed, is_as_typed, spelled
 
 # The scripts, each with what it is about.
 NAMES = [
@@ -23,6 +23,7 @@ NAMES = [
     "exclusive",
     "grow_and_census",
     "directories_and_hands",
+    "several_records",
 ]
 
 # Those that take some minutes of a processor.
@@ -151,8 +152,8 @@ class Plan:
 
     def __init__(self, name, runner):
         script = self.script = Script(name)
-        script.last_fileid = 1 + sum(self.record(event).procedure in (CREATE, MKDIR) for event in script.events
-                                     if event.kind == "feed" and self.record(event).is_nfs)
+        records = [record for event in script.events if event.kind == "feed" for record in event.records]
+        script.last_fileid = 1 + sum(record.is_nfs and record.procedure in (CREATE, MKDIR) for record in records)
         self.connections = sum(event.kind == "open" for event in script.events)
         self.events = list(script.events)
         self.events += [Event("open")] + probes(script, self.connections, 0, self.reads(len(self.events)))
@@ -163,10 +164,6 @@ class Plan:
         self.references = {}
         self.last = None
         self.learn(runner)
-
-    @staticmethod
-    def record(event):
-        return Record(event.data)
 
     def learn(self, runner):
         """Runs the script without a refusal, and compares with what is typed."""
@@ -182,16 +179,16 @@ class Plan:
         self.trace()
 
     def trace(self):
-        """Which message each event is of, by the index of the feed that brought it, and how many wait and run before it."""
+        """Which message each event is of, by the index of the feed that brought it and its record there, and how many wait
+        and run before it."""
         waiting, running = [], {}
-        self.message, self.before = [], []
+        self.message, self.before, self.queue = [], [], []
         for at, (event, block) in enumerate(zip(self.events, self.blocks)):
             self.before.append((len(waiting), len(running)))
+            self.queue.append(list(waiting))
             message = None
             if event.kind == "feed":
-                message = at
-                if len(block) == 1:
-                    waiting.append(at)
+                waiting += [(at, place) for place, record in enumerate(event.records) if not record.is_at_once]
             elif event.kind == "begin" and block[0].startswith("granted "):
                 message = waiting.pop(int(event.words[2]))
                 running[event.number] = message
@@ -202,17 +199,23 @@ class Plan:
                 if block == ["back"]:
                     waiting.append(message)
             self.message.append(message)
+        self.before.append((len(waiting), len(running)))
 
     def reads(self, before):
         """READs of what the WRITEs before an event write: of all, or of the first and the last few where they are many."""
         found = []
         for event in self.script.events[:before]:
-            if event.kind == "feed" and self.record(event).is_nfs and self.record(event).procedure == WRITE:
-                record = self.record(event)
-                found.append((record.word(3), record.word(4) << 32 | record.word(5), record.word(6)))
+            for record in event.records if event.kind == "feed" else []:
+                if record.is_nfs and record.procedure == WRITE:
+                    found.append((record.word(3), record.word(4) << 32 | record.word(5), record.word(6)))
         return found if len(found) < 8 else found[:1] + found[-2:]
 
+    def record(self, message):
+        feed_at, place = message
+        return self.events[feed_at].records[place]
+
     def events_of(self, message):
+        """The events of a message after its feed."""
         return [at for at, of in enumerate(self.message) if of == message]
 
 
@@ -305,19 +308,30 @@ class Trial:
         return spelled(f"80000018 A({record.xid:08x},00000005)")
 
     def check_feed(self):
-        """A feed stops before its last byte, or the record was not decoded, for want of room for a name or data."""
-        record = Record(self.event.data)
+        """A feed stops before its last byte, or one record was not decoded, for want of room for a name or data. The
+        records before are served."""
+        answers = iter(self.plan.blocks[self.at][1:])
+        told = [(record, next(answers) if record.is_at_once else None) for record in self.event.records]
+        waiting, _ = self.plan.before[self.at]
         stopped = re.fullmatch(r"taken (\d+) stop 90", self.block[0])
-        if stopped and len(self.block) == 1 and int(stopped[1]) < len(self.event.data):
+        if stopped and int(stopped[1]) < len(self.event.data):
             self.taken = int(stopped[1])
+            served = [answer for record, answer in told if record.end <= self.taken]
+            if self.block[1:] != [answer for answer in served if answer]:
+                self.fail("not the replies of just the records before the stop")
+            self.waiting = waiting + served.count(None)
             self.build = self.feed_on
             return
-        starved = [f"taken {len(self.event.data)} stop 0", f"out {self.event.number} {self.starved_output(record)}"]
-        if self.block != starved:
-            self.fail("neither a stop nor a starved call")
-        if not (record.is_nfs and record.procedure in NAMED):
-            self.fail("a call without a name or data is starved as it is decoded")
-        self.build = self.again
+        for self.lacking, (record, answer) in enumerate(told):
+            if answer is None and record.is_nfs and record.procedure in NAMED:
+                starved = told.copy()
+                starved[self.lacking] = (record, f"out {self.event.number} {self.starved_output(record)}")
+                lines = [f"taken {len(self.event.data)} stop 0"] + [answer for _, answer in starved if answer]
+                if self.block == lines:
+                    self.waiting = waiting + sum(answer is None for _, answer in starved)
+                    self.build = self.feed_again
+                    return
+        self.fail("neither a stop nor one starved call with a name or data")
 
     def check_work(self):
         """A call that may take memory and would else succeed is starved."""
@@ -329,11 +343,11 @@ class Trial:
 
     def may_be_starved(self):
         plan = self.plan
-        events = plan.events_of(plan.message[self.at])
-        record = Record(plan.events[events[0]].data)
+        message = plan.message[self.at]
+        record = plan.record(message)
         if not record.is_nfs:
             return record.procedure == 1
-        answer = plan.blocks[events[-1]][0].split(" ")[2]
+        answer = plan.blocks[plan.events_of(message)[-1]][0].split(" ")[2]
         if answer[56:64] != "00000000":
             return False
         if record.procedure == READ:
@@ -342,24 +356,21 @@ class Trial:
         if record.procedure == READDIR:
             return True
         if record.procedure == WRITE:
-            return self.differs(events, lambda event: event.kind == "parts")
+            return self.differs(lambda event: event.kind == "parts")
         if record.procedure in (CREATE, MKDIR, RENAME):
-            return self.differs(events, lambda event: event.kind == "feed" and Record(event.data).procedure == READDIR)
+            return self.differs(lambda event: event.kind == "feed" and event.records[0].procedure == READDIR)
         return False
 
-    def differs(self, events, is_chosen):
-        """Whether probes of a kind show something else after a call than before it."""
+    def differs(self, is_chosen):
+        """Whether probes of a kind show something else after the call's last run than before it."""
+        plan = self.plan
         shown = []
-        for end in (events[0], events[-1] + 1):
-            before = self.plan.events[:end]
-            tail = [Event("open")] + probes(self.plan.script, self.connections(before), self.plan.before[events[0]][0], [])
+        for end in (self.at - 1, self.at + 2):
+            before = plan.events[:end]
+            tail = [Event("open")] + probes(plan.script, self.connections(before), plan.before[end][0], [])
             blocks = self.reference(("shown", end), before, tail)
-            chosen = []
-            for at, event in enumerate(tail):
-                if is_chosen(event):
-                    # a call's answer is what its finish prints
-                    chosen.append(blocks[at] if event.kind == "parts" else blocks[at + 3])
-            shown.append(chosen)
+            # a call's answer is what its finish prints
+            shown.append([blocks[at + (0 if event.kind == "parts" else 3)] for at, event in enumerate(tail) if is_chosen(event)])
         return shown[0] != shown[1]
 
     @staticmethod
@@ -378,18 +389,41 @@ class Trial:
         taken = [feed(connection, data[: self.taken])]
         return [], events[: self.at] + taken, [feed(connection, data[self.taken :])], events[self.at + 1 :]
 
+    def feed_again(self):
+        events = self.plan.events
+        others, lacking = self.without(self.event, self.lacking)
+        return [], events[: self.at] + [others], [lacking], events[self.at + 1 :]
+
+    @staticmethod
+    def without(event, place):
+        """A feed without one of its records, and a feed of that."""
+        records = event.records
+        others = b"".join(record.data for at, record in enumerate(records) if at != place)
+        return feed(event.number, others), feed(event.number, records[place].data)
+
     def call_again(self):
         events = self.plan.events
-        own = self.plan.events_of(self.plan.message[self.at])
-        others = [event for at, event in enumerate(events[: self.at]) if at not in own]
+        message = self.plan.message[self.at]
+        own = self.plan.events_of(message)
+        others, lacking = self.without(events[message[0]], message[1])
+        before = [self.begun_without(at, message) for at in range(self.at) if at not in own]
+        before[message[0]] = others
         rest = [event for at, event in enumerate(events) if at > self.at and at not in own]
-        return [events[self.at + 1]], others, [events[at] for at in own], rest
+        return [events[self.at + 1]], before, [lacking] + [events[at] for at in own], rest
+
+    def begun_without(self, at, message):
+        """An event where a message doesn't wait: a begin of one behind it is of one place before."""
+        event, queue = self.plan.events[at], self.plan.queue[at]
+        if event.kind != "begin" or message not in queue or queue.index(message) > int(event.words[2]):
+            return event
+        return Event(f"begin {event.words[1]} {int(event.words[2]) - 1} {event.words[3]}")
 
     def tail(self, before, again, rest):
         """Probes, the event again, and the rest, whose probes at the end are on a connection with a later number. Of a
         long script's rest only the next few events are left."""
         plan = self.plan
         waiting, running = plan.before[self.at]
+        waiting = getattr(self, "waiting", waiting)
         if self.event.kind == "work":
             running -= 1
         volumes = [Event(f"parts {volume}") for volume in range(plan.script.volumes)]
@@ -424,12 +458,13 @@ class Trial:
         plan = self.plan
         after, before, again, rest = self.build()
         tail = self.tail(plan.events[: self.at], again, rest)
-        wanted = self.reference((self.at, self.build.__name__, getattr(self, "taken", None)), before, tail)
+        wanted = self.reference((self.at, self.build.__name__, getattr(self, "taken", None), getattr(self, "lacking", None)), before, tail)
         events = plan.events[: self.at + 1] + after + tail
         blocks = plan.blocks[: self.at] + [self.block]
         if after:
-            message = plan.events[plan.message[self.at]]
-            blocks.append([f"out {message.number} {self.starved_output(Record(message.data))}"])
+            message = plan.message[self.at]
+            connection = plan.events[message[0]].number
+            blocks.append([f"out {connection} {self.starved_output(plan.record(message))}"])
         plan.last = Case(events, blocks + wanted)
         result = self.runner.run(plan.script, events, plan.length, self.refused)
         if result.refusals != 1:

@@ -31,6 +31,16 @@ class Event:
         self.prints = None
 
     @property
+    def records(self):
+        """The records of a feed, whose bytes are whole records of one fragment."""
+        found, start = [], 0
+        while start < len(self.data):
+            end = start + 4 + (int.from_bytes(self.data[start : start + 4], "big") & 0x7FFFFFFF)
+            found.append(Record(self.data[start:end], end))
+            start = end
+        return found
+
+    @property
     def number(self):
         """The connection, worker or volume that the line names first."""
         return int(self.words[1])
@@ -164,9 +174,11 @@ def is_as_typed(printed_lines, typed):
 
 
 class Record:
-    """A call record of one fragment: its xid, program, procedure and arguments (RFC 5531 sections 9 and 11)."""
+    """A call record of one fragment: its xid, program, procedure and arguments (RFC 5531 sections 9 and 11). It ends
+    after so many bytes of its feed."""
 
-    def __init__(self, data):
+    def __init__(self, data, end):
+        self.data, self.end = data, end
         self.xid, _, _, self.program, _, self.procedure = struct.unpack_from(">6I", data, 4)
         self.arguments = data[44:]
 
@@ -176,3 +188,8 @@ class Record:
     @property
     def is_nfs(self):
         return self.program == 100003
+
+    @property
+    def is_at_once(self):
+        """Whether it is answered in its feed: in these scripts, a NULL call."""
+        return self.procedure == 0

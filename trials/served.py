@@ -2,11 +2,9 @@
 and its exit status alone."""
 
 import os
-import select
 import signal
 import socket
 import subprocess
-import time
 
 import wire
 from memory import Page, environment
@@ -87,7 +85,7 @@ class Link:
         except (BrokenPipeError, ConnectionResetError):
             # what was answered before is still read
             pass
-        except TimeoutError:
+        except socket.timeout:
             raise Wrong(f"no bytes are taken within {PATIENCE} seconds")
 
     def receive(self):
@@ -105,7 +103,7 @@ class Link:
                 got = self.socket.recv(1 << 16)
             except ConnectionResetError:
                 got = b""
-            except TimeoutError:
+            except socket.timeout:
                 raise Wrong(f"no reply within {PATIENCE} seconds")
             if not got:
                 self.is_open = False
