@@ -59,8 +59,8 @@ class Page:
     def word(self, index):
         return struct.unpack_from("<Q", self.words, 8 * index)[0]
 
-    def count_from_now(self):
-        struct.pack_into("<Q", self.words, 8 * COUNTING, 1)
+    def refuse_no_more(self):
+        struct.pack_into("<2Q", self.words, 8 * REFUSED_CALL, 0, 0)
 
     @property
     def calls(self):

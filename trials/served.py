@@ -352,6 +352,10 @@ class Trial:
             self.play_round(number)
         self.open()
         self.look()
+        self.finish()
+
+    def finish(self):
+        """All connections end, and then the server."""
         for link in self.links:
             link.close()
         ended = self.server.wait(PATIENCE)
@@ -473,7 +477,7 @@ class Trial:
             lambda: owner.write(fresh, f"{owner.name}{number}".encode() * 40),
             lambda: owner.write(BLOCK + 8 * number, f"over{number:04}".encode()),
             lambda: owner.remove(f"r{number - 1}"),
-            owner.read_start,
+            owner.read_start if owner.size else look_at_root,
             owner.lookup,
             lambda: list_directory(ROOT, self.judge_root),
             null,
@@ -562,6 +566,46 @@ class Trial:
                 raise Wrong(f"{call.name} isn't answered twice")
 
 
+class Exhausted(Trial):
+    """A server without any memory from one allocation on, which has some again once its clients have made their calls."""
+
+    def __init__(self, filer, library, folder, refused):
+        super().__init__(filer, library, folder, 0, in_batches=True)
+        self.page.set(from_accept=1, refused=refused, all_after=1)
+
+    def serve(self):
+        for _ in range(CLIENTS):
+            self.open()
+        for at, owner in enumerate(self.owners):
+            self.try_once(at, owner.make_home)
+            if owner.directory is not None:
+                self.try_once(at, owner.make_file)
+        for number in range(ROUNDS):
+            batches = []
+            for at, owner in enumerate(self.owners):
+                if self.links[at].is_open and owner.file is not None:
+                    batches.append((self.links[at], [make_call() for make_call in self.calls(owner, number)]))
+            self.run_batch(batches)
+        self.page.refuse_no_more()
+        self.open()
+        super().look()
+        self.finish()
+
+    def try_once(self, at, make_call):
+        if self.links[at].is_open:
+            call = make_call()
+            self.xid += 1
+            self.links[at].send(call.record(self.xid))
+            record = self.links[at].receive()
+            if record is None:
+                self.is_unanswered(call.name)
+            else:
+                self.take(call, record, self.xid)
+
+    def look(self):
+        """There is no memory to look."""
+
+
 class Start(Trial):
     """A server one of whose allocations is refused, from its start on, that serves one connection."""
 
@@ -584,8 +628,4 @@ class Start(Trial):
                 raise Wrong("it has no memory where none was refused")
             return
         self.open()
-        for link in self.links:
-            link.close()
-        ended = self.server.wait(PATIENCE)
-        if ended != ("left 0\n", 0) and not (self.met_in_opening and ended in LACKING):
-            raise Wrong(f"the server ends with {ended}")
+        self.finish()
