@@ -370,7 +370,8 @@ class Trial:
             tail = [Event("open")] + probes(plan.script, self.connections(before), plan.before[end][0], [])
             blocks = self.reference(("shown", end), before, tail)
             # a call's answer is what its finish prints
-            shown.append([blocks[at + (0 if event.kind == "parts" else 3)] for at, event in enumerate(tail) if is_chosen(event)])
+            answers = [blocks[at if event.kind == "parts" else at + 3] for at, event in enumerate(tail) if is_chosen(event)]
+            shown.append(answers)
         return shown[0] != shown[1]
 
     @staticmethod
@@ -458,7 +459,8 @@ class Trial:
         plan = self.plan
         after, before, again, rest = self.build()
         tail = self.tail(plan.events[: self.at], again, rest)
-        wanted = self.reference((self.at, self.build.__name__, getattr(self, "taken", None), getattr(self, "lacking", None)), before, tail)
+        key = (self.at, self.build.__name__, getattr(self, "taken", None), getattr(self, "lacking", None))
+        wanted = self.reference(key, before, tail)
         events = plan.events[: self.at + 1] + after + tail
         blocks = plan.blocks[: self.at] + [self.block]
         if after:

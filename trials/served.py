@@ -549,7 +549,8 @@ class Trial:
             if owner.directory is not None:
                 calls.append(owner.list_home)
             if owner.file is not None:
-                calls += [owner.look_at_file] + [lambda owner=owner, block=block: owner.read(block) for block in range(2 + ROUNDS)]
+                calls.append(owner.look_at_file)
+                calls += [lambda owner=owner, block=block: owner.read(block) for block in range(2 + ROUNDS)]
         for make_call in calls:
             for _ in range(2):
                 call = make_call()
