@@ -16,9 +16,6 @@ PATIENCE = 30
 # How many connections make calls; one more looks at what they left.
 CLIENTS = 3
 
-# How many rounds of calls each makes.
-ROUNDS = 5
-
 # How the server ends where it has no memory for a connection, or for a thread.
 LACKING = (("refused 90\n", 1), ("fault 66\n", 1))
 
@@ -317,9 +314,11 @@ def look_at_root():
 
 
 class Trial:
-    """A server one of whose allocations is refused; its clients wait for each reply, or send batches."""
+    """A server one of whose allocations is refused; its clients wait for each reply, or send batches, in so many
+    rounds."""
 
-    def __init__(self, filer, library, folder, refused, in_batches):
+    def __init__(self, filer, library, folder, refused, in_batches, rounds):
+        self.rounds = rounds
         self.page = Page(folder, f"page-{os.getpid()}")
         self.page.set(from_accept=1, refused=refused)
         self.in_batches = in_batches
@@ -348,7 +347,7 @@ class Trial:
         for _ in range(CLIENTS):
             self.open()
         self.prepare()
-        for number in range(ROUNDS):
+        for number in range(self.rounds):
             self.play_round(number)
         self.open()
         self.look()
@@ -550,7 +549,7 @@ class Trial:
                 calls.append(owner.list_home)
             if owner.file is not None:
                 calls.append(owner.look_at_file)
-                calls += [lambda owner=owner, block=block: owner.read(block) for block in range(2 + ROUNDS)]
+                calls += [lambda owner=owner, block=block: owner.read(block) for block in range(2 + self.rounds)]
         for make_call in calls:
             for _ in range(2):
                 call = make_call()
@@ -570,8 +569,8 @@ class Trial:
 class Exhausted(Trial):
     """A server without any memory from one allocation on, which has some again once its clients have made their calls."""
 
-    def __init__(self, filer, library, folder, refused):
-        super().__init__(filer, library, folder, 0, in_batches=True)
+    def __init__(self, filer, library, folder, refused, rounds):
+        super().__init__(filer, library, folder, 0, True, rounds)
         self.page.set(from_accept=1, refused=refused, all_after=1)
 
     def serve(self):
@@ -581,7 +580,7 @@ class Exhausted(Trial):
             self.try_once(at, owner.make_home)
             if owner.directory is not None:
                 self.try_once(at, owner.make_file)
-        for number in range(ROUNDS):
+        for number in range(self.rounds):
             batches = []
             for at, owner in enumerate(self.owners):
                 if self.links[at].is_open and owner.file is not None:
