@@ -182,7 +182,8 @@ module _ (layout : Layout) (seat : ServiceView) (of : seat.tree ≡ parents layo
       (λ (e : covers (parents layout) (number_of layout node) k ≡ false).
       inl (exact.no_other k (λ d under same.
       let cover = cover-under layout as_left left.1.hands (length left.0) left-good node d there under in
-      let here = true-covers (parents layout) (number_of layout node) k (subst (λ (n : ℕ). Covers (parents layout) (number_of layout node) n) (sym same) cover) in
+      let here = true-covers (parents layout) (number_of layout node) k
+      (subst (λ (n : ℕ). Covers (parents layout) (number_of layout node) n) (sym same) cover) in
       cc)))
       (cases_bool (covers (parents layout) (number_of layout node) k))
     where

@@ -15,7 +15,7 @@ use desk::{ParcelKinds, TaskNode};
 use parcel_sets::Parcel;
 use parcels::Files;
 
-/// Runs a call on the parcels of a node of any kind, at which it is run: under its home, or above it
+/// Runs a call on the parcels of a node of any kind at which it is run: its home, or above it
 /// where it moved. It sees these parcels alone. A reply is what the serial server does on all that
 /// is stored, whatever the other parcels are; a starved call, and one that has to run elsewhere,
 /// changes nothing.
