@@ -245,8 +245,11 @@ module _ (s : State) (sound : IsSoundEngine s) (i : ℕ) (r : Running) (o : Outc
 
       ended_stand : StandsFor job_of job_reply_of (setup_in s) (world new) (held new)
       ended_stand = finished-stands job_of job_reply_of (setup_in s) (world s) (held s) sound.stands i (worker_seen ran) seen (came r o) refl
-          (outcome_of o) refl starved (reply_of reply) (job_made r starved) (answer_made reply) refl refl (held new) done (book-apart _ (held new) _ kept)
-          (world new) (left-as (came r o) o reply starved is) (server-kept (held s) (held new) done_layout done.same)
+          (outcome_of o) refl starved (reply_of reply) (job_made r starved) (answer_made reply) refl refl (held new) done
+          (served-as (setup_in s) (held s) (came r o) done.lent o reply starved is
+          (run-on job_of job_reply_of (setup_in s) (world s) (held s) sound.stands i (worker_seen ran) seen (came r o) refl (outcome_of o) refl
+          done.lent done.is_lent))
+          (book-apart _ (held new) _ kept) (world new) (left-as (came r o) o reply starved is) (server-kept (held s) (held new) done_layout done.same)
           (parts-kept (held s) (held new) done_layout done.same) leaves.finished more_stamps
           (ap (λ (ks : List Worker). map worker_seen ks) h.set ∙ seen-ran s.workers.items i (Worked r o) Idle hand there)
 

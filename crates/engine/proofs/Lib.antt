@@ -1,5 +1,6 @@
 mod Lists
 mod Runs
+mod Promised
 mod Workers
 mod Begins
 mod Begun

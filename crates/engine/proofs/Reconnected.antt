@@ -41,7 +41,7 @@ reconnected s new same sound longer opened owed =
       layout = sound.layout;
       kept = sound.kept;
       stands = stands-alike job_of job_reply_of (setup_in s) (world s) (world next) (books s.desk)
-          (record { server = refl; parts = refl; stamps = refl; workers = refl; finished = refl }) sound.stands;
+          (record { server = refl; parts = refl; stamps = refl; workers = refl; finished = refl; ran = refl }) sound.stands;
       running = sound.running;
       waiting = all-later (IsPlaced layout n) (IsPlaced layout k) (messages_of s.calls) (placed-later layout n k longer) sound.waiting;
       workers = all-later (IsReady layout n) (IsReady layout k) s.workers.items (ready-later layout n k longer) sound.workers;

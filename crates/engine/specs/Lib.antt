@@ -10,6 +10,7 @@ pub mod Engine
 pub mod Words
 pub mod Counted
 pub mod Shown
+pub mod Promise
 pub mod Codes
 pub mod laws
 pub mod counts
