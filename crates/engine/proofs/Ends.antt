@@ -35,7 +35,7 @@ use Rattle.engine_feed.specs.declared.state.ConnectionState.{ConnectionState}
 use Rattle.engine_feed.specs.Within.{Shows, with_calls}
 use Rattle.engine_feed.specs.Words.{FinishesUnseen}
 use Rattle.engine_feed.specs.lemmas.Lists.{put-same}
-use Rattle.engine.specs.declared.connection.Connection.TheVariants.{Open, Closed}
+use Rattle.engine.specs.Connections.{Open, Closed}
 use Rattle.engine.specs.declared.connection.ClosedConnection.{ClosedConnection}
 use Rattle.engine.specs.Sound.{MayEnd}
 use Rattle.engine.specs.Seen.{connection_seen}

@@ -1,4 +1,5 @@
 pub mod Numbers
+pub mod Connections
 pub mod Seen
 pub mod Workers
 pub mod Sound

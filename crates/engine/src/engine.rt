@@ -208,7 +208,10 @@ impl Engine {
         ensures { result.now ≡ output_in (slice_get self.now.world.connections connection) }
     {
         match self.state.connections.get(connection) {
-            Some(Connection::Open(open)) => open.output(),
+            Some(Connection::Open(key)) => match self.state.slab.get(*key) {
+                Some(open) => open.output(),
+                None => &[],
+            },
             Some(Connection::Closed(closed)) => &closed.output,
             None => &[],
         }
@@ -219,7 +222,10 @@ impl Engine {
         ensures { result.now ≡ stream_in (slice_get self.now.world.connections connection) }
     {
         match self.state.connections.get(connection) {
-            Some(Connection::Open(open)) => open.stream(),
+            Some(Connection::Open(key)) => match self.state.slab.get(*key) {
+                Some(open) => open.stream(),
+                None => &[],
+            },
             Some(Connection::Closed(closed)) => &closed.stream,
             None => &[],
         }
