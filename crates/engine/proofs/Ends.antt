@@ -44,6 +44,10 @@ use Rattle.engine.specs.Seen.{connection_seen}
 pub same-open : (x y : ConnectionState) → Open x ≡ Open y → x ≡ y
 same-open x y e = cc
 
+-- and a closed one is none
+pub closed-open : (k : ClosedConnection) (x : ConnectionState) → Closed k ≡ Open x → ⊥
+closed-open k x e = absurd cc
+
 -- a message of a closed connection is finished
 pub closed-ends : (calls calls' : CallsState) (e : replays.FinishedCall) (k : ClosedConnection) → FinishesUnseen calls e calls'
     → (setup : Setup) (w : World) (reply : types.Reply) → Shows calls w → slice_get w.connections e.connection ≡ Some (connection_seen (Closed k))

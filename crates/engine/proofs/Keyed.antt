@@ -1,5 +1,5 @@
 -- Connections by number whose open ones a slab keeps: one of them is written to, opened or closed.
-use Rattle.std.proofs.Common.{◌≡◌, ◌≢◌, ◌<◌, ℕ, zero, suc, ◌+◌, ◌⊎◌, inl, inr, Bool, false, List, [], ◌∷◌, ◌++◌, map, length, Option, Some, None}
+use Rattle.std.proofs.Common.{◌≡◌, ◌≢◌, ◌<◌, ◌≤◌, ℕ, zero, suc, ◌+◌, ◌⊎◌, inl, inr, Bool, false, List, [], ◌∷◌, ◌++◌, map, length, Option, Some, None}
 use Rattle.std.proofs.Common.{refl, sym, ap, subst, ◌∙◌, arith}
 use Rattle.std.specs.Prelude.{slice_get, slice_set, slice_index_or, option_map, IsSome}
 use Rattle.std.proofs.lemmas.Bool.{cases_eq}
@@ -31,7 +31,7 @@ same-key k l e = cc
 
 -- ---- keys
 
-open-at : (o : Option Connection) (key : ℕ) → key_at o ≡ Some key → o ≡ Some (places.Open key)
+pub open-at : (o : Option Connection) (key : ℕ) → key_at o ≡ Some key → o ≡ Some (places.Open key)
 open-at None key e = absurd (none-some key e)
 open-at (Some (places.Open k)) key e = ap (λ (n : ℕ). Some (places.Open n)) (inner k key e)
 open-at (Some (places.Closed c)) key e = absurd (none-some key e)
@@ -55,7 +55,7 @@ pub no-key : (xs cs : List Connection) (i : ℕ) (o : Option ℕ) → o ≡ key_
 no-key xs cs i o told same is = ap (λ (l : List Connection). key_at (slice_get l i)) (sym same) ∙ sym told ∙ is
 
 pub contains : (slab : Slab ConnectionState) (key : ℕ) (x : ConnectionState) → get slab key ≡ Some x → ContainsKey slab key
-contains slab key x is = subst (λ (o : Option ConnectionState). IsSome o) (sym is) tt
+contains slab key x is = subst (λ (o : Option ConnectionState). IsSome o) (sym is) refl
 
 -- a number without a key has no open connection
 pub is-shut : (cs : List Connection) (slab : Slab ConnectionState) (i : ℕ) → key_at (slice_get cs i) ≡ None
@@ -82,6 +82,12 @@ closed-at (d ∷ cs) (suc i) within e = closed-at cs i (omega (arith, within)) e
 pub found-closed : (cs : List Connection) (slab : Slab ConnectionState) (i : ℕ) (c : ClosedConnection) → slice_get cs i ≡ Some (places.Closed c)
     → slice_get (held_by cs slab) i ≡ Some (Closed c)
 found-closed cs slab i c at = slice_get-map (held_at slab) cs i ∙ ap (option_map (held_at slab)) at
+
+-- a number past all has nothing
+pub past : (cs : List Connection) (slab : Slab ConnectionState) (i : ℕ) → length cs ≤ i → slice_get (map connection_seen (held_by cs slab)) i ≡ None
+past [] slab i beyond = refl
+past (d ∷ cs) slab zero beyond = absurd (omega (arith, beyond))
+past (d ∷ cs) slab (suc i) beyond = past cs slab i (omega (arith, beyond))
 
 -- ---- what the other numbers have
 

@@ -223,7 +223,7 @@ module _ (stays : WithoutHomeStays) (s new : State) (sound : IsSoundEngine s) (n
       subst (Feeds (setup_in s) (feeding number bytes taken (stop_number stop)) (world s)) (world-fed s new number f.before f.after set_to there)
       (f.feeds (setup_in s) (world s) (record { codec = refl; layout = refl }) (is-part s number f.before sound there))
 
-  size : length held_in new ≡ length (held_in s)
+  size : length (held_in new) ≡ length (held_in s)
   size = ap length items ∙ length-set (held_in s) number d'
 
   -- what came is at home
