@@ -108,8 +108,14 @@ impl Model for Engine {
 
     ghost Value = { Shown };
 
-    ghost coded = { Prim.hlevel (codes, coded_nodes, coded_filled, coded_range, coded_stripe,
-        coded_logical) };
+    ghost coded = { Prim.hlevel (
+      codes,
+      coded_nodes,
+      coded_filled,
+      coded_range,
+      coded_stripe,
+      coded_logical,
+    ) };
 
     ghost use Rattle.engine.specs.Shown.{shown};
     ghost use Rattle.engine.specs.Counted.{IsCountedWhole};

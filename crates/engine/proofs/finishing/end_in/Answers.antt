@@ -24,10 +24,10 @@ returns-in-None-clause-ends c =
       at = at;
       put = sym (set-same (held_by cs c.args.slab.now) n (Closed there.0) at);
       ends = λ setup w codec shows seen. (
-            closed-ends c.args.calls.now c.finish_unseen.new.self (finished_message c.args.running.message (moment_of c.args.running.moment) c.args.starved)
-                there.0 c.finish_unseen.ensures.finishes setup w (reply_of c.args.reply.now) shows seen,
-            refl,
-          );
+        closed-ends c.args.calls.now c.finish_unseen.new.self (finished_message c.args.running.message (moment_of c.args.running.moment) c.args.starved)
+            there.0 c.finish_unseen.ensures.finishes setup w (reply_of c.args.reply.now) shows seen,
+        refl,
+      );
       owes = λ x e. absurd (closed-open there.0 x e);
       keyed = c.requires.keyed;
       opened = refl;
