@@ -129,7 +129,8 @@ module _ (s : State) (sound : IsSoundEngine s) (i : ℕ) (r : Running) (o : Outc
     again_admitted = record { offered = ready.0.admitted.offered; node = moves.0; room = ready.0.admitted.room }
 
     module _ (new : State) (h : IsChanged s new i ran done_with) (connections : held_in new ≡ held_in s)
-        (keyed : AreKeyed new.connections.items new.slab) (opened : slab_len new.slab ≡ slab_len s.slab) (kept : IsKept new.desk) (back : HasPutBack (held s) i (held new))
+        (keyed : AreKeyed new.connections.items new.slab) (opened : slab_len new.slab ≡ slab_len s.slab) (kept : IsKept new.desk)
+        (back : HasPutBack (held s) i (held new))
         (waits : calls.HasPutBack s.calls (again r a) new.calls) where
       back_layout : (held new).layout ≡ (held s).layout
       back_layout = ap (λ (x : FilerBooks Files Job JobReply). x.layout) back.books

@@ -1,12 +1,9 @@
 -- The whole statement about an engine: at the beginning, and after more events.
-use Rattle.std.proofs.Common.{◌≡◌, ◌<◌, ℕ, ◌+◌, List, [], ◌∷◌, ◌++◌, length, take, map, get_or, Result, Some, refl, sym, ap, ◌∙◌, subst}
+use Rattle.std.proofs.Common.{◌≡◌, ◌<◌, ℕ, ◌+◌, List, [], ◌∷◌, ◌++◌, length, take, map, get_or, Result, refl, sym, ap, ◌∙◌, subst}
 use Rattle.std.proofs.lemmas.List.{map_more, append-nil, append_assoc}
-use Rattle.std.specs.Prelude.{slice_get}
-use Rattle.std.specs.List.{AllByRecursion}
 use Rattle.rpc_record.specs.Stream.{AreBytes}
-use Rattle.nfs_model.specs.Replay.{server_after}
-use Rattle.nfs_model.specs.World.{Setup, World, Connection, all_running}
-use Rattle.nfs_model.specs.Headline.{IsOutcome, start, opening_world}
+use Rattle.nfs_model.specs.World.{Setup, World}
+use Rattle.nfs_model.specs.Headline.{opening_world}
 use Rattle.nfs_model.specs.Events.Refusals.{Event, Done}
 use Rattle.nfs_model.specs.Events.Step.{Events, Runs}
 use Rattle.desk.specs.Words.{books}

@@ -1,4 +1,4 @@
-use Rattle.std.proofs.Common.{◌≡◌, Some, None, Ok, length, sym, ap, subst, ◌∙◌, arith}
+use Rattle.std.proofs.Common.{◌≡◌, Some, Ok, length, sym, ap, subst, ◌∙◌, arith}
 use Rattle.std.specs.Prelude.{slice_get}
 use Rattle.std.specs.Global.{Vec}
 use Rattle.std.proofs.lemmas.List.{length-map}
@@ -58,7 +58,8 @@ module _ (c : goal.After-set_closed) where
 
 pub returns-clause-events : goal.returns-clause-events
 returns-clause-events c =
-    subst (λ (v : Vec Connection). Does (s c) (events.Close c.args.connection) (Ok dones.Closed) (record (s c) { connections = v; slab = c.try_remove.new.self }))
+    subst
+    (λ (v : Vec Connection). Does (s c) (events.Close c.args.connection) (Ok dones.Closed) (record (s c) { connections = v; slab = c.try_remove.new.self }))
     (sym c.set_closed.ensures)
     (closes (s c) c.requires c.args.connection c.in-Some.key (at c) c.in-Some-try_remove.removed (was c) c.try_remove.new.self c.try_remove.ensures.updates
     c.in-Some-try_remove.ensures.len (put c) c.into_parts-stream.ensures.stream c.into_parts-stream.ensures.output (count c))

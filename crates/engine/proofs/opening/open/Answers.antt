@@ -6,7 +6,7 @@ use Rattle.parcel_sets.specs.Sets.{serial_parcels}
 use Rattle.desk.specs.Words.{books}
 use Rattle.engine_feed.specs.Seen.{layout_in}
 use Rattle.engine.specs.declared.connection.Connection.{Connection}
-use Rattle.engine.specs.Connections.{Held, held_by}
+use Rattle.engine.specs.Connections.{held_by}
 use Rattle.engine.specs.Sound.{IsPlaced}
 use Rattle.engine.proofs.Opened.{AreOpened, seen-opens, seen-stands, same-layout, none-run, no-stamps, none-wait, none-ready, few-workers, none-open}
 use Rattle.engine.proofs.Opened.{none-there, none-keyed, none-kept, setup-opened}

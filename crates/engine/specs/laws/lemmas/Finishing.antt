@@ -36,7 +36,8 @@ use Rattle.parcels.specs.state.Jobs as jobs
 use Rattle.parcels.specs.state.Jobs.{Job, JobReply, Serve, takes, gives}
 use Rattle.parcels.specs.state.Deeds.{FilerSteps}
 use Rattle.parcels.specs.laws.lemmas.Lawful.{steps-local}
-use Rattle.engine.specs.laws.Store.{FilerBooks, filer, IsServed, HasOutcome, RunsOn, RunOn, IsApart, StandsFor, batches_carried, calls_served, calls_run, with_served}
+use Rattle.engine.specs.laws.Store.{FilerBooks, filer, IsServed, HasOutcome, RunsOn, RunOn, IsApart, StandsFor}
+use Rattle.engine.specs.laws.Store.{batches_carried, calls_served, calls_run, with_served}
 use Rattle.engine.specs.laws.lemmas.Agreeing.{sound-settled}
 use Rattle.engine.specs.laws.lemmas.Beginning.{same-now}
 use Rattle.engine.specs.laws.lemmas.Changing.{lent-at, run-changed, carried-stay}

@@ -1,5 +1,5 @@
 -- The calls of the history's entries, and the finished calls that ran under an affinity, with one more.
-use Rattle.std.proofs.Common.{◌≡◌, ℕ, zero, suc, List, [], ◌∷◌, ◌++◌, Option, Some, None, refl, sym, ap, ◌∙◌}
+use Rattle.std.proofs.Common.{◌≡◌, List, [], ◌∷◌, ◌++◌, Option, Some, None, refl, ap, ◌∙◌}
 use Rattle.std.proofs.lemmas.List.{append-nil}
 use Rattle.nfs_model.specs.Tree.{Affinity}
 use Rattle.nfs_model.specs.Replay.{FinishedCall}
@@ -15,7 +15,8 @@ served-before (Inner call) xs ys = refl
 pub served-snoc : {P C R : Type 0} (job : C → Job) (es : List (Entry P C R)) (e : Entry P C R)
     → calls_served job (es ++ e ∷ []) ≡ calls_served job es ++ with_served (job e.call) []
 served-snoc job [] e = refl
-served-snoc job (d ∷ es) e = ap (with_served (job d.call)) (served-snoc job es e) ∙ served-before (job d.call) (calls_served job es) (with_served (job e.call) [])
+served-snoc job (d ∷ es) e = ap (with_served (job d.call)) (served-snoc job es e)
+    ∙ served-before (job d.call) (calls_served job es) (with_served (job e.call) [])
 
 run-before : (e : FinishedCall) (o : Option Affinity) (xs ys : List FinishedCall) → with_run e o (xs ++ ys) ≡ with_run e o xs ++ ys
 run-before e None xs ys = refl
