@@ -35,7 +35,7 @@ use Rattle.engine.specs.declared.worker.Running.{Running}
 use Rattle.engine.specs.declared.worker.Worker.{Worker}
 use Rattle.engine.specs.declared.worker.WorkerRun.{WorkerRun}
 use Rattle.engine.specs.declared.worker.WorkerRun.TheVariants.{Idle, Begun, Worked}
-use Rattle.engine.specs.declared.connection.Connection.{Connection}
+use Rattle.engine.specs.Connections.{Held}
 use Rattle.engine.specs.Sound.{messages_in, running_messages}
 use Rattle.engine.specs.Seen.{connection_seen, worker_seen}
 use Rattle.engine.specs.Workers.{worker_with}
@@ -99,7 +99,7 @@ with_store w server parts stamps = record w { server = server; parts = parts; st
 
 -- the world in which a message was begun
 pub begun-world : (w : World) (calls calls' : CallsState) (place : ℕ) (m : Message Call) (h : HasBegun calls place m calls') → Shows calls w
-    → (cs : List Connection) → map connection_seen cs ≡ w.connections
+    → (cs : List Held) → map connection_seen cs ≡ w.connections
     → (ks new : List Worker) (i : ℕ) (r : Running) (hand : Hand) → r.message ≡ m → w.workers ≡ map worker_seen ks
     → slice_get ks i ≡ Some (worker_with Idle hand) → new ≡ slice_set ks i (worker_with (Begun r) hand)
     → (server : Server) (parts : List Parts) (stamps : ℕ) → server ≡ w.server → parts ≡ w.parts → stamps ≡ w.stamps

@@ -25,12 +25,13 @@ use Rattle.desk.specs.Words.{books, IsKept}
 use Rattle.service.specs.Jobs.{job_of, job_reply_of}
 use Rattle.engine_feed.specs.Seen.{message_of, messages_of, running_count}
 use Rattle.engine_feed.specs.Words.{HasBegun}
-use Rattle.engine.specs.declared.connection.Connection.{Connection}
+use Rattle.slab.specs.Slab.{slab_len}
+use Rattle.engine.specs.Connections.{Held, AreKeyed}
 use Rattle.engine.specs.declared.event.Done.TheVariants as dones
 use Rattle.engine.specs.declared.worker.Running.{Running}
 use Rattle.engine.specs.declared.worker.WorkerRun.TheVariants.{Idle, Begun}
 use Rattle.engine.specs.declared.state.State.{State}
-use Rattle.engine.specs.Seen.{connection_seen, setup_in, world}
+use Rattle.engine.specs.Seen.{connection_seen, held_in, setup_in, world}
 use Rattle.engine.specs.Sound.{IsSoundEngine, running_messages, room_on}
 use Rattle.engine.specs.Words.{Does}
 use Rattle.engine.specs.Workers.{worker_with}
@@ -66,7 +67,8 @@ module _ (s : State) (sound : IsSoundEngine s) (i place : ℕ) (moment : Moment)
 
 module _ (s new : State) (sound : IsSoundEngine s) (i place : ℕ) (r : Running) (hand : Hand)
     (h : IsChanged s new i (worker_with Idle hand) (worker_with (Begun r) hand))
-    (connections : new.connections.items ≡ s.connections.items) (opened : new.open_count ≡ s.open_count) (kept : IsKept new.desk)
+    (connections : held_in new ≡ held_in s) (keyed : AreKeyed new.connections.items new.slab)
+    (opened : slab_len new.slab ≡ slab_len s.slab) (kept : IsKept new.desk)
     (begins : desks.HasBegun (books s.desk) i (affinity_of r.message.affinity) (books new.desk)) (takes : HasBegun s.calls place r.message new.calls) where
   waits : slice_get (world s).waiting place ≡ Some (message_of r.message)
   waits = waits-at s.calls place r.message takes.there
@@ -78,8 +80,8 @@ module _ (s new : State) (sound : IsSoundEngine s) (i place : ℕ) (r : Running)
   begun_is =
       let b = books s.desk in
       let c = books new.desk in
-      begun-world (world s) s.calls new.calls place r.message takes (record { waiting = refl; finished = refl }) new.connections.items
-      (ap (λ (cs : List Connection). map connection_seen cs) connections) s.workers.items new.workers.items i r hand refl refl h.there h.set
+      begun-world (world s) s.calls new.calls place r.message takes (record { waiting = refl; finished = refl }) (held_in new)
+      (ap (λ (cs : List Held). map connection_seen cs) connections) s.workers.items new.workers.items i r hand refl refl h.there h.set
       (server_of (filer_contents c.layout (now c))) (all_parts (filer_contents c.layout (now c))) (stamps c)
       (begun-server b c i _ begins) (begun-parts b c i _ begins) same_stamps
 
@@ -121,9 +123,10 @@ module _ (s new : State) (sound : IsSoundEngine s) (i place : ℕ) (r : Running)
         let low = begins.low in
         let same = same_stamps in
         omega (arith, most, run, are, low, same));
-    opened = opened ∙ sound.opened ∙ ap (λ (cs : List Connection). open_count (map connection_seen cs)) (sym connections);
+    keyed = keyed;
+    opened = opened ∙ sound.opened ∙ ap (λ (cs : List Held). open_count (map connection_seen cs)) (sym connections);
     owed = λ q x at.
-        (let old = sound.owed q x (ap (λ (cs : List Connection). slice_get cs q) (sym connections) ∙ at) in
+        (let old = sound.owed q x (ap (λ (cs : List Held). slice_get cs q) (sym connections) ∙ at) in
         let taken = total-removed (room_on q) (messages_of s.calls) place r.message takes.there in
         let gone = ap (λ (ms : List (Message Call)). total (room_on q) ms) takes.left in
         let more = run_weight h (room_on q) in

@@ -20,7 +20,7 @@ use Rattle.service.specs.declared.job.JobReply.{JobReply}
 use Rattle.engine_feed.specs.Seen.{layout_in, messages_of, running_count}
 use Rattle.engine.specs.declared.worker.Worker.{Worker}
 use Rattle.engine.specs.declared.state.State.{State}
-use Rattle.engine.specs.Seen.{setup_in, setup_of, world}
+use Rattle.engine.specs.Seen.{held_in, setup_in, setup_of, world}
 use Rattle.engine.specs.Sound.{IsPlaced, IsReady, IsSoundEngine, messages_in, running_messages}
 use Rattle.engine.proofs.Lists.{all-set}
 use Rattle.engine.proofs.Workers.{count-changed, messages-changed}
@@ -39,7 +39,7 @@ pub record IsChanged (s new : State) (i : ℕ) (k x : Worker) : Type 0 where
   pub set : new.workers.items ≡ slice_set s.workers.items i x
   pub verifier : new.verifier ≡ s.verifier
   pub layout : layout_in new.calls ≡ layout_in s.calls
-  pub many : length new.connections.items ≡ length s.connections.items
+  pub many : length (held_in new) ≡ length (held_in s)
 
 module _ {s new : State} {i : ℕ} {k x : Worker} (h : IsChanged s new i k x) where
   as_many : length new.workers.items ≡ length s.workers.items
@@ -66,20 +66,20 @@ module _ {s new : State} {i : ℕ} {k x : Worker} (h : IsChanged s new i k x) wh
     pub still_few : length new.workers.items ≤ 64
     still_few = subst (λ n. n ≤ 64) (sym as_many) sound.few
 
-    pub all_ready : IsReady (layout_in s.calls) (length s.connections.items) x
-        → AllByRecursion (IsReady (layout_in new.calls) (length new.connections.items)) new.workers.items
+    pub all_ready : IsReady (layout_in s.calls) (length (held_in s)) x
+        → AllByRecursion (IsReady (layout_in new.calls) (length (held_in new))) new.workers.items
     all_ready is =
-        subst (λ (ks : List Worker). AllByRecursion (IsReady (layout_in new.calls) (length new.connections.items)) ks) (sym h.set)
+        subst (λ (ks : List Worker). AllByRecursion (IsReady (layout_in new.calls) (length (held_in new))) ks) (sym h.set)
         (subst (λ n. AllByRecursion (IsReady (layout_in new.calls) n) (slice_set s.workers.items i x)) (sym h.many)
-        (subst (λ L. AllByRecursion (IsReady L (length s.connections.items)) (slice_set s.workers.items i x)) (sym h.layout)
-        (all-set (IsReady (layout_in s.calls) (length s.connections.items)) s.workers.items i x sound.workers is)))
+        (subst (λ L. AllByRecursion (IsReady L (length (held_in s))) (slice_set s.workers.items i x)) (sym h.layout)
+        (all-set (IsReady (layout_in s.calls) (length (held_in s))) s.workers.items i x sound.workers is)))
 
-  pub all_placed : (ms : List (Message Call)) → messages_of new.calls ≡ ms → AllByRecursion (IsPlaced (layout_in s.calls) (length s.connections.items)) ms
-      → AllByRecursion (IsPlaced (layout_in new.calls) (length new.connections.items)) (messages_of new.calls)
+  pub all_placed : (ms : List (Message Call)) → messages_of new.calls ≡ ms → AllByRecursion (IsPlaced (layout_in s.calls) (length (held_in s))) ms
+      → AllByRecursion (IsPlaced (layout_in new.calls) (length (held_in new))) (messages_of new.calls)
   all_placed ms are placed =
-      subst (λ (xs : List (Message Call)). AllByRecursion (IsPlaced (layout_in new.calls) (length new.connections.items)) xs) (sym are)
+      subst (λ (xs : List (Message Call)). AllByRecursion (IsPlaced (layout_in new.calls) (length (held_in new))) xs) (sym are)
       (subst (λ n. AllByRecursion (IsPlaced (layout_in new.calls) n) ms) (sym h.many)
-      (subst (λ L. AllByRecursion (IsPlaced L (length s.connections.items)) ms) (sym h.layout) placed))
+      (subst (λ L. AllByRecursion (IsPlaced L (length (held_in s))) ms) (sym h.layout) placed))
 
 -- ---- a desk whose books are as before
 
@@ -93,6 +93,7 @@ unchanged-sound s t same kept sound = record {
   workers = sound.workers;
   few = sound.few;
   stamps = subst (λ (b : FilerBooks Files Job JobReply). stamps b + running_count s.calls ≤ 2 ^ 62 + 64) (sym same) sound.stamps;
+  keyed = sound.keyed;
   opened = sound.opened;
   owed = sound.owed;
 }

@@ -21,8 +21,7 @@ use Rattle.engine_feed.specs.Seen.{owed_by, message_of, waiting_of, finished_of,
 use Rattle.engine_feed.specs.Streams.{codec}
 use Rattle.engine_feed.specs.Within.{Shows}
 use Rattle.engine_feed.specs.Words.{HasPutBack}
-use Rattle.engine.specs.declared.connection.Connection.{Connection}
-use Rattle.engine.specs.declared.connection.Connection.TheVariants.{Open}
+use Rattle.engine.specs.Connections.{Held, Open}
 use Rattle.engine.specs.declared.worker.Running.{Running}
 use Rattle.engine.specs.declared.worker.Worker.{Worker}
 use Rattle.engine.specs.declared.worker.WorkerRun.{WorkerRun}
@@ -39,7 +38,7 @@ use Rattle.engine.proofs.Closing.{seen-at as connection-at, seen-set as connecti
 -- ---- the worlds after
 
 -- what is seen of calls, workers and what they run on
-abbrev pub world_after : World → CallsState → List Worker → List Connection → Server → List Parts → ℕ → World
+abbrev pub world_after : World → CallsState → List Worker → List Held → Server → List Parts → ℕ → World
 world_after w calls ks cs server parts stamps = record w {
   connections = map connection_seen cs;
   waiting = waiting_of calls;
@@ -52,7 +51,7 @@ world_after w calls ks cs server parts stamps = record w {
 
 -- the world in which a moved message waits again
 pub back-world : (w : World) (calls calls' : CallsState) (m : Message Call) → Shows calls w → HasPutBack calls m calls'
-    → (setup : Setup) (cs : List Connection) → map connection_seen cs ≡ w.connections
+    → (setup : Setup) (cs : List Held) → map connection_seen cs ≡ w.connections
     → (ks new : List Worker) (i : ℕ) (was : WorkerRun) (hand : Hand) → w.workers ≡ map worker_seen ks
     → slice_get ks i ≡ Some (worker_with was hand) → new ≡ slice_set ks i (worker_with Idle hand)
     → (r : worlds.Running) (a : Affinity) → message_of m ≡ record r.message { affinity = a }
@@ -71,9 +70,9 @@ back-world w calls calls' m shows h setup cs conns ks new i was hand workers hel
     }
 
 -- the world in which a message is finished
-pub ended-world : (w : World) (calls calls' : CallsState) (place place' : Connection) (r : Running) (reply : types.Reply) (starved : Bool) (count : ℕ)
+pub ended-world : (w : World) (calls calls' : CallsState) (place place' : Held) (r : Running) (reply : types.Reply) (starved : Bool) (count : ℕ)
     → EndsIn calls place r reply starved count calls' place' → (setup : Setup) → setup.codec ≡ codec → Shows calls w
-    → (cs new_cs : List Connection) → w.connections ≡ map connection_seen cs → slice_get cs r.message.origin.connection.0 ≡ Some place
+    → (cs new_cs : List Held) → w.connections ≡ map connection_seen cs → slice_get cs r.message.origin.connection.0 ≡ Some place
     → new_cs ≡ slice_set cs r.message.origin.connection.0 place'
     → (ks new : List Worker) (i : ℕ) (was : WorkerRun) (hand : Hand) → w.workers ≡ map worker_seen ks
     → slice_get ks i ≡ Some (worker_with was hand) → new ≡ slice_set ks i (worker_with Idle hand)
@@ -115,9 +114,9 @@ count-written bytes (x ∷ cs) zero = ap (λ k. k + open_count cs) (still-open b
 count-written bytes (x ∷ cs) (suc n) = ap (λ k. open_one x.closed + k) (count-written bytes cs n)
 
 -- and so after a message of one of them was finished
-pub count-ended : (w : World) (calls calls' : CallsState) (place place' : Connection) (r : Running) (reply : types.Reply) (starved : Bool) (count : ℕ)
+pub count-ended : (w : World) (calls calls' : CallsState) (place place' : Held) (r : Running) (reply : types.Reply) (starved : Bool) (count : ℕ)
     → EndsIn calls place r reply starved count calls' place' → (setup : Setup) → setup.codec ≡ codec → Shows calls w
-    → (cs new_cs : List Connection) → w.connections ≡ map connection_seen cs → slice_get cs r.message.origin.connection.0 ≡ Some place
+    → (cs new_cs : List Held) → w.connections ≡ map connection_seen cs → slice_get cs r.message.origin.connection.0 ≡ Some place
     → new_cs ≡ slice_set cs r.message.origin.connection.0 place'
     → open_count (map connection_seen new_cs) ≡ open_count (map connection_seen cs)
 count-ended w calls calls' place place' r reply starved count ends setup is_codec shows cs new_cs conns there set_cs =
@@ -131,7 +130,7 @@ count-ended w calls calls' place place' r reply starved count ends setup is_code
     ∙ ap open_count conns
 
 -- what connections owe after it
-pub owes-after : (cs new_cs : List Connection) (m : Message Call) (place place' : Connection) → slice_get cs m.origin.connection.0 ≡ Some place
+pub owes-after : (cs new_cs : List Held) (m : Message Call) (place place' : Held) → slice_get cs m.origin.connection.0 ≡ Some place
     → new_cs ≡ slice_set cs m.origin.connection.0 place' → OwesLess m place place'
     → (before after : ℕ → ℕ) → ((n : ℕ) → after n + room_on n m ≡ before n)
     → ((n : ℕ) (x : ConnectionState) → slice_get cs n ≡ Some (Open x) → owed_by x ≡ before n)

@@ -35,7 +35,7 @@ use Rattle.engine_feed.specs.declared.state.ConnectionState.{ConnectionState}
 use Rattle.engine_feed.specs.Within.{Shows, with_calls}
 use Rattle.engine_feed.specs.Words.{FinishesUnseen}
 use Rattle.engine_feed.specs.lemmas.Lists.{put-same}
-use Rattle.engine.specs.declared.connection.Connection.TheVariants.{Open, Closed}
+use Rattle.engine.specs.Connections.{Open, Closed}
 use Rattle.engine.specs.declared.connection.ClosedConnection.{ClosedConnection}
 use Rattle.engine.specs.Sound.{MayEnd}
 use Rattle.engine.specs.Seen.{connection_seen}
@@ -43,6 +43,10 @@ use Rattle.engine.specs.Seen.{connection_seen}
 -- an open connection is one
 pub same-open : (x y : ConnectionState) → Open x ≡ Open y → x ≡ y
 same-open x y e = cc
+
+-- and a closed one is none
+pub closed-open : (k : ClosedConnection) (x : ConnectionState) → Closed k ≡ Open x → ⊥
+closed-open k x e = absurd cc
 
 -- a message of a closed connection is finished
 pub closed-ends : (calls calls' : CallsState) (e : replays.FinishedCall) (k : ClosedConnection) → FinishesUnseen calls e calls'

@@ -40,13 +40,14 @@ use Rattle.engine_feed.specs.Codec.{reply_record}
 use Rattle.engine_feed.specs.Seen.{layout_in, messages_of, running_count, finished_message}
 use Rattle.engine_feed.specs.Sound.{IsAdmitted}
 use Rattle.engine_feed.specs.Words as calls
-use Rattle.engine.specs.declared.connection.Connection.{Connection}
+use Rattle.slab.specs.Slab.{slab_len}
+use Rattle.engine.specs.Connections.{Held, AreKeyed}
 use Rattle.engine.specs.declared.event.Done.TheVariants as dones
 use Rattle.engine.specs.declared.worker.Running.{Running}
 use Rattle.engine.specs.declared.worker.Worker.{Worker}
 use Rattle.engine.specs.declared.worker.WorkerRun.TheVariants.{Idle, Worked}
 use Rattle.engine.specs.declared.state.State.{State}
-use Rattle.engine.specs.Seen.{connection_seen, worker_seen, running_as, setup_in, world}
+use Rattle.engine.specs.Seen.{connection_seen, held_in, worker_seen, running_as, setup_in, world}
 use Rattle.engine.specs.Ending.{job_made, answer_made, EndsIn, OwesLess}
 use Rattle.engine.specs.Sound.{IsPlaced, IsReady, IsSoundEngine, MayEnd, running_messages, room_on, rooms_on}
 use Rattle.engine.specs.Words.{Does}
@@ -90,11 +91,11 @@ module _ (s : State) (sound : IsSoundEngine s) (i : ℕ) (r : Running) (o : Outc
       lent.0 lent.1
 
   -- its message is of a connection, and what it came to may be told
-  pub ready : IsPlaced (layout_in s.calls) (length s.connections.items) r.message × MayEnd (layout_in s.calls) r.message o
+  pub ready : IsPlaced (layout_in s.calls) (length (held_in s)) r.message × MayEnd (layout_in s.calls) r.message o
   ready = (all-at _ s.workers.items i ran sound.workers there).0
 
   -- and what it carries is a batch
-  still_ready : IsReady (layout_in s.calls) (length s.connections.items) done_with
+  still_ready : IsReady (layout_in s.calls) (length (held_in s)) done_with
   still_ready = (tt, (all-at _ s.workers.items i ran sound.workers there).1)
 
   -- a message runs
@@ -127,8 +128,9 @@ module _ (s : State) (sound : IsSoundEngine s) (i : ℕ) (r : Running) (o : Outc
     pub again_admitted : IsAdmitted (layout_in s.calls) (again r a)
     again_admitted = record { offered = ready.0.admitted.offered; node = moves.0; room = ready.0.admitted.room }
 
-    module _ (new : State) (h : IsChanged s new i ran done_with) (connections : new.connections.items ≡ s.connections.items)
-        (opened : new.open_count ≡ s.open_count) (kept : IsKept new.desk) (back : HasPutBack (held s) i (held new))
+    module _ (new : State) (h : IsChanged s new i ran done_with) (connections : held_in new ≡ held_in s)
+        (keyed : AreKeyed new.connections.items new.slab) (opened : slab_len new.slab ≡ slab_len s.slab) (kept : IsKept new.desk)
+        (back : HasPutBack (held s) i (held new))
         (waits : calls.HasPutBack s.calls (again r a) new.calls) where
       back_layout : (held new).layout ≡ (held s).layout
       back_layout = ap (λ (x : FilerBooks Files Job JobReply). x.layout) back.books
@@ -137,8 +139,8 @@ module _ (s : State) (sound : IsSoundEngine s) (i : ℕ) (r : Running) (o : Outc
       back_stamps = ap (λ (x : FilerBooks Files Job JobReply). stamps x) back.books
 
       back_is : world new ≡ finished_by (setup_in s) (world s) i (came r o) (tasks.Moved (affinity_of a))
-      back_is = back-world (world s) s.calls new.calls (again r a) (record { waiting = refl; finished = refl }) waits (setup_in s) new.connections.items
-          (ap (λ (cs : List Connection). map connection_seen cs) connections) s.workers.items new.workers.items i (Worked r o) hand refl there h.set
+      back_is = back-world (world s) s.calls new.calls (again r a) (record { waiting = refl; finished = refl }) waits (setup_in s) (held_in new)
+          (ap (λ (cs : List Held). map connection_seen cs) connections) s.workers.items new.workers.items i (Worked r o) hand refl there h.set
           (came r o) (affinity_of a) refl
           (server_of (filer_contents (held new).layout (now (held new)))) (all_parts (filer_contents (held new).layout (now (held new)))) (stamps (held new))
           (server-kept (held s) (held new) back_layout back.same) (parts-kept (held s) (held new) back_layout back.same) back_stamps
@@ -175,14 +177,15 @@ module _ (s : State) (sound : IsSoundEngine s) (i : ℕ) (r : Running) (o : Outc
             let left = waits.running in
             let are : length (running_messages new.workers.items) ≡ running_count new.calls = omega (arith, counted, were, left) in are);
         waiting = all_placed h (messages_of s.calls ++ again r a ∷ []) waits.back
-            (all-append (IsPlaced (layout_in s.calls) (length s.connections.items)) (messages_of s.calls) (again r a ∷ []) sound.waiting
+            (all-append (IsPlaced (layout_in s.calls) (length (held_in s))) (messages_of s.calls) (again r a ∷ []) sound.waiting
             (record { admitted = again_admitted; known = ready.0.known; run = moves.1 }, tt));
         workers = all_ready h sound still_ready;
         few = still_few h sound;
         stamps = (let same = back_stamps in let most = sound.stamps in let left = waits.running in omega (arith, same, most, left));
-        opened = opened ∙ sound.opened ∙ ap (λ (cs : List Connection). open_count (map connection_seen cs)) (sym connections);
+        keyed = keyed;
+        opened = opened ∙ sound.opened ∙ ap (λ (cs : List Held). open_count (map connection_seen cs)) (sym connections);
         owed = λ q x at.
-            (let old = sound.owed q x (ap (λ (cs : List Connection). slice_get cs q) (sym connections) ∙ at) in
+            (let old = sound.owed q x (ap (λ (cs : List Held). slice_get cs q) (sym connections) ∙ at) in
             let left = run_weight h (room_on q) in
             let more = ap (λ (ms : List (Message Call)). total (room_on q) ms) waits.back ∙ total-append (room_on q) (messages_of s.calls) (again r a ∷ []) in
             omega (arith, old, left, more));
@@ -201,10 +204,10 @@ module _ (s : State) (sound : IsSoundEngine s) (i : ℕ) (r : Running) (o : Outc
     pub reply_fits : length (reply_record r.message.origin.xid (reply_of reply)) ≤ r.message.room
     reply_fits = fits-as (layout_in s.calls) r.message o reply starved is ready.1
 
-    module _ (new : State) (h : IsChanged s new i ran done_with) (place place' : Connection) (count : ℕ)
-        (at : slice_get s.connections.items r.message.origin.connection.0 ≡ Some place)
-        (put : new.connections.items ≡ slice_set s.connections.items r.message.origin.connection.0 place')
-        (opened : new.open_count ≡ s.open_count) (kept : IsKept new.desk)
+    module _ (new : State) (h : IsChanged s new i ran done_with) (place place' : Held) (count : ℕ)
+        (at : slice_get (held_in s) r.message.origin.connection.0 ≡ Some place)
+        (put : (held_in new) ≡ slice_set (held_in s) r.message.origin.connection.0 place')
+        (keyed : AreKeyed new.connections.items new.slab) (opened : slab_len new.slab ≡ slab_len s.slab) (kept : IsKept new.desk)
         (done : HasFinished (machine_in s.desk) (held s) i (job_made r starved) (answer_made reply) (held new))
         (ends : EndsIn s.calls place r (reply_of reply) starved count new.calls place')
         (leaves : calls.HasLeft s.calls (finished_message r.message (moment_of r.moment) starved) new.calls)
@@ -217,14 +220,14 @@ module _ (s : State) (sound : IsSoundEngine s) (i : ℕ) (r : Running) (o : Outc
 
       ended_is : world new ≡ finish (setup_in s) (stamp_added (without_call (world s) i)) (finished_call (came r o) starved) (reply_of reply)
       ended_is = ended-world (world s) s.calls new.calls place place' r (reply_of reply) starved count ends (setup_in s) refl
-          (record { waiting = refl; finished = refl }) s.connections.items new.connections.items refl at put s.workers.items new.workers.items i (Worked r o)
+          (record { waiting = refl; finished = refl }) (held_in s) (held_in new) refl at put s.workers.items new.workers.items i (Worked r o)
           hand refl there h.set
           (server_of (filer_contents (held new).layout (now (held new)))) (all_parts (filer_contents (held new).layout (now (held new)))) (stamps (held new))
           (server-kept (held s) (held new) done_layout done.same) (parts-kept (held s) (held new) done_layout done.same) more_stamps
 
       written : count ≡ length (bytes_of_reply (setup_in s) (world s) (came r o).message (reply_of reply))
       written =
-          let at_world = connection-at s.connections.items r.message.origin.connection.0 place at in
+          let at_world = connection-at (held_in s) r.message.origin.connection.0 place at in
           (ends (setup_in s) (world s) refl (record { waiting = refl; finished = refl }) at_world).1
           ∙ ap (λ p. length (bytes_if_open p (reply_record r.message.origin.xid (reply_of reply)))) (sym at_world)
 
@@ -245,8 +248,11 @@ module _ (s : State) (sound : IsSoundEngine s) (i : ℕ) (r : Running) (o : Outc
 
       ended_stand : StandsFor job_of job_reply_of (setup_in s) (world new) (held new)
       ended_stand = finished-stands job_of job_reply_of (setup_in s) (world s) (held s) sound.stands i (worker_seen ran) seen (came r o) refl
-          (outcome_of o) refl starved (reply_of reply) (job_made r starved) (answer_made reply) refl refl (held new) done (book-apart _ (held new) _ kept)
-          (world new) (left-as (came r o) o reply starved is) (server-kept (held s) (held new) done_layout done.same)
+          (outcome_of o) refl starved (reply_of reply) (job_made r starved) (answer_made reply) refl refl (held new) done
+          (served-as (setup_in s) (held s) (came r o) done.lent o reply starved is
+          (run-on job_of job_reply_of (setup_in s) (world s) (held s) sound.stands i (worker_seen ran) seen (came r o) refl (outcome_of o) refl
+          done.lent done.is_lent))
+          (book-apart _ (held new) _ kept) (world new) (left-as (came r o) o reply starved is) (server-kept (held s) (held new) done_layout done.same)
           (parts-kept (held s) (held new) done_layout done.same) leaves.finished more_stamps
           (ap (λ (ks : List Worker). map worker_seen ks) h.set ∙ seen-ran s.workers.items i (Worked r o) Idle hand there)
 
@@ -271,9 +277,10 @@ module _ (s : State) (sound : IsSoundEngine s) (i : ℕ) (r : Running) (o : Outc
         workers = all_ready h sound still_ready;
         few = still_few h sound;
         stamps = (let more = more_stamps in let most = sound.stamps in let left = leaves.running in omega (arith, more, most, left));
+        keyed = keyed;
         opened = opened ∙ sound.opened
             ∙ sym (count-ended (world s) s.calls new.calls place place' r (reply_of reply) starved count ends (setup_in s) refl
-            (record { waiting = refl; finished = refl }) s.connections.items new.connections.items refl at put);
-        owed = owes-after s.connections.items new.connections.items r.message place place' at put owes (λ q. rooms_on q s) (λ q. rooms_on q new)
+            (record { waiting = refl; finished = refl }) (held_in s) (held_in new) refl at put);
+        owed = owes-after (held_in s) (held_in new) r.message place place' at put owes (λ q. rooms_on q s) (λ q. rooms_on q new)
             rooms_left sound.owed;
       }

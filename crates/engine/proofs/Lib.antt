@@ -1,5 +1,6 @@
 mod Lists
 mod Runs
+mod Promised
 mod Workers
 mod Begins
 mod Begun
@@ -13,6 +14,7 @@ mod Tended
 mod Made
 mod Carried
 mod Free
+mod Keyed
 mod Reconnected
 mod Closing
 mod Received

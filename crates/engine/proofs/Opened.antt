@@ -30,7 +30,11 @@ use Rattle.engine_feed.specs.Seen.{layout_in, messages_of, message_of, waiting_o
 use Rattle.engine_feed.specs.Streams.{codec}
 use Rattle.engine_feed.specs.Words.{AreNew}
 use Rattle.engine.specs.declared.worker.Worker as workers
+use Rattle.engine_feed.specs.declared.state.ConnectionState.{ConnectionState}
+use Rattle.slab.specs.Slab.{Slab, slab_len, entries_from}
+use Rattle.slab.proofs.SlabLemmas.{length-entries}
 use Rattle.engine.specs.declared.connection.Connection as connecting
+use Rattle.engine.specs.Connections.{Held, AreKeyed}
 use Rattle.engine.specs.Seen.{connection_seen, worker_seen, setup_of}
 use Rattle.engine.specs.Sound.{running_messages, IsReady}
 use Rattle.engine.specs.Workers.{idle_worker}
@@ -93,7 +97,7 @@ opens-world setup b stands connections waiting ks finished none waits idle done 
 
 -- the books of a desk, calls, workers and connections at the start
 pub record AreOpened {P : Type 0} (verifier : List ℕ) (b : FilerBooks P Job JobReply) (calls : CallsState) (ks : List workers.Worker)
-    (connections : List connecting.Connection) : Type 0 where
+    (connections : List Held) : Type 0 where
   pub layout : Layout
   pub count : ℕ
   pub few : count ≤ 64
@@ -108,7 +112,7 @@ pub record AreOpened {P : Type 0} (verifier : List ℕ) (b : FilerBooks P Job Jo
   pub none : connections ≡ []
 
 module _ {P : Type 0} (verifier : List ℕ) (b : FilerBooks P Job JobReply) (calls : CallsState) (ks : List workers.Worker)
-    (connections : List connecting.Connection) (h : AreOpened verifier b calls ks connections) where
+    (connections : List Held) (h : AreOpened verifier b calls ks connections) where
   pub same-layout : b.layout ≡ layout_in calls
   same-layout = ap (λ (x : FilerBooks P Job JobReply). x.layout) h.books ∙ sym h.same ∙ sym h.new.layout
 
@@ -137,7 +141,7 @@ module _ {P : Type 0} (verifier : List ℕ) (b : FilerBooks P Job JobReply) (cal
   none-open = sym (ap (λ xs. open_count (map connection_seen xs)) h.none)
 
 module _ {P : Type 0} (sound : OpensSound P) (server : OpensAsServer P) (free : OpensFree P) (verifier : List ℕ) (b : FilerBooks P Job JobReply)
-    (calls : CallsState) (ks : List workers.Worker) (connections : List connecting.Connection) (h : AreOpened verifier b calls ks connections) where
+    (calls : CallsState) (ks : List workers.Worker) (connections : List Held) (h : AreOpened verifier b calls ks connections) where
   abbrev setup : Setup
   setup = record { codec = codec; layout = layout_in calls; verifier = verifier; workers = length ks; connections = 64 }
 
@@ -173,3 +177,13 @@ module _ {P : Type 0} (sound : OpensSound P) (server : OpensAsServer P) (free : 
 -- no connection is there
 pub none-there : {X Y : Type 0} (xs : List X) → xs ≡ [] → (i : ℕ) (x : X) → slice_get xs i ≡ Some x → Y
 none-there xs none i x there = let no : None ≡ Some x = ap (λ ys. slice_get ys i) (sym none) ∙ there in absurd cc
+
+-- no connection is there, and none is kept
+pub none-keyed : (cs : List connecting.Connection) (slab : Slab ConnectionState) → cs ≡ [] → AreKeyed cs slab
+none-keyed cs slab none = record {
+  kept = λ i key at. none-there cs none i _ at;
+  apart = λ i j key at other. none-there cs none i _ at;
+}
+
+pub none-kept : (slab : Slab ConnectionState) → slab.slots ≡ [] → slab_len slab ≡ 0
+none-kept slab none = sym (length-entries slab) ∙ ap (λ slots. length (entries_from 0 slots)) none

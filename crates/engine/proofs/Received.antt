@@ -1,5 +1,5 @@
 -- Bytes that come on a connection: the world, the messages and the rooms after it.
-use Rattle.std.proofs.Common.{◌≡◌, ◌≢◌, ◌<◌, ◌≤◌, ℕ, zero, suc, ◌+◌, ◌^◌, inl, inr, Bool, true, List, [], ◌∷◌, ◌++◌, map, length, Option, Some, None}
+use Rattle.std.proofs.Common.{◌≡◌, ◌≢◌, ◌<◌, ◌≤◌, ℕ, zero, suc, ◌+◌, ◌^◌, inl, inr, Bool, true, List, [], ◌∷◌, ◌++◌, map, length, Option, Some, None, Ok, Err}
 use Rattle.std.proofs.Common.{refl, sym, ap, subst, ◌∙◌, arith}
 use Rattle.std.specs.Prelude.{is_none, slice_get, slice_set, if◌then◌else◌}
 use Rattle.std.specs.List.{AllByRecursion}
@@ -11,6 +11,7 @@ use Rattle.nfs_model.specs.Home.{home, home_of_asked}
 use Rattle.nfs_model.specs.World as worlds
 use Rattle.nfs_model.specs.World.{Setup, World, all_running, changed_at}
 use Rattle.nfs_model.specs.Events.Feed.{Feeds, feeding}
+use Rattle.nfs_model.specs.Events.Refusals as events
 use Rattle.nfs_model.specs.Events.Refusals.{open_count, takes_input}
 use Rattle.nfs_values.specs.declared.call.Call.{Call}
 use Rattle.nfs_values.specs.declared.call.Call.TheVariants as calls
@@ -37,16 +38,21 @@ use Rattle.engine_feed.specs.Seen.{connection_of, owed_by, layout_in, messages_o
 use Rattle.engine_feed.specs.Sound.{IsAdmitted}
 use Rattle.engine_feed.specs.Within.{IsPartOf, with_part}
 use Rattle.engine_feed.specs.Words.{TakesInput, IsOwn, rooms}
-use Rattle.engine.specs.declared.connection.Connection.{Connection}
-use Rattle.engine.specs.declared.connection.Connection.TheVariants.{Open}
+use Rattle.slab.specs.Slab.{Slab, slab_len}
+use Rattle.engine.specs.declared.connection.Connection.TheVariants as places
+use Rattle.engine.specs.Connections.{Held, Open, key_at, AreKeyed}
+use Rattle.engine.specs.declared.event.Done.TheVariants as dones
+use Rattle.engine.specs.declared.event.Refusal.TheVariants as refusals
 use Rattle.engine.specs.declared.state.State.{State}
 use Rattle.engine.specs.declared.worker.Worker.{Worker}
-use Rattle.engine.specs.Receiving.{takes_bytes, IsFed}
-use Rattle.engine.specs.Seen.{connection_seen, setup_in, world}
+use Rattle.engine.specs.Receiving.{takes_bytes, IsFed, ReceivesUnder}
+use Rattle.engine.specs.Seen.{connection_seen, held_in, setup_in, world}
 use Rattle.engine.specs.Sound.{IsSoundEngine, IsPlaced, IsReady, room_on}
+use Rattle.engine.specs.Words.{Does, HasItsSetup}
 use Rattle.engine.proofs.Lists.{all-after, all-later, set-here, set-elsewhere}
 use Rattle.engine.proofs.Placed.{kept_on, room-own, room-other}
 use Rattle.engine.proofs.Workers.{count-running}
+use Rattle.engine.proofs.Keyed.{takes-none, found-open, written, written-keyed, written-len}
 use Rattle.engine.proofs.Closing.{seen-at, seen-set, set-same}
 use Rattle.engine.proofs.Reconnected.{reserved-sound}
 
@@ -59,22 +65,27 @@ none-of (Some x) e = absurd cc
 abbrev pub if_takes : Bool → Option ℕ
 if_takes b = if b then None else Some 36
 
-pub may-take : (s : State) (i : ℕ) (d : Connection) (b : Bool) → slice_get s.connections.items i ≡ Some d → takes_bytes d ≡ b
+pub may-take : (s : State) (i : ℕ) (d : Held) (b : Bool) → slice_get (held_in s) i ≡ Some d → takes_bytes d ≡ b
     → if_takes (takes_input (setup_in s) (slice_get (world s).connections i)) ≡ if_takes b
 may-take s i d b there is =
-    ap (λ (x : Option worlds.Connection). if_takes (takes_input (setup_in s) x)) (seen-at s.connections.items i d there) ∙ ap if_takes is
+    ap (λ (x : Option worlds.Connection). if_takes (takes_input (setup_in s) x)) (seen-at (held_in s) i d there) ∙ ap if_takes is
 
-pub open-takes : (d : Connection) (o : ConnectionState) → d ≡ Open o → TakesInput o → takes_bytes d ≡ true
+-- where a number has no open connection
+pub may-not-take : (s : State) (i : ℕ) → key_at (slice_get s.connections.items i) ≡ None
+    → if_takes (takes_input (setup_in s) (slice_get (world s).connections i)) ≡ Some 36
+may-not-take s i none = ap if_takes (takes-none (setup_in s) s.connections.items s.slab i none)
+
+pub open-takes : (d : Held) (o : ConnectionState) → d ≡ Open o → TakesInput o → takes_bytes d ≡ true
 open-takes d o is takes = ap takes_bytes is ∙ ap (λ (f : Option ℕ). is_none f) takes
 
 -- ---- how many are open
 
-count-fed : (cs : List Connection) (i : ℕ) (o x : ConnectionState) → slice_get cs i ≡ Some (Open o)
+count-fed : (cs : List Held) (i : ℕ) (o x : ConnectionState) → slice_get cs i ≡ Some (Open o)
     → open_count (map connection_seen (slice_set cs i (Open x))) ≡ open_count (map connection_seen cs)
 count-fed [] i o x e = refl
 count-fed (d ∷ cs) zero o x e =
     let same : d ≡ Open o = cc in
-    sym (ap (λ (k : Connection). open_count (map connection_seen (k ∷ cs))) same)
+    sym (ap (λ (k : Held). open_count (map connection_seen (k ∷ cs))) same)
 count-fed (d ∷ cs) (suc i) o x e = let t = count-fed cs i o x e in omega (arith, t)
 
 -- ---- where messages are placed
@@ -143,7 +154,7 @@ kept-more c kept ms more all ws is sum =
     omega (arith, whole, sum)
 
 -- the connection that bytes came on owes the rooms of its new messages more, and the others what they owed
-pub fed-owed : (cs : List Connection) (number : ℕ) (before after : ConnectionState) (ms more all : List (Message Call)) (ws : List Worker)
+pub fed-owed : (cs : List Held) (number : ℕ) (before after : ConnectionState) (ms more all : List (Message Call)) (ws : List Worker)
     → slice_get cs number ≡ Some (Open before) → all ≡ ms ++ more → AllByRecursion (IsOwn number) more → owed_by after ≡ owed_by before + rooms more
     → ((c : ℕ) (x : ConnectionState) → slice_get cs c ≡ Some (Open x) → owed_by x ≡ kept_on c ms ws)
     → (c : ℕ) (x : ConnectionState) → slice_get (slice_set cs number (Open after)) c ≡ Some (Open x) → owed_by x ≡ kept_on c all ws
@@ -167,13 +178,13 @@ fed-owed cs number before after ms more all ws there is own owes owed c x e = el
 
 -- ---- the world
 
-is-part : (s : State) (number : ℕ) (before : ConnectionState) → IsSoundEngine s → slice_get s.connections.items number ≡ Some (Open before)
+is-part : (s : State) (number : ℕ) (before : ConnectionState) → IsSoundEngine s → slice_get (held_in s) number ≡ Some (Open before)
     → IsPartOf s.calls number before (world s)
 is-part s number before sound there =
     let b = books s.desk in
     let laid = laid-out b.layout (now b) in
     record {
-      connection = seen-at s.connections.items number (Open before) there;
+      connection = seen-at (held_in s) number (Open before) there;
       shows = record { waiting = refl; finished = refl };
       running = count-running s.workers.items ∙ sound.running;
       volumes = length-map (filer_contents b.layout (now b)).volumes volume_of ∙ laid.volumes
@@ -181,14 +192,14 @@ is-part s number before sound there =
     }
 
 abbrev pub fed_state : State → State → State
-fed_state s new = record s { connections = new.connections; calls = new.calls }
+fed_state s new = record s { connections = new.connections; slab = new.slab; calls = new.calls }
 
-world-fed : (s new : State) (number : ℕ) (before after : ConnectionState) → new.connections.items ≡ slice_set s.connections.items number (Open after)
-    → slice_get s.connections.items number ≡ Some (Open before) → with_part new.calls number after (world s) ≡ world (fed_state s new)
+world-fed : (s new : State) (number : ℕ) (before after : ConnectionState) → held_in new ≡ slice_set (held_in s) number (Open after)
+    → slice_get (held_in s) number ≡ Some (Open before) → with_part new.calls number after (world s) ≡ world (fed_state s new)
 world-fed s new number before after items there =
     ap (λ (cs : List worlds.Connection). record (world (fed_state s new)) { connections = cs })
     (sym (ap (map connection_seen) items
-    ∙ seen-set (λ (x : worlds.Connection). connection_of after) s.connections.items number (Open before) (Open after) there refl))
+    ∙ seen-set (λ (x : worlds.Connection). connection_of after) (held_in s) number (Open before) (Open after) there refl))
 
 -- the setup of other calls of the same layout
 pub setup-same : (s new : State) → layout_in new.calls ≡ layout_in s.calls → setup_in (fed_state s new) ≡ setup_in s
@@ -197,22 +208,23 @@ setup-same s new e = ap (λ (l : Layout). record (setup_in s) { layout = l }) e
 -- ---- the state
 
 -- a place that bytes came on
-module _ (stays : WithoutHomeStays) (s new : State) (sound : IsSoundEngine s) (number : ℕ) (bytes : List ℕ) (taken : ℕ) (stop : Stop) (d d' : Connection)
-    (at : slice_get s.connections.items number ≡ Some d) (items : new.connections.items ≡ slice_set s.connections.items number d')
-    (f : IsFed s.calls d number bytes taken stop new.calls d') (same : new ≡ fed_state s new) where
-  there : slice_get s.connections.items number ≡ Some (Open f.before)
-  there = at ∙ ap (λ (k : Connection). Some k) f.was
+module _ (stays : WithoutHomeStays) (s new : State) (sound : IsSoundEngine s) (number : ℕ) (bytes : List ℕ) (taken : ℕ) (stop : Stop) (d d' : Held)
+    (at : slice_get (held_in s) number ≡ Some d) (items : held_in new ≡ slice_set (held_in s) number d')
+    (f : IsFed s.calls d number bytes taken stop new.calls d') (keyed : AreKeyed new.connections.items new.slab)
+    (as_many : slab_len new.slab ≡ slab_len s.slab) (same : new ≡ fed_state s new) where
+  there : slice_get (held_in s) number ≡ Some (Open f.before)
+  there = at ∙ ap (λ (k : Held). Some k) f.was
 
-  set_to : new.connections.items ≡ slice_set s.connections.items number (Open f.after)
-  set_to = items ∙ ap (slice_set s.connections.items number) f.is
+  set_to : held_in new ≡ slice_set (held_in s) number (Open f.after)
+  set_to = items ∙ ap (slice_set (held_in s) number) f.is
 
   happens-fed : Feeds (setup_in s) (feeding number bytes taken (stop_number stop)) (world s) (world (fed_state s new))
   happens-fed =
       subst (Feeds (setup_in s) (feeding number bytes taken (stop_number stop)) (world s)) (world-fed s new number f.before f.after set_to there)
       (f.feeds (setup_in s) (world s) (record { codec = refl; layout = refl }) (is-part s number f.before sound there))
 
-  size : length new.connections.items ≡ length s.connections.items
-  size = ap length items ∙ length-set s.connections.items number d'
+  size : length (held_in new) ≡ length (held_in s)
+  size = ap length items ∙ length-set (held_in s) number d'
 
   -- what came is at home
   come-home : AllByRecursion (IsAtHome (layout_in s.calls)) (map message_of f.adds.more)
@@ -224,24 +236,24 @@ module _ (stays : WithoutHomeStays) (s new : State) (sound : IsSoundEngine s) (n
       (sym (map-append message_of ms f.adds.more) ∙ ap (λ (xs : List (Message Call)). map message_of xs) (sym f.adds.waiting) ∙ added.1) in
       subst (AllByRecursion (IsAtHome (layout_in s.calls))) (sym same) added.2
 
-  waits : AllByRecursion (IsPlaced (layout_in s.calls) (length s.connections.items)) (messages_of new.calls)
+  waits : AllByRecursion (IsPlaced (layout_in s.calls) (length (held_in s))) (messages_of new.calls)
   waits =
       let layout = layout_in s.calls in
-      let n = length s.connections.items in
+      let n = length (held_in s) in
       let ms = messages_of s.calls in
       let more = f.adds.more in
       let admitted = subst (λ (l : Layout). AllByRecursion (IsAdmitted l) (messages_of new.calls)) f.adds.layout f.admitted in
-      let own = all-later (IsOwn number) (IsKnown n) more (own-known n number (slice_get_within s.connections.items number d at)) f.adds.own in
+      let own = all-later (IsOwn number) (IsKnown n) more (own-known n number (slice_get_within (held_in s) number d at)) f.adds.own in
       subst (AllByRecursion (IsPlaced layout n)) (sym f.adds.waiting)
       (all-append (IsPlaced layout n) ms more sound.waiting
       (placed-more layout n more (all-after (IsAdmitted layout) ms more (subst (AllByRecursion (IsAdmitted layout)) f.adds.waiting admitted)) own come-home))
 
   sound-fed : IsSoundEngine (fed_state s new)
   sound-fed =
-      let cs = s.connections.items in
+      let cs = held_in s in
       let ws = s.workers.items in
       let to = sym f.adds.layout in
-      let n = length new.connections.items in
+      let n = length (held_in new) in
       record {
         layout = sound.layout ∙ to;
         kept = sound.kept;
@@ -255,9 +267,10 @@ module _ (stays : WithoutHomeStays) (s new : State) (sound : IsSoundEngine s) (n
             (subst (λ (k : ℕ). AllByRecursion (IsReady (layout_in s.calls) k) ws) (sym size) sound.workers);
         few = sound.few;
         stamps = subst (λ (k : ℕ). stamps (books s.desk) + k ≤ 2 ^ 62 + 64) (sym f.adds.running) sound.stamps;
-        opened = sound.opened ∙ sym (ap (λ (ks : List Connection). open_count (map connection_seen ks)) set_to
+        keyed = keyed;
+        opened = as_many ∙ sound.opened ∙ sym (ap (λ (ks : List Held). open_count (map connection_seen ks)) set_to
             ∙ count-fed cs number f.before f.after there);
-        owed = subst (λ (ks : List Connection). (c : ℕ) (x : ConnectionState) → slice_get ks c ≡ Some (Open x)
+        owed = subst (λ (ks : List Held). (c : ℕ) (x : ConnectionState) → slice_get ks c ≡ Some (Open x)
             → owed_by x ≡ kept_on c (messages_of new.calls) ws) (sym set_to)
             (fed-owed cs number f.before f.after (messages_of s.calls) f.adds.more (messages_of new.calls) ws there f.adds.waiting f.adds.own
             f.adds.owed sound.owed);
@@ -271,19 +284,89 @@ module _ (stays : WithoutHomeStays) (s new : State) (sound : IsSoundEngine s) (n
   fed-sound = subst IsSoundEngine (sym same) sound-fed
 
 -- a place that took none
-module _ (s new : State) (number : ℕ) (d d' : Connection) (at : slice_get s.connections.items number ≡ Some d)
-    (items : new.connections.items ≡ slice_set s.connections.items number d') (stays : d' ≡ d) (calls : new.calls ≡ s.calls)
-    (same : new ≡ fed_state s new) where
-  same_items : new.connections.items ≡ s.connections.items
-  same_items = items ∙ ap (slice_set s.connections.items number) stays ∙ set-same s.connections.items number d at
+module _ (s new : State) (number : ℕ) (d d' : Held) (at : slice_get (held_in s) number ≡ Some d)
+    (items : held_in new ≡ slice_set (held_in s) number d') (stays : d' ≡ d) (calls : new.calls ≡ s.calls)
+    (keyed : AreKeyed new.connections.items new.slab) (as_many : slab_len new.slab ≡ slab_len s.slab) (same : new ≡ fed_state s new) where
+  same_items : held_in new ≡ held_in s
+  same_items = items ∙ ap (slice_set (held_in s) number) stays ∙ set-same (held_in s) number d at
 
   pub unfed-world : world new ≡ world s
   unfed-world =
-      ap world same ∙ ap (λ (x : CallsState). world (record s { connections = new.connections; calls = x })) calls
-      ∙ ap (λ (cs : List Connection). record (world s) { connections = map connection_seen cs }) same_items
+      ap world same ∙ ap (λ (x : CallsState). world (record s { connections = new.connections; slab = new.slab; calls = x })) calls
+      ∙ ap (λ (cs : List Held). record (world s) { connections = map connection_seen cs }) same_items
 
   pub unfed-sound : IsSoundEngine s → IsSoundEngine new
   unfed-sound sound =
       subst IsSoundEngine (sym same)
-      (subst (λ (x : CallsState). IsSoundEngine (record s { connections = new.connections; calls = x })) (sym calls)
-      (reserved-sound s (record s { connections = new.connections }) refl same_items sound))
+      (subst (λ (x : CallsState). IsSoundEngine (record s { connections = new.connections; slab = new.slab; calls = x })) (sym calls)
+      (reserved-sound s (record s { connections = new.connections; slab = new.slab }) refl same_items keyed as_many sound))
+
+-- ---- what came of the key
+
+-- the connection of a number that has none open takes nothing
+pub shut-events : (s : State) (i : ℕ) (bytes : List ℕ) → key_at (slice_get s.connections.items i) ≡ None
+    → Does s (events.Feed i bytes) (Err refusals.Closed) s
+shut-events s i bytes none = (inl (may-not-take s i none), refl)
+
+-- the open connection of a number, which is kept under its key
+module _ (s : State) (sound : IsSoundEngine s) (i key : ℕ) (at : slice_get s.connections.items i ≡ Some (places.Open key)) (bytes : List ℕ)
+    (calls' : CallsState) (slab' : Slab ConnectionState) where
+  abbrev given : State
+  given = record s { slab = slab'; calls = calls' }
+
+  -- takes none
+  module _ (r : ReceivesUnder s.calls s.slab key i bytes None calls' slab') where
+    stood : slice_get (held_in s) i ≡ Some (Open r.before)
+    stood = found-open s.connections.items s.slab i key r.before at r.was
+
+    set_none : held_in given ≡ slice_set (held_in s) i (Open r.after)
+    set_none = written s.connections.items s.slab slab' sound.keyed i key at r.before r.after r.was r.is
+
+    keyed_none : AreKeyed s.connections.items slab'
+    keyed_none = written-keyed s.connections.items s.slab slab' sound.keyed i key at r.before r.after r.was r.is
+
+    many_none : slab_len slab' ≡ slab_len s.slab
+    many_none = written-len s.slab slab' key r.before r.after r.was r.is
+
+    pub untaken-events : Does s (events.Feed i bytes) (Err refusals.Closed) given
+    untaken-events = (
+      inl (may-take s i (Open r.before) _ stood r.receives.0),
+      unfed-world s given i (Open r.before) (Open r.after) stood set_none r.receives.1 r.receives.2 keyed_none many_none refl,
+    )
+
+    pub untaken-setup : HasItsSetup s given
+    untaken-setup = setup-same s given (ap (λ (x : CallsState). layout_in x) r.receives.2)
+
+    pub untaken-sound : IsSoundEngine given
+    untaken-sound = unfed-sound s given i (Open r.before) (Open r.after) stood set_none r.receives.1 r.receives.2 keyed_none many_none refl sound
+
+  -- or so many
+  module _ (stays : WithoutHomeStays) (taken : ℕ) (stop : Stop) (r : ReceivesUnder s.calls s.slab key i bytes (Some (taken, stop)) calls' slab') where
+    stands : slice_get (held_in s) i ≡ Some (Open r.before)
+    stands = found-open s.connections.items s.slab i key r.before at r.was
+
+    set_some : held_in given ≡ slice_set (held_in s) i (Open r.after)
+    set_some = written s.connections.items s.slab slab' sound.keyed i key at r.before r.after r.was r.is
+
+    keyed_some : AreKeyed s.connections.items slab'
+    keyed_some = written-keyed s.connections.items s.slab slab' sound.keyed i key at r.before r.after r.was r.is
+
+    many_some : slab_len slab' ≡ slab_len s.slab
+    many_some = written-len s.slab slab' key r.before r.after r.was r.is
+
+    pub taken-events : Does s (events.Feed i bytes) (Ok (dones.Fed taken stop)) given
+    taken-events = (
+      may-take s i (Open r.before) true stands (open-takes (Open r.before) r.receives.before r.receives.was r.receives.takes),
+      (
+        taken,
+        stop_number stop,
+        refl,
+        happens stays s given sound i bytes taken stop (Open r.before) (Open r.after) stands set_some r.receives keyed_some many_some refl,
+      ),
+    )
+
+    pub taken-setup : HasItsSetup s given
+    taken-setup = setup-same s given r.receives.adds.layout
+
+    pub taken-sound : IsSoundEngine given
+    taken-sound = fed-sound stays s given sound i bytes taken stop (Open r.before) (Open r.after) stands set_some r.receives keyed_some many_some refl

@@ -36,7 +36,7 @@ use Rattle.engine.specs.declared.worker.Worker.{Worker}
 use Rattle.engine.specs.declared.worker.WorkerRun.TheVariants.{Idle}
 use Rattle.engine.specs.Inner.{MayMake, IsMade, IsRefusedFor, MayTend, Tends, Refuses, IsOfHand, told_as}
 use Rattle.engine.specs.Numbers.{refusal_number}
-use Rattle.engine.specs.Seen.{setup_in, world, worker_seen, done_of}
+use Rattle.engine.specs.Seen.{held_in, setup_in, world, worker_seen, done_of}
 use Rattle.engine.specs.Sound.{IsReady, IsSoundEngine, running_messages, room_on}
 use Rattle.engine.specs.Workers.{worker_with, HandSet, HandTaken}
 use Rattle.engine.proofs.Workers.{seen-at, seen-carried, one-worker, carries-then}
@@ -204,6 +204,7 @@ module _ (s : State) (sound : IsSoundEngine s) (i : ℕ) (call : InnerCall) (may
             let run = few-run s.workers.items in
             let are = sound.running in
             let all : stamps (held t) + running_count s.calls ≤ 2 ^ 62 + 64 = omega (arith, more, were, low, most, run, are) in all);
+        keyed = sound.keyed;
         opened = sound.opened;
         owed = λ q x at. sound.owed q x at
             ∙ ap (λ (ms : List (Message Call)). total (room_on q) (messages_of s.calls) + total (room_on q) ms) (sym running);
@@ -232,9 +233,10 @@ module _ (s t : State) (items : t.workers.items ≡ s.workers.items) (same : hel
         (subst (λ (x : FilerBooks Files Job JobReply). StandsFor job_of job_reply_of (setup_in s) (world s) x) (sym same) sound.stands));
     running = ap (λ (ks : List Worker). length (running_messages ks)) items ∙ sound.running;
     waiting = sound.waiting;
-    workers = subst (λ (ks : List Worker). AllByRecursion (IsReady (layout_in s.calls) (length s.connections.items)) ks) (sym items) sound.workers;
+    workers = subst (λ (ks : List Worker). AllByRecursion (IsReady (layout_in s.calls) (length (held_in s))) ks) (sym items) sound.workers;
     few = subst (λ (ks : List Worker). length ks ≤ 64) (sym items) sound.few;
     stamps = subst (λ (x : FilerBooks Files Job JobReply). stamps x + running_count s.calls ≤ 2 ^ 62 + 64) (sym same) sound.stamps;
+    keyed = sound.keyed;
     opened = sound.opened;
     owed = λ q x at. sound.owed q x at
         ∙ ap (λ (ks : List Worker). total (room_on q) (messages_of s.calls) + total (room_on q) (running_messages ks)) (sym items);

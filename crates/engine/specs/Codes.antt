@@ -1,4 +1,4 @@
--- The code of the nodes of a volume, which the engine's value needs.
+-- The codes of the nodes of a volume, and of what is in the parcels of a history, which the engine's value needs.
 use Rattle.std.specs.Prelude.{◌≡◌, refl, ℕ, List, Option, ◌⊎◌}
 use Rattle.std.proofs.Common.{inl, inr}
 use Rattle.std.specs.Coded.{Coded, code_by, coded×, coded⊎, coded_ℕ, coded_list, coded_option}
@@ -9,7 +9,11 @@ use Rattle.std.specs.FinSet.{FinSet}
 use Rattle.std.specs.Ordering.{nat_cmp}
 use Rattle.nfs_model.specs.Types.{Moment, Listed}
 use Rattle.nfs_model.specs.Server.{Attributes, FileNode, DirectoryNode, Node, File, Directory}
+use Rattle.nfs_model.specs.volume.Codes as volumes
 use Rattle.nfs_model.specs.volume.Codes.{coded_moment, coded_attributes, coded_listed}
+use Rattle.nfs_model.specs.volume.Logical.{LogicalValue}
+use Rattle.nfs_model.specs.volume.Ranges.{RangeValue}
+use Rattle.nfs_model.specs.volume.Stripes.{StripeValue}
 
 abbrev pub coded_file : Coded FileNode
 coded_file =
@@ -44,3 +48,14 @@ coded_nodes = maps.code coded_ℕ coded_node
 
 abbrev pub coded_filled : Coded (FinSet nat_cmp)
 coded_filled = sets.code coded_ℕ
+
+-- ---- what is in parcels
+
+abbrev pub coded_range : Coded RangeValue
+coded_range = volumes.coded_range
+
+abbrev pub coded_stripe : Coded StripeValue
+coded_stripe = volumes.coded_stripe
+
+abbrev pub coded_logical : Coded LogicalValue
+coded_logical = volumes.coded_logical

@@ -1,5 +1,5 @@
 -- A message that ends: the entry that it makes, and what becomes of its connection.
-use Rattle.std.specs.Prelude.{◌≡◌, ℕ, ◌+◌, Bool, length, Some, slice_get}
+use Rattle.std.specs.Prelude.{◌≡◌, ℕ, ◌+◌, Bool, List, length, Some, slice_get, slice_set}
 use Rattle.nfs_model.specs.Types as types
 use Rattle.nfs_model.specs.World.{Setup, World, finish, changed_at}
 use Rattle.nfs_model.specs.Events.Step.{bytes_if_open}
@@ -23,8 +23,9 @@ use Rattle.engine_feed.specs.Codec.{reply_record}
 use Rattle.engine_feed.specs.Seen.{owed_by, finished_message}
 use Rattle.engine_feed.specs.Streams.{codec}
 use Rattle.engine_feed.specs.Within.{Shows, with_calls}
+use Rattle.slab.specs.Slab.{Slab, slab_len}
 use Rattle.engine.specs.declared.connection.Connection.{Connection}
-use Rattle.engine.specs.declared.connection.Connection.TheVariants.{Open}
+use Rattle.engine.specs.Connections.{Held, Open, held_by, AreKeyed}
 use Rattle.engine.specs.declared.worker.Running.{Running}
 use Rattle.engine.specs.Seen.{connection_seen}
 
@@ -51,7 +52,7 @@ answer_made reply = Replied reply
 -- ---- the connection
 
 -- a message is finished in every world of which these calls and its connection are a part, and so many bytes were written
-abbrev pub EndsIn : CallsState → Connection → Running → types.Reply → Bool → ℕ → CallsState → Connection → Type 0
+abbrev pub EndsIn : CallsState → Held → Running → types.Reply → Bool → ℕ → CallsState → Held → Type 0
 EndsIn calls place r reply starved count calls' place' =
     (setup : Setup) (w : World) → setup.codec ≡ codec → Shows calls w
     → slice_get w.connections r.message.origin.connection.0 ≡ Some (connection_seen place)
@@ -60,5 +61,17 @@ EndsIn calls place r reply starved count calls' place' =
     × (count ≡ length (bytes_if_open (Some (connection_seen place)) (reply_record r.message.origin.xid reply)))
 
 -- where it is open, it owes the room of the reply no more
-abbrev pub OwesLess : Message Call → Connection → Connection → Type 0
+abbrev pub OwesLess : Message Call → Held → Held → Type 0
 OwesLess m old new = (x : ConnectionState) → new ≡ Open x → (y : ConnectionState) × (old ≡ Open y) × (owed_by y ≡ owed_by x + m.room)
+
+-- the connection of its number, of a list whose open ones a slab keeps
+pub record EndsAmong (calls : CallsState) (cs : List Connection) (slab : Slab ConnectionState) (r : Running) (reply : types.Reply) (starved : Bool)
+    (count : ℕ) (calls' : CallsState) (slab' : Slab ConnectionState) : Type 0 where
+  pub place : Held
+  pub left : Held
+  pub at : slice_get (held_by cs slab) r.message.origin.connection.0 ≡ Some place
+  pub put : held_by cs slab' ≡ slice_set (held_by cs slab) r.message.origin.connection.0 left
+  pub ends : EndsIn calls place r reply starved count calls' left
+  pub owes : OwesLess r.message place left
+  pub keyed : AreKeyed cs slab'
+  pub opened : slab_len slab' ≡ slab_len slab

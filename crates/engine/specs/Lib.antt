@@ -1,4 +1,5 @@
 pub mod Numbers
+pub mod Connections
 pub mod Seen
 pub mod Workers
 pub mod Sound
@@ -10,6 +11,7 @@ pub mod Engine
 pub mod Words
 pub mod Counted
 pub mod Shown
+pub mod Promise
 pub mod Codes
 pub mod laws
 pub mod counts

@@ -1,4 +1,4 @@
--- A connection of the list that bytes come on.
+-- A connection that bytes come on.
 use Rattle.std.specs.Prelude.{◌≡◌, ℕ, Bool, false, ◌&&◌, List, Option, Some, None, is_none}
 use Rattle.std.specs.List.{AllByRecursion}
 use Rattle.engine_feed.specs.declared.stop.Stop.{Stop}
@@ -8,17 +8,17 @@ use Rattle.engine_feed.specs.Seen.{layout_in, messages_of}
 use Rattle.engine_feed.specs.Sound.{IsAdmitted}
 use Rattle.engine_feed.specs.Streams.{scan_stream}
 use Rattle.engine_feed.specs.Words.{TakesInput, HasFed, Adds}
-use Rattle.engine.specs.declared.connection.Connection.{Connection}
-use Rattle.engine.specs.declared.connection.Connection.TheVariants.{Open}
+use Rattle.slab.specs.Slab.{Slab, get, with_value}
+use Rattle.engine.specs.Connections.{Held, Open}
 use Rattle.engine.specs.Seen.{connection_seen}
 
 -- open, and at no fault
-abbrev pub takes_bytes : Connection → Bool
+abbrev pub takes_bytes : Held → Bool
 takes_bytes c = is_none (connection_seen c).closed && is_none (scan_stream (connection_seen c).stream).fault
 
 -- so many of the bytes were taken, and this stopped the taking
-pub record IsFed (calls : CallsState) (old : Connection) (number : ℕ) (bytes : List ℕ) (taken : ℕ) (stop : Stop)
-    (calls' : CallsState) (new : Connection) : Type 0 where
+pub record IsFed (calls : CallsState) (old : Held) (number : ℕ) (bytes : List ℕ) (taken : ℕ) (stop : Stop)
+    (calls' : CallsState) (new : Held) : Type 0 where
   pub before : ConnectionState
   pub after : ConnectionState
   pub was : old ≡ Open before
@@ -29,6 +29,15 @@ pub record IsFed (calls : CallsState) (old : Connection) (number : ℕ) (bytes :
   pub admitted : AllByRecursion (IsAdmitted (layout_in calls')) (messages_of calls')
 
 -- bytes are taken where the connection takes any; else nothing changes
-abbrev pub Receives : CallsState → Connection → ℕ → List ℕ → Option (ℕ × Stop) → CallsState → Connection → Type 0
+abbrev pub Receives : CallsState → Held → ℕ → List ℕ → Option (ℕ × Stop) → CallsState → Held → Type 0
 Receives calls old number bytes None calls' new = (takes_bytes old ≡ false) × (new ≡ old) × (calls' ≡ calls)
 Receives calls old number bytes (Some r) calls' new = IsFed calls old number bytes r.0 r.1 calls' new
+
+-- the open connection that is kept under a key
+pub record ReceivesUnder (calls : CallsState) (slab : Slab ConnectionState) (key number : ℕ) (bytes : List ℕ) (answer : Option (ℕ × Stop))
+    (calls' : CallsState) (slab' : Slab ConnectionState) : Type 0 where
+  pub before : ConnectionState
+  pub after : ConnectionState
+  pub was : get slab key ≡ Some before
+  pub is : slab' ≡ with_value slab key after
+  pub receives : Receives calls (Open before) number bytes answer calls' (Open after)

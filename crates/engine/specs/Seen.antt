@@ -1,5 +1,5 @@
 -- The engine's fields as a world, and its events and answers as the world's.
-use Rattle.std.specs.Prelude.{ℕ, List, map, length, Option, Some, None, Result, Ok, Err}
+use Rattle.std.specs.Prelude.{ℕ, List, [], map, length, Option, Some, None, Result, Ok, Err}
 use Rattle.nfs_model.specs.Tree.{Layout}
 use Rattle.nfs_model.specs.Work as tasks
 use Rattle.nfs_model.specs.World as worlds
@@ -17,8 +17,7 @@ use Rattle.service.specs.Running.{outcome_of}
 use Rattle.engine_feed.specs.Numbers.{stop_number}
 use Rattle.engine_feed.specs.Seen.{connection_of, message_of, layout_in, waiting_of, finished_of}
 use Rattle.engine_feed.specs.Streams.{codec}
-use Rattle.engine.specs.declared.connection.Connection.{Connection}
-use Rattle.engine.specs.declared.connection.Connection.TheVariants as connections
+use Rattle.engine.specs.Connections.{Held, Open, Closed, Missing, held_by}
 use Rattle.engine.specs.declared.worker.Running.{Running}
 use Rattle.engine.specs.declared.worker.Worker.{Worker}
 use Rattle.engine.specs.declared.worker.WorkerRun.{WorkerRun}
@@ -33,9 +32,14 @@ use Rattle.engine.specs.Numbers.{refusal_number}
 
 -- ---- connections
 
-abbrev pub connection_seen : Connection → worlds.Connection
-connection_seen (connections.Open c) = connection_of c
-connection_seen (connections.Closed c) = record { stream = c.stream.items; closed = Some c.finished; output = c.output.items }
+abbrev pub connection_seen : Held → worlds.Connection
+connection_seen (Open c) = connection_of c
+connection_seen (Closed c) = record { stream = c.stream.items; closed = Some c.finished; output = c.output.items }
+connection_seen Missing = record { stream = []; closed = Some 0; output = [] }
+
+-- what each number of a state has
+abbrev pub held_in : State → List Held
+held_in s = held_by s.connections.items s.slab
 
 -- ---- workers
 
@@ -63,7 +67,7 @@ setup_in s = setup_of (layout_in s.calls) s.verifier.0 (length s.workers.items)
 
 abbrev pub world : State → worlds.World
 world s = record {
-  connections = map connection_seen s.connections.items;
+  connections = map connection_seen (held_in s);
   waiting = waiting_of s.calls;
   workers = map worker_seen s.workers.items;
   finished = finished_of s.calls;

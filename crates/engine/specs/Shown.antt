@@ -1,15 +1,22 @@
--- What is seen of an engine: what is fixed for its run, and the world.
+-- What is seen of an engine: what is fixed for its run, the world, and the history of its seat, which is there for clauses alone.
 use Rattle.std.specs.Prelude.{◌≡◌, ℕ, List, map, length, Result}
+use Rattle.std.specs.List.{AllByRecursion}
 use Rattle.nfs_model.specs.Tree.{Layout}
-use Rattle.nfs_model.specs.World.{Setup, World}
-use Rattle.nfs_model.specs.Headline.{Headline, opening_world}
+use Rattle.nfs_model.specs.Replay.{server_after}
+use Rattle.nfs_model.specs.World.{Setup, World, all_running}
+use Rattle.nfs_model.specs.Headline.{Headline, IsOutcome, start, opening_world}
 use Rattle.nfs_model.specs.Events.Refusals as events
 use Rattle.nfs_model.specs.Events.Step.{Events, Runs}
+use Rattle.depot.specs.Words.{view}
+use Rattle.desk.specs.Words.{books}
+use Rattle.parcels.specs.declared.files.Files.{Files}
+use Rattle.service.specs.Jobs.{job_of, job_reply_of}
 use Rattle.engine_feed.specs.Seen.{layout_in}
 use Rattle.engine.specs.declared.event.Event.{Event}
 use Rattle.engine.specs.declared.event.Done.{Done}
 use Rattle.engine.specs.declared.event.Refusal.{Refusal}
 use Rattle.engine.specs.declared.state.State.{State}
+use Rattle.engine.specs.laws.History.{SeatHistory, IsHistory, entry_seen}
 use Rattle.engine.specs.Engine.{RunsRefusing}
 use Rattle.engine.specs.Seen as fields
 use Rattle.engine.specs.Seen.{setup_of, event_of, answer_of}
@@ -19,9 +26,20 @@ pub record Shown : Type 0 where
   pub verifier : List ℕ
   pub workers : ℕ
   pub world : World
+  pub history : SeatHistory Files
+
+-- what the seat of the engine's desk has seen, with jobs and replies as the definitions have them
+abbrev pub history_in : State → SeatHistory Files
+history_in s = record { first = (view s.desk.seat).first; entries = map (entry_seen job_of job_reply_of) (books s.desk).entries }
 
 abbrev pub shown : State → Shown
-shown s = record { layout = layout_in s.calls; verifier = s.verifier.0; workers = length s.workers.items; world = fields.world s }
+shown s = record {
+  layout = layout_in s.calls;
+  verifier = s.verifier.0;
+  workers = length s.workers.items;
+  world = fields.world s;
+  history = history_in s;
+}
 
 abbrev pub setup_in : Shown → Setup
 setup_in e = setup_of e.layout e.verifier e.workers
@@ -45,3 +63,13 @@ HasPlayed es new = Runs (setup_in new) (opening_world (setup_in new)) (map event
 -- what holds after every event
 abbrev pub HasHeadline : Shown → Type 0
 HasHeadline e = Headline (setup_in e) e.world
+
+-- What a running call was worked to is what finishing it now would give, whatever was finished since it was worked: its reply is the
+-- serial server's, after the calls that are finished by now.
+abbrev pub HasOutcomes : Shown → Type 0
+HasOutcomes e = AllByRecursion (λ r. IsOutcome (setup_in e) (server_after (start (setup_in e)) e.world.finished) r r.outcome) (all_running e.world.workers)
+
+-- The engine's parcels are as the history of its seat left them, but for those of running messages, which are as they are now; and
+-- the calls of that history are the finished ones that ran under an affinity, in order.
+abbrev pub HasHistory : Shown → Type 0
+HasHistory e = IsHistory e.layout (setup_in e) e.world e.history

@@ -22,12 +22,13 @@ use Rattle.engine.specs.laws.Store.{StandsFor}
 use Rattle.engine_feed.specs.Codec.{reply_record}
 use Rattle.engine_feed.specs.Seen.{owed_by, layout_in, messages_of, running_count}
 use Rattle.engine_feed.specs.Sound.{IsAdmitted}
-use Rattle.engine.specs.declared.connection.Connection.TheVariants.{Open}
+use Rattle.slab.specs.Slab.{slab_len}
+use Rattle.engine.specs.Connections.{Open, AreKeyed}
 use Rattle.engine.specs.declared.worker.Worker.{Worker}
 use Rattle.engine.specs.declared.worker.WorkerRun.{WorkerRun}
 use Rattle.engine.specs.declared.worker.WorkerRun.TheVariants.{Idle, Begun, Worked}
 use Rattle.engine.specs.declared.state.State.{State}
-use Rattle.engine.specs.Seen.{connection_seen, setup_in, world}
+use Rattle.engine.specs.Seen.{connection_seen, held_in, setup_in, world}
 
 -- ---- messages
 
@@ -84,9 +85,10 @@ pub record IsSoundEngine (s : State) : Type 0 where
   pub kept : IsKept s.desk
   pub stands : StandsFor job_of job_reply_of (setup_in s) (world s) (books s.desk)
   pub running : length (running_messages s.workers.items) ≡ running_count s.calls
-  pub waiting : AllByRecursion (IsPlaced (layout_in s.calls) (length s.connections.items)) (messages_of s.calls)
-  pub workers : AllByRecursion (IsReady (layout_in s.calls) (length s.connections.items)) s.workers.items
+  pub waiting : AllByRecursion (IsPlaced (layout_in s.calls) (length (held_in s))) (messages_of s.calls)
+  pub workers : AllByRecursion (IsReady (layout_in s.calls) (length (held_in s))) s.workers.items
   pub few : length s.workers.items ≤ 64
   pub stamps : stamps (books s.desk) + running_count s.calls ≤ 2 ^ 62 + 64
-  pub opened : s.open_count ≡ open_count (map connection_seen s.connections.items)
-  pub owed : (c : ℕ) (x : _) → slice_get s.connections.items c ≡ Some (Open x) → owed_by x ≡ rooms_on c s
+  pub keyed : AreKeyed s.connections.items s.slab
+  pub opened : slab_len s.slab ≡ open_count (map connection_seen (held_in s))
+  pub owed : (c : ℕ) (x : _) → slice_get (held_in s) c ≡ Some (Open x) → owed_by x ≡ rooms_on c s

@@ -1,7 +1,5 @@
 //! Connections by number.
 
-use engine_feed::OpenConnection;
-
 /// A connection that was closed: what came and what was written stays.
 #[derive(Drop)]
 pub(crate) struct ClosedConnection {
@@ -14,6 +12,7 @@ pub(crate) struct ClosedConnection {
 /// A connection.
 #[derive(Drop)]
 pub(crate) enum Connection {
-    Open(OpenConnection),
+    /// It is open, and kept under this key.
+    Open(usize),
     Closed(ClosedConnection),
 }

@@ -1,14 +1,17 @@
 //! The engine: connections, calls on their way, workers, and the parcels that calls run on.
 
-ghost use Rattle.std.specs.Prelude.{◌≡◌, ◌≤◌, List, ℕ, length, map, option_map, slice_get, IfOk};
+ghost use Rattle.std.specs.Prelude.{◌≡◌, ◌≤◌, List, ℕ, [], ◌∷◌, length, map, option_map};
+ghost use Rattle.std.specs.Prelude.{slice_get, IfOk};
 ghost use Rattle.nfs_model.specs.World.{counts_of};
 ghost use Rattle.nfs_model.specs.Headline.{opening_world};
 ghost use Rattle.affinity_tree.specs.Layout.{layout_of};
 ghost use Rattle.engine_feed.specs.Seen.{entry_of};
 ghost use Rattle.engine.specs.counts.Counts.{parts_told, world_counts};
 ghost use Rattle.engine.specs.Engine.{output_in, stream_in};
+ghost use Rattle.engine.specs.Promise.{Promise, GoesOn};
 ghost use Rattle.engine.specs.Seen.{event_of, worker_seen, setup_of, world};
-ghost use Rattle.engine.specs.Shown.{setup_in, Does, HasRun, HasPlayed, HasHeadline, HasItsSetup};
+ghost use Rattle.engine.specs.Shown.{setup_in, Does, HasRun, HasPlayed, HasItsSetup};
+ghost use Rattle.engine.specs.Shown.{HasHeadline, HasOutcomes, HasHistory};
 ghost use Rattle.engine.specs.Sound.{IsSoundEngine};
 ghost use Rattle.engine.specs.Words as words;
 
@@ -27,7 +30,7 @@ use crate::worker::Worker;
 use crate::working::work;
 use affinity_tree::Layout;
 use engine_feed::FinishedCall;
-use engine_feed::laws::codec_is_scan;
+use engine_feed::laws::{codec_is_scan, streams_are_served};
 use nfs_laws::laws::{events_keep_headline, opening_meets_headline};
 use nfs_values::VolumeNumber;
 use parcels::laws::parts_partition;
@@ -101,10 +104,18 @@ impl Model for Engine {
     ghost use Rattle.engine.specs.Shown.{Shown};
     ghost use Rattle.std.specs.Coded.{codes};
     ghost use Rattle.engine.specs.Codes.{coded_nodes, coded_filled};
+    ghost use Rattle.engine.specs.Codes.{coded_range, coded_stripe, coded_logical};
 
     ghost Value = { Shown };
 
-    ghost coded = { Prim.hlevel (codes, coded_nodes, coded_filled) };
+    ghost coded = { Prim.hlevel (
+      codes,
+      coded_nodes,
+      coded_filled,
+      coded_range,
+      coded_stripe,
+      coded_logical,
+    ) };
 
     ghost use Rattle.engine.specs.Shown.{shown};
     ghost use Rattle.engine.specs.Counted.{IsCountedWhole};
@@ -129,7 +140,11 @@ impl Engine {
         ensures opening { IfOk result (λ engine.
             engine.world ≡ opening_world (setup_in engine)) }
         ensures headline { IfOk result (λ engine. HasHeadline engine) }
+        ensures outcomes { IfOk result (λ engine. HasOutcomes engine) }
+        ensures history { IfOk result (λ engine. HasHistory engine) }
+        ensures promise { IfOk result (λ engine. Promise [] engine) }
     {
+        streams_are_served();
         opening_meets_headline();
         let counts = opening_counts(alloc, &layout)?;
         let state = open(alloc, layout, verifier, workers)?;
@@ -141,8 +156,12 @@ impl Engine {
         ensures events { Does self.old (event_of event.entry) result self.new }
         ensures setup { HasItsSetup self.old self.new }
         ensures headline { HasHeadline self.new }
+        ensures outcomes { HasOutcomes self.new }
+        ensures history { HasHistory self.new }
+        ensures promise { GoesOn self.old (event_of event.entry ∷ []) self.new }
     {
         codec_is_scan();
+        streams_are_served();
         parts_partition();
         events_keep_headline();
         dispatch(&mut self.state, &mut self.counts, event)
@@ -153,6 +172,9 @@ impl Engine {
         ensures runs { HasRun self.old events.now result self.new }
         ensures setup { HasItsSetup self.old self.new }
         ensures headline { HasHeadline self.new }
+        ensures outcomes { HasOutcomes self.new }
+        ensures history { HasHistory self.new }
+        ensures promise { GoesOn self.old (map event_of events.now) self.new }
     {
         let _ = &self.state;
         let mut refused = 0;
@@ -178,6 +200,9 @@ impl Engine {
             setup_in engine ≡ setup_of (layout_of layout) verifier workers) }
         ensures runs { IfOk result (λ engine. HasPlayed events.now engine) }
         ensures headline { IfOk result (λ engine. HasHeadline engine) }
+        ensures outcomes { IfOk result (λ engine. HasOutcomes engine) }
+        ensures history { IfOk result (λ engine. HasHistory engine) }
+        ensures promise { IfOk result (λ engine. Promise (map event_of events.now) engine) }
     {
         let mut engine = Engine::new(alloc, layout, verifier, workers)?;
         engine.run(events);
@@ -189,7 +214,10 @@ impl Engine {
         ensures { result.now ≡ output_in (slice_get self.now.world.connections connection) }
     {
         match self.state.connections.get(connection) {
-            Some(Connection::Open(open)) => open.output(),
+            Some(Connection::Open(key)) => match self.state.slab.get(*key) {
+                Some(open) => open.output(),
+                None => &[],
+            },
             Some(Connection::Closed(closed)) => &closed.output,
             None => &[],
         }
@@ -200,7 +228,10 @@ impl Engine {
         ensures { result.now ≡ stream_in (slice_get self.now.world.connections connection) }
     {
         match self.state.connections.get(connection) {
-            Some(Connection::Open(open)) => open.stream(),
+            Some(Connection::Open(key)) => match self.state.slab.get(*key) {
+                Some(open) => open.stream(),
+                None => &[],
+            },
             Some(Connection::Closed(closed)) => &closed.stream,
             None => &[],
         }

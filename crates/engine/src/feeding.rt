@@ -2,33 +2,39 @@
 
 ghost use Rattle.std.specs.Prelude.{◌≡◌};
 ghost use Rattle.nfs_model.specs.Events.Refusals as event;
-ghost use Rattle.engine.specs.Receiving.{Receives};
+ghost use Rattle.slab.specs.Slab.{ContainsKey};
+ghost use Rattle.engine.specs.Receiving.{ReceivesUnder};
 ghost use Rattle.engine.specs.Sound.{IsSoundEngine};
 ghost use Rattle.engine.specs.Words.{Does, HasItsSetup};
 
-use crate::connection::Connection;
+use crate::connecting::key_of;
 use crate::event::{Done, Refusal};
 use crate::state::State;
-use engine_feed::{Calls, Stop};
+use engine_feed::{Calls, OpenConnection, Stop};
 use nfs_laws::laws::without_home_stays;
 use nfs_values::ConnectionNumber;
+use slab::Slab;
 
-/// Takes bytes on a connection that is open and at no fault: how many, and why no more.
+/// Takes bytes on the open connection that is kept under a key, where it is at no fault: how many,
+/// and why no more.
 fn receive(
-    place: &mut Connection,
+    slab: &mut Slab<OpenConnection>,
+    key: usize,
     calls: &mut Calls,
     number: ConnectionNumber,
     bytes: &[u8],
 ) -> Option<(usize, Stop)>
-    ensures { Receives calls.old place.old number.0 bytes.now result calls.new place.new }
+    requires { ContainsKey slab.old key }
+    ensures { ReceivesUnder calls.old slab.old key number.0 bytes.now result calls.new slab.new }
 {
-    let Connection::Open(open) = place else {
-        return None;
+    let on = match slab.get_mut(key) {
+        Some(on) => on,
+        None => unreachable!(),
     };
-    if !open.takes_input() {
+    if !on.takes_input() {
         return None;
     }
-    Some(open.feed(calls, number, bytes))
+    Some(on.feed(calls, number, bytes))
 }
 
 /// Takes bytes on a connection that is open and at no fault.
@@ -38,12 +44,13 @@ pub(crate) fn feed(state: &mut State, connection: usize, bytes: &[u8]) -> Result
     ensures setup { HasItsSetup state.old state.new }
     ensures sound { IsSoundEngine state.new }
 {
-    let Some(place) = state.connections.get_mut(connection) else {
-        return Err(Refusal::Closed);
+    let key = match key_of(&state.connections, connection) {
+        Some(key) => key,
+        None => return Err(Refusal::Closed),
     };
     without_home_stays();
     let number = ConnectionNumber(connection);
-    match receive(place, &mut state.calls, number, bytes) {
+    match receive(&mut state.slab, key, &mut state.calls, number, bytes) {
         None => Err(Refusal::Closed),
         Some((taken, stop)) => Ok(Done::Fed { taken, stop }),
     }

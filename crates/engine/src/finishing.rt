@@ -1,6 +1,6 @@
 //! Messages that workers finish.
 
-ghost use Rattle.std.specs.Prelude.{◌≡◌, ◌+◌, ◌≤◌, ◌<◌, length, Some};
+ghost use Rattle.std.specs.Prelude.{◌≡◌, ◌+◌, ◌≤◌, ◌<◌, length, Some, slice_get};
 ghost use Rattle.nfs_model.specs.Events.Refusals as event;
 ghost use Rattle.nfs_values.specs.Call.{call_of};
 ghost use Rattle.nfs_values.specs.Moment.{moment_of};
@@ -12,12 +12,13 @@ ghost use Rattle.rpc_msg.specs.Offered.{IsOffered};
 ghost use Rattle.engine_feed.specs.Seen.{owed_by, layout_in, running_count, finished_message};
 ghost use Rattle.engine_feed.specs.Sound.{IsAdmitted};
 ghost use Rattle.engine_feed.specs.Words.{HasLeft};
-ghost use Rattle.engine.specs.declared.connection.Connection.TheVariants.{Open};
+ghost use Rattle.engine.specs.Connections.{Open, held_by, AreKeyed};
 ghost use Rattle.engine.specs.Ending.{served_made, job_made, answer_made};
-ghost use Rattle.engine.specs.Ending.{EndsIn, OwesLess};
+ghost use Rattle.engine.specs.Ending.{EndsAmong};
 ghost use Rattle.engine.specs.Sound.{IsSoundEngine};
 ghost use Rattle.engine.specs.Words.{Does, HasItsSetup};
 
+use crate::connecting::key_of;
 use crate::connection::Connection;
 use crate::event::{Done, Refusal};
 use crate::lending::{enter, take_back};
@@ -26,9 +27,10 @@ use crate::worker::{Running, WorkerRun, run_at, take_run};
 use affinity_tree::Affinity;
 use affinity_tree::scheduler::{Message, Origin};
 use desk::{Desk, ParcelKinds};
-use engine_feed::{Calls, OfferedCall};
+use engine_feed::{Calls, OfferedCall, OpenConnection};
 use nfs_values::{Moment, Reply};
 use service::{Asked, Job, JobReply, Outcome, ServedCall, Service};
+use slab::Slab;
 
 /// The entry of a call that ran.
 fn served(
@@ -113,34 +115,42 @@ fn end_on(
     (Running { message, moment }, reply)
 }
 
-/// Finishes a message that ran, of this connection: its reply is written where that is open. It
-/// answers how many bytes were written.
+/// Finishes a message that ran: its reply is written where its connection is open. It answers how
+/// many bytes were written.
 fn end_in(
     calls: &mut Calls,
-    place: &mut Connection,
+    connections: &[Connection],
+    slab: &mut Slab<OpenConnection>,
     running: Running,
     reply: &Reply,
     starved: bool,
 ) -> usize
     requires runs { 0 < running_count calls.old }
     requires admitted { IsAdmitted (layout_in calls.old) running.message }
-    requires owed { (x : _) → place.old ≡ Open x → running.message.room ≤ owed_by x }
+    requires known { running.message.origin.connection.0 < length connections.now }
+    requires keyed { AreKeyed connections.now slab.old }
+    requires owed { (x : _) → slice_get (held_by connections.now slab.old)
+        running.message.origin.connection.0 ≡ Some (Open x) → running.message.room ≤ owed_by x }
     requires fits { length (reply_record running.message.origin.xid (reply_of reply.now))
         ≤ running.message.room }
-    ensures ends { EndsIn calls.old place.old running (reply_of reply.now) starved result
-        calls.new place.new }
+    ensures ends { EndsAmong calls.old connections.now slab.old running (reply_of reply.now)
+        starved result calls.new slab.new }
     ensures left { HasLeft calls.old
         (finished_message running.message (moment_of running.moment) starved) calls.new }
-    ensures owes { OwesLess running.message place.old place.new }
 {
     let Running { message, moment } = running;
-    match place {
-        Connection::Open(open) => calls.finish(message, moment, open, reply, starved),
-        Connection::Closed(_) => {
+    let key = match key_of(connections, message.origin.connection.0) {
+        Some(key) => key,
+        None => {
             calls.finish_unseen(message, moment, starved);
-            0
+            return 0;
         }
-    }
+    };
+    let on = match slab.get_mut(key) {
+        Some(on) => on,
+        None => unreachable!(),
+    };
+    calls.finish(message, moment, on, reply, starved)
 }
 
 /// Finishes the message that a worker has worked.
@@ -174,8 +184,14 @@ pub(crate) fn finish(state: &mut State, worker: usize) -> Result<Done, Refusal>
         }
     };
     let (running, reply) = end_on(&mut state.desk, worker, running, reply, starved);
-    let place = &mut state.connections[connection.0];
-    let count = end_in(&mut state.calls, place, running, &reply, starved);
+    let count = end_in(
+        &mut state.calls,
+        &state.connections,
+        &mut state.slab,
+        running,
+        &reply,
+        starved,
+    );
     drop(reply);
     Ok(Done::Written { connection, count })
 }

@@ -17,6 +17,7 @@ use parcel_sets::Hand;
 use parcels::laws::begins_sound;
 use parcels::{Files, opening_parcels};
 use service::{BatchInHand, Service};
+use slab::Slab;
 use std::alloc::{AllocError, Global};
 
 /// So many idle workers with empty hands.
@@ -59,7 +60,7 @@ pub(crate) fn open(
         alloc,
         verifier,
         connections: Vec::new(alloc),
-        open_count: 0,
+        slab: Slab::new(alloc),
         calls,
         workers: idle,
         desk,

@@ -3,9 +3,10 @@
 use crate::connection::Connection;
 use crate::worker::Worker;
 use desk::{Desk, ParcelKinds};
-use engine_feed::Calls;
+use engine_feed::{Calls, OpenConnection};
 use nfs_values::Verifier;
 use service::Service;
+use slab::Slab;
 use std::alloc::Global;
 
 /// How many connections may be open.
@@ -23,9 +24,10 @@ pub(crate) const SECOND: u32 = 1_000_000_000;
 pub(crate) struct State {
     pub(crate) alloc: Global,
     pub(crate) verifier: Verifier,
+    /// By number.
     pub(crate) connections: Vec<Connection>,
-    /// How many of them are open.
-    pub(crate) open_count: usize,
+    /// The open ones, each under its key.
+    pub(crate) slab: Slab<OpenConnection>,
     pub(crate) calls: Calls,
     pub(crate) workers: Vec<Worker>,
     pub(crate) desk: Desk<Service, ParcelKinds>,

@@ -1,7 +1,7 @@
 -- What an engine's calls run on: the books of a desk of a filer's parcels, and the server and the parts that they stand for.
 use Rattle.std.specs.Prelude.{◌≡◌, ◌≢◌, ℕ, false, true, List, [], ◌∷◌, ◌++◌, Option, Some, None}
 use Rattle.nfs_model.specs.Types.{Reply, SystemError}
-use Rattle.nfs_model.specs.Tree.{excludes}
+use Rattle.nfs_model.specs.Tree.{Affinity, excludes}
 use Rattle.nfs_model.specs.Parts.{Hand}
 use Rattle.nfs_model.specs.Replay.{FinishedCall, server_after}
 use Rattle.nfs_model.specs.Work.{Outcome, Replied, Starved, Moved}
@@ -11,7 +11,8 @@ use Rattle.nfs_model.specs.Headline.{start, IsTriedAt}
 use Rattle.affinity_tree.specs.Fault.{fault_of}
 use Rattle.affinity_tree.specs.Tree.{IsNode}
 use Rattle.affinity_tree.specs.Numbers.{number_of, parents}
-use Rattle.depot.specs.rule.History.{Behaviour, behaviour}
+use Rattle.depot.specs.declared.rule.view.Entry.{Entry}
+use Rattle.depot.specs.rule.History.{Behaviour, behaviour, Legal}
 use Rattle.desk.specs.laws.Books.{Lent, Books, settled, now, stamps, HasLent, UnderLent, IsUnchanged, HasHands, IsSettled}
 use Rattle.parcels.specs.state.Parcels.{FilerParcel}
 use Rattle.parcels.specs.state.Contents.{filer_contents}
@@ -19,8 +20,9 @@ use Rattle.parcels.specs.state.Tree.{tree}
 use Rattle.parcels.specs.state.Partition.{all_parts}
 use Rattle.parcels.specs.state.Sound.{IsFiler}
 use Rattle.parcels.specs.state.Jobs as jobs
-use Rattle.parcels.specs.state.Jobs.{Job, Serve, JobReply, takes, gives, batches_in}
+use Rattle.parcels.specs.state.Jobs.{InnerCall, Job, Serve, Inner, JobReply, takes, gives, batches_in}
 use Rattle.parcels.specs.state.Deeds.{FilerSteps}
+use Rattle.parcels.specs.state.Opening.{AreOpening}
 
 -- the books of a desk of a filer's parcels, with calls and replies of whatever types
 abbrev pub FilerBooks : Type 0 → Type 0 → Type 0 → Type 0
@@ -35,6 +37,30 @@ filer {P} job told = behaviour (λ ps a call f reply f'. FilerSteps ps a (job ca
 abbrev pub batches_carried : List Worker → List Hand
 batches_carried [] = []
 batches_carried (k ∷ ks) = batches_in k.hand ++ batches_carried ks
+
+-- ---- the calls of the history
+
+-- the call of an entry that a record asks for, before others
+abbrev pub with_served : Job → List FinishedCall → List FinishedCall
+with_served (Serve call) others = call ∷ others
+with_served (Inner call) others = others
+
+-- the calls of entries that records ask for, in order: those of inner calls are left out
+abbrev pub calls_served : {P C R : Type 0} → (C → Job) → List (Entry P C R) → List FinishedCall
+calls_served job [] = []
+calls_served job (e ∷ es) = with_served (job e.call) (calls_served job es)
+
+-- a finished call before others, where it ran under an affinity
+abbrev pub with_run : FinishedCall → Option Affinity → List FinishedCall → List FinishedCall
+with_run e None others = others
+with_run e (Some a) others = e ∷ others
+
+-- the finished calls that ran under an affinity, in order: those that were answered at once are left out
+abbrev pub calls_run : List FinishedCall → List FinishedCall
+calls_run [] = []
+calls_run (e ∷ es) = with_run e e.affinity (calls_run es)
+
+-- ---- what books stand for
 
 module _ {P C R : Type 0} where
   -- what is lent was left by a call, from what the finished calls left
@@ -83,3 +109,8 @@ module _ {P C R : Type 0} where
     pub workers : RunOn setup b w.workers b.lent
     pub hands : HasHands (filer job told) b (batches_carried w.workers)
     pub sound : IsSettled (filer job told) b
+    -- The history: it begins with the parcels of a new filer; each entry is a step from what the entries before it left; and the
+    -- calls of its entries are the finished ones that ran under an affinity, in order, with inner calls between them.
+    pub opening : AreOpening b.layout setup.verifier b.first
+    pub legal : Legal (filer job told).steps (parents b.layout) b.first b.entries
+    pub calls : calls_served job b.entries ≡ calls_run w.finished

@@ -1,5 +1,7 @@
 -- Lemmas alone, which no reader has to believe. They stand here, and not in `proofs/`, since crates above cite them.
 pub mod Served
+pub mod Recorded
+pub mod Historied
 pub mod Agreeing
 pub mod Changing
 pub mod Beginning

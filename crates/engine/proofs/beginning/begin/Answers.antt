@@ -150,12 +150,14 @@ module _ (c : goal.After-set_run) where
 pub returns-in-Ok-begin-clause-events : goal.returns-in-Ok-begin-clause-events
 returns-in-Ok-begin-clause-events c =
     subst (λ (a : Affinity). Does (s c) (Begin c.args.worker c.args.place (moment_of c.args.moment)) (Ok (Granted a)) (new c)) (sym (tried c))
-    (begun_events (s c) (new c) c.requires c.args.worker c.args.place (r c) (hand c) (changed c) refl refl c.in-Ok.ensures.kept (begins c) (takes c)
+    (begun_events (s c) (new c) c.requires c.args.worker c.args.place (r c) (hand c) (changed c) refl c.requires.keyed refl
+    c.in-Ok.ensures.kept (begins c) (takes c)
     c.if-moment-ge-SECOND.false)
 
 pub returns-in-Ok-begin-clause-sound : goal.returns-in-Ok-begin-clause-sound
 returns-in-Ok-begin-clause-sound c =
-    begun_sound (s c) (new c) c.requires c.args.worker c.args.place (r c) (hand c) (changed c) refl refl c.in-Ok.ensures.kept (begins c) (takes c)
+    begun_sound (s c) (new c) c.requires c.args.worker c.args.place (r c) (hand c) (changed c) refl c.requires.keyed refl
+    c.in-Ok.ensures.kept (begins c) (takes c)
 
 pub returns-in-Ok-begin-clause-setup : goal.returns-in-Ok-begin-clause-setup
 returns-in-Ok-begin-clause-setup c = same_setup (changed c)

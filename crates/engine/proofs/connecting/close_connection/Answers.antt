@@ -1,57 +1,71 @@
-use Rattle.std.proofs.Common.{◌≡◌, List, length, map, refl, sym, ap, ◌∙◌, arith, inl}
+use Rattle.std.proofs.Common.{◌≡◌, Some, Ok, length, sym, ap, subst, ◌∙◌, arith}
+use Rattle.std.specs.Prelude.{slice_get}
+use Rattle.std.specs.Global.{Vec}
 use Rattle.std.proofs.lemmas.List.{length-map}
+use Rattle.std.proofs.lemmas.Option.{slice_get_within}
+use Rattle.nfs_model.specs.Events.Refusals as events
+use Rattle.slab.specs.Slab.{get}
 use Rattle.engine_feed.specs.Seen.{entry_of, finished_of}
 use Rattle.engine.specs.declared.connection.Connection.{Connection}
-use Rattle.engine.specs.declared.connection.Connection.TheVariants.{Open, Closed}
-use Rattle.engine.specs.Seen.{connection_seen, world}
-use Rattle.engine.proofs.Reconnected.{reserved-sound}
-use Rattle.engine.proofs.Closing.{found, set-same, some-open, may-close, may-not-close, closed-sound, closed-seen}
+use Rattle.engine.specs.declared.connection.Connection.TheVariants as places
+use Rattle.engine.specs.declared.connection.ClosedConnection.{ClosedConnection}
+use Rattle.engine.specs.declared.event.Done.TheVariants as dones
+use Rattle.engine.specs.declared.state.State.{State}
+use Rattle.engine.specs.Sound.{IsSoundEngine}
+use Rattle.engine.specs.Words.{Does}
+use Rattle.engine.proofs.Lists.{none-some}
+use Rattle.engine.proofs.Keyed.{found-key, no-key}
+use Rattle.engine.proofs.Closing.{shut-events, closes, closes-sound}
 use Rattle.engine.proofs.connecting.close_connection.Goals as goal
 
-pub overflow_sub-state : goal.overflow_sub-state
-overflow_sub-state c =
-    let cs = c.args.state.now.connections.items in
-    let there = found cs c.args.connection c.in-Some.place.now (Open c.in-Open.open) c.in-Some.ensures.item.3.0 c.in-Some.ensures.value
-    (sym c.replace.ensures.value ∙ c.in-Open.is) in
-    let some = some-open cs c.args.connection c.in-Open.open there in
-    let opened = c.requires.opened in
-    omega (arith, some, opened)
+pub returns-in-None-clause-events : goal.returns-in-None-clause-events
+returns-in-None-clause-events c =
+    shut-events c.args.state.now c.args.connection
+    (no-key c.deref.result.now c.args.state.now.connections.items c.args.connection c.key_of.result c.key_of.ensures c.deref.ensures.value c.in-None.is)
 
-pub returns-in-Open-clause-events : goal.returns-in-Open-clause-events
-returns-in-Open-clause-events c =
+pub unreachable-requires : goal.unreachable-requires
+unreachable-requires c =
     let s = c.args.state.now in
-    let there = found s.connections.items c.args.connection c.in-Some.place.now (Open c.in-Open.open) c.in-Some.ensures.item.3.0 c.in-Some.ensures.value
-    (sym c.replace.ensures.value ∙ c.in-Open.is) in
-    let count : length c.finished-finished.result.now ≡ length (finished_of s.calls) =
-    sym (length-map c.finished-finished.result.now entry_of) ∙ ap length c.finished-finished.ensures in (
-      may-close s.connections.items c.args.connection c.in-Open.open there,
-      (
-        refl,
-        closed-seen s c.args.connection c.in-Open.open
-            (record { stream = c.into_parts-stream.result.0; output = c.into_parts-stream.result.1; finished = length c.finished-finished.result.now })
-            there c.into_parts-stream.ensures.stream c.into_parts-stream.ensures.output count,
-      ),
-    )
+    let at = found-key c.deref.result.now s.connections.items c.args.connection c.in-Some.key c.key_of.result c.key_of.ensures c.deref.ensures.value
+    c.in-Some.is in
+    let kept = c.requires.keyed.kept c.args.connection c.in-Some.key at in
+    none-some kept.0 (sym c.in-None-try_remove.is ∙ c.try_remove.ensures.value ∙ kept.1)
 
-pub returns-in-Open-clause-sound : goal.returns-in-Open-clause-sound
-returns-in-Open-clause-sound c =
-    closed-sound c.args.state.now _ c.args.connection c.in-Open.open _ refl refl
-    (found c.args.state.now.connections.items c.args.connection c.in-Some.place.now (Open c.in-Open.open) c.in-Some.ensures.item.3.0
-    c.in-Some.ensures.value (sym c.replace.ensures.value ∙ c.in-Open.is)) c.requires
-
-pub returns-in-Closed-clause-events : goal.returns-in-Closed-clause-events
-returns-in-Closed-clause-events c =
+pub set_closed-requires : goal.set_closed-requires
+set_closed-requires c =
     let s = c.args.state.now in
-    let there = found s.connections.items c.args.connection c.in-Some.place.now (Closed c.in-Closed.closed) c.in-Some.ensures.item.3.0
-    c.in-Some.ensures.value (sym c.replace.ensures.value ∙ c.in-Closed.is) in (
-      inl (may-not-close s.connections.items c.args.connection c.in-Closed.closed there),
-      ap (λ (cs : List Connection). record (world s) { connections = map connection_seen cs })
-          (set-same s.connections.items c.args.connection (Closed c.in-Closed.closed) there),
-    )
+    let at = found-key c.deref.result.now s.connections.items c.args.connection c.in-Some.key c.key_of.result c.key_of.ensures c.deref.ensures.value
+    c.in-Some.is in
+    let within = slice_get_within s.connections.items c.args.connection _ at in
+    let size = s.connections.ok.0 in
+    omega (arith, within, size)
 
-pub returns-in-Closed-clause-sound : goal.returns-in-Closed-clause-sound
-returns-in-Closed-clause-sound c =
-    let s = c.args.state.now in
-    let there = found s.connections.items c.args.connection c.in-Some.place.now (Closed c.in-Closed.closed) c.in-Some.ensures.item.3.0
-    c.in-Some.ensures.value (sym c.replace.ensures.value ∙ c.in-Closed.is) in
-    reserved-sound s _ refl (set-same s.connections.items c.args.connection (Closed c.in-Closed.closed) there) c.requires
+module _ (c : goal.After-set_closed) where
+  abbrev s : State
+  s = c.args.state.now
+
+  abbrev put : ClosedConnection
+  put = record { stream = c.into_parts-stream.result.0; output = c.into_parts-stream.result.1; finished = length c.finished.result.now }
+
+  at : slice_get s.connections.items c.args.connection ≡ Some (places.Open c.in-Some.key)
+  at = found-key c.deref.result.now s.connections.items c.args.connection c.in-Some.key c.key_of.result c.key_of.ensures c.deref.ensures.value c.in-Some.is
+
+  was : get s.slab c.in-Some.key ≡ Some c.in-Some-try_remove.removed
+  was = sym c.try_remove.ensures.value ∙ c.in-Some-try_remove.is
+
+  count : length c.finished.result.now ≡ length (finished_of s.calls)
+  count = sym (length-map c.finished.result.now entry_of) ∙ ap length c.finished.ensures
+
+pub returns-clause-events : goal.returns-clause-events
+returns-clause-events c =
+    subst
+    (λ (v : Vec Connection). Does (s c) (events.Close c.args.connection) (Ok dones.Closed) (record (s c) { connections = v; slab = c.try_remove.new.self }))
+    (sym c.set_closed.ensures)
+    (closes (s c) c.requires c.args.connection c.in-Some.key (at c) c.in-Some-try_remove.removed (was c) c.try_remove.new.self c.try_remove.ensures.updates
+    c.in-Some-try_remove.ensures.len (put c) c.into_parts-stream.ensures.stream c.into_parts-stream.ensures.output (count c))
+
+pub returns-clause-sound : goal.returns-clause-sound
+returns-clause-sound c =
+    subst (λ (v : Vec Connection). IsSoundEngine (record (s c) { connections = v; slab = c.try_remove.new.self })) (sym c.set_closed.ensures)
+    (closes-sound (s c) c.requires c.args.connection c.in-Some.key (at c) c.in-Some-try_remove.removed (was c) c.try_remove.new.self
+    c.try_remove.ensures.updates c.in-Some-try_remove.ensures.len (put c))

@@ -2,14 +2,29 @@ use Rattle.std.proofs.Common.{refl, sym, ◌∙◌}
 use Rattle.engine.proofs.Received.{none-of}
 use Rattle.engine.proofs.feeding.receive.Goals as goal
 
+pub returns-then-not-takes_input : goal.returns-then-not-takes_input
+returns-then-not-takes_input c = record {
+  before = c.in-Some.on.now;
+  after = c.in-Some.on.now;
+  was = sym c.in-Some.ensures.value;
+  is = refl;
+  receives = (sym c.takes_input.ensures ∙ c.if-not-takes_input.true, refl, refl);
+}
+
 pub returns : goal.returns
 returns c = record {
-  before = c.in-Open.open;
+  before = c.in-Some.on.now;
   after = c.feed.new.self;
-  was = c.in-Open.is;
+  was = sym c.in-Some.ensures.value;
   is = refl;
-  takes = none-of _ (sym c.takes_input.ensures ∙ c.if-not-takes_input.false);
-  feeds = c.feed.ensures.feeds;
-  adds = c.feed.ensures.adds;
-  admitted = c.feed.ensures.admitted;
+  receives = record {
+    before = c.in-Some.on.now;
+    after = c.feed.new.self;
+    was = refl;
+    is = refl;
+    takes = none-of _ (sym c.takes_input.ensures ∙ c.if-not-takes_input.false);
+    feeds = c.feed.ensures.feeds;
+    adds = c.feed.ensures.adds;
+    admitted = c.feed.ensures.admitted;
+  };
 }

@@ -1,9 +1,8 @@
-use Rattle.std.proofs.Common.{◌≡◌, ◌≤◌, ℕ, Bool, Some, refl, sym, ap, ◌∙◌, subst, inl, inr, arith}
+use Rattle.std.proofs.Common.{◌≡◌, ◌≤◌, ◌<◌, ℕ, Bool, List, Some, refl, sym, ap, ◌∙◌, subst, inl, inr, arith}
 use Rattle.std.specs.Prelude.{length, slice_get}
 use Rattle.std.specs.Global.{Vec}
 use Rattle.std.specs.Option.{option_copied}
-use Rattle.std.specs.Vec.{with_item}
-use Rattle.std.proofs.lemmas.List.{length-set}
+use Rattle.std.proofs.lemmas.List.{length-map, length-set}
 use Rattle.nfs_values.specs.Moment.{moment_of}
 use Rattle.nfs_values.specs.Reply.{reply_of}
 use Rattle.nfs_values.specs.declared.reply.Reply.{Reply}
@@ -14,19 +13,18 @@ use Rattle.engine_feed.specs.Seen.{layout_in, owed_by, finished_message}
 use Rattle.engine_feed.specs.Sound.{IsAdmitted}
 use Rattle.engine_feed.specs.Words as calls
 use Rattle.engine.specs.declared.connection.Connection.{Connection}
-use Rattle.engine.specs.declared.connection.Connection.TheVariants.{Open}
+use Rattle.engine.specs.Connections.{Open, held_at, held_by, AreKeyed}
 use Rattle.engine.specs.declared.worker.Running.{Running}
 use Rattle.engine.specs.declared.worker.Worker.{Worker}
 use Rattle.engine.specs.declared.worker.WorkerRun.{WorkerRun}
 use Rattle.engine.specs.declared.worker.WorkerRun.TheVariants.{Idle, Worked}
 use Rattle.engine.specs.declared.state.State.{State}
 use Rattle.engine.specs.Workers.{worker_with}
-use Rattle.engine.specs.Seen.{setup_in, world}
-use Rattle.engine.specs.Ending.{EndsIn, OwesLess}
+use Rattle.engine.specs.Seen.{held_in, setup_in, world}
+use Rattle.engine.specs.Ending.{EndsAmong}
 use Rattle.engine.specs.Sound.{room_on}
 use Rattle.engine.proofs.Workers.{messages-changed, ran-here, finish-early, finish-idle, finish-nobody, in-vector}
 use Rattle.engine.proofs.Placed.{room-own}
-use Rattle.engine.proofs.Closing.{found}
 use Rattle.engine.proofs.Changed.{IsChanged, same_setup}
 use Rattle.engine.proofs.Ends.{ToldAs}
 use Rattle.engine.proofs.Finishes.{ready, some_run, may_go_back, again_admitted, back_events, back_sound, may_be_entered, reply_fits, ended_events}
@@ -107,13 +105,13 @@ pub returns-in-Moved-clause-events : goal.returns-in-Moved-clause-events
 returns-in-Moved-clause-events c =
     back_events c.args.state.now c.requires c.args.worker c.in-Worked.running c.in-Worked.outcome c.take_run.ensures.0 (there c) c.in-Moved.affinity
     c.in-Moved.is
-    (new c) (changed c) refl refl c.take_back.ensures.kept c.take_back.ensures.back c.put_back.ensures
+    (new c) (changed c) refl c.requires.keyed refl c.take_back.ensures.kept c.take_back.ensures.back c.put_back.ensures
 
 pub returns-in-Moved-clause-sound : goal.returns-in-Moved-clause-sound
 returns-in-Moved-clause-sound c =
     back_sound c.args.state.now c.requires c.args.worker c.in-Worked.running c.in-Worked.outcome c.take_run.ensures.0 (there c) c.in-Moved.affinity
     c.in-Moved.is
-    (new c) (changed c) refl refl c.take_back.ensures.kept c.take_back.ensures.back c.put_back.ensures
+    (new c) (changed c) refl c.requires.keyed refl c.take_back.ensures.kept c.take_back.ensures.back c.put_back.ensures
 
 pub returns-in-Moved-clause-setup : goal.returns-in-Moved-clause-setup
 returns-in-Moved-clause-setup c = same_setup (changed c)
@@ -129,14 +127,6 @@ end_on-running-requires-clause-may c =
     may_be_entered c.args.state.now c.requires c.args.worker c.in-Worked.running c.in-Worked.outcome c.take_run.ensures.0
     (c.take_run.ensures.1 ∙ ap (λ (x : WorkerRun). Some (worker_with x c.take_run.ensures.0)) c.in-Worked.is)
     c.match-outcome.reply.0 c.match-outcome.reply.1 is
-
-pub index_mut-place-requires : goal.index_mut-place-requires
-index_mut-place-requires c =
-    let fits = ready c.args.state.now c.requires c.args.worker c.in-Worked.running c.in-Worked.outcome c.take_run.ensures.0
-    (c.take_run.ensures.1 ∙ ap (λ (x : WorkerRun). Some (worker_with x c.take_run.ensures.0)) c.in-Worked.is) in
-    let known = fits.0.known in
-    let size = c.args.state.now.connections.ok.0 in
-    omega (arith, known, size)
 
 -- ---- it ends in its connection
 
@@ -174,12 +164,23 @@ end_in-count-requires-clause-fits c =
     (subst (λ (x : Reply). length (reply_record (r c).message.origin.xid (reply_of x)) ≤ (r c).message.room) (sym c.end_on-running.ensures.reply)
     (reply_fits (s c) c.requires c.args.worker (r c) (o c) c.take_run.ensures.0 (was_there c) c.match-outcome.reply.0 c.match-outcome.reply.1 is))
 
+pub end_in-count-requires-clause-known : goal.end_in-count-requires-clause-known
+end_in-count-requires-clause-known c =
+    let known = (ready (s c) c.requires c.args.worker (r c) (o c) c.take_run.ensures.0 (was_there c)).0.known in
+    let size = length-map (s c).connections.items (held_at (s c).slab) in
+    let there : (r c).message.origin.connection.0 < length (s c).connections.items = omega (arith, known, size) in
+    subst (λ (x : Running). x.message.origin.connection.0 < length c.deref-2.result.now) (sym (same c))
+    (subst (λ (cs : List Connection). (r c).message.origin.connection.0 < length cs) (sym c.deref-2.ensures.value) there)
+
+pub end_in-count-requires-clause-keyed : goal.end_in-count-requires-clause-keyed
+end_in-count-requires-clause-keyed c = subst (λ (cs : List Connection). AreKeyed cs (s c).slab) (sym c.deref-2.ensures.value) c.requires.keyed
+
 pub end_in-count-requires-clause-owed : goal.end_in-count-requires-clause-owed
 end_in-count-requires-clause-owed c = λ x e.
     let n = (r c).message.origin.connection.0 in
-    let known = (ready (s c) c.requires c.args.worker (r c) (o c) c.take_run.ensures.0 (was_there c)).0.known in
-    let at : slice_get (s c).connections.items n ≡ Some (Open x) =
-    found (s c).connections.items n c.index_mut-place.result.now (Open x) known c.index_mut-place.ensures.value e in
+    let at : slice_get (held_in (s c)) n ≡ Some (Open x) =
+    subst (λ (cs : List Connection). slice_get (held_by cs (s c).slab) n ≡ Some (Open x)) c.deref-2.ensures.value
+    (subst (λ (y : Running). slice_get (held_by c.deref-2.result.now (s c).slab) y.message.origin.connection.0 ≡ Some (Open x)) (same c) e) in
     let owed = c.requires.owed n x at in
     let changed = messages-changed (room_on n) (s c).workers.items c.args.worker (worker_with (Worked (r c) (o c)) c.take_run.ensures.0)
     (worker_with Idle c.take_run.ensures.0)
@@ -202,18 +203,12 @@ module _ (c : goal.After-drop) where
   abbrev starved : Bool
   starved = c.match-outcome.reply.1
 
-  abbrev place : Connection
-  place = c.index_mut-place.result.now
-
-  abbrev left : Connection
-  left = c.end_in-count.new.place
-
   abbrev number : ℕ
   number = ran.message.origin.connection.0
 
   abbrev after : State
   after = record before {
-    connections = with_item before.connections number left;
+    slab = c.end_in-count.new.slab;
     calls = c.end_in-count.new.calls;
     workers = c.take_run.new.workers;
     desk = c.end_on-running.new.desk;
@@ -228,23 +223,19 @@ module _ (c : goal.After-drop) where
     | in-Starved t ↦ inr (t.in-Starved.is, ap (λ (p : Reply × Bool). p.0) t.reply-is, ap (λ (p : Reply × Bool). p.1) t.reply-is)
   ]
 
-  at : slice_get before.connections.items number ≡ Some place
-  at = found before.connections.items number place place (ready before c.requires c.args.worker ran c.in-Worked.outcome c.take_run.ensures.0 here).0.known
-      c.index_mut-place.ensures.value refl
-
   -- what is said of the message that comes back is so of the one that was taken
-  ends : EndsIn before.calls place ran (reply_of reply) starved c.end_in-count.result c.end_in-count.new.calls left
-  ends = subst (λ (x : Running). EndsIn before.calls place x (reply_of reply) starved c.end_in-count.result c.end_in-count.new.calls left)
-      c.end_on-running.ensures.running
-      (subst (λ (x : Reply). EndsIn before.calls place c.end_on-running.result.0 (reply_of x) starved c.end_in-count.result c.end_in-count.new.calls left)
-      c.end_on-running.ensures.reply c.end_in-count.ensures.ends)
+  among : EndsAmong before.calls before.connections.items before.slab ran (reply_of reply) starved c.end_in-count.result c.end_in-count.new.calls
+      c.end_in-count.new.slab
+  among = subst (λ (cs : List Connection). EndsAmong before.calls cs before.slab ran (reply_of reply) starved c.end_in-count.result
+      c.end_in-count.new.calls c.end_in-count.new.slab) c.deref-2.ensures.value
+      (subst (λ (x : Running). EndsAmong before.calls c.deref-2.result.now before.slab x (reply_of reply) starved c.end_in-count.result
+      c.end_in-count.new.calls c.end_in-count.new.slab) c.end_on-running.ensures.running
+      (subst (λ (x : Reply). EndsAmong before.calls c.deref-2.result.now before.slab c.end_on-running.result.0 (reply_of x) starved c.end_in-count.result
+      c.end_in-count.new.calls c.end_in-count.new.slab) c.end_on-running.ensures.reply c.end_in-count.ensures.ends))
 
   leaves : calls.HasLeft before.calls (finished_message ran.message (moment_of ran.moment) starved) c.end_in-count.new.calls
   leaves = subst (λ (x : Running). calls.HasLeft before.calls (finished_message x.message (moment_of x.moment) starved) c.end_in-count.new.calls)
       c.end_on-running.ensures.running c.end_in-count.ensures.left
-
-  owes : OwesLess ran.message place left
-  owes = subst (λ (x : Running). OwesLess x.message place left) c.end_on-running.ensures.running c.end_in-count.ensures.owes
 
   differs : IsChanged before after c.args.worker (worker_with (Worked ran c.in-Worked.outcome) c.take_run.ensures.0)
       (worker_with Idle c.take_run.ensures.0)
@@ -253,20 +244,20 @@ module _ (c : goal.After-drop) where
     set = ap (λ (v : Vec Worker). v.items) c.take_run.ensures.2;
     verifier = refl;
     layout = leaves.layout;
-    many = length-set before.connections.items number left;
+    many = ap length among.put ∙ length-set (held_in before) number among.left;
   }
 
 pub returns-clause-events : goal.returns-clause-events
 returns-clause-events c =
     ended_events (before c) c.requires c.args.worker (ran c) c.in-Worked.outcome c.take_run.ensures.0 (here c) (reply c) (starved c) (is c)
-    (after c) (differs c) (place c) (left c) c.end_in-count.result (at c) refl refl c.end_on-running.ensures.kept c.end_on-running.ensures.finished
-    (ends c) (leaves c) (owes c)
+    (after c) (differs c) (among c).place (among c).left c.end_in-count.result (among c).at (among c).put (among c).keyed (among c).opened
+    c.end_on-running.ensures.kept c.end_on-running.ensures.finished (among c).ends (leaves c) (among c).owes
 
 pub returns-clause-sound : goal.returns-clause-sound
 returns-clause-sound c =
     ended_sound (before c) c.requires c.args.worker (ran c) c.in-Worked.outcome c.take_run.ensures.0 (here c) (reply c) (starved c) (is c)
-    (after c) (differs c) (place c) (left c) c.end_in-count.result (at c) refl refl c.end_on-running.ensures.kept c.end_on-running.ensures.finished
-    (ends c) (leaves c) (owes c)
+    (after c) (differs c) (among c).place (among c).left c.end_in-count.result (among c).at (among c).put (among c).keyed (among c).opened
+    c.end_on-running.ensures.kept c.end_on-running.ensures.finished (among c).ends (leaves c) (among c).owes
 
 pub returns-clause-setup : goal.returns-clause-setup
 returns-clause-setup c = same_setup (differs c)

@@ -40,7 +40,7 @@ use Rattle.engine.specs.declared.worker.Running.{Running}
 use Rattle.engine.specs.declared.worker.Worker.{Worker}
 use Rattle.engine.specs.declared.worker.WorkerRun.{WorkerRun}
 use Rattle.engine.specs.declared.worker.WorkerRun.TheVariants.{Begun, Worked}
-use Rattle.engine.specs.Seen.{running_as, worker_seen, setup_in, world, done_of}
+use Rattle.engine.specs.Seen.{held_in, running_as, worker_seen, setup_in, world, done_of}
 use Rattle.engine.specs.Workers.{worker_with}
 use Rattle.engine.specs.Sound.{IsReady, IsPlaced, MayEnd, running_messages, room_on}
 use Rattle.engine.proofs.Counted.{stands-counted}
@@ -58,7 +58,7 @@ run_on-outcome-requires-clause-may c =
     let found = ran-here s.workers.items c.deref.result.now c.args.worker (option_copied c.run_at.result) c.deref.ensures.value c.run_at.ensures (Begun r)
     (ap option_copied c.in-Some-Begun.is ∙ ap Some c.in-Some-Begun.field-0-is) in
     let ran : Worker = worker_with (Begun r) found.0 in
-    let placed = (all-at (IsReady (layout_in s.calls) (length s.connections.items)) s.workers.items i ran sound.workers found.1).0 in
+    let placed = (all-at (IsReady (layout_in s.calls) (length (held_in s))) s.workers.items i ran sound.workers found.1).0 in
     may-work job_of job_reply_of (setup_in s) (world s) (books s.desk) sound.stands i (worker_seen ran) (seen-at s.workers.items i ran found.1)
     (running_as r None) refl refl (few-stamps _ (running_count s.calls) sound.stamps) r.message.call
     (subst (λ (l : Layout). IsRunAt l r.message.call (affinity_of r.message.affinity)) (sym sound.layout) placed.run)
@@ -145,7 +145,7 @@ module _ (c : goal.After-set_run) where
   after = stored_all (filer_contents next.layout (now next))
 
   abbrev Ready : Worker → Type 0
-  Ready = IsReady L (length c.args.state.now.connections.items)
+  Ready = IsReady L (length (held_in c.args.state.now))
 
   -- what the worker carries
   abbrev hand : Hand
@@ -171,7 +171,7 @@ module _ (c : goal.After-set_run) where
   seen : slice_get old.workers i ≡ Some (worker_seen ran)
   seen = seen-at ks i ran there
 
-  placed : IsPlaced L (length c.args.state.now.connections.items) r.message
+  placed : IsPlaced L (length (held_in c.args.state.now)) r.message
   placed = (all-at Ready ks i ran c.requires.whole.0.workers there).0
 
   did : HasWorked (Serves r.message.call) b i o next
@@ -255,6 +255,7 @@ returns-clause-sound c =
       workers = ready c;
       few = subst (λ n. n ≤ 64) (sym (as_many c)) sound.few;
       stamps = subst (λ n. n + running_count s.calls ≤ 2 ^ 62 + 64) (sym (ap (λ (x : FilerBooks Files Job JobReply). stamps x) (did c).books)) sound.stamps;
+      keyed = sound.keyed;
       opened = sound.opened;
       owed = λ n x at. sound.owed n x at
           ∙ ap (λ (ms : List (Message Call)). total (room_on n) (messages_of s.calls) + total (room_on n) ms) (sym (running c));

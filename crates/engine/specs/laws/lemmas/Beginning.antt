@@ -12,15 +12,18 @@ use Rattle.nfs_model.specs.World.{Setup, World, Message, Running, Worker, with_h
 use Rattle.nfs_model.specs.Events.Refusals.{is_busy, is_worn, excluded}
 use Rattle.nfs_model.specs.Events.Step.{begun}
 use Rattle.affinity_tree.specs.Fault.{fault_of}
+use Rattle.affinity_tree.specs.Numbers.{parents}
 use Rattle.depot.specs.rule.Shares.{worn}
+use Rattle.depot.specs.rule.History.{Legal}
 use Rattle.desk.specs.laws.Books.{Lent, settled, now, stamps, HasLent, IsTaken, IsSame, HasHands, IsSettled}
 use Rattle.desk.specs.laws.Calls.{HasBegun, IsWorn, with_lent}
 use Rattle.parcels.specs.state.Parcels.{FilerParcel}
 use Rattle.parcels.specs.state.Contents.{filer_contents}
 use Rattle.parcels.specs.state.Tree.{tree}
 use Rattle.parcels.specs.state.Partition.{all_parts}
+use Rattle.parcels.specs.state.Opening.{AreOpening}
 use Rattle.parcels.specs.state.Jobs.{Job, JobReply}
-use Rattle.engine.specs.laws.Store.{FilerBooks, filer, RunsOn, RunOn, IsApart, StandsFor, batches_carried}
+use Rattle.engine.specs.laws.Store.{FilerBooks, filer, RunsOn, RunOn, IsApart, StandsFor, batches_carried, calls_served}
 use Rattle.engine.specs.laws.lemmas.Changing.{carried-stay, run-changed}
 
 -- the same parcels at each node are the same parcels
@@ -177,4 +180,7 @@ module _ {P C R : Type 0} (setup : Setup) where
             (sym begins.books)
             (subst (λ hs. HasHands (filer job told) b hs) (sym (carried-stay w.workers i (Some r))) s.hands);
         sound = subst (λ (x : FilerBooks P C R). IsSettled (filer job told) x) (sym begins.books) s.sound;
+        opening = subst (λ (x : FilerBooks P C R). AreOpening x.layout setup.verifier x.first) (sym begins.books) s.opening;
+        legal = subst (λ (x : FilerBooks P C R). Legal (filer job told).steps (parents x.layout) x.first x.entries) (sym begins.books) s.legal;
+        calls = ap (λ (x : FilerBooks P C R). calls_served job x.entries) begins.books ∙ s.calls;
       }

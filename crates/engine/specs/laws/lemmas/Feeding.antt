@@ -18,8 +18,9 @@ use Rattle.parcels.specs.state.Contents.{filer_contents}
 use Rattle.parcels.specs.state.Tree.{volume_of}
 use Rattle.parcels.specs.state.Jobs.{Job, JobReply}
 use Rattle.parcels.specs.laws.lemmas.Steps.{laid-out}
-use Rattle.engine.specs.laws.Store.{FilerBooks, filer, RunOn, StandsFor, batches_carried}
+use Rattle.engine.specs.laws.Store.{FilerBooks, filer, RunOn, StandsFor, batches_carried, calls_run}
 use Rattle.engine.specs.laws.lemmas.Finishing.{after-one}
+use Rattle.engine.specs.laws.lemmas.Recorded.{run-none}
 
 -- a call without a home changes nothing
 abbrev pub WithoutHomeStays : Type 0
@@ -34,6 +35,7 @@ pub record RunAlike (setup : Setup) (w new : World) : Type 0 where
   pub stamps : new.stamps ≡ w.stamps
   pub workers : new.workers ≡ w.workers
   pub finished : server_after (start setup) new.finished ≡ server_after (start setup) w.finished
+  pub ran : calls_run new.finished ≡ calls_run w.finished
 
 -- the books stand for both
 pub stands-alike : {P C R : Type 0} (job : C → Job) (told : R → JobReply) (setup : Setup) (w new : World) (b : FilerBooks P C R) → RunAlike setup w new
@@ -49,6 +51,9 @@ stands-alike job told setup w new b same s = record {
   workers = subst (λ ks. RunOn setup b ks b.lent) (sym same.workers) s.workers;
   hands = subst (λ ks. HasHands (filer job told) b (batches_carried ks)) (sym same.workers) s.hands;
   sound = s.sound;
+  opening = s.opening;
+  legal = s.legal;
+  calls = s.calls ∙ sym same.ran;
 }
 
 alike-then : (setup : Setup) (a b c : World) → RunAlike setup a b → RunAlike setup b c → RunAlike setup a c
@@ -58,6 +63,7 @@ alike-then setup a b c p q = record {
   stamps = q.stamps ∙ p.stamps;
   workers = q.workers ∙ p.workers;
   finished = q.finished ∙ p.finished;
+  ran = q.ran ∙ p.ran;
 }
 
 -- what holds of each element of two lists holds of each of both in turn
@@ -82,7 +88,7 @@ module _ (stays : WithoutHomeStays) (setup : Setup) where
 
   admit-alike : (w : World) (c n : ℕ) (h : Heard) (o : Option Affinity) → home_of_asked setup.layout h.asked ≡ o → Counted w
       → RunAlike setup w (admit setup w c n h o)
-  admit-alike w c n h (Some a) is counted = record { server = refl; parts = refl; stamps = refl; workers = refl; finished = refl }
+  admit-alike w c n h (Some a) is counted = record { server = refl; parts = refl; stamps = refl; workers = refl; finished = refl; ran = refl }
   admit-alike w c n h None is counted = record {
     server = refl;
     parts = refl;
@@ -90,6 +96,7 @@ module _ (stays : WithoutHomeStays) (setup : Setup) where
     workers = refl;
     finished = after-one (start setup) w.finished (call_at_once c n h)
         ∙ at-once-stays (server_after (start setup) w.finished) h.asked counted is;
+    ran = run-none w.finished (call_at_once c n h) refl;
   }
 
   heard-alike : (w : World) (c n : ℕ) (h : Heard) (starved : Bool) → Counted w → RunAlike setup w (heard_in setup w c n h starved)
@@ -100,6 +107,7 @@ module _ (stays : WithoutHomeStays) (setup : Setup) where
     stamps = refl;
     workers = refl;
     finished = after-one (start setup) w.finished (call_undecoded c n h);
+    ran = run-none w.finished (call_undecoded c n h) refl;
   }
 
   still-counted : (w new : World) → RunAlike setup w new → Counted w → Counted new
@@ -112,6 +120,7 @@ module _ (stays : WithoutHomeStays) (setup : Setup) where
     stamps = ap (λ (x : World). x.stamps) is;
     workers = ap (λ (x : World). x.workers) is;
     finished = ap (λ (x : World). server_after (start setup) x.finished) is;
+    ran = ap (λ (x : World). calls_run x.finished) is;
   }
   hears-alike (h ∷ hs) c w n new counted hears =
       let one = heard-alike w c n h hears.1.0 counted in
@@ -169,7 +178,7 @@ module _ (stays : WithoutHomeStays) (setup : Setup) where
     feed-alike f new feeds =
         let same = hears-alike feeds.heard f.connection (bytes_taken w f.connection (take f.taken f.bytes))
         (served_count setup w f.connection) new counted feeds.hears in
-        record { server = same.server; parts = same.parts; stamps = same.stamps; workers = same.workers; finished = same.finished }
+        record { server = same.server; parts = same.parts; stamps = same.stamps; workers = same.workers; finished = same.finished; ran = same.ran }
 
     -- the books stand for the world after it
     pub fed-stands : (f : Feeding) (new : World) → Feeds setup f w new → StandsFor job told setup new b

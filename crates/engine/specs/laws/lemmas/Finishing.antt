@@ -19,9 +19,9 @@ use Rattle.affinity_tree.specs.Numbers.{number_of, node_count, parents}
 use Rattle.affinity_tree.specs.lemmas.Smaller.{length-parents}
 use Rattle.depot.specs.declared.rule.view.Entry.{Entry}
 use Rattle.depot.specs.rule.Sums.{total}
-use Rattle.depot.specs.rule.History.{patched, listed, by_number, put_in}
+use Rattle.depot.specs.rule.History.{patched, listed, by_number, put_in, Legal}
 use Rattle.depot.specs.rule.lemmas.Covering.{patched-in, patched-out}
-use Rattle.depot.specs.rule.lemmas.Histories.{after-snoc, moved-snoc}
+use Rattle.depot.specs.rule.lemmas.Histories.{after-snoc, legal-snoc, moved-snoc}
 use Rattle.depot.specs.rule.lemmas.Listed.{by-number-at}
 use Rattle.depot.specs.Grants.{entry_of}
 use Rattle.desk.specs.laws.Books.{Lent, settled, stamps, HasLent, UnderLent, IsUnchanged, HasHands, IsSettled}
@@ -31,13 +31,17 @@ use Rattle.parcels.specs.state.Parcels.{FilerParcel}
 use Rattle.parcels.specs.state.Contents.{filer_contents}
 use Rattle.parcels.specs.state.Tree.{tree}
 use Rattle.parcels.specs.state.Partition.{all_parts}
+use Rattle.parcels.specs.state.Opening.{AreOpening}
 use Rattle.parcels.specs.state.Jobs as jobs
 use Rattle.parcels.specs.state.Jobs.{Job, JobReply, Serve, takes, gives}
 use Rattle.parcels.specs.state.Deeds.{FilerSteps}
-use Rattle.engine.specs.laws.Store.{FilerBooks, filer, IsServed, HasOutcome, RunsOn, RunOn, IsApart, StandsFor, batches_carried}
+use Rattle.parcels.specs.laws.lemmas.Lawful.{steps-local}
+use Rattle.engine.specs.laws.Store.{FilerBooks, filer, IsServed, HasOutcome, RunsOn, RunOn, IsApart, StandsFor}
+use Rattle.engine.specs.laws.Store.{batches_carried, calls_served, calls_run, with_served}
 use Rattle.engine.specs.laws.lemmas.Agreeing.{sound-settled}
 use Rattle.engine.specs.laws.lemmas.Beginning.{same-now}
 use Rattle.engine.specs.laws.lemmas.Changing.{lent-at, run-changed, carried-stay}
+use Rattle.engine.specs.laws.lemmas.Recorded.{served-snoc, run-some}
 use Rattle.engine.specs.laws.lemmas.Served.{covered-node, outcome-there}
 
 -- the server after one more call
@@ -99,7 +103,8 @@ module _ {P C R : Type 0} (job : C → Job) (told : R → JobReply) (setup : Set
 
   module _ (starved : Bool) (reply : Reply) (call : C) (answer : R) (is_call : job call ≡ Serve (finished_call r starved))
       (is_reply : told answer ≡ jobs.Replied reply)
-      (c : FilerBooks P C R) (done : HasFinished (filer job told) b i call answer c) (apart : IsApart c) (next : World)
+      (c : FilerBooks P C R) (done : HasFinished (filer job told) b i call answer c) (served : IsServed b done.lent (finished_call r starved) reply)
+      (apart : IsApart c) (next : World)
       (same_server : (server : Server) → worked_by server r (Some o) ≡ (step_of server (finished_call r starved)).server)
       (server : next.server ≡ w.server) (parts : next.parts ≡ w.parts) (finished : next.finished ≡ w.finished ++ finished_call r starved ∷ [])
       (stamps_are : next.stamps ≡ w.stamps + 1) (workers : next.workers ≡ changed_at (with_running None) w.workers i) where
@@ -131,6 +136,28 @@ module _ {P C R : Type 0} (job : C → Job) (told : R → JobReply) (setup : Set
         ∙ ap (λ x. (step_of x (finished_call r starved)).server) s.finished
         ∙ sym (same_server (tree b.layout (settled b))) ∙ sym there.1 ∙ ap (λ f. tree b.layout f) (sym settled-is)
 
+    -- the call is a step from what the calls before it left
+    stepped : FilerSteps (parents b.layout) (number_of b.layout l.affinity) (job call) (settled b) (told answer)
+        (put_in (parents b.layout) e (settled b))
+    stepped =
+        let here : ℕ = number_of b.layout l.affinity in
+        let step = (steps-local (parents b.layout) here (Serve (finished_call r starved)) served.0 (settled b) (jobs.Replied reply) l.parcels served.2).1
+        (λ n cover. let p = covered-node b.layout s.lawful l.affinity (s.lent.node i l done.is_lent) n cover in sym (served.1 n p.0 p.1 cover)) in
+        subst (λ (f' : ℕ → Option (FilerParcel P)). FilerSteps (parents b.layout) here (job call) (settled b) (told answer) f')
+        (sym (left-is b.layout s.lawful l (s.lent.node i l done.is_lent) call answer (settled b)))
+        (subst (λ (x : Job × JobReply). FilerSteps (parents b.layout) here x.0 (settled b) x.1
+        (patched (parents b.layout) here l.parcels (settled b))) (sym (λ n. (is_call n, is_reply n))) step)
+
+    legal-is : Legal (filer job told).steps (parents b.layout) b.first es
+    legal-is = legal-snoc (filer job told).steps (parents b.layout) b.first b.entries e s.legal stepped
+
+    calls-are : calls_served job es ≡ calls_run next.finished
+    calls-are = served-snoc job b.entries e
+        ∙ ap (λ (x : Job). calls_served job b.entries ++ with_served x []) is_call
+        ∙ ap (λ (xs : List FinishedCall). xs ++ finished_call r starved ∷ []) s.calls
+        ∙ sym (run-some w.finished (finished_call r starved) r.message.affinity refl)
+        ∙ sym (ap calls_run finished)
+
     hands-are : HasHands (filer job told) new_books (batches_carried w.workers)
     hands-are weigh =
         let old = s.hands weigh in
@@ -159,6 +186,9 @@ module _ {P C R : Type 0} (job : C → Job) (told : R → JobReply) (setup : Set
           (subst (λ hs. HasHands (filer job told) c hs) (sym (carried-stay w.workers i None))
           (subst (λ (x : FilerBooks P C R). HasHands (filer job told) x (batches_carried w.workers)) (sym done.books) hands-are));
       sound = done.keeps;
+      opening = subst (λ (x : FilerBooks P C R). AreOpening x.layout setup.verifier x.first) (sym done.books) s.opening;
+      legal = subst (λ (x : FilerBooks P C R). Legal (filer job told).steps (parents x.layout) x.first x.entries) (sym done.books) legal-is;
+      calls = ap (λ (x : FilerBooks P C R). calls_served job x.entries) done.books ∙ calls-are;
     }
 
   -- a moved message leaves what it was lent as the finished calls left it
@@ -188,4 +218,7 @@ module _ {P C R : Type 0} (job : C → Job) (told : R → JobReply) (setup : Set
           (subst (λ hs. HasHands (filer job told) c hs) (sym (carried-stay w.workers i None))
           (subst (λ (x : FilerBooks P C R). HasHands (filer job told) x (batches_carried w.workers)) (sym back.books) s.hands));
       sound = subst (λ (x : FilerBooks P C R). IsSettled (filer job told) x) (sym back.books) s.sound;
+      opening = subst (λ (x : FilerBooks P C R). AreOpening x.layout setup.verifier x.first) (sym back.books) s.opening;
+      legal = subst (λ (x : FilerBooks P C R). Legal (filer job told).steps (parents x.layout) x.first x.entries) (sym back.books) s.legal;
+      calls = ap (λ (x : FilerBooks P C R). calls_served job x.entries) back.books ∙ s.calls ∙ sym (ap calls_run finished);
     }

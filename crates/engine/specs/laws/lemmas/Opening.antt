@@ -79,4 +79,7 @@ module _ {P C R : Type 0} (job : C → Job) (told : R → JobReply) (sound : Ope
     workers = all-idle setup.workers;
     hands = subst (λ hs. HasHands (filer job told) b hs) (sym (none-carried setup.workers)) (λ weigh. refl);
     sound = ([], (λ weigh. refl), sound L setup.verifier g lawful listed-open);
+    opening = listed-open;
+    legal = tt;
+    calls = refl;
   }

@@ -3,7 +3,7 @@ use Rattle.std.proofs.Common.{◌≡◌, ℕ, zero, suc, ◌+◌, ◌*◌, ◌/�
 use Rattle.std.proofs.Common.{refl, sym, ap, ◌∙◌, subst, arith}
 use Rattle.std.proofs.lemmas.Bool.Decides.{nat_tests}
 use Rattle.std.specs.Prelude.{slice_get, slice_set, option_map, nat_lt}
-use Rattle.std.proofs.lemmas.List.{length-append}
+use Rattle.std.proofs.lemmas.List.{length-append, append-nil}
 use Rattle.std.proofs.lemmas.Option.{slice_get-map}
 use Rattle.nfs_model.specs.Tree.{Layout, Range}
 use Rattle.nfs_model.specs.Server.{VolumeState, Server}
@@ -19,8 +19,8 @@ use Rattle.affinity_tree.specs.Numbers.{number_of, parents}
 use Rattle.depot.specs.declared.rule.view.Entry.{Entry}
 use Rattle.depot.specs.rule.Sums.{total}
 use Rattle.depot.specs.rule.lemmas.Sums.{total-append}
-use Rattle.depot.specs.rule.History.{patched}
-use Rattle.depot.specs.rule.lemmas.Histories.{after-snoc, moved-snoc}
+use Rattle.depot.specs.rule.History.{patched, put_in, Legal}
+use Rattle.depot.specs.rule.lemmas.Histories.{after-snoc, legal-snoc, moved-snoc}
 use Rattle.depot.specs.Grants.{entry_of}
 use Rattle.desk.specs.laws.Books.{Lent, settled, now, stamps, HasHands, IsSettled}
 use Rattle.parcels.specs.state.Parcels.{FilerParcel}
@@ -28,18 +28,20 @@ use Rattle.parcels.specs.state.Contents.{VolumeContents, FilerContents, volume_a
 use Rattle.parcels.specs.state.Tree.{tree, server_of, volume_of, ranges_used}
 use Rattle.parcels.specs.state.Partition.{all_parts, parts_of}
 use Rattle.parcels.specs.state.Sound.{AllSound}
+use Rattle.parcels.specs.state.Opening.{AreOpening}
 use Rattle.parcels.specs.state.Jobs.{InnerCall, Fetch, Deliver, Cull, Free, Survey, Inner, Job, JobReply, Took, Gave, Surveyed, Replied}
 use Rattle.parcels.specs.state.Jobs.{takes, gives, batches_in, inner_node, inner_volume, InnerMoves}
 use Rattle.parcels.specs.state.Deeds.{DoesInner, FilerSteps}
 use Rattle.parcels.specs.state.Running.{IsRefusedIn, IsRefusedOn}
 use Rattle.parcels.specs.laws.lemmas.Each.{each-get}
 use Rattle.parcels.specs.laws.lemmas.Lawful.{entry-does}
-use Rattle.engine.specs.laws.Store.{FilerBooks, filer, RunsOn, RunOn, IsApart, StandsFor, batches_carried}
+use Rattle.engine.specs.laws.Store.{FilerBooks, filer, RunsOn, RunOn, IsApart, StandsFor, batches_carried, calls_served, with_served}
 use Rattle.engine.specs.laws.Inner.{IsFree, HasMade, HasMoved, hand_after}
 use Rattle.engine.specs.laws.lemmas.Agreeing.{sound-settled, now-served}
 use Rattle.engine.specs.laws.lemmas.Beginning.{told-free}
 use Rattle.engine.specs.laws.lemmas.Changing.{all-kept}
 use Rattle.engine.specs.laws.lemmas.Finishing.{left-is}
+use Rattle.engine.specs.laws.lemmas.Recorded.{served-snoc}
 
 -- ---- what workers carry
 
@@ -221,6 +223,21 @@ module _ {P C R : Type 0} (job : C → Job) (told : R → JobReply) (setup : Set
         let move = hands-move weigh in
         omega (arith, old, taken, given, takes_are, gives_are, move)
 
+    -- the call is a step from what the calls before it left
+    stepped : FilerSteps ps here (job made.entry) (settled b) (told reply) (put_in ps e (settled b))
+    stepped =
+        subst (λ (f' : ℕ → Option (FilerParcel P)). FilerSteps ps here (job made.entry) (settled b) (told reply) f')
+        (sym (left-is L s.lawful (record { affinity = inner_node call; parcels = made.parcels }) node made.entry reply (settled b)))
+        (subst (λ (x : Job). FilerSteps ps here x (settled b) (told reply) (put (settled b))) (sym made.is_entry) (made.did (settled b) (λ n cover. refl)))
+
+    legal-is : Legal (filer job told).steps ps b.first es
+    legal-is = legal-snoc (filer job told).steps ps b.first b.entries e s.legal stepped
+
+    -- an inner call is no finished one
+    calls-are : calls_served job es ≡ calls_served job b.entries
+    calls-are = served-snoc job b.entries e ∙ ap (λ (x : Job). calls_served job b.entries ++ with_served x []) made.is_entry
+        ∙ append-nil (calls_served job b.entries)
+
     pub made-stands : StandsFor job told setup next c
     made-stands = record {
       layout = layout-is ∙ s.layout;
@@ -237,6 +254,9 @@ module _ {P C R : Type 0} (job : C → Job) (told : R → JobReply) (setup : Set
           (λ j l at n pos lt cover. ap (λ (x : FilerBooks P C R). settled x n) (sym made.books) ∙ made.others j l at n pos lt cover) s.workers));
       hands = subst (λ (x : FilerBooks P C R). HasHands (filer job told) x (batches_carried ks)) (sym made.books) hands-are;
       sound = made.keeps;
+      opening = subst (λ (x : FilerBooks P C R). AreOpening x.layout setup.verifier x.first) (sym made.books) s.opening;
+      legal = subst (λ (x : FilerBooks P C R). Legal (filer job told).steps (parents x.layout) x.first x.entries) (sym made.books) legal-is;
+      calls = ap (λ (x : FilerBooks P C R). calls_served job x.entries) made.books ∙ calls-are ∙ s.calls;
     }
 
   -- ---- it is refused

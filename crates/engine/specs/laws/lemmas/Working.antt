@@ -19,7 +19,7 @@ use Rattle.nfs_model.specs.Events.Step.{finished_call, worked}
 use Rattle.affinity_tree.specs.Fault.{fault_of}
 use Rattle.affinity_tree.specs.Ancestors.{Covers}
 use Rattle.affinity_tree.specs.Numbers.{number_of, parents}
-use Rattle.depot.specs.rule.History.{patched}
+use Rattle.depot.specs.rule.History.{patched, Legal}
 use Rattle.desk.specs.laws.Books.{Lent, settled, now, stamps, IsUnchanged, HasHands, IsSettled}
 use Rattle.desk.specs.laws.Calls.{HasWorked, with_lent}
 use Rattle.desk.specs.laws.lemmas.Overlays.{overlaid-here}
@@ -27,11 +27,12 @@ use Rattle.parcels.specs.state.Parcels.{FilerParcel}
 use Rattle.parcels.specs.state.Contents.{filer_contents}
 use Rattle.parcels.specs.state.Tree.{tree}
 use Rattle.parcels.specs.state.Sound.{AllSound}
+use Rattle.parcels.specs.state.Opening.{AreOpening}
 use Rattle.parcels.specs.state.Jobs as jobs
 use Rattle.parcels.specs.state.Jobs.{Job, JobReply, Serve}
 use Rattle.parcels.specs.state.Deeds.{FilerSteps, Serves, stored_all}
 use Rattle.parcels.specs.laws.lemmas.Lawful.{steps-local, entry-does}
-use Rattle.engine.specs.laws.Store.{FilerBooks, filer, HasOutcome, RunsOn, RunOn, IsApart, StandsFor, batches_carried}
+use Rattle.engine.specs.laws.Store.{FilerBooks, filer, HasOutcome, RunsOn, RunOn, IsApart, StandsFor, batches_carried, calls_served}
 use Rattle.engine.specs.laws.Serving.{Serving, AgreeUnder}
 use Rattle.engine.specs.laws.lemmas.Agreeing.{reached-once, now-served}
 use Rattle.engine.specs.laws.lemmas.Changing.{lent-at, run-changed, carried-stay}
@@ -232,4 +233,7 @@ module _ {P C R : Type 0} (job : C → Job) (told : R → JobReply) (setup : Set
     hands = subst (λ (x : FilerBooks P C R). HasHands (filer job told) x (batches_carried (changed_at (with_running (Some r')) w.workers i))) (sym done.books)
         (subst (λ hs. HasHands (filer job told) b hs) (sym (carried-stay w.workers i (Some r'))) s.hands);
     sound = subst (λ (x : FilerBooks P C R). IsSettled (filer job told) x) (sym done.books) s.sound;
+    opening = subst (λ (x : FilerBooks P C R). AreOpening x.layout setup.verifier x.first) (sym done.books) s.opening;
+    legal = subst (λ (x : FilerBooks P C R). Legal (filer job told).steps (parents x.layout) x.first x.entries) (sym done.books) s.legal;
+    calls = ap (λ (x : FilerBooks P C R). calls_served job x.entries) done.books ∙ s.calls;
   }

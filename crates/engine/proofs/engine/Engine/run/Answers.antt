@@ -1,7 +1,9 @@
-use Rattle.std.proofs.Common.{arith, ◌≡◌, ◌+◌, ◌≤◌, sym, ◌∙◌}
+use Rattle.std.proofs.Common.{arith, ◌≡◌, ◌+◌, ◌≤◌, refl, sym, subst, ◌∙◌}
 use Rattle.engine.specs.Engine.{one_if_refused}
 use Rattle.engine.specs.Seen.{answer_of}
+use Rattle.engine.specs.Shown.{HasHeadline, HasOutcomes, HasHistory}
 use Rattle.engine.proofs.Runs.{run-more-from, refused-counts, done-counts}
+use Rattle.engine.proofs.Promised.{sound-history, goes-nowhere, goes-further}
 use Rattle.engine.proofs.engine.Engine.run.Goals as goal
 use Rattle.engine.proofs.engine.Engine.run.Goals.{then-is_err, else-is_err}
 
@@ -24,4 +26,19 @@ loop-event-preserved c = (
   c.step.ensures.setup ∙ c.loop-event.invariant.1,
   few c,
   c.step.ensures.headline,
+  c.step.ensures.outcomes,
+  c.step.ensures.history,
+  goes-further c.args.self.now c.loop-event.self c.step.new.self c.args.events.now c.loop-event.event-index _ c.loop-event-test.true
+      c.loop-event.invariant.6 c.step.ensures.promise,
+)
+
+pub loop-event-init : goal.loop-event-init
+loop-event-init c = (
+  (refl, refl),
+  refl,
+  omega arith,
+  subst HasHeadline c.self.view_is c.self.invariant.0.1.headline,
+  subst HasOutcomes c.self.view_is c.self.invariant.0.1.outcomes,
+  subst HasHistory c.self.view_is (sound-history c.self.inside.state c.self.invariant.0.0),
+  goes-nowhere c.args.self.now,
 )
