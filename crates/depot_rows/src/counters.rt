@@ -1,13 +1,12 @@
 //! Calls that add 1 to the number of their node, of whichever kind that is.
 
 ghost use Rattle.std.specs.Prelude.{◌≡◌, ◌++◌, [], ◌∷◌, None, IfSome};
-ghost use Rattle.affinity_tree.specs.Affinity.{affinity_of};
-ghost use Rattle.affinity_tree.specs.Layout.{layout_of};
+ghost use Rattle.nfs_model.specs.Tree as trees;
 ghost use Rattle.parcel_sets.specs.Exact.{HasExactly, kind_in};
 ghost use Rattle.depot.specs.Words.{IsSeatHere};
 ghost use Rattle.depot_rows.specs.Counting.{AddsOne, HasSeenAsMuch, made_by};
 
-use affinity_tree::{Affinity, Kind, Layout};
+use affinity_tree::{Affinity, Kind};
 use depot::trial::adding::{Adding, Change};
 use depot::{Depot, Seat};
 use parcel_sets::{
@@ -22,62 +21,62 @@ pub(crate) type Made = (u64, u64, u64);
 /// Counts up the number of a kind of node.
 pub(crate) trait Counter<N: Node<Parcel<Numbers>>> {
     /// Adds 1 to the node's own number, modulo 2^64, and gives the sum.
-    fn add_one(layout: &Layout, affinity: Affinity, held: &mut N::Held) -> u64
-        requires exact { let L = layout_of layout.now in let a = affinity_of affinity in
-            HasExactly kind_in L a (N.parcels L a held.old) }
-        ensures exact { let L = layout_of layout.now in let a = affinity_of affinity in
-            HasExactly kind_in L a (N.parcels L a held.new) }
-        ensures added { let L = layout_of layout.now in let a = affinity_of affinity in
-            AddsOne L a (N.parcels L a held.old) result (N.parcels L a held.new) };
+    fn add_one(held: &mut N::Held) -> u64
+        ensures exact { (layout : trees.Layout) (node : trees.Affinity)
+            → HasExactly kind_in layout node (N.parcels layout node held.old)
+            → HasExactly kind_in layout node (N.parcels layout node held.new) }
+        ensures added { (layout : trees.Layout) (node : trees.Affinity)
+            → AddsOne layout node (N.parcels layout node held.old) result
+            (N.parcels layout node held.new) };
 }
 
 /// Counts by one.
 pub(crate) struct One;
 
 impl Counter<RangeNode> for One {
-    fn add_one(_layout: &Layout, _affinity: Affinity, held: &mut RangeHeld<Numbers>) -> u64 {
+    fn add_one(held: &mut RangeHeld<Numbers>) -> u64 {
         held.own = held.own.wrapping_add(1);
         held.own
     }
 }
 
 impl Counter<VbnNode> for One {
-    fn add_one(_layout: &Layout, _affinity: Affinity, held: &mut VbnHeld<Numbers>) -> u64 {
+    fn add_one(held: &mut VbnHeld<Numbers>) -> u64 {
         held.own = held.own.wrapping_add(1);
         held.own
     }
 }
 
 impl Counter<StripeNode> for One {
-    fn add_one(_layout: &Layout, _affinity: Affinity, held: &mut StripeHeld<Numbers>) -> u64 {
+    fn add_one(held: &mut StripeHeld<Numbers>) -> u64 {
         held.own = held.own.wrapping_add(1);
         held.own
     }
 }
 
 impl Counter<LogicalNode> for One {
-    fn add_one(_layout: &Layout, _affinity: Affinity, held: &mut LogicalHeld<Numbers>) -> u64 {
+    fn add_one(held: &mut LogicalHeld<Numbers>) -> u64 {
         held.own = held.own.wrapping_add(1);
         held.own
     }
 }
 
 impl Counter<VolumeNode> for One {
-    fn add_one(_layout: &Layout, _affinity: Affinity, held: &mut VolumeHeld<Numbers>) -> u64 {
+    fn add_one(held: &mut VolumeHeld<Numbers>) -> u64 {
         held.own = held.own.wrapping_add(1);
         held.own
     }
 }
 
 impl Counter<AggregateNode> for One {
-    fn add_one(_layout: &Layout, _affinity: Affinity, held: &mut AggrHeld<Numbers>) -> u64 {
+    fn add_one(held: &mut AggrHeld<Numbers>) -> u64 {
         held.own = held.own.wrapping_add(1);
         held.own
     }
 }
 
 impl Counter<SerialNode> for One {
-    fn add_one(_layout: &Layout, _affinity: Affinity, held: &mut SerialHeld<Numbers>) -> u64 {
+    fn add_one(held: &mut SerialHeld<Numbers>) -> u64 {
         held.own = held.own.wrapping_add(1);
         held.own
     }
@@ -104,7 +103,7 @@ fn attempt<N: Node<Parcel<Numbers>>, C: Counter<N>>(
     match depot.begin::<N>(seat, affinity) {
         Ok(mut grant) => {
             thread::yield_now();
-            let sum = C::add_one(depot.layout(), affinity, grant.held());
+            let sum = C::add_one(grant.held());
             depot.finish(seat, grant, &Change::Add(1), &sum);
             let node = depot.layout().number_of(affinity) as u64;
             Some((node, 1, sum))
