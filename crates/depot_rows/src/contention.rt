@@ -261,10 +261,12 @@ fn look_at_all(rt: &impl Abort, left: Done, nodes: &[Counted]) {
         made: _,
     } = left;
     let layout = depot.layout();
-    same(rt, &(layout.node_count(), nodes.len()), &(NODES, NODES + 1));
+    same(rt, &layout.node_count(), &NODES);
     for number in 1..NODES + 1 {
+        assert!(rt; number <= layout.node_count());
+        let counted = nodes.get(number).copied().expect(rt, "no such node");
         let found = attempt_any(depot, &mut seat, layout.affinity_at(number));
-        look_at(rt, found, number, &nodes[number]);
+        look_at(rt, found, number, &counted);
     }
 }
 

@@ -170,4 +170,4 @@ went-on filer worker worker' first first' second o still put =
 
 -- it put none
 pub none-put : (filer : Filer) (first : FilerPass) → IsReaderOf filer first → HasPut filer first first
-none-put filer first r = record { reader = r; share = (refl, refl, refl); }
+none-put filer first r = record { reader = r; share = (refl, refl, refl) }

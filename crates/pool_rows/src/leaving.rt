@@ -28,7 +28,7 @@ use std::thread;
 use std::thread::Threads;
 use workers::{BatchInHand, Filer, Gate, Message, Place, Stage, Tend, Unwatched, Worker};
 
-/// Gathers what workers leave, and closes their filer.
+/// Gathers what workers leave.
 fn leave<R: Wait>(
     rt: &R,
     alloc: Global,
@@ -45,11 +45,27 @@ fn leave<R: Wait>(
     Ok(Stopped { filer, left })
 }
 
-/// Splits a second worker off, which fetches from volume 0's range.
-fn fetch_by_second(alloc: Global, filer: &Filer, worker: Worker) -> Result<Vec<Worker>, AllocError>
+/// A list of a worker.
+fn list_one(alloc: Global, worker: Worker) -> Result<Vec<Worker>, AllocError>
+    ensures { IfOk result (λ workers. workers.items ≡ worker ∷ []) }
+{
+    let workers = vec![in alloc; worker]?;
+    Ok(workers)
+}
+
+/// A list of two workers.
+fn list_two(alloc: Global, first: Worker, second: Worker) -> Result<Vec<Worker>, AllocError>
+    ensures { IfOk result (λ workers. workers.items ≡ first ∷ second ∷ []) }
+{
+    let workers = vec![in alloc; first, second]?;
+    Ok(workers)
+}
+
+/// A second worker is split off, and fetches from volume 0's range.
+fn fetch_by_second(filer: &Filer, worker: Worker) -> (Worker, Worker)
     requires inside { IsIn filer.now worker }
     requires some { 1 < seats_in worker }
-    ensures { IfOk result (λ workers. AreSplitOf filer.now worker workers.items) }
+    ensures { AreSplitOf filer.now worker (result.0 ∷ result.1 ∷ []) }
 {
     let (first, second) = worker.split(filer);
     let fetch = Tend::Fetch {
@@ -57,16 +73,37 @@ fn fetch_by_second(alloc: Global, filer: &Filer, worker: Worker) -> Result<Vec<W
         range: 0,
     };
     let (second, _answer) = second.tend_turn(filer, fetch);
-    let workers = vec![in alloc; first, second]?;
-    Ok(workers)
+    (first, second)
+}
+
+/// Splits a second worker off, which fetches, and gathers what both leave.
+fn leave_fetched<R: Wait>(
+    rt: &R,
+    alloc: Global,
+    filer: Arc<Filer>,
+    worker: Worker,
+    first: FilerPass,
+    second: FilerPass,
+) -> Result<Stopped, AllocError>
+    requires { IsOpened (arc_value filer) worker first second }
+    ensures { IfOk result (λ stopped. IsLeftOf (arc_value stopped.filer) stopped.left) }
+{
+    let (one, other) = fetch_by_second(&filer, worker);
+    match list_two(alloc, one, other) {
+        Ok(workers) => leave(rt, alloc, filer, workers, first, second),
+        Err(refused) => Err(refused),
+    }
 }
 
 /// A filer of which one of two workers has fetched, and which is then closed.
 fn fetched<R: Wait>(rt: &R, alloc: Global) -> Option<Ended> {
-    let (filer, worker, first, second) = open_filer(alloc, Volumes::Alike).ok()?;
-    let workers = fetch_by_second(alloc, &filer, worker).ok()?;
-    let stopped = leave(rt, alloc, filer, workers, first, second).ok()?;
-    end(stopped)
+    let Ok((filer, worker, first, second)) = open_filer(alloc, Volumes::Alike) else {
+        return None;
+    };
+    match leave_fetched(rt, alloc, filer, worker, first, second) {
+        Ok(stopped) => end(stopped),
+        Err(_refused) => None,
+    }
 }
 
 /// How many block numbers of volume 0's range are free.
@@ -264,24 +301,26 @@ struct Full {
     connection: ConnectionNumber,
 }
 
-/// Makes file 2 in volume 0, in one turn. Whether it did.
-fn make_file<R: Wait>(
+/// Makes file 2 in volume 0, in one turn, and fills the queue. Whether all was done.
+fn fill_up<R: Wait>(
     rt: &R,
     alloc: Global,
     filer: &Filer,
     bells: &Bells,
     worker: Worker,
-    pass: &mut FilerPass,
+    mut pass: FilerPass,
     connection: ConnectionNumber,
-) -> (Worker, bool)
+) -> (Worker, FilerPass, bool)
     requires inside { IsIn filer.now worker }
-    requires reader { IsReaderOf filer.now pass.old }
+    requires reader { IsReaderOf filer.now pass }
     ensures still { IsStill filer.now worker result.0 }
-    ensures put { HasPut filer.now pass.old pass.new }
+    ensures put { HasPut filer.now pass result.1 }
 {
-    let was_put = put_one(rt, alloc, filer, bells, pass, connection, 0);
+    let was_put = put_one(rt, alloc, filer, bells, &mut pass, connection, 0);
     let (worker, came) = take_turn(rt, filer, worker, &Unwatched);
-    (worker, was_put && came == Came::Done(connection, 0))
+    let is_full = fill(rt, alloc, filer, bells, &mut pass, connection);
+    let is_made = was_put && came == Came::Done(connection, 0);
+    (worker, pass, is_made && is_full)
 }
 
 /// A filer with file 2 in volume 0, and as many messages as its queue has room for: first a WRITE
@@ -289,13 +328,15 @@ fn make_file<R: Wait>(
 fn make_full<R: Wait>(rt: &R, alloc: Global) -> Option<Full>
     ensures { IfSome result (λ f. IsOpened (arc_value f.filer) f.worker f.first f.second) }
 {
-    let Ok((filer, worker, mut first, second)) = open_filer(alloc, Volumes::Alike) else {
+    let Ok((filer, worker, first, second)) = open_filer(alloc, Volumes::Alike) else {
         return None;
     };
-    let bells = Bells::new(alloc).ok()?;
+    let Ok(bells) = Bells::new(alloc) else {
+        return None;
+    };
     let connection = connect(rt, &filer)?;
-    let (worker, is_made) = make_file(rt, alloc, &filer, &bells, worker, &mut first, connection);
-    if !is_made || !fill(rt, alloc, &filer, &bells, &mut first, connection) {
+    let (worker, first, is_full) = fill_up(rt, alloc, &filer, &bells, worker, first, connection);
+    if !is_full {
         return None;
     }
     Some(Full {
@@ -361,6 +402,24 @@ fn turn<R: Wait>(rt: &R, full: Full) -> (Full, Came)
     (full, came)
 }
 
+/// Gathers what the only worker of a filer leaves.
+fn leave_alone<R: Wait>(
+    rt: &R,
+    alloc: Global,
+    filer: Arc<Filer>,
+    worker: Worker,
+    first: FilerPass,
+    second: FilerPass,
+) -> Result<Stopped, AllocError>
+    requires { IsOpened (arc_value filer) worker first second }
+    ensures { IfOk result (λ stopped. IsLeftOf (arc_value stopped.filer) stopped.left) }
+{
+    match list_one(alloc, worker) {
+        Ok(workers) => leave(rt, alloc, filer, workers, first, second),
+        Err(refused) => Err(refused),
+    }
+}
+
 /// Gathers what the worker of a filer leaves, and closes the filer.
 fn leave_full<R: Wait>(rt: &R, alloc: Global, full: Full) -> Option<Ended>
     requires { IsOpened (arc_value full.filer) full.worker full.first full.second }
@@ -373,13 +432,10 @@ fn leave_full<R: Wait>(rt: &R, alloc: Global, full: Full) -> Option<Ended>
         second,
         connection: _,
     } = full;
-    let Ok(workers) = vec![in alloc; worker] else {
-        return None;
-    };
-    let Ok(stopped) = leave(rt, alloc, filer, workers, first, second) else {
-        return None;
-    };
-    end(stopped)
+    match leave_alone(rt, alloc, filer, worker, first, second) {
+        Ok(stopped) => end(stopped),
+        Err(_refused) => None,
+    }
 }
 
 /// Looks whether messages have the xids from one on.
