@@ -1,1 +1,2 @@
 pub mod Rejoined
+pub mod Counted

@@ -1,1 +1,2 @@
 pub mod Adder
+pub mod Counting

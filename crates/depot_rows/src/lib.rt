@@ -5,6 +5,10 @@
 #[cfg(test)]
 mod adder;
 #[cfg(test)]
+mod contention;
+#[cfg(test)]
+mod counters;
+#[cfg(test)]
 mod desks;
 #[cfg(test)]
 mod rows;

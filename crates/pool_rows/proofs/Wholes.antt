@@ -1,5 +1,6 @@
 -- What a filer's workers and two who put messages have together.
-use Rattle.std.proofs.Common.{◌≡◌, ◌≤◌, ◌∙◌, ℕ, zero, suc, ◌+◌, ◌*◌, ◌-◌, ◌^◌, [], All, ap, sym, arith}
+use Rattle.std.proofs.Common.{◌≡◌, ◌≤◌, ◌∙◌, ℕ, zero, suc, ◌+◌, ◌*◌, ◌-◌, ◌^◌, List, [], ◌∷◌, All, refl, ap, sym, subst, arith}
+use Rattle.std.proofs.lemmas.List.Elements.{All-cons, All-nil}
 use Rattle.std.proofs.lemmas.Nat.{pow-add}
 use Rattle.std.specs.Prelude.{Option, Some, option_map}
 use Rattle.affinity_tree.specs.declared.layout.Layout.{Layout}
@@ -12,10 +13,11 @@ use Rattle.server.specs.declared.pool.pool.Pool.{Pool}
 use Rattle.workers.specs.shared_waiting.Balance.{left, right, part, IsWhole}
 use Rattle.workers.specs.shared_waiting.Passes.{known, IsOf}
 use Rattle.workers.specs.Balance.{Passed}
+use Rattle.workers.specs.Turns.{HasShareOf}
 use Rattle.workers.specs.Words.{layout_in, layout_known, passed, seats_in, IsIn}
 use Rattle.workers.specs.declared.shared.Filer.{Filer}
 use Rattle.workers.specs.declared.worker.Worker.{Worker}
-use Rattle.pool_rows.specs.Threads.{IsOpened, IsReaderOf, IsRunning}
+use Rattle.pool_rows.specs.Threads.{AreAlone, AreSplitOf, HasPut, IsOpened, IsReaderOf, IsRunning, IsStill}
 
 -- ---- a pass is cut in two
 
@@ -92,3 +94,80 @@ running filer worker pool first second count o serve seats share =
             omega (arith, a, b),
       );
     }
+
+-- ---- without threads
+
+-- a share stays as it is
+same-part : (k : ℕ) (v w : Passed) → HasShareOf v w → part k w ≡ part k v
+same-part k v w s = ap (λ n. n * 2 ^ (k - w.halvings)) s.0 ∙ ap (λ n. v.share * 2 ^ (k - n)) s.1
+
+pub all-one : (filer : Filer) (a : Worker) → IsIn filer a → All (IsIn filer) (a ∷ [])
+all-one filer a p = All-cons (IsIn filer) a [] p (All-nil (IsIn filer))
+
+pub all-two : (filer : Filer) (a b : Worker) → IsIn filer a → IsIn filer b → All (IsIn filer) (a ∷ b ∷ [])
+all-two filer a b p q = All-cons (IsIn filer) a (b ∷ []) p (all-one filer b q)
+
+-- a worker that is all of them
+pub only : (filer : Filer) (worker : Worker) (first second : FilerPass) → IsOpened filer worker first second → AreAlone filer (worker ∷ []) first second
+only filer worker first second o =
+    record {
+      inside = all-one filer worker o.inside;
+      seats = let s = o.seats in omega (arith, s);
+      one = o.one;
+      other = o.other;
+      whole = (o.whole.0, λ k le. let b = o.whole.1 k le in omega (arith, b));
+    }
+
+-- two of which the second was split off, and has then perhaps made calls
+pub two : (filer : Filer) (worker a b : Worker) (v : Passed) → IsIn filer a → IsIn filer b → seats_in a + 1 ≡ seats_in worker → seats_in b ≡ 1
+    → passed a ≡ left (passed worker) → v ≡ right (passed worker) → passed b ≡ v → AreSplitOf filer worker (a ∷ b ∷ [])
+two filer worker a b v p q many one l r same =
+    record {
+      inside = all-two filer a b p q;
+      seats = omega (arith, many, one);
+      share = λ k le.
+          let h = halves k (passed worker) le in
+          let x : share_of k a ≡ part k (left (passed worker)) = ap (λ (w : Passed). part k w) l in
+          let y : share_of k b ≡ part k (right (passed worker)) = ap (λ (w : Passed). part k w) (same ∙ r) in
+          omega (arith, h, x, y);
+    }
+
+pub parted : (filer : Filer) (worker : Worker) (workers : List Worker) (first second : FilerPass) → IsOpened filer worker first second
+    → AreSplitOf filer worker workers → AreAlone filer workers first second
+parted filer worker workers first second o s =
+    record {
+      inside = s.inside;
+      seats = s.seats ∙ o.seats;
+      one = o.one;
+      other = o.other;
+      whole = (
+        o.whole.0 + ((passed worker).halvings + 1),
+        λ k le.
+            let a = s.share k (omega (arith, le)) in
+            let b = o.whole.1 k (omega (arith, le)) in
+            omega (arith, a, b),
+      );
+    }
+
+-- the worker made calls, and the first who puts messages put some
+pub went-on : (filer : Filer) (worker worker' : Worker) (first first' second : FilerPass) → IsOpened filer worker first second
+    → IsStill filer worker worker' → HasPut filer first first' → IsOpened filer worker' first' second
+went-on filer worker worker' first first' second o still put =
+    record {
+      inside = still.inside;
+      seats = still.seats ∙ o.seats;
+      one = put.reader;
+      other = o.other;
+      whole = (
+        o.whole.0,
+        λ k le.
+            let a = same-part k (passed worker) (passed worker') still.share in
+            let b = same-part k (known first) (known first') put.share in
+            let c = o.whole.1 k le in
+            omega (arith, a, b, c),
+      );
+    }
+
+-- it put none
+pub none-put : (filer : Filer) (first : FilerPass) → IsReaderOf filer first → HasPut filer first first
+none-put filer first r = record { reader = r; share = (refl, refl, refl) }

@@ -1,5 +1,5 @@
 -- The threads of a filer: those of its workers, and those of two who put messages.
-use Rattle.std.specs.Prelude.{◌≡◌, ◌≤◌, ◌^◌, ◌+◌, ℕ, [], All, Some}
+use Rattle.std.specs.Prelude.{◌≡◌, ◌≤◌, ◌^◌, ◌+◌, ℕ, List, [], All, Some}
 use Rattle.depot.specs.rule.Sums.{total}
 use Rattle.server.specs.pool.Shares.{share_of, share_in, FilerPass}
 use Rattle.server.specs.pool.Pools.{threads_of}
@@ -7,7 +7,7 @@ use Rattle.server.specs.pool.Threads.{seats_with, share_with, ServesIn}
 use Rattle.server.specs.declared.pool.pool.Pool.{Pool}
 use Rattle.workers.specs.shared_waiting.Passes.{known, IsOf}
 use Rattle.workers.specs.Turns.{HasShareOf}
-use Rattle.workers.specs.Words.{layout_in, layout_known, seats_in, IsIn}
+use Rattle.workers.specs.Words.{layout_in, layout_known, passed, seats_in, IsIn}
 use Rattle.workers.specs.declared.shared.Filer.{Filer}
 use Rattle.workers.specs.declared.worker.Worker.{Worker}
 
@@ -41,3 +41,23 @@ pub record IsRunning (filer : Filer) (pool : Pool) (first second : FilerPass) : 
   pub one : IsReaderOf filer first
   pub other : IsReaderOf filer second
   pub whole : AreWholeWith (λ k. total (share_with k) (threads_of pool)) first second
+
+-- so have these workers, which no thread runs
+pub record AreAlone (filer : Filer) (workers : List Worker) (first second : FilerPass) : Type 0 where
+  pub inside : All (IsIn filer) workers
+  pub seats : total seats_in workers ≡ 64
+  pub one : IsReaderOf filer first
+  pub other : IsReaderOf filer second
+  pub whole : AreWholeWith (λ k. total (share_of k) workers) first second
+
+-- these workers were split from one that had so many seats and this share
+pub record AreSplitOf (filer : Filer) (worker : Worker) (workers : List Worker) : Type 0 where
+  pub inside : All (IsIn filer) workers
+  pub seats : total seats_in workers ≡ seats_in worker
+  pub share : (k : ℕ) → (passed worker).halvings + 1 ≤ k → total (share_of k) workers ≡ share_of k worker
+
+-- a worker afterwards has the seats and the share that it had
+pub record IsStill (filer : Filer) (before after : Worker) : Type 0 where
+  pub inside : IsIn filer after
+  pub seats : seats_in after ≡ seats_in before
+  pub share : HasShareOf (passed before) (passed after)

@@ -6,7 +6,7 @@ ghost use Rattle.pool_rows.specs.Threads.{HasPut, IsReaderOf, IsRunning};
 
 use crate::calls::call;
 use crate::ending::{end, stop};
-use crate::opening::open;
+use crate::opening::{Volumes, open};
 use crate::putting::{FilerPass, put, record_of};
 use crate::replies::{connect, replies};
 use crate::running::{Running, start};
@@ -141,7 +141,7 @@ where
     requires some { 0 < threads }
     requires fit { threads ≤ 64 }
 {
-    let Ok(opened) = open(alloc) else {
+    let Ok(opened) = open(alloc, Volumes::Mixed) else {
         return None;
     };
     let running = start(rt, opened, &Unwatched, threads)?;

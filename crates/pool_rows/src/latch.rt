@@ -3,7 +3,7 @@
 ghost use Rattle.pool_rows.specs.Threads.{HasPut, IsReaderOf};
 
 use crate::calls::{ROOT, create, handle};
-use crate::opening::open;
+use crate::opening::{Volumes, open};
 use crate::putting::{FilerPass, put, record_of};
 use crate::replies::{LOOKS, awaited, connect, is_ok};
 use crate::running::{Running, start};
@@ -150,7 +150,7 @@ where
     R: Threads + Wait + Clock + Copy + Drop + Send + 'static,
 {
     let latch = Latch::new(alloc).ok()?;
-    let Ok(opened) = open(alloc) else {
+    let Ok(opened) = open(alloc, Volumes::Alike) else {
         return None;
     };
     let Running {

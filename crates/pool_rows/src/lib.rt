@@ -12,6 +12,8 @@ mod ending;
 #[cfg(test)]
 mod latch;
 #[cfg(test)]
+mod leaving;
+#[cfg(test)]
 mod opening;
 #[cfg(test)]
 mod putting;

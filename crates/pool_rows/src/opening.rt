@@ -24,15 +24,28 @@ pub(crate) struct Opened {
     pub(crate) second: FilerPass,
 }
 
-/// Two volumes, one of 8 stripes and one range, one of 16 stripes and two ranges.
-fn layout(alloc: Global) -> Result<Layout, AllocError> {
+/// The volumes of a filer. Volume 0 has 8 stripes and one range.
+#[derive(Clone, Copy)]
+pub(crate) enum Volumes {
+    /// Volume 1 is as volume 0.
+    Alike,
+    /// Volume 1 has 16 stripes and two ranges.
+    Mixed,
+}
+
+/// Two volumes on an aggregate with one spare range.
+fn layout(alloc: Global, volumes: Volumes) -> Result<Layout, AllocError> {
+    let eight = VolumeSpec::new(0, 1);
     let sixteen = VolumeSpec {
         aggregate: 0,
         ranges: 2,
         stripes: 16,
         mib: 64,
     };
-    let volumes = [VolumeSpec::new(0, 1), sixteen];
+    let volumes = match volumes {
+        Volumes::Alike => [eight, eight],
+        Volumes::Mixed => [eight, sixteen],
+    };
     match Layout::new(alloc, &[AggregateSpec { spare: 1 }], &volumes) {
         Ok(layout) => Ok(layout),
         Err(_fault) => Err(AllocError),
@@ -43,10 +56,11 @@ fn layout(alloc: Global) -> Result<Layout, AllocError> {
 /// eight nines.
 pub(crate) fn open_filer(
     alloc: Global,
+    volumes: Volumes,
 ) -> Result<(Arc<Filer>, Worker, FilerPass, FilerPass), AllocError>
     ensures { IfOk result (λ made. IsOpened (arc_value made.0) made.1 made.2 made.3) }
 {
-    let (filer, seat, pass) = Filer::new(alloc, layout(alloc)?, [9; 8])?;
+    let (filer, seat, pass) = Filer::new(alloc, layout(alloc, volumes)?, [9; 8])?;
     let (pass, rest) = filer.waiting().split_pass(pass);
     let (first, second) = filer.waiting().split_pass(rest);
     let worker = Worker::first(&filer, seat, pass);
@@ -54,13 +68,13 @@ pub(crate) fn open_filer(
 }
 
 /// A filer of two volumes, before its threads run.
-pub(crate) fn open(alloc: Global) -> Result<Opened, AllocError>
+pub(crate) fn open(alloc: Global, volumes: Volumes) -> Result<Opened, AllocError>
     ensures opened { IfOk result (λ o. IsOpened (arc_value o.filer) o.worker o.first o.second) }
     ensures vacant { IfOk result (λ o. IsVacant o.pool) }
 {
     let bells = Arc::new(alloc, Bells::new(alloc)?)?;
     let pool = Pool::new(alloc, Arc::try_clone(&bells)?)?;
-    let (filer, worker, first, second) = open_filer(alloc)?;
+    let (filer, worker, first, second) = open_filer(alloc, volumes)?;
     Ok(Opened {
         filer,
         bells,

@@ -1,10 +1,11 @@
 //! Turns and tends of workers, one after another in one thread.
 
-mod came;
+pub(crate) mod came;
 mod filer_worker;
 mod looking;
+mod overwrites;
 mod reader;
 mod rows;
 mod starting;
 mod texts;
-mod turning;
+pub(crate) mod turning;

@@ -2,9 +2,8 @@
 
 use crate::turns::came::Came;
 use crate::turns::filer_worker::FilerWorker;
-use crate::turns::rows::at;
 use affinity_tree::Affinity;
-use nfs_values::VolumeNumber;
+use nfs_values::{Moment, VolumeNumber};
 use std::sync::{Mutex, Wait};
 use workers::{Gate, Place, Stage, Tend, TendRefusal, Unwatched};
 
@@ -17,10 +16,11 @@ pub(crate) struct Met {
     pub(crate) tended: Option<(Affinity, u64)>,
 }
 
-/// A second worker, which makes a turn and a tend after each begin of the first.
+/// A second worker, which makes a turn, at a moment, and a tend after each begin of the first.
 #[derive(Drop)]
 pub(crate) struct Looking<'r, 'a, R> {
     pub(crate) rt: &'r R,
+    pub(crate) moment: Moment,
     pub(crate) second: Mutex<Option<FilerWorker<'a>>>,
     pub(crate) met: Mutex<Option<Met>>,
 }
@@ -34,7 +34,7 @@ impl<R: Wait> Gate for Looking<'_, '_, R> {
         let Some(second) = taken else {
             return;
         };
-        let (second, came) = second.turn(self.rt, &Unwatched, at(9));
+        let (second, came) = second.turn(self.rt, &Unwatched, self.moment);
         let cull = Tend::Cull {
             volume: VolumeNumber(0),
         };

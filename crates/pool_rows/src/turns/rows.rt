@@ -3,7 +3,7 @@
 ghost use Rattle.workers.specs.Running.{IsRun};
 
 use crate::calls::{UNSET, handle};
-use crate::opening::open_filer;
+use crate::opening::{Volumes, open_filer};
 use crate::putting::record_of;
 use crate::turns::came::Came;
 use crate::turns::filer_worker::FilerWorker;
@@ -40,18 +40,18 @@ fn in_root(rt: &(impl Abort + AllocGlobal), name: &[u8]) -> Target {
 }
 
 /// Looks whether this is what is wanted.
-fn same<T: PartialEq + Debug>(rt: &impl Abort, found: &T, wanted: &T) {
+pub(crate) fn same<T: PartialEq + Debug>(rt: &impl Abort, found: &T, wanted: &T) {
     assert_eq!(rt; found, wanted);
 }
 
 /// Opens a connection.
-fn open<R: Abort + Wait>(rt: &R, filer: &Filer) -> ConnectionNumber {
+pub(crate) fn open<R: Abort + Wait>(rt: &R, filer: &Filer) -> ConnectionNumber {
     let number = filer.outboxes().lock(rt).open().ok();
     number.expect(rt, "no connection")
 }
 
 /// Looks whether the record that waits longest for a connection has these words.
-fn answered<R: Abort + AllocGlobal + Wait>(
+pub(crate) fn answered<R: Abort + AllocGlobal + Wait>(
     rt: &R,
     filer: &Filer,
     connection: ConnectionNumber,
@@ -64,7 +64,7 @@ fn answered<R: Abort + AllocGlobal + Wait>(
 }
 
 /// Puts a call, and lets a worker finish it in one turn.
-fn served<'a, R: Abort + AllocGlobal + Wait>(
+pub(crate) fn served<'a, R: Abort + AllocGlobal + Wait>(
     rt: &R,
     worker: FilerWorker<'a>,
     reader: &mut Reader<'a>,
@@ -84,7 +84,10 @@ fn served<'a, R: Abort + AllocGlobal + Wait>(
 /// A call is finished in one turn; then none waits.
 #[test]
 fn finished_call(rt: HostRuntime) {
-    let (filer, worker, pass, _other) = open_filer(rt.alloc()).expect(&rt, "no memory");
+    let (filer, worker, pass, _other) = open_filer(rt.alloc(), Volumes::Mixed).expect(
+        &rt,
+        "no memory",
+    );
     let bells = Bells::new(rt.alloc()).expect(&rt, "no memory");
     let Started {
         first,
@@ -107,7 +110,7 @@ fn finished_call(rt: HostRuntime) {
 }
 
 /// Creates a file in the root of volume 0, whose fileid is 2.
-fn created<'a, R: Abort + AllocGlobal + Wait>(
+pub(crate) fn created<'a, R: Abort + AllocGlobal + Wait>(
     rt: &R,
     worker: FilerWorker<'a>,
     reader: &mut Reader<'a>,
@@ -157,7 +160,10 @@ fn written<'a, R: Abort + AllocGlobal + Wait>(
 /// to Volume.
 #[test]
 fn moved_message(rt: HostRuntime) {
-    let (filer, worker, pass, _other) = open_filer(rt.alloc()).expect(&rt, "no memory");
+    let (filer, worker, pass, _other) = open_filer(rt.alloc(), Volumes::Mixed).expect(
+        &rt,
+        "no memory",
+    );
     let bells = Bells::new(rt.alloc()).expect(&rt, "no memory");
     let Started {
         first,
@@ -175,7 +181,10 @@ fn moved_message(rt: HostRuntime) {
 /// node, in a turn and in a tend; after it, both are done.
 #[test]
 fn two_workers(rt: HostRuntime) {
-    let (filer, worker, pass, _other) = open_filer(rt.alloc()).expect(&rt, "no memory");
+    let (filer, worker, pass, _other) = open_filer(rt.alloc(), Volumes::Mixed).expect(
+        &rt,
+        "no memory",
+    );
     let bells = Bells::new(rt.alloc()).expect(&rt, "no memory");
     let Started {
         first,
@@ -192,6 +201,7 @@ fn two_workers(rt: HostRuntime) {
     }
     let looking = Looking {
         rt: &rt,
+        moment: at(9),
         second: Mutex::new(Some(second)),
         met: Mutex::new(None),
     };
@@ -204,6 +214,7 @@ fn two_workers(rt: HostRuntime) {
     };
     let Looking {
         rt: _,
+        moment: _,
         second,
         met: found,
     } = looking;
@@ -252,7 +263,10 @@ const fn cull(volume: u32) -> Tend {
 /// left are free again.
 #[test]
 fn tends(rt: HostRuntime) {
-    let (filer, worker, pass, _other) = open_filer(rt.alloc()).expect(&rt, "no memory");
+    let (filer, worker, pass, _other) = open_filer(rt.alloc(), Volumes::Mixed).expect(
+        &rt,
+        "no memory",
+    );
     let bells = Bells::new(rt.alloc()).expect(&rt, "no memory");
     let Started {
         first,
@@ -344,7 +358,10 @@ fn try_root<'a, R: Abort + AllocGlobal + Wait>(
 /// Modes of the roots of two volumes, of a node that isn't there, and of a volume that isn't.
 #[test]
 fn modes_of_roots(rt: HostRuntime) {
-    let (filer, worker, pass, _other) = open_filer(rt.alloc()).expect(&rt, "no memory");
+    let (filer, worker, pass, _other) = open_filer(rt.alloc(), Volumes::Mixed).expect(
+        &rt,
+        "no memory",
+    );
     let bells = Bells::new(rt.alloc()).expect(&rt, "no memory");
     let Started {
         first,

@@ -13,7 +13,7 @@ use std::sync::Wait;
 use workers::{Filer, Gate, Tend, TendRefusal, Tended, Turned};
 
 /// Puts the answer of a turn.
-fn put_answer<R: Wait>(rt: &R, filer: &Filer, turned: Turned) -> Came {
+pub(crate) fn put_answer<R: Wait>(rt: &R, filer: &Filer, turned: Turned) -> Came {
     match turned {
         Turned::Done(answer) => {
             let came = Came::Done(answer.connection(), answer.xid());

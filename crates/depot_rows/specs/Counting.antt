@@ -1,0 +1,38 @@
+-- Calls that count by one, and what a seat's entries tell of them.
+use Rattle.std.specs.Prelude.{◌≡◌, ℕ, List, map, Option}
+use Rattle.nfs_model.specs.Tree.{Layout, Affinity}
+use Rattle.affinity_tree.specs.Numbers.{number_of, parents}
+use Rattle.affinity_tree.specs.declared.affinity.HasKind as kinds
+use Rattle.parcel_sets.specs.declared.family.Parcel.{Parcel}
+use Rattle.depot.specs.declared.rule.machine.Machine as machines
+use Rattle.depot.specs.declared.rule.view.Entry.{Entry}
+use Rattle.depot.specs.declared.seats.Seat.{Seat}
+use Rattle.depot.specs.declared.trial.adding.Change.{Change}
+use Rattle.depot.specs.declared.trial.adding.Change.TheVariants.{Touch, Read, Add}
+use Rattle.depot.specs.rule.History.{entries_of}
+use Rattle.depot.specs.trial.Adding.{Changes}
+use Rattle.depot.specs.Words.{view}
+
+module _ {P : Type 0} where
+  -- the node's number becomes the sum of what it was and 1, modulo 2^64; all others stay
+  abbrev pub AddsOne : Layout → Affinity → (ℕ → Option (Parcel P ℕ ℕ ℕ ℕ ℕ ℕ ℕ)) → ℕ → (ℕ → Option (Parcel P ℕ ℕ ℕ ℕ ℕ ℕ ℕ)) → Type 0
+  AddsOne layout affinity f sum f' = Changes (parents layout) (number_of layout affinity) (Add 1) f sum f'
+
+-- what a call adds
+abbrev pub added_by : Change → ℕ
+added_by Touch = 0
+added_by Read = 0
+added_by (Add n) = n
+
+-- an entry: the number of its node, what its call added, and its reply
+abbrev pub told : {T : Type 0} → Entry T Change ℕ → ℕ × ℕ × ℕ
+told e = (e.node, added_by e.call, e.reply)
+
+module _ {M T B : Type 0} {G : machines.Ghosts M T Change ℕ B} {K : kinds.Ghosts T} where
+  -- the calls that a seat finished, in their order
+  abbrev pub made_by : Seat M T Change ℕ B G K → List (ℕ × ℕ × ℕ)
+  made_by seat = map told (entries_of (view seat))
+
+  -- the seat has seen what it had seen, and of that it made what it had made
+  abbrev pub HasSeenAsMuch : Seat M T Change ℕ B G K → Seat M T Change ℕ B G K → Type 0
+  HasSeenAsMuch old new = ((view new).seen ≡ (view old).seen) × ((view new).mine ≡ (view old).mine)

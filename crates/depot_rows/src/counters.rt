@@ -1,0 +1,135 @@
+//! Calls that add 1 to the number of their node, of whichever kind that is.
+
+ghost use Rattle.std.specs.Prelude.{◌≡◌, ◌++◌, [], ◌∷◌, None, IfSome};
+ghost use Rattle.nfs_model.specs.Tree as trees;
+ghost use Rattle.parcel_sets.specs.Exact.{HasExactly, kind_in};
+ghost use Rattle.depot.specs.Words.{IsSeatHere};
+ghost use Rattle.depot_rows.specs.Counting.{AddsOne, HasSeenAsMuch, made_by};
+
+use affinity_tree::{Affinity, Kind};
+use depot::trial::adding::{Adding, Change};
+use depot::{Depot, Seat};
+use parcel_sets::{
+    AggrHeld, AggregateNode, LogicalHeld, LogicalNode, Node, Numbers, Parcel, RangeHeld, RangeNode,
+    SerialHeld, SerialNode, StripeHeld, StripeNode, VbnHeld, VbnNode, VolumeHeld, VolumeNode,
+};
+use std::thread;
+
+/// A call that is finished: the number of its node, what it added, and the sum.
+pub(crate) type Made = (u64, u64, u64);
+
+/// Counts up the number of a kind of node.
+pub(crate) trait Counter<N: Node<Parcel<Numbers>>> {
+    /// Adds 1 to the node's own number, modulo 2^64, and gives the sum.
+    fn add_one(held: &mut N::Held) -> u64
+        ensures exact { (layout : trees.Layout) (node : trees.Affinity)
+            → HasExactly kind_in layout node (N.parcels layout node held.old)
+            → HasExactly kind_in layout node (N.parcels layout node held.new) }
+        ensures added { (layout : trees.Layout) (node : trees.Affinity)
+            → AddsOne layout node (N.parcels layout node held.old) result
+            (N.parcels layout node held.new) };
+}
+
+/// Counts by one.
+pub(crate) struct One;
+
+impl Counter<RangeNode> for One {
+    fn add_one(held: &mut RangeHeld<Numbers>) -> u64 {
+        held.own = held.own.wrapping_add(1);
+        held.own
+    }
+}
+
+impl Counter<VbnNode> for One {
+    fn add_one(held: &mut VbnHeld<Numbers>) -> u64 {
+        held.own = held.own.wrapping_add(1);
+        held.own
+    }
+}
+
+impl Counter<StripeNode> for One {
+    fn add_one(held: &mut StripeHeld<Numbers>) -> u64 {
+        held.own = held.own.wrapping_add(1);
+        held.own
+    }
+}
+
+impl Counter<LogicalNode> for One {
+    fn add_one(held: &mut LogicalHeld<Numbers>) -> u64 {
+        held.own = held.own.wrapping_add(1);
+        held.own
+    }
+}
+
+impl Counter<VolumeNode> for One {
+    fn add_one(held: &mut VolumeHeld<Numbers>) -> u64 {
+        held.own = held.own.wrapping_add(1);
+        held.own
+    }
+}
+
+impl Counter<AggregateNode> for One {
+    fn add_one(held: &mut AggrHeld<Numbers>) -> u64 {
+        held.own = held.own.wrapping_add(1);
+        held.own
+    }
+}
+
+impl Counter<SerialNode> for One {
+    fn add_one(held: &mut SerialHeld<Numbers>) -> u64 {
+        held.own = held.own.wrapping_add(1);
+        held.own
+    }
+}
+
+/// A call on a node of a kind. Other threads may run in its midst. Nothing where it was refused, or
+/// where there is no such node: the seat has then seen and made what it had.
+fn attempt<N: Node<Parcel<Numbers>>, C: Counter<N>>(
+    depot: &Depot<Adding>,
+    seat: &mut Seat<Adding>,
+    affinity: Affinity,
+) -> Option<Made>
+    requires seat { IsSeatHere depot.now seat.old }
+    ensures seat { IsSeatHere depot.now seat.new }
+    ensures made { IfSome result (λ made. made_by seat.new ≡ made_by seat.old ++ made ∷ []) }
+    ensures refused { result ≡ None → HasSeenAsMuch seat.old seat.new }
+{
+    if affinity.kind() != N::KIND {
+        return None;
+    }
+    if !depot.layout().contains(affinity) {
+        return None;
+    }
+    match depot.begin::<N>(seat, affinity) {
+        Ok(mut grant) => {
+            thread::yield_now();
+            let sum = C::add_one(grant.held());
+            depot.finish(seat, grant, &Change::Add(1), &sum);
+            let node = depot.layout().number_of(affinity) as u64;
+            Some((node, 1, sum))
+        }
+        Err(_refusal) => None,
+    }
+}
+
+/// A call on a node of any kind.
+pub(crate) fn attempt_any(
+    depot: &Depot<Adding>,
+    seat: &mut Seat<Adding>,
+    affinity: Affinity,
+) -> Option<Made>
+    requires seat { IsSeatHere depot.now seat.old }
+    ensures seat { IsSeatHere depot.now seat.new }
+    ensures made { IfSome result (λ made. made_by seat.new ≡ made_by seat.old ++ made ∷ []) }
+    ensures refused { result ≡ None → HasSeenAsMuch seat.old seat.new }
+{
+    match affinity.kind() {
+        Kind::Range => attempt::<RangeNode, One>(depot, seat, affinity),
+        Kind::VolumeVbn => attempt::<VbnNode, One>(depot, seat, affinity),
+        Kind::Stripe => attempt::<StripeNode, One>(depot, seat, affinity),
+        Kind::VolumeLogical => attempt::<LogicalNode, One>(depot, seat, affinity),
+        Kind::Volume => attempt::<VolumeNode, One>(depot, seat, affinity),
+        Kind::Aggregate => attempt::<AggregateNode, One>(depot, seat, affinity),
+        Kind::Serial => attempt::<SerialNode, One>(depot, seat, affinity),
+    }
+}

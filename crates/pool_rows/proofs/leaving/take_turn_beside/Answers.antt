@@ -1,0 +1,7 @@
+use denote.Exit.{no}
+use denote.Param.Send.{param_send, arg_send}
+use Rattle.pool_rows.proofs.Crossing.{closure-send}
+use Rattle.pool_rows.proofs.leaving.take_turn_beside.Goals as goal
+
+pub join-requires-send-F : goal.join-requires-send-F
+join-requires-send-F g c κs within = param_send 1 _ (arg_send _ no _ (closure-send _ _ _ _ _ c.type_bounds.sync-R))

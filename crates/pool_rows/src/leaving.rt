@@ -1,0 +1,480 @@
+//! What workers of a filer leave without threads: a batch in a hand, and a message for which the
+//! queue had no place.
+
+ghost use Rattle.std.specs.Prelude.{◌≡◌, ◌<◌, [], ◌∷◌, IfOk, IfSome};
+ghost use Rattle.std.specs.Arc.{arc_value};
+ghost use Rattle.server.specs.pool.Gathered.{IsLeftOf};
+ghost use Rattle.pool_rows.specs.Threads.{AreAlone, AreSplitOf, HasPut, IsOpened};
+ghost use Rattle.pool_rows.specs.Threads.{IsReaderOf, IsStill};
+ghost use Rattle.workers.specs.Running.{IsRun};
+ghost use Rattle.workers.specs.Words.{seats_in, IsIn};
+
+use crate::calls::{ROOT, create, handle};
+use crate::ending::{Stopped, end};
+use crate::opening::{Volumes, open_filer};
+use crate::putting::{FilerPass, put, record_of};
+use crate::replies::{LOOKS, connect};
+use crate::turns::came::Came;
+use crate::turns::turning::put_answer;
+use nfs_values::{BlockNumber, Call, ConnectionNumber, Moment, VolumeNumber};
+use outboxes::bells::Bells;
+use parcel_sets::{Hand, SerialHeld};
+use parcels::Files;
+use server::pool::{Ended, Room, gather};
+use std::alloc::{AllocError, Global};
+use std::process::Abort;
+use std::sync::{Arc, Wait};
+use std::thread;
+use std::thread::Threads;
+use workers::{BatchInHand, Filer, Gate, Message, Place, Stage, Tend, Unwatched, Worker};
+
+/// Gathers what workers leave.
+fn leave<R: Wait>(
+    rt: &R,
+    alloc: Global,
+    filer: Arc<Filer>,
+    workers: Vec<Worker>,
+    first: FilerPass,
+    second: FilerPass,
+) -> Result<Stopped, AllocError>
+    requires { AreAlone (arc_value filer) workers.items first second }
+    ensures { IfOk result (λ stopped. IsLeftOf (arc_value stopped.filer) stopped.left) }
+{
+    let passes = vec![in alloc; first, second]?;
+    let left = gather(&filer, rt, workers, passes, Room::new(alloc)?);
+    Ok(Stopped { filer, left })
+}
+
+/// A list of a worker.
+fn list_one(alloc: Global, worker: Worker) -> Result<Vec<Worker>, AllocError>
+    ensures { IfOk result (λ workers. workers.items ≡ worker ∷ []) }
+{
+    let workers = vec![in alloc; worker]?;
+    Ok(workers)
+}
+
+/// A list of two workers.
+fn list_two(alloc: Global, first: Worker, second: Worker) -> Result<Vec<Worker>, AllocError>
+    ensures { IfOk result (λ workers. workers.items ≡ first ∷ second ∷ []) }
+{
+    let workers = vec![in alloc; first, second]?;
+    Ok(workers)
+}
+
+/// A second worker is split off, and fetches from volume 0's range.
+fn fetch_by_second(filer: &Filer, worker: Worker) -> (Worker, Worker)
+    requires inside { IsIn filer.now worker }
+    requires some { 1 < seats_in worker }
+    ensures { AreSplitOf filer.now worker (result.0 ∷ result.1 ∷ []) }
+{
+    let (first, second) = worker.split(filer);
+    let fetch = Tend::Fetch {
+        volume: VolumeNumber(0),
+        range: 0,
+    };
+    let (second, _answer) = second.tend_turn(filer, fetch);
+    (first, second)
+}
+
+/// Splits a second worker off, which fetches, and gathers what both leave.
+fn leave_fetched<R: Wait>(
+    rt: &R,
+    alloc: Global,
+    filer: Arc<Filer>,
+    worker: Worker,
+    first: FilerPass,
+    second: FilerPass,
+) -> Result<Stopped, AllocError>
+    requires { IsOpened (arc_value filer) worker first second }
+    ensures { IfOk result (λ stopped. IsLeftOf (arc_value stopped.filer) stopped.left) }
+{
+    let (one, other) = fetch_by_second(&filer, worker);
+    match list_two(alloc, one, other) {
+        Ok(workers) => leave(rt, alloc, filer, workers, first, second),
+        Err(refused) => Err(refused),
+    }
+}
+
+/// A filer of which one of two workers has fetched, and which is then closed.
+fn fetched<R: Wait>(rt: &R, alloc: Global) -> Option<Ended> {
+    let Ok((filer, worker, first, second)) = open_filer(alloc, Volumes::Alike) else {
+        return None;
+    };
+    match leave_fetched(rt, alloc, filer, worker, first, second) {
+        Ok(stopped) => end(stopped),
+        Err(_refused) => None,
+    }
+}
+
+/// How many block numbers of volume 0's range are free.
+fn free_of(parcels: &SerialHeld<Files>) -> Option<usize> {
+    let aggregate = parcels.aggregates.at[0].as_ref()?;
+    let volume = aggregate.volumes.at[0].as_ref()?;
+    let range = volume.vbn.ranges.at[0].as_ref()?;
+    Some(range.own.get().free_count())
+}
+
+/// A hand with free blocks of a volume: how many there are, and the first and the last of them.
+type Held = (u32, usize, Option<BlockNumber>, Option<BlockNumber>);
+
+/// What is in a hand, if it has free blocks.
+fn held_in(hand: &BatchInHand) -> Option<Held> {
+    match hand.hand() {
+        Hand::Empty => None,
+        Hand::Fresh { volume, batch } => {
+            let blocks = batch.as_slice();
+            let ends = (blocks.first().copied(), blocks.last().copied());
+            Some((*volume, batch.len(), ends.0, ends.1))
+        }
+        Hand::Dead { .. } => None,
+    }
+}
+
+/// 64 blocks that a worker has fetched are left in its hand, and the others are free.
+#[test]
+fn a_batch_is_left(rt: HostRuntime) {
+    let ended = fetched(&rt, rt.alloc()).expect(&rt, "no memory");
+    assert_eq!(rt; ended.hands.len(), 1);
+    let hand = held_in(&ended.hands[0]);
+    let blocks = (Some(BlockNumber(0)), Some(BlockNumber(63)));
+    assert_eq!(rt; hand, Some((0, 64, blocks.0, blocks.1)));
+    assert_eq!(rt; free_of(&ended.parcels), Some(960));
+    assert_eq!(rt; (ended.kept.len(), ended.waiting.len()), (0, 0));
+}
+
+/// How many messages the queue has room for.
+const PLACES: u32 = 1024;
+
+/// The xid of the message that is put while the queue is full but for one place.
+const LATE: u32 = 1025;
+
+/// The call of a message by its xid: 0 makes file 2, 1 writes its first block, and all others ask
+/// for the attributes of a root.
+fn call_of(alloc: Global, xid: u32) -> Result<Call, AllocError>
+    ensures { IfOk result IsRun }
+{
+    match xid {
+        0 => create(alloc, 0, 0),
+        1 => Ok(Call::Write {
+            handle: handle(0, 2),
+            offset: 0,
+            count: 4,
+            bytes: vec![in alloc; 7; 4]?,
+        }),
+        _ => Ok(Call::GetAttributes {
+            handle: handle(1, ROOT),
+        }),
+    }
+}
+
+/// Puts the message of an xid. Where the queue is full it waits for a place.
+fn put_one<R: Wait>(
+    rt: &R,
+    alloc: Global,
+    filer: &Filer,
+    bells: &Bells,
+    pass: &mut FilerPass,
+    connection: ConnectionNumber,
+    xid: u32,
+) -> bool
+    requires { IsReaderOf filer.now pass.old }
+    ensures { HasPut filer.now pass.old pass.new }
+{
+    match call_of(alloc, xid) {
+        Ok(call) => {
+            let origin = record_of(connection, xid);
+            put(rt, alloc, filer, bells, pass, origin, call)
+        }
+        Err(_refused) => false,
+    }
+}
+
+/// Fills the queue, from xid 1 on. Whether it is full.
+fn fill<R: Wait>(
+    rt: &R,
+    alloc: Global,
+    filer: &Filer,
+    bells: &Bells,
+    pass: &mut FilerPass,
+    connection: ConnectionNumber,
+) -> bool
+    requires { IsReaderOf filer.now pass.old }
+    ensures { HasPut filer.now pass.old pass.new }
+{
+    for xid in 1..PLACES + 1 {
+        if !put_one(rt, alloc, filer, bells, pass, connection, xid) {
+            return false;
+        }
+    }
+    true
+}
+
+/// Puts the message that comes late.
+fn put_late<R: Wait>(
+    rt: &R,
+    alloc: Global,
+    filer: &Filer,
+    bells: &Bells,
+    mut pass: FilerPass,
+    connection: ConnectionNumber,
+) -> (FilerPass, bool)
+    requires { IsReaderOf filer.now pass }
+    ensures { HasPut filer.now pass result.0 }
+{
+    let was_put = put_one(rt, alloc, filer, bells, &mut pass, connection, LATE);
+    (pass, was_put)
+}
+
+/// Lets another put a message once a call has begun, and goes on when it has.
+#[derive(Drop)]
+struct Letting<'a> {
+    bells: &'a Bells,
+    // How often the bell was rung that tells of a message.
+    rings: u64,
+}
+
+impl Gate for Letting<'_> {
+    fn pass(&self, place: Place) {
+        if place.stage != Stage::Begun {
+            return;
+        }
+        self.bells.room.ring();
+        for _ in 0..LOOKS {
+            if self.bells.work.rings() != self.rings {
+                return;
+            }
+            thread::yield_now();
+        }
+    }
+}
+
+/// A turn of a worker; its answer is put.
+fn take_turn<R: Wait, G: Gate>(rt: &R, filer: &Filer, worker: Worker, gate: &G) -> (Worker, Came)
+    requires { IsIn filer.now worker }
+    ensures { IsStill filer.now worker result.0 }
+{
+    let moment = Moment {
+        seconds: 2,
+        nanoseconds: 0,
+    };
+    let (worker, turned) = worker.turn(filer, rt, gate, moment);
+    (worker, put_answer(rt, filer, turned))
+}
+
+/// A turn in whose midst another puts a message into the place that is free then.
+fn take_turn_beside<R: Threads + Wait + Sync>(
+    rt: &R,
+    alloc: Global,
+    filer: &Filer,
+    bells: &Bells,
+    worker: Worker,
+    pass: FilerPass,
+    connection: ConnectionNumber,
+) -> ((FilerPass, bool), (Worker, Came))
+    requires inside { IsIn filer.now worker }
+    requires reader { IsReaderOf filer.now pass }
+    ensures put { HasPut filer.now pass result.0.0 }
+    ensures still { IsStill filer.now worker result.1.0 }
+{
+    let rings = bells.work.rings();
+    thread::join(
+        rt,
+        move || -> (FilerPass, bool)
+            requires { IsReaderOf filer.now pass }
+            ensures { HasPut filer.entry.now pass result.0 }
+        { put_late(rt, alloc, filer, bells, pass, connection) },
+        move || -> (Worker, Came)
+            requires { IsIn filer.now worker }
+            ensures { IsStill filer.entry.now worker result.0 }
+        { take_turn(rt, filer, worker, &Letting { bells, rings }) },
+    )
+}
+
+/// A filer whose queue is full, with its only worker and the passes of two who put messages.
+#[derive(Drop)]
+struct Full {
+    filer: Arc<Filer>,
+    bells: Bells,
+    worker: Worker,
+    first: FilerPass,
+    second: FilerPass,
+    connection: ConnectionNumber,
+}
+
+/// Makes file 2 in volume 0, in one turn, and fills the queue. Whether all was done.
+fn fill_up<R: Wait>(
+    rt: &R,
+    alloc: Global,
+    filer: &Filer,
+    bells: &Bells,
+    worker: Worker,
+    mut pass: FilerPass,
+    connection: ConnectionNumber,
+) -> (Worker, FilerPass, bool)
+    requires inside { IsIn filer.now worker }
+    requires reader { IsReaderOf filer.now pass }
+    ensures still { IsStill filer.now worker result.0 }
+    ensures put { HasPut filer.now pass result.1 }
+{
+    let was_put = put_one(rt, alloc, filer, bells, &mut pass, connection, 0);
+    let (worker, came) = take_turn(rt, filer, worker, &Unwatched);
+    let is_full = fill(rt, alloc, filer, bells, &mut pass, connection);
+    let is_made = was_put && came == Came::Done(connection, 0);
+    (worker, pass, is_made && is_full)
+}
+
+/// A filer with file 2 in volume 0, and as many messages as its queue has room for: first a WRITE
+/// that extends the file.
+fn make_full<R: Wait>(rt: &R, alloc: Global) -> Option<Full>
+    ensures { IfSome result (λ f. IsOpened (arc_value f.filer) f.worker f.first f.second) }
+{
+    let Ok((filer, worker, first, second)) = open_filer(alloc, Volumes::Alike) else {
+        return None;
+    };
+    let Ok(bells) = Bells::new(alloc) else {
+        return None;
+    };
+    let connection = connect(rt, &filer)?;
+    let (worker, first, is_full) = fill_up(rt, alloc, &filer, &bells, worker, first, connection);
+    if !is_full {
+        return None;
+    }
+    Some(Full {
+        filer,
+        bells,
+        worker,
+        first,
+        second,
+        connection,
+    })
+}
+
+/// A turn at whose end the queue is full, since another put a message meanwhile. Whether that was
+/// put, and what the turn came to.
+fn turn_beside<R: Threads + Wait + Sync>(rt: &R, alloc: Global, full: Full) -> (Full, bool, Came)
+    requires { IsOpened (arc_value full.filer) full.worker full.first full.second }
+    ensures { let f = result.0 in IsOpened (arc_value f.filer) f.worker f.first f.second }
+{
+    let Full {
+        filer,
+        bells,
+        worker,
+        first,
+        second,
+        connection,
+    } = full;
+    let ((first, was_put), (worker, came)) = take_turn_beside(
+        rt, alloc, &filer, &bells, worker, first, connection,
+    );
+    let full = Full {
+        filer,
+        bells,
+        worker,
+        first,
+        second,
+        connection,
+    };
+    (full, was_put, came)
+}
+
+/// A turn, and what it came to.
+fn turn<R: Wait>(rt: &R, full: Full) -> (Full, Came)
+    requires { IsOpened (arc_value full.filer) full.worker full.first full.second }
+    ensures { let f = result.0 in IsOpened (arc_value f.filer) f.worker f.first f.second }
+{
+    let Full {
+        filer,
+        bells,
+        worker,
+        first,
+        second,
+        connection,
+    } = full;
+    let (worker, came) = take_turn(rt, &filer, worker, &Unwatched);
+    let full = Full {
+        filer,
+        bells,
+        worker,
+        first,
+        second,
+        connection,
+    };
+    (full, came)
+}
+
+/// Gathers what the only worker of a filer leaves.
+fn leave_alone<R: Wait>(
+    rt: &R,
+    alloc: Global,
+    filer: Arc<Filer>,
+    worker: Worker,
+    first: FilerPass,
+    second: FilerPass,
+) -> Result<Stopped, AllocError>
+    requires { IsOpened (arc_value filer) worker first second }
+    ensures { IfOk result (λ stopped. IsLeftOf (arc_value stopped.filer) stopped.left) }
+{
+    match list_one(alloc, worker) {
+        Ok(workers) => leave(rt, alloc, filer, workers, first, second),
+        Err(refused) => Err(refused),
+    }
+}
+
+/// Gathers what the worker of a filer leaves, and closes the filer.
+fn leave_full<R: Wait>(rt: &R, alloc: Global, full: Full) -> Option<Ended>
+    requires { IsOpened (arc_value full.filer) full.worker full.first full.second }
+{
+    let Full {
+        filer,
+        bells: _,
+        worker,
+        first,
+        second,
+        connection: _,
+    } = full;
+    match leave_alone(rt, alloc, filer, worker, first, second) {
+        Ok(stopped) => end(stopped),
+        Err(_refused) => None,
+    }
+}
+
+/// Looks whether messages have the xids from one on.
+fn have_xids(rt: &impl Abort, messages: &[Message], first: u32) {
+    let mut next = first;
+    for message in messages {
+        assert_eq!(rt; message.origin.xid, next);
+        next = next.wrapping_add(1);
+    }
+}
+
+/// A message for which the queue has no place again is kept: nothing is lost, and nothing is there
+/// twice.
+#[test]
+fn a_message_is_kept(rt: HostRuntime) {
+    let full = make_full(&rt, rt.alloc()).expect(&rt, "no memory");
+    let (full, was_put, came) = turn_beside(&rt, rt.alloc(), full);
+    assert_eq!(rt; (was_put, came), (true, Came::Moved));
+    assert!(rt; full.worker.keeps_message());
+    let ended = leave_full(&rt, rt.alloc(), full).expect(&rt, "no memory");
+    assert_eq!(rt; (ended.kept.len(), ended.waiting.len()), (1, 1024));
+    have_xids(&rt, &ended.kept, 1);
+    have_xids(&rt, &ended.waiting, 2);
+}
+
+/// A worker tries the message that it keeps until it is finished, and only then picks another.
+#[test]
+fn a_kept_message_is_tried_first(rt: HostRuntime) {
+    let full = make_full(&rt, rt.alloc()).expect(&rt, "no memory");
+    let (full, was_put, came) = turn_beside(&rt, rt.alloc(), full);
+    assert_eq!(rt; (was_put, came), (true, Came::Moved));
+    let (full, came) = turn(&rt, full);
+    assert_eq!(rt; (came, full.worker.keeps_message()), (Came::Moved, true));
+    let (full, came) = turn(&rt, full);
+    let wanted = Came::Done(full.connection, 1);
+    assert_eq!(rt; (came, full.worker.keeps_message()), (wanted, false));
+    let (full, came) = turn(&rt, full);
+    assert_eq!(rt; came, Came::Done(full.connection, 2));
+    let ended = leave_full(&rt, rt.alloc(), full).expect(&rt, "no memory");
+    assert_eq!(rt; (ended.kept.len(), ended.waiting.len()), (0, 1023));
+    have_xids(&rt, &ended.waiting, 3);
+}
