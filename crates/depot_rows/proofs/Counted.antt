@@ -111,10 +111,10 @@ module _ {P : Type 0} where
       (λ k. in_places (λ a. true) (λ a aggregate. aggregate_parcels layout (trees.Aggregate a) aggregate k) held.aggregates.at (length layout.spare))
       sum refl refl plus
 
-module _ {P : Type 0} where
-  some-some : {A : Type 0} (x y : A) → Some (Some x) ≡ Some (Some y) → x ≡ y
-  some-some x y e = cc
+some-some : {A : Type 0} (x y : A) → Some (Some x) ≡ Some (Some y) → x ≡ y
+some-some x y e = cc
 
+module _ {P : Type 0} where
   -- a set has something in the same places as itself
   volume-itself : (x y : VolumeHeld P ℕ ℕ ℕ ℕ ℕ ℕ ℕ) → x ≡ y → volume_alike x y
   volume-itself x y e = subst (λ (z : VolumeHeld P ℕ ℕ ℕ ℕ ℕ ℕ ℕ). volume_alike x z) e (λ i. refl, λ i. refl)
