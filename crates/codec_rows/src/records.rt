@@ -126,10 +126,7 @@ fn an_empty_record_is_no_call(rt: HostRuntime) {
     let mut reassembler = Reassembler::new(rt.alloc());
     let (taken, step) = fed(&rt, &mut reassembler, &[0x80, 0, 0, 0]);
     let is_fault = match &step {
-        Step::Record(made) => matches!(
-            read_record(rt.alloc(), made),
-            Err(RecordFault::BadHeader)
-        ),
+        Step::Record(made) => matches!(read_record(rt.alloc(), made), Err(RecordFault::BadHeader)),
         _ => false,
     };
     holds(&rt, taken == 4 && is_fault);
