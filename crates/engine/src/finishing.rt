@@ -130,7 +130,8 @@ fn end_in(
     requires known { running.message.origin.connection.0 < length connections.now }
     requires keyed { AreKeyed connections.now slab.old }
     requires owed { (x : _) → slice_get (held_by connections.now slab.old)
-        running.message.origin.connection.0 ≡ Some (Open x) → running.message.room ≤ owed_by x }
+        running.message.origin.connection.0 ≡ Some (Open x) →
+        running.message.room ≤ owed_by x }
     requires fits { length (reply_record running.message.origin.xid (reply_of reply.now))
         ≤ running.message.room }
     ensures ends { EndsAmong calls.old connections.now slab.old running (reply_of reply.now)

@@ -273,7 +273,8 @@ impl<P: Family> AggrHeld<P> {
         requires allowed { AllAllowed (S.allows shelf.old)
             (aggregate_parcels (layout_of layout.now) (affinity_of affinity) self) }
         ensures moved { AllMoved (S.at shelf.new)
-            (aggregate_parcels (layout_of layout.now) (affinity_of affinity) self) (S.at shelf.old) }
+            (aggregate_parcels (layout_of layout.now) (affinity_of affinity) self)
+            (S.at shelf.old) }
         ensures kept { S.keeps shelf.old shelf.new }
     {
         let Affinity::Aggregate(aggregate) = affinity else {

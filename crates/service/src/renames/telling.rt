@@ -20,8 +20,8 @@ pub(crate) fn told(held: &LogicalHeld<Files>, between: Between) -> RenameResults
     requires from { IsWithin (kind_value between.from.inode.kind) }
     requires to { IsWithin (kind_value between.to.inode.kind) }
     requires now { AllWithin held.now.own.inodes.inodes }
-    ensures { (from_name to_name : List ℕ) (s : LogicalSet) → name_moved result ≡ (held_renamed
-        (renaming_in between from_name to_name s) (logical_before held.now)).answer }
+    ensures { (from_name to_name : List ℕ) (s : LogicalSet) → name_moved result ≡
+        (held_renamed (renaming_in between from_name to_name s) (logical_before held.now)).answer }
 {
     let volume = between.volume;
     let from = directory_now(held, between.from);

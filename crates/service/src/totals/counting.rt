@@ -71,7 +71,8 @@ fn count_on(place: &Option<AggrHeld<Files>>, volume: u32) -> VolumeCount
 
 /// The blocks of the volume in a place; none where there is no volume.
 fn count_placed(place: &Option<VolumeHeld<Files>>, volume: u32) -> VolumeCount
-    ensures { (stripes : ℕ) → count_of result ≡ count_in volume (volume_value stripes place.now) }
+    ensures { (stripes : ℕ) →
+        count_of result ≡ count_in volume (volume_value stripes place.now) }
 {
     match place {
         Some(held) => volume_count(held, VolumeNumber(volume)),

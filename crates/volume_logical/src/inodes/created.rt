@@ -5,8 +5,8 @@ ghost use Rattle.std.specs.Prelude.{◌≡◌};
 use nfs_values::Fileid;
 use std::marker::Model;
 
-/// A fileid that an inode was just created under. It is spent, either by `keep` or by
-/// `Inodes::undo_create`, so that a fileid that was kept isn't given again.
+/// A fileid that an inode was just created under. It is spent either by `keep` or by
+/// `Inodes::undo_create`, so that no creation is undone that was kept.
 pub struct Created {
     fileid: Fileid,
 }

@@ -137,8 +137,8 @@ impl Inodes {
         }
     }
 
-    /// Adds an inode, where there are fewer than 65,536 (`len`), under the next fileid. Once that
-    /// is kept it isn't given again. Where there is no memory for it nothing changes.
+    /// Adds an inode, where there are fewer than 65,536 (`len`), under the next fileid. Where there
+    /// is no memory for it nothing changes.
     pub fn create(&mut self, inode: Inode) -> Result<Created, AllocError>
         requires fileids { self.old.next < 2 ^ 63 }
         requires room { len self.old.inodes < most_inodes }
@@ -153,7 +153,7 @@ impl Inodes {
         Ok(Created::of(fileid))
     }
 
-    /// Removes the inode of a fileid, if there is one. Its fileid isn't given again. It takes no
+    /// Removes the inode of a fileid, if there is one; the next fileid stays as it is. It takes no
     /// memory.
     pub fn drop_node(&mut self, fileid: Fileid)
         ensures { self.new ≡ inode_dropped fileid.0 self.old }
