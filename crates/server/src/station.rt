@@ -1,0 +1,80 @@
+//! What a lane's thread has beside its lane.
+
+use crate::ends::Ends;
+use crate::mailbox::Mailbox;
+use crate::notes::Notes;
+use crate::pace::Pace;
+use crate::pool::StartRefusal;
+use mio::{Events, Poll};
+use std::alloc::{AllocError, Global};
+use std::net::{Net, TcpStream};
+use std::sync::Arc;
+
+/// The most events that one poll gives.
+const EVENTS: usize = 128;
+
+/// The most streams that a thread takes from its mailbox without memory.
+const STREAMS: usize = 64;
+
+/// What a lane's thread has beside its lane: what it waits by, what is left for it, and what it
+/// knows of its connections' sockets.
+pub(crate) struct Station {
+    pub(crate) poll: Poll,
+    pub(crate) events: Events,
+    pub(crate) mailbox: Arc<Mailbox>,
+    pub(crate) ends: Arc<Ends>,
+    pub(crate) notes: Notes,
+    pub(crate) pace: Pace,
+    /// Room for the streams of the mailbox.
+    pub(crate) mail: Vec<TcpStream>,
+    /// How often a stream had been left when the mailbox was last emptied.
+    pub(crate) seen: u64,
+}
+
+// By hand, so that crates above have no proof of the drop of each of its parts.
+impl Drop for Station {
+    fn drop(self) {
+        let Station {
+            poll: _,
+            events: _,
+            mailbox: _,
+            ends: _,
+            notes: _,
+            pace: _,
+            mail: _,
+            seen: _,
+        } = self;
+    }
+}
+
+impl From<AllocError> for StartRefusal {
+    fn from(_refused: AllocError) -> StartRefusal {
+        StartRefusal::NoMemory
+    }
+}
+
+impl Station {
+    /// A station whose connections' ends are counted there.
+    pub(crate) fn new(
+        alloc: Global,
+        net: &impl Net,
+        ends: Arc<Ends>,
+    ) -> Result<Station, StartRefusal> {
+        let Ok(poll) = Poll::new(net) else {
+            return Err(StartRefusal::NoThread);
+        };
+        let Ok(mailbox) = Arc::new(alloc, Mailbox::new(alloc, &poll)?) else {
+            return Err(StartRefusal::NoMemory);
+        };
+        Ok(Station {
+            poll,
+            events: Events::with_capacity(alloc, EVENTS)?,
+            mailbox,
+            ends,
+            notes: Notes::new(alloc)?,
+            pace: Pace::new(),
+            mail: Vec::with_capacity(alloc, STREAMS)?,
+            seen: 0,
+        })
+    }
+}

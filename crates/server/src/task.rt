@@ -1,0 +1,51 @@
+//! The thread of a lane.
+
+use crate::serving::serve;
+use crate::socket::Socket;
+use crate::station::Station;
+use lanes::Lane;
+use std::rt::Clock;
+use std::snapshot::Snapshot;
+use std::sync::{Arc, Wait};
+use std::thread;
+use std::thread::{Promise, PromisedHandle, Threads};
+use workers::Filer;
+
+/// A lane, and what its thread has beside it.
+#[derive(Drop)]
+pub(crate) struct Task<R> {
+    pub(crate) lane: Lane<Socket, R>,
+    pub(crate) station: Station,
+}
+
+/// The lane that comes back is of the same filer, and has the seats that this one has.
+#[derive(Drop)]
+pub struct Serves<R> {
+    pub lane: Snapshot<Lane<Socket, R>>,
+}
+
+impl<R> Promise<Lane<Socket, R>> for Serves<R> {
+    ghost kept_by = { λ p lane. Unit {0} };
+}
+
+/// A thread that runs a lane, and gives it back.
+pub(crate) type Thread<R> = PromisedHandle<Lane<Socket, R>, Serves<R>>;
+
+/// Starts a thread for a lane, where one can be made.
+pub(crate) fn start_one<R>(rt: R, task: Task<R>) -> Result<Thread<R>, ()>
+where
+    R: Threads + Wait + Clock + Copy + Drop + Send + 'static,
+{
+    let promise = Serves {
+        lane: Snapshot::of(&task.lane),
+    };
+    let started = thread::spawn_with(
+        &rt,
+        promise,
+        move || -> Lane<Socket, R> {
+            let Task { lane, station } = task;
+            serve(&rt, lane, station)
+        },
+    );
+    started.map_err(|_refused| ())
+}
