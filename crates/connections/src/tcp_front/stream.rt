@@ -6,7 +6,7 @@ use rpc_record::Reassembler;
 use std::alloc::Global;
 
 /// How many records a connection may bring.
-pub const MOST_RECORDS: usize = 1 << 62;
+pub(crate) const MOST_RECORDS: usize = 1 << 62;
 
 /// Where the reading of a connection stands.
 #[derive(Drop)]
@@ -25,6 +25,6 @@ pub enum Stopped {
     Fault(StreamFault),
     /// Memory ran out.
     NoMemory,
-    /// The connection brought `MOST_RECORDS`.
+    /// 2^62 records were read.
     NumbersUsed,
 }
