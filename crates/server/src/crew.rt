@@ -43,7 +43,7 @@ where
 }
 
 /// Waits for the ends of threads, and puts the lanes that they give back behind others.
-pub(crate) fn join_all<R: Threads>(
+pub(crate) fn join_all<R: Threads + Drop>(
     rt: &R,
     mut threads: Vec<Thread<R>>,
     mut lanes: Vec<Lane<Socket, R>>,

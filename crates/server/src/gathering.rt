@@ -1,6 +1,6 @@
 //! All lanes of a filer, put together.
 
-use crate::pool::{Left, Room, drain, push_batch, push_kept};
+use crate::pool::{Left, Room, drain_behind, push_batch, push_kept};
 use crate::socket::Socket;
 use depot::Seat;
 use lanes::{Lane, LaneParts};
@@ -16,7 +16,7 @@ pub(crate) struct Heap {
 
 /// Takes a lane apart: what it carries, keeps and has waiting comes to what others left, and its
 /// seats are answered.
-fn part<R: Wait>(rt: &R, lane: Lane<Socket, R>, heap: Heap) -> (Seat<Service>, Heap) {
+fn part<R: Wait + Drop>(rt: &R, lane: Lane<Socket, R>, heap: Heap) -> (Seat<Service>, Heap) {
     let LaneParts {
         worker,
         queue,
@@ -36,7 +36,7 @@ fn part<R: Wait>(rt: &R, lane: Lane<Socket, R>, heap: Heap) -> (Seat<Service>, H
     push_batch(&mut hands, hand);
     push_kept(&mut kept, message);
     let pass = queue.join_pass(picks, pass);
-    let waiting = drain(&queue, rt, pass, waiting);
+    let waiting = drain_behind(&queue, rt, pass, waiting);
     let heap = Heap {
         hands,
         kept,
@@ -47,7 +47,7 @@ fn part<R: Wait>(rt: &R, lane: Lane<Socket, R>, heap: Heap) -> (Seat<Service>, H
 
 /// Puts all lanes of a filer together. The seats are all 64 of the depot. What the lanes' passes
 /// admitted is, as often, finished, kept or there. It takes no memory.
-pub(crate) fn gather_lanes<R: Wait>(
+pub(crate) fn gather_lanes<R: Wait + Drop>(
     filer: &Filer,
     rt: &R,
     mut lanes: Vec<Lane<Socket, R>>,

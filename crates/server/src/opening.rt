@@ -80,7 +80,7 @@ where
     let mut worker = Worker::start(&filer, &queue, seat, picks);
     for index in 1..count {
         let (theirs, puts, takes) = open_queue(alloc, &filer)?;
-        let (first, second) = worker.split_off(&filer, &queue, &theirs, takes);
+        let (first, second) = worker.split_with(&filer, &queue, &theirs, takes);
         worker = first;
         let shared = Arc::try_clone(&filer)?;
         lanes.push_reserved(Lane::new(

@@ -26,7 +26,7 @@ mod watch;
 
 pub(crate) use carried::{push_batch, push_kept};
 pub use closing::close;
-pub(crate) use draining::drain;
+pub(crate) use draining::drain_behind;
 pub use ended::Ended;
 pub use everything::gather;
 pub use left::Left;

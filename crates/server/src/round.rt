@@ -1,5 +1,6 @@
 //! A round of a lane's thread.
 
+use crate::notes::hear;
 use crate::pace::Pace;
 use crate::socket::Socket;
 use crate::station::Station;
@@ -24,9 +25,12 @@ const STARVED: u64 = 100;
 
 /// How long the next poll waits: not at all where there is something to do, and without an end
 /// only after tends over all volumes and ranges moved nothing, with nothing in the hand.
-fn longest_wait<R: Wait>(lane: &Lane<Socket, R>, station: &mut Station) -> Option<Duration> {
+fn longest_wait<R: Wait + Drop>(lane: &Lane<Socket, R>, station: &mut Station) -> Option<Duration> {
     let pace = &mut station.pace;
-    if lane.waiting() > 0 || !may_rest(lane, pace) || any_is_due(lane, &station.notes) {
+    if station.is_writing || lane.waiting() > 0 {
+        return Some(Duration::ZERO);
+    }
+    if !may_rest(lane, pace) || any_is_due(lane, station.keys) {
         return Some(Duration::ZERO);
     }
     if !lane.worker().has_empty_hand() {
@@ -40,12 +44,12 @@ fn longest_wait<R: Wait>(lane: &Lane<Socket, R>, station: &mut Station) -> Optio
 }
 
 /// Waits until something is to be done, and notes what is told of the sockets.
-fn wait<R: Wait + Clock>(rt: &R, lane: &Lane<Socket, R>, station: &mut Station) {
+fn wait<R: Wait + Clock + Drop>(rt: &R, lane: &mut Lane<Socket, R>, station: &mut Station) {
     let longest = longest_wait(lane, station);
     match station.poll.poll(&mut station.events, longest) {
         Ok(()) => {
             for event in &station.events {
-                station.notes.hear(event);
+                hear(lane, event);
             }
         }
         // It isn't known of any reason. The lane goes on as if nothing was told.
@@ -54,7 +58,7 @@ fn wait<R: Wait + Clock>(rt: &R, lane: &Lane<Socket, R>, station: &mut Station) 
 }
 
 /// Opens connections of the streams that were left, if some were.
-fn take_mail<R: Wait>(rt: &R, lane: &mut Lane<Socket, R>, station: &mut Station) {
+fn take_mail<R: Wait + Drop>(rt: &R, lane: &mut Lane<Socket, R>, station: &mut Station) {
     let left = station.mailbox.left();
     if left == station.seen {
         return;
@@ -63,12 +67,12 @@ fn take_mail<R: Wait>(rt: &R, lane: &mut Lane<Socket, R>, station: &mut Station)
     station.mailbox.take(rt, &mut station.mail);
     while let Some(stream) = station.mail.pop() {
         let registry = station.poll.registry();
-        open(lane, &mut station.notes, registry, &station.ends, stream);
+        open(lane, &mut station.keys, registry, &station.ends, stream);
     }
 }
 
 /// Makes turns until no message waits, or 64. Answers whether the last found none.
-fn run_calls<R: Wait>(lane: &mut Lane<Socket, R>, pace: &mut Pace, moment: Moment) -> bool
+fn run_calls<R: Wait + Drop>(lane: &mut Lane<Socket, R>, pace: &mut Pace, moment: Moment) -> bool
     requires { moment.nanoseconds < 1000000000 }
 {
     for _ in 0..MOST_TURNS {
@@ -98,16 +102,16 @@ fn run_calls<R: Wait>(lane: &mut Lane<Socket, R>, pace: &mut Pace, moment: Momen
 /// A round: what the sockets tell and what was left is taken, each connection is read once, calls
 /// are run, each connection's replies are written once, and then the lane tends once if no message
 /// waits.
-pub(crate) fn round<R: Wait + Clock>(rt: &R, lane: &mut Lane<Socket, R>, station: &mut Station) {
+pub(crate) fn round<R: Wait + Clock + Drop>(rt: &R, lane: &mut Lane<Socket, R>, station: &mut Station) {
     wait(rt, lane, station);
     station.pace.patience.give_way(rt);
     take_mail(rt, lane, station);
-    read_all(lane, &mut station.notes);
+    read_all(lane, &mut station.keys);
     let moment = station.pace.time(rt);
     station.pace.begin_if_due();
     let is_idle = run_calls(lane, &mut station.pace, moment);
-    write_all(lane, &mut station.notes);
-    close_ended(lane, &mut station.notes, &station.ends);
+    station.is_writing = write_all(lane, station.keys);
+    close_ended(lane, station.keys, &station.ends);
     if is_idle {
         tend(lane, &mut station.pace);
     } else {

@@ -118,7 +118,7 @@ fn run<R, W>(
     out: &mut W,
 ) -> Result<Stopped, ServerFault>
 where
-    R: Threads + Wait,
+    R: Threads + Wait + Drop,
     W: Write,
 {
     let Running {

@@ -2,7 +2,7 @@
 
 use crate::ends::Ends;
 use crate::mailbox::Mailbox;
-use crate::notes::Notes;
+use crate::notes::Keys;
 use crate::pace::Pace;
 use crate::pool::StartRefusal;
 use mio::{Events, Poll};
@@ -17,18 +17,20 @@ const EVENTS: usize = 128;
 const STREAMS: usize = 64;
 
 /// What a lane's thread has beside its lane: what it waits by, what is left for it, and what it
-/// knows of its connections' sockets.
+/// keeps between its rounds.
 pub(crate) struct Station {
     pub(crate) poll: Poll,
     pub(crate) events: Events,
     pub(crate) mailbox: Arc<Mailbox>,
     pub(crate) ends: Arc<Ends>,
-    pub(crate) notes: Notes,
+    pub(crate) keys: Keys,
     pub(crate) pace: Pace,
     /// Room for the streams of the mailbox.
     pub(crate) mail: Vec<TcpStream>,
     /// How often a stream had been left when the mailbox was last emptied.
     pub(crate) seen: u64,
+    /// Whether there may be replies that weren't written, though the socket has room.
+    pub(crate) is_writing: bool,
 }
 
 // By hand, so that crates above have no proof of the drop of each of its parts.
@@ -39,10 +41,11 @@ impl Drop for Station {
             events: _,
             mailbox: _,
             ends: _,
-            notes: _,
+            keys: _,
             pace: _,
             mail: _,
             seen: _,
+            is_writing: _,
         } = self;
     }
 }
@@ -71,10 +74,11 @@ impl Station {
             events: Events::with_capacity(alloc, EVENTS)?,
             mailbox,
             ends,
-            notes: Notes::new(alloc)?,
+            keys: Keys::new(),
             pace: Pace::new(),
             mail: Vec::with_capacity(alloc, STREAMS)?,
             seen: 0,
+            is_writing: false,
         })
     }
 }

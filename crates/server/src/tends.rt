@@ -7,7 +7,7 @@ use lanes::Lane;
 use std::sync::Wait;
 
 /// Makes the next tend of a lane, and counts it.
-pub(crate) fn tend<R: Wait>(lane: &mut Lane<Socket, R>, pace: &mut Pace) {
+pub(crate) fn tend<R: Wait + Drop>(lane: &mut Lane<Socket, R>, pace: &mut Pace) {
     let empty = lane.worker().has_empty_hand();
     let next = lane.next_tend(pace.tending.made);
     let found = found_by(lane.tend(next));
@@ -15,13 +15,13 @@ pub(crate) fn tend<R: Wait>(lane: &mut Lane<Socket, R>, pace: &mut Pace) {
 }
 
 /// Puts down what is in the lane's hand, if anything is.
-pub(crate) fn put_down<R: Wait>(lane: &mut Lane<Socket, R>, pace: &mut Pace) {
+pub(crate) fn put_down<R: Wait + Drop>(lane: &mut Lane<Socket, R>, pace: &mut Pace) {
     if !lane.worker().has_empty_hand() {
         tend(lane, pace);
     }
 }
 
 /// Whether tends over all volumes and ranges moved nothing, so that a lane makes none.
-pub(crate) fn may_rest<R: Wait>(lane: &Lane<Socket, R>, pace: &Pace) -> bool {
+pub(crate) fn may_rest<R: Wait + Drop>(lane: &Lane<Socket, R>, pace: &Pace) -> bool {
     pace.tending.may_sleep(lane.filer(), lane.worker())
 }

@@ -1,20 +1,25 @@
 //! The connections of a lane, read and written.
 
 use crate::ends::Ends;
-use crate::notes::{Note, Notes};
+use crate::notes::Keys;
 use crate::socket::Socket;
-use lanes::{Came, Lane, Sent};
+use lanes::{Came, Flags, Lane, Sent};
 use mio::net::TcpStream;
 use mio::{Interest, Registry, Token};
 use std::net;
-use std::rt::Clock;
 use std::sync::Wait;
+
+/// The bytes of a block that is read into, so that fewer are the end of what was there.
+const BLOCK: usize = 262_144;
+
+/// The most writes of one visit, each but the last of which went out whole.
+const MOST_WRITES: usize = 64;
 
 /// Opens a connection of a stream: registered once, for both ways, before the lane has it. Where it
 /// can't be opened it is closed.
-pub(crate) fn open<R: Wait>(
+pub(crate) fn open<R: Wait + Drop>(
     lane: &mut Lane<Socket, R>,
-    notes: &mut Notes,
+    keys: &mut Keys,
     registry: &Registry,
     ends: &Ends,
     stream: net::TcpStream,
@@ -27,75 +32,130 @@ pub(crate) fn open<R: Wait>(
         return;
     }
     match lane.open(socket) {
-        Ok(key) => notes.open(key),
+        Ok(key) => keys.add(key),
         Err(_closed) => ends.add(),
     }
 }
 
-/// Whether a connection has something to read, and may be read.
-fn is_due<R: Wait>(lane: &Lane<Socket, R>, note: Note, key: usize) -> bool {
-    !note.has_ended && (note.is_readable || lane.keeps_bytes(key)) && lane.may_read(key)
+/// Whether a connection has something to read or to cut, and may be read.
+fn is_due<R: Wait + Drop>(lane: &Lane<Socket, R>, key: usize) -> bool {
+    match lane.flags(key) {
+        Some(flags) => {
+            let has_some = flags.is_readable && !flags.has_ended || lane.keeps_bytes(key);
+            has_some && !lane.is_stopped(key) && lane.may_read(key)
+        }
+        None => false,
+    }
 }
 
-/// Whether a connection of a lane has something to read, and may be read.
-pub(crate) fn any_is_due<R: Wait>(lane: &Lane<Socket, R>, notes: &Notes) -> bool {
-    for key in 0..notes.keys {
-        if is_due(lane, notes.at(key), key) {
+/// Whether a connection of a lane has something to read or to cut, and may be read.
+pub(crate) fn any_is_due<R: Wait + Drop>(lane: &Lane<Socket, R>, keys: Keys) -> bool {
+    for key in 0..keys.len() {
+        if is_due(lane, key) {
             return true;
         }
     }
     false
 }
 
-/// Reads a connection once, or cuts what is kept of it.
-fn read<R: Wait>(lane: &mut Lane<Socket, R>, notes: &mut Notes, key: usize) {
-    let mut note = notes.at(key);
-    match lane.read(key) {
-        Came::Full => {}
-        Came::Short => note.is_readable = note.is_ending,
-        Came::Blocked => note.is_readable = false,
-        Came::End => note.has_ended = true,
+/// What is known of a connection after it was read.
+fn after_read(flags: Flags, came: Came) -> Flags {
+    match came {
+        Came::Read(size) => Flags {
+            is_readable: flags.is_closing || size >= BLOCK,
+            ..flags
+        },
+        Came::Blocked => Flags {
+            is_readable: false,
+            ..flags
+        },
+        Came::End => Flags {
+            has_ended: true,
+            ..flags
+        },
+        Came::Failed => Flags {
+            has_ended: true,
+            ..flags
+        },
+        Came::Cut => flags,
+        Came::Full => flags,
+        Came::Stopped => flags,
     }
-    notes.set(key, note);
 }
 
-/// Reads each connection of a lane once that may be read, in each round another one first.
-pub(crate) fn read_all<R: Wait>(lane: &mut Lane<Socket, R>, notes: &mut Notes) {
-    notes.turn();
-    for others in 0..notes.keys {
-        let key = notes.visited(others);
-        if is_due(lane, notes.at(key), key) {
-            read(lane, notes, key);
+/// Reads each connection of a lane once that may be read, or cuts what is kept of it; in each round
+/// another one first.
+pub(crate) fn read_all<R: Wait + Drop>(lane: &mut Lane<Socket, R>, keys: &mut Keys) {
+    keys.turn();
+    for others in 0..keys.len() {
+        let key = keys.visited(others);
+        if !is_due(lane, key) {
+            continue;
+        }
+        let came = lane.read(key);
+        if let Some(flags) = lane.flags(key) {
+            lane.set_flags(key, after_read(flags, came));
         }
     }
 }
 
-/// Writes the replies of each connection that has some, once.
-pub(crate) fn write_all<R: Wait>(lane: &mut Lane<Socket, R>, notes: &mut Notes) {
-    for key in 0..notes.keys {
-        let mut note = notes.at(key);
-        if note.is_open && !note.is_full && lane.has_replies(key) {
-            match lane.write(key) {
-                Sent::All => {}
-                Sent::Blocked => note.is_full = true,
-                Sent::Failed => note.has_ended = true,
+/// Writes the replies of a connection, until there is none or the socket has no room. Answers
+/// whether there may be more.
+fn write<R: Wait + Drop>(lane: &mut Lane<Socket, R>, key: usize, flags: Flags) -> bool {
+    for _ in 0..MOST_WRITES {
+        match lane.write(key) {
+            Sent::More => {}
+            Sent::All => return false,
+            Sent::Blocked => {
+                let flags = Flags {
+                    is_blocked: true,
+                    ..flags
+                };
+                lane.set_flags(key, flags);
+                return false;
             }
-            notes.set(key, note);
+            Sent::Failed => {
+                let flags = Flags {
+                    has_ended: true,
+                    ..flags
+                };
+                lane.set_flags(key, flags);
+                return false;
+            }
         }
+    }
+    true
+}
+
+/// Writes the replies of each connection that has some. Answers whether there may be more.
+pub(crate) fn write_all<R: Wait + Drop>(lane: &mut Lane<Socket, R>, keys: Keys) -> bool {
+    let mut is_left = false;
+    for key in 0..keys.len() {
+        if let Some(flags) = lane.flags(key) {
+            if !flags.is_blocked && lane.has_replies(key) && write(lane, key, flags) {
+                is_left = true;
+            }
+        }
+    }
+    is_left
+}
+
+/// Whether nothing more is read of a connection, and no reply is owed to it.
+fn is_over<R: Wait + Drop>(lane: &Lane<Socket, R>, key: usize) -> bool {
+    match lane.flags(key) {
+        Some(flags) => {
+            let ends = flags.has_ended && !lane.keeps_bytes(key) || lane.is_stopped(key);
+            ends && lane.is_over(key)
+        }
+        None => false,
     }
 }
 
-/// Closes the connections of which nothing more is read and to which no reply is owed.
-pub(crate) fn close_ended<R: Wait>(
-    lane: &mut Lane<Socket, R>,
-    notes: &mut Notes,
-    ends: &Ends,
-) {
-    for key in 0..notes.keys {
-        let note = notes.at(key);
-        if note.is_open && note.has_ended && lane.is_over(key) {
+/// Closes the connections that are over.
+pub(crate) fn close_ended<R: Wait + Drop>(lane: &mut Lane<Socket, R>, keys: Keys, ends: &Ends) {
+    for key in 0..keys.len() {
+        if is_over(lane, key) {
             let _closed = lane.close(key);
-            notes.close(key);
             ends.add();
         }
     }
