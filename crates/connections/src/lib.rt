@@ -24,7 +24,6 @@ pub use connection::{Connection, HandsBack};
 pub use lane::Lane;
 pub use line::Line;
 pub use loan::Loan;
-pub use message::in_room;
 pub use outgoing::Outgoing;
 pub use pool_sink::PoolSink;
 pub use reading::read_connection;
