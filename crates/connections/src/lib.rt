@@ -9,7 +9,7 @@ mod helping;
 mod lane;
 mod line;
 mod loan;
-mod message;
+pub mod message;
 mod opening;
 mod outgoing;
 mod pool_sink;

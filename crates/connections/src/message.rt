@@ -35,7 +35,7 @@ fn with_room(message: affinity_tree::scheduler::Message<OfferedCall>, room: Room
 }
 
 /// The call of a message, with new room for its reply.
-pub(crate) fn in_room(
+pub fn in_room(
     alloc: Global,
     message: affinity_tree::scheduler::Message<OfferedCall>,
 ) -> Result<Message, AllocError>

@@ -5,8 +5,10 @@ ghost use Rattle.workers.specs.Turns.{turned_by, IsTold};
 
 use crate::message::Message;
 use crate::shared::Filer;
+use crate::shared_waiting::SharedWaiting;
 use crate::turned::{Gate, Served, Turned};
 use crate::worker::Worker;
+use affinity_tree::Layout;
 use depot::Refusal;
 use nfs_values::Moment;
 use std::sync::Wait;
@@ -34,10 +36,32 @@ pub(crate) fn told(served: Served) -> (Option<Message>, Turned)
 
 impl Worker {
     ghost use Rattle.workers.specs.Turns.{Did, HasShareOf};
-    ghost use Rattle.workers.specs.Words.{layout_in, passed, seats_in, IsIn};
+    ghost use Rattle.workers.specs.Words.{layout_in, passed, seats_in, IsAt, IsIn};
 
-    /// Tries the call of the message that is kept, or else of the one that waits longest: begins it
-    /// on what it tries, runs it, and finishes it or puts it back.
+    /// Tries the call of the message that is kept, or else of the one that waits longest in a queue:
+    /// begins it on what it tries, runs it, and finishes it or puts it back.
+    pub fn turn_in<R: Wait, G: Gate>(
+        &mut self,
+        filer: &Filer,
+        queue: &SharedWaiting<Message, Layout>,
+        rt: &R,
+        gate: &G,
+        moment: Moment,
+    ) -> Turned
+        requires { IsAt filer.now queue.now self.old }
+        ensures inside { IsAt filer.now queue.now self.new }
+        ensures did { Did (layout_in filer.now) self.old moment result self.new }
+        ensures share { HasShareOf (passed self.old) (passed self.new) }
+        ensures seats { seats_in self.new ≡ seats_in self.old }
+        ensures hand { self.new.hand ≡ self.old.hand }
+    {
+        self.pick(filer, queue, rt);
+        let turned = self.try_kept(filer, queue, gate, moment);
+        self.put(filer, queue, rt);
+        turned
+    }
+
+    /// A turn in the filer's own queue.
     pub fn turn<R: Wait, G: Gate>(
         self,
         filer: &Filer,
@@ -52,7 +76,8 @@ impl Worker {
         ensures seats { seats_in result.0 ≡ seats_in self }
         ensures hand { result.0.hand ≡ self.hand }
     {
-        let (worker, turned) = self.pick(filer, rt).try_kept(filer, gate, moment);
-        (worker.put(filer, rt), turned)
+        let mut worker = self;
+        let turned = worker.turn_in(filer, &filer.waiting, rt, gate, moment);
+        (worker, turned)
     }
 }
