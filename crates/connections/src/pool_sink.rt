@@ -92,6 +92,10 @@ impl<'a, R: Wait + Clock> RecordSink for PoolSink<'a, R> {
 
     ghost layout = { λ s. layout_in s.filer.now };
 
+    fn has_room(&self) -> bool {
+        true
+    }
+
     fn admit(
         &mut self,
         message: affinity_tree::scheduler::Message<OfferedCall>,
