@@ -6,4 +6,8 @@ pub mod Cutting
 pub mod Reading
 pub mod Joining
 pub mod Writing
+pub mod Intakes
+pub mod Story
+pub mod Lanes
+pub mod Parting
 pub mod lemmas

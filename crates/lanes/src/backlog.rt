@@ -91,5 +91,4 @@ impl Backlog {
         self.bytes.try_reserve_exact(bytes.len())?;
         self.bytes.extend_from_slice(bytes)
     }
-
 }

@@ -6,7 +6,9 @@ mod backlog;
 mod connection;
 mod cutting;
 mod device;
+mod intake;
 mod joining;
+mod lane;
 mod reading;
 mod rest;
 mod told;
@@ -15,6 +17,8 @@ mod writing;
 
 pub use connection::{Connection, Flags};
 pub use device::{Device, answer_of};
+pub use intake::Intake;
+pub use lane::{Lane, LaneParts};
 pub use reading::Came;
 pub use told::Told;
 pub use watched::Watched;

@@ -34,12 +34,7 @@ impl<D: Device> Connection<D> {
 
     /// Goes on reading: cuts what was kept, or reads once and cuts what came, and gives on the
     /// records. What the sink has no room for is kept.
-    pub fn read<S: RecordSink>(
-        &mut self,
-        sink: &mut S,
-        layout: &Layout,
-        block: &mut [u8],
-    ) -> Came
+    pub fn read<S: RecordSink>(&mut self, sink: &mut S, layout: &Layout, block: &mut [u8]) -> Came
         requires some { 0 < length block.old }
         requires layout { S.layout sink.old ≡ layout_of layout.now }
         ensures read { HasRead D.unread D.written S.came S.room (layout_of layout.now) self.old

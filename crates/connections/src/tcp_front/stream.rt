@@ -6,7 +6,7 @@ use rpc_record::Reassembler;
 use std::alloc::Global;
 
 /// How many records a connection may bring.
-pub(crate) const MOST_RECORDS: usize = 1 << 62;
+pub const MOST_RECORDS: usize = 1 << 62;
 
 /// Where the reading of a connection stands.
 #[derive(Drop)]
@@ -25,6 +25,6 @@ pub enum Stopped {
     Fault(StreamFault),
     /// Memory ran out.
     NoMemory,
-    /// 2^62 records were read.
+    /// The connection brought `MOST_RECORDS`.
     NumbersUsed,
 }

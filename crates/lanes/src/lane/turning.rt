@@ -1,0 +1,65 @@
+//! Turns of a lane.
+
+ghost use Rattle.std.specs.Prelude.{◌≡◌};
+ghost use Rattle.slab.specs.Slab.{get};
+ghost use Rattle.lanes.specs.Lanes.{IsPutAs};
+
+use crate::device::Device;
+use crate::lane::Lane;
+use nfs_values::Moment;
+use outboxes::Outboxes;
+use std::sync::Wait;
+use workers::{Gate, Turned, Worked};
+
+/// Puts the answer of a turn, if it has one, and tells what the turn came to.
+fn put_answer(outboxes: &mut Outboxes, turned: Turned) -> Worked
+    ensures { IsPutAs turned outboxes.old result outboxes.new }
+{
+    match turned {
+        Turned::Done(answer) => {
+            let connection = answer.connection();
+            outboxes.put(answer);
+            Worked::Done(connection)
+        }
+        Turned::Moved => Worked::Moved,
+        Turned::Busy { node, word } => Worked::Busy { node, word },
+        Turned::Worn => Worked::Worn,
+        Turned::Idle => Worked::Idle,
+    }
+}
+
+/// How many messages wait after a turn.
+fn left_after(waiting: usize, worked: &Worked) -> usize {
+    match worked {
+        Worked::Done(_) => waiting.saturating_sub(1),
+        _ => waiting,
+    }
+}
+
+impl<D: Device, R: Wait> Lane<D, R> {
+    ghost use Rattle.std.specs.Arc.{arc_value};
+    ghost use Rattle.workers.specs.shared_waiting.Passes.{known};
+    ghost use Rattle.workers.specs.Words.{layout_in};
+    ghost use Rattle.lanes.specs.Lanes.{HasTurned};
+
+    /// Tries the call of the message that its worker keeps, or else of the one that waits longest
+    /// (`Worker::turn_in`), and puts the answer, if there is one, into the outboxes.
+    pub fn turn<G: Gate>(&mut self, gate: &G, moment: Moment) -> Worked
+        ensures turned { HasTurned (layout_in (arc_value self.old.filer)) self.old.worker moment
+            self.old.intake.outboxes result self.new.worker self.new.intake.outboxes }
+        ensures pass { known self.new.intake.pass ≡ known self.old.intake.pass }
+        ensures connections { self.new.connections ≡ self.old.connections }
+        ensures filer { arc_value self.new.filer ≡ arc_value self.old.filer }
+    {
+        let turned = self.worker.turn_in(
+            &self.filer,
+            &self.intake.queue,
+            &self.intake.rt,
+            gate,
+            moment,
+        );
+        let worked = put_answer(&mut self.intake.outboxes, turned);
+        self.intake.waiting = left_after(self.intake.waiting, &worked);
+        worked
+    }
+}
