@@ -83,13 +83,11 @@ where
         let (first, second) = worker.split_with(&filer, &queue, &theirs, takes);
         worker = first;
         let shared = Arc::try_clone(&filer)?;
-        lanes.push_reserved(Lane::new(
-            rt, alloc, shared, theirs, puts, second, index, count,
-        )?);
+        let lane = Lane::new(rt, alloc, shared, theirs, puts, second, index, count);
+        lanes.push_reserved(lane);
     }
     let shared = Arc::try_clone(&filer)?;
-    lanes.push_reserved(Lane::new(
-        rt, alloc, shared, queue, admits, worker, 0, count,
-    )?);
+    let lane = Lane::new(rt, alloc, shared, queue, admits, worker, 0, count);
+    lanes.push_reserved(lane);
     Ok((filer, lanes))
 }

@@ -1,6 +1,6 @@
 //! A round of a lane's thread.
 
-use crate::notes::hear;
+use crate::hearing::hear;
 use crate::pace::Pace;
 use crate::socket::Socket;
 use crate::station::Station;
@@ -25,7 +25,7 @@ const STARVED: u64 = 100;
 
 /// How long the next poll waits: not at all where there is something to do, and without an end
 /// only after tends over all volumes and ranges moved nothing, with nothing in the hand.
-fn longest_wait<R: Wait + Drop>(lane: &Lane<Socket, R>, station: &mut Station) -> Option<Duration> {
+fn longest_wait<R: Wait>(lane: &Lane<Socket, R>, station: &mut Station) -> Option<Duration> {
     let pace = &mut station.pace;
     if station.is_writing || lane.waiting() > 0 {
         return Some(Duration::ZERO);
@@ -44,7 +44,7 @@ fn longest_wait<R: Wait + Drop>(lane: &Lane<Socket, R>, station: &mut Station) -
 }
 
 /// Waits until something is to be done, and notes what is told of the sockets.
-fn wait<R: Wait + Clock + Drop>(rt: &R, lane: &mut Lane<Socket, R>, station: &mut Station) {
+fn wait<R: Wait + Clock>(rt: &R, lane: &mut Lane<Socket, R>, station: &mut Station) {
     let longest = longest_wait(lane, station);
     match station.poll.poll(&mut station.events, longest) {
         Ok(()) => {
@@ -58,7 +58,7 @@ fn wait<R: Wait + Clock + Drop>(rt: &R, lane: &mut Lane<Socket, R>, station: &mu
 }
 
 /// Opens connections of the streams that were left, if some were.
-fn take_mail<R: Wait + Drop>(rt: &R, lane: &mut Lane<Socket, R>, station: &mut Station) {
+fn take_mail<R: Wait>(rt: &R, lane: &mut Lane<Socket, R>, station: &mut Station) {
     let left = station.mailbox.left();
     if left == station.seen {
         return;
@@ -72,7 +72,7 @@ fn take_mail<R: Wait + Drop>(rt: &R, lane: &mut Lane<Socket, R>, station: &mut S
 }
 
 /// Makes turns until no message waits, or 64. Answers whether the last found none.
-fn run_calls<R: Wait + Drop>(lane: &mut Lane<Socket, R>, pace: &mut Pace, moment: Moment) -> bool
+fn run_calls<R: Wait>(lane: &mut Lane<Socket, R>, pace: &mut Pace, moment: Moment) -> bool
     requires { moment.nanoseconds < 1000000000 }
 {
     for _ in 0..MOST_TURNS {
@@ -102,15 +102,15 @@ fn run_calls<R: Wait + Drop>(lane: &mut Lane<Socket, R>, pace: &mut Pace, moment
 /// A round: what the sockets tell and what was left is taken, each connection is read once, calls
 /// are run, each connection's replies are written once, and then the lane tends once if no message
 /// waits.
-pub(crate) fn round<R: Wait + Clock + Drop>(rt: &R, lane: &mut Lane<Socket, R>, station: &mut Station) {
+pub(crate) fn round<R: Wait + Clock>(rt: &R, lane: &mut Lane<Socket, R>, station: &mut Station) {
     wait(rt, lane, station);
     station.pace.patience.give_way(rt);
     take_mail(rt, lane, station);
-    read_all(lane, &mut station.keys);
+    read_all(lane, &mut station.keys, &mut station.buffers);
     let moment = station.pace.time(rt);
     station.pace.begin_if_due();
     let is_idle = run_calls(lane, &mut station.pace, moment);
-    station.is_writing = write_all(lane, station.keys);
+    station.is_writing = write_all(lane, station.keys, &mut station.buffers);
     close_ended(lane, station.keys, &station.ends);
     if is_idle {
         tend(lane, &mut station.pace);

@@ -8,7 +8,7 @@ use std::rt::Clock;
 use std::sync::Wait;
 
 /// Runs a lane, round for round, until its thread is told to stop.
-pub(crate) fn serve<R: Wait + Clock + Drop>(
+pub(crate) fn serve<R: Wait + Clock>(
     rt: &R,
     lane: Lane<Socket, R>,
     station: Station,

@@ -1,8 +1,10 @@
 //! What a lane's thread has beside its lane.
 
+ghost use Rattle.std.specs.Prelude.{◌<◌, length};
+
 use crate::ends::Ends;
 use crate::mailbox::Mailbox;
-use crate::notes::Keys;
+use crate::keys::Keys;
 use crate::pace::Pace;
 use crate::pool::StartRefusal;
 use mio::{Events, Poll};
@@ -10,11 +12,32 @@ use std::alloc::{AllocError, Global};
 use std::net::{Net, TcpStream};
 use std::sync::Arc;
 
+/// The most bytes of one read, and of one write of replies that are joined.
+const BLOCK: usize = 262_144;
+
 /// The most events that one poll gives.
 const EVENTS: usize = 128;
 
 /// The most streams that a thread takes from its mailbox without memory.
 const STREAMS: usize = 64;
+
+/// What a lane reads into, and what it joins replies in.
+#[derive(Drop)]
+pub(crate) struct Buffers {
+    pub(crate) block: Vec<u8>,
+    pub(crate) buffer: Vec<u8>,
+    ghost some: { 0 < length block.items },
+}
+
+impl Buffers {
+    /// 256 KiB of each.
+    fn new(alloc: Global) -> Result<Buffers, AllocError> {
+        Ok(Buffers {
+            block: vec![in alloc; 0; BLOCK]?,
+            buffer: Vec::with_capacity(alloc, BLOCK)?,
+        })
+    }
+}
 
 /// What a lane's thread has beside its lane: what it waits by, what is left for it, and what it
 /// keeps between its rounds.
@@ -24,6 +47,7 @@ pub(crate) struct Station {
     pub(crate) mailbox: Arc<Mailbox>,
     pub(crate) ends: Arc<Ends>,
     pub(crate) keys: Keys,
+    pub(crate) buffers: Buffers,
     pub(crate) pace: Pace,
     /// Room for the streams of the mailbox.
     pub(crate) mail: Vec<TcpStream>,
@@ -42,6 +66,7 @@ impl Drop for Station {
             mailbox: _,
             ends: _,
             keys: _,
+            buffers: _,
             pace: _,
             mail: _,
             seen: _,
@@ -75,6 +100,7 @@ impl Station {
             mailbox,
             ends,
             keys: Keys::new(),
+            buffers: Buffers::new(alloc)?,
             pace: Pace::new(),
             mail: Vec::with_capacity(alloc, STREAMS)?,
             seen: 0,

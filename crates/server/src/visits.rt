@@ -1,23 +1,21 @@
 //! The connections of a lane, read and written.
 
 use crate::ends::Ends;
-use crate::notes::Keys;
+use crate::keys::Keys;
 use crate::socket::Socket;
-use lanes::{Came, Flags, Lane, Sent};
+use crate::station::Buffers;
+use lanes::{Came, Connection, Flags, Lane, Sent};
 use mio::net::TcpStream;
 use mio::{Interest, Registry, Token};
 use std::net;
 use std::sync::Wait;
 
-/// The bytes of a block that is read into, so that fewer are the end of what was there.
-const BLOCK: usize = 262_144;
-
-/// The most writes of one visit, each but the last of which went out whole.
+/// The most writes of one visit. Each but the last went out whole.
 const MOST_WRITES: usize = 64;
 
 /// Opens a connection of a stream: registered once, for both ways, before the lane has it. Where it
 /// can't be opened it is closed.
-pub(crate) fn open<R: Wait + Drop>(
+pub(crate) fn open<R>(
     lane: &mut Lane<Socket, R>,
     keys: &mut Keys,
     registry: &Registry,
@@ -37,19 +35,24 @@ pub(crate) fn open<R: Wait + Drop>(
     }
 }
 
+/// Whether a connection has something to read or to cut.
+fn has_more(connection: &Connection<Socket>) -> bool {
+    let flags = connection.flags();
+    connection.has_kept() || flags.is_readable && !flags.has_ended
+}
+
 /// Whether a connection has something to read or to cut, and may be read.
-fn is_due<R: Wait + Drop>(lane: &Lane<Socket, R>, key: usize) -> bool {
-    match lane.flags(key) {
-        Some(flags) => {
-            let has_some = flags.is_readable && !flags.has_ended || lane.keeps_bytes(key);
-            has_some && !lane.is_stopped(key) && lane.may_read(key)
+fn is_due<R>(lane: &Lane<Socket, R>, key: usize) -> bool {
+    match lane.connection(key) {
+        Some(connection) => {
+            has_more(connection) && !connection.is_stopped() && lane.may_owe(connection.owed())
         }
         None => false,
     }
 }
 
 /// Whether a connection of a lane has something to read or to cut, and may be read.
-pub(crate) fn any_is_due<R: Wait + Drop>(lane: &Lane<Socket, R>, keys: Keys) -> bool {
+pub(crate) fn any_is_due<R>(lane: &Lane<Socket, R>, keys: Keys) -> bool {
     for key in 0..keys.len() {
         if is_due(lane, key) {
             return true;
@@ -58,11 +61,11 @@ pub(crate) fn any_is_due<R: Wait + Drop>(lane: &Lane<Socket, R>, keys: Keys) -> 
     false
 }
 
-/// What is known of a connection after it was read.
-fn after_read(flags: Flags, came: Came) -> Flags {
+/// What is known of a connection after it was read into a block of this size.
+fn after_read(flags: Flags, came: Came, block: usize) -> Flags {
     match came {
         Came::Read(size) => Flags {
-            is_readable: flags.is_closing || size >= BLOCK,
+            is_readable: flags.is_closing || size >= block,
             ..flags
         },
         Came::Blocked => Flags {
@@ -83,43 +86,57 @@ fn after_read(flags: Flags, came: Came) -> Flags {
     }
 }
 
+/// Reads a connection once, or cuts what is kept of it.
+fn read<R: Wait>(lane: &mut Lane<Socket, R>, key: usize, buffers: &mut Buffers) {
+    let came = lane.read(key, &mut buffers.block);
+    if let Some(connection) = lane.connection(key) {
+        let flags = after_read(connection.flags(), came, buffers.block.len());
+        lane.set_flags(key, flags);
+    }
+}
+
 /// Reads each connection of a lane once that may be read, or cuts what is kept of it; in each round
 /// another one first.
-pub(crate) fn read_all<R: Wait + Drop>(lane: &mut Lane<Socket, R>, keys: &mut Keys) {
+pub(crate) fn read_all<R: Wait>(
+    lane: &mut Lane<Socket, R>,
+    keys: &mut Keys,
+    buffers: &mut Buffers,
+) {
     keys.turn();
     for others in 0..keys.len() {
         let key = keys.visited(others);
-        if !is_due(lane, key) {
-            continue;
+        if is_due(lane, key) {
+            read(lane, key, buffers);
         }
-        let came = lane.read(key);
-        if let Some(flags) = lane.flags(key) {
-            lane.set_flags(key, after_read(flags, came));
+    }
+}
+
+/// Whether replies may wait for a connection, and its socket may have room.
+fn is_writable<R>(lane: &Lane<Socket, R>, key: usize) -> bool {
+    match lane.connection(key) {
+        Some(connection) => {
+            !connection.flags().is_blocked && (connection.owed() > 0 || connection.has_rest())
         }
+        None => false,
     }
 }
 
 /// Writes the replies of a connection, until there is none or the socket has no room. Answers
 /// whether there may be more.
-fn write<R: Wait + Drop>(lane: &mut Lane<Socket, R>, key: usize, flags: Flags) -> bool {
+fn write<R>(lane: &mut Lane<Socket, R>, key: usize, buffers: &mut Buffers) -> bool {
     for _ in 0..MOST_WRITES {
-        match lane.write(key) {
+        match lane.write(key, &mut buffers.buffer) {
             Sent::More => {}
             Sent::All => return false,
+            Sent::Failed => return false,
             Sent::Blocked => {
-                let flags = Flags {
-                    is_blocked: true,
-                    ..flags
-                };
-                lane.set_flags(key, flags);
-                return false;
-            }
-            Sent::Failed => {
-                let flags = Flags {
-                    has_ended: true,
-                    ..flags
-                };
-                lane.set_flags(key, flags);
+                if let Some(connection) = lane.connection(key) {
+                    let flags = Flags {
+                        is_blocked: true,
+                        ..connection.flags()
+                    };
+                    lane.set_flags(key, flags);
+                }
                 return false;
             }
         }
@@ -127,32 +144,35 @@ fn write<R: Wait + Drop>(lane: &mut Lane<Socket, R>, key: usize, flags: Flags) -
     true
 }
 
-/// Writes the replies of each connection that has some. Answers whether there may be more.
-pub(crate) fn write_all<R: Wait + Drop>(lane: &mut Lane<Socket, R>, keys: Keys) -> bool {
+/// Writes the replies of each connection that may have some. Answers whether there may be more.
+pub(crate) fn write_all<R>(
+    lane: &mut Lane<Socket, R>,
+    keys: Keys,
+    buffers: &mut Buffers,
+) -> bool {
     let mut is_left = false;
     for key in 0..keys.len() {
-        if let Some(flags) = lane.flags(key) {
-            if !flags.is_blocked && lane.has_replies(key) && write(lane, key, flags) {
-                is_left = true;
-            }
+        if is_writable(lane, key) && write(lane, key, buffers) {
+            is_left = true;
         }
     }
     is_left
 }
 
-/// Whether nothing more is read of a connection, and no reply is owed to it.
-fn is_over<R: Wait + Drop>(lane: &Lane<Socket, R>, key: usize) -> bool {
-    match lane.flags(key) {
-        Some(flags) => {
-            let ends = flags.has_ended && !lane.keeps_bytes(key) || lane.is_stopped(key);
-            ends && lane.is_over(key)
+/// Whether nothing more is read of a connection and no reply is owed to it, or its device failed.
+fn is_over<R>(lane: &Lane<Socket, R>, key: usize) -> bool {
+    match lane.connection(key) {
+        Some(connection) => {
+            let is_read = connection.is_stopped()
+                || connection.flags().has_ended && !connection.has_kept();
+            connection.is_broken() || is_read && connection.owed() == 0 && !connection.has_rest()
         }
         None => false,
     }
 }
 
 /// Closes the connections that are over.
-pub(crate) fn close_ended<R: Wait + Drop>(lane: &mut Lane<Socket, R>, keys: Keys, ends: &Ends) {
+pub(crate) fn close_ended<R>(lane: &mut Lane<Socket, R>, keys: Keys, ends: &Ends) {
     for key in 0..keys.len() {
         if is_over(lane, key) {
             let _closed = lane.close(key);

@@ -1,9 +1,4 @@
-//! What the sockets of a lane's connections tell. The system tells of a change once.
-
-use crate::socket::Socket;
-use lanes::{Flags, Lane};
-use mio::event::Event;
-use std::sync::Wait;
+//! The keys of a lane's connections.
 
 /// The keys of a lane's connections, as a round goes over them.
 #[derive(Clone, Copy)]
@@ -48,26 +43,5 @@ impl Keys {
         } else {
             key - self.end
         }
-    }
-}
-
-/// What an event tells of a connection.
-fn heard(flags: Flags, event: &Event) -> Flags {
-    let failed = event.is_error();
-    let ends = event.is_read_closed() || failed;
-    Flags {
-        is_readable: flags.is_readable || event.is_readable() || ends,
-        is_closing: flags.is_closing || ends,
-        is_blocked: flags.is_blocked
-            && !(event.is_writable() || event.is_write_closed() || failed),
-        ..flags
-    }
-}
-
-/// Notes what an event tells of the connection of its token, if one has it.
-pub(crate) fn hear<R: Wait + Drop>(lane: &mut Lane<Socket, R>, event: &Event) {
-    let key = event.token().0;
-    if let Some(flags) = lane.flags(key) {
-        lane.set_flags(key, heard(flags, event));
     }
 }
