@@ -1,5 +1,7 @@
 //! What the system tells of the sockets of a lane's connections. It tells of each change once.
 
+ghost use Rattle.server.specs.Lanes.{Stays};
+
 use crate::socket::Socket;
 use lanes::{Flags, Lane};
 use mio::event::Event;
@@ -18,7 +20,9 @@ fn after_event(flags: Flags, event: &Event) -> Flags {
 }
 
 /// Keeps what an event tells of the connection of its token, if one has it.
-pub(crate) fn hear<R>(lane: &mut Lane<Socket, R>, event: &Event) {
+pub(crate) fn hear<R>(lane: &mut Lane<Socket, R>, event: &Event)
+    ensures { Stays lane.old lane.new }
+{
     let key = event.token().0;
     if let Some(connection) = lane.connection(key) {
         let flags = after_event(connection.flags(), event);

@@ -16,6 +16,8 @@ mod options;
 mod pace;
 mod patience;
 pub mod pool;
+mod remains;
+mod room;
 mod round;
 mod running;
 mod serve_fault;

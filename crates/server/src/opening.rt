@@ -1,6 +1,9 @@
 //! A filer that is opened, with its lanes.
 
-ghost use Rattle.std.specs.Prelude.{◌≤◌, ◌<◌};
+ghost use Rattle.std.specs.Prelude.{◌≡◌, ◌≤◌, ◌<◌, [], Some, IfOk, vec_len, vec_capacity};
+ghost use Rattle.std.specs.Arc.{arc_value};
+ghost use Rattle.server.specs.Lanes.{AreLanesOf, IsLaneOf};
+ghost use Rattle.server.specs.Queues.{IsNewQueue, IsReadyLane};
 
 use crate::fault::ServerFault;
 use crate::options::MOST_VOLUMES;
@@ -43,22 +46,50 @@ pub(crate) fn verifier_now<R: Clock>(rt: &R) -> [u8; 8] {
     }
 }
 
-/// An empty queue of a filer's layout, with a pass for who puts messages and one for who picks
-/// them.
-fn open_queue(
-    alloc: Global,
-    filer: &Filer,
-) -> Result<
-    (
-        SharedWaiting<Message, Layout>,
-        Pass<Message, Layout>,
-        Pass<Message, Layout>,
-    ),
-    AllocError,
-> {
+/// A queue, with a pass for who puts messages and one for who picks them.
+#[derive(Drop)]
+pub(crate) struct Queue {
+    pub(crate) queue: SharedWaiting<Message, Layout>,
+    pub(crate) admits: Pass<Message, Layout>,
+    pub(crate) picks: Pass<Message, Layout>,
+}
+
+/// An empty queue of a filer's layout.
+fn open_queue(alloc: Global, filer: &Filer) -> Result<Queue, AllocError>
+    ensures { IfOk result (IsNewQueue filer.now) }
+{
     let (queue, pass) = SharedWaiting::new(alloc, filer.depot().layout())?;
     let (admits, picks) = queue.split_pass(pass);
-    Ok((queue, admits, picks))
+    Ok(Queue {
+        queue,
+        admits,
+        picks,
+    })
+}
+
+/// A lane of a worker, the first of so many lanes or another.
+fn open_lane<R>(
+    rt: R,
+    alloc: Global,
+    filer: &Arc<Filer>,
+    queue: SharedWaiting<Message, Layout>,
+    admits: Pass<Message, Layout>,
+    worker: Worker,
+    lane: usize,
+    lanes: usize,
+) -> Result<Lane<Socket, R>, AllocError>
+where
+    R: Drop,
+    requires lane { lane < lanes }
+    requires few { lanes ≤ 64 }
+    requires ready { IsReadyLane (arc_value filer.now) queue admits worker }
+    ensures of { IfOk result (λ opened. IsLaneOf (arc_value filer.now) opened) }
+    ensures worker { IfOk result (λ opened. opened.worker ≡ worker) }
+{
+    let filer = Arc::try_clone(filer)?;
+    Ok(Lane::new(
+        rt, alloc, filer, queue, admits, worker, lane, lanes,
+    ))
 }
 
 /// So many lanes of a filer, which have all its seats between them.
@@ -71,23 +102,39 @@ pub(crate) fn open_lanes<R>(
     mut lanes: Vec<Lane<Socket, R>>,
 ) -> Result<(Arc<Filer>, Vec<Lane<Socket, R>>), AllocError>
 where
-    R: Wait + Copy + Drop,
-    requires { (0 < count) × (count ≤ 64) }
+    R: Copy + Drop,
+    requires count { (0 < count) × (count ≤ 64) }
+    requires none { lanes.items ≡ [] }
+    requires room { count ≤ vec_capacity lanes }
+    ensures lanes { IfOk result (λ made. AreLanesOf (arc_value made.0) made.1.items) }
+    ensures count { IfOk result (λ made. vec_len made.1 ≡ count) }
+    ensures room { IfOk result (λ made. vec_capacity made.1 ≡ vec_capacity lanes) }
 {
     let (filer, seat, _pass) = Filer::new(alloc, layout, verifier)?;
     let filer = Arc::new(alloc, filer)?;
-    let (queue, admits, picks) = open_queue(alloc, &filer)?;
+    let Queue {
+        queue,
+        admits,
+        picks,
+    } = open_queue(alloc, &filer)?;
     let mut worker = Worker::start(&filer, &queue, seat, picks);
     for index in 1..count {
-        let (theirs, puts, takes) = open_queue(alloc, &filer)?;
-        let (first, second) = worker.split_with(&filer, &queue, &theirs, takes);
+        let theirs = open_queue(alloc, &filer)?;
+        let (first, second) = worker.split_with(&filer, &queue, &theirs.queue, theirs.picks);
         worker = first;
-        let shared = Arc::try_clone(&filer)?;
-        let lane = Lane::new(rt, alloc, shared, theirs, puts, second, index, count);
+        let lane = open_lane(
+            rt,
+            alloc,
+            &filer,
+            theirs.queue,
+            theirs.admits,
+            second,
+            index,
+            count,
+        )?;
         lanes.push_reserved(lane);
     }
-    let shared = Arc::try_clone(&filer)?;
-    let lane = Lane::new(rt, alloc, shared, queue, admits, worker, 0, count);
+    let lane = open_lane(rt, alloc, &filer, queue, admits, worker, 0, count)?;
     lanes.push_reserved(lane);
     Ok((filer, lanes))
 }

@@ -1,5 +1,8 @@
 //! A round of a lane's thread.
 
+ghost use Rattle.std.specs.Prelude.{IfNone};
+ghost use Rattle.server.specs.Lanes.{IsAtRest, Stays};
+
 use crate::hearing::hear;
 use crate::pace::Pace;
 use crate::socket::Socket;
@@ -25,7 +28,9 @@ const STARVED: u64 = 100;
 
 /// How long the next poll waits: not at all where there is something to do, and without an end
 /// only after tends over all volumes and ranges moved nothing, with nothing in the hand.
-fn longest_wait<R: Wait>(lane: &Lane<Socket, R>, station: &mut Station) -> Option<Duration> {
+fn longest_wait<R>(lane: &Lane<Socket, R>, station: &mut Station) -> Option<Duration>
+    ensures { IfNone result (IsAtRest lane.now station.old.pace.tending) }
+{
     let pace = &mut station.pace;
     if station.is_writing || lane.waiting() > 0 {
         return Some(Duration::ZERO);
@@ -44,7 +49,9 @@ fn longest_wait<R: Wait>(lane: &Lane<Socket, R>, station: &mut Station) -> Optio
 }
 
 /// Waits until something is to be done, and notes what is told of the sockets.
-fn wait<R: Wait + Clock>(rt: &R, lane: &mut Lane<Socket, R>, station: &mut Station) {
+fn wait<R: Wait + Clock>(rt: &R, lane: &mut Lane<Socket, R>, station: &mut Station)
+    ensures { Stays lane.old lane.new }
+{
     let longest = longest_wait(lane, station);
     match station.poll.poll(&mut station.events, longest) {
         Ok(()) => {
@@ -58,7 +65,9 @@ fn wait<R: Wait + Clock>(rt: &R, lane: &mut Lane<Socket, R>, station: &mut Stati
 }
 
 /// Opens connections of the streams that were left, if some were.
-fn take_mail<R: Wait>(rt: &R, lane: &mut Lane<Socket, R>, station: &mut Station) {
+fn take_mail<R: Wait>(rt: &R, lane: &mut Lane<Socket, R>, station: &mut Station)
+    ensures { Stays lane.old lane.new }
+{
     let left = station.mailbox.left();
     if left == station.seen {
         return;
@@ -73,7 +82,7 @@ fn take_mail<R: Wait>(rt: &R, lane: &mut Lane<Socket, R>, station: &mut Station)
 
 /// Makes turns until no message waits, or 64. Answers whether the last found none.
 fn run_calls<R: Wait>(lane: &mut Lane<Socket, R>, pace: &mut Pace, moment: Moment) -> bool
-    requires { moment.nanoseconds < 1000000000 }
+    ensures { Stays lane.old lane.new }
 {
     for _ in 0..MOST_TURNS {
         if lane.waiting() == 0 && may_rest(lane, pace) {
@@ -102,7 +111,9 @@ fn run_calls<R: Wait>(lane: &mut Lane<Socket, R>, pace: &mut Pace, moment: Momen
 /// A round: what the sockets tell and what was left is taken, each connection is read once, calls
 /// are run, each connection's replies are written once, and then the lane tends once if no message
 /// waits.
-pub(crate) fn round<R: Wait + Clock>(rt: &R, lane: &mut Lane<Socket, R>, station: &mut Station) {
+pub(crate) fn round<R: Wait + Clock>(rt: &R, lane: &mut Lane<Socket, R>, station: &mut Station)
+    ensures { Stays lane.old lane.new }
+{
     wait(rt, lane, station);
     station.pace.patience.give_way(rt);
     take_mail(rt, lane, station);

@@ -1,14 +1,26 @@
 //! A server, from its start to what is left.
 
+ghost use Rattle.std.specs.Prelude.{◌≡◌, ◌<◌, ◌≤◌, ◌+◌, [], List, All, IfOk, OnOk, IfSome};
+ghost use Rattle.std.specs.Prelude.{vec_len, vec_capacity};
+ghost use Rattle.std.specs.Arc.{arc_value};
+ghost use Rattle.depot.specs.rule.Sums.{total};
+ghost use Rattle.lanes.specs.declared.lane.Lane as laned;
+ghost use Rattle.server.specs.Ends.{HasClosed};
+ghost use Rattle.server.specs.Lanes.{seats_of, IsLaneOf};
+ghost use Rattle.server.specs.Threads.{seats_for, AreThreadsOf, IsTaskFor};
+ghost use Rattle.server.specs.declared.socket.Socket as sockets;
+ghost use Rattle.workers.specs.declared.shared.Filer as filers;
+
 use crate::accepting::accept_all;
 use crate::crew::{Mail, join_all, start_all};
 use crate::ending::end;
 use crate::ends::Ends;
 use crate::fault::{ServerFault, of_serving, of_start};
-use crate::gathering::gather_lanes;
+use crate::mailbox::Mailbox;
 use crate::opening::{layout_of, open_lanes, verifier_now};
 use crate::options::Options;
-use crate::pool::{Left, Room};
+use crate::pool::Ended;
+use crate::room::Room;
 use crate::socket::Socket;
 use crate::station::Station;
 use crate::task::{Task, Thread};
@@ -22,22 +34,47 @@ use std::sync::{Arc, Wait};
 use std::thread::Threads;
 use workers::Filer;
 
-/// A filer whose lanes run.
+/// A filer whose lanes run, and room for the lanes that come back and for what they leave.
 #[derive(Drop)]
 struct Running<R> {
     filer: Arc<Filer>,
     mail: Mail,
     threads: Vec<Thread<R>>,
-    /// Room for the lanes that come back.
     lanes: Vec<Lane<Socket, R>>,
     room: Room,
+    ghost none_back: { lanes.items ≡ [] },
+    ghost wide: { (vec_len threads ≤ vec_capacity lanes) × (vec_len threads ≤ room.lanes) },
 }
 
-/// A filer whose threads have ended.
-#[derive(Drop)]
-struct Stopped {
-    filer: Arc<Filer>,
-    left: Left,
+/// Gives each of these lanes what its thread will have beside it.
+fn man_all<R: Net>(
+    rt: &R,
+    alloc: Global,
+    ends: &Arc<Ends>,
+    lanes: &mut Vec<Lane<Socket, R>>,
+    tasks: &mut Vec<Task<R>>,
+    boxes: &mut Vec<Arc<Mailbox>>,
+) -> Result<(), ServerFault>
+    requires tasks { vec_len tasks.old + vec_len lanes.old ≤ vec_capacity tasks.old }
+    requires boxes { vec_len boxes.old + vec_len lanes.old ≤ vec_capacity boxes.old }
+    ensures none { OnOk result (lanes.new.items ≡ []) }
+    ensures room { vec_capacity lanes.new ≡ vec_capacity lanes.old }
+    ensures len { vec_len tasks.new ≤ vec_len tasks.old + vec_len lanes.old }
+    ensures of { (filer : filers.Filer) → All (IsLaneOf filer) lanes.old.items
+        → All (IsTaskFor filer) tasks.old.items → All (IsTaskFor filer) tasks.new.items }
+    ensures seats { OnOk result (total seats_for tasks.new.items
+        ≡ total seats_for tasks.old.items + total seats_of lanes.old.items) }
+{
+    while let Some(lane) = lanes.pop() {
+        let ends = Arc::try_clone(ends)?;
+        let station = match Station::new(alloc, rt, ends) {
+            Ok(station) => station,
+            Err(refusal) => return Err(of_start(refusal)),
+        };
+        boxes.push_reserved(Arc::try_clone(&station.mailbox)?);
+        tasks.push_reserved(Task { lane, station });
+    }
+    Ok(())
 }
 
 /// Opens a filer with so many lanes, and starts their threads. Where one can't be started those
@@ -50,25 +87,20 @@ fn start<R>(
 ) -> Result<Running<R>, ServerFault>
 where
     R: Threads + Wait + Clock + Net + Copy + Drop + Send + 'static,
+    requires { (0 < workers) × (workers ≤ 64) }
+    ensures { IfOk result (λ r. AreThreadsOf (arc_value r.filer) r.threads.items) }
 {
     let lanes = Vec::with_capacity(alloc, workers)?;
     let mut threads = Vec::with_capacity(alloc, workers)?;
     let mut tasks = Vec::with_capacity(alloc, workers)?;
     let mut boxes = Vec::with_capacity(alloc, workers)?;
-    let room = Room::new(alloc)?;
+    let room = Room::new(alloc, workers)?;
     let ends = match Arc::new(alloc, Ends::new()) {
         Ok(ends) => ends,
         Err(_refused) => return Err(ServerFault::NoMemory),
     };
     let (filer, mut lanes) = open_lanes(rt, alloc, layout, verifier_now(&rt), workers, lanes)?;
-    while let Some(lane) = lanes.pop() {
-        let station = match Station::new(alloc, &rt, Arc::try_clone(&ends)?) {
-            Ok(station) => station,
-            Err(refusal) => return Err(of_start(refusal)),
-        };
-        boxes.push_reserved(Arc::try_clone(&station.mailbox)?);
-        tasks.push_reserved(Task { lane, station });
-    }
+    man_all(&rt, alloc, &ends, &mut lanes, &mut tasks, &mut boxes)?;
     let mail = Mail { boxes, ends };
     if !start_all(rt, &mut tasks, &mut threads) {
         mail.stop();
@@ -109,17 +141,21 @@ fn accept<R: Wait, W: Write>(
 }
 
 /// Serves so many connections of a listener to their ends, and stops the lanes. Where one can't be
-/// accepted no more are, and those that are open are closed.
+/// accepted no more are, and those that are open are closed. What is left of a filer that was
+/// served to its end comes back, where none else has it.
 fn run<R, W>(
     rt: &R,
     listener: &TcpListener,
     connections: u64,
     running: Running<R>,
     out: &mut W,
-) -> Result<Stopped, ServerFault>
+) -> Result<Option<Ended>, ServerFault>
 where
     R: Threads + Wait + Drop,
     W: Write,
+    requires { AreThreadsOf (arc_value running.filer) running.threads.items }
+    ensures { IfOk result (λ left. IfSome left (λ ended. (lanes : List (laned.Lane sockets.Socket R))
+        × HasClosed (arc_value running.filer) lanes ended)) }
 {
     let Running {
         filer,
@@ -132,11 +168,16 @@ where
     mail.stop();
     let lanes = join_all(rt, threads, lanes);
     match accepted {
-        Ok(()) => {
-            let left = gather_lanes(&filer, rt, lanes, room);
-            Ok(Stopped { filer, left })
-        }
+        Ok(()) => Ok(end(rt, filer, lanes, room)),
         Err(fault) => Err(fault),
+    }
+}
+
+/// How many messages weren't finished.
+fn count_left(ended: &Option<Ended>) -> usize {
+    match ended {
+        Some(ended) => ended.kept.len() + ended.waiting.len(),
+        None => 0,
     }
 }
 
@@ -156,8 +197,7 @@ where
 {
     let layout = layout_of(alloc, options.volumes)?;
     let running = start(rt, alloc, layout, options.workers)?;
-    let Stopped { filer, left } = run(&rt, listener, options.connections, running, out)?;
-    let count = left.kept.len() + left.waiting.len();
-    let _ended = end(filer, left);
+    let ended = run(&rt, listener, options.connections, running, out)?;
+    let count = count_left(&ended);
     writeln!(out, "left {count}").map_err(|_| ServerFault::Output)
 }

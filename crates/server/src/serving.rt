@@ -1,5 +1,7 @@
 //! The loop of a lane's thread.
 
+ghost use Rattle.server.specs.Lanes.{Stays};
+
 use crate::round::round;
 use crate::socket::Socket;
 use crate::station::Station;
@@ -12,7 +14,9 @@ pub(crate) fn serve<R: Wait + Clock>(
     rt: &R,
     lane: Lane<Socket, R>,
     station: Station,
-) -> Lane<Socket, R> {
+) -> Lane<Socket, R>
+    ensures { Stays lane result }
+{
     let mut lane = lane;
     let mut station = station;
     for _ in rt.forever() {

@@ -1,5 +1,9 @@
 //! The thread of a lane.
 
+ghost use Rattle.server.specs.Lanes.{Stays};
+ghost use Rattle.server.specs.Threads.{started_with};
+ghost use Rattle.std.specs.Prelude.{◌≡◌, IfOk};
+
 use crate::serving::serve;
 use crate::socket::Socket;
 use crate::station::Station;
@@ -25,7 +29,11 @@ pub struct Serves<R> {
 }
 
 impl<R> Promise<Lane<Socket, R>> for Serves<R> {
-    ghost kept_by = { λ p lane. Unit {0} };
+    ghost use Rattle.server.specs.Lanes.{Stays};
+ghost use Rattle.server.specs.Threads.{started_with};
+ghost use Rattle.std.specs.Prelude.{◌≡◌, IfOk};
+
+    ghost kept_by = { λ p lane. Stays p.lane.value lane };
 }
 
 /// A thread that runs a lane, and gives it back.
@@ -35,6 +43,7 @@ pub(crate) type Thread<R> = PromisedHandle<Lane<Socket, R>, Serves<R>>;
 pub(crate) fn start_one<R>(rt: R, task: Task<R>) -> Result<Thread<R>, ()>
 where
     R: Threads + Wait + Clock + Copy + Drop + Send + 'static,
+    ensures { IfOk result (λ thread. started_with thread ≡ task.lane) }
 {
     let promise = Serves {
         lane: Snapshot::of(&task.lane),
@@ -42,7 +51,9 @@ where
     let started = thread::spawn_with(
         &rt,
         promise,
-        move || -> Lane<Socket, R> {
+        move || -> Lane<Socket, R>
+            ensures { Stays task.lane result }
+        {
             let Task { lane, station } = task;
             serve(&rt, lane, station)
         },

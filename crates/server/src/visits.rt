@@ -1,5 +1,7 @@
 //! The connections of a lane, read and written.
 
+ghost use Rattle.server.specs.Lanes.{Stays};
+
 use crate::ends::Ends;
 use crate::keys::Keys;
 use crate::socket::Socket;
@@ -21,7 +23,9 @@ pub(crate) fn open<R>(
     registry: &Registry,
     ends: &Ends,
     stream: net::TcpStream,
-) {
+)
+    ensures { Stays lane.old lane.new }
+{
     let token = Token(lane.next_key());
     let mut socket = Socket(TcpStream::from_std(stream));
     let both = Interest::READABLE | Interest::WRITABLE;
@@ -87,7 +91,9 @@ fn after_read(flags: Flags, came: Came, block: usize) -> Flags {
 }
 
 /// Reads a connection once, or cuts what is kept of it.
-fn read<R: Wait>(lane: &mut Lane<Socket, R>, key: usize, buffers: &mut Buffers) {
+fn read<R: Wait>(lane: &mut Lane<Socket, R>, key: usize, buffers: &mut Buffers)
+    ensures { Stays lane.old lane.new }
+{
     let came = lane.read(key, &mut buffers.block);
     if let Some(connection) = lane.connection(key) {
         let flags = after_read(connection.flags(), came, buffers.block.len());
@@ -101,7 +107,9 @@ pub(crate) fn read_all<R: Wait>(
     lane: &mut Lane<Socket, R>,
     keys: &mut Keys,
     buffers: &mut Buffers,
-) {
+)
+    ensures { Stays lane.old lane.new }
+{
     keys.turn();
     for others in 0..keys.len() {
         let key = keys.visited(others);
@@ -123,7 +131,9 @@ fn is_writable<R>(lane: &Lane<Socket, R>, key: usize) -> bool {
 
 /// Writes the replies of a connection, until there is none or the socket has no room. Answers
 /// whether there may be more.
-fn write<R>(lane: &mut Lane<Socket, R>, key: usize, buffers: &mut Buffers) -> bool {
+fn write<R>(lane: &mut Lane<Socket, R>, key: usize, buffers: &mut Buffers) -> bool
+    ensures { Stays lane.old lane.new }
+{
     for _ in 0..MOST_WRITES {
         match lane.write(key, &mut buffers.buffer) {
             Sent::More => {}
@@ -149,7 +159,9 @@ pub(crate) fn write_all<R>(
     lane: &mut Lane<Socket, R>,
     keys: Keys,
     buffers: &mut Buffers,
-) -> bool {
+) -> bool
+    ensures { Stays lane.old lane.new }
+{
     let mut is_left = false;
     for key in 0..keys.len() {
         if is_writable(lane, key) && write(lane, key, buffers) {
@@ -172,7 +184,9 @@ fn is_over<R>(lane: &Lane<Socket, R>, key: usize) -> bool {
 }
 
 /// Closes the connections that are over.
-pub(crate) fn close_ended<R>(lane: &mut Lane<Socket, R>, keys: Keys, ends: &Ends) {
+pub(crate) fn close_ended<R>(lane: &mut Lane<Socket, R>, keys: Keys, ends: &Ends)
+    ensures { Stays lane.old lane.new }
+{
     for key in 0..keys.len() {
         if is_over(lane, key) {
             let _closed = lane.close(key);

@@ -9,7 +9,7 @@ use workers::{Tend, TendRefusal, Tended};
 impl<D: Device, R> Lane<D, R> {
     ghost use Rattle.std.specs.Arc.{arc_value};
     ghost use Rattle.workers.specs.Tends.{Tends};
-    ghost use Rattle.workers.specs.Words.{layout_in};
+    ghost use Rattle.workers.specs.Words.{layout_in, seats_in};
 
     /// Does something with the batch of block numbers in its worker's hand (`Worker::tend_in`).
     pub fn tend(&mut self, tend: Tend) -> Result<Tended, TendRefusal>
@@ -17,6 +17,7 @@ impl<D: Device, R> Lane<D, R> {
             self.new.worker }
         ensures intake { self.new.intake ≡ self.old.intake }
         ensures connections { self.new.connections ≡ self.old.connections }
+        ensures seats { seats_in self.new.worker ≡ seats_in self.old.worker }
         ensures filer { arc_value self.new.filer ≡ arc_value self.old.filer }
     {
         self.worker.tend_in(&self.filer, &self.intake.queue, tend)

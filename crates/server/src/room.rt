@@ -1,0 +1,37 @@
+//! The room for what lanes leave.
+
+ghost use Rattle.std.specs.Prelude.{◌≡◌, ◌≤◌, ◌*◌, [], IfOk, vec_capacity};
+
+use std::alloc::{AllocError, Global};
+use workers::{BatchInHand, Message};
+
+/// The most messages that wait in a lane's queue.
+const MOST_WAITING: usize = 1024;
+
+/// Room for all that so many lanes can leave: a batch and a message of each, and the messages that
+/// wait. Who has it puts the lanes together without memory.
+#[derive(Drop)]
+pub(crate) struct Room {
+    pub(crate) lanes: usize,
+    pub(crate) hands: Vec<BatchInHand>,
+    pub(crate) kept: Vec<Message>,
+    pub(crate) waiting: Vec<Message>,
+    ghost empty: { (hands.items ≡ []) × (kept.items ≡ []) × (waiting.items ≡ []) },
+    ghost wide: { (lanes ≤ vec_capacity hands) × (lanes ≤ vec_capacity kept)
+        × (1024 * lanes ≤ vec_capacity waiting) },
+}
+
+impl Room {
+    /// Room for 1 to 64 lanes.
+    pub(crate) fn new(alloc: Global, lanes: usize) -> Result<Room, AllocError>
+        requires { lanes ≤ 64 }
+        ensures { IfOk result (λ room. room.lanes ≡ lanes) }
+    {
+        Ok(Room {
+            lanes,
+            hands: Vec::with_capacity(alloc, lanes)?,
+            kept: Vec::with_capacity(alloc, lanes)?,
+            waiting: Vec::with_capacity(alloc, MOST_WAITING * lanes)?,
+        })
+    }
+}
