@@ -8,13 +8,14 @@ use workers::shared_waiting::{Pass, SharedWaiting};
 use workers::{Message, Worker};
 
 /// The worker of a lane, its queue, and the pass that only admitted.
+#[derive(Drop)]
 pub struct LaneParts {
     pub worker: Worker,
     pub queue: SharedWaiting<Message, Layout>,
     pub pass: Pass<Message, Layout>,
 }
 
-impl<D: Device, R> Lane<D, R> {
+impl<D: Device + Drop, R: Drop> Lane<D, R> {
     ghost use Rattle.std.specs.Prelude.{◌≡◌, []};
     ghost use Rattle.std.specs.Arc.{arc_value};
     ghost use Rattle.workers.specs.shared_waiting.Passes.{known, IsOf};
