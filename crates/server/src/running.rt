@@ -47,7 +47,7 @@ struct Running<R> {
 }
 
 /// Gives each of these lanes what its thread will have beside it.
-fn man_all<R: Net>(
+fn man_all<R: Net + Drop>(
     rt: &R,
     alloc: Global,
     ends: &Arc<Ends>,
