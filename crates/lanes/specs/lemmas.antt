@@ -1,1 +1,6 @@
 pub mod Taking
+<<<<<<< HEAD
+=======
+pub mod Writing
+pub mod Reading
+>>>>>>> h2
