@@ -1,6 +1,4 @@
 pub mod Taking
-<<<<<<< HEAD
-=======
 pub mod Writing
 pub mod Reading
->>>>>>> h2
+pub mod Coming
