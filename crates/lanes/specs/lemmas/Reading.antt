@@ -5,6 +5,7 @@ use Rattle.std.specs.Io.KnownBytes.{Consumes}
 use Rattle.nfs_model.specs.Tree.{Layout}
 use Rattle.nfs_model.specs.World.{Heard, Scanned}
 use Rattle.outboxes.specs.Messages.{ReplyMessage}
+use Rattle.engine_feed.specs.Numbers.{fault_number}
 use Rattle.engine_feed.specs.Streams.{scan_stream}
 use Rattle.connections.specs.declared.tcp_front.stream.Stopped.{Stopped}
 use Rattle.connections.specs.declared.tcp_front.stream.Stopped.TheVariants as stops
@@ -44,7 +45,7 @@ stands-more None s s' records read cut before heard g h =
 stands-more (Some (stops.Fault fault)) s s' records read cut before heard g h =
     let served = ap (λ (x : Scanned). x.served) g.0 in
     let none = ap (λ (x : Scanned). x.fault) g.0 in
-    h read g.1 none ∙ ap (λ (l : List Heard). record { served = l ++ heard; fault = Some _ }) served
+    h read g.1 none ∙ ap (λ (l : List Heard). record { served = l ++ heard; fault = Some (fault_number fault) }) served
 stands-more (Some stops.NoMemory) s s' records read cut before heard g h = first-more s records read cut before heard g h
 stands-more (Some stops.NumbersUsed) s s' records read cut before heard g h = (first-more s records read cut before heard g h.0, h.1)
 
