@@ -61,6 +61,12 @@ IsTold unread room size cames.End old new =
 IsTold unread room size cames.Failed old new = IsReady old × HasCalled old.device size tolds.Failed new.device
 IsTold unread room size cames.Stopped old new = IsStopped old × (new ≡ old)
 
+-- the writing stands as it did
+abbrev pub HasSameWriting : {D : Type 0} → Connection D → Connection D → Type 0
+HasSameWriting old new =
+    (new.rest ≡ old.rest) × (new.is_broken ≡ old.is_broken) × (new.opened ≡ old.opened) × (new.owed ≡ old.owed)
+    × (new.flags ≡ old.flags)
+
 -- What was there to be cut: nothing where the reading has stopped.
 abbrev pub Cuts : {S : Type 0} → (S → List Arrival → S → Type 0) → (S → Bool) → Layout → Option Stopped → Stream → S → List ℕ
     → List Heard → Option Stopped → Stream → S → List ℕ → Type 0
@@ -83,4 +89,4 @@ pub record HasRead {D S : Type 0} (unread written : D → Option (List ℕ)) (ca
   pub cuts : Cuts came room layout old.stopped old.stream sink (kept_of old ++ read) heard new.stopped new.stream sink'
       (kept_of new)
   pub told : IsTold unread (room sink) size result old new
-  pub same : new ≡ record old { device = new.device; stream = new.stream; kept = new.kept; stopped = new.stopped }
+  pub same : HasSameWriting old new
