@@ -113,10 +113,10 @@ module _ {D : Type 0} (unread written : D → Option (List ℕ)) (layout : Layou
   }
 
   -- other outboxes, with what waits for this one as it was
-  pub served-in : (boxes boxes' : Boxes) (came : List Arrival) (endings : List Ending) (c : Connection D) → boxes.next ≤ boxes'.next
+  pub served-within : (boxes boxes' : Boxes) (came : List Arrival) (endings : List Ending) (c : Connection D) → boxes.next ≤ boxes'.next
       → get boxes'.waiting (number_of c) ≡ get boxes.waiting (number_of c) → IsServed unread written layout boxes came endings c
       → IsServed unread written layout boxes' came endings c
-  served-in boxes boxes' came endings c more same s = record {
+  served-within boxes boxes' came endings c more same s = record {
     given_number = let g = s.given_number in omega (arith, g, more);
     heard = s.heard;
     arrived = s.arrived;
