@@ -1,6 +1,6 @@
 //! One write to a connection.
 
-ghost use Rattle.std.specs.Prelude.{◌≡◌, ◌≢◌, ◌<◌, ◌≤◌, ◌++◌, ◌↔◌, [], length, IsTrue};
+ghost use Rattle.std.specs.Prelude.{◌≡◌, ◌≢◌, ◌<◌, ◌≤◌, ◌++◌, length};
 ghost use Rattle.connections.specs.tcp_front.Writing.{records_of};
 ghost use Rattle.lanes.specs.Rests.{list_of};
 ghost use Rattle.lanes.specs.Writing.{all_of, breaks, HasSent, HasWrittenParts, IsOutcome};
@@ -104,8 +104,9 @@ fn write_buffer<D: Device>(
     sent
 }
 
-/// Takes what waits for a connection, and writes of it once.
-fn write_waiting<D: Device>(
+/// Writes once what the device had no room for; or, where that is nothing, takes what waits in the
+/// connection's outbox and writes of that once.
+fn write_some<D: Device>(
     alloc: Global,
     device: &mut Watched<D>,
     rest: &mut Rest,
@@ -113,10 +114,12 @@ fn write_waiting<D: Device>(
     outboxes: &mut Outboxes,
     buffer: &mut Vec<u8>,
 ) -> Sent
-    requires { rest.old ≡ [] }
     ensures { HasWrittenParts D.unread D.written connection.0 device.old rest.old outboxes.old
         result device.new rest.new outboxes.new }
 {
+    if !rest.is_empty() {
+        return write_rest(device, rest);
+    }
     buffer.clear();
     match join(outboxes, connection, buffer) {
         None => {
@@ -147,12 +150,7 @@ impl<D: Device> Connection<D> {
         if self.is_broken {
             return Sent::Failed;
         }
-        if !self.rest.is_empty() {
-            let sent = write_rest(&mut self.device, &mut self.rest);
-            self.is_broken = breaks(sent);
-            return sent;
-        }
-        let sent = write_waiting(
+        let sent = write_some(
             self.stream.alloc,
             &mut self.device,
             &mut self.rest,

@@ -41,8 +41,12 @@ returns-in-Moved-eq0-clause-read g c =
     read-nothing g.D.Device.unread g.D.Device.written g.S.RecordSink.came g.S.RecordSink.room (layout_of c.args.layout.now) c.args.self.now
     c.args.sink.now (length c.args.block.now)
     _ cames.End none (none-some c.args.self.now.kept _ empty) (g.met.S.RecordSink.came_none c.args.sink.now)
-    (took-zero _ _ _ _ c.in-Moved-eq0.field-0-test c.in-Moved-eq0.ensures.bytes.0) c.in-Moved-eq0.ensures.apart ((none, empty), subst (λ (n : ℕ). HasCalled c.args.self.now.device (length c.args.block.now) (tolds.Moved n) c.read_once.new.self)
-    c.in-Moved-eq0.field-0-test c.in-Moved-eq0.ensures.called, c.in-Moved-eq0.ensures.bytes.1 c.in-Moved-eq0.field-0-test (search rules))
+    (took-zero _ _ _ _ c.in-Moved-eq0.field-0-test c.in-Moved-eq0.ensures.bytes.0) c.in-Moved-eq0.ensures.apart (
+      (none, empty),
+      subst (λ (n : ℕ). HasCalled c.args.self.now.device (length c.args.block.now) (tolds.Moved n) c.read_once.new.self)
+          c.in-Moved-eq0.field-0-test c.in-Moved-eq0.ensures.called,
+      c.in-Moved-eq0.ensures.bytes.1 c.in-Moved-eq0.field-0-test (search rules),
+    )
     refl refl refl (refl, refl, refl, refl, refl)
 
 pub returns-in-Moved-clause-read : goal.returns-in-Moved-clause-read
