@@ -1,3 +1,5 @@
 pub mod Lists
 pub mod Served
 pub mod Lived
+mod Rests
+mod Cuts
