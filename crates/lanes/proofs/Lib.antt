@@ -3,3 +3,4 @@ pub mod Served
 pub mod Lived
 mod Rests
 mod Cuts
+mod Writes

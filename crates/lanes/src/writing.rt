@@ -36,9 +36,12 @@ fn write_rest<D: Device>(device: &mut Watched<D>, rest: &mut Rest) -> Sent
     let first = rest.first();
     let size = first.len();
     match device.write_once(first) {
-        Told::Moved(0) | Told::Failed => Sent::Failed,
+        Told::Failed => Sent::Failed,
         Told::Blocked => Sent::Blocked,
         Told::Moved(moved) => {
+            if moved == 0 {
+                return Sent::Failed;
+            }
             rest.forget(moved);
             if moved < size {
                 Sent::Blocked
