@@ -1,7 +1,7 @@
 -- One write of what waits.
 use Rattle.std.proofs.Common.{◌≡◌, ◌≢◌, ◌⊎◌, inl, inr, ℕ, ◌<◌, ◌≤◌, List, [], ◌∷◌, ◌++◌, length, take, drop, take-append-drop, Option, refl, sym, ap, subst, ◌∙◌, arith}
 use Rattle.std.proofs.KnownBytes.{Appends-nil, Appends-kept}
-use Rattle.std.proofs.lemmas.List.{take-append-le}
+use Rattle.std.proofs.lemmas.List.{drop-append-le, take-append-le}
 use Rattle.std.specs.Io.KnownBytes.{Appends, Keeps}
 use Rattle.lanes.specs.declared.told.Told.{Told}
 use Rattle.lanes.specs.declared.told.Told.TheVariants as tolds
@@ -90,3 +90,7 @@ module _ {D : Type 0} (unread written : D → Option (List ℕ)) (old new : Watc
 pub first-some : (first rest : List ℕ) → (first ≡ [] → rest ≡ []) → 0 < length rest → 0 < length first
 first-some [] rest none some = absurd (let no : length rest ≡ 0 = ap (λ (l : List ℕ). length l) (none refl) in omega (arith, no, some))
 first-some (x ∷ xs) rest none some = omega arith
+
+-- what is left of bytes of which a beginning went out, with others behind them
+pub left-over : (n : ℕ) (xs ys : List ℕ) → n ≤ length xs → drop n (xs ++ ys) ≡ drop n xs ++ ys
+left-over n xs ys within = drop-append-le n xs ys within

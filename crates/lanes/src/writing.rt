@@ -65,14 +65,28 @@ fn write_buffer<D: Device>(
     ensures { HasSent D.unread D.written device.old
         (buffer.old.items ++ records_of (list_of alone)) result device.new rest.new }
 {
-    let (moved, sent) = match device.write_once(buffer) {
-        Told::Moved(0) | Told::Failed => (0, Sent::Failed),
-        Told::Blocked => (0, Sent::Blocked),
-        Told::Moved(moved) if moved < buffer.len() => (moved, Sent::Blocked),
-        Told::Moved(moved) => (moved, Sent::More),
-    };
-    *rest = Rest::of(alloc, buffer, moved, alone);
-    sent
+    match device.write_once(buffer) {
+        Told::Failed => {
+            *rest = Rest::of(alloc, buffer, 0, alone);
+            Sent::Failed
+        }
+        Told::Blocked => {
+            *rest = Rest::of(alloc, buffer, 0, alone);
+            Sent::Blocked
+        }
+        Told::Moved(moved) => {
+            let size = buffer.len();
+            *rest = Rest::of(alloc, buffer, moved, alone);
+            if moved == 0 {
+                return Sent::Failed;
+            }
+            if moved < size {
+                Sent::Blocked
+            } else {
+                Sent::More
+            }
+        }
+    }
 }
 
 /// Takes what waits for a connection, and writes of it once.
