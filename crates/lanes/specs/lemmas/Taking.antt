@@ -88,8 +88,3 @@ takes-out number b e =
 pub takes-fewer : (number : ℕ) (b : Boxes) (m : ReplyMessage) → Some m ≡ oldest number b → waits number (taken number b) < waits number b
 takes-fewer number b m e = subst (λ (o : Option (List ReplyMessage)). count_in o < waits number b)
     (sym (at-own (drop 1) number b.waiting)) (fewer-of (get b.waiting number) m e)
-
--- an option that isn't anything
-pub none-found : {X : Type 0} (o : Option X) → ((x : X) → o ≡ Some x → ⊥) → o ≡ None
-none-found None h = refl
-none-found (Some x) h = absurd (h x refl)
