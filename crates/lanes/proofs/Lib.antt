@@ -1,3 +1,6 @@
 pub mod Lists
 pub mod Served
 pub mod Lived
+pub mod Inside
+pub mod Fitting
+pub mod Steps
