@@ -1,4 +1,1 @@
-mod Wholes
-mod Shares
-mod Handed
-mod Helpers
+mod Staying

@@ -2,6 +2,7 @@
 use Rattle.std.specs.Prelude.{◌≡◌, ℕ, List, All}
 use Rattle.std.specs.declared.thread.PromisedHandle.{PromisedHandle}
 use Rattle.depot.specs.rule.Sums.{total}
+use Rattle.lanes.specs.declared.device.Device as devices
 use Rattle.lanes.specs.declared.lane.Lane.{Lane}
 use Rattle.server.specs.declared.socket.Socket.{Socket}
 use Rattle.server.specs.declared.task.Serves.{Serves}
@@ -9,12 +10,12 @@ use Rattle.server.specs.declared.task.Task.{Task}
 use Rattle.workers.specs.declared.shared.Filer.{Filer}
 use Rattle.server.specs.Lanes.{filer_of, seats_of}
 
-module _ {R : Type 0} where
+module _ {R : Type 0} {G : devices.Ghosts Socket} where
   abbrev pub Thread : Type 0
-  Thread = PromisedHandle (Lane Socket R) (Serves R)
+  Thread = PromisedHandle (Lane Socket R G) (Serves (Lane Socket R G))
 
   -- the lane that the thread was started with
-  abbrev pub started_with : Thread → Lane Socket R
+  abbrev pub started_with : Thread → Lane Socket R G
   started_with thread = thread.promise.lane.value
 
   -- the thread runs a lane of this filer
@@ -30,7 +31,9 @@ module _ {R : Type 0} where
     pub of : All (ServesFor filer) threads
     pub seats : total seats_with threads ≡ 64
 
-  -- ---- lanes whose threads aren't started yet
+-- ---- lanes whose threads aren't started yet
+
+module _ {R : Type 0} where
 
   abbrev pub IsTaskFor : Filer → Task R → Type 0
   IsTaskFor filer task = filer_of task.lane ≡ filer
