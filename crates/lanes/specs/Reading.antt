@@ -61,13 +61,19 @@ IsTold unread room size cames.End old new =
 IsTold unread room size cames.Failed old new = IsReady old × HasCalled old.device size tolds.Failed new.device
 IsTold unread room size cames.Stopped old new = IsStopped old × (new ≡ old)
 
--- What was there to be cut: nothing where the reading has stopped.
+-- the writing stands as it did
+abbrev pub HasSameWriting : {D : Type 0} → Connection D → Connection D → Type 0
+HasSameWriting old new =
+    (new.rest ≡ old.rest) × (new.is_broken ≡ old.is_broken) × (new.opened ≡ old.opened) × (new.owed ≡ old.owed)
+    × (new.flags ≡ old.flags)
+
+-- What was kept and what was read is cut; but nothing is read and cut where the reading has stopped.
 abbrev pub Cuts : {S : Type 0} → (S → List Arrival → S → Type 0) → (S → Bool) → Layout → Option Stopped → Stream → S → List ℕ
-    → List Heard → Option Stopped → Stream → S → List ℕ → Type 0
-Cuts came room layout None s sink bytes heard stopped s' sink' kept =
-    (h : HasCut came room layout s sink bytes stopped s' sink' kept) × (h.taken.heard ≡ heard)
-Cuts came room layout (Some stop) s sink bytes heard stopped s' sink' kept =
-    came sink [] sink' × (heard ≡ []) × (stopped ≡ Some stop) × (s' ≡ s) × (kept ≡ bytes)
+    → List ℕ → List Heard → Option Stopped → Stream → S → List ℕ → Type 0
+Cuts came room layout None s sink kept read heard stopped s' sink' kept' =
+    (h : HasCut came room layout s sink (kept ++ read) stopped s' sink' kept') × (h.taken.heard ≡ heard)
+Cuts came room layout (Some stop) s sink kept read heard stopped s' sink' kept' =
+    came sink [] sink' × (heard ≡ []) × (read ≡ []) × (stopped ≡ Some stop) × (s' ≡ s) × (kept' ≡ kept)
 
 -- One call: these bytes were read; with those that were kept they were cut, as far as the sink has room, and these records
 -- of theirs were given on under the numbers that follow. The device was asked as the answer tells, and the writing is as
@@ -80,7 +86,8 @@ pub record HasRead {D S : Type 0} (unread written : D → Option (List ℕ)) (ca
   pub taken : Consumes (unread (now_of old)) (unread (now_of new)) read
   pub apart : Keeps (written (now_of old)) (written (now_of new))
   pub given : came sink (arrivals layout (number_of old) old.stream.records heard) sink'
-  pub cuts : Cuts came room layout old.stopped old.stream sink (kept_of old ++ read) heard new.stopped new.stream sink'
+  pub cuts : Cuts came room layout old.stopped old.stream sink (kept_of old) read heard new.stopped new.stream sink'
       (kept_of new)
   pub told : IsTold unread (room sink) size result old new
-  pub same : new ≡ record old { device = new.device; stream = new.stream; kept = new.kept; stopped = new.stopped }
+  pub number : new.stream.connection ≡ old.stream.connection
+  pub same : HasSameWriting old new

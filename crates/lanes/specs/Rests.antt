@@ -1,16 +1,16 @@
 -- A record of which a part is written.
-use Rattle.std.specs.Prelude.{ℕ, ◌≤◌, ⊤, List, [], ◌∷◌, length, drop, Option, Some, None}
+use Rattle.std.specs.Prelude.{ℕ, ◌≤◌, ◌-◌, ⊤, List, [], ◌∷◌, length, drop, Option, Some, None}
 use Rattle.outboxes.specs.Messages.{ReplyMessage, record_of}
 
--- its bytes from an offset on
-abbrev pub alone_from : ℕ → Option ReplyMessage → List ℕ
-alone_from offset None = []
-alone_from offset (Some m) = drop offset (record_of m)
+-- its last bytes, so many
+abbrev pub last_of : ℕ → Option ReplyMessage → List ℕ
+last_of left None = []
+last_of left (Some m) = drop (length (record_of m) - left) (record_of m)
 
--- the offset lies in it
+-- it has so many
 abbrev pub IsWithin : ℕ → Option ReplyMessage → Type 0
-IsWithin offset None = ⊤
-IsWithin offset (Some m) = offset ≤ length (record_of m)
+IsWithin left None = ⊤
+IsWithin left (Some m) = left ≤ length (record_of m)
 
 abbrev pub list_of : Option ReplyMessage → List ReplyMessage
 list_of None = []

@@ -54,13 +54,13 @@ pub record HasSent {D : Type 0} (unread written : D → Option (List ℕ)) (old 
   pub comes_to : ComesTo result old sent waiting' new
 
 -- What a call came to: nothing was there, or there was one write; and what an answer says of the outbox.
-abbrev pub Tells : {D : Type 0} → Sent → Watched D → List ReplyMessage → List ℕ → List ℕ → Option (List ReplyMessage)
+abbrev pub Tells : {D : Type 0} → Sent → Watched D → List ℕ → List ℕ → Option (List ReplyMessage)
     → Watched D → Type 0
-Tells sents.All old taken sent left waiting new =
-    IsOut waiting × (((left ≡ []) × (sent ≡ []) × (taken ≡ []) × (new ≡ old)) ⊎ ComesTo sents.All old sent left new)
-Tells sents.More old taken sent left waiting new = ComesTo sents.More old sent left new
-Tells sents.Blocked old taken sent left waiting new = ComesTo sents.Blocked old sent left new
-Tells sents.Failed old taken sent left waiting new = ComesTo sents.Failed old sent left new
+Tells sents.All old sent left waiting new =
+    IsOut waiting × (((left ≡ []) × (sent ≡ []) × (new ≡ old)) ⊎ ComesTo sents.All old sent left new)
+Tells sents.More old sent left waiting new = ComesTo sents.More old sent left new
+Tells sents.Blocked old sent left waiting new = ComesTo sents.Blocked old sent left new
+Tells sents.Failed old sent left waiting new = ComesTo sents.Failed old sent left new
 
 -- These replies were taken, and a beginning of the rest and of their records went out.
 pub record HasWrittenParts {D : Type 0} (unread written : D → Option (List ℕ)) (number : ℕ) (old : Watched D)
@@ -71,7 +71,7 @@ pub record HasWrittenParts {D : Type 0} (unread written : D → Option (List ℕ
   pub split : rest ++ records_of taken ≡ sent ++ rest'
   pub went_out : Appends (written (device_of old)) (written (device_of new)) sent
   pub apart : Keeps (unread (device_of old)) (unread (device_of new))
-  pub tells : Tells result old taken sent rest' (get boxes'.waiting number) new
+  pub tells : Tells result old sent rest' (get boxes'.waiting number) new
 
 -- whether nothing more is written after an answer
 abbrev pub breaks : Sent → Bool
@@ -86,7 +86,7 @@ abbrev pub HasWrittenAs : {D : Type 0} → Bool → (D → Option (List ℕ)) �
 HasWrittenAs true unread written old boxes result new boxes' = (result ≡ sents.Failed) × (new ≡ old) × (boxes' ≡ boxes)
 HasWrittenAs false unread written old boxes result new boxes' =
     HasWrittenParts unread written (number_of old) old.device old.rest boxes result new.device new.rest boxes'
-    × (new ≡ record old { device = new.device; rest = new.rest; is_broken = breaks result })
+    × (new ≡ record old { device = new.device; rest = new.rest; is_broken = breaks result; owed = new.owed })
 
 abbrev pub HasWritten : {D : Type 0} → (D → Option (List ℕ)) → (D → Option (List ℕ)) → Connection D → Boxes → Sent
     → Connection D → Boxes → Type 0

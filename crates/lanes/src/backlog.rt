@@ -68,7 +68,7 @@ impl Backlog {
     pub(crate) fn is_empty(&self) -> bool
         ensures { IsTrue result ↔ (self.now ≡ []) }
     {
-        self.from == self.bytes.len()
+        self.len() == 0
     }
 
     /// Forgets so many, the first ones.

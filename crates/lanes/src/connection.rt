@@ -51,7 +51,7 @@ pub struct Connection<D> {
 impl<D> Connection<D> {
     ghost use Rattle.lanes.specs.Connections.{flagged, now_of, number_of, owing};
     ghost use Rattle.lanes.specs.Connections.{IsStopped};
-    ghost use Rattle.std.specs.Prelude.{◌↔◌, [], IsTrue};
+    ghost use Rattle.std.specs.Prelude.{◌↔◌, [], false, IsTrue};
 
     /// The number of the connection.
     pub fn number(&self) -> ConnectionNumber

@@ -44,7 +44,7 @@ pub struct Intake<R> {
 
 impl<R: Wait> RecordSink for Intake<R> {
     ghost use Rattle.lanes.specs.Intakes.{HasTakenIn, has_room_in};
-    ghost use Rattle.lanes.specs.lemmas.Taking.{taken_none, taken_more};
+    ghost use Rattle.lanes.specs.lemmas.Coming.{taken_none, taken_more};
 
     ghost came = { HasTakenIn };
 

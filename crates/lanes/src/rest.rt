@@ -10,23 +10,24 @@ use std::alloc::Global;
 use std::marker::Model;
 
 /// Bytes that wait to be written: some of records that were joined, and behind them those of one
-/// record that weren't copied, from an offset on.
+/// record that weren't copied, the last so many.
 #[derive(Drop)]
 pub(crate) struct Rest {
     joined: Backlog,
     alone: Option<Record>,
-    from: usize,
+    /// How many of its bytes aren't written yet.
+    left: usize,
 }
 
 impl Model for Rest {
     ghost use Rattle.std.specs.Prelude.{List, ℕ, ◌++◌};
-    ghost use Rattle.lanes.specs.Rests.{alone_from, IsWithin};
+    ghost use Rattle.lanes.specs.Rests.{last_of, IsWithin};
 
     ghost Value = { List ℕ };
 
-    ghost view = { λ r. r.joined ++ alone_from r.from r.alone };
+    ghost view = { λ r. r.joined ++ last_of r.left r.alone };
 
-    ghost invariant = { λ r. IsWithin r.from r.alone };
+    ghost invariant = { λ r. IsWithin r.left r.alone };
 }
 
 impl Rest {
@@ -37,7 +38,7 @@ impl Rest {
         Rest {
             joined: Backlog::new(alloc),
             alone: None,
-            from: 0,
+            left: 0,
         }
     }
 
@@ -53,10 +54,14 @@ impl Rest {
         ensures { result ≡ drop offset buffer.old.items ++ records_of (list_of alone) }
     {
         let joined = Backlog::of(alloc, buffer, offset);
+        let left = match &alone {
+            Some(record) => record.as_slice().len(),
+            None => 0,
+        };
         Rest {
             joined,
             alone,
-            from: 0,
+            left,
         }
     }
 
@@ -77,7 +82,10 @@ impl Rest {
             return self.joined.as_slice();
         }
         match &self.alone {
-            Some(record) => &record.as_slice()[self.from..],
+            Some(record) => {
+                let bytes = record.as_slice();
+                &bytes[bytes.len() - self.left..]
+            }
             None => &[],
         }
     }
@@ -87,8 +95,15 @@ impl Rest {
         requires { size ≤ length self.old }
         ensures { self.new ≡ drop size self.old }
     {
-        let joined = self.joined.len().min(size);
+        let joined = self.joined.len();
+        if size <= joined {
+            self.joined.forget(size);
+            return;
+        }
         self.joined.forget(joined);
-        self.from += size - joined;
+        self.left -= size - joined;
+        if self.left == 0 {
+            self.alone = None;
+        }
     }
 }

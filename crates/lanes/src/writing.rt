@@ -1,6 +1,6 @@
 //! One write to a connection.
 
-ghost use Rattle.std.specs.Prelude.{◌≡◌, ◌<◌, ◌⊎◌, [], length};
+ghost use Rattle.std.specs.Prelude.{◌≡◌, ◌<◌, ◌++◌, [], length};
 ghost use Rattle.connections.specs.tcp_front.Writing.{records_of};
 ghost use Rattle.lanes.specs.Rests.{list_of};
 ghost use Rattle.lanes.specs.Writing.{HasSent, HasWrittenParts};

@@ -18,7 +18,7 @@ pub record Boxes : Type 0 where
 abbrev pub coded_boxes : Coded (List ReplyMessage) → Coded Boxes
 coded_boxes code =
     code_by (ℕ × (ℕ × FinMap nat_cmp (List ReplyMessage))) (coded× coded_ℕ (coded× coded_ℕ (maps.code coded_ℕ code)))
-    (λ b. (b.next, (b.step, b.waiting))) (λ p. record { next = p.0; step = p.1; waiting = p.2 }) (λ _. refl)
+    (λ b. (b.next, (b.step, b.waiting))) (λ p. record { next = p.0; step = p.1.0; waiting = p.1.1 }) (λ _. refl)
 
 -- a reply on its way to a connection
 pub record Addressed : Type 0 where

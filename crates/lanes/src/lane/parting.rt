@@ -8,7 +8,6 @@ use workers::shared_waiting::{Pass, SharedWaiting};
 use workers::{Message, Worker};
 
 /// The worker of a lane, its queue, and the pass that only admitted.
-#[derive(Drop)]
 pub struct LaneParts {
     pub worker: Worker,
     pub queue: SharedWaiting<Message, Layout>,
