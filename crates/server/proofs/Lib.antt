@@ -1,1 +1,2 @@
 mod Staying
+mod Remaining
