@@ -4,3 +4,6 @@ pub mod Lived
 mod Cut
 mod OneRead
 mod OneWrite
+pub mod Inside
+pub mod Fitting
+pub mod Steps

@@ -62,6 +62,10 @@ turned k q = (eq_by_cmp_equiv nat_cmp_total).symm q k
 pub fresh : (next : ℕ) (es : Waits) → NoneFrom next es → get (waiting_of es) next ≡ None
 fresh next es n = get-found es next ∙ n next (omega arith)
 
+-- each number is larger than the one before
+pub rises : (next step : ℕ) → 0 < step → next < next + step
+rises next step h = omega (arith, h)
+
 -- a smaller number is another
 other : (k q : ℕ) → k < q → is_at (nat_cmp k) q ≡ false
 other k q h = sym (ap is_eq (nat_cmp_is k q Less h))

@@ -111,6 +111,7 @@ impl Outboxes {
     pub fn open(&mut self) -> Result<ConnectionNumber, OpenRefusal>
         ensures number { IfOk result (λ connection. connection.0 ≡ self.old.next) }
         ensures fresh { get self.old.waiting self.old.next ≡ None }
+        ensures rises { self.old.next < (opened self.old).next }
         ensures ok { OnOk result (self.new ≡ opened self.old) }
         ensures err { OnErr result (self.new ≡ self.old) }
         ensures full { (result ≡ Err refusals.Full) ↔ IsFull self.old }

@@ -5,6 +5,7 @@ use Rattle.depot.specs.rule.History.{entries_of}
 use Rattle.depot.specs.rule.Sums.{total}
 use Rattle.nfs_model.specs.Tree as trees
 use Rattle.parcel_sets.specs.Sets.{serial_parcels}
+use Rattle.lanes.specs.declared.device.Device as devices
 use Rattle.lanes.specs.declared.lane.Lane.{Lane}
 use Rattle.server.specs.declared.pool.ended.Ended.{Ended}
 use Rattle.server.specs.declared.pool.left.Left.{Left}
@@ -16,10 +17,10 @@ use Rattle.workers.specs.Balance.{FilerEntry, Weight}
 use Rattle.workers.specs.Words.{layout_in, verifier_in}
 use Rattle.workers.specs.declared.shared.Filer.{Filer}
 
-module _ {R : Type 0} where
+module _ {R : Type 0} {G : devices.Ghosts Socket} where
   -- All lanes of a filer have ended: what is left is the filer's. What they admitted is, as often, finished, kept, or waits; and the
   -- calls that the only seat finished are, as often, those that theirs did.
-  pub record HaveStopped (filer : Filer) (lanes : List (Lane Socket R)) (left : Left) : Type 0 where
+  pub record HaveStopped (filer : Filer) (lanes : List (Lane Socket R G)) (left : Left) : Type 0 where
     pub leaves : IsLeftOf filer left
     pub of : All (IsLaneOf filer) lanes
     pub calls : (weight : Weight) → total (admitted_by weight) lanes ≡ calls_by weight left
@@ -28,7 +29,7 @@ module _ {R : Type 0} where
   -- From the opening parcels there is one legal history, whose replies a serial run gives, and which left the parcels as they are. The calls
   -- that the lanes finished are, as often, those of the history; and each call that a lane admitted is in it, was kept, or waits. Which calls
   -- these are, by the bytes of its connections, each lane's type says.
-  pub record HasClosed (filer : Filer) (lanes : List (Lane Socket R)) (ended : Ended) : Type 0 where
+  pub record HasClosed (filer : Filer) (lanes : List (Lane Socket R G)) (ended : Ended) : Type 0 where
     pub of : All (IsLaneOf filer) lanes
     pub closes : HasEnded (layout_in filer) (verifier_in filer) (serial_parcels (layout_in filer) trees.Serial ended.parcels) ended.hands.items
         ended.kept.items ended.waiting.items (λ weight. total (admitted_by weight) lanes) (λ weight. total (finished_by weight) lanes)

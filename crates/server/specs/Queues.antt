@@ -28,7 +28,7 @@ pub record IsNewQueue (filer : Filer) (q : Queue) : Type 0 where
 -- a worker of the filer on such a queue, which has done nothing, and the pass that will admit
 pub record IsReadyLane (filer : Filer) (queue : SharedWaiting Message Layout) (admits : Pass Message Layout) (worker : Worker)
     : Type 0 where
-  pub admits : IsNewPass filer queue admits
+  pub new : IsNewPass filer queue admits
   pub inside : IsAt filer queue worker
   pub both : HasBoth admits worker
   pub none : entries_in worker ≡ []

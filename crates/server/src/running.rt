@@ -25,7 +25,7 @@ use crate::socket::Socket;
 use crate::station::Station;
 use crate::task::{Task, Thread};
 use affinity_tree::Layout;
-use lanes::Lane;
+use lanes::{Device, Lane};
 use std::alloc::Global;
 use std::io::Write;
 use std::net::{Net, SocketAddr, TcpListener};
@@ -154,7 +154,8 @@ where
     R: Threads + Wait + Drop,
     W: Write,
     requires { AreThreadsOf (arc_value running.filer) running.threads.items }
-    ensures { IfOk result (λ left. IfSome left (λ ended. (lanes : List (laned.Lane sockets.Socket R))
+    ensures { IfOk result (λ left. IfSome left (λ ended. (lanes : List (laned.Lane sockets.Socket R
+        ⟦<Socket as Device>⟧))
         × HasClosed (arc_value running.filer) lanes ended)) }
 {
     let Running {

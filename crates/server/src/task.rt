@@ -24,11 +24,11 @@ pub(crate) struct Task<R> {
 
 /// The lane that comes back is of the same filer, and has the seats that this one has.
 #[derive(Drop)]
-pub struct Serves<R> {
-    pub lane: Snapshot<Lane<Socket, R>>,
+pub struct Serves<L> {
+    pub lane: Snapshot<L>,
 }
 
-impl<R> Promise<Lane<Socket, R>> for Serves<R> {
+impl<R> Promise<Lane<Socket, R>> for Serves<Lane<Socket, R>> {
     ghost use Rattle.server.specs.Lanes.{Stays};
 ghost use Rattle.server.specs.Threads.{started_with};
 ghost use Rattle.std.specs.Prelude.{◌≡◌, IfOk};
@@ -37,7 +37,7 @@ ghost use Rattle.std.specs.Prelude.{◌≡◌, IfOk};
 }
 
 /// A thread that runs a lane, and gives it back.
-pub(crate) type Thread<R> = PromisedHandle<Lane<Socket, R>, Serves<R>>;
+pub(crate) type Thread<R> = PromisedHandle<Lane<Socket, R>, Serves<Lane<Socket, R>>>;
 
 /// Starts a thread for a lane, where one can be made.
 pub(crate) fn start_one<R>(rt: R, task: Task<R>) -> Result<Thread<R>, ()>

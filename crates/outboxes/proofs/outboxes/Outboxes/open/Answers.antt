@@ -1,7 +1,7 @@
 use Rattle.std.proofs.Common.{refl}
 use Rattle.outboxes.specs.Tables.{boxes_of}
 use Rattle.outboxes.proofs.Opening.{full-by-count, not-full, neither-opened, neither-refused}
-use Rattle.outboxes.proofs.Tables.{fresh, opens}
+use Rattle.outboxes.proofs.Tables.{fresh, opens, rises}
 use Rattle.outboxes.proofs.outboxes.Outboxes.open.Goals as goal
 
 pub returns-then-len-ge-MOST_OPEN-clause-full : goal.returns-then-len-ge-MOST_OPEN-clause-full
@@ -41,3 +41,15 @@ returns-in-Ok-clause-fresh c = rw (← c.self.view_is) (fresh c.self.inside.next
 
 pub returns-in-Err-clause-fresh : goal.returns-in-Err-clause-fresh
 returns-in-Err-clause-fresh c = rw (← c.self.view_is) (fresh c.self.inside.next c.self.inside.by_number.entries c.self.invariant.0)
+
+pub returns-then-len-ge-MOST_OPEN-clause-rises : goal.returns-then-len-ge-MOST_OPEN-clause-rises
+returns-then-len-ge-MOST_OPEN-clause-rises c = rw (← c.self.view_is) (rises c.self.inside.next c.self.inside.step c.self.invariant.1.0)
+
+pub returns-then-number-ge-MOST_NUMBERS-clause-rises : goal.returns-then-number-ge-MOST_NUMBERS-clause-rises
+returns-then-number-ge-MOST_NUMBERS-clause-rises c = rw (← c.self.view_is) (rises c.self.inside.next c.self.inside.step c.self.invariant.1.0)
+
+pub returns-in-Ok-clause-rises : goal.returns-in-Ok-clause-rises
+returns-in-Ok-clause-rises c = rw (← c.self.view_is) (rises c.self.inside.next c.self.inside.step c.self.invariant.1.0)
+
+pub returns-in-Err-clause-rises : goal.returns-in-Err-clause-rises
+returns-in-Err-clause-rises c = rw (← c.self.view_is) (rises c.self.inside.next c.self.inside.step c.self.invariant.1.0)
