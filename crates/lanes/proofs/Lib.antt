@@ -1,6 +1,9 @@
 pub mod Lists
 pub mod Served
 pub mod Lived
+mod Cut
+mod OneRead
+mod OneWrite
 pub mod Inside
 pub mod Fitting
 pub mod Steps

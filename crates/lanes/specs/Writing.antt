@@ -1,11 +1,12 @@
 -- How the writing of a connection stands, and what one call does to it.
-use Rattle.std.specs.Prelude.{◌≡◌, ℕ, ◌<◌, ◌++◌, ◌⊎◌, Bool, true, false, List, [], length, Option}
+use Rattle.std.specs.Prelude.{◌≡◌, ℕ, ◌<◌, ◌≤◌, ◌++◌, ◌⊎◌, Bool, true, false, List, [], length, Option}
 use Rattle.std.specs.FinMap.{get}
 use Rattle.std.specs.Io.KnownBytes.{Appends, Keeps}
 use Rattle.outboxes.specs.Boxes.{Boxes}
 use Rattle.outboxes.specs.Messages.{ReplyMessage}
 use Rattle.connections.specs.tcp_front.Writing.{records_of}
 use Rattle.lanes.specs.declared.connection.Connection.{Connection}
+use Rattle.lanes.specs.declared.told.Told.{Told}
 use Rattle.lanes.specs.declared.told.Told.TheVariants as tolds
 use Rattle.lanes.specs.declared.watched.Watched.{Watched}
 use Rattle.lanes.specs.declared.writing.Sent.{Sent}
@@ -43,6 +44,29 @@ ComesTo sents.Blocked old sent left new =
     ⊎ (HasCalled old offered tolds.Blocked new × (sent ≡ [])))
 ComesTo sents.Failed old sent left new =
     (sent ≡ []) × ((offered : ℕ) × (HasCalled old offered (tolds.Moved 0) new ⊎ HasCalled old offered tolds.Failed new))
+
+-- What an answer to a write of so many bytes comes to, and how many went out: none at a failure; and fewer than all, or
+-- none where the device would have to wait.
+abbrev pub IsOutcome : Told → ℕ → ℕ → Sent → Type 0
+IsOutcome (tolds.Moved n) size moved sents.All = ⊥
+IsOutcome (tolds.Moved n) size moved sents.More = (moved ≡ size) × (size ≤ n) × (0 < n)
+IsOutcome (tolds.Moved n) size moved sents.Blocked = (moved ≡ n) × (n < size) × (0 < n)
+IsOutcome (tolds.Moved n) size moved sents.Failed = (moved ≡ 0) × (n ≡ 0)
+IsOutcome tolds.Blocked size moved sents.All = ⊥
+IsOutcome tolds.Blocked size moved sents.More = ⊥
+IsOutcome tolds.Blocked size moved sents.Blocked = moved ≡ 0
+IsOutcome tolds.Blocked size moved sents.Failed = ⊥
+IsOutcome tolds.Failed size moved sents.All = ⊥
+IsOutcome tolds.Failed size moved sents.More = ⊥
+IsOutcome tolds.Failed size moved sents.Blocked = ⊥
+IsOutcome tolds.Failed size moved sents.Failed = moved ≡ 0
+
+-- what a write came to where nothing else waits
+abbrev pub all_of : Sent → Sent
+all_of sents.All = sents.All
+all_of sents.More = sents.All
+all_of sents.Blocked = sents.Blocked
+all_of sents.Failed = sents.Failed
 
 -- A beginning of what waits went out, and the others wait still.
 pub record HasSent {D : Type 0} (unread written : D → Option (List ℕ)) (old : Watched D) (waiting : List ℕ) (result : Sent)

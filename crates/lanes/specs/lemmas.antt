@@ -1,4 +1,4 @@
-pub mod Coming
-pub mod Reading
 pub mod Taking
 pub mod Writing
+pub mod Reading
+pub mod Coming

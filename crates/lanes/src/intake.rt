@@ -17,12 +17,13 @@ use workers::shared_waiting::{Pass, SharedWaiting};
 use workers::{Filer, Message};
 
 /// The most room of the replies that are owed to one connection while it is read.
-const MOST_OWED: usize = 1_048_576;
+pub(crate) const MOST_OWED: usize = 1_048_576;
 
 /// About how much room a reply takes that no worker writes.
 const ANSWERED: usize = 256;
 
 /// The queue and the outboxes of a lane. Its pass only admits.
+#[derive(Drop)]
 pub struct Intake<R> {
     pub(crate) rt: R,
     pub(crate) alloc: Global,

@@ -9,6 +9,7 @@ ghost use Rattle.lanes.specs.Lanes.{HasBoth};
 ghost use Rattle.lanes.specs.Story.{Story};
 
 mod closing;
+mod looking;
 mod opening;
 mod parting;
 mod reading;
@@ -27,6 +28,7 @@ use workers::{Filer, Worker};
 /// One thread's connections, with the queue of their calls, the worker that runs these, and the
 /// outboxes of the replies. Its type says what it has done in its whole life: what came of each
 /// connection's bytes, what ended, and which bytes went out.
+#[derive(Drop)]
 pub struct Lane<D: Device, R> {
     pub(crate) filer: Arc<Filer>,
     pub(crate) intake: Intake<R>,

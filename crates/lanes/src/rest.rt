@@ -102,5 +102,8 @@ impl Rest {
         }
         self.joined.forget(joined);
         self.left -= size - joined;
+        if self.left == 0 {
+            self.alone = None;
+        }
     }
 }

@@ -1,9 +1,10 @@
 //! One write to a connection.
 
-ghost use Rattle.std.specs.Prelude.{◌≡◌, ◌<◌, ◌++◌, [], length};
+ghost use Rattle.std.specs.Prelude.{◌≡◌, ◌≢◌, ◌<◌, ◌≤◌, ◌++◌, length};
 ghost use Rattle.connections.specs.tcp_front.Writing.{records_of};
 ghost use Rattle.lanes.specs.Rests.{list_of};
-ghost use Rattle.lanes.specs.Writing.{HasSent, HasWrittenParts};
+ghost use Rattle.lanes.specs.Writing.{all_of, breaks, HasSent, HasWrittenParts, IsOutcome};
+ghost use Rattle.lanes.specs.declared.writing.Sent.TheVariants.{All, More};
 
 use crate::connection::Connection;
 use crate::device::Device;
@@ -28,25 +29,59 @@ pub enum Sent {
     Failed,
 }
 
+/// What an answer to a write of so many bytes comes to, and how many of them went out.
+fn outcome_of(told: Told, size: usize) -> (usize, Sent)
+    ensures within { result.0 ≤ size }
+    ensures is { IsOutcome told size result.0 result.1 }
+    ensures asks { result.1 ≢ All }
+{
+    match told {
+        Told::Moved(0) => (0, Sent::Failed),
+        Told::Moved(moved) => {
+            if moved < size {
+                (moved, Sent::Blocked)
+            } else {
+                (size, Sent::More)
+            }
+        }
+        Told::Blocked => (0, Sent::Blocked),
+        Told::Failed => (0, Sent::Failed),
+    }
+}
+
+/// What a write came to where nothing else waits.
+fn all_of(sent: Sent) -> Sent
+    ensures { result ≡ all_of sent }
+{
+    match sent {
+        Sent::More => Sent::All,
+        Sent::All => Sent::All,
+        Sent::Blocked => Sent::Blocked,
+        Sent::Failed => Sent::Failed,
+    }
+}
+
+/// Whether nothing more is written after this.
+fn breaks(sent: Sent) -> bool
+    ensures { result ≡ breaks sent }
+{
+    match sent {
+        Sent::Failed => true,
+        Sent::All | Sent::More | Sent::Blocked => false,
+    }
+}
+
 /// Writes once what the device had no room for.
 fn write_rest<D: Device>(device: &mut Watched<D>, rest: &mut Rest) -> Sent
     requires { 0 < length rest.old }
-    ensures { HasSent D.unread D.written device.old rest.old result device.new rest.new }
+    ensures sent { HasSent D.unread D.written device.old rest.old result device.new rest.new }
+    ensures asks { result ≢ All }
 {
     let first = rest.first();
     let size = first.len();
-    match device.write_once(first) {
-        Told::Moved(0) | Told::Failed => Sent::Failed,
-        Told::Blocked => Sent::Blocked,
-        Told::Moved(moved) => {
-            rest.forget(moved);
-            if moved < size {
-                Sent::Blocked
-            } else {
-                Sent::More
-            }
-        }
-    }
+    let (moved, sent) = outcome_of(device.write_once(first), size);
+    rest.forget(moved);
+    sent
 }
 
 /// Writes once what was joined, with a record behind it that wasn't.
@@ -57,23 +92,21 @@ fn write_buffer<D: Device>(
     alone: Option<Record>,
     rest: &mut Rest,
 ) -> Sent
-    requires some { 0 < length buffer.old.items }
-    requires none { rest.old ≡ [] }
-    ensures { HasSent D.unread D.written device.old
+    requires { 0 < length buffer.old.items }
+    ensures sent { HasSent D.unread D.written device.old
         (buffer.old.items ++ records_of (list_of alone)) result device.new rest.new }
+    ensures asks { result ≢ All }
+    ensures left { result ≡ More → rest.new ≡ records_of (list_of alone) }
 {
-    let (moved, sent) = match device.write_once(buffer) {
-        Told::Moved(0) | Told::Failed => (0, Sent::Failed),
-        Told::Blocked => (0, Sent::Blocked),
-        Told::Moved(moved) if moved < buffer.len() => (moved, Sent::Blocked),
-        Told::Moved(moved) => (moved, Sent::More),
-    };
+    let size = buffer.len();
+    let (moved, sent) = outcome_of(device.write_once(buffer), size);
     *rest = Rest::of(alloc, buffer, moved, alone);
     sent
 }
 
-/// Takes what waits for a connection, and writes of it once.
-fn write_waiting<D: Device>(
+/// Writes once what the device had no room for; or, where that is nothing, takes what waits in the
+/// connection's outbox and writes of that once.
+fn write_some<D: Device>(
     alloc: Global,
     device: &mut Watched<D>,
     rest: &mut Rest,
@@ -81,23 +114,27 @@ fn write_waiting<D: Device>(
     outboxes: &mut Outboxes,
     buffer: &mut Vec<u8>,
 ) -> Sent
-    requires { rest.old ≡ [] }
     ensures { HasWrittenParts D.unread D.written connection.0 device.old rest.old outboxes.old
         result device.new rest.new outboxes.new }
 {
-    buffer.clear();
-    let alone = join(outboxes, connection, buffer);
-    let is_out = alone.is_none();
-    if buffer.is_empty() {
-        if is_out {
-            return Sent::All;
-        }
-        *rest = Rest::of(alloc, buffer, 0, alone);
+    if !rest.is_empty() {
         return write_rest(device, rest);
     }
-    match write_buffer(alloc, device, buffer, alone, rest) {
-        Sent::More if is_out => Sent::All,
-        sent => sent,
+    buffer.clear();
+    match join(outboxes, connection, buffer) {
+        None => {
+            if buffer.is_empty() {
+                return Sent::All;
+            }
+            all_of(write_buffer(alloc, device, buffer, None, rest))
+        }
+        Some(record) => {
+            if buffer.is_empty() {
+                *rest = Rest::of(alloc, buffer, 0, Some(record));
+                return write_rest(device, rest);
+            }
+            write_buffer(alloc, device, buffer, Some(record), rest)
+        }
     }
 }
 
@@ -113,19 +150,15 @@ impl<D: Device> Connection<D> {
         if self.is_broken {
             return Sent::Failed;
         }
-        let sent = if self.rest.is_empty() {
-            write_waiting(
-                self.stream.alloc,
-                &mut self.device,
-                &mut self.rest,
-                self.stream.connection,
-                outboxes,
-                buffer,
-            )
-        } else {
-            write_rest(&mut self.device, &mut self.rest)
-        };
-        self.is_broken = sent == Sent::Failed;
+        let sent = write_some(
+            self.stream.alloc,
+            &mut self.device,
+            &mut self.rest,
+            self.stream.connection,
+            outboxes,
+            buffer,
+        );
+        self.is_broken = breaks(sent);
         sent
     }
 }

@@ -1,4 +1,2 @@
-mod Wholes
-mod Shares
-mod Handed
-mod Helpers
+mod Staying
+mod Remaining

@@ -10,7 +10,7 @@ impl<D: Device, R> Lane<D, R> {
     ghost use Rattle.std.specs.Arc.{arc_value};
     ghost use Rattle.workers.specs.shared_waiting.Passes.{known};
     ghost use Rattle.workers.specs.Tends.{Tends};
-    ghost use Rattle.workers.specs.Words.{layout_in};
+    ghost use Rattle.workers.specs.Words.{layout_in, seats_in};
 
     /// Does something with the batch of block numbers in its worker's hand (`Worker::tend_in`).
     pub fn tend(&mut self, tend: Tend) -> Result<Tended, TendRefusal>
@@ -19,6 +19,7 @@ impl<D: Device, R> Lane<D, R> {
         ensures pass { known self.new.intake.pass ≡ known self.old.intake.pass }
         ensures outboxes { self.new.intake.outboxes ≡ self.old.intake.outboxes }
         ensures connections { self.new.connections ≡ self.old.connections }
+        ensures seats { seats_in self.new.worker ≡ seats_in self.old.worker }
         ensures filer { arc_value self.new.filer ≡ arc_value self.old.filer }
     {
         self.worker.tend_in(&self.filer, &self.intake.queue, tend)

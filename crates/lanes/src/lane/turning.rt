@@ -39,7 +39,7 @@ fn left_after(waiting: usize, worked: &Worked) -> usize {
 impl<D: Device, R: Wait> Lane<D, R> {
     ghost use Rattle.std.specs.Arc.{arc_value};
     ghost use Rattle.workers.specs.shared_waiting.Passes.{known};
-    ghost use Rattle.workers.specs.Words.{layout_in};
+    ghost use Rattle.workers.specs.Words.{layout_in, seats_in};
     ghost use Rattle.lanes.specs.Lanes.{HasTurned};
 
     /// Tries the call of the message that its worker keeps, or else of the one that waits longest
@@ -49,6 +49,7 @@ impl<D: Device, R: Wait> Lane<D, R> {
             self.old.intake.outboxes result self.new.worker self.new.intake.outboxes }
         ensures pass { known self.new.intake.pass ≡ known self.old.intake.pass }
         ensures connections { self.new.connections ≡ self.old.connections }
+        ensures seats { seats_in self.new.worker ≡ seats_in self.old.worker }
         ensures filer { arc_value self.new.filer ≡ arc_value self.old.filer }
     {
         let turned = self.worker.turn_in(
