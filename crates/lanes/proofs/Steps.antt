@@ -179,6 +179,21 @@ module _ {D : Type 0} (unread written : D → Option (List ℕ)) (layout : Layou
       subst (λ (b : Boxes). Told messages b slab') (sym is)
       (∥∥₁_map t (λ s. story-shuts unread written layout entries messages boxes (get slab) s (get slab') key c was (updates.changed, updates.others)))
 
+module _ {D : Type 0} (unread written : D → Option (List ℕ)) (layout : Layout) (entries : List FilerEntry) where
+  close-told : (slab slab' : Slab (Connection D)) (key : ℕ) (o : Option (Connection D)) → get slab key ≡ o → (messages : List Message)
+      (boxes boxes' : Boxes) (device : Option D) → Closes slab key boxes o device slab' boxes'
+      → ∥ Story unread written layout entries messages boxes (get slab) ∥₁ → ∥ Story unread written layout entries messages boxes' (get slab') ∥₁
+  close-told slab slab' key None is messages boxes boxes' device (_, same, boxes_same) t =
+      subst (λ (s : Slab (Connection D)). ∥ Story unread written layout entries messages boxes' (get s) ∥₁) (sym same)
+      (subst (λ (b : Boxes). ∥ Story unread written layout entries messages b (get slab) ∥₁) (sym boxes_same) t)
+  close-told slab slab' key (Some c) is messages boxes boxes' device (_, updates, boxes_is) t =
+      closes-told unread written layout entries slab slab' key c messages boxes boxes' is updates boxes_is t
+
+  pub closed-told : (slab slab' : Slab (Connection D)) (key : ℕ) (messages : List Message) (boxes boxes' : Boxes) (device : Option D)
+      → Closes slab key boxes (get slab key) device slab' boxes'
+      → ∥ Story unread written layout entries messages boxes (get slab) ∥₁ → ∥ Story unread written layout entries messages boxes' (get slab') ∥₁
+  closed-told slab slab' key messages boxes boxes' device h t = close-told slab slab' key (get slab key) refl messages boxes boxes' device h t
+
 -- ---- turns
 
 module _ {D : Type 0} (unread written : D → Option (List ℕ)) (layout : Layout) where

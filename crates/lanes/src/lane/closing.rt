@@ -2,11 +2,12 @@
 
 ghost use Rattle.std.specs.Prelude.{◌≡◌, option_copied};
 ghost use Rattle.slab.specs.Slab.{get, slab_len};
-ghost use Rattle.lanes.specs.Lanes.{Flagged};
+ghost use Rattle.lanes.specs.Lanes.{Closes, Flagged};
 
 use crate::connection::{Connection, Flags};
 use crate::device::Device;
 use crate::lane::Lane;
+use outboxes::Outboxes;
 use slab::Slab;
 
 /// Keeps what a thread keeps of the connection of a key.
@@ -19,10 +20,27 @@ fn flag_under<D>(connections: &mut Slab<Connection<D>>, key: usize, flags: Flags
     }
 }
 
+/// Closes the connection of a key, and its outbox.
+fn close_under<D>(
+    connections: &mut Slab<Connection<D>>,
+    key: usize,
+    outboxes: &mut Outboxes,
+) -> Option<D>
+    ensures { Closes connections.old key outboxes.old (get connections.old key) result
+        connections.new outboxes.new }
+{
+    match connections.try_remove(key) {
+        Some(connection) => {
+            outboxes.shut(connection.number());
+            Some(connection.into_device())
+        }
+        None => None,
+    }
+}
+
 impl<D: Device, R> Lane<D, R> {
     ghost use Rattle.std.specs.Arc.{arc_value};
     ghost use Rattle.workers.specs.shared_waiting.Passes.{known};
-    ghost use Rattle.lanes.specs.Lanes.{Closes};
 
     /// The connection of a key.
     pub fn connection(&self, key: usize) -> Option<&Connection<D>>
@@ -65,12 +83,6 @@ impl<D: Device, R> Lane<D, R> {
         ensures worker { self.new.worker ≡ self.old.worker }
         ensures filer { arc_value self.new.filer ≡ arc_value self.old.filer }
     {
-        match self.connections.try_remove(key) {
-            Some(connection) => {
-                self.intake.outboxes.shut(connection.number());
-                Some(connection.into_device())
-            }
-            None => None,
-        }
+        close_under(&mut self.connections, key, &mut self.intake.outboxes)
     }
 }

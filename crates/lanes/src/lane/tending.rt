@@ -8,6 +8,7 @@ use workers::{Tend, TendRefusal, Tended};
 
 impl<D: Device, R> Lane<D, R> {
     ghost use Rattle.std.specs.Arc.{arc_value};
+    ghost use Rattle.workers.specs.shared_waiting.Passes.{known};
     ghost use Rattle.workers.specs.Tends.{Tends};
     ghost use Rattle.workers.specs.Words.{layout_in, seats_in};
 
@@ -15,7 +16,8 @@ impl<D: Device, R> Lane<D, R> {
     pub fn tend(&mut self, tend: Tend) -> Result<Tended, TendRefusal>
         ensures tends { Tends (layout_in (arc_value self.old.filer)) self.old.worker tend result
             self.new.worker }
-        ensures intake { self.new.intake ≡ self.old.intake }
+        ensures pass { known self.new.intake.pass ≡ known self.old.intake.pass }
+        ensures outboxes { self.new.intake.outboxes ≡ self.old.intake.outboxes }
         ensures connections { self.new.connections ≡ self.old.connections }
         ensures seats { seats_in self.new.worker ≡ seats_in self.old.worker }
         ensures filer { arc_value self.new.filer ≡ arc_value self.old.filer }
