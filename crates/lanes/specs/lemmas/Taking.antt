@@ -70,7 +70,6 @@ takes-more number ms ks a b c f g = record {
 pub takes-first : (number : ℕ) (b : Boxes) (m : ReplyMessage) → Some m ≡ oldest number b → Takes number (m ∷ []) b (taken number b)
 takes-first number b m e = record {
   next = refl;
- 
   others = at-other (drop 1) number b.waiting;
   own = subst (TakesOf (get b.waiting number) (m ∷ [])) (sym (at-own (drop 1) number b.waiting)) (first-of (get b.waiting number) m e);
 }
