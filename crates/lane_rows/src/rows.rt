@@ -5,7 +5,9 @@ ghost use Rattle.affinity_tree.specs.Layout.{layout_of};
 
 use crate::gathered::Gathered;
 use crate::memory::Memory;
-use crate::texts::{GETATTR, NO_PROGRAM, NO_PROGRAM_REPLY, NULL, NULL_IN_TWO, NULL_REPLY, TOO_LONG};
+use crate::texts::{
+    GETATTR, NO_PROGRAM, NO_PROGRAM_REPLY, NULL, NULL_IN_TWO, NULL_REPLY, TOO_LONG,
+};
 use affinity_tree::{AggregateSpec, Layout, VolumeSpec};
 use lanes::{Came, Connection, Sent};
 use nfs_values::ConnectionNumber;
