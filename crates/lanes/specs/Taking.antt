@@ -13,6 +13,7 @@ TakesOf (Some waiting) taken (Some left) = waiting ≡ taken ++ left
 -- These were taken, the oldest of those that waited for the connection; what waits for others is as it was.
 pub record Takes (number : ℕ) (taken : List ReplyMessage) (old new : Boxes) : Type 0 where
   pub next : new.next ≡ old.next
+  pub step : new.step ≡ old.step
   pub others : (other : ℕ) → other ≢ number → get new.waiting other ≡ get old.waiting other
   pub own : TakesOf (get old.waiting number) taken (get new.waiting number)
 
