@@ -119,15 +119,19 @@ where
     } = open_queue(alloc, &filer)?;
     let mut worker = Worker::start(&filer, &queue, seat, picks);
     for index in 1..count {
-        let theirs = open_queue(alloc, &filer)?;
-        let (first, second) = worker.split_with(&filer, &queue, &theirs.queue, theirs.picks);
+        let Queue {
+            queue: theirs,
+            admits: puts,
+            picks: takes,
+        } = open_queue(alloc, &filer)?;
+        let (first, second) = worker.split_with(&filer, &queue, &theirs, takes);
         worker = first;
         let lane = open_lane(
             rt,
             alloc,
             &filer,
-            theirs.queue,
-            theirs.admits,
+            theirs,
+            puts,
             second,
             index,
             count,
