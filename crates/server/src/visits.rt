@@ -123,7 +123,7 @@ pub(crate) fn read_all<R: Wait>(
 fn is_writable<R>(lane: &Lane<Socket, R>, key: usize) -> bool {
     match lane.connection(key) {
         Some(connection) => {
-            !connection.flags().is_blocked && (connection.owed() > 0 || connection.has_rest())
+            !connection.flags().is_blocked && (connection.due() > 0 || connection.has_rest())
         }
         None => false,
     }
@@ -177,7 +177,7 @@ fn is_over<R>(lane: &Lane<Socket, R>, key: usize) -> bool {
         Some(connection) => {
             let is_read = connection.is_stopped()
                 || connection.flags().has_ended && !connection.has_kept();
-            connection.is_broken() || is_read && connection.owed() == 0 && !connection.has_rest()
+            connection.is_broken() || is_read && connection.due() == 0 && !connection.has_rest()
         }
         None => false,
     }

@@ -10,7 +10,7 @@ ghost use Rattle.workers.specs.Balance.{IsEven};
 use crate::inner::carry;
 use crate::message::Message;
 use crate::parts::WorkerParts;
-use crate::queueing::{next, put_kept};
+use crate::queueing::{next, next_beside, put_kept};
 use crate::serving::serve;
 use crate::shared::Filer;
 use crate::shared_waiting::{Pass, SharedWaiting};
@@ -58,7 +58,8 @@ impl Worker {
     ghost use Rattle.std.specs.Prelude.{◌≡◌, ◌<◌, ◌+◌, [], None, Some, Ok};
     ghost use Rattle.nfs_model.specs.Parts as parts;
     ghost use Rattle.service.specs.Jobs.{inner_of};
-    ghost use Rattle.workers.specs.shared_waiting.Balance.{left, right};
+    ghost use Rattle.crossbeam_queue.specs.Fifo.{Held};
+    ghost use Rattle.workers.specs.shared_waiting.Balance.{both, left, right, Leaves};
     ghost use Rattle.workers.specs.shared_waiting.Passes.{IsOf};
     ghost use Rattle.workers.specs.Apart.{AreOf, IsSettled};
     ghost use Rattle.workers.specs.Carries.{FitsHand};
@@ -84,6 +85,31 @@ impl Worker {
     {
         let kept = self.kept.take();
         self.kept = next(queue, rt, &mut self.pass, kept);
+    }
+
+    /// `pick` for who has another pass of the queue beside.
+    pub(crate) fn pick_beside<R: Wait>(
+        &mut self,
+        filer: &Filer,
+        queue: &SharedWaiting<Message, Layout>,
+        other: &mut Pass<Message, Layout>,
+        rt: &R,
+    )
+        requires inside { IsAt filer.now queue.now self.old }
+        requires other { IsOf queue.now other.old }
+        requires key { (known other.old).key ≡ (passed self.old).key }
+        ensures inside { IsAt filer.now queue.now self.new }
+        ensures other { IsOf queue.now other.new × (known other.new ≡ known other.old) }
+        ensures next { HasNext (passed self.old) self.old.kept (passed self.new) self.new.kept }
+        ensures none { self.new.kept ≡ None
+            → Held 0 (Leaves (both (passed self.old) (known other.old))) }
+        ensures put { (passed self.new).put ≡ (passed self.old).put }
+        ensures share { HasShareOf (passed self.old) (passed self.new) }
+        ensures seat { self.new.seat ≡ self.old.seat }
+        ensures hand { self.new.hand ≡ self.old.hand }
+    {
+        let kept = self.kept.take();
+        self.kept = next_beside(queue, rt, &mut self.pass, other, kept);
     }
 
     /// Tries the message that is kept, if one is. It keeps the message unless that is finished.

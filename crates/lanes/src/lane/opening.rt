@@ -2,6 +2,7 @@
 
 use crate::connection::Connection;
 use crate::device::Device;
+use crate::due::Due;
 use crate::intake::Intake;
 use crate::lane::Lane;
 use affinity_tree::Layout;
@@ -60,7 +61,7 @@ impl<D: Device, R> Lane<D, R> {
                 outboxes: Outboxes::of_lane(alloc, lane, lanes),
                 waiting: 0,
                 most: PLACES / lanes,
-                owed: 0,
+                owed: Due::nothing(),
             },
             filer,
             worker,
