@@ -15,7 +15,7 @@ use std::alloc::{AllocError, Global};
 use std::snapshot::Snapshot;
 use std::sync::Wait;
 use workers::shared_waiting::{Pass, SharedWaiting};
-use workers::{Filer, Message};
+use workers::{Envelope, Filer};
 
 /// The most room of the replies that are owed to one connection while it is read.
 pub(crate) const MOST_OWED: usize = 1_048_576;
@@ -27,8 +27,8 @@ pub struct Intake<R> {
     pub(crate) alloc: Global,
     /// Whose messages the queue has.
     pub(crate) filer: Snapshot<Filer>,
-    pub(crate) queue: SharedWaiting<Message, Layout>,
-    pub(crate) pass: Pass<Message, Layout>,
+    pub(crate) queue: SharedWaiting<Envelope, Layout>,
+    pub(crate) pass: Pass<Envelope, Layout>,
     pub(crate) outboxes: Outboxes,
     /// How many messages were admitted and not finished.
     pub(crate) waiting: usize,

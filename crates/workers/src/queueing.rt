@@ -9,18 +9,18 @@ ghost use Rattle.workers.specs.Messages.{IsPlaced};
 ghost use Rattle.workers.specs.Turns.{HasNext, HasPut, WaitsAgain, HasShareOf};
 ghost use Rattle.workers.specs.Words.{layout_known};
 
-use crate::message::Message;
+use crate::envelope::Envelope;
 use crate::shared_waiting::{Pass, SharedWaiting};
 use affinity_tree::Layout;
 use std::sync::Wait;
 
 /// The message that is kept, or else the one that waits longest.
 pub(crate) fn next<R: Wait>(
-    waiting: &SharedWaiting<Message, Layout>,
+    waiting: &SharedWaiting<Envelope, Layout>,
     rt: &R,
-    pass: &mut Pass<Message, Layout>,
-    kept: Option<Message>,
-) -> Option<Message>
+    pass: &mut Pass<Envelope, Layout>,
+    kept: Option<Envelope>,
+) -> Option<Envelope>
     requires of { IsOf waiting.now pass.old }
     ensures of { IsOf waiting.now pass.new }
     ensures put { (known pass.new).put ≡ (known pass.old).put }
@@ -39,11 +39,11 @@ pub(crate) fn next<R: Wait>(
 
 /// The message that waits longest. Where none is found, none waits by both passes.
 fn look_twice<R: Wait>(
-    waiting: &SharedWaiting<Message, Layout>,
+    waiting: &SharedWaiting<Envelope, Layout>,
     rt: &R,
-    pass: &mut Pass<Message, Layout>,
-    other: &mut Pass<Message, Layout>,
-) -> Option<Message>
+    pass: &mut Pass<Envelope, Layout>,
+    other: &mut Pass<Envelope, Layout>,
+) -> Option<Envelope>
     requires of { IsOf waiting.now pass.old × IsOf waiting.now other.old }
     requires key { (known other.old).key ≡ (known pass.old).key }
     ensures of { IsOf waiting.now pass.new × IsOf waiting.now other.new }
@@ -65,12 +65,12 @@ fn look_twice<R: Wait>(
 /// `next` for who has another pass of the queue beside: where no message is found, none waits by
 /// both passes, and so none at all where nobody else has a pass.
 pub(crate) fn next_beside<R: Wait>(
-    waiting: &SharedWaiting<Message, Layout>,
+    waiting: &SharedWaiting<Envelope, Layout>,
     rt: &R,
-    pass: &mut Pass<Message, Layout>,
-    other: &mut Pass<Message, Layout>,
-    kept: Option<Message>,
-) -> Option<Message>
+    pass: &mut Pass<Envelope, Layout>,
+    other: &mut Pass<Envelope, Layout>,
+    kept: Option<Envelope>,
+) -> Option<Envelope>
     requires of { IsOf waiting.now pass.old × IsOf waiting.now other.old }
     requires key { (known other.old).key ≡ (known pass.old).key }
     ensures of { IsOf waiting.now pass.new × IsOf waiting.now other.new }
@@ -92,11 +92,11 @@ pub(crate) fn next_beside<R: Wait>(
 
 /// Puts a message, or answers it where the queue is full.
 fn wait_again<R: Wait>(
-    waiting: &SharedWaiting<Message, Layout>,
+    waiting: &SharedWaiting<Envelope, Layout>,
     rt: &R,
-    pass: &mut Pass<Message, Layout>,
-    message: Message,
-) -> Option<Message>
+    pass: &mut Pass<Envelope, Layout>,
+    message: Envelope,
+) -> Option<Envelope>
     requires of { IsOf waiting.now pass.old }
     requires placed { (layout : trees.Layout) × (layout_known (known pass.old) ≡ Some layout)
         × IsPlaced layout message }
@@ -111,11 +111,11 @@ fn wait_again<R: Wait>(
 
 /// Puts the message that is kept, if one is, and answers what is kept then.
 pub(crate) fn put_kept<R: Wait>(
-    waiting: &SharedWaiting<Message, Layout>,
+    waiting: &SharedWaiting<Envelope, Layout>,
     rt: &R,
-    pass: &mut Pass<Message, Layout>,
-    kept: Option<Message>,
-) -> Option<Message>
+    pass: &mut Pass<Envelope, Layout>,
+    kept: Option<Envelope>,
+) -> Option<Envelope>
     requires of { IsOf waiting.now pass.old }
     requires placed { (layout : trees.Layout) × (layout_known (known pass.old) ≡ Some layout)
         × IfSome kept (IsPlaced layout) }

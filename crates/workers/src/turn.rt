@@ -3,7 +3,7 @@
 ghost use Rattle.std.specs.Prelude.{◌≡◌};
 ghost use Rattle.workers.specs.Turns.{turned_by, IsTold};
 
-use crate::message::Message;
+use crate::envelope::Envelope;
 use crate::shared::Filer;
 use crate::shared_waiting::{Pass, SharedWaiting};
 use crate::turned::{Gate, Served, Turned};
@@ -24,7 +24,7 @@ fn refused(refusal: Refusal) -> Turned
 }
 
 /// What is kept of a message that was tried, and what its turn answers.
-pub(crate) fn told(served: Served) -> (Option<Message>, Turned)
+pub(crate) fn told(served: Served) -> (Option<Envelope>, Turned)
     ensures { IsTold served result.0 result.1 }
 {
     match served {
@@ -47,7 +47,7 @@ impl Worker {
     pub fn turn_in<R: Wait, G: Gate>(
         &mut self,
         filer: &Filer,
-        queue: &SharedWaiting<Message, Layout>,
+        queue: &SharedWaiting<Envelope, Layout>,
         rt: &R,
         gate: &G,
         moment: Moment,
@@ -70,8 +70,8 @@ impl Worker {
     pub fn turn_beside<R: Wait, G: Gate>(
         &mut self,
         filer: &Filer,
-        queue: &SharedWaiting<Message, Layout>,
-        other: &mut Pass<Message, Layout>,
+        queue: &SharedWaiting<Envelope, Layout>,
+        other: &mut Pass<Envelope, Layout>,
         rt: &R,
         gate: &G,
         moment: Moment,

@@ -8,7 +8,7 @@ ghost use Rattle.workers.specs.shared_waiting.Passes.{known};
 ghost use Rattle.workers.specs.Balance.{IsEven};
 
 use crate::inner::carry;
-use crate::message::Message;
+use crate::envelope::Envelope;
 use crate::parts::WorkerParts;
 use crate::queueing::{next, next_beside, put_kept};
 use crate::serving::serve;
@@ -33,9 +33,9 @@ use std::sync::Wait;
 /// took and didn't give; and its seat has no open grant.
 pub struct Worker {
     pub(crate) seat: Seat<Service>,
-    pub(crate) pass: Pass<Message, Layout>,
+    pub(crate) pass: Pass<Envelope, Layout>,
     pub(crate) hand: BatchInHand,
-    pub(crate) kept: Option<Message>,
+    pub(crate) kept: Option<Envelope>,
     pub ghost balance: { IsEven (known pass) (entries_of (view seat)) kept },
     pub ghost in_hand: { AreHands job_takes job_gives (entries_of (view seat)) (batches_in hand) },
     pub ghost none_open: { HasNoGrant seat },
@@ -72,7 +72,7 @@ impl Worker {
     pub(crate) fn pick<R: Wait>(
         &mut self,
         filer: &Filer,
-        queue: &SharedWaiting<Message, Layout>,
+        queue: &SharedWaiting<Envelope, Layout>,
         rt: &R,
     )
         requires { IsAt filer.now queue.now self.old }
@@ -91,8 +91,8 @@ impl Worker {
     pub(crate) fn pick_beside<R: Wait>(
         &mut self,
         filer: &Filer,
-        queue: &SharedWaiting<Message, Layout>,
-        other: &mut Pass<Message, Layout>,
+        queue: &SharedWaiting<Envelope, Layout>,
+        other: &mut Pass<Envelope, Layout>,
         rt: &R,
     )
         requires inside { IsAt filer.now queue.now self.old }
@@ -116,7 +116,7 @@ impl Worker {
     pub(crate) fn try_kept<G: Gate>(
         &mut self,
         filer: &Filer,
-        queue: &SharedWaiting<Message, Layout>,
+        queue: &SharedWaiting<Envelope, Layout>,
         gate: &G,
         moment: Moment,
     ) -> Turned
@@ -140,7 +140,7 @@ impl Worker {
     pub(crate) fn put<R: Wait>(
         &mut self,
         filer: &Filer,
-        queue: &SharedWaiting<Message, Layout>,
+        queue: &SharedWaiting<Envelope, Layout>,
         rt: &R,
     )
         requires { IsAt filer.now queue.now self.old }
@@ -159,7 +159,7 @@ impl Worker {
     pub(crate) fn carry(
         &mut self,
         filer: &Filer,
-        queue: &SharedWaiting<Message, Layout>,
+        queue: &SharedWaiting<Envelope, Layout>,
         call: InnerCall,
     ) -> Result<Tended, TendRefusal>
         requires inside { IsAt filer.now queue.now self.old }
@@ -218,9 +218,9 @@ impl Worker {
     pub fn split_with(
         self,
         filer: &Filer,
-        queue: &SharedWaiting<Message, Layout>,
-        own: &SharedWaiting<Message, Layout>,
-        pass: Pass<Message, Layout>,
+        queue: &SharedWaiting<Envelope, Layout>,
+        own: &SharedWaiting<Envelope, Layout>,
+        pass: Pass<Envelope, Layout>,
     ) -> (Worker, Worker)
         requires inside { IsAt filer.now queue.now self }
         requires some { 1 < seats_in self }

@@ -12,7 +12,7 @@ use std::alloc::Global;
 use std::snapshot::Snapshot;
 use std::sync::Arc;
 use workers::shared_waiting::{Pass, SharedWaiting};
-use workers::{Filer, Message, Worker};
+use workers::{Envelope, Filer, Worker};
 
 /// How many messages all lanes hold together.
 const PLACES: usize = 1024;
@@ -33,8 +33,8 @@ impl<D: Device, R> Lane<D, R> {
         rt: R,
         alloc: Global,
         filer: Arc<Filer>,
-        queue: SharedWaiting<Message, Layout>,
-        pass: Pass<Message, Layout>,
+        queue: SharedWaiting<Envelope, Layout>,
+        pass: Pass<Envelope, Layout>,
         worker: Worker,
         lane: usize,
         lanes: usize,

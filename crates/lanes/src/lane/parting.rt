@@ -5,13 +5,13 @@ use crate::intake::Intake;
 use crate::lane::Lane;
 use affinity_tree::Layout;
 use workers::shared_waiting::{Pass, SharedWaiting};
-use workers::{Message, Worker};
+use workers::{Envelope, Worker};
 
 /// The worker of a lane, its queue, and the pass that only admitted.
 pub struct LaneParts {
     pub worker: Worker,
-    pub queue: SharedWaiting<Message, Layout>,
-    pub pass: Pass<Message, Layout>,
+    pub queue: SharedWaiting<Envelope, Layout>,
+    pub pass: Pass<Envelope, Layout>,
 }
 
 impl<D: Device + Drop, R: Drop> Lane<D, R> {
