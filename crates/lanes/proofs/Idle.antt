@@ -46,7 +46,7 @@ pub none-left : (pass pass' : Pass Message layouts.Layout) (worker worker' : Wor
 none-left pass pass' worker worker' h held same_pass same_worker weigh =
     subst (λ (v : Passed). total weigh (v.put ++ (passed worker').put) ≡ total weigh (v.picked ++ (passed worker').picked)) (sym same_pass)
     (subst (λ (w : Passed). total weigh ((known pass).put ++ w.put) ≡ total weigh ((known pass).picked ++ w.picked)) (sym same_worker)
-    (none-waits (known pass) (passed worker) h.whole held weigh))
+    (none-waits (known pass) (passed worker) h.0 held weigh))
 
 -- what is told of a turn that found no message
 pub idle-is : (turned : Turned) (boxes : Boxes) (worked : Worked) (boxes' : Boxes) → IsPutAs turned boxes worked boxes' → worked ≡ works.Idle

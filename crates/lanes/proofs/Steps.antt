@@ -58,11 +58,11 @@ whole-same a b c d a' b' c' d' p q r s h =
 
 pub both-kept : (p p' : Pass Message layouts.Layout) (w w' : Worker) → HasShareOf (known p) (known p') → HasShareOf (passed w) (passed w')
     → HasBoth p w → HasBoth p' w'
-both-kept p p' w w' h k b = record {
-  whole = whole-same (known p).share (known p).halvings (passed w).share (passed w).halvings (known p').share (known p').halvings (passed w').share
-      (passed w').halvings h.0 h.1 k.0 k.1 b.whole;
-  key = h.2 ∙ b.key ∙ sym k.2;
-}
+both-kept p p' w w' h k b = (
+  whole-same (known p).share (known p).halvings (passed w).share (passed w).halvings (known p').share (known p').halvings (passed w').share
+      (passed w').halvings h.0 h.1 k.0 k.1 b.0,
+  h.2 ∙ b.1 ∙ sym k.2,
+)
 
 pub same-share : (p p' : Pass Message layouts.Layout) → known p' ≡ known p → HasShareOf (known p) (known p')
 same-share p p' e = (ap (λ (v : Passed). v.share) e, ap (λ (v : Passed). v.halvings) e, ap (λ (v : Passed). v.key) e)

@@ -32,9 +32,8 @@ use Rattle.lanes.specs.Reading.{HasRead}
 use Rattle.lanes.specs.Writing.{HasWritten}
 
 -- both passes of a queue, which nobody else has
-pub record HasBoth (pass : Pass Message layouts.Layout) (worker : Worker) : Type 0 where
-  pub whole : IsWhole (both (known pass) (passed worker))
-  pub key : (known pass).key ≡ (passed worker).key
+abbrev pub HasBoth : Pass Message layouts.Layout → Worker → Type 0
+HasBoth pass worker = IsWhole (both (known pass) (passed worker)) × ((known pass).key ≡ (passed worker).key)
 
 -- what was put into the queue by these was picked, each message as often
 abbrev pub HasNoneLeft : Pass Message layouts.Layout → Worker → Type 0

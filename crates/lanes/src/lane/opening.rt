@@ -81,6 +81,7 @@ impl<D: Device, R> Lane<D, R> {
     pub fn open(&mut self, device: D) -> Result<usize, D>
         ensures opens { Opens self.old.connections self.old.intake.outboxes device result
             self.new.connections self.new.intake.outboxes }
+        ensures pass { known self.new.intake.pass ≡ known self.old.intake.pass }
         ensures worker { self.new.worker ≡ self.old.worker }
         ensures filer { arc_value self.new.filer ≡ arc_value self.old.filer }
     {

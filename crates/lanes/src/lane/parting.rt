@@ -18,7 +18,7 @@ impl<D: Device + Drop, R: Drop> Lane<D, R> {
     ghost use Rattle.std.specs.Prelude.{◌≡◌, []};
     ghost use Rattle.std.specs.Arc.{arc_value};
     ghost use Rattle.workers.specs.shared_waiting.Passes.{known, IsOf};
-    ghost use Rattle.workers.specs.Words.{entries_in, IsAt};
+    ghost use Rattle.workers.specs.Words.{entries_in, layout_in, IsAt};
     ghost use Rattle.lanes.specs.Lanes.{HasBoth};
     ghost use Rattle.lanes.specs.Parting.{IsLeft};
 
@@ -31,7 +31,8 @@ impl<D: Device + Drop, R: Drop> Lane<D, R> {
         ensures inside { IsAt (arc_value self.filer) result.queue result.worker }
         ensures both { HasBoth result.pass result.worker }
         ensures picked { (known result.pass).picked ≡ [] }
-        ensures told { ∥ IsLeft (known result.pass).put (entries_in result.worker) ∥₁ }
+        ensures told { ∥ IsLeft (layout_in (arc_value self.filer)) (known result.pass).put
+            (entries_in result.worker) ∥₁ }
     {
         let Lane {
             filer: _,

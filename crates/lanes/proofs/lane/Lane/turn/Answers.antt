@@ -19,7 +19,7 @@ turn_beside-turned-requires-clause-inside g c =
     subst (λ (f : Filer). IsAt f l.intake.queue l.worker) (sym same) (at-inside (arc_value l.filer) l.intake.queue l.worker l.inside)
 
 pub turn_beside-turned-requires-clause-key : goal.turn_beside-turned-requires-clause-key
-turn_beside-turned-requires-clause-key g c = c.args.self.now.both.key
+turn_beside-turned-requires-clause-key g c = c.args.self.now.both.1
 
 pub invariant_of-self-4 : goal.invariant_of-self-4
 invariant_of-self-4 g c =
