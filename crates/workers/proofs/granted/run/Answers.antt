@@ -19,7 +19,7 @@ pub work_node-outcome-requires-clause-node : goal.work_node-outcome-requires-cla
 work_node-outcome-requires-clause-node g c =
     let L = layout_in c.args.filer.now in
     let begun = c.in_ok-grant.ensures.granted in
-    let placed = subst (λ (x : Message). IsPlaced L x) (sym c.message.ensures) c.requires.placed in
+    let placed = subst (λ (x : Message). IsPlaced L x) (sym c.message-message.ensures) c.requires.placed in
     subst (λ (x : Layout). IsNode x (node_lent x c.in_ok-grant.grant).affinity) (sym c.layout-layout.ensures)
     (subst (λ a. IsNode L a) (sym begun.affinity) placed.node)
 
@@ -31,9 +31,9 @@ work_node-outcome-requires-clause-whole g c =
 pub work_node-outcome-requires-clause-asks : goal.work_node-outcome-requires-clause-asks
 work_node-outcome-requires-clause-asks g c =
     let L = layout_in c.args.filer.now in
-    let m = c.message.result.now in
+    let m = c.message-message.result.now in
     let begun = c.in_ok-grant.ensures.granted in
-    let placed = subst (λ (x : Message). IsPlaced L x) (sym c.message.ensures) c.requires.placed in
+    let placed = subst (λ (x : Message). IsPlaced L x) (sym c.message-message.ensures) c.requires.placed in
     let l = node_lent L c.in_ok-grant.grant in
     subst (λ (x : Layout). AsksFor m.call x (node_lent x c.in_ok-grant.grant).affinity (node_lent x c.in_ok-grant.grant).parcels)
     (sym c.layout-layout.ensures) (
@@ -44,9 +44,9 @@ work_node-outcome-requires-clause-asks g c =
 
 pub returns-clause-ran : goal.returns-clause-ran
 returns-clause-ran g c =
-    let m = c.message.result.now in
+    let m = c.message-message.result.now in
     subst (λ (x : Message). HasRunOn (layout_in c.args.filer.now) (view c.args.seat.now) x c.args.moment c.work_node-outcome.result
-    (node_lent (layout_in c.args.filer.now) c.work_node-outcome.new.node) (view c.begin_node.new.seat)) c.message.ensures
+    (node_lent (layout_in c.args.filer.now) c.work_node-outcome.new.node) (view c.begin_node.new.seat)) c.message-message.ensures
     (record {
       before = node_lent (layout_in c.args.filer.now) c.in_ok-grant.grant;
       granted = c.in_ok-grant.ensures.granted;
