@@ -103,11 +103,7 @@ fn read<R: Wait>(lane: &mut Lane<Socket, R>, key: usize, buffers: &mut Buffers)
 
 /// Reads each connection of a lane once that may be read, or cuts what is kept of it; in each round
 /// another one first.
-pub(crate) fn read_all<R: Wait>(
-    lane: &mut Lane<Socket, R>,
-    keys: &mut Keys,
-    buffers: &mut Buffers,
-)
+pub(crate) fn read_all<R: Wait>(lane: &mut Lane<Socket, R>, keys: &mut Keys, buffers: &mut Buffers)
     ensures { Stays lane.old lane.new }
 {
     keys.turn();
@@ -155,11 +151,7 @@ fn write<R>(lane: &mut Lane<Socket, R>, key: usize, buffers: &mut Buffers) -> bo
 }
 
 /// Writes the replies of each connection that may have some. Answers whether there may be more.
-pub(crate) fn write_all<R>(
-    lane: &mut Lane<Socket, R>,
-    keys: Keys,
-    buffers: &mut Buffers,
-) -> bool
+pub(crate) fn write_all<R>(lane: &mut Lane<Socket, R>, keys: Keys, buffers: &mut Buffers) -> bool
     ensures { Stays lane.old lane.new }
 {
     let mut is_left = false;

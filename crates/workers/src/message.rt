@@ -1,7 +1,7 @@
 //! Messages to workers.
 
-use affinity_tree::scheduler::Origin;
 use affinity_tree::Affinity;
+use affinity_tree::scheduler::Origin;
 use nfs_values::{Call, Credential};
 use outboxes::Room;
 

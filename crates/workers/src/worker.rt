@@ -7,8 +7,8 @@ ghost use Rattle.service.specs.Jobs.{job_takes, job_gives};
 ghost use Rattle.workers.specs.shared_waiting.Passes.{known};
 ghost use Rattle.workers.specs.Balance.{IsEven};
 
-use crate::inner::carry;
 use crate::envelope::Envelope;
+use crate::inner::carry;
 use crate::parts::WorkerParts;
 use crate::queueing::{next, next_beside, put_kept};
 use crate::serving::serve;

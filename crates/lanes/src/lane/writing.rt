@@ -41,6 +41,11 @@ impl<D: Device, R> Lane<D, R> {
         ensures pass { known self.new.intake.pass ≡ known self.old.intake.pass }
         ensures filer { arc_value self.new.filer ≡ arc_value self.old.filer }
     {
-        write_under(&mut self.connections, key, &mut self.intake.outboxes, buffer)
+        write_under(
+            &mut self.connections,
+            key,
+            &mut self.intake.outboxes,
+            buffer,
+        )
     }
 }
