@@ -132,7 +132,7 @@ module _ {D : Type 0} (unread written : D → Option (List ℕ)) (layout : Layou
       story-writes unread written layout entries messages boxes (get slab) s (get slab') key c after is (sets-at slab slab' key c after is now)
       (ap (λ (x : Stream). x.connection.0) kept.0) (ap (λ x. x.value) kept.3)
       boxes' takes.1.next takes.1.others (reads-kept unread written c boxes result after boxes' h c.opened.value)
-      (λ waiting replies e r. writes-on unread written c boxes result after boxes' h c.opened.value waiting replies e r))
+      (λ waiting replies e r. let w = writes-on unread written c boxes result after boxes' h c.opened.value waiting replies e r in (w.0, w.1.0, w.1.1)))
 
   pub writes-told : (slab slab' : Slab (Connection D)) (key : ℕ) (messages : List Message) (boxes boxes' : Boxes) (result : Sent)
       → WritesUnder unread written slab key (get slab key) boxes result slab' boxes' → Told messages boxes slab → Told messages boxes' slab'
