@@ -51,7 +51,7 @@ none-left pass pass' worker worker' h held same_pass same_worker weigh =
 -- what is told of a turn that found no message
 pub idle-is : (turned : Turned) (boxes : Boxes) (worked : Worked) (boxes' : Boxes) → IsPutAs turned boxes worked boxes' → worked ≡ works.Idle
     → turned ≡ turns.Idle
-idle-is (turns.Done a) boxes worked boxes' (_, (number, (is, _))) e = let no : works.Done number ≡ works.Idle = sym is ∙ e in absurd cc
+idle-is (turns.Done a) boxes worked boxes' (_, (number, is, _)) e = let no : works.Done number ≡ works.Idle = sym is ∙ e in absurd cc
 idle-is turns.Moved boxes worked boxes' (_, is) e = let no : works.Moved ≡ works.Idle = sym is ∙ e in absurd cc
 idle-is (turns.Busy at word) boxes worked boxes' (_, is) e = let no : works.Busy at word ≡ works.Idle = sym is ∙ e in absurd cc
 idle-is turns.Worn boxes worked boxes' (_, is) e = let no : works.Worn ≡ works.Idle = sym is ∙ e in absurd cc

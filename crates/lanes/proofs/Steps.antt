@@ -269,6 +269,12 @@ module _ {D : Type 0} (unread written : D → Option (List ℕ)) (layout : Layou
 -- ---- under a key
 
 module _ {D R : Type 0} (unread written : D → Option (List ℕ)) (layout : Layout) where
+  pub read-owing : (c : Connection D) (start sink sink' : Intake R) (size : ℕ) (result : Came) (between : Connection D) → start ≡ owing_in c.owed sink
+      → HasRead unread written HasTakenIn has_room_in layout c start size result between sink'
+      → HasRead unread written HasTakenIn has_room_in layout c (owing_in c.owed sink) size result between sink'
+  read-owing c start sink sink' size result between e h =
+      subst (λ (s : Intake R). HasRead unread written HasTakenIn has_room_in layout c s size result between sink') e h
+
   pub reads-under : (slab slab' : Slab (Connection D)) (key : ℕ) (o : Option (Connection D)) (before after : Connection D) (sink sink' : Intake R)
       (size : ℕ) (result : Came) → Some before ≡ o → slab' ≡ with_value slab key after
       → ReadsOn unread written layout before sink size result after sink' → ReadsUnder unread written layout slab key o sink size result slab' sink'

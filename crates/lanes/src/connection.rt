@@ -51,7 +51,7 @@ pub struct Connection<D> {
 }
 
 impl<D> Connection<D> {
-    ghost use Rattle.lanes.specs.Connections.{flagged, now_of, number_of};
+    ghost use Rattle.lanes.specs.Connections.{flagged, now_of, number_of, owing};
     ghost use Rattle.lanes.specs.Connections.{IsStopped};
     ghost use Rattle.std.specs.Prelude.{◌↔◌, [], false, IsTrue};
 
@@ -101,6 +101,13 @@ impl<D> Connection<D> {
     /// About how much room these take, with the bytes that the device had no room for.
     pub fn owed(&self) -> usize {
         self.owed.room.saturating_add(self.rest.len())
+    }
+
+    /// So much is owed.
+    pub(crate) fn set_owed(&mut self, owed: Due)
+        ensures { self.new ≡ owing owed self.old }
+    {
+        self.owed = owed;
     }
 
     /// What the thread keeps of it.

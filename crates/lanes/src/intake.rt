@@ -40,6 +40,17 @@ pub struct Intake<R> {
     pub ghost layout: { layout_known (known pass) ≡ Some (layout_in filer.value) },
 }
 
+impl<R> Intake<R> {
+    ghost use Rattle.lanes.specs.Lanes.{owing_in};
+
+    /// So much is owed to the connection that is read.
+    pub(crate) fn set_owed(&mut self, owed: Due)
+        ensures { self.new ≡ owing_in owed self.old }
+    {
+        self.owed = owed;
+    }
+}
+
 impl<R: Wait> RecordSink for Intake<R> {
     ghost use Rattle.lanes.specs.Intakes.{HasTakenIn, has_room_in};
     ghost use Rattle.lanes.specs.lemmas.Coming.{taken_none, taken_more};
