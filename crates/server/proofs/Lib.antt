@@ -1,2 +1,4 @@
 mod Staying
 mod Remaining
+mod Ended
+mod Crossing
