@@ -1,10 +1,11 @@
 use Rattle.std.proofs.Common.{◌∙◌, ap, arith, subst, sym}
 use Rattle.std.specs.Arc.{arc_value}
+use Rattle.workers.specs.declared.shared.Filer.{Filer}
 use Rattle.workers.specs.declared.worker.Worker.{Worker}
 use Rattle.workers.specs.shared_waiting.Balance.{both, IsWhole}
 use Rattle.workers.specs.shared_waiting.Passes.{known}
 use Rattle.workers.specs.Balance.{Passed}
-use Rattle.workers.specs.Words.{seats_in}
+use Rattle.workers.specs.Words.{seats_in, IsAt}
 use Rattle.server.specs.Lanes.{seats_of, IsLaneOf}
 use Rattle.server.proofs.pool.Handed.{all-pushed}
 use Rattle.server.proofs.pool.Lists.{total-last}
@@ -13,6 +14,7 @@ use Rattle.server.proofs.opening.open_lanes.Goals as goal
 pub loop-index-preserved : goal.loop-index-preserved
 loop-index-preserved g c =
     let i = c.loop-index.invariant in
+    let filer = arc_value c.in_ok-filer-2.filer in
     let s = c.split_with-first.ensures in
     let x = c.in_ok-lane.lane in
     let xs = c.loop-index.lanes.items in
@@ -20,10 +22,10 @@ loop-index-preserved g c =
     let is = c.push_reserved.ensures.items in
     let n = c.push_reserved.ensures.len in
     record {
-      inside = s.first;
-      both = subst (λ (v : Passed). IsWhole (both (known c.loop-index.admits) v)) (sym s.passes.0) i.both;
+      inside = subst (λ (f : Filer). IsAt f c.in_ok-queue.queue c.split_with-first.result.0) c.deref-in-loop-index-2.ensures s.first;
+      both = subst (λ (v : Passed). IsWhole (both (known c.in_ok-queue.admits) v)) (sym s.passes.0) i.both;
       none = s.entries.0 ∙ i.none;
-      of = all-pushed (IsLaneOf (arc_value c.loop-index.filer)) xs ys x is i.of c.in_ok-lane.ensures.of;
+      of = all-pushed (IsLaneOf filer) xs ys x is i.of c.in_ok-lane.ensures.of;
       len = let a = i.len in omega (arith, n, a);
       room = c.push_reserved.ensures.capacity ∙ i.room;
       left = let a = i.left in let b = s.seats.0 in omega (arith, n, a, b);
@@ -44,7 +46,7 @@ returns-clause-lanes g c =
     let ys = c.push_reserved-2.new.self.items in
     let is = c.push_reserved-2.ensures.items in
     record {
-      of = all-pushed (IsLaneOf (arc_value c.loop-index.filer)) xs ys x is i.of c.in_ok-lane-2.ensures.of;
+      of = all-pushed (IsLaneOf (arc_value c.in_ok-filer-2.filer)) xs ys x is i.of c.in_ok-lane-2.ensures.of;
       seats =
           let a = total-last seats_of ys xs x is in
           let e = ap (λ (w : Worker). seats_in w) c.in_ok-lane-2.ensures.worker in

@@ -1,37 +1,7 @@
-use Rattle.std.proofs.Common.{ap, arith, length, refl}
+use Rattle.std.proofs.Common.{refl}
 use Rattle.std.specs.Arc.{arc_value}
 use Rattle.server.proofs.Started.{threads-of}
 use Rattle.server.proofs.running.start.Goals as goal
-
-pub join_all-lanes-requires : goal.join_all-lanes-requires
-join_all-lanes-requires g c =
-    let none = ap (λ xs. length xs) c.in_ok-man_all.ensures.none in
-    let n = c.man_all.new.lanes.ok.0 in
-    let most = c.in_ok-lanes.ensures.capacity in
-    let opened = c.in_ok-filer.ensures.room in
-    let manned = c.in_ok-man_all.ensures.room in
-    let count = c.in_ok-filer.ensures.count in
-    let tasks = c.in_ok-man_all.ensures.len in
-    let threads = c.start_all.ensures.len in
-    let a = c.in_ok-tasks.ensures.len in
-    let b = c.in_ok-threads.ensures.len in
-    omega (arith, none, n, most, opened, manned, count, tasks, threads, a, b)
-
-pub invariant_of-result : goal.invariant_of-result
-invariant_of-result g c =
-    let most = c.in_ok-lanes.ensures.capacity in
-    let opened = c.in_ok-filer.ensures.room in
-    let manned = c.in_ok-man_all.ensures.room in
-    let count = c.in_ok-filer.ensures.count in
-    let tasks = c.in_ok-man_all.ensures.len in
-    let threads = c.start_all.ensures.len in
-    let a = c.in_ok-tasks.ensures.len in
-    let b = c.in_ok-threads.ensures.len in
-    let room = c.in_ok-room.ensures in
-    record {
-      none_back = c.in_ok-man_all.ensures.none;
-      wide = (omega (arith, most, opened, manned, count, tasks, threads, a, b), omega (arith, count, tasks, threads, a, b, room));
-    }
 
 pub returns : goal.returns
 returns g c =
