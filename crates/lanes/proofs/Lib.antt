@@ -4,6 +4,7 @@ pub mod Lived
 mod Cut
 mod OneRead
 mod OneWrite
+pub mod Crossing
 pub mod Inside
 pub mod Fitting
 pub mod Steps

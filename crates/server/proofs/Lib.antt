@@ -1,2 +1,5 @@
 mod Staying
 mod Remaining
+mod Ended
+mod Started
+mod Crossing

@@ -38,10 +38,6 @@ impl Keys {
     /// before it.
     pub(crate) fn visited(&self, others: usize) -> usize {
         let key = self.first.saturating_add(others);
-        if key < self.end {
-            key
-        } else {
-            key - self.end
-        }
+        if key < self.end { key } else { key - self.end }
     }
 }

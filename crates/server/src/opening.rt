@@ -1,6 +1,6 @@
 //! A filer that is opened, with its lanes.
 
-ghost use Rattle.std.specs.Prelude.{◌≡◌, ◌≤◌, ◌<◌, [], Some, IfOk, vec_len, vec_capacity};
+ghost use Rattle.std.specs.Prelude.{◌≡◌, ◌≤◌, ◌<◌, [], IfOk, vec_len, vec_capacity};
 ghost use Rattle.std.specs.Arc.{arc_value};
 ghost use Rattle.server.specs.Lanes.{AreLanesOf, IsLaneOf};
 ghost use Rattle.server.specs.Queues.{IsNewQueue, IsReadyLane};
@@ -12,7 +12,7 @@ use affinity_tree::{AggregateSpec, Layout, VolumeSpec};
 use lanes::Lane;
 use std::alloc::{AllocError, Global};
 use std::rt::Clock;
-use std::sync::{Arc, Wait};
+use std::sync::Arc;
 use workers::shared_waiting::{Pass, SharedWaiting};
 use workers::{Envelope, Filer, Worker};
 
@@ -87,9 +87,7 @@ where
     ensures worker { IfOk result (λ opened. opened.worker ≡ worker) }
 {
     let filer = Arc::try_clone(filer)?;
-    Ok(Lane::new(
-        rt, alloc, filer, queue, admits, worker, lane, lanes,
-    ))
+    Ok(Lane::new(rt, alloc, filer, queue, admits, worker, lane, lanes))
 }
 
 /// So many lanes of a filer, which have all its seats between them.
@@ -126,16 +124,7 @@ where
         } = open_queue(alloc, &filer)?;
         let (first, second) = worker.split_with(&filer, &queue, &theirs, takes);
         worker = first;
-        let lane = open_lane(
-            rt,
-            alloc,
-            &filer,
-            theirs,
-            puts,
-            second,
-            index,
-            count,
-        )?;
+        let lane = open_lane(rt, alloc, &filer, theirs, puts, second, index, count)?;
         lanes.push_reserved(lane);
     }
     let lane = open_lane(rt, alloc, &filer, queue, admits, worker, 0, count)?;

@@ -41,8 +41,6 @@ impl Drop for Pace {
 }
 
 impl Pace {
-    ghost use Rattle.std.specs.Prelude.{◌≡◌};
-
     /// Before the first round.
     pub(crate) fn new() -> Pace {
         Pace {

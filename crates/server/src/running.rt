@@ -79,12 +79,7 @@ fn man_all<R: Net + Drop>(
 
 /// Opens a filer with so many lanes, and starts their threads. Where one can't be started those
 /// that run are stopped.
-fn start<R>(
-    rt: R,
-    alloc: Global,
-    layout: Layout,
-    workers: usize,
-) -> Result<Running<R>, ServerFault>
+fn start<R>(rt: R, alloc: Global, layout: Layout, workers: usize) -> Result<Running<R>, ServerFault>
 where
     R: Threads + Wait + Clock + Net + Copy + Drop + Send + 'static,
     requires { (0 < workers) × (workers ≤ 64) }

@@ -3,8 +3,8 @@
 ghost use Rattle.std.specs.Prelude.{◌<◌, length};
 
 use crate::ends::Ends;
-use crate::mailbox::Mailbox;
 use crate::keys::Keys;
+use crate::mailbox::Mailbox;
 use crate::pace::Pace;
 use crate::pool::StartRefusal;
 use mio::{Events, Poll};

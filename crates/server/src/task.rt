@@ -10,10 +10,9 @@ use crate::station::Station;
 use lanes::Lane;
 use std::rt::Clock;
 use std::snapshot::Snapshot;
-use std::sync::{Arc, Wait};
+use std::sync::Wait;
 use std::thread;
 use std::thread::{Promise, PromisedHandle, Threads};
-use workers::Filer;
 
 /// A lane, and what its thread has beside it.
 #[derive(Drop)]
@@ -30,8 +29,6 @@ pub struct Serves<L> {
 
 impl<R> Promise<Lane<Socket, R>> for Serves<Lane<Socket, R>> {
     ghost use Rattle.server.specs.Lanes.{Stays};
-ghost use Rattle.server.specs.Threads.{started_with};
-ghost use Rattle.std.specs.Prelude.{◌≡◌, IfOk};
 
     ghost kept_by = { λ p lane. Stays p.lane.value lane };
 }
