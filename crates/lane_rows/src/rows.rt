@@ -15,10 +15,10 @@ use std::mem;
 use std::process::Abort;
 
 /// More calls than a stream takes.
-const MANY: usize = 10_000;
+pub(crate) const MANY: usize = 10_000;
 
 /// Words as bytes, the highest byte first.
-fn bytes_of(rt: &(impl Abort + AllocGlobal), parts: &[&[u32]]) -> Vec<u8> {
+pub(crate) fn bytes_of(rt: &(impl Abort + AllocGlobal), parts: &[&[u32]]) -> Vec<u8> {
     let mut bytes = Vec::new(rt.alloc());
     for words in parts {
         for word in *words {
@@ -30,7 +30,7 @@ fn bytes_of(rt: &(impl Abort + AllocGlobal), parts: &[&[u32]]) -> Vec<u8> {
 }
 
 /// One volume of one range.
-fn layout(rt: &(impl Abort + AllocGlobal)) -> Layout {
+pub(crate) fn layout(rt: &(impl Abort + AllocGlobal)) -> Layout {
     let aggregates = [AggregateSpec { spare: 1 }];
     let volumes = [VolumeSpec::new(0, 1)];
     let made = Layout::new(rt.alloc(), &aggregates, &volumes).ok();
@@ -48,21 +48,31 @@ fn sink(rt: &(impl Abort + AllocGlobal), layout: &Layout, places: usize) -> Gath
     sink
 }
 
-/// A connection over a stream, of which so many bytes move at once.
-fn connection(
+/// A device of a stream, of which so many bytes move at once, and which fails after so many calls.
+pub(crate) fn device(
     rt: &(impl Abort + AllocGlobal),
     stream: &[&[u32]],
     size: usize,
     calls: usize,
-) -> Connection<Memory> {
-    let device = Memory {
+) -> Memory {
+    Memory {
         unread: bytes_of(rt, stream),
         given: 0,
         taken: Vec::new(rt.alloc()),
         size,
         is_waiting: false,
         calls,
-    };
+    }
+}
+
+/// A connection over such a device.
+fn connection(
+    rt: &(impl Abort + AllocGlobal),
+    stream: &[&[u32]],
+    size: usize,
+    calls: usize,
+) -> Connection<Memory> {
+    let device = device(rt, stream, size, calls);
     Connection::new(rt.alloc(), device, ConnectionNumber(0))
 }
 
