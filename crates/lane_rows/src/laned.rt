@@ -12,11 +12,11 @@ use nfs_values::{Moment, VolumeNumber};
 use std::process::Abort;
 use std::sync::Wait;
 use std::thread;
-use workers::{Tend, TendRefusal, Tended, Unwatched, Worked};
+use workers::{Gate, Tend, TendRefusal, Tended, Unwatched, Worked};
 
 /// The first of two lanes. The other is dropped.
 fn lane<R: Abort + AllocGlobal + Wait + Copy + Drop>(rt: R) -> MemoryLane<R> {
-    let layout = layout(&rt);
+    let layout = layout(&rt, 1);
     let opened = open_lanes(rt, rt.alloc(), layout).ok();
     let (lane, _other) = opened.expect(&rt, "no memory");
     lane
@@ -45,17 +45,22 @@ pub(crate) fn read_all<R: Wait>(lane: &mut MemoryLane<R>, key: usize) -> Came {
     Came::Blocked
 }
 
-/// Makes turns until no message waits. How many calls were finished.
-pub(crate) fn run_all<R: Wait>(lane: &mut MemoryLane<R>) -> usize {
+/// Makes turns until no message waits, and tells a gate of the calls. How many were finished.
+pub(crate) fn run_by<R: Wait, G: Gate>(lane: &mut MemoryLane<R>, gate: &G) -> usize {
     let mut done: usize = 0;
     for _ in 0..MANY {
-        match lane.turn(&Unwatched, Moment::START) {
+        match lane.turn(gate, Moment::START) {
             Worked::Done(_connection) => done = done.saturating_add(1),
             Worked::Idle => return done,
             Worked::Moved | Worked::Busy { node: _, word: _ } | Worked::Worn => thread::yield_now(),
         }
     }
     done
+}
+
+/// The same where nobody is told.
+pub(crate) fn run_all<R: Wait>(lane: &mut MemoryLane<R>) -> usize {
+    run_by(lane, &Unwatched)
 }
 
 /// Writes a connection until nothing waits or its device fails. Answers what came last.
@@ -197,10 +202,10 @@ fn flags_are_kept(rt: HostRuntime) {
         is_listed: true,
     };
     lane.set_flags(one, flags);
-    lane.set_flags(one + 1, Flags { has_ended: true, ..flags });
+    lane.set_flags(one.wrapping_add(1), Flags { has_ended: true, ..flags });
     let connection = lane.connection(one).expect(&rt, "an open connection");
     assert!(&rt; connection.flags() == flags);
-    assert!(&rt; lane.connection(one + 1).is_none());
+    assert!(&rt; lane.connection(one.wrapping_add(1)).is_none());
     part(rt, lane, 0);
 }
 

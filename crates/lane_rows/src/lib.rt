@@ -3,9 +3,13 @@
 #![tactic(auto)]
 
 #[cfg(test)]
+mod beside;
+#[cfg(test)]
 mod gathered;
 #[cfg(test)]
 mod laned;
+#[cfg(test)]
+mod latch;
 #[cfg(test)]
 mod memory;
 #[cfg(test)]
@@ -14,3 +18,5 @@ mod opening;
 mod rows;
 #[cfg(test)]
 mod texts;
+#[cfg(test)]
+mod watching;

@@ -29,11 +29,12 @@ pub(crate) fn bytes_of(rt: &(impl Abort + AllocGlobal), parts: &[&[u32]]) -> Vec
     bytes
 }
 
-/// One volume of one range.
-pub(crate) fn layout(rt: &(impl Abort + AllocGlobal)) -> Layout {
+/// So many volumes of one range, at most two.
+pub(crate) fn layout(rt: &(impl Abort + AllocGlobal), volumes: usize) -> Layout {
     let aggregates = [AggregateSpec { spare: 1 }];
-    let volumes = [VolumeSpec::new(0, 1)];
-    let made = Layout::new(rt.alloc(), &aggregates, &volumes).ok();
+    let volume = VolumeSpec::new(0, 1);
+    let both = [volume, volume];
+    let made = Layout::new(rt.alloc(), &aggregates, &both[..volumes.min(2)]).ok();
     made.expect(rt, "a layout")
 }
 
@@ -131,7 +132,7 @@ fn are_calls(rt: &impl Abort, sink: &Gathered, calls: &[(usize, u32)]) {
 
 /// Reads four records and writes the replies to two.
 fn whole(rt: &(impl Abort + AllocGlobal), size: usize, places: usize, capacity: usize) {
-    let layout = layout(rt);
+    let layout = layout(rt, 1);
     let mut sink = sink(rt, &layout, places);
     let stream: [&[u32]; 5] = [&NULL, &GETATTR, &NULL_IN_TWO, &GETATTR, &NO_PROGRAM];
     let mut connection = connection(rt, &stream, size, MANY);
@@ -164,7 +165,7 @@ fn each_cut_gives_the_same(rt: HostRuntime) {
 
 /// A device that fails after so many calls: what was taken is a beginning.
 fn failing(rt: &(impl Abort + AllocGlobal), size: usize, calls: usize) {
-    let layout = layout(rt);
+    let layout = layout(rt, 1);
     let mut sink = sink(rt, &layout, 100);
     let mut connection = connection(rt, &[&NULL, &NO_PROGRAM], size, calls);
     let came = read_all(rt, &mut connection, &mut sink, &layout, 100);
@@ -188,7 +189,7 @@ fn each_failure_leaves_a_beginning(rt: HostRuntime) {
 
 #[test]
 fn a_fault_ends_the_reading(rt: HostRuntime) {
-    let layout = layout(&rt);
+    let layout = layout(&rt, 1);
     let mut sink = sink(&rt, &layout, 100);
     let mut connection = connection(&rt, &[&NULL, &TOO_LONG, &NULL], 50, MANY);
     let came = read_all(&rt, &mut connection, &mut sink, &layout, 100);

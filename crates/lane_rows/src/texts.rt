@@ -61,3 +61,17 @@ pub(crate) fn lookup(xid: u32, name: u32) -> [u32; 17] {
         0x8000_0040, xid, 0, 2, 100_003, 3, 3, 0, 0, 0, 0, 12, 0, 0, 1, 2, name,
     ]
 }
+
+/// A READ call of 4 KiB of the file 2 of volume 0.
+pub(crate) fn read(xid: u32) -> [u32; 18] {
+    [
+        0x8000_0044, xid, 0, 2, 100_003, 3, 6, 0, 0, 0, 0, 12, 0, 0, 2, 0, 0, 4_096,
+    ]
+}
+
+/// A GETATTR call of the root of volume 1.
+pub(crate) fn getattr(xid: u32) -> [u32; 15] {
+    [
+        0x8000_0038, xid, 0, 2, 100_003, 3, 1, 0, 0, 0, 0, 12, 1, 0, 1,
+    ]
+}
