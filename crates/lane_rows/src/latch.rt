@@ -23,6 +23,7 @@ const BESIDE: u32 = 8;
 const LOOKS: usize = 10_000_000;
 
 /// What was seen of the two calls. It holds one after its begin until the other has ended.
+#[derive(Drop)]
 struct Latch {
     held_begun: AtomicBool,
     beside_ended: AtomicBool,
