@@ -16,19 +16,38 @@ fn name(first: u32, second: u32) -> u32 {
     0x6161_0000 + (first % 16 << 24) + (second % 16 << 16)
 }
 
-/// A device of a stream that makes four files and looks each of them up.
+/// A device that makes eight files, whose names begin with a letter of that number.
 fn maker<R: Abort + AllocGlobal>(rt: &R, first: u32) -> Memory {
     device(
         rt,
         &[
             &create(0, name(first, 0)),
-            &lookup(1, name(first, 0)),
-            &create(2, name(first, 1)),
-            &lookup(3, name(first, 1)),
-            &create(4, name(first, 2)),
-            &lookup(5, name(first, 2)),
-            &create(6, name(first, 3)),
-            &lookup(7, name(first, 3)),
+            &create(1, name(first, 1)),
+            &create(2, name(first, 2)),
+            &create(3, name(first, 3)),
+            &create(4, name(first, 4)),
+            &create(5, name(first, 5)),
+            &create(6, name(first, 6)),
+            &create(7, name(first, 7)),
+        ],
+        50,
+        MANY,
+    )
+}
+
+/// A device that looks two files of each of the four up.
+fn finder<R: Abort + AllocGlobal>(rt: &R) -> Memory {
+    device(
+        rt,
+        &[
+            &lookup(0, name(0, 0)),
+            &lookup(1, name(0, 7)),
+            &lookup(2, name(1, 0)),
+            &lookup(3, name(1, 7)),
+            &lookup(4, name(2, 0)),
+            &lookup(5, name(2, 7)),
+            &lookup(6, name(3, 0)),
+            &lookup(7, name(3, 7)),
         ],
         50,
         MANY,
@@ -60,28 +79,26 @@ fn are_done(rt: &impl Abort, taken: &[u8]) {
     assert!(rt; at == taken.len());
 }
 
-/// Serves both connections of a lane to their ends.
+/// Serves a connection of a lane to its end, whose eight calls are to be done.
+fn serve_one<R: Abort + AllocGlobal + Wait>(rt: &R, lane: &mut MemoryLane<R>, key: usize) {
+    assert!(rt; read_all(lane, key) == Came::End);
+    assert!(rt; run_all(lane) == 8);
+    assert!(rt; write_all(rt, lane, key) == Sent::All);
+    assert!(rt; lane.waiting() == 0);
+    let device = lane.close(key).expect(rt, "an open connection");
+    are_done(rt, &device.taken);
+}
+
+/// Serves two connections of a lane.
 fn serve<R: Abort + AllocGlobal + Wait>(rt: &R, mut lane: MemoryLane<R>) -> MemoryLane<R> {
     for key in 0..2 {
-        assert!(rt; read_all(&mut lane, key) == Came::End);
-    }
-    assert!(rt; run_all(&mut lane) == 16);
-    for key in 0..2 {
-        assert!(rt; write_all(rt, &mut lane, key) == Sent::All);
+        serve_one(rt, &mut lane, key);
     }
     lane
 }
 
-/// Looks at what both connections of a lane got.
-fn look<R: Abort + Wait + Drop>(rt: &R, mut lane: MemoryLane<R>) {
-    assert!(rt; lane.waiting() == 0);
-    for key in 0..2 {
-        let device = lane.close(key).expect(rt, "an open connection");
-        are_done(rt, &device.taken);
-    }
-}
-
-/// Serves four connections, two on each of two lanes, which run beside each other.
+/// Serves four connections, two on each of two lanes, which run beside each other, and looks for
+/// the files on one of them.
 fn run<R>(rt: R)
 where
     R: Abort + AllocGlobal + Threads + Wait + Copy + Drop + Send + Sync,
@@ -95,13 +112,13 @@ where
         let other = maker(&rt, 2 + key);
         let _key = open(&rt, &mut second, other);
     }
-    let (first, second) = thread::join(
+    let (mut first, _second) = thread::join(
         &rt,
         move || -> MemoryLane<R> { serve(&rt, first) },
         move || -> MemoryLane<R> { serve(&rt, second) },
     );
-    look(&rt, first);
-    look(&rt, second);
+    let key = open(&rt, &mut first, finder(&rt));
+    serve_one(&rt, &mut first, key);
 }
 
 #[test]
