@@ -26,7 +26,7 @@ fn arguments(rt: &(impl Abort + AllocGlobal), number: u32) -> (u32, Vec<u32>) {
         1 => (3, [&target(volume, file % 64), &[], &[]]),
         2 => (1, [&root, &[], &[]]),
         3 => (7, [&opened, &[0, file % 3 * 4096, 4100, 0, 4100], &[7; 1025]]),
-        4 => (6, [&opened, &[0, 0, 8192], &[]]),
+        4 => (6, [&opened, &[0, 0, 64], &[]]),
         5 => (18, [&root, &[], &[]]),
         6 => (12, [&target(volume, file % 16), &[], &[]]),
         _ => (0, [&[], &[], &[]]),

@@ -9,13 +9,13 @@ use std::thread;
 use std::thread::Threads;
 
 /// How many calls each client makes.
-const EACH: u32 = 1_500;
+const EACH: u32 = 1_000;
 
 /// How many it sends before it hears the replies.
 const AT_ONCE: u32 = 50;
 
 /// How many workers run them, one number after another.
-const WORKERS: [&str; 4] = ["1", "2", "3", "4"];
+const WORKERS: [&str; 3] = ["1", "2", "4"];
 
 /// Sends calls from a number on, and hears as many replies, in whatever order: each to a call of
 /// these that had none.
