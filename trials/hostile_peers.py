@@ -1,6 +1,7 @@
 """Peers that harm themselves: others are served as if they weren't there, and what they asked whole is done."""
 
 import contextlib
+import pathlib
 import random
 import socket
 import struct
@@ -341,6 +342,31 @@ def more_than_places(address):
         peer.close()
 
 
+def ticks(process):
+    """How long all threads of a process have run, in hundredths of a second (Linux)."""
+    told = pathlib.Path(f"/proc/{process.pid}/stat").read_text(encoding="ascii").rpartition(")")[2].split()
+    return int(told[11]) + int(told[12])
+
+
+def rests(server):
+    """Where nothing comes the threads sleep, though connections are open, half a record is there and a peer doesn't read."""
+    idle = [connect(server.address) for _ in range(10)]
+    idle[0].sendall(call(1, 1, handle(0))[:30])
+    peer, thread = asks_and_never_reads(server.address, 500)
+
+    def is_at_rest():
+        before = ticks(server.process)
+        time.sleep(1)
+        return ticks(server.process) <= before + 1
+
+    hold(until(is_at_rest), "the threads don't sleep where nothing comes")
+    with contextlib.suppress(OSError):
+        peer.shutdown(socket.SHUT_RDWR)
+    thread.join()
+    for it in (peer, *idle):
+        it.close()
+
+
 TRIALS = [
     worked_rows,
     one_byte_at_a_time,
@@ -370,6 +396,7 @@ def run(filer):
                     passed += 1
                 except (Differs, OSError) as difference:
                     failures.append(f"{trial.__name__}: {type(difference).__name__}: {difference}")
+            rests(server)
             client = Client(server.address)
             client.null()
             client.close()
