@@ -7,3 +7,4 @@ mod OneWrite
 pub mod Inside
 pub mod Fitting
 pub mod Steps
+pub mod Idle

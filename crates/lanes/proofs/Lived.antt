@@ -92,6 +92,7 @@ module _ {D : Type 0} (unread written : D → Option (List ℕ)) (layout : Layou
     admitted = ap (map seen_of) no_message;
     finished = sym (ap served_in none);
     at_once = refl;
+    in_order = λ n. ([], refl);
     new_numbers = λ n h. refl;
     each = λ key c is. absurd (none-is c (sym (vacant key) ∙ is));
     apart = λ k l c d is at e. absurd (none-is c (sym (vacant k) ∙ is));
@@ -109,6 +110,7 @@ module _ {D : Type 0} (unread written : D → Option (List ℕ)) (layout : Layou
       admitted = s.admitted;
       finished = s.finished ∙ sym same;
       at_once = s.at_once;
+      in_order = s.in_order;
       new_numbers = s.new_numbers;
       each = s.each;
       apart = s.apart;
@@ -124,6 +126,7 @@ module _ {D : Type 0} (unread written : D → Option (List ℕ)) (layout : Layou
       finished = served-append s.endings (Served e ∷ []) ∙ ap (λ (l : List FilerEntry). l ++ e ∷ []) s.finished
           ∙ ap (λ (l : List FilerEntry). served_in entries ++ l) (sym is) ∙ sym (entries-append entries (e ∷ []));
       at_once = at-once-append s.endings (Served e ∷ []) ∙ append-nil (at_once_of s.endings) ∙ s.at_once;
+      in_order = s.in_order;
       new_numbers = s.new_numbers;
       each = λ key c at. served-put unread written layout boxes s.came s.endings c (Served e) a said (s.each key c at);
       apart = s.apart;
@@ -140,6 +143,7 @@ module _ {D : Type 0} (unread written : D → Option (List ℕ)) (layout : Layou
       admitted = s.admitted;
       finished = s.finished;
       at_once = s.at_once;
+      in_order = s.in_order;
       new_numbers = λ n h. s.new_numbers n (omega (arith, h, rises));
       each = by-slot slots slots' key c sets (λ d. IsServed unread written layout (opened boxes) s.came s.endings d) here
           (λ other d n at. served-within unread written layout boxes (opened boxes) s.came s.endings d (omega (arith, rises))
@@ -226,6 +230,15 @@ module _ {D : Type 0} (unread written : D → Option (List ℕ)) (layout : Layou
                 ∙ append-nil (served_of s.endings) ∙ s.finished;
             at_once = at-once-append s.endings (map AtOnce answers) ∙ ap (λ (l : List Addressed). at_once_of s.endings ++ l) (all-at-once answers)
                 ∙ ap (λ (l : List Addressed). l ++ answers) s.at_once ∙ sym (answered-append s.came xs);
+            in_order = λ n. either n (number_of c') ((hs : List Heard) × (of_connection n (s.came ++ xs) ≡ arrivals layout n 0 hs))
+                (λ e. (here.heard, ap (λ m. of_connection m (s.came ++ xs)) e ∙ here.arrived ∙ ap (λ m. arrivals layout m 0 here.heard) (sym e)))
+                (λ e.
+                let was_so = s.in_order n in
+                let none = of-other layout n (number_of c) c.stream.records heard (λ is. e (sym is ∙ sym number)) in (
+                  was_so.0,
+                  of-append n s.came xs ∙ ap (λ (l : List Arrival). l ++ of_connection n xs) was_so.1
+                      ∙ ap (λ (l : List Arrival). arrivals layout n 0 was_so.0 ++ l) none ∙ append-nil (arrivals layout n 0 was_so.0),
+                ));
             new_numbers = λ n h.
                 let low : boxes.next ≤ n = let e = put-next answers boxes in omega (arith, h, e) in
                 of-append n s.came xs ∙ ap (λ (l : List Arrival). l ++ of_connection n xs) (s.new_numbers n low)
@@ -248,6 +261,7 @@ module _ {D : Type 0} (unread written : D → Option (List ℕ)) (layout : Layou
         admitted = s.admitted;
         finished = s.finished;
         at_once = s.at_once;
+        in_order = s.in_order;
         new_numbers = λ n h. s.new_numbers n (omega (arith, h, next));
         each = by-slot slots slots' key c' sets (λ d. IsServed unread written layout boxes' s.came s.endings d) here
             (λ other d n at. served-within unread written layout boxes boxes' s.came s.endings d (omega (arith, next))
@@ -287,6 +301,7 @@ module _ {D : Type 0} (unread written : D → Option (List ℕ)) (layout : Layou
       admitted = s.admitted;
       finished = s.finished;
       at_once = s.at_once;
+      in_order = s.in_order;
       new_numbers = s.new_numbers;
       each = λ other d at. either other key (IsServed unread written layout (shut (number_of c) boxes) s.came s.endings d)
           (λ e. absurd (none-is d (sym sets.0 ∙ ap slots' (sym e) ∙ at)))

@@ -21,7 +21,7 @@ use Rattle.workers.specs.Tends.{Answers, Tends, call_of, hand_in}
 use Rattle.workers.specs.declared.tend.Tend.{Tend}
 use Rattle.workers.specs.declared.tend.Tended.{Tended}
 use Rattle.workers.specs.declared.tend.TendRefusal.{TendRefusal}
-use Rattle.workers.specs.Balance.{FilerEntry}
+use Rattle.workers.specs.Balance.{FilerEntry, Passed}
 use Rattle.workers.specs.Turns.{Did, HasDone, HasFinished, HasReturned, IsEntryOf, WasIdle, HasShareOf, job_of_message}
 use Rattle.workers.specs.Words.{entries_in, passed}
 use Rattle.workers.specs.declared.message.Message.{Message}
@@ -41,7 +41,7 @@ use Rattle.connections.specs.declared.tcp_front.stream.Stream.{Stream}
 use Rattle.connections.specs.tcp_front.Arrivals.{Arrival}
 use Rattle.lanes.specs.Connections.{flagged, number_of, owing}
 use Rattle.lanes.specs.Intakes.{HasTakenIn, has_room_in}
-use Rattle.lanes.specs.Lanes.{Closes, Flagged, HasBoth, HasTurned, IsPutAs, ReadsOn, ReadsUnder, WritesOn, WritesUnder, owing_in}
+use Rattle.lanes.specs.Lanes.{Closes, Flagged, HasBoth, HasTurned, IsPutAs, ReadsOn, ReadsUnder, WritesUnder, owing_in}
 use Rattle.lanes.specs.Reading.{Cuts, HasRead, Reads}
 use Rattle.lanes.specs.Story.{Ending, Served, answer_to, said_by, served_in, with_served, Story}
 use Rattle.lanes.specs.Writing.{HasWritten, Writes}
@@ -58,9 +58,14 @@ whole-same a b c d a' b' c' d' p q r s h =
 
 pub both-kept : (p p' : Pass Message layouts.Layout) (w w' : Worker) → HasShareOf (known p) (known p') → HasShareOf (passed w) (passed w')
     → HasBoth p w → HasBoth p' w'
-both-kept p p' w w' h k b =
-    whole-same (known p).share (known p).halvings (passed w).share (passed w).halvings (known p').share (known p').halvings (passed w').share
-    (passed w').halvings h.0 h.1 k.0 k.1 b
+both-kept p p' w w' h k b = (
+  whole-same (known p).share (known p).halvings (passed w).share (passed w).halvings (known p').share (known p').halvings (passed w').share
+      (passed w').halvings h.0 h.1 k.0 k.1 b.0,
+  h.2 ∙ b.1 ∙ sym k.2,
+)
+
+pub same-share : (p p' : Pass Message layouts.Layout) → known p' ≡ known p → HasShareOf (known p) (known p')
+same-share p p' e = (ap (λ (v : Passed). v.share) e, ap (λ (v : Passed). v.halvings) e, ap (λ (v : Passed). v.key) e)
 
 pub share-same : (w : Worker) → HasShareOf (passed w) (passed w)
 share-same w = (refl, refl, refl)
@@ -120,20 +125,14 @@ module _ {D : Type 0} (unread written : D → Option (List ℕ)) (layout : Layou
   write-told slab slab' key None is messages boxes boxes' result (_, same, boxes_same) t =
       subst (λ (s : Slab (Connection D)). Told messages boxes' s) (sym same)
       (subst (λ (b : Boxes). Told messages b slab) (sym boxes_same) t)
-  write-told slab slab' key (Some c) is messages boxes boxes' result (after, now, on) t =
+  write-told slab slab' key (Some c) is messages boxes boxes' result (after, now, h) t =
       ∥∥₁_map t (λ s.
-      let h = on.write in
-      let kept = written-same unread written c boxes result on.between boxes' h in
-      let takes = written-takes unread written c boxes result on.between boxes' h in
-      let number : number_of after ≡ number_of c = ap (λ (x : Connection D). number_of x) on.is ∙ ap (λ (x : Stream). x.connection.0) kept.0 in
-      let same : after.opened.value ≡ c.opened.value = ap (λ (x : Connection D). x.opened.value) on.is ∙ ap (λ x. x.value) kept.3 in
-      story-writes unread written layout entries messages boxes (get slab) s (get slab') key c after is (sets-at slab slab' key c after is now) number same
-      boxes' takes.1.next takes.1.others
-      (λ heard r. subst (λ (x : Connection D). Reads unread c.opened.value x heard) (sym on.is)
-      (reads-kept unread written c boxes result on.between boxes' h c.opened.value heard r))
-      (λ waiting replies e r.
-      let w = writes-on unread written c boxes result on.between boxes' h c.opened.value waiting replies e r in
-      (w.0, w.1.0, subst (λ (x : Connection D). Writes written c.opened.value x w.0 replies) (sym on.is) w.1.1)))
+      let kept = written-same unread written c boxes result after boxes' h in
+      let takes = written-takes unread written c boxes result after boxes' h in
+      story-writes unread written layout entries messages boxes (get slab) s (get slab') key c after is (sets-at slab slab' key c after is now)
+      (ap (λ (x : Stream). x.connection.0) kept.0) (ap (λ x. x.value) kept.3)
+      boxes' takes.1.next takes.1.others (reads-kept unread written c boxes result after boxes' h c.opened.value)
+      (λ waiting replies e r. let w = writes-on unread written c boxes result after boxes' h c.opened.value waiting replies e r in (w.0, w.1.0, w.1.1)))
 
   pub writes-told : (slab slab' : Slab (Connection D)) (key : ℕ) (messages : List Message) (boxes boxes' : Boxes) (result : Sent)
       → WritesUnder unread written slab key (get slab key) boxes result slab' boxes' → Told messages boxes slab → Told messages boxes' slab'
@@ -195,6 +194,13 @@ module _ {D : Type 0} (unread written : D → Option (List ℕ)) (layout : Layou
   closed-told slab slab' key messages boxes boxes' device h t = close-told slab slab' key (get slab key) refl messages boxes boxes' device h t
 
 -- ---- turns
+
+-- a pass by which nothing was put
+pub put-kept : {D : Type 0} (unread written : D → Option (List ℕ)) (layout : Layout) (entries : List FilerEntry) (boxes : Boxes)
+    (slots : ℕ → Option (Connection D)) (p p' : Pass Message layouts.Layout) → known p' ≡ known p
+    → ∥ Story unread written layout entries (known p).put boxes slots ∥₁ → ∥ Story unread written layout entries (known p').put boxes slots ∥₁
+put-kept unread written layout entries boxes slots p p' e t =
+    subst (λ (v : Passed). ∥ Story unread written layout entries v.put boxes slots ∥₁) (sym e) t
 
 module _ {D : Type 0} (unread written : D → Option (List ℕ)) (layout : Layout) where
   replied : (m : Message) (moment : Moment) (a : Addressed) (e : FilerEntry) → IsEntryOf m moment a e → said_by (Served e) ≡ Some a
@@ -263,12 +269,6 @@ module _ {D : Type 0} (unread written : D → Option (List ℕ)) (layout : Layou
 -- ---- under a key
 
 module _ {D R : Type 0} (unread written : D → Option (List ℕ)) (layout : Layout) where
-  pub read-owing : (n m : ℕ) (c : Connection D) (sink sink' : Intake R) (size : ℕ) (result : Came) (between : Connection D) → n ≡ m
-      → HasRead unread written HasTakenIn has_room_in layout c (owing_in n sink) size result between sink'
-      → HasRead unread written HasTakenIn has_room_in layout c (owing_in m sink) size result between sink'
-  read-owing n m c sink sink' size result between e h =
-      subst (λ k. HasRead unread written HasTakenIn has_room_in layout c (owing_in k sink) size result between sink') e h
-
   pub reads-under : (slab slab' : Slab (Connection D)) (key : ℕ) (o : Option (Connection D)) (before after : Connection D) (sink sink' : Intake R)
       (size : ℕ) (result : Came) → Some before ≡ o → slab' ≡ with_value slab key after
       → ReadsOn unread written layout before sink size result after sink' → ReadsUnder unread written layout slab key o sink size result slab' sink'
@@ -300,7 +300,7 @@ module _ {D R : Type 0} (unread written : D → Option (List ℕ)) (layout : Lay
 
 module _ {D : Type 0} (unread written : D → Option (List ℕ)) where
   pub writes-under : (slab slab' : Slab (Connection D)) (key : ℕ) (o : Option (Connection D)) (before after : Connection D) (boxes boxes' : Boxes)
-      (result : Sent) → Some before ≡ o → slab' ≡ with_value slab key after → WritesOn unread written before boxes result after boxes'
+      (result : Sent) → Some before ≡ o → slab' ≡ with_value slab key after → HasWritten unread written before boxes result after boxes'
       → WritesUnder unread written slab key o boxes result slab' boxes'
   writes-under slab slab' key o before after boxes boxes' result is now on =
       subst (λ (x : Option (Connection D)). WritesUnder unread written slab key x boxes result slab' boxes') is (after, now, on)

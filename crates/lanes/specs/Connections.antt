@@ -3,6 +3,7 @@ use Rattle.std.specs.Prelude.{ℕ, ⊤, List, Option, Some, None}
 use Rattle.connections.specs.declared.tcp_front.stream.Stopped.{Stopped}
 use Rattle.lanes.specs.declared.connection.Connection.{Connection}
 use Rattle.lanes.specs.declared.connection.Flags.{Flags}
+use Rattle.lanes.specs.declared.due.Due.{Due}
 use Rattle.lanes.specs.Told.{device_of, calls_of}
 
 -- its device
@@ -32,8 +33,8 @@ has_stopped (Some stopped) = ⊤
 abbrev pub IsStopped : {D : Type 0} → Connection D → Type 0
 IsStopped c = has_stopped c.stopped
 
--- with another count of the room that its replies take
-abbrev pub owing : {D : Type 0} → ℕ → Connection D → Connection D
+-- with another count of what is owed
+abbrev pub owing : {D : Type 0} → Due → Connection D → Connection D
 owing owed c = record c { owed = owed }
 
 -- with other flags

@@ -44,4 +44,4 @@ most_owed = 1048576
 
 -- a message more may wait, and the connection may be owed more
 abbrev pub has_room_in : {R : Type 0} → Intake R → Bool
-has_room_in s = nat_lt s.waiting s.most && nat_lt s.owed most_owed
+has_room_in s = nat_lt s.waiting s.most && nat_lt s.owed.room most_owed

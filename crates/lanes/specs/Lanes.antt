@@ -8,6 +8,7 @@ use Rattle.nfs_values.specs.declared.number.ConnectionNumber.{ConnectionNumber}
 use Rattle.outboxes.specs.Boxes.{Boxes, put, shut, opened}
 use Rattle.workers.specs.declared.message.Message.{Message}
 use Rattle.workers.specs.declared.shared_waiting.pass.Pass.{Pass}
+use Rattle.depot.specs.rule.Sums.{total}
 use Rattle.workers.specs.shared_waiting.Balance.{IsWhole, both}
 use Rattle.workers.specs.shared_waiting.Passes.{known}
 use Rattle.workers.specs.declared.turned.Turned.{Turned}
@@ -19,6 +20,7 @@ use Rattle.workers.specs.Turns.{Did}
 use Rattle.workers.specs.Words.{passed}
 use Rattle.lanes.specs.declared.connection.Connection.{Connection}
 use Rattle.lanes.specs.declared.connection.Flags.{Flags}
+use Rattle.lanes.specs.declared.due.Due.{Due}
 use Rattle.lanes.specs.declared.intake.Intake.{Intake}
 use Rattle.lanes.specs.declared.reading.Came.{Came}
 use Rattle.lanes.specs.declared.reading.Came.TheVariants as cames
@@ -31,10 +33,15 @@ use Rattle.lanes.specs.Writing.{HasWritten}
 
 -- both passes of a queue, which nobody else has
 abbrev pub HasBoth : Pass Message layouts.Layout → Worker → Type 0
-HasBoth pass worker = IsWhole (both (known pass) (passed worker))
+HasBoth pass worker = IsWhole (both (known pass) (passed worker)) × ((known pass).key ≡ (passed worker).key)
+
+-- what was put into the queue by these was picked, each message as often
+abbrev pub HasNoneLeft : Pass Message layouts.Layout → Worker → Type 0
+HasNoneLeft pass worker = (weigh : Message → ℕ)
+    → total weigh (both (known pass) (passed worker)).put ≡ total weigh (both (known pass) (passed worker)).picked
 
 -- with another count of what is owed to the connection that is read
-abbrev pub owing_in : {R : Type 0} → ℕ → Intake R → Intake R
+abbrev pub owing_in : {R : Type 0} → Due → Intake R → Intake R
 owing_in owed s = record s { owed = owed }
 
 -- ---- under a key
@@ -43,7 +50,7 @@ owing_in owed s = record s { owed = owed }
 pub record ReadsOn {D R : Type 0} (unread written : D → Option (List ℕ)) (layout : Layout) (before : Connection D)
     (sink : Intake R) (size : ℕ) (result : Came) (after : Connection D) (sink' : Intake R) : Type 0 where
   pub between : Connection D
-  pub owed : ℕ
+  pub owed : Due
   pub is : after ≡ owing owed between
   pub read : HasRead unread written HasTakenIn has_room_in layout before (owing_in before.owed sink) size result between sink'
 
@@ -55,21 +62,13 @@ ReadsUnder unread written layout slab key None sink size result slab' sink' =
 ReadsUnder {D} unread written layout slab key (Some before) sink size result slab' sink' =
     (after : Connection D) × (slab' ≡ with_value slab key after) × ReadsOn unread written layout before sink size result after sink'
 
--- a connection was written, and it is known how much it is owed
-pub record WritesOn {D : Type 0} (unread written : D → Option (List ℕ)) (before : Connection D) (boxes : Boxes)
-    (result : Sent) (after : Connection D) (boxes' : Boxes) : Type 0 where
-  pub between : Connection D
-  pub owed : ℕ
-  pub is : after ≡ owing owed between
-  pub write : HasWritten unread written before boxes result between boxes'
-
--- the connection of a key was, or there is none and nothing changed
+-- the connection of a key was written, or there is none and nothing changed
 abbrev pub WritesUnder : {D : Type 0} → (D → Option (List ℕ)) → (D → Option (List ℕ)) → Slab (Connection D) → ℕ
     → Option (Connection D) → Boxes → Sent → Slab (Connection D) → Boxes → Type 0
 WritesUnder unread written slab key None boxes result slab' boxes' =
     (result ≡ sents.Failed) × (slab' ≡ slab) × (boxes' ≡ boxes)
 WritesUnder {D} unread written slab key (Some before) boxes result slab' boxes' =
-    (after : Connection D) × (slab' ≡ with_value slab key after) × WritesOn unread written before boxes result after boxes'
+    (after : Connection D) × (slab' ≡ with_value slab key after) × HasWritten unread written before boxes result after boxes'
 
 -- ---- turns
 

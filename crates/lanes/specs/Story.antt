@@ -93,6 +93,10 @@ pub record IsServed {D : Type 0} (unread written : D → Option (List ℕ)) (lay
   pub box : get boxes.waiting (number_of c) ≡ Some waiting
   pub writes : Writes written c.opened.value c waiting (replies_to (number_of c) since)
 
+-- Of each connection, also of one that is closed, the records that came bear the numbers from 0 on, in order and each once.
+abbrev pub ComesInOrder : Layout → List Arrival → Type 0
+ComesInOrder layout came = (number : ℕ) → (heard : List Heard) × (of_connection number came ≡ arrivals layout number 0 heard)
+
 -- What came to a lane, of all its connections in one order, and what ended, in one order: the calls that came were admitted,
 -- in order and each once; the lane's entries are just those that ended, and so are the replies at once that came; nothing
 -- came under a number that isn't given yet; each open connection is served by these, and no two have one number.
@@ -103,6 +107,7 @@ pub record Story {D : Type 0} (unread written : D → Option (List ℕ)) (layout
   pub admitted : map seen_of put ≡ calls_of came
   pub finished : served_of endings ≡ served_in entries
   pub at_once : at_once_of endings ≡ answered_of came
+  pub in_order : ComesInOrder layout came
   pub new_numbers : (number : ℕ) → boxes.next ≤ number → of_connection number came ≡ []
   pub each : (key : ℕ) (c : Connection D) → slots key ≡ Some c → IsServed unread written layout boxes came endings c
   pub apart : (key other : ℕ) (c d : Connection D) → slots key ≡ Some c → slots other ≡ Some d → number_of c ≡ number_of d

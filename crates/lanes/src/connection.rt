@@ -5,6 +5,7 @@ ghost use Rattle.connections.specs.tcp_front.Arrivals.{most_records};
 
 use crate::backlog::Backlog;
 use crate::device::Device;
+use crate::due::Due;
 use crate::rest::Rest;
 use crate::watched::Watched;
 use connections::tcp_front::{Stopped, Stream};
@@ -43,13 +44,14 @@ pub struct Connection<D> {
     pub(crate) is_broken: bool,
     /// The device when it was opened.
     pub(crate) opened: Snapshot<D>,
-    pub(crate) owed: usize,
+    /// What is owed for what was read of it.
+    pub(crate) owed: Due,
     pub(crate) flags: Flags,
     ghost few: { stopped ≡ None → stream.records < most_records },
 }
 
 impl<D> Connection<D> {
-    ghost use Rattle.lanes.specs.Connections.{flagged, now_of, number_of, owing};
+    ghost use Rattle.lanes.specs.Connections.{flagged, now_of, number_of};
     ghost use Rattle.lanes.specs.Connections.{IsStopped};
     ghost use Rattle.std.specs.Prelude.{◌↔◌, [], false, IsTrue};
 
@@ -88,18 +90,17 @@ impl<D> Connection<D> {
         !self.rest.is_empty()
     }
 
-    /// How much room the replies to what was read of it take, as far as this was counted.
-    pub fn owed(&self) -> usize
-        ensures { result ≡ self.now.owed }
+    /// How many replies are owed for its records that weren't taken to be written yet, as far as
+    /// this was counted.
+    pub fn due(&self) -> usize
+        ensures { result ≡ self.now.owed.replies }
     {
-        self.owed
+        self.owed.replies
     }
 
-    /// Counts that room.
-    pub fn set_owed(&mut self, owed: usize)
-        ensures { self.new ≡ owing owed self.old }
-    {
-        self.owed = owed;
+    /// About how much room these take, with the bytes that the device had no room for.
+    pub fn owed(&self) -> usize {
+        self.owed.room.saturating_add(self.rest.len())
     }
 
     /// What the thread keeps of it.
@@ -164,7 +165,7 @@ impl<D: Device> Connection<D> {
             stopped: None,
             is_broken: false,
             opened,
-            owed: 0,
+            owed: Due::nothing(),
             flags: Flags {
                 is_readable: false,
                 is_closing: false,

@@ -4,6 +4,7 @@ ghost use Rattle.std.specs.Prelude.{◌≡◌, Some};
 ghost use Rattle.workers.specs.shared_waiting.Passes.{known, IsOf};
 ghost use Rattle.workers.specs.Words.{layout_in, layout_known};
 
+use crate::due::Due;
 use affinity_tree::Layout;
 use connections::message::in_room;
 use connections::tcp_front::RecordSink;
@@ -14,13 +15,10 @@ use std::alloc::{AllocError, Global};
 use std::snapshot::Snapshot;
 use std::sync::Wait;
 use workers::shared_waiting::{Pass, SharedWaiting};
-use workers::{Filer, Message};
+use workers::{Envelope, Filer};
 
 /// The most room of the replies that are owed to one connection while it is read.
 pub(crate) const MOST_OWED: usize = 1_048_576;
-
-/// About how much room a reply takes that no worker writes.
-const ANSWERED: usize = 256;
 
 /// The queue and the outboxes of a lane. Its pass only admits.
 #[derive(Drop)]
@@ -29,15 +27,15 @@ pub struct Intake<R> {
     pub(crate) alloc: Global,
     /// Whose messages the queue has.
     pub(crate) filer: Snapshot<Filer>,
-    pub(crate) queue: SharedWaiting<Message, Layout>,
-    pub(crate) pass: Pass<Message, Layout>,
+    pub(crate) queue: SharedWaiting<Envelope, Layout>,
+    pub(crate) pass: Pass<Envelope, Layout>,
     pub(crate) outboxes: Outboxes,
     /// How many messages were admitted and not finished.
     pub(crate) waiting: usize,
     /// How many may be.
     pub(crate) most: usize,
-    /// The room of the replies that are owed to the connection that is read.
-    pub(crate) owed: usize,
+    /// What is owed to the connection that is read.
+    pub(crate) owed: Due,
     pub ghost of: { IsOf queue pass },
     pub ghost layout: { layout_known (known pass) ≡ Some (layout_in filer.value) },
 }
@@ -53,7 +51,7 @@ impl<R: Wait> RecordSink for Intake<R> {
     ghost room = { has_room_in };
 
     fn has_room(&self) -> bool {
-        self.waiting < self.most && self.owed < MOST_OWED
+        self.waiting < self.most && self.owed.room < MOST_OWED
     }
 
     fn admit(
@@ -65,7 +63,7 @@ impl<R: Wait> RecordSink for Intake<R> {
         match self.queue.admit(&self.rt, &mut self.pass, message) {
             Ok(()) => {
                 self.waiting = self.waiting.saturating_add(1);
-                self.owed = self.owed.saturating_add(room);
+                self.owed.add(room);
                 Ok(())
             }
             Err(message) => {
@@ -82,7 +80,7 @@ impl<R: Wait> RecordSink for Intake<R> {
         reply: &Reply,
     ) -> Result<(), AllocError> {
         self.outboxes.put_at_once(connection, xid, reply)?;
-        self.owed = self.owed.saturating_add(ANSWERED);
+        self.owed.add(0);
         Ok(())
     }
 

@@ -3,6 +3,7 @@
 ghost use Rattle.std.specs.Prelude.{◌≡◌, ◌≤◌, ◌+◌, ◌++◌, length, vec_len, vec_capacity};
 ghost use Rattle.lanes.specs.Joining.{HasJoined};
 
+use crate::due::Due;
 use nfs_values::ConnectionNumber;
 use outboxes::{Outboxes, Record};
 
@@ -18,16 +19,18 @@ fn keep(buffer: &mut Vec<u8>, bytes: &[u8])
 }
 
 /// Takes what waits for a connection behind what is in a buffer, up to a record that is large or
-/// has no room beside the others, which is handed out.
+/// has no room beside the others, which is handed out. What is taken is owed no more.
 pub(crate) fn join(
     outboxes: &mut Outboxes,
     connection: ConnectionNumber,
     buffer: &mut Vec<u8>,
+    owed: &mut Due,
 ) -> Option<Record>
     ensures { HasJoined connection.0 outboxes.old buffer.old.items result
         outboxes.new buffer.new.items }
 {
     while let Some(record) = outboxes.take(connection) {
+        owed.take(record.room());
         let size = record.as_slice().len();
         if size > MOST_COPIED || buffer.capacity() - buffer.len() < size {
             return Some(record);

@@ -6,6 +6,7 @@ mod backlog;
 mod connection;
 mod cutting;
 mod device;
+mod due;
 mod intake;
 mod joining;
 mod lane;
@@ -17,6 +18,7 @@ mod writing;
 
 pub use connection::{Connection, Flags};
 pub use device::{Device, answer_of};
+pub use due::Due;
 pub use intake::Intake;
 pub use lane::{Lane, LaneParts};
 pub use reading::Came;

@@ -72,6 +72,14 @@ impl Rest {
         self.first().is_empty()
     }
 
+    /// How many bytes wait.
+    pub(crate) fn len(&self) -> usize {
+        match &self.alone {
+            Some(_record) => self.joined.len().saturating_add(self.left),
+            None => self.joined.len(),
+        }
+    }
+
     /// What is to be written first, in one piece: all of it, or what stands before the record that
     /// wasn't copied.
     pub(crate) fn first(&self) -> &[u8]

@@ -1,6 +1,6 @@
 //! One write to a connection.
 
-ghost use Rattle.std.specs.Prelude.{◌≡◌, ◌≢◌, ◌<◌, ◌≤◌, ◌++◌, length};
+ghost use Rattle.std.specs.Prelude.{◌≡◌, ◌≢◌, ◌<◌, ◌≤◌, ◌++◌, [], length};
 ghost use Rattle.connections.specs.tcp_front.Writing.{records_of};
 ghost use Rattle.lanes.specs.Rests.{list_of};
 ghost use Rattle.lanes.specs.Writing.{all_of, breaks, HasSent, HasWrittenParts, IsOutcome};
@@ -8,6 +8,7 @@ ghost use Rattle.lanes.specs.declared.writing.Sent.TheVariants.{All, More};
 
 use crate::connection::Connection;
 use crate::device::Device;
+use crate::due::Due;
 use crate::joining::join;
 use crate::rest::Rest;
 use crate::told::Told;
@@ -104,6 +105,20 @@ fn write_buffer<D: Device>(
     sent
 }
 
+/// The bytes for which a buffer is made.
+const JOINED: usize = 262_144;
+
+/// Empties a buffer, and makes room in one that has none, as where it was given away for want of
+/// memory. Where there is none still, records go out one by one.
+fn make_ready(buffer: &mut Vec<u8>)
+    ensures { buffer.new.items ≡ [] }
+{
+    buffer.clear();
+    if buffer.capacity() == 0 {
+        let _made = buffer.try_reserve_exact(JOINED);
+    }
+}
+
 /// Writes once what the device had no room for; or, where that is nothing, takes what waits in the
 /// connection's outbox and writes of that once.
 fn write_some<D: Device>(
@@ -112,6 +127,7 @@ fn write_some<D: Device>(
     rest: &mut Rest,
     connection: ConnectionNumber,
     outboxes: &mut Outboxes,
+    owed: &mut Due,
     buffer: &mut Vec<u8>,
 ) -> Sent
     ensures { HasWrittenParts D.unread D.written connection.0 device.old rest.old outboxes.old
@@ -120,8 +136,8 @@ fn write_some<D: Device>(
     if !rest.is_empty() {
         return write_rest(device, rest);
     }
-    buffer.clear();
-    match join(outboxes, connection, buffer) {
+    make_ready(buffer);
+    match join(outboxes, connection, buffer, owed) {
         None => {
             if buffer.is_empty() {
                 return Sent::All;
@@ -156,6 +172,7 @@ impl<D: Device> Connection<D> {
             &mut self.rest,
             self.stream.connection,
             outboxes,
+            &mut self.owed,
             buffer,
         );
         self.is_broken = breaks(sent);

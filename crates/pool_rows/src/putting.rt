@@ -18,10 +18,10 @@ use rpc_msg::room_of_reply;
 use std::alloc::Global;
 use std::sync::Wait;
 use workers::shared_waiting::Pass;
-use workers::{Filer, Message};
+use workers::{Envelope, Filer};
 
 /// A pass of a filer's queue.
-pub(crate) type FilerPass = Pass<Message, Layout>;
+pub(crate) type FilerPass = Pass<Envelope, Layout>;
 
 /// The record of a call, by its xid.
 pub(crate) fn record_of(connection: ConnectionNumber, xid: u32) -> Origin {
@@ -33,7 +33,7 @@ pub(crate) fn record_of(connection: ConnectionNumber, xid: u32) -> Origin {
 }
 
 /// A call, as it waits: `None` where it is at home nowhere, or where memory ran out.
-fn message_of(alloc: Global, filer: &Filer, origin: Origin, call: Call) -> Option<Message>
+fn message_of(alloc: Global, filer: &Filer, origin: Origin, call: Call) -> Option<Envelope>
     requires { IsRun call }
     ensures { IfSome result (IsPlaced (layout_in filer.now)) }
 {

@@ -14,7 +14,7 @@ use std::alloc::{AllocError, Global};
 use std::rt::Clock;
 use std::sync::{Arc, Wait};
 use workers::shared_waiting::{Pass, SharedWaiting};
-use workers::{Filer, Message, Worker};
+use workers::{Envelope, Filer, Worker};
 
 /// The ranges by which the volumes may grow.
 const SPARE: u32 = 16;
@@ -49,9 +49,9 @@ pub(crate) fn verifier_now<R: Clock>(rt: &R) -> [u8; 8] {
 /// A queue, with a pass for who puts messages and one for who picks them.
 #[derive(Drop)]
 pub(crate) struct Queue {
-    pub(crate) queue: SharedWaiting<Message, Layout>,
-    pub(crate) admits: Pass<Message, Layout>,
-    pub(crate) picks: Pass<Message, Layout>,
+    pub(crate) queue: SharedWaiting<Envelope, Layout>,
+    pub(crate) admits: Pass<Envelope, Layout>,
+    pub(crate) picks: Pass<Envelope, Layout>,
 }
 
 /// An empty queue of a filer's layout.
@@ -72,8 +72,8 @@ fn open_lane<R>(
     rt: R,
     alloc: Global,
     filer: &Arc<Filer>,
-    queue: SharedWaiting<Message, Layout>,
-    admits: Pass<Message, Layout>,
+    queue: SharedWaiting<Envelope, Layout>,
+    admits: Pass<Envelope, Layout>,
     worker: Worker,
     lane: usize,
     lanes: usize,

@@ -3,7 +3,7 @@
 ghost use Rattle.std.specs.Prelude.{◌≡◌, ◌≤◌, ◌*◌, [], IfOk, vec_capacity};
 
 use std::alloc::{AllocError, Global};
-use workers::{BatchInHand, Message};
+use workers::{BatchInHand, Envelope};
 
 /// The most messages that wait in a lane's queue.
 const MOST_WAITING: usize = 1024;
@@ -14,8 +14,8 @@ const MOST_WAITING: usize = 1024;
 pub(crate) struct Room {
     pub(crate) lanes: usize,
     pub(crate) hands: Vec<BatchInHand>,
-    pub(crate) kept: Vec<Message>,
-    pub(crate) waiting: Vec<Message>,
+    pub(crate) kept: Vec<Envelope>,
+    pub(crate) waiting: Vec<Envelope>,
     ghost empty: { (hands.items ≡ []) × (kept.items ≡ []) × (waiting.items ≡ []) },
     ghost wide: { (lanes ≤ vec_capacity hands) × (lanes ≤ vec_capacity kept)
         × (1024 * lanes ≤ vec_capacity waiting) },

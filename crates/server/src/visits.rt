@@ -103,11 +103,7 @@ fn read<R: Wait>(lane: &mut Lane<Socket, R>, key: usize, buffers: &mut Buffers)
 
 /// Reads each connection of a lane once that may be read, or cuts what is kept of it; in each round
 /// another one first.
-pub(crate) fn read_all<R: Wait>(
-    lane: &mut Lane<Socket, R>,
-    keys: &mut Keys,
-    buffers: &mut Buffers,
-)
+pub(crate) fn read_all<R: Wait>(lane: &mut Lane<Socket, R>, keys: &mut Keys, buffers: &mut Buffers)
     ensures { Stays lane.old lane.new }
 {
     keys.turn();
@@ -123,7 +119,7 @@ pub(crate) fn read_all<R: Wait>(
 fn is_writable<R>(lane: &Lane<Socket, R>, key: usize) -> bool {
     match lane.connection(key) {
         Some(connection) => {
-            !connection.flags().is_blocked && (connection.owed() > 0 || connection.has_rest())
+            !connection.flags().is_blocked && (connection.due() > 0 || connection.has_rest())
         }
         None => false,
     }
@@ -155,11 +151,7 @@ fn write<R>(lane: &mut Lane<Socket, R>, key: usize, buffers: &mut Buffers) -> bo
 }
 
 /// Writes the replies of each connection that may have some. Answers whether there may be more.
-pub(crate) fn write_all<R>(
-    lane: &mut Lane<Socket, R>,
-    keys: Keys,
-    buffers: &mut Buffers,
-) -> bool
+pub(crate) fn write_all<R>(lane: &mut Lane<Socket, R>, keys: Keys, buffers: &mut Buffers) -> bool
     ensures { Stays lane.old lane.new }
 {
     let mut is_left = false;
@@ -177,7 +169,7 @@ fn is_over<R>(lane: &Lane<Socket, R>, key: usize) -> bool {
         Some(connection) => {
             let is_read = connection.is_stopped()
                 || connection.flags().has_ended && !connection.has_kept();
-            connection.is_broken() || is_read && connection.owed() == 0 && !connection.has_rest()
+            connection.is_broken() || is_read && connection.due() == 0 && !connection.has_rest()
         }
         None => false,
     }

@@ -1,6 +1,6 @@
 //! The first worker of a filer or of a queue.
 
-use crate::message::Message;
+use crate::envelope::Envelope;
 use crate::shared::Filer;
 use crate::shared_waiting::{Pass, SharedWaiting};
 use crate::worker::Worker;
@@ -20,9 +20,9 @@ impl Worker {
     /// filer's layout. It has done nothing, carries nothing and keeps nothing.
     pub fn start(
         filer: &Filer,
-        queue: &SharedWaiting<Message, Layout>,
+        queue: &SharedWaiting<Envelope, Layout>,
         seat: Seat<Service>,
-        pass: Pass<Message, Layout>,
+        pass: Pass<Envelope, Layout>,
     ) -> Worker
         requires seat { IsSeatHere filer.now.depot seat }
         requires ready { IsReady (layout_in filer.now) (verifier_in filer.now) (view seat) }
@@ -41,7 +41,7 @@ impl Worker {
 
     /// A worker with a filer's first seat and pass, as `Filer::new` answers them. It has done
     /// nothing, carries nothing and keeps nothing.
-    pub fn first(filer: &Filer, seat: Seat<Service>, pass: Pass<Message, Layout>) -> Worker
+    pub fn first(filer: &Filer, seat: Seat<Service>, pass: Pass<Envelope, Layout>) -> Worker
         requires seat { IsSeatHere filer.now.depot seat }
         requires ready { IsReady (layout_in filer.now) (verifier_in filer.now) (view seat) }
         requires pass { IsOf filer.now.waiting pass }

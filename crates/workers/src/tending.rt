@@ -8,7 +8,7 @@ ghost use Rattle.workers.specs.Carries.{hand_after, HasMovedBatch, IsToldAs, IsT
 ghost use Rattle.workers.specs.Tends.{call_of, call_to_put};
 ghost use Rattle.workers.specs.Words.{IsHandIn};
 
-use crate::message::Message;
+use crate::envelope::Envelope;
 use crate::shared::Filer;
 use crate::shared_waiting::SharedWaiting;
 use crate::tend::{Carried, Tend, TendRefusal, Tended};
@@ -178,7 +178,7 @@ impl Worker {
     pub fn tend_in(
         &mut self,
         filer: &Filer,
-        queue: &SharedWaiting<Message, Layout>,
+        queue: &SharedWaiting<Envelope, Layout>,
         tend: Tend,
     ) -> Result<Tended, TendRefusal>
         requires { IsAt filer.now queue.now self.old }

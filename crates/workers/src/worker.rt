@@ -7,10 +7,10 @@ ghost use Rattle.service.specs.Jobs.{job_takes, job_gives};
 ghost use Rattle.workers.specs.shared_waiting.Passes.{known};
 ghost use Rattle.workers.specs.Balance.{IsEven};
 
+use crate::envelope::Envelope;
 use crate::inner::carry;
-use crate::message::Message;
 use crate::parts::WorkerParts;
-use crate::queueing::{next, put_kept};
+use crate::queueing::{next, next_beside, put_kept};
 use crate::serving::serve;
 use crate::shared::Filer;
 use crate::shared_waiting::{Pass, SharedWaiting};
@@ -33,9 +33,9 @@ use std::sync::Wait;
 /// took and didn't give; and its seat has no open grant.
 pub struct Worker {
     pub(crate) seat: Seat<Service>,
-    pub(crate) pass: Pass<Message, Layout>,
+    pub(crate) pass: Pass<Envelope, Layout>,
     pub(crate) hand: BatchInHand,
-    pub(crate) kept: Option<Message>,
+    pub(crate) kept: Option<Envelope>,
     pub ghost balance: { IsEven (known pass) (entries_of (view seat)) kept },
     pub ghost in_hand: { AreHands job_takes job_gives (entries_of (view seat)) (batches_in hand) },
     pub ghost none_open: { HasNoGrant seat },
@@ -58,7 +58,8 @@ impl Worker {
     ghost use Rattle.std.specs.Prelude.{◌≡◌, ◌<◌, ◌+◌, [], None, Some, Ok};
     ghost use Rattle.nfs_model.specs.Parts as parts;
     ghost use Rattle.service.specs.Jobs.{inner_of};
-    ghost use Rattle.workers.specs.shared_waiting.Balance.{left, right};
+    ghost use Rattle.crossbeam_queue.specs.Fifo.{Held};
+    ghost use Rattle.workers.specs.shared_waiting.Balance.{both, left, right, Leaves};
     ghost use Rattle.workers.specs.shared_waiting.Passes.{IsOf};
     ghost use Rattle.workers.specs.Apart.{AreOf, IsSettled};
     ghost use Rattle.workers.specs.Carries.{FitsHand};
@@ -71,7 +72,7 @@ impl Worker {
     pub(crate) fn pick<R: Wait>(
         &mut self,
         filer: &Filer,
-        queue: &SharedWaiting<Message, Layout>,
+        queue: &SharedWaiting<Envelope, Layout>,
         rt: &R,
     )
         requires { IsAt filer.now queue.now self.old }
@@ -86,11 +87,36 @@ impl Worker {
         self.kept = next(queue, rt, &mut self.pass, kept);
     }
 
+    /// `pick` for who has another pass of the queue beside.
+    pub(crate) fn pick_beside<R: Wait>(
+        &mut self,
+        filer: &Filer,
+        queue: &SharedWaiting<Envelope, Layout>,
+        other: &mut Pass<Envelope, Layout>,
+        rt: &R,
+    )
+        requires inside { IsAt filer.now queue.now self.old }
+        requires other { IsOf queue.now other.old }
+        requires key { (known other.old).key ≡ (passed self.old).key }
+        ensures inside { IsAt filer.now queue.now self.new }
+        ensures other { IsOf queue.now other.new × (known other.new ≡ known other.old) }
+        ensures next { HasNext (passed self.old) self.old.kept (passed self.new) self.new.kept }
+        ensures none { self.new.kept ≡ None
+            → Held 0 (Leaves (both (passed self.old) (known other.old))) }
+        ensures put { (passed self.new).put ≡ (passed self.old).put }
+        ensures share { HasShareOf (passed self.old) (passed self.new) }
+        ensures seat { self.new.seat ≡ self.old.seat }
+        ensures hand { self.new.hand ≡ self.old.hand }
+    {
+        let kept = self.kept.take();
+        self.kept = next_beside(queue, rt, &mut self.pass, other, kept);
+    }
+
     /// Tries the message that is kept, if one is. It keeps the message unless that is finished.
     pub(crate) fn try_kept<G: Gate>(
         &mut self,
         filer: &Filer,
-        queue: &SharedWaiting<Message, Layout>,
+        queue: &SharedWaiting<Envelope, Layout>,
         gate: &G,
         moment: Moment,
     ) -> Turned
@@ -114,7 +140,7 @@ impl Worker {
     pub(crate) fn put<R: Wait>(
         &mut self,
         filer: &Filer,
-        queue: &SharedWaiting<Message, Layout>,
+        queue: &SharedWaiting<Envelope, Layout>,
         rt: &R,
     )
         requires { IsAt filer.now queue.now self.old }
@@ -133,7 +159,7 @@ impl Worker {
     pub(crate) fn carry(
         &mut self,
         filer: &Filer,
-        queue: &SharedWaiting<Message, Layout>,
+        queue: &SharedWaiting<Envelope, Layout>,
         call: InnerCall,
     ) -> Result<Tended, TendRefusal>
         requires inside { IsAt filer.now queue.now self.old }
@@ -192,9 +218,9 @@ impl Worker {
     pub fn split_with(
         self,
         filer: &Filer,
-        queue: &SharedWaiting<Message, Layout>,
-        own: &SharedWaiting<Message, Layout>,
-        pass: Pass<Message, Layout>,
+        queue: &SharedWaiting<Envelope, Layout>,
+        own: &SharedWaiting<Envelope, Layout>,
+        pass: Pass<Envelope, Layout>,
     ) -> (Worker, Worker)
         requires inside { IsAt filer.now queue.now self }
         requires some { 1 < seats_in self }

@@ -57,12 +57,13 @@ fewer-of (Some (x ∷ xs)) m e = omega arith
 -- ---- in all outboxes
 
 pub takes-none : (number : ℕ) (b : Boxes) → Takes number [] b b
-takes-none number b = record { next = refl; others = λ q n. refl; own = none-of (get b.waiting number) }
+takes-none number b = record { next = refl; step = refl; others = λ q n. refl; own = none-of (get b.waiting number) }
 
 pub takes-more : (number : ℕ) (ms ks : List ReplyMessage) (a b c : Boxes) → Takes number ms a b → Takes number ks b c
     → Takes number (ms ++ ks) a c
 takes-more number ms ks a b c f g = record {
   next = g.next ∙ f.next;
+  step = g.step ∙ f.step;
   others = λ q n. g.others q n ∙ f.others q n;
   own = more-of (get a.waiting number) (get b.waiting number) (get c.waiting number) ms ks f.own g.own;
 }
@@ -70,6 +71,7 @@ takes-more number ms ks a b c f g = record {
 pub takes-first : (number : ℕ) (b : Boxes) (m : ReplyMessage) → Some m ≡ oldest number b → Takes number (m ∷ []) b (taken number b)
 takes-first number b m e = record {
   next = refl;
+  step = refl;
   others = at-other (drop 1) number b.waiting;
   own = subst (TakesOf (get b.waiting number) (m ∷ [])) (sym (at-own (drop 1) number b.waiting)) (first-of (get b.waiting number) m e);
 }
@@ -79,7 +81,7 @@ pub takes-out : (number : ℕ) (b : Boxes) → None ≡ oldest number b → Take
 takes-out number b e =
     let is = sym (at-own (drop 1) number b.waiting) in
     let h = out-of (get b.waiting number) e in (
-      record { next = refl; others = at-other (drop 1) number b.waiting; own = subst (TakesOf (get b.waiting number) []) is h.0 },
+      record { next = refl; step = refl; others = at-other (drop 1) number b.waiting; own = subst (TakesOf (get b.waiting number) []) is h.0 },
       subst IsOut is h.1,
     )
 

@@ -2,6 +2,7 @@
 
 use crate::connection::Connection;
 use crate::device::Device;
+use crate::due::Due;
 use crate::intake::Intake;
 use crate::lane::Lane;
 use affinity_tree::Layout;
@@ -11,7 +12,7 @@ use std::alloc::Global;
 use std::snapshot::Snapshot;
 use std::sync::Arc;
 use workers::shared_waiting::{Pass, SharedWaiting};
-use workers::{Filer, Message, Worker};
+use workers::{Envelope, Filer, Worker};
 
 /// How many messages all lanes hold together.
 const PLACES: usize = 1024;
@@ -32,8 +33,8 @@ impl<D: Device, R> Lane<D, R> {
         rt: R,
         alloc: Global,
         filer: Arc<Filer>,
-        queue: SharedWaiting<Message, Layout>,
-        pass: Pass<Message, Layout>,
+        queue: SharedWaiting<Envelope, Layout>,
+        pass: Pass<Envelope, Layout>,
         worker: Worker,
         lane: usize,
         lanes: usize,
@@ -60,7 +61,7 @@ impl<D: Device, R> Lane<D, R> {
                 outboxes: Outboxes::of_lane(alloc, lane, lanes),
                 waiting: 0,
                 most: PLACES / lanes,
-                owed: 0,
+                owed: Due::nothing(),
             },
             filer,
             worker,
@@ -80,6 +81,7 @@ impl<D: Device, R> Lane<D, R> {
     pub fn open(&mut self, device: D) -> Result<usize, D>
         ensures opens { Opens self.old.connections self.old.intake.outboxes device result
             self.new.connections self.new.intake.outboxes }
+        ensures pass { known self.new.intake.pass ≡ known self.old.intake.pass }
         ensures worker { self.new.worker ≡ self.old.worker }
         ensures filer { arc_value self.new.filer ≡ arc_value self.old.filer }
     {

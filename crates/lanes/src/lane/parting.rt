@@ -5,20 +5,20 @@ use crate::intake::Intake;
 use crate::lane::Lane;
 use affinity_tree::Layout;
 use workers::shared_waiting::{Pass, SharedWaiting};
-use workers::{Message, Worker};
+use workers::{Envelope, Worker};
 
 /// The worker of a lane, its queue, and the pass that only admitted.
 pub struct LaneParts {
     pub worker: Worker,
-    pub queue: SharedWaiting<Message, Layout>,
-    pub pass: Pass<Message, Layout>,
+    pub queue: SharedWaiting<Envelope, Layout>,
+    pub pass: Pass<Envelope, Layout>,
 }
 
 impl<D: Device + Drop, R: Drop> Lane<D, R> {
     ghost use Rattle.std.specs.Prelude.{◌≡◌, []};
     ghost use Rattle.std.specs.Arc.{arc_value};
     ghost use Rattle.workers.specs.shared_waiting.Passes.{known, IsOf};
-    ghost use Rattle.workers.specs.Words.{entries_in, IsAt};
+    ghost use Rattle.workers.specs.Words.{entries_in, layout_in, IsAt};
     ghost use Rattle.lanes.specs.Lanes.{HasBoth};
     ghost use Rattle.lanes.specs.Parting.{IsLeft};
 
@@ -31,7 +31,8 @@ impl<D: Device + Drop, R: Drop> Lane<D, R> {
         ensures inside { IsAt (arc_value self.filer) result.queue result.worker }
         ensures both { HasBoth result.pass result.worker }
         ensures picked { (known result.pass).picked ≡ [] }
-        ensures told { ∥ IsLeft (known result.pass).put (entries_in result.worker) ∥₁ }
+        ensures told { ∥ IsLeft (layout_in (arc_value self.filer)) (known result.pass).put
+            (entries_in result.worker) ∥₁ }
     {
         let Lane {
             filer: _,

@@ -27,9 +27,9 @@ fn read_one<D: Device, R: Wait>(
     ensures { ReadsOn D.unread D.written (layout_of layout.now) connection.old intake.old
         (length block.old) result connection.new intake.new }
 {
-    intake.owed = connection.owed();
+    intake.owed = connection.owed;
     let came = connection.read(intake, layout, block);
-    connection.set_owed(intake.owed);
+    connection.owed = intake.owed;
     came
 }
 

@@ -8,16 +8,16 @@ ghost use Rattle.workers.specs.declared.message.Message as messages;
 
 use affinity_tree::Layout;
 use std::sync::Wait;
-use workers::Message;
+use workers::Envelope;
 use workers::shared_waiting::{Pass, SharedWaiting};
 
 /// Picks all messages that wait, by the only pass that is left, behind others.
 pub(crate) fn drain_behind<R: Wait>(
-    waiting: &SharedWaiting<Message, Layout>,
+    waiting: &SharedWaiting<Envelope, Layout>,
     rt: &R,
-    mut pass: Pass<Message, Layout>,
-    mut into: Vec<Message>,
-) -> Vec<Message>
+    mut pass: Pass<Envelope, Layout>,
+    mut into: Vec<Envelope>,
+) -> Vec<Envelope>
     requires of { IsOf waiting.now pass }
     requires whole { IsWhole (known pass) }
     requires room { vec_len into + 1024 ≤ vec_capacity into }
@@ -41,11 +41,11 @@ pub(crate) fn drain_behind<R: Wait>(
 
 /// Picks all messages that wait, by the only pass that is left.
 pub(crate) fn drain<R: Wait>(
-    waiting: &SharedWaiting<Message, Layout>,
+    waiting: &SharedWaiting<Envelope, Layout>,
     rt: &R,
-    pass: Pass<Message, Layout>,
-    into: Vec<Message>,
-) -> Vec<Message>
+    pass: Pass<Envelope, Layout>,
+    into: Vec<Envelope>,
+) -> Vec<Envelope>
     requires of { IsOf waiting.now pass }
     requires whole { IsWhole (known pass) }
     requires empty { into.items ≡ [] }

@@ -10,4 +10,4 @@ returns-clause-inside g c =
 
 pub returns-clause-told : goal.returns-clause-told
 returns-clause-told g c =
-    ∥∥₁_map c.args.self.story (λ s. record { came = s.came; endings = s.endings; admitted = s.admitted; finished = s.finished; at_once = s.at_once })
+    ∥∥₁_map c.args.self.story (λ s. record { came = s.came; in_order = s.in_order; endings = s.endings; admitted = s.admitted; finished = s.finished; at_once = s.at_once })
