@@ -24,6 +24,7 @@ pub record IsNewQueue (filer : Filer) (q : Queue) : Type 0 where
   pub admits : IsNewPass filer q.queue q.admits
   pub picks : IsNewPass filer q.queue q.picks
   pub whole : IsWhole (both (known q.admits) (known q.picks))
+  pub key : (known q.admits).key ≡ (known q.picks).key
 
 -- a worker of the filer on such a queue, which has done nothing, and the pass that will admit
 pub record IsReadyLane (filer : Filer) (queue : SharedWaiting Message Layout) (admits : Pass Message Layout) (worker : Worker)

@@ -11,7 +11,7 @@ use lanes::Lane;
 use std::alloc::{AllocError, Global};
 use std::sync::Arc;
 use workers::shared_waiting::{Pass, SharedWaiting};
-use workers::{Filer, Message, Worker};
+use workers::{Envelope, Filer, Worker};
 
 /// A lane of devices in memory.
 pub(crate) type MemoryLane<R> = Lane<Memory, R>;
@@ -19,9 +19,9 @@ pub(crate) type MemoryLane<R> = Lane<Memory, R>;
 /// A queue, with a pass for who puts messages and one for who picks them.
 #[derive(Drop)]
 struct Queue {
-    queue: SharedWaiting<Message, Layout>,
-    admits: Pass<Message, Layout>,
-    picks: Pass<Message, Layout>,
+    queue: SharedWaiting<Envelope, Layout>,
+    admits: Pass<Envelope, Layout>,
+    picks: Pass<Envelope, Layout>,
 }
 
 /// An empty queue of a filer's layout.
@@ -42,8 +42,8 @@ fn open_lane<R: Drop>(
     rt: R,
     alloc: Global,
     filer: &Arc<Filer>,
-    queue: SharedWaiting<Message, Layout>,
-    admits: Pass<Message, Layout>,
+    queue: SharedWaiting<Envelope, Layout>,
+    admits: Pass<Envelope, Layout>,
     worker: Worker,
     lane: usize,
 ) -> Result<MemoryLane<R>, AllocError>
