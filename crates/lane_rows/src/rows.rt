@@ -15,10 +15,10 @@ use std::mem;
 use std::process::Abort;
 
 /// More calls than a stream takes.
-const MANY: usize = 10_000;
+pub(crate) const MANY: usize = 10_000;
 
 /// Words as bytes, the highest byte first.
-fn bytes_of(rt: &(impl Abort + AllocGlobal), parts: &[&[u32]]) -> Vec<u8> {
+pub(crate) fn bytes_of(rt: &(impl Abort + AllocGlobal), parts: &[&[u32]]) -> Vec<u8> {
     let mut bytes = Vec::new(rt.alloc());
     for words in parts {
         for word in *words {
@@ -29,11 +29,12 @@ fn bytes_of(rt: &(impl Abort + AllocGlobal), parts: &[&[u32]]) -> Vec<u8> {
     bytes
 }
 
-/// One volume of one range.
-fn layout(rt: &(impl Abort + AllocGlobal)) -> Layout {
+/// So many volumes of one range, at most two.
+pub(crate) fn layout(rt: &(impl Abort + AllocGlobal), volumes: usize) -> Layout {
     let aggregates = [AggregateSpec { spare: 1 }];
-    let volumes = [VolumeSpec::new(0, 1)];
-    let made = Layout::new(rt.alloc(), &aggregates, &volumes).ok();
+    let volume = VolumeSpec::new(0, 1);
+    let both = [volume, volume];
+    let made = Layout::new(rt.alloc(), &aggregates, &both[..volumes.min(2)]).ok();
     made.expect(rt, "a layout")
 }
 
@@ -48,21 +49,31 @@ fn sink(rt: &(impl Abort + AllocGlobal), layout: &Layout, places: usize) -> Gath
     sink
 }
 
-/// A connection over a stream, of which so many bytes move at once.
-fn connection(
+/// A device of a stream, of which so many bytes move at once, and which fails after so many calls.
+pub(crate) fn device(
     rt: &(impl Abort + AllocGlobal),
     stream: &[&[u32]],
     size: usize,
     calls: usize,
-) -> Connection<Memory> {
-    let device = Memory {
+) -> Memory {
+    Memory {
         unread: bytes_of(rt, stream),
         given: 0,
         taken: Vec::new(rt.alloc()),
         size,
         is_waiting: false,
         calls,
-    };
+    }
+}
+
+/// A connection over such a device.
+fn connection(
+    rt: &(impl Abort + AllocGlobal),
+    stream: &[&[u32]],
+    size: usize,
+    calls: usize,
+) -> Connection<Memory> {
+    let device = device(rt, stream, size, calls);
     Connection::new(rt.alloc(), device, ConnectionNumber(0))
 }
 
@@ -121,7 +132,7 @@ fn are_calls(rt: &impl Abort, sink: &Gathered, calls: &[(usize, u32)]) {
 
 /// Reads four records and writes the replies to two.
 fn whole(rt: &(impl Abort + AllocGlobal), size: usize, places: usize, capacity: usize) {
-    let layout = layout(rt);
+    let layout = layout(rt, 1);
     let mut sink = sink(rt, &layout, places);
     let stream: [&[u32]; 5] = [&NULL, &GETATTR, &NULL_IN_TWO, &GETATTR, &NO_PROGRAM];
     let mut connection = connection(rt, &stream, size, MANY);
@@ -154,7 +165,7 @@ fn each_cut_gives_the_same(rt: HostRuntime) {
 
 /// A device that fails after so many calls: what was taken is a beginning.
 fn failing(rt: &(impl Abort + AllocGlobal), size: usize, calls: usize) {
-    let layout = layout(rt);
+    let layout = layout(rt, 1);
     let mut sink = sink(rt, &layout, 100);
     let mut connection = connection(rt, &[&NULL, &NO_PROGRAM], size, calls);
     let came = read_all(rt, &mut connection, &mut sink, &layout, 100);
@@ -178,7 +189,7 @@ fn each_failure_leaves_a_beginning(rt: HostRuntime) {
 
 #[test]
 fn a_fault_ends_the_reading(rt: HostRuntime) {
-    let layout = layout(&rt);
+    let layout = layout(&rt, 1);
     let mut sink = sink(&rt, &layout, 100);
     let mut connection = connection(&rt, &[&NULL, &TOO_LONG, &NULL], 50, MANY);
     let came = read_all(&rt, &mut connection, &mut sink, &layout, 100);
