@@ -12,13 +12,13 @@ use Rattle.outboxes.specs.contracts.said.Said as Said
 use Rattle.outboxes.specs.contracts.said.Said.TheInside as SaidInside
 use Rattle.workers.proofs.crossings.Outboxes.{outboxes-send}
 use Rattle.workers.proofs.crossings.Structs.{struct-send}
-use Rattle.workers.proofs.Crossing.{message-send, worker-send, filer-send, filer-sync}
+use Rattle.workers.proofs.Crossing.{envelope-send, worker-send, filer-send, filer-sync}
 use Rattle.workers.proofs.shared_waiting.pass.Pass.TheSendSync as pass
 use Rattle.workers.proofs.shared_waiting.pass.SharedWaiting.TheSendSync as waiting
 use Rattle.lanes.proofs.backlog.Backlog.TheSendSync as backlog
 use Rattle.lanes.proofs.connection.Flags.TheSendSync as flags
+use Rattle.lanes.proofs.due.Due.TheSendSync as due
 use Rattle.lanes.proofs.watched.Watched.TheSendSync as watched
-use Rattle.lanes.specs.contracts.backlog.Backlog as Backlog
 use Rattle.lanes.specs.contracts.connection.Connection as Connection
 use Rattle.lanes.specs.contracts.intake.Intake as Intake
 use Rattle.lanes.specs.contracts.lane.Lane as Lane
@@ -50,7 +50,7 @@ connection-send D d = declared_send (Connection.the_type D) (
           search (stopped.the_send, sendable) depth 20,
           (
             search sendable depth 20,
-            (search (crosses, sendable) depth 20, (search sendable depth 20, (search (flags.the_send, sendable) depth 20, tt))),
+            (search (crosses, sendable) depth 20, (search (due.the_send, sendable) depth 20, (search (flags.the_send, sendable) depth 20, tt))),
           ),
         ),
       ),
@@ -66,12 +66,12 @@ intake-send R r = declared_send (Intake.the_type R) (
     (
       search (crosses, sendable) depth 20,
       (
-        search (waiting.the_send, message-send, sendable) depth 20,
+        search (waiting.the_send, envelope-send, sendable) depth 20,
         (
-          search (pass.the_send, message-send, sendable) depth 20,
+          search (pass.the_send, envelope-send, sendable) depth 20,
           (
             search (outboxes-send, sendable) depth 20,
-            (search sendable depth 20, (search sendable depth 20, (search sendable depth 20, tt))),
+            (search sendable depth 20, (search sendable depth 20, (search (due.the_send, sendable) depth 20, tt))),
           ),
         ),
       ),
