@@ -1,7 +1,7 @@
 -- A lane may cross threads, where its device and what it waits by may.
 use denote.RattleType.{RattleType}
 use denote.Param.Send.{IsSend, sendable, view_send}
-use denote.Param.SendFields.{as_row_send, declared_send}
+use denote.Param.SendFields.{declared_send}
 use Rattle.std.proofs.Crossing.{crosses, send, frees}
 use Rattle.slab.proofs.Slab.TheSendSync as slab
 use Rattle.connections.proofs.tcp_front.stream.Stopped.TheSendSync as stopped
