@@ -1,4 +1,4 @@
-use Rattle.std.proofs.Common.{◌∙◌, ap, arith, subst, sym}
+use Rattle.std.proofs.Common.{◌≡◌, ◌∙◌, ap, arith, subst, sym}
 use Rattle.std.specs.Arc.{arc_value}
 use Rattle.workers.specs.declared.shared.Filer.{Filer}
 use Rattle.workers.specs.declared.worker.Worker.{Worker}
@@ -23,7 +23,8 @@ loop-index-preserved g c =
     let n = c.push_reserved.ensures.len in
     record {
       inside = subst (λ (f : Filer). IsAt f c.in_ok-queue.queue c.split_with-first.result.0) c.deref-in-loop-index-2.ensures s.first;
-      both = subst (λ (v : Passed). IsWhole (both (known c.in_ok-queue.admits) v)) (sym s.passes.0) i.both;
+      both = subst (λ (v : Passed). IsWhole (both (known c.in_ok-queue.admits) v) × ((known c.in_ok-queue.admits).key ≡ v.key))
+          (sym s.passes.0) i.both;
       none = s.entries.0 ∙ i.none;
       of = all-pushed (IsLaneOf filer) xs ys x is i.of c.in_ok-lane.ensures.of;
       len = let a = i.len in omega (arith, n, a);
