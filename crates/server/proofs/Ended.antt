@@ -33,7 +33,7 @@ module _ {R : Type 0} {G : devices.Ghosts Socket} (filer there : Filer) (same : 
 
   pub all-closed : (ended : Ended) → Closes left ended there → HasClosed filer lanes ended
   all-closed ended closes = record {
-    of = stopped.of;
+    lanes_are = stopped.lanes_are;
     closes = subst (λ (f : Filer). Closes left ended f) same closes (λ weight. total (admitted_by weight) lanes)
         (λ weight. total (finished_by weight) lanes) stopped.calls stopped.entries;
   }

@@ -1,13 +1,11 @@
 -- Lanes whose threads are started, and come back.
-use Rattle.std.proofs.Common.{◌≡◌, ℕ, ◌+◌, List, [], Option, Some, None, IfSome, All, arith}
+use Rattle.std.proofs.Common.{◌≡◌, ℕ, ◌+◌, List, [], All, arith}
 use Rattle.depot.specs.rule.Sums.{total}
 use Rattle.lanes.specs.declared.lane.Lane.{Lane}
 use Rattle.workers.specs.declared.shared.Filer.{Filer}
 use Rattle.server.specs.contracts.socket.SocketDevice.TheImpl.{ghosts}
-use Rattle.server.specs.declared.pool.ended.Ended.{Ended}
 use Rattle.server.specs.declared.socket.Socket.{Socket}
 use Rattle.server.specs.declared.task.Task.{Task}
-use Rattle.server.specs.Ends.{HasClosed}
 use Rattle.server.specs.Lanes.{seats_of, AreLanesOf, IsLaneOf}
 use Rattle.server.specs.Threads.{seats_for, seats_with, AreThreadsOf, IsTaskFor, ServesFor, Thread}
 use Rattle.server.proofs.pool.Lists.{all-none, total-none}
@@ -39,9 +37,3 @@ module _ {R : Type 0} (filer : Filer) where
     of = joined are.of (all-none (IsLaneOf filer) none no-lane);
     seats = let a = are.seats in let b = total-none seats_of none no-lane in omega (arith, a, b, seats);
   }
-
-  -- what is left, if it is, is of these lanes
-  pub closed-by : (lanes : List (Lane Socket R ghosts)) (left : Option Ended) → IfSome left (HasClosed filer lanes)
-      → IfSome left (λ ended. (all : List (Lane Socket R ghosts)) × HasClosed filer all ended)
-  closed-by lanes None closed = tt
-  closed-by lanes (Some ended) closed = (lanes, closed)

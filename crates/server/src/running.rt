@@ -5,7 +5,7 @@ ghost use Rattle.std.specs.Prelude.{vec_len, vec_capacity};
 ghost use Rattle.std.specs.Arc.{arc_value};
 ghost use Rattle.depot.specs.rule.Sums.{total};
 ghost use Rattle.lanes.specs.declared.lane.Lane as laned;
-ghost use Rattle.server.specs.Ends.{HasClosed};
+ghost use Rattle.server.specs.Ends.{IsEndOf};
 ghost use Rattle.server.specs.Lanes.{seats_of, IsLaneOf};
 ghost use Rattle.server.specs.Threads.{seats_for, AreThreadsOf, IsTaskFor};
 ghost use Rattle.server.specs.declared.socket.Socket as sockets;
@@ -13,13 +13,12 @@ ghost use Rattle.workers.specs.declared.shared.Filer as filers;
 
 use crate::accepting::accept_all;
 use crate::crew::{Mail, join_all, start_all};
-use crate::ending::end;
+use crate::ending::{FilerEnd, end};
 use crate::ends::Ends;
 use crate::fault::{ServerFault, of_serving, of_start};
 use crate::mailbox::Mailbox;
 use crate::opening::{layout_of, open_lanes, verifier_now};
 use crate::options::Options;
-use crate::pool::Ended;
 use crate::room::Room;
 use crate::socket::Socket;
 use crate::station::Station;
@@ -137,21 +136,21 @@ fn accept<R: Wait, W: Write>(
 
 /// Serves so many connections of a listener to their ends, and stops the lanes. Where one can't be
 /// accepted no more are, and those that are open are closed. What is left of a filer that was
-/// served to its end comes back, where none else has it.
+/// served to its end comes back.
 fn run<R, W>(
     rt: &R,
     listener: &TcpListener,
     connections: u64,
     running: Running<R>,
     out: &mut W,
-) -> Result<Option<Ended>, ServerFault>
+) -> Result<FilerEnd, ServerFault>
 where
     R: Threads + Wait + Drop,
     W: Write,
     requires { AreThreadsOf (arc_value running.filer) running.threads.items }
-    ensures { IfOk result (λ left. IfSome left (λ ended. (lanes : List (laned.Lane sockets.Socket R
+    ensures { IfOk result (λ left. (lanes : List (laned.Lane sockets.Socket R
         ⟦<Socket as Device>⟧))
-        × HasClosed (arc_value running.filer) lanes ended)) }
+        × IsEndOf (arc_value running.filer) lanes left) }
 {
     let Running {
         filer,
@@ -166,14 +165,6 @@ where
     match accepted {
         Ok(()) => Ok(end(rt, filer, lanes, room)),
         Err(fault) => Err(fault),
-    }
-}
-
-/// How many messages weren't finished.
-fn count_left(ended: &Option<Ended>) -> usize {
-    match ended {
-        Some(ended) => ended.kept.len() + ended.waiting.len(),
-        None => 0,
     }
 }
 
@@ -193,7 +184,7 @@ where
 {
     let layout = layout_of(alloc, options.volumes)?;
     let running = start(rt, alloc, layout, options.workers)?;
-    let ended = run(&rt, listener, options.connections, running, out)?;
-    let count = count_left(&ended);
+    let end = run(&rt, listener, options.connections, running, out)?;
+    let count = end.unfinished();
     writeln!(out, "left {count}").map_err(|_| ServerFault::Output)
 }

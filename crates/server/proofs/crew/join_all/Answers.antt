@@ -1,6 +1,8 @@
-use Rattle.std.proofs.Common.{◌∙◌, arith}
+use Rattle.std.proofs.Common.{◌∙◌, ap, arith}
+use Rattle.depot.specs.rule.Sums.{total}
 use Rattle.server.specs.Lanes.{seats_of, IsLaneOf}
 use Rattle.server.specs.Threads.{seats_with, ServesFor}
+use Rattle.server.proofs.pool.Lists.{none-left}
 use Rattle.server.proofs.pool.Handed.{handed, all-pushed, all-popped}
 use Rattle.server.proofs.crew.join_all.Goals as goal
 
@@ -33,3 +35,10 @@ loop-thread-preserved g c =
 
 pub returns-clause-of : goal.returns-clause-of
 returns-clause-of g c filer serves lanes = (c.loop-thread.invariant.of filer serves lanes).1
+
+pub returns-clause-seats : goal.returns-clause-seats
+returns-clause-seats g c =
+    let none = ap (total seats_with) (none-left c.loop-thread.threads.items (let z = c.in_default.ensures.cases.0 in let o = c.loop-thread.threads.ok.0 in
+    omega (arith, z, o))) in
+    let s = c.loop-thread.invariant.seats in
+    omega (arith, none, s)

@@ -1,5 +1,5 @@
-use Rattle.std.proofs.Common.{◌≡◌, ℕ, ◌+◌, ap, ◌∙◌}
-use Rattle.depot.specs.Words.{view}
+use Rattle.std.proofs.Common.{◌+◌, ap, ◌∙◌, subst, sym}
+use Rattle.depot.specs.Words.{view, IsSeatHere}
 use Rattle.depot.specs.rule.History.{entries_of}
 use Rattle.depot.specs.rule.Sums.{total}
 use Rattle.parcels.specs.state.Jobs.{batches_in}
@@ -11,7 +11,8 @@ use Rattle.server.proofs.pool.Joins.{hands-both, none-both}
 use Rattle.server.proofs.gathering.join.Goals as goal
 
 pub join_seat-requires-clause-first : goal.join_seat-requires-clause-first
-join_seat-requires-clause-first g c = c.requires.inside.seat
+join_seat-requires-clause-first g c =
+    subst (λ d. IsSeatHere d c.args.remains.seat) (sym c.depot.ensures) c.requires.inside.seat
 
 pub invariant_of-result : goal.invariant_of-result
 invariant_of-result g c =

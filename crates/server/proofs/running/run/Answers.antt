@@ -1,6 +1,6 @@
 use Rattle.std.proofs.Common.{ap, arith, length}
 use Rattle.std.specs.Arc.{arc_value}
-use Rattle.server.proofs.Started.{lanes-back, closed-by}
+use Rattle.server.proofs.Started.{lanes-back}
 use Rattle.server.proofs.running.run.Goals as goal
 
 pub join_all-lanes-requires : goal.join_all-lanes-requires
@@ -25,4 +25,4 @@ end-requires-clause-room g c =
     omega (arith, none, n, l, w)
 
 pub returns-in-Ok : goal.returns-in-Ok
-returns-in-Ok g c = closed-by (arc_value c.args.running.filer) c.join_all-lanes.result.items c.end.result c.end.ensures
+returns-in-Ok g c = (c.join_all-lanes.result.items, c.end.ensures)
