@@ -25,7 +25,10 @@ fn arguments(rt: &(impl Abort + AllocGlobal), number: u32) -> (u32, Vec<u32>) {
         0 => (8, [&target(volume, file % 32), &[0; 7], &[]]),
         1 => (3, [&target(volume, file % 64), &[], &[]]),
         2 => (1, [&root, &[], &[]]),
-        3 => (7, [&opened, &[0, file % 3 * 4096, 4100, 0, 4100], &[7; 1025]]),
+        3 => (
+            7,
+            [&opened, &[0, file % 3 * 4096, 4100, 0, 4100], &[7; 1025]],
+        ),
         4 => (6, [&opened, &[0, 0, 64], &[]]),
         5 => (18, [&root, &[], &[]]),
         6 => (12, [&target(volume, file % 16), &[], &[]]),
@@ -43,7 +46,19 @@ fn arguments(rt: &(impl Abort + AllocGlobal), number: u32) -> (u32, Vec<u32>) {
 pub(crate) fn record(rt: &(impl Abort + AllocGlobal), number: u32) -> Vec<u32> {
     let (procedure, arguments) = arguments(rt, number);
     let size = 40 + 4 * (arguments.len() as u32 & 0xffff);
-    let head = [0x8000_0000 | size, number, 0, 2, 100_003, 3, procedure, 0, 0, 0, 0];
+    let head = [
+        0x8000_0000 | size,
+        number,
+        0,
+        2,
+        100_003,
+        3,
+        procedure,
+        0,
+        0,
+        0,
+        0,
+    ];
     let mut words = Vec::new(rt.alloc());
     words.extend_from_slice(&head).expect(rt, "no memory");
     words.extend_from_slice(&arguments).expect(rt, "no memory");

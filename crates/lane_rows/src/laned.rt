@@ -120,7 +120,12 @@ fn whole<R: Abort + AllocGlobal + Wait + Copy + Drop>(rt: R, size: usize) {
     assert!(&rt; lane.waiting() == 0);
     assert!(&rt; write_all(&rt, &mut lane, one) == Sent::All);
     assert!(&rt; write_all(&rt, &mut lane, other) == Sent::All);
-    close(&rt, &mut lane, one, &[&NULL_REPLY, &NO_PROGRAM_REPLY, &GETATTR_REPLY]);
+    close(
+        &rt,
+        &mut lane,
+        one,
+        &[&NULL_REPLY, &NO_PROGRAM_REPLY, &GETATTR_REPLY],
+    );
     close(&rt, &mut lane, other, &[&NULL_REPLY, &GETATTR_REPLY]);
     assert!(&rt; lane.open_count() == 0);
     part(rt, lane, 0);
@@ -202,7 +207,13 @@ fn flags_are_kept(rt: HostRuntime) {
         is_listed: true,
     };
     lane.set_flags(one, flags);
-    lane.set_flags(one.wrapping_add(1), Flags { has_ended: true, ..flags });
+    lane.set_flags(
+        one.wrapping_add(1),
+        Flags {
+            has_ended: true,
+            ..flags
+        },
+    );
     let connection = lane.connection(one).expect(&rt, "an open connection");
     assert!(&rt; connection.flags() == flags);
     assert!(&rt; lane.connection(one.wrapping_add(1)).is_none());

@@ -74,10 +74,18 @@ where
     };
     let opened = open_lanes(rt, rt.alloc(), layout(&rt, 2)).ok();
     let (mut first, mut second) = opened.expect(&rt, "no memory");
-    take(&rt, &mut first, device(&rt, &[&create(6, 0x6161_0000)], 100, MANY));
+    take(
+        &rt,
+        &mut first,
+        device(&rt, &[&create(6, 0x6161_0000)], 100, MANY),
+    );
     assert!(&rt; run_all(&mut first) == 1);
     take(&rt, &mut first, device(&rt, &[&read(HELD)], 100, MANY));
-    take(&rt, &mut second, device(&rt, &[&getattr(BESIDE)], 100, MANY));
+    take(
+        &rt,
+        &mut second,
+        device(&rt, &[&getattr(BESIDE)], 100, MANY),
+    );
     let latch = &latch;
     let done = thread::join(
         &rt,
