@@ -2,7 +2,6 @@
 use Rattle.std.specs.Prelude.{◌≡◌, [], Some}
 use Rattle.affinity_tree.specs.declared.layout.Layout.{Layout}
 use Rattle.lanes.specs.Lanes.{HasBoth}
-use Rattle.lane_rows.specs.declared.opening.Queue.{Queue}
 use Rattle.workers.specs.declared.message.Message.{Message}
 use Rattle.workers.specs.declared.shared.Filer.{Filer}
 use Rattle.workers.specs.declared.shared_waiting.pass.Pass.{Pass}
@@ -20,11 +19,11 @@ pub record IsNewPass (filer : Filer) (queue : SharedWaiting Message Layout) (pas
   pub picked : (known pass).picked ≡ []
 
 -- both passes of a queue are new, and nobody has another
-pub record IsNewQueue (filer : Filer) (q : Queue) : Type 0 where
-  pub admits : IsNewPass filer q.queue q.admits
-  pub picks : IsNewPass filer q.queue q.picks
-  pub whole : IsWhole (both (known q.admits) (known q.picks))
-  pub key : (known q.admits).key ≡ (known q.picks).key
+pub record IsNewQueue (filer : Filer) (queue : SharedWaiting Message Layout) (admits picks : Pass Message Layout) : Type 0 where
+  pub puts : IsNewPass filer queue admits
+  pub takes : IsNewPass filer queue picks
+  pub whole : IsWhole (both (known admits) (known picks))
+  pub key : (known admits).key ≡ (known picks).key
 
 -- a worker of the filer on such a queue, which has done nothing, and the pass that will admit
 pub record IsReadyLane (filer : Filer) (queue : SharedWaiting Message Layout) (admits : Pass Message Layout) (worker : Worker)

@@ -26,7 +26,7 @@ struct Queue {
 
 /// An empty queue of a filer's layout.
 fn open_queue(alloc: Global, filer: &Filer) -> Result<Queue, AllocError>
-    ensures { IfOk result (IsNewQueue filer.now) }
+    ensures { IfOk result (λ q. IsNewQueue filer.now q.queue q.admits q.picks) }
 {
     let (queue, pass) = SharedWaiting::new(alloc, filer.depot().layout())?;
     let (admits, picks) = queue.split_pass(pass);

@@ -6,7 +6,7 @@ use std::io::{Read, Write};
 
 /// A connection's socket, which is read and written at once or not at all.
 #[derive(Drop)]
-pub struct Socket(pub TcpStream);
+pub struct Socket(pub(crate) TcpStream);
 
 impl Device for Socket {
     fn read_now(&mut self, block: &mut [u8]) -> Told {

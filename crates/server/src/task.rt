@@ -51,6 +51,7 @@ where
         move || -> Lane<Socket, R>
             ensures { Stays task.lane result }
         {
+            let task = task;
             let Task { lane, station } = task;
             serve(&rt, lane, station)
         },

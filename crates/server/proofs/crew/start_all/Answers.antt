@@ -1,6 +1,8 @@
 use Rattle.std.proofs.Common.{◌∙◌, ap, arith}
+use Rattle.depot.specs.rule.Sums.{total}
 use Rattle.server.specs.Lanes.{filer_of, seats_of}
 use Rattle.server.specs.Threads.{seats_for, seats_with, IsTaskFor, ServesFor}
+use Rattle.server.proofs.pool.Lists.{none-left}
 use Rattle.server.proofs.pool.Handed.{handed, all-pushed, all-popped}
 use Rattle.server.proofs.crew.start_all.Goals as goal
 
@@ -30,3 +32,16 @@ loop-task-preserved g c =
       len = omega (arith, a, l, n);
       seats = handed seats_with seats_for ts us all rest t x is was (ap seats_of same) ∙ i.seats;
     }
+
+pub returns-in-Err-clause-serve : goal.returns-in-Err-clause-serve
+returns-in-Err-clause-serve g c filer tasks serves = (c.loop-task.invariant.serve filer tasks serves).1
+
+pub returns-clause-serve : goal.returns-clause-serve
+returns-clause-serve g c filer tasks serves = (c.loop-task.invariant.serve filer tasks serves).1
+
+pub returns-clause-seats : goal.returns-clause-seats
+returns-clause-seats g c all =
+    let none = ap (total seats_for) (none-left c.loop-task.tasks.items (let z = c.in_default.ensures.cases.0 in let o = c.loop-task.tasks.ok.0 in
+    omega (arith, z, o))) in
+    let s = c.loop-task.invariant.seats in
+    omega (arith, none, s)
