@@ -40,13 +40,19 @@ impl Gathered {
 
 impl Gathered {
     /// A place less.
-    fn fill(&mut self) {
+    fn fill(&mut self)
+        ensures calls { self.new.calls ≡ self.old.calls }
+        ensures outboxes { self.new.outboxes ≡ self.old.outboxes }
+        ensures layout { self.new.layout ≡ self.old.layout }
+    {
         self.places = self.places.saturating_sub(1);
         self.has_place = self.places > 0;
     }
 
     /// So many places.
-    pub fn empty(&mut self, places: usize) {
+    pub fn empty(&mut self, places: usize)
+        ensures { self.new.layout ≡ self.old.layout }
+    {
         self.places = places;
         self.has_place = places > 0;
     }

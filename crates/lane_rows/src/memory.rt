@@ -17,35 +17,43 @@ pub(crate) struct Memory {
 }
 
 impl Memory {
-    /// What it tells before any byte moves.
-    fn called(&mut self) -> Option<Told> {
+    /// Whether it fails at this call.
+    fn fails(&mut self) -> bool {
         if self.calls == 0 {
-            return Some(Told::Failed);
+            return true;
         }
         self.calls -= 1;
+        false
+    }
+
+    /// Whether it would wait at this call.
+    fn waits(&mut self) -> bool {
         self.is_waiting = !self.is_waiting;
-        if self.is_waiting {
-            return Some(Told::Blocked);
-        }
-        None
+        self.is_waiting
     }
 }
 
 impl Device for Memory {
     fn read_now(&mut self, block: &mut [u8]) -> Told {
-        if let Some(told) = self.called() {
-            return told;
+        if self.fails() {
+            return Told::Failed;
         }
-        let rest = &self.unread[self.given..];
+        if self.waits() {
+            return Told::Blocked;
+        }
+        let rest = &self.unread[self.given.min(self.unread.len())..];
         let size = self.size.min(block.len()).min(rest.len());
         block[..size].copy_from_slice(&rest[..size]);
-        self.given += size;
+        self.given = self.given.saturating_add(size);
         Told::Moved(size)
     }
 
     fn write_now(&mut self, bytes: &[u8]) -> Told {
-        if let Some(told) = self.called() {
-            return told;
+        if self.fails() {
+            return Told::Failed;
+        }
+        if self.waits() {
+            return Told::Blocked;
         }
         let size = self.size.min(bytes.len());
         match self.taken.extend_from_slice(&bytes[..size]) {

@@ -84,7 +84,9 @@ fn read_all(
     sink: &mut Gathered,
     layout: &Layout,
     places: usize,
-) -> Came {
+) -> Came
+    requires { layout_of sink.old.layout ≡ layout_of layout.now }
+{
     let mut block = vec![in rt.alloc(); 0; 64].expect(rt, "no memory");
     let mut last = Came::Blocked;
     for _ in 0..MANY {
@@ -174,7 +176,8 @@ fn failing(rt: &(impl Abort + AllocGlobal), size: usize, calls: usize) {
     assert!(rt; (sent == Sent::Failed) == connection.is_broken());
     let taken = connection.into_device().taken;
     let wanted = bytes_of(rt, &[&NULL_REPLY, &NO_PROGRAM_REPLY]);
-    assert!(rt; taken.as_slice() == &wanted[..taken.len()]);
+    let size = taken.len().min(wanted.len());
+    assert!(rt; taken.as_slice() == &wanted[..size]);
     assert!(rt; sent == Sent::Failed || taken.len() == 0 || taken.len() == 28 || taken.len() == 56);
     mem::forget((layout, sink, taken, wanted));
 }
