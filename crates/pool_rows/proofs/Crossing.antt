@@ -23,7 +23,7 @@ use Rattle.workers.specs.contracts.shared.Filer as Filer
 abbrev pub FilerPass : RattleType
 FilerPass = Pass.the_row Envelope.the_row Layout.the_row
 
-pass-send : IsSend FilerPass
+pub pass-send : IsSend FilerPass
 pass-send = search (pass.the_send, envelope-send, sendable) depth 20
 
 number-send : IsSend ConnectionNumber.the_row
