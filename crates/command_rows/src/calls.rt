@@ -14,38 +14,60 @@ fn target(volume: u32, number: u32) -> [u32; 6] {
     [12, volume, 0, 1, 2, first << 24 | second << 16]
 }
 
-/// A procedure of version 3, and the words of its arguments: one of eight kinds of calls in turn, on
-/// two volumes.
-fn arguments(rt: &(impl Abort + AllocGlobal), number: u32) -> (u32, Vec<u32>) {
+/// Words behind others.
+fn put(rt: &impl Abort, words: &mut Vec<u32>, more: &[u32]) {
+    words.extend_from_slice(more).expect(rt, "no memory");
+}
+
+/// The words of the arguments of a call: one of eight kinds in turn, on two volumes. Answers its
+/// procedure of version 3.
+fn put_arguments(rt: &impl Abort, words: &mut Vec<u32>, number: u32) -> u32 {
     let volume = number / 8 % 2;
     let file = number / 16;
     let root = handle(volume, 1);
     let opened = handle(volume, 2 + file % 16);
-    let parts: (u32, [&[u32]; 3]) = match number % 8 {
-        0 => (8, [&target(volume, file % 32), &[0; 7], &[]]),
-        1 => (3, [&target(volume, file % 64), &[], &[]]),
-        2 => (1, [&root, &[], &[]]),
-        3 => (
-            7,
-            [&opened, &[0, file % 3 * 4096, 4100, 0, 4100], &[7; 1025]],
-        ),
-        4 => (6, [&opened, &[0, 0, 64], &[]]),
-        5 => (18, [&root, &[], &[]]),
-        6 => (12, [&target(volume, file % 16), &[], &[]]),
-        _ => (0, [&[], &[], &[]]),
-    };
-    let (procedure, pieces) = parts;
-    let mut words = Vec::new(rt.alloc());
-    for piece in pieces {
-        words.extend_from_slice(piece).expect(rt, "no memory");
+    match number % 8 {
+        0 => {
+            put(rt, words, &target(volume, file % 32));
+            put(rt, words, &[0; 7]);
+            8
+        }
+        1 => {
+            put(rt, words, &target(volume, file % 64));
+            3
+        }
+        2 => {
+            put(rt, words, &root);
+            1
+        }
+        3 => {
+            put(rt, words, &opened);
+            put(rt, words, &[0, file % 3 * 4096, 4100, 0, 4100]);
+            put(rt, words, &[7; 1025]);
+            7
+        }
+        4 => {
+            put(rt, words, &opened);
+            put(rt, words, &[0, 0, 64]);
+            6
+        }
+        5 => {
+            put(rt, words, &root);
+            18
+        }
+        6 => {
+            put(rt, words, &target(volume, file % 16));
+            12
+        }
+        _ => 0,
     }
-    (procedure, words)
 }
 
 /// The record of a call by its number, which is its xid.
 pub(crate) fn record(rt: &(impl Abort + AllocGlobal), number: u32) -> Vec<u32> {
-    let (procedure, arguments) = arguments(rt, number);
-    let size = 40 + 4 * (arguments.len() as u32 & 0xffff);
+    let mut arguments = Vec::new(rt.alloc());
+    let procedure = put_arguments(rt, &mut arguments, number);
+    let size = 40 + 4 * (arguments.len() % 65_536) as u32;
     let head = [
         0x8000_0000 | size,
         number,
