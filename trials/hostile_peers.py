@@ -1,6 +1,7 @@
 """Peers that harm themselves: others are served as if they weren't there, and what they asked whole is done."""
 
 import contextlib
+import pathlib
 import random
 import socket
 import struct
@@ -28,7 +29,7 @@ from plain import accepted, words
 from stream_rows import JOINED, LIMITS, ROWS, WAITS, octets
 
 # More than the trials take.
-CONNECTIONS = 600
+CONNECTIONS = 800
 KIB = 1024
 PIECE = 64 * KIB
 
@@ -118,6 +119,26 @@ def one_byte_at_a_time(address):
     peer.shutdown(socket.SHUT_WR)
     compare(JOINED, *read_all(peer))
     peer.close()
+
+
+def one_byte_a_second(address):
+    """Peers that send one byte a second, in a mark, in a head and at the end of a record, hold up no other, and get their
+    replies."""
+    record = call(5, 1, handle(0))
+    starts = [*range(7), *range(40, 46), *range(len(record) - 7, len(record) - 4)]
+    peers = [connect(address) for _ in starts]
+    with Others(address):
+        for peer, start in zip(peers, starts):
+            peer.sendall(record[:start])
+        for second in range(4):
+            time.sleep(1)
+            for peer, start in zip(peers, starts):
+                peer.sendall(record[start + second : start + second + 1])
+    for peer, start in zip(peers, starts):
+        peer.sendall(record[start + 4 :] + record)
+        peer.shutdown(socket.SHUT_WR)
+        compare(record * 2, *read_all(peer))
+        peer.close()
 
 
 def fault_behind_calls(address):
@@ -215,6 +236,21 @@ def resets_in_a_call(address):
     client.close()
 
 
+def resets_behind_calls(address):
+    """Peers that send whole calls and reset, before a reply, between replies, or with half a call behind, harm no other; their
+    places are free again."""
+    calls = b"".join(call(xid, 6, read_arguments(handle(1), 0, 10)) if xid % 2 else call(xid, 1, handle(0)) for xid in range(99))
+    with Others(address):
+        for turn in range(4):
+            peers = [connect(address) for _ in range(24)]
+            for place, peer in enumerate(peers):
+                peer.sendall(calls + calls[: place * 7 if turn % 2 else 0])
+            for place, peer in enumerate(peers):
+                if place % 3:
+                    peer.recv(1 if place % 3 == 1 else 3000)
+                reset(peer)
+
+
 def closes_at_once(address):
     """A peer sends one call and closes: the call is done."""
     client = Client(address)
@@ -306,12 +342,39 @@ def more_than_places(address):
         peer.close()
 
 
+def ticks(process):
+    """How long all threads of a process have run, in hundredths of a second (Linux)."""
+    told = pathlib.Path(f"/proc/{process.pid}/stat").read_text(encoding="ascii").rpartition(")")[2].split()
+    return int(told[11]) + int(told[12])
+
+
+def rests(server):
+    """Where nothing comes the threads sleep, though connections are open, half a record is there and a peer doesn't read."""
+    idle = [connect(server.address) for _ in range(10)]
+    idle[0].sendall(call(1, 1, handle(0))[:30])
+    peer, thread = asks_and_never_reads(server.address, 500)
+
+    def is_at_rest():
+        before = ticks(server.process)
+        time.sleep(1)
+        return ticks(server.process) <= before + 1
+
+    hold(until(is_at_rest), "the threads don't sleep where nothing comes")
+    with contextlib.suppress(OSError):
+        peer.shutdown(socket.SHUT_RDWR)
+    thread.join()
+    for it in (peer, *idle):
+        it.close()
+
+
 TRIALS = [
     worked_rows,
     one_byte_at_a_time,
+    one_byte_a_second,
     fault_behind_calls,
     half_closed,
     resets_in_a_call,
+    resets_behind_calls,
     closes_at_once,
     closes_while_calls_run,
     many_at_once,
@@ -333,6 +396,7 @@ def run(filer):
                     passed += 1
                 except (Differs, OSError) as difference:
                     failures.append(f"{trial.__name__}: {type(difference).__name__}: {difference}")
+            rests(server)
             client = Client(server.address)
             client.null()
             client.close()

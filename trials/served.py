@@ -30,10 +30,6 @@ class Wrong(Exception):
     """What the server shows isn't what it should."""
 
 
-class Ended(Exception):
-    """The server ended as it may where memory ran out as a connection was opened."""
-
-
 class Server:
     """A server with the library that refuses."""
 
@@ -324,7 +320,6 @@ class Trial:
         self.in_batches = in_batches
         self.xid = 0
         self.strange = 0
-        self.met_in_opening = False
         self.owners = [Owner(number) for number in range(CLIENTS)]
         self.server = Server(filer, environment(library, self.page), CLIENTS + 1)
         self.links = []
@@ -333,8 +328,6 @@ class Trial:
         """Tries it; answers how many calls of the allocator there were, and whether one was refused."""
         try:
             self.serve()
-        except Ended:
-            pass
         finally:
             for link in self.links:
                 link.close()
@@ -360,14 +353,10 @@ class Trial:
         ended = self.server.wait(PATIENCE)
         if ended is None:
             raise Wrong(f"the server doesn't end within {PATIENCE} seconds")
-        if self.met_in_opening and ended in LACKING:
-            return
         expect("the server's end", ended, ("left 0\n", 0))
 
     def open(self):
-        """Opens a connection, and makes a call. Where memory runs out at this, the server may end and tell it, or else the
-        connection ends and the others go on."""
-        before = self.page.refusals
+        """Opens a connection, and makes a call. Where memory runs out at this, the connection ends and the others go on."""
         self.xid += 1
         got = None
         try:
@@ -377,19 +366,14 @@ class Trial:
             got = link.receive()
         except (ConnectionRefusedError, ConnectionResetError):
             pass
-        if self.page.refusals > before:
-            self.met_in_opening = True
         if got is None:
             self.is_unanswered("NULL on a new connection")
             return
         expect("NULL", wire.reply(got)[:2], (self.xid, wire.SUCCESS))
 
     def is_unanswered(self, what):
-        """A connection has ended without an answer. So may the server where memory ran out as a connection was opened."""
+        """A connection has ended without an answer."""
         self.strange += 1
-        if self.met_in_opening:
-            if self.server.wait(1) in LACKING:
-                raise Ended
         if self.strange > self.page.refusals:
             raise Wrong(f"{what} isn't answered")
 
@@ -614,7 +598,6 @@ class Start(Trial):
         self.page.set(counting=1, refused=refused)
         self.xid = 0
         self.strange = 0
-        self.met_in_opening = False
         self.server = Server(filer, environment(library, self.page), 1)
         self.links = []
 

@@ -2,7 +2,11 @@
 #![tactic(auto)]
 
 #[cfg(test)]
+mod calls;
+#[cfg(test)]
 mod client;
+#[cfg(test)]
+mod crowd;
 #[cfg(test)]
 mod lines;
 #[cfg(test)]

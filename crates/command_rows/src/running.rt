@@ -13,9 +13,9 @@ use std::time::Duration;
 /// How many seconds a line of a server's may take.
 const PATIENCE: u64 = 30;
 
-/// Runs a server of two volumes and two workers at a port that the system picks, for so many
+/// Runs a server of two volumes and so many workers at a port that the system picks, for so many
 /// connections. Its status.
-pub(crate) fn serve<R>(rt: R, connections: &str, mut out: UnixStream) -> u8
+pub(crate) fn serve_by<R>(rt: R, workers: &str, connections: &str, mut out: UnixStream) -> u8
 where
     R: Files + AllocGlobal + Threads + Wait + Clock,
     R: Net<Listener = TcpListener, Stream = TcpStream> + Copy + Drop + Send + 'static,
@@ -28,11 +28,20 @@ where
         "--volumes",
         "2",
         "--workers",
-        "2",
+        workers,
         "--connections",
         connections,
     ];
     program(rt, &words, &mut out)
+}
+
+/// The same with two workers.
+pub(crate) fn serve<R>(rt: R, connections: &str, out: UnixStream) -> u8
+where
+    R: Files + AllocGlobal + Threads + Wait + Clock,
+    R: Net<Listener = TcpListener, Stream = TcpStream> + Copy + Drop + Send + 'static,
+{
+    serve_by(rt, "2", connections, out)
 }
 
 /// What a server prints. A read of it doesn't wait forever.

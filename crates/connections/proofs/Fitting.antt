@@ -1,17 +1,14 @@
--- A call that was read fits the queue of its filer, and the pass stays one of that queue.
-use Rattle.std.proofs.Common.{◌≡◌, ◌∙◌, Option, Some, None, subst, ap}
+-- A call that was read fits the queue of its filer.
+use Rattle.std.proofs.Common.{◌≡◌, Option, Some, None, subst}
 use Rattle.std.specs.Prelude.{option_map}
 use Rattle.nfs_model.specs.Tree as trees
 use Rattle.affinity_tree.specs.declared.layout.Layout.{Layout}
 use Rattle.affinity_tree.specs.Layout.{layout_of}
 use Rattle.workers.specs.shared_waiting.Balance.{FitsIn}
-use Rattle.workers.specs.declared.shared_waiting.pass.Pass.{Pass}
 use Rattle.workers.specs.Balance.{Passed}
 use Rattle.workers.specs.Messages.{IsPlaced, Fits}
 use Rattle.workers.specs.Words.{layout_known}
 use Rattle.workers.specs.declared.message.Message.{Message}
-use Rattle.workers.specs.declared.shared.Filer.{Filer}
-use Rattle.connections.specs.Loans.{IsHandedBack, IsPassFor}
 
 -- what is placed in a layout fits a queue of that layout
 pub fits-by : (layout : trees.Layout) (v : Passed) (m : Message) → layout_known v ≡ Some layout → IsPlaced layout m → FitsIn Fits v.key m
@@ -20,8 +17,3 @@ fits-by layout v m known placed = by v.key known
     by : (key : Option Layout) → option_map layout_of key ≡ Some layout → FitsIn Fits key m
     by None e = let no : ⊥ = cc in absurd no
     by (Some key) e = subst (λ (x : trees.Layout). IsPlaced x m) (let same : layout ≡ layout_of key = cc in same) placed
-
--- a pass that is handed back is one of the filer yet
-pub handed-back-for : (filer : Filer) (p q : Pass Message Layout) → IsPassFor filer p → IsHandedBack p q → IsPassFor filer q
-handed-back-for filer p q f back =
-    record { of = back.of filer.waiting f.of; layout = ap (λ (key : Option Layout). option_map layout_of key) back.share.2 ∙ f.layout }

@@ -1,6 +1,1 @@
-mod Fitting
-mod Written
-mod Crossing
-mod Inside
-mod PutOne
-mod Returned
+pub mod Fitting

@@ -1,13 +1,2 @@
-pub mod Loans
 pub mod Admitted
-pub mod Sinks
-pub mod Written
-pub mod Taken
-pub mod Numbers
-pub mod Opened
-pub use Rattle.workers.specs.Balance
-pub use Rattle.workers.specs.declared.shared.Filer
-pub use Rattle.workers.specs.declared.message.Message
-pub use Rattle.workers.specs.Words
-pub use Rattle.workers.specs.declared.worker.Worker
 pub mod tcp_front

@@ -14,7 +14,7 @@ ghost use Rattle.connections.specs.Admitted.{seen_of};
 use engine_feed::OfferedCall;
 use outboxes::Room;
 use std::alloc::{AllocError, Global};
-use workers::Message;
+use workers::{Envelope, Message};
 
 /// The call of a message, with the room of its reply.
 fn with_room(message: affinity_tree::scheduler::Message<OfferedCall>, room: Room) -> Message
@@ -34,11 +34,11 @@ fn with_room(message: affinity_tree::scheduler::Message<OfferedCall>, room: Room
     }
 }
 
-/// The call of a message, with new room for its reply.
-pub(crate) fn in_room(
+/// The call of a message, in memory of its own and with new room for its reply.
+pub fn in_room(
     alloc: Global,
     message: affinity_tree::scheduler::Message<OfferedCall>,
-) -> Result<Message, AllocError>
+) -> Result<Envelope, AllocError>
     requires { message.room ≤ most_bytes }
     ensures seen { IfOk result (λ m. seen_of m ≡ message_of message) }
     ensures placed { IfOk result (λ m. (layout : trees.Layout)
@@ -47,7 +47,7 @@ pub(crate) fn in_room(
         → IsPlaced layout m) }
 {
     match Room::new(alloc, message.room) {
-        Ok(room) => Ok(with_room(message, room)),
+        Ok(room) => Envelope::new(alloc, with_room(message, room)),
         Err(refused) => {
             drop(message);
             Err(refused)

@@ -20,4 +20,6 @@ pub use read_end::ReadEnd;
 pub use reading::{read_loop, read_loop_in};
 pub use sink::RecordSink;
 pub use source::RecordSource;
+pub use stream::{MOST_RECORDS, Stopped, Stream};
+pub use taking::take_some;
 pub use writing::{WriteFault, write_loop, write_record};

@@ -41,6 +41,10 @@ impl RecordSink for Gathered {
 
     ghost layout = { λ s. layout_of s.layout };
 
+    fn has_room(&self) -> bool {
+        true
+    }
+
     fn admit(&mut self, message: Message<OfferedCall>) -> Result<(), AllocError> {
         Ok(self.calls.push(message)?)
     }

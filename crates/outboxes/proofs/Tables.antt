@@ -1,5 +1,5 @@
 -- The table of outboxes as a map.
-use Rattle.std.proofs.Common.{◌≡◌, refl, sym, ap, ◌∙◌, ℕ, ◌+◌, ◌==◌, Bool, true, false, cond, List, [], ◌∷◌}
+use Rattle.std.proofs.Common.{◌≡◌, refl, sym, ap, ◌∙◌, ℕ, ◌+◌, ◌<◌, ◌==◌, Bool, true, false, cond, List, [], ◌∷◌}
 use Rattle.std.proofs.Common.{length, drop, Option, Some, None, is_some, if◌then◌else◌, arith}
 use Rattle.std.specs.List.{AllByRecursion}
 use Rattle.std.specs.List.Sorted.{IsStrictlySortedBy}
@@ -8,7 +8,7 @@ use Rattle.std.specs.BTreeMap.{is_at}
 use Rattle.std.specs.Option.{option_map}
 use Rattle.std.specs.Ordering.{nat_cmp, is_eq, eq_by_cmp}
 use Rattle.std.specs.declared.cmp.Ordering.TheVariants.{Less}
-use Rattle.std.specs.Cmp.{nat_cmp_total}
+use Rattle.std.specs.Cmp.{nat_cmp_total, nat_cmp_is}
 use Rattle.std.specs.FinMap.{FinMap, find, get, insert, remove, len}
 use Rattle.std.specs.FinMap.{get-from_entries, get-insert, get-remove, len-empty, len-insert}
 use Rattle.std.proofs.lemmas.Cmp.{eq_by_cmp_equiv}
@@ -62,15 +62,30 @@ turned k q = (eq_by_cmp_equiv nat_cmp_total).symm q k
 pub fresh : (next : ℕ) (es : Waits) → NoneFrom next es → get (waiting_of es) next ≡ None
 fresh next es n = get-found es next ∙ n next (omega arith)
 
-module _ (next : ℕ) (old new : Waits) where
+-- each number is larger than the one before
+pub rises : (next step : ℕ) → 0 < step → next < next + step
+rises next step h = omega (arith, h)
+
+-- a smaller number is another
+other : (k q : ℕ) → k < q → is_at (nat_cmp k) q ≡ false
+other k q h = sym (ap is_eq (nat_cmp_is k q Less h))
+
+-- after the next number was given, none is open from the one behind it on
+pub fresh-again : (next step : ℕ) (old new : Waits) → NoneFrom next old → 0 < step
+    → ((q : ℕ) → found new q ≡ cond (is_at (nat_cmp next) q) (Some []) (found old q)) → NoneFrom (next + step) new
+fresh-again next step old new n some h q far =
+    h q ∙ (ap (λ (b : Bool). cond b (Some []) (found old q)) (other next q (omega (arith, far, some))) ∙ n q (omega (arith, far)))
+
+module _ (next step : ℕ) (old new : Waits) where
   -- a connection more
-  pub opens : ((q : ℕ) → found new q ≡ cond (is_at (nat_cmp next) q) (Some []) (found old q)) → boxes_of (next + 1) new ≡ opened (boxes_of next old)
-  opens h = ap (λ m. record { next = next + 1; waiting = m }) (same new (insert (waiting_of old) next []) (λ q.
+  pub opens : ((q : ℕ) → found new q ≡ cond (is_at (nat_cmp next) q) (Some []) (found old q))
+      → boxes_of (next + step) step new ≡ opened (boxes_of next step old)
+  opens h = ap (λ m. record { next = next + step; step = step; waiting = m }) (same new (insert (waiting_of old) next []) (λ q.
       h q ∙ sym (get-insert nat_cmp_total (waiting_of old) next [] q ∙ (λ i. cond (turned next q i) (Some []) (get-found old q i)))))
 
   -- a connection less
-  pub shuts : (k : ℕ) → ((q : ℕ) → found new q ≡ cond (is_at (nat_cmp k) q) None (found old q)) → boxes_of next new ≡ shut k (boxes_of next old)
-  shuts k h = ap (λ m. record { next = next; waiting = m }) (same new (remove (waiting_of old) k) (λ q.
+  pub shuts : (k : ℕ) → ((q : ℕ) → found new q ≡ cond (is_at (nat_cmp k) q) None (found old q)) → boxes_of next step new ≡ shut k (boxes_of next step old)
+  shuts k h = ap (λ m. record { next = next; step = step; waiting = m }) (same new (remove (waiting_of old) k) (λ q.
       h q ∙ sym (get-remove nat_cmp_total (waiting_of old) k q ∙ (λ i. cond (turned k q i) None (get-found old q i)))))
 
   -- what waits for one connection changed
@@ -86,19 +101,19 @@ module _ (next : ℕ) (old new : Waits) where
 
   pub puts : (k : ℕ) (m : ReplyMessage)
       → ((q : ℕ) → found new q ≡ (if q == k then option_map (with_last m) (found old q) else found old q))
-      → boxes_of next new ≡ put (record { connection = k; message = m }) (boxes_of next old)
-  puts k m h = ap (λ w. record { next = next; waiting = w }) (changes (with_last m) k h)
+      → boxes_of next step new ≡ put (record { connection = k; message = m }) (boxes_of next step old)
+  puts k m h = ap (λ w. record { next = next; step = step; waiting = w }) (changes (with_last m) k h)
 
   -- the same, of an answer
   pub puts-answer : (k : ℕ) (said : ReplyMessage) (a : Addressed) → addressed k said ≡ a
       → ((q : ℕ) → found new q ≡ (if q == k then option_map (with_last said) (found old q) else found old q))
-      → boxes_of next new ≡ put a (boxes_of next old)
-  puts-answer k said a e h = puts k said h ∙ ap (λ (x : Addressed). put x (boxes_of next old)) e
+      → boxes_of next step new ≡ put a (boxes_of next step old)
+  puts-answer k said a e h = puts k said h ∙ ap (λ (x : Addressed). put x (boxes_of next step old)) e
 
   pub takes : (k : ℕ)
       → ((q : ℕ) → found new q ≡ (if q == k then option_map (drop 1) (found old q) else found old q))
-      → boxes_of next new ≡ taken k (boxes_of next old)
-  takes k h = ap (λ w. record { next = next; waiting = w }) (changes (drop 1) k h)
+      → boxes_of next step new ≡ taken k (boxes_of next step old)
+  takes k h = ap (λ w. record { next = next; step = step; waiting = w }) (changes (drop 1) k h)
 
-  pub first : (k : ℕ) → first_in (found old k) ≡ oldest k (boxes_of next old)
+  pub first : (k : ℕ) → first_in (found old k) ≡ oldest k (boxes_of next step old)
   first k = ap first_in (sym (get-found old k))

@@ -1,5 +1,5 @@
 -- What waits to be written to connections (our profile).
-use Rattle.std.specs.Prelude.{ℕ, ◌+◌, ◌^◌, ◌≤◌, ◌⊎◌, refl, List, [], ◌∷◌, ◌++◌, Option, Some, None, drop}
+use Rattle.std.specs.Prelude.{◌≡◌, ℕ, ◌+◌, ◌%◌, ◌^◌, ◌≤◌, ◌⊎◌, refl, List, [], ◌∷◌, ◌++◌, Option, Some, None, drop}
 use Rattle.std.specs.Coded.{Coded, code_by, coded×, coded_ℕ}
 use Rattle.std.specs.FinMap as maps
 use Rattle.std.specs.FinMap.{FinMap, empty, get, insert, remove, len}
@@ -7,17 +7,18 @@ use Rattle.std.specs.Ordering.{nat_cmp}
 use Rattle.nfs_model.specs.volume.Maps.{changed_at}
 use Rattle.outboxes.specs.Messages.{ReplyMessage}
 
--- The number that the next connection gets, which is how many were opened, and what waits for
--- each connection that is open, the oldest first.
+-- The number that the next connection gets, by how much the one after that is larger, and what waits
+-- for each connection that is open, the oldest first.
 pub record Boxes : Type 0 where
   pub next : ℕ
+  pub step : ℕ
   pub waiting : FinMap nat_cmp (List ReplyMessage)
 
 -- its code, where replies have one
 abbrev pub coded_boxes : Coded (List ReplyMessage) → Coded Boxes
 coded_boxes code =
-    code_by (ℕ × FinMap nat_cmp (List ReplyMessage)) (coded× coded_ℕ (maps.code coded_ℕ code)) (λ b. (b.next, b.waiting))
-    (λ p. record { next = p.0; waiting = p.1 }) (λ _. refl)
+    code_by (ℕ × (ℕ × FinMap nat_cmp (List ReplyMessage))) (coded× coded_ℕ (coded× coded_ℕ (maps.code coded_ℕ code)))
+    (λ b. (b.next, (b.step, b.waiting))) (λ p. record { next = p.0; step = p.1.0; waiting = p.1.1 }) (λ _. refl)
 
 -- a reply on its way to a connection
 pub record Addressed : Type 0 where
@@ -45,15 +46,29 @@ most_bytes = 131072
 abbrev pub IsFull : Boxes → Type 0
 IsFull b = (most_open ≤ len b.waiting) ⊎ (most_numbers ≤ b.next)
 
+-- ---- lanes
+
+-- a number is one of the lane's
+abbrev pub IsNumberOf : ℕ → ℕ → ℕ → Type 0
+IsNumberOf lane lanes number = number % lanes ≡ lane
+
+-- these boxes give just the numbers of the lane
+abbrev pub AreOfLane : ℕ → ℕ → Boxes → Type 0
+AreOfLane lane lanes b = (b.step ≡ lanes) × IsNumberOf lane lanes b.next
+
 -- ---- what calls do
 
--- before the first connection
+-- before the first connection of one of so many lanes
+abbrev pub none_of : ℕ → ℕ → Boxes
+none_of lane lanes = record { next = lane; step = lanes; waiting = empty }
+
+-- before the first connection, where there is one lane alone
 abbrev pub none_open : Boxes
-none_open = record { next = 0; waiting = empty }
+none_open = none_of 0 1
 
 -- one connection more, under the next number
 abbrev pub opened : Boxes → Boxes
-opened b = record { next = b.next + 1; waiting = insert b.waiting b.next [] }
+opened b = record { next = b.next + b.step; step = b.step; waiting = insert b.waiting b.next [] }
 
 -- a connection closed, and what waited for it gone; nothing where the number isn't open
 abbrev pub shut : ℕ → Boxes → Boxes

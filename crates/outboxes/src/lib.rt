@@ -5,6 +5,7 @@
 mod answer;
 pub mod bells;
 mod chain;
+mod lanes;
 mod link;
 mod outbox;
 mod outboxes;
@@ -14,6 +15,7 @@ mod room;
 mod said;
 
 pub use answer::Answer;
+pub use lanes::lanes_are_apart;
 pub use outboxes::Outboxes;
 pub use record::Record;
 pub use refusal::OpenRefusal;

@@ -2,6 +2,7 @@
 
 ghost use Rattle.std.specs.Prelude.{
   ◌≡◌,
+  ◌<◌,
   ◌≤◌,
   ◌↔◌,
   [],
@@ -10,6 +11,7 @@ ghost use Rattle.std.specs.Prelude.{
   Err,
   length,
   drop,
+  ℕ,
   OnOk,
   OnErr,
   IfOk,
@@ -21,7 +23,8 @@ ghost use Rattle.std.specs.FinMap.{get};
 ghost use Rattle.std.specs.Ordering.{nat_cmp};
 ghost use Rattle.nfs_values.specs.Reply.{reply_of};
 ghost use Rattle.outboxes.specs.Boxes.{addressed, first_in, most_bytes, with_last, IsFull};
-ghost use Rattle.outboxes.specs.Boxes.{none_open, oldest, opened, put, shut, taken};
+ghost use Rattle.outboxes.specs.Boxes.{none_of, none_open, oldest, opened, put, shut, taken};
+ghost use Rattle.outboxes.specs.Boxes.{most_numbers, AreOfLane, IsNumberOf};
 ghost use Rattle.outboxes.specs.Messages.{message, record_of};
 ghost use Rattle.outboxes.specs.Tables.{HasChanged};
 ghost use Rattle.outboxes.specs.declared.refusal.OpenRefusal.TheVariants as refusals;
@@ -48,6 +51,8 @@ pub struct Outboxes {
     alloc: Global,
     by_number: BTreeMap<usize, Outbox>,
     next: usize,
+    /// By how much each number is larger than the one before.
+    step: usize,
 }
 
 // By hand, so that crates above have no proof of the drop of each of its parts.
@@ -57,6 +62,7 @@ impl Drop for Outboxes {
             alloc: _,
             by_number: _,
             next: _,
+            step: _,
         } = self;
     }
 }
@@ -69,11 +75,11 @@ impl Model for Outboxes {
 
     ghost coded = { coded_boxes (Prim.hlevel (codes)) };
 
-    ghost use Rattle.outboxes.specs.Tables.{boxes_of, NoneFrom};
+    ghost use Rattle.outboxes.specs.Tables.{boxes_of, NoneFrom, IsStep};
 
-    ghost view = { λ o. boxes_of o.next o.by_number.entries };
+    ghost view = { λ o. boxes_of o.next o.step o.by_number.entries };
 
-    ghost invariant = { λ o. NoneFrom o.next o.by_number.entries };
+    ghost invariant = { λ o. NoneFrom o.next o.by_number.entries × IsStep o.step };
 }
 
 impl Outboxes {
@@ -81,21 +87,37 @@ impl Outboxes {
     pub fn new(alloc: Global) -> Outboxes
         ensures { result ≡ none_open }
     {
+        Outboxes::of_lane(alloc, 0, 1)
+    }
+
+    /// The outboxes of one of so many lanes: no connection is open, and numbers are given from the
+    /// lane's own on, each larger by the count of lanes than the one before. So no two lanes give
+    /// one number (`lanes_are_apart`).
+    pub fn of_lane(alloc: Global, lane: usize, lanes: usize) -> Outboxes
+        requires lane { lane < lanes }
+        requires few { lanes ≤ most_numbers }
+        ensures none { result ≡ none_of lane lanes }
+        ensures lane { AreOfLane lane lanes result }
+    {
         Outboxes {
             alloc,
             by_number: BTreeMap::new(alloc),
-            next: 0,
+            next: lane,
+            step: lanes,
         }
     }
 
-    /// Opens a connection, for which nothing waits. Its number is how many were opened before, so
-    /// that none is given twice. `Full` where 64 are open or 2^62 numbers were given.
+    /// Opens a connection, for which nothing waits. Numbers rise, so that none is given twice. `Full` where 64 are open or 2^62 numbers were given.
     pub fn open(&mut self) -> Result<ConnectionNumber, OpenRefusal>
         ensures number { IfOk result (λ connection. connection.0 ≡ self.old.next) }
         ensures fresh { get self.old.waiting self.old.next ≡ None }
+        ensures rises { self.old.next < (opened self.old).next }
         ensures ok { OnOk result (self.new ≡ opened self.old) }
         ensures err { OnErr result (self.new ≡ self.old) }
         ensures full { (result ≡ Err refusals.Full) ↔ IsFull self.old }
+        ensures lane { (lane lanes : ℕ) → AreOfLane lane lanes self.old
+            → IfOk result (λ connection. IsNumberOf lane lanes connection.0)
+            × AreOfLane lane lanes self.new }
     {
         if self.by_number.len() >= MOST_OPEN {
             return Err(OpenRefusal::Full);
@@ -106,7 +128,7 @@ impl Outboxes {
         }
         match insert(&mut self.by_number, number) {
             Ok(()) => {
-                self.next = number + 1;
+                self.next = number + self.step;
                 Ok(ConnectionNumber(number))
             }
             Err(refusal) => Err(refusal),

@@ -1,6 +1,6 @@
 //! Records that are taken.
 
-ghost use Rattle.std.specs.Prelude.{◌≡◌};
+ghost use Rattle.std.specs.Prelude.{◌≡◌, ◌≤◌, length};
 ghost use Rattle.outboxes.specs.Messages.{record_of};
 
 use crate::said::Said;
@@ -30,6 +30,13 @@ impl Record {
         ensures { result.now ≡ record_of self.now }
     {
         &self.bytes
+    }
+
+    /// How many bytes it has room for.
+    pub fn room(&self) -> usize
+        ensures { length (record_of self.now) ≤ result }
+    {
+        self.bytes.capacity()
     }
 
     /// A record of these bytes, which spell what it says.

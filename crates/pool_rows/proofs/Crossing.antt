@@ -16,15 +16,15 @@ use Rattle.nfs_values.proofs.number.ConnectionNumber.TheSendSync as number
 use Rattle.nfs_values.specs.contracts.number.ConnectionNumber as ConnectionNumber
 use Rattle.workers.proofs.shared_waiting.pass.Pass.TheSendSync as pass
 use Rattle.workers.specs.contracts.shared_waiting.pass.Pass as Pass
-use Rattle.workers.proofs.Crossing.{message-send, filer-sync}
-use Rattle.workers.specs.contracts.message.Message as Message
+use Rattle.workers.proofs.Crossing.{envelope-send, filer-sync}
+use Rattle.workers.specs.contracts.envelope.Envelope as Envelope
 use Rattle.workers.specs.contracts.shared.Filer as Filer
 
 abbrev pub FilerPass : RattleType
-FilerPass = Pass.the_row Message.the_row Layout.the_row
+FilerPass = Pass.the_row Envelope.the_row Layout.the_row
 
-pass-send : IsSend FilerPass
-pass-send = search (pass.the_send, message-send, sendable) depth 20
+pub pass-send : IsSend FilerPass
+pass-send = search (pass.the_send, envelope-send, sendable) depth 20
 
 number-send : IsSend ConnectionNumber.the_row
 number-send = search (number.the_send, sendable) depth 20

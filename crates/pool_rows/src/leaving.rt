@@ -26,7 +26,7 @@ use std::process::Abort;
 use std::sync::{Arc, Wait};
 use std::thread;
 use std::thread::Threads;
-use workers::{BatchInHand, Filer, Gate, Message, Place, Stage, Tend, Unwatched, Worker};
+use workers::{BatchInHand, Envelope, Filer, Gate, Place, Stage, Tend, Unwatched, Worker};
 
 /// Gathers what workers leave.
 fn leave<R: Wait>(
@@ -439,10 +439,10 @@ fn leave_full<R: Wait>(rt: &R, alloc: Global, full: Full) -> Option<Ended>
 }
 
 /// Looks whether messages have the xids from one on.
-fn have_xids(rt: &impl Abort, messages: &[Message], first: u32) {
+fn have_xids(rt: &impl Abort, messages: &[Envelope], first: u32) {
     let mut next = first;
     for message in messages {
-        assert_eq!(rt; message.origin.xid, next);
+        assert_eq!(rt; message.message().origin.xid, next);
         next = next.wrapping_add(1);
     }
 }

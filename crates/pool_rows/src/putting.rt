@@ -18,10 +18,10 @@ use rpc_msg::room_of_reply;
 use std::alloc::Global;
 use std::sync::Wait;
 use workers::shared_waiting::Pass;
-use workers::{Filer, Message};
+use workers::{Envelope, Filer, Message};
 
 /// A pass of a filer's queue.
-pub(crate) type FilerPass = Pass<Message, Layout>;
+pub(crate) type FilerPass = Pass<Envelope, Layout>;
 
 /// The record of a call, by its xid.
 pub(crate) fn record_of(connection: ConnectionNumber, xid: u32) -> Origin {
@@ -50,8 +50,17 @@ fn message_of(alloc: Global, filer: &Filer, origin: Origin, call: Call) -> Optio
     })
 }
 
+/// The same, in memory of its own.
+fn envelope_of(alloc: Global, filer: &Filer, origin: Origin, call: Call) -> Option<Envelope>
+    requires { IsRun call }
+    ensures { IfSome result (IsPlaced (layout_in filer.now)) }
+{
+    let message = message_of(alloc, filer, origin, call)?;
+    Envelope::new(alloc, message).ok()
+}
+
 /// Puts a message. Where the queue is full it waits for a place.
-fn admit<R: Wait>(rt: &R, filer: &Filer, bells: &Bells, pass: &mut FilerPass, message: Message)
+fn admit<R: Wait>(rt: &R, filer: &Filer, bells: &Bells, pass: &mut FilerPass, message: Envelope)
     requires of { IsOf filer.now.waiting pass.old }
     requires fits { FitsIn Fits (known pass.old).key message }
     ensures of { IsOf filer.now.waiting pass.new }
@@ -82,7 +91,7 @@ pub(crate) fn put<R: Wait>(
     requires run { IsRun call }
     ensures { HasPut filer.now pass.old pass.new }
 {
-    let message = match message_of(alloc, filer, origin, call) {
+    let message = match envelope_of(alloc, filer, origin, call) {
         Some(message) => message,
         None => return false,
     };

@@ -1,4 +1,5 @@
-mod Wholes
-mod Shares
-mod Handed
-mod Helpers
+mod Staying
+mod Remaining
+mod Ended
+mod Started
+mod Crossing

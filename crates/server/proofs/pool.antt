@@ -1,8 +1,8 @@
-mod Handed
+pub mod Handed
 mod Crossing
-mod Lists
+pub mod Lists
 mod Portions
 mod Drained
-mod Joins
+pub mod Joins
 mod Sharing
 mod Closes

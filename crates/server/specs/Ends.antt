@@ -1,19 +1,47 @@
 -- The end of a server.
-use Rattle.std.specs.Prelude.{List, All}
+use Rattle.std.specs.Prelude.{◌≡◌, ℕ, ◌+◌, List, length}
+use Rattle.depot.specs.Words.{view}
+use Rattle.depot.specs.rule.History.{entries_of}
 use Rattle.depot.specs.rule.Sums.{total}
-use Rattle.server.specs.pool.Ends.{HasEnded}
-use Rattle.server.specs.pool.Shares.{put_by, FilerPass}
-use Rattle.server.specs.declared.pool.ended.Ended.{Ended}
 use Rattle.nfs_model.specs.Tree as trees
 use Rattle.parcel_sets.specs.Sets.{serial_parcels}
-use Rattle.server.specs.Places.{IsReaderOf}
-use Rattle.server.specs.pool.Words.{layout_in, verifier_in}
-use Rattle.server.specs.pool.Filer.{Filer}
+use Rattle.lanes.specs.declared.device.Device as devices
+use Rattle.lanes.specs.declared.lane.Lane.{Lane}
+use Rattle.server.specs.declared.ending.FilerEnd.{FilerEnd}
+use Rattle.server.specs.declared.ending.FilerEnd.TheVariants.{Closed, Shared}
+use Rattle.server.specs.declared.pool.ended.Ended.{Ended}
+use Rattle.server.specs.declared.pool.left.Left.{Left}
+use Rattle.server.specs.declared.socket.Socket.{Socket}
+use Rattle.server.specs.Lanes.{admitted_by, finished_by, AreLanesOf}
+use Rattle.server.specs.pool.Ends.{HasEnded}
+use Rattle.server.specs.pool.Gathered.{calls_by, IsLeftOf}
+use Rattle.workers.specs.Balance.{FilerEntry, Weight}
+use Rattle.workers.specs.Words.{layout_in, verifier_in}
+use Rattle.workers.specs.declared.shared.Filer.{Filer}
 
--- From the opening parcels there is one legal history, whose replies a serial run gives, and which left the parcels as they are. Each call
--- that a connection put is in it, or was kept, or waits.
-pub record HasClosed (filer : Filer) (ended : Ended) : Type 0 where
-  pub passes : List FilerPass
-  pub readers : All (IsReaderOf filer) passes
-  pub closes : HasEnded (layout_in filer) (verifier_in filer) (serial_parcels (layout_in filer) trees.Serial ended.parcels) ended.hands.items
-      ended.kept.items ended.waiting.items (λ weight. total (put_by weight) passes)
+module _ {R : Type 0} {G : devices.Ghosts Socket} where
+  -- All lanes of a filer have ended: what is left is the filer's. What they admitted is, as often, finished, kept, or waits; and the
+  -- calls that the only seat finished are, as often, those that theirs did.
+  pub record HaveStopped (filer : Filer) (lanes : List (Lane Socket R G)) (left : Left) : Type 0 where
+    pub leaves : IsLeftOf filer left
+    pub lanes_are : AreLanesOf filer lanes
+    pub calls : (weight : Weight) → total (admitted_by weight) lanes ≡ calls_by weight left
+    pub entries : (weight : FilerEntry → ℕ) → total (finished_by weight) lanes ≡ total weight (entries_of (view left.seat))
+
+  -- From the opening parcels there is one legal history, whose replies a serial run gives, and which left the parcels as they are. The calls
+  -- that the lanes finished are, as often, those of the history; and each call that a lane admitted is in it, was kept, or waits. Which calls
+  -- these are, by the bytes of its connections, each lane's type says.
+  pub record HasClosed (filer : Filer) (lanes : List (Lane Socket R G)) (ended : Ended) : Type 0 where
+    pub lanes_are : AreLanesOf filer lanes
+    pub closes : HasEnded (layout_in filer) (verifier_in filer) (serial_parcels (layout_in filer) trees.Serial ended.parcels) ended.hands.items
+        ended.kept.items ended.waiting.items (λ weight. total (admitted_by weight) lanes) (λ weight. total (finished_by weight) lanes)
+
+  -- what is left of the filer of these lanes: it is closed, or all that they leave
+  abbrev pub IsEndOf : Filer → List (Lane Socket R G) → FilerEnd → Type 0
+  IsEndOf filer lanes (Closed ended) = HasClosed filer lanes ended
+  IsEndOf filer lanes (Shared left) = HaveStopped filer lanes left
+
+-- how many messages of it weren't finished: those that were kept and those that wait
+abbrev pub unfinished_in : FilerEnd → ℕ
+unfinished_in (Closed ended) = length ended.kept.items + length ended.waiting.items
+unfinished_in (Shared left) = length left.kept.items + length left.waiting.items

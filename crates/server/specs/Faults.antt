@@ -1,5 +1,4 @@
 -- What ends a server (our profile).
-use Rattle.connections.specs.declared.refusal.ServeRefusal.TheVariants as refused
 use Rattle.server.specs.declared.pool.refusal.StartRefusal.{StartRefusal}
 use Rattle.server.specs.declared.pool.refusal.StartRefusal.TheVariants as start
 use Rattle.server.specs.declared.fault.ServerFault.{ServerFault}
@@ -11,10 +10,6 @@ abbrev pub fault_of_start : StartRefusal → ServerFault
 fault_of_start start.NoThread = faults.Thread
 fault_of_start start.NoMemory = faults.NoMemory
 
--- a listener that fails, and a connection that can't be served
+-- a listener that fails
 abbrev pub fault_of_serving : ServeFault → ServerFault
 fault_of_serving serving.AcceptFailed = faults.Accept
-fault_of_serving (serving.NotServed refused.Full) = faults.Accept
-fault_of_serving (serving.NotServed refused.StreamFailed) = faults.Accept
-fault_of_serving (serving.NotServed refused.NoThread) = faults.Thread
-fault_of_serving (serving.NotServed refused.NoMemory) = faults.NoMemory

@@ -1,7 +1,9 @@
 pub mod Faults
+pub mod Lanes
+pub mod Queues
+pub mod Remains
 pub mod Threads
 pub mod Ends
 pub mod Asked
-pub mod Places
 pub mod Numbers
 pub mod pool

@@ -1,9 +1,7 @@
 -- The numbers of faults (our profile).
 use Rattle.std.specs.Prelude.{ℕ}
-use Rattle.connections.specs.Numbers.{serve_refusal_number}
 use Rattle.server.specs.declared.serve_fault.ServeFault.{ServeFault}
 use Rattle.server.specs.declared.serve_fault.ServeFault.TheVariants as faults
 
 abbrev pub serve_fault_number : ServeFault → ℕ
 serve_fault_number faults.AcceptFailed = 63
-serve_fault_number (faults.NotServed refusal) = serve_refusal_number refusal

@@ -1,72 +1,52 @@
 //! Connections that are accepted.
 
-ghost use Rattle.std.specs.Arc.{arc_value};
-ghost use Rattle.server.specs.Places.{AreSlotsOf, HasAll};
-
+use crate::ends::Ends;
+use crate::mailbox::Mailbox;
 use crate::serve_fault::ServeFault;
-use crate::slots::Slots;
-use connections::{Connection, ServeRefusal, Shared};
-use std::alloc::Global;
 use std::net::{TcpListener, TcpStream};
-use std::rt::Clock;
-use std::sync::Wait;
-use std::thread::Threads;
+use std::sync::{Arc, Wait};
 
-impl Slots {
-    /// Serves a stream at a place that has no connection, where there is one. Where it can't be
-    /// served it is closed.
-    pub fn open<R: Threads + Wait + Clock + Copy + Send + 'static>(
-        &mut self,
-        rt: R,
-        alloc: Global,
-        shared: &Shared,
-        stream: TcpStream,
-    ) -> Result<(), ServeFault>
-        requires { AreSlotsOf (arc_value shared.now.filer) self.old }
-        ensures slots { AreSlotsOf (arc_value shared.now.filer) self.new }
-        ensures all { HasAll self.old self.new }
-    {
-        let loan = match self.idle.pop() {
-            Some(loan) => loan,
-            None => return Err(ServeFault::NotServed(ServeRefusal::Full)),
-        };
-        match Connection::open(rt, alloc, shared, stream, loan) {
-            Ok(connection) => {
-                self.served.push_reserved(connection);
-                Ok(())
-            }
-            Err(refused) => {
-                self.idle.push_reserved(refused.loan);
-                Err(ServeFault::NotServed(refused.why))
-            }
-        }
+/// The most connections that are open.
+const MOST_OPEN: u64 = 64;
+
+/// Makes a stream as a lane wants it: no call on it waits, and a short reply doesn't wait for more;
+/// where the latter fails it only comes later.
+fn is_prepared(stream: &TcpStream) -> bool {
+    let _set = stream.set_nodelay(true);
+    stream.set_nonblocking(true).is_ok()
+}
+
+/// Leaves a stream for a lane. Where that can't be it is closed.
+fn hand_over<R: Wait>(rt: &R, mailbox: &Mailbox, ends: &Ends, stream: TcpStream) {
+    if !is_prepared(&stream) || !mailbox.leave(rt, stream) {
+        ends.add();
     }
 }
 
-/// Accepts so many connections, each while fewer than 64 are open, and serves them. Where one can't
-/// be accepted or served no more are. Those that are open then aren't waited for.
-pub fn serve<R: Threads + Wait + Clock + Copy + Send + 'static>(
-    rt: R,
-    alloc: Global,
-    shared: &Shared,
+/// Accepts so many connections, each while fewer than 64 are open, and leaves them for the lanes by
+/// turns. Where one can't be accepted no more are.
+pub(crate) fn accept_all<R: Wait>(
+    rt: &R,
     listener: &TcpListener,
     connections: u64,
-    slots: &mut Slots,
-) -> Result<(), ServeFault>
-    requires { AreSlotsOf (arc_value shared.now.filer) slots.old }
-    ensures slots { AreSlotsOf (arc_value shared.now.filer) slots.new }
-    ensures all { HasAll slots.old slots.new }
-{
-    for _ in 0..connections {
-        slots.wait_for_place(&rt, &shared.ended);
-        match listener.accept() {
-            Ok((stream, _peer)) => {
-                // A short reply doesn't wait for more; where this fails it only comes later.
-                let _set = stream.set_nodelay(true);
-                slots.open(rt, alloc, shared, stream)?
-            }
+    mailboxes: &[Arc<Mailbox>],
+    ends: &Ends,
+) -> Result<(), ServeFault> {
+    let mut next = 0;
+    for opened in 0..connections {
+        ends.wait_for_fewer(rt, opened, MOST_OPEN);
+        let stream = match listener.accept() {
+            Ok((stream, _peer)) => stream,
             Err(_failed) => return Err(ServeFault::AcceptFailed),
+        };
+        if next >= mailboxes.len() {
+            next = 0;
         }
+        match mailboxes.get(next) {
+            Some(mailbox) => hand_over(rt, mailbox, ends, stream),
+            None => ends.add(),
+        }
+        next += 1;
     }
     Ok(())
 }

@@ -1,26 +1,54 @@
 //! The end of a filer.
 
-ghost use Rattle.std.specs.Prelude.{◌≡◌, IfSome};
+ghost use Rattle.std.specs.Prelude.{◌≡◌, ◌≤◌, vec_len};
 ghost use Rattle.std.specs.Arc.{arc_value};
-ghost use Rattle.server.specs.Ends.{HasClosed};
-ghost use Rattle.server.specs.Threads.{HasStopped};
+ghost use Rattle.server.specs.Ends.{unfinished_in, IsEndOf};
+ghost use Rattle.server.specs.Lanes.{AreLanesOf};
 
+use crate::gathering::gather_lanes;
 use crate::pool::{Ended, Left, close};
-use connections::Shared;
-use std::sync::Arc;
+use crate::room::Room;
+use crate::socket::Socket;
+use lanes::Lane;
+use std::sync::{Arc, Wait};
+use workers::Filer;
 
-/// Closes a filer whose threads have ended, where none else has it.
-pub(crate) fn end(shared: Shared, left: Left) -> Option<Ended>
-    requires { HasStopped (arc_value shared.filer) left }
-    ensures { IfSome result (HasClosed (arc_value shared.filer)) }
+/// What is left of a filer whose lanes have ended.
+#[derive(Drop)]
+pub(crate) enum FilerEnd {
+    /// It is closed.
+    Closed(Ended),
+    /// Someone else has it still, so that it can't be closed.
+    Shared(Left),
+}
+
+impl FilerEnd {
+    /// How many messages weren't finished.
+    pub(crate) fn unfinished(&self) -> usize
+        ensures { result ≡ unfinished_in self.now }
+    {
+        match self {
+            FilerEnd::Closed(ended) => ended.kept.len() + ended.waiting.len(),
+            FilerEnd::Shared(left) => left.kept.len() + left.waiting.len(),
+        }
+    }
+}
+
+/// Puts all lanes of a filer together, whose threads have ended, and closes it, where none else has
+/// it. It takes no memory.
+pub(crate) fn end<R: Wait + Drop>(
+    rt: &R,
+    filer: Arc<Filer>,
+    lanes: Vec<Lane<Socket, R>>,
+    room: Room,
+) -> FilerEnd
+    requires lanes { AreLanesOf (arc_value filer) lanes.items }
+    requires room { vec_len lanes ≤ room.lanes }
+    ensures { IsEndOf (arc_value filer) lanes.items result }
 {
-    let Shared {
-        filer,
-        bells: _,
-        ended: _,
-    } = shared;
+    let left = gather_lanes(&filer, rt, lanes, room);
     match Arc::try_unwrap(filer) {
-        Ok(filer) => Some(close(filer, left)),
-        Err(_shared) => None,
+        Ok(filer) => FilerEnd::Closed(close(filer, left)),
+        Err(_shared) => FilerEnd::Shared(left),
     }
 }

@@ -5,7 +5,6 @@ ghost use Rattle.server.specs.Faults.{fault_of_start, fault_of_serving};
 
 use crate::pool::StartRefusal;
 use crate::serve_fault::ServeFault;
-use connections::ServeRefusal;
 use std::alloc::AllocError;
 
 /// Why a server ends before its work is done.
@@ -45,9 +44,5 @@ pub(crate) fn of_serving(fault: ServeFault) -> ServerFault
 {
     match fault {
         ServeFault::AcceptFailed => ServerFault::Accept,
-        ServeFault::NotServed(ServeRefusal::Full) => ServerFault::Accept,
-        ServeFault::NotServed(ServeRefusal::StreamFailed) => ServerFault::Accept,
-        ServeFault::NotServed(ServeRefusal::NoThread) => ServerFault::Thread,
-        ServeFault::NotServed(ServeRefusal::NoMemory) => ServerFault::NoMemory,
     }
 }

@@ -1,23 +1,34 @@
-//! A filer with its threads: opened, served to the connections of a listener, stopped and closed;
-//! and the pool of its workers.
+//! A filer with the threads of its lanes: opened, served to the connections of a listener, stopped
+//! and closed; and the pool of its workers.
 #![tactic(auto)]
 
 mod accepting;
+mod crew;
 mod ending;
+mod ends;
 mod fault;
-mod lending;
+mod gathering;
+mod hearing;
+mod keys;
+mod mailbox;
 mod opening;
 mod options;
-mod parting;
+mod pace;
+mod patience;
 pub mod pool;
-mod reaping;
+mod remains;
 mod room;
+mod round;
 mod running;
 mod serve_fault;
-mod slots;
-mod splitting;
-mod stopping;
+mod serving;
+mod socket;
+mod station;
+mod task;
+mod tends;
+mod visits;
 
 pub use fault::ServerFault;
 pub use options::Options;
 pub use running::serve;
+pub use socket::Socket;

@@ -1,37 +1,26 @@
-//! A filer that is opened.
+//! A filer that is opened, with its lanes.
 
-ghost use Rattle.std.specs.Prelude.{◌≡◌, ◌<◌, ◌≤◌, IfOk};
+ghost use Rattle.std.specs.Prelude.{◌≡◌, ◌≤◌, ◌<◌, [], IfOk, vec_len, vec_capacity};
 ghost use Rattle.std.specs.Arc.{arc_value};
-ghost use Rattle.server.specs.pool.Pools.{IsVacant};
-ghost use Rattle.server.specs.pool.Words.{seats_in};
-ghost use Rattle.server.specs.Threads.{IsOpened};
+ghost use Rattle.server.specs.Lanes.{AreLanesOf, IsLaneOf};
+ghost use Rattle.server.specs.Queues.{IsNewQueue, IsReadyLane};
 
 use crate::fault::ServerFault;
-use crate::options::{MOST_VOLUMES, MOST_WORKERS};
-use crate::pool::{Filer, Pool, Room, Worker};
-use crate::slots::Slots;
+use crate::options::MOST_VOLUMES;
+use crate::socket::Socket;
 use affinity_tree::{AggregateSpec, Layout, VolumeSpec};
-use connections::Shared;
-use outboxes::bells::{Bell, Bells};
+use lanes::Lane;
 use std::alloc::{AllocError, Global};
 use std::rt::Clock;
 use std::sync::Arc;
+use workers::shared_waiting::{Pass, SharedWaiting};
+use workers::{Envelope, Filer, Worker};
 
 /// The ranges by which the volumes may grow.
 const SPARE: u32 = 16;
 
 /// The ranges of each volume.
 const RANGES: u32 = 4;
-
-/// What a server has before its threads run.
-#[derive(Drop)]
-pub(crate) struct Opened {
-    pub(crate) shared: Shared,
-    pub(crate) worker: Worker,
-    pub(crate) slots: Slots,
-    pub(crate) pool: Pool,
-    pub(crate) room: Room,
-}
 
 /// So many volumes on one aggregate.
 pub(crate) fn layout_of(alloc: Global, volumes: usize) -> Result<Layout, ServerFault>
@@ -57,53 +46,88 @@ pub(crate) fn verifier_now<R: Clock>(rt: &R) -> [u8; 8] {
     }
 }
 
-/// A filer of this layout with a worker from which so many can be split, and places for its
-/// connections, which have the other seats.
-fn open_filer(
-    alloc: Global,
-    layout: Layout,
-    verifier: [u8; 8],
-    workers: usize,
-) -> Result<(Arc<Filer>, Worker, Slots), AllocError>
-    requires { (0 < workers) × (workers ≤ 64) }
-    ensures opened { IfOk result (λ made. IsOpened (arc_value made.0) made.1 made.2) }
-    ensures seats { IfOk result (λ made. seats_in made.1 ≡ workers) }
-{
-    let (filer, seat, pass) = Filer::new(alloc, layout, verifier)?;
-    let (pass, readers) = filer.waiting().split_pass(pass);
-    let worker = Worker::first(&filer, seat, pass);
-    let helpers = MOST_WORKERS - workers;
-    let (slots, worker) = Slots::new(alloc, &filer, readers, worker, helpers)?;
-    Ok((Arc::new(alloc, filer)?, worker, slots))
+/// A queue, with a pass for who puts messages and one for who picks them.
+#[derive(Drop)]
+pub(crate) struct Queue {
+    pub(crate) queue: SharedWaiting<Envelope, Layout>,
+    pub(crate) admits: Pass<Envelope, Layout>,
+    pub(crate) picks: Pass<Envelope, Layout>,
 }
 
-/// What a server has before the threads of so many workers run.
-pub(crate) fn open(
+/// An empty queue of a filer's layout.
+fn open_queue(alloc: Global, filer: &Filer) -> Result<Queue, AllocError>
+    ensures { IfOk result (IsNewQueue filer.now) }
+{
+    let (queue, pass) = SharedWaiting::new(alloc, filer.depot().layout())?;
+    let (admits, picks) = queue.split_pass(pass);
+    Ok(Queue {
+        queue,
+        admits,
+        picks,
+    })
+}
+
+/// A lane of a worker, the first of so many lanes or another.
+fn open_lane<R>(
+    rt: R,
+    alloc: Global,
+    filer: &Arc<Filer>,
+    queue: SharedWaiting<Envelope, Layout>,
+    admits: Pass<Envelope, Layout>,
+    worker: Worker,
+    lane: usize,
+    lanes: usize,
+) -> Result<Lane<Socket, R>, AllocError>
+where
+    R: Drop,
+    requires lane { lane < lanes }
+    requires few { lanes ≤ 64 }
+    requires ready { IsReadyLane (arc_value filer.now) queue admits worker }
+    ensures of { IfOk result (λ opened. IsLaneOf (arc_value filer.now) opened) }
+    ensures worker { IfOk result (λ opened. opened.worker ≡ worker) }
+{
+    let filer = Arc::try_clone(filer)?;
+    Ok(Lane::new(rt, alloc, filer, queue, admits, worker, lane, lanes))
+}
+
+/// So many lanes of a filer, which have all its seats between them.
+pub(crate) fn open_lanes<R>(
+    rt: R,
     alloc: Global,
     layout: Layout,
     verifier: [u8; 8],
-    workers: usize,
-) -> Result<Opened, AllocError>
-    requires { (0 < workers) × (workers ≤ 64) }
-    ensures opened { IfOk result (λ o. IsOpened (arc_value o.shared.filer) o.worker o.slots) }
-    ensures seats { IfOk result (λ o. seats_in o.worker ≡ workers) }
-    ensures vacant { IfOk result (λ o. IsVacant o.pool) }
+    count: usize,
+    mut lanes: Vec<Lane<Socket, R>>,
+) -> Result<(Arc<Filer>, Vec<Lane<Socket, R>>), AllocError>
+where
+    R: Copy + Drop,
+    requires count { (0 < count) × (count ≤ 64) }
+    requires none { lanes.items ≡ [] }
+    requires room { count ≤ vec_capacity lanes }
+    ensures lanes { IfOk result (λ made. AreLanesOf (arc_value made.0) made.1.items) }
+    ensures count { IfOk result (λ made. vec_len made.1 ≡ count) }
+    ensures room { IfOk result (λ made. vec_capacity made.1 ≡ vec_capacity lanes) }
 {
-    let (filer, worker, slots) = open_filer(alloc, layout, verifier, workers)?;
-    let bells = Arc::new(alloc, Bells::new(alloc)?)?;
-    let pool = Pool::new(alloc, Arc::try_clone(&bells)?)?;
-    let room = Room::new(alloc)?;
-    let ended = Arc::new(alloc, Bell::new())?;
-    let shared = Shared {
-        filer,
-        bells,
-        ended,
-    };
-    Ok(Opened {
-        shared,
-        worker,
-        slots,
-        pool,
-        room,
-    })
+    let (filer, seat, _pass) = Filer::new(alloc, layout, verifier)?;
+    let filer = Arc::new(alloc, filer)?;
+    let Queue {
+        queue,
+        admits,
+        picks,
+    } = open_queue(alloc, &filer)?;
+    let mut worker = Worker::start(&filer, &queue, seat, picks);
+    for index in 1..count {
+        let Queue {
+            queue: theirs,
+            admits: puts,
+            picks: takes,
+        } = open_queue(alloc, &filer)?;
+        let (first, second) = worker.split_with(&filer, &queue, &theirs, takes);
+        worker = first;
+        let lane = open_lane(rt, alloc, &filer, theirs, puts, second, index, count)?;
+        lanes.push_reserved(lane);
+    }
+    let lane = open_lane(rt, alloc, &filer, queue, admits, worker, 0, count)?;
+    lanes.push_reserved(lane);
+    Ok((filer, lanes))
 }

@@ -24,11 +24,15 @@ mod task;
 mod tending;
 mod watch;
 
+pub(crate) use carried::{push_batch, push_kept};
 pub use closing::close;
+pub(crate) use draining::drain_behind;
 pub use ended::Ended;
 pub use everything::gather;
 pub use left::Left;
+pub(crate) use moments::share_millisecond;
 pub use pool::Pool;
 pub use refusal::{NotStarted, StartRefusal};
 pub use room::Room;
+pub(crate) use tending::{Found, Tending, found_by};
 pub use workers::{Filer, Gate, Place, Unwatched, Worker};

@@ -1,44 +1,37 @@
-//! The room of places.
+//! The room for what lanes leave.
 
-ghost use Rattle.std.specs.Prelude.{◌≡◌, ◌≤◌, [], vec_capacity};
+ghost use Rattle.std.specs.Prelude.{◌≡◌, ◌≤◌, ◌*◌, [], IfOk, vec_capacity};
 
-use affinity_tree::Layout;
-use connections::{Connection, Loan, Message, Worker};
 use std::alloc::{AllocError, Global};
-use workers::shared_waiting::Pass;
+use workers::{BatchInHand, Envelope};
 
-/// The most that each vector holds.
-const MOST: usize = 64;
+/// The most messages that wait in a lane's queue.
+const MOST_WAITING: usize = 1024;
 
-/// Room for 64 of each.
+/// Room for all that so many lanes can leave: a batch and a message of each, and the messages that
+/// wait. Who has it puts the lanes together without memory.
 #[derive(Drop)]
 pub(crate) struct Room {
-    pub(crate) idle: Vec<Loan>,
-    pub(crate) served: Vec<Connection>,
-    pub(crate) others: Vec<Connection>,
-    pub(crate) passes: Vec<Pass<Message, Layout>>,
-    pub(crate) workers: Vec<Worker>,
-    ghost no_connection: { (idle.items ≡ []) × (served.items ≡ []) × (others.items ≡ []) },
-    ghost vacant: { (passes.items ≡ []) × (workers.items ≡ []) },
-    ghost wide: { (64 ≤ vec_capacity idle) × (64 ≤ vec_capacity served)
-        × (64 ≤ vec_capacity others) × (64 ≤ vec_capacity passes)
-        × (64 ≤ vec_capacity workers) },
+    pub(crate) lanes: usize,
+    pub(crate) hands: Vec<BatchInHand>,
+    pub(crate) kept: Vec<Envelope>,
+    pub(crate) waiting: Vec<Envelope>,
+    ghost empty: { (hands.items ≡ []) × (kept.items ≡ []) × (waiting.items ≡ []) },
+    ghost wide: { (lanes ≤ vec_capacity hands) × (lanes ≤ vec_capacity kept)
+        × (1024 * lanes ≤ vec_capacity waiting) },
 }
 
 impl Room {
-    /// Nothing, and the room.
-    pub(crate) fn new(alloc: Global) -> Result<Room, AllocError> {
-        let idle = Vec::with_capacity(alloc, MOST)?;
-        let served = Vec::with_capacity(alloc, MOST)?;
-        let others = Vec::with_capacity(alloc, MOST)?;
-        let passes = Vec::with_capacity(alloc, MOST)?;
-        let workers = Vec::with_capacity(alloc, MOST)?;
+    /// Room for 1 to 64 lanes.
+    pub(crate) fn new(alloc: Global, lanes: usize) -> Result<Room, AllocError>
+        requires { lanes ≤ 64 }
+        ensures { IfOk result (λ room. room.lanes ≡ lanes) }
+    {
         Ok(Room {
-            idle,
-            served,
-            others,
-            passes,
-            workers,
+            lanes,
+            hands: Vec::with_capacity(alloc, lanes)?,
+            kept: Vec::with_capacity(alloc, lanes)?,
+            waiting: Vec::with_capacity(alloc, MOST_WAITING * lanes)?,
         })
     }
 }

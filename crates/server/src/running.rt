@@ -1,71 +1,113 @@
 //! A server, from its start to what is left.
 
-ghost use Rattle.std.specs.Prelude.{◌≡◌, ◌≤◌, ◌<◌, IfOk};
+ghost use Rattle.std.specs.Prelude.{◌≡◌, ◌<◌, ◌≤◌, ◌+◌, [], List, All, IfOk, OnOk, IfSome};
+ghost use Rattle.std.specs.Prelude.{vec_len, vec_capacity};
 ghost use Rattle.std.specs.Arc.{arc_value};
-ghost use Rattle.server.specs.pool.Pools.{IsVacant};
-ghost use Rattle.server.specs.pool.Words.{seats_in};
-ghost use Rattle.server.specs.Threads.{HasStopped, IsOpened, IsRunning};
-ghost use Rattle.server.specs.Places.{AreSlotsOf, HasAll};
+ghost use Rattle.depot.specs.rule.Sums.{total};
+ghost use Rattle.lanes.specs.declared.lane.Lane as laned;
+ghost use Rattle.server.specs.Ends.{IsEndOf};
+ghost use Rattle.server.specs.Lanes.{seats_of, IsLaneOf};
+ghost use Rattle.server.specs.Threads.{seats_for, AreThreadsOf, IsTaskFor};
+ghost use Rattle.server.specs.declared.socket.Socket as sockets;
+ghost use Rattle.workers.specs.declared.shared.Filer as filers;
 
-use crate::accepting;
-use crate::ending::end;
+use crate::accepting::accept_all;
+use crate::crew::{Mail, join_all, start_all};
+use crate::ending::{FilerEnd, end};
+use crate::ends::Ends;
 use crate::fault::{ServerFault, of_serving, of_start};
-use crate::opening::{Opened, layout_of, open, verifier_now};
+use crate::mailbox::Mailbox;
+use crate::opening::{layout_of, open_lanes, verifier_now};
 use crate::options::Options;
-use crate::pool::{Left, Pool, Room, Unwatched};
-use crate::slots::Slots;
-use crate::stopping::stop;
-use connections::Shared;
+use crate::room::Room;
+use crate::socket::Socket;
+use crate::station::Station;
+use crate::task::{Task, Thread};
+use affinity_tree::Layout;
+use lanes::{Device, Lane};
 use std::alloc::Global;
 use std::io::Write;
-use std::net::{SocketAddr, TcpListener};
+use std::net::{Net, SocketAddr, TcpListener};
 use std::rt::Clock;
-use std::sync::Wait;
+use std::sync::{Arc, Wait};
 use std::thread::Threads;
+use workers::Filer;
 
-/// A filer whose workers run.
+/// A filer whose lanes run, and room for the lanes that come back and for what they leave.
 #[derive(Drop)]
-struct Running {
-    shared: Shared,
-    pool: Pool,
-    slots: Slots,
+struct Running<R> {
+    filer: Arc<Filer>,
+    mail: Mail,
+    threads: Vec<Thread<R>>,
+    lanes: Vec<Lane<Socket, R>>,
     room: Room,
+    ghost none_back: { lanes.items ≡ [] },
+    ghost wide: { (vec_len threads ≤ vec_capacity lanes) × (vec_len threads ≤ room.lanes) },
 }
 
-/// A filer whose threads have ended.
-#[derive(Drop)]
-struct Stopped {
-    shared: Shared,
-    left: Left,
-}
-
-/// Starts so many workers of a filer.
-fn start<R>(rt: R, opened: Opened, workers: usize) -> Result<Running, ServerFault>
-where
-    R: Threads + Wait + Clock + Copy + Drop + Send + 'static,
-    requires opened { IsOpened (arc_value opened.shared.filer) opened.worker opened.slots }
-    requires vacant { IsVacant opened.pool }
-    requires some { 0 < workers }
-    requires fit { workers ≤ 64 }
-    requires seats { workers ≤ seats_in opened.worker }
-    ensures { IfOk result (λ r. IsRunning (arc_value r.shared.filer) r.pool r.slots) }
+/// Gives each of these lanes what its thread will have beside it.
+fn man_all<R: Net + Drop>(
+    rt: &R,
+    alloc: Global,
+    ends: &Arc<Ends>,
+    lanes: &mut Vec<Lane<Socket, R>>,
+    tasks: &mut Vec<Task<R>>,
+    boxes: &mut Vec<Arc<Mailbox>>,
+) -> Result<(), ServerFault>
+    requires tasks { vec_len tasks.old + vec_len lanes.old ≤ vec_capacity tasks.old }
+    requires boxes { vec_len boxes.old + vec_len lanes.old ≤ vec_capacity boxes.old }
+    ensures none { OnOk result (lanes.new.items ≡ []) }
+    ensures room { vec_capacity lanes.new ≡ vec_capacity lanes.old }
+    ensures len { vec_len tasks.new ≤ vec_len tasks.old + vec_len lanes.old }
+    ensures of { (filer : filers.Filer) → All (IsLaneOf filer) lanes.old.items
+        → All (IsTaskFor filer) tasks.old.items → All (IsTaskFor filer) tasks.new.items }
+    ensures seats { OnOk result (total seats_for tasks.new.items
+        ≡ total seats_for tasks.old.items + total seats_of lanes.old.items) }
 {
-    let Opened {
-        shared,
-        worker,
-        slots,
-        pool,
-        room,
-    } = opened;
-    match pool.start(rt, &shared.filer, &Unwatched, worker, workers) {
-        Ok(pool) => Ok(Running {
-            shared,
-            pool,
-            slots,
-            room,
-        }),
-        Err(refused) => Err(of_start(refused.refusal)),
+    while let Some(lane) = lanes.pop() {
+        let ends = Arc::try_clone(ends)?;
+        let station = match Station::new(alloc, rt, ends) {
+            Ok(station) => station,
+            Err(refusal) => return Err(of_start(refusal)),
+        };
+        boxes.push_reserved(Arc::try_clone(&station.mailbox)?);
+        tasks.push_reserved(Task { lane, station });
     }
+    Ok(())
+}
+
+/// Opens a filer with so many lanes, and starts their threads. Where one can't be started those
+/// that run are stopped.
+fn start<R>(rt: R, alloc: Global, layout: Layout, workers: usize) -> Result<Running<R>, ServerFault>
+where
+    R: Threads + Wait + Clock + Net + Copy + Drop + Send + 'static,
+    requires { (0 < workers) × (workers ≤ 64) }
+    ensures { IfOk result (λ r. AreThreadsOf (arc_value r.filer) r.threads.items) }
+{
+    let lanes = Vec::with_capacity(alloc, workers)?;
+    let mut threads = Vec::with_capacity(alloc, workers)?;
+    let mut tasks = Vec::with_capacity(alloc, workers)?;
+    let mut boxes = Vec::with_capacity(alloc, workers)?;
+    let room = Room::new(alloc, workers)?;
+    let ends = match Arc::new(alloc, Ends::new()) {
+        Ok(ends) => ends,
+        Err(_refused) => return Err(ServerFault::NoMemory),
+    };
+    let (filer, mut lanes) = open_lanes(rt, alloc, layout, verifier_now(&rt), workers, lanes)?;
+    man_all(&rt, alloc, &ends, &mut lanes, &mut tasks, &mut boxes)?;
+    let mail = Mail { boxes, ends };
+    if !start_all(rt, &mut tasks, &mut threads) {
+        mail.stop();
+        let _lanes = join_all(&rt, threads, lanes);
+        return Err(ServerFault::Thread);
+    }
+    Ok(Running {
+        filer,
+        mail,
+        threads,
+        lanes,
+        room,
+    })
 }
 
 /// Prints where a server listens.
@@ -74,68 +116,61 @@ fn print_address<W: Write>(listener: &TcpListener, out: &mut W) -> Result<(), Se
     writeln!(out, "listening {address}").map_err(|_| ServerFault::Output)
 }
 
-/// Prints where a server listens, and takes so many connections.
-fn accept<R, W>(
-    rt: R,
-    alloc: Global,
-    shared: &Shared,
+/// Prints where a server listens, takes so many connections, and waits for their ends.
+fn accept<R: Wait, W: Write>(
+    rt: &R,
+    mail: &Mail,
     listener: &TcpListener,
     connections: u64,
-    slots: &mut Slots,
     out: &mut W,
-) -> Result<(), ServerFault>
-where
-    R: Threads + Wait + Clock + Copy + Send + 'static,
-    W: Write,
-    requires { AreSlotsOf (arc_value shared.now.filer) slots.old }
-    ensures slots { AreSlotsOf (arc_value shared.now.filer) slots.new }
-    ensures all { HasAll slots.old slots.new }
-{
+) -> Result<(), ServerFault> {
     print_address(listener, out)?;
-    match accepting::serve(rt, alloc, shared, listener, connections, slots) {
-        Ok(()) => Ok(()),
+    match accept_all(rt, listener, connections, &mail.boxes, &mail.ends) {
+        Ok(()) => {
+            mail.ends.wait_for_fewer(rt, connections, 1);
+            Ok(())
+        }
         Err(fault) => Err(of_serving(fault)),
     }
 }
 
-/// Serves so many connections of a listener to their ends, and stops. Where one can't be served no
-/// more are, and those that are open aren't waited for.
+/// Serves so many connections of a listener to their ends, and stops the lanes. Where one can't be
+/// accepted no more are, and those that are open are closed. What is left of a filer that was
+/// served to its end comes back.
 fn run<R, W>(
-    rt: R,
-    alloc: Global,
+    rt: &R,
     listener: &TcpListener,
     connections: u64,
-    running: Running,
+    running: Running<R>,
     out: &mut W,
-) -> Result<Stopped, ServerFault>
+) -> Result<FilerEnd, ServerFault>
 where
-    R: Threads + Wait + Clock + Copy + Drop + Send + 'static,
+    R: Threads + Wait + Drop,
     W: Write,
-    requires { IsRunning (arc_value running.shared.filer) running.pool running.slots }
-    ensures { IfOk result (λ stopped. HasStopped (arc_value stopped.shared.filer) stopped.left
-        × (arc_value stopped.shared.filer ≡ arc_value running.shared.filer)) }
+    requires { AreThreadsOf (arc_value running.filer) running.threads.items }
+    ensures { IfOk result (λ left. (lanes : List (laned.Lane sockets.Socket R
+        ⟦<Socket as Device>⟧))
+        × IsEndOf (arc_value running.filer) lanes left) }
 {
     let Running {
-        shared,
-        pool,
-        mut slots,
+        filer,
+        mail,
+        threads,
+        lanes,
         room,
     } = running;
-    match accept(rt, alloc, &shared, listener, connections, &mut slots, out) {
-        Ok(()) => {
-            let left = stop(&rt, &shared, pool, slots, room);
-            Ok(Stopped { shared, left })
-        }
-        Err(fault) => {
-            let _workers = pool.stop(&rt);
-            Err(fault)
-        }
+    let accepted = accept(rt, &mail, listener, connections, out);
+    mail.stop();
+    let lanes = join_all(rt, threads, lanes);
+    match accepted {
+        Ok(()) => Ok(end(rt, filer, lanes, room)),
+        Err(fault) => Err(fault),
     }
 }
 
 /// Serves the connections of a listener: prints `listening` and the address that it is bound to,
-/// takes as many connections as the options say, waits for their ends, stops the workers, and
-/// closes the filer, and prints `left` and how many messages weren't finished.
+/// takes as many connections as the options say, waits for their ends, stops the lanes, and closes
+/// the filer, and prints `left` and how many messages weren't finished.
 pub fn serve<R, W>(
     rt: R,
     alloc: Global,
@@ -144,14 +179,12 @@ pub fn serve<R, W>(
     out: &mut W,
 ) -> Result<(), ServerFault>
 where
-    R: Threads + Wait + Clock + Copy + Drop + Send + 'static,
+    R: Threads + Wait + Clock + Net + Copy + Drop + Send + 'static,
     W: Write,
 {
     let layout = layout_of(alloc, options.volumes)?;
-    let opened = open(alloc, layout, verifier_now(&rt), options.workers)?;
-    let running = start(rt, opened, options.workers)?;
-    let Stopped { shared, left } = run(rt, alloc, listener, options.connections, running, out)?;
-    let count = left.kept.len() + left.waiting.len();
-    let _ended = end(shared, left);
+    let running = start(rt, alloc, layout, options.workers)?;
+    let end = run(&rt, listener, options.connections, running, out)?;
+    let count = end.unfinished();
     writeln!(out, "left {count}").map_err(|_| ServerFault::Output)
 }

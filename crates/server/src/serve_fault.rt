@@ -2,15 +2,11 @@
 
 ghost use Rattle.std.specs.Prelude.{◌≡◌};
 
-use connections::ServeRefusal;
-
 /// Why no more connections are accepted.
 #[derive(Clone, Copy)]
 pub enum ServeFault {
     /// The listener failed.
     AcceptFailed,
-    /// A connection that was accepted can't be served.
-    NotServed(ServeRefusal),
 }
 
 impl ServeFault {
@@ -22,7 +18,6 @@ impl ServeFault {
     {
         match self {
             ServeFault::AcceptFailed => 63,
-            ServeFault::NotServed(refusal) => refusal.number(),
         }
     }
 }

@@ -1,6 +1,6 @@
 -- A worker after an inner call: its balance, its hand, and what its tend answers.
 use Rattle.std.proofs.Common.{◌≡◌, List, [], ◌∷◌, Option, refl, sym, ap, ◌∙◌, subst, arith}
-use Rattle.std.specs.Prelude.{Result}
+use Rattle.std.specs.Prelude.{Result, Ok}
 use Rattle.nfs_model.specs.Tree.{Layout}
 use Rattle.nfs_model.specs.Parts.{Hand}
 use Rattle.affinity_tree.specs.Tree.{IsNode}
@@ -20,9 +20,11 @@ use Rattle.workers.specs.declared.tend.Carried.{Carried}
 use Rattle.workers.specs.declared.tend.Carried.TheVariants.{Done, Refused}
 use Rattle.workers.specs.declared.tend.TendRefusal.{TendRefusal}
 use Rattle.workers.specs.declared.tend.Tended.{Tended}
+use Rattle.workers.specs.declared.worker.Worker.{Worker}
 use Rattle.workers.specs.Balance.{Passed, FilerView, FilerEntry, Weight, by_job, by_entry, IsEven}
 use Rattle.workers.specs.Carries.{HasCarried, IsToldOf, hand_after}
-use Rattle.workers.specs.Words.{IsHandIn}
+use Rattle.workers.specs.Tends.{Answers}
+use Rattle.workers.specs.Words.{seat_view, IsHandIn}
 use Rattle.workers.proofs.Batches.{OfOneRange, hand-in}
 
 -- ---- entries of inner calls
@@ -88,3 +90,13 @@ module _ (layout : Layout) (v w : FilerView) (call : InnerCall) (hand : Hand) wh
       subst (λ h. IsHandIn layout h) (sym told.0)
       (hand-in one layout call (ranges_used d.before.ranges) (parts_of d.before) (parts_of d.after) (job_reply_of reply) node d.moves)
   hand-inside one (Refused back refusal) next answer did told node inside = subst (λ h. IsHandIn layout h) (sym (told.0 ∙ did.0)) inside
+
+-- what its tend answers of it
+pub answers-it : (layout : Layout) (before after : Worker) (call : InnerCall) (carried : Carried) (answer : Result Tended TendRefusal)
+    → HasCarried layout (seat_view before) call before.hand carried (seat_view after) → IsToldOf carried after.hand answer
+    → Answers layout before (Ok call) answer after
+answers-it layout before after call (Done reply) answer did told =
+    subst (λ (x : Result Tended TendRefusal). Answers layout before (Ok call) x after) (sym told.2)
+    (record { reply = job_reply_of reply; carries = did; hand = told.0; told = told.3 })
+answers-it layout before after call (Refused back refusal) answer did told =
+    subst (λ (x : Result Tended TendRefusal). Answers layout before (Ok call) x after) (sym told.1) (did.1, told.0 ∙ did.0, did.2)

@@ -1,7 +1,7 @@
 -- What the threads of a filer share, and what a worker takes with it, may cross threads.
-use denote.Param.Send.{IsSend, IsSync, sendable}
+use denote.Param.Send.{IsSend, IsSync, sendable, view_send}
 use denote.Param.SendFields.{as_row_send, declared_send, declared_sync}
-use Rattle.std.proofs.Crossing.{crosses}
+use Rattle.std.proofs.Crossing.{crosses, Box-send}
 use Rattle.depot.proofs.depot.Depot.TheSendSync as depot
 use Rattle.depot.proofs.seats.Seat.TheSendSync as seat
 use Rattle.nfs_values.proofs.verifier.Verifier.TheSendSync as verifier
@@ -17,9 +17,12 @@ use Rattle.affinity_tree.specs.contracts.scheduler.message.Origin as Origin
 use Rattle.service.proofs.batch.BatchInHand.TheSendSync as batch
 use Rattle.workers.proofs.shared_waiting.pass.Pass.TheSendSync as pass
 use Rattle.workers.proofs.shared_waiting.pass.SharedWaiting.TheSendSync as waiting
+use Rattle.workers.specs.contracts.envelope.Envelope as Envelope
+use Rattle.workers.specs.contracts.envelope.Envelope.TheInside as EnvelopeInside
 use Rattle.workers.specs.contracts.message.Message as Message
 use Rattle.workers.specs.contracts.shared.Filer as Filer
 use Rattle.workers.specs.contracts.worker.Worker as Worker
+use Rattle.workers.proofs.crossings.Structs.{struct-send}
 use Rattle.workers.proofs.crossings.Outboxes.{room-send, outboxes-send}
 use Rattle.workers.proofs.crossings.Parcels.{logical-parcel-send}
 
@@ -32,12 +35,18 @@ message-send = declared_send Message.the_type (
   ),
 )
 
+envelope-inside-send : IsSend EnvelopeInside.the_row
+envelope-inside-send = struct-send EnvelopeInside.the_type (Box-send Message.the_row message-send, tt)
+
+pub envelope-send : IsSend Envelope.the_row
+envelope-send = view_send EnvelopeInside.the_row _ _ _ _ envelope-inside-send
+
 pub worker-send : IsSend Worker.the_row
 worker-send = declared_send Worker.the_type (
   search (seat.the_send, sendable) depth 20,
   (
-    search (pass.the_send, message-send, sendable) depth 20,
-    (search (batch.the_send, sendable) depth 20, (search (message-send, crosses, sendable) depth 20, tt)),
+    search (pass.the_send, envelope-send, sendable) depth 20,
+    (search (batch.the_send, sendable) depth 20, (search (envelope-send, crosses, sendable) depth 20, tt)),
   ),
 )
 
@@ -48,7 +57,7 @@ filer-send = declared_send Filer.the_type (
     search (verifier.the_send, sendable),
     (
       search (depot.the_send, parcel.the_send, range.the_send, stripe.the_send, logical-parcel-send, crosses, sendable) depth 20,
-      (search (waiting.the_send, message-send, sendable), (search (outboxes-send, crosses, sendable), tt)),
+      (search (waiting.the_send, envelope-send, sendable), (search (outboxes-send, crosses, sendable), tt)),
     ),
   ),
 )
@@ -60,7 +69,7 @@ filer-sync = declared_sync Filer.the_type (
     search (verifier.the_sync, sendable) depth 20,
     (
       search (depot.the_sync, parcel.the_send, range.the_send, stripe.the_send, logical-parcel-send, crosses, sendable) depth 20,
-      (search (waiting.the_sync, message-send, sendable) depth 20, (search (outboxes-send, crosses, sendable) depth 20, tt)),
+      (search (waiting.the_sync, envelope-send, sendable) depth 20, (search (outboxes-send, crosses, sendable) depth 20, tt)),
     ),
   ),
 )

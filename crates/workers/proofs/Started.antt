@@ -9,12 +9,13 @@ use Rattle.affinity_tree.specs.lemmas.Standing.{number-place}
 use Rattle.depot.specs.rule.History.{entries_of}
 use Rattle.depot.specs.rule.Seats.{fresh}
 use Rattle.depot.specs.rule.Shares.{Has}
+use Rattle.depot.specs.rule.Sums.{total}
 use Rattle.depot.specs.rule.lemmas.Listed.{by-number-at}
 use Rattle.depot.specs.Words.{first_view}
 use Rattle.parcels.specs.state.Opening.{AreOpening}
 use Rattle.parcels.specs.state.Parcels.{FilerParcel}
 use Rattle.parcels.specs.declared.files.Files.{Files}
-use Rattle.workers.specs.Balance.{FilerView, Passed}
+use Rattle.workers.specs.Balance.{FilerView, Passed, by_key, by_entry, IsEven}
 use Rattle.workers.specs.Words.{HasOpened, HasDoneNothing, IsReady}
 
 none-held : {A : Type 0} (n b : ℕ) (g : A) → get_elem? (replicate n None) b ≡ some (Some g) → ⊥
@@ -25,6 +26,14 @@ none-held (suc n) (suc b) g e = none-held n b g e
 -- a seat that was split off has no grant
 pub fresh-none : (v w : FilerView) → w ≡ fresh v → (b : ℕ) (g : List (Option (FilerParcel Files))) → Has w b g → ⊥
 fresh-none v w is b g has = none-held (length v.tree) b g (subst (λ (x : FilerView). Has x b g) is has)
+
+-- and finished nothing: with a pass that has put and picked nothing it keeps the balance
+pub fresh-even : (v w : FilerView) (pass : Passed) → w ≡ fresh v → pass.put ≡ [] → pass.picked ≡ [] → IsEven pass (entries_of w) None
+fresh-even v w pass is put picked h =
+    let a = ap (total (by_key h)) put in
+    let b = ap (total (by_key h)) picked in
+    let e = ap (λ (x : FilerView). total (by_entry h) (entries_of x)) is in
+    omega (arith, a, b, e)
 
 module _ (layout : Layout) (verifier : List ℕ) (f : ℕ → Option (FilerParcel Files)) (v : FilerView) (is : v ≡ first_view layout f) where
   -- the first seat's view is that of a run that begins

@@ -3,6 +3,7 @@ use Rattle.std.specs.Prelude.{◌≡◌, ◌+◌, ◌<◌, ℕ, List, [], length
 use Rattle.nfs_model.specs.Tree as trees
 use Rattle.nfs_model.specs.Tree.{Logical, Range}
 use Rattle.nfs_model.specs.Parts.{Hand, Empty, Fresh, Dead, range_of}
+use Rattle.affinity_tree.specs.declared.layout.Layout.{Layout}
 use Rattle.affinity_tree.specs.Layout.{layout_of}
 use Rattle.affinity_tree.specs.Tree.{IsNode}
 use Rattle.depot.specs.declared.rule.view.View.{View}
@@ -13,8 +14,10 @@ use Rattle.depot.specs.Words.{IsSeatHere}
 use Rattle.parcels.specs.state.Opening.{AreOpening}
 use Rattle.parcels.specs.state.Parcels.{FilerParcel}
 use Rattle.parcels.specs.declared.files.Files.{Files}
+use Rattle.workers.specs.declared.shared_waiting.pass.SharedWaiting.{SharedWaiting}
 use Rattle.workers.specs.shared_waiting.Passes as passes
 use Rattle.workers.specs.shared_waiting.Passes.{IsOf}
+use Rattle.workers.specs.declared.message.Message.{Message}
 use Rattle.workers.specs.declared.shared.Filer.{Filer}
 use Rattle.workers.specs.declared.worker.Worker.{Worker}
 use Rattle.workers.specs.Messages.{IsPlaced}
@@ -75,11 +78,15 @@ IsHandIn layout Empty = Unit {0}
 IsHandIn layout (Fresh volume blocks) = IsNode layout (Logical volume) × (0 < length blocks)
 IsHandIn layout (Dead volume blocks) = IsNode layout (Range volume (range_of blocks)) × (0 < length blocks)
 
--- a worker is of this filer: its seat, its pass, what is in its hand and what it keeps
-pub record IsIn (filer : Filer) (w : Worker) : Type 0 where
+-- a worker is of this filer and takes its messages from this queue: its seat, its pass, what is in its hand and what it keeps
+pub record IsAt (filer : Filer) (queue : SharedWaiting Message Layout) (w : Worker) : Type 0 where
   pub seat : IsSeatHere filer.depot w.seat
   pub opened : HasOpened (layout_in filer) (verifier_in filer) (seat_view w)
-  pub pass : IsOf filer.waiting w.pass
+  pub pass : IsOf queue w.pass
   pub layout : layout_known (passed w) ≡ Some (layout_in filer)
   pub hand : IsHandIn (layout_in filer) w.hand
   pub kept : IfSome w.kept (IsPlaced (layout_in filer))
+
+-- and this queue is the filer's own
+abbrev pub IsIn : Filer → Worker → Type 0
+IsIn filer w = IsAt filer filer.waiting w

@@ -9,6 +9,7 @@ ghost use Rattle.workers.specs.Messages.{IsPlaced};
 ghost use Rattle.workers.specs.Runs.{HasRunOn};
 ghost use Rattle.workers.specs.Words.{layout_in};
 
+use crate::envelope::Envelope;
 use crate::message::Message;
 use crate::shared::Filer;
 use crate::turned::{Gate, Place, Stage};
@@ -38,21 +39,22 @@ pub(crate) struct Ran<G, O> {
 pub(crate) fn run<N: TaskNode<Parcel<Files>, ParcelKinds>, G: Gate>(
     filer: &Filer,
     seat: &mut Seat<Service>,
-    message: &Message,
+    envelope: &Envelope,
     moment: Moment,
     gate: &G,
 ) -> Result<Ran<NodeGrant<Parcel<Files>, N>, Outcome>, Refusal>
     requires seat { IsSeatHere filer.now.depot seat.old }
-    requires placed { IsPlaced (layout_in filer.now) message.now }
-    requires kind { IsNodeOf (layout_in filer.now) N.KIND message.now.affinity }
+    requires placed { IsPlaced (layout_in filer.now) envelope.now }
+    requires kind { IsNodeOf (layout_in filer.now) N.KIND envelope.now.affinity }
     ensures seat { IsSeatHere filer.now.depot seat.new }
     ensures splits { splits_left seat.new ≡ splits_left seat.old }
     ensures ran { let L = layout_in filer.now in IfOk result (λ ran.
-        HasRunOn L (view seat.old) message.now moment ran.outcome (node_lent L ran.grant)
+        HasRunOn L (view seat.old) envelope.now moment ran.outcome (node_lent L ran.grant)
         (view seat.new)) }
     ensures refused { IfErr result (λ refusal. IsRefused (layout_in filer.now)
-        (view seat.old) message.now.affinity refusal (view seat.new)) }
+        (view seat.old) envelope.now.affinity refusal (view seat.new)) }
 {
+    let message = envelope.message();
     let mut grant = begin_node::<Service, N>(&filer.depot, seat, message.affinity)?;
     gate.pass(place_of(message, Stage::Begun));
     let run = Run {

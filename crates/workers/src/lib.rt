@@ -3,6 +3,7 @@
 #![tactic(auto)]
 
 pub mod crossings;
+mod envelope;
 mod granted;
 mod inner;
 mod making;
@@ -22,6 +23,7 @@ mod worked;
 mod worker;
 mod working;
 
+pub use envelope::Envelope;
 pub use message::Message;
 pub use parts::WorkerParts;
 pub use service::{BatchInHand, Service};

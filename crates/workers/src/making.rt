@@ -1,6 +1,6 @@
 //! Filers and workers, made and taken apart.
 
-use crate::message::Message;
+use crate::envelope::Envelope;
 use crate::opening::open;
 use crate::shared::Filer;
 use crate::shared_waiting::{Pass, SharedWaiting};
@@ -29,7 +29,7 @@ impl Filer {
         alloc: Global,
         layout: Layout,
         verifier: [u8; 8],
-    ) -> Result<(Filer, Seat<Service>, Pass<Message, Layout>), AllocError>
+    ) -> Result<(Filer, Seat<Service>, Pass<Envelope, Layout>), AllocError>
         ensures layout { IfOk result (λ made. layout_in made.0 ≡ layout_of layout) }
         ensures verifier { IfOk result (λ made. verifier_in made.0 ≡ verifier) }
         ensures seat { IfOk result (λ made. IsSeatHere made.0.depot made.1) }
@@ -52,7 +52,7 @@ impl Filer {
     }
 
     /// The messages that wait for its workers.
-    pub fn waiting(&self) -> &SharedWaiting<Message, Layout>
+    pub fn waiting(&self) -> &SharedWaiting<Envelope, Layout>
         ensures { result.now ≡ self.now.waiting }
     {
         &self.waiting
@@ -77,7 +77,7 @@ impl Worker {
 
     /// A worker with an empty hand that keeps nothing: whatever its pass picked, its seat finished
     /// or its pass put back.
-    pub fn new(seat: Seat<Service>, pass: Pass<Message, Layout>) -> Worker
+    pub fn new(seat: Seat<Service>, pass: Pass<Envelope, Layout>) -> Worker
         requires balance { IsEven (known pass) (entries_of (view seat)) None }
         requires in_hand { AreHands job_takes job_gives (entries_of (view seat)) [] }
         requires none_open { HasNoGrant seat }

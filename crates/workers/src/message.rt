@@ -1,8 +1,7 @@
 //! Messages to workers.
 
-use crate::shared_waiting::Fitting;
+use affinity_tree::Affinity;
 use affinity_tree::scheduler::Origin;
-use affinity_tree::{Affinity, Layout};
 use nfs_values::{Call, Credential};
 use outboxes::Room;
 
@@ -17,10 +16,4 @@ pub struct Message {
     pub affinity: Affinity,
     /// Room for the largest reply to its call (`rpc_msg::room_of_reply`).
     pub room: Room,
-}
-
-impl Fitting<Layout> for Message {
-    ghost use Rattle.workers.specs.Messages.{Fits};
-
-    ghost fits = { Fits };
 }

@@ -8,7 +8,7 @@ ghost use Rattle.workers.specs.shared_waiting.Passes.{known, IsOf};
 ghost use Rattle.workers.specs.Words.{layout_in, layout_known, verifier_in};
 ghost use Rattle.workers.specs.Words.{HasDoneNothing, IsReady};
 
-use crate::message::Message;
+use crate::envelope::Envelope;
 use crate::shared::Filer;
 use crate::shared_waiting::{Pass, SharedWaiting};
 use affinity_tree::Layout;
@@ -27,7 +27,7 @@ pub(crate) fn open(
     alloc: Global,
     layout: Layout,
     verifier: Verifier,
-) -> Result<(Filer, Seat<Service>, Pass<Message, Layout>), AllocError>
+) -> Result<(Filer, Seat<Service>, Pass<Envelope, Layout>), AllocError>
     ensures layout { IfOk result (λ made. layout_in made.0 ≡ layout_of layout) }
     ensures verifier { IfOk result (λ made. verifier_in made.0 ≡ verifier.0) }
     ensures seat { IfOk result (λ made. IsSeatHere made.0.depot made.1) }

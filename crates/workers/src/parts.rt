@@ -1,6 +1,6 @@
 //! A worker, taken apart.
 
-use crate::message::Message;
+use crate::envelope::Envelope;
 use crate::shared_waiting::Pass;
 use affinity_tree::Layout;
 use depot::Seat;
@@ -11,7 +11,7 @@ use service::{BatchInHand, Service};
 #[derive(Drop)]
 pub struct WorkerParts {
     pub seat: Seat<Service>,
-    pub pass: Pass<Message, Layout>,
+    pub pass: Pass<Envelope, Layout>,
     pub hand: BatchInHand,
-    pub kept: Option<Message>,
+    pub kept: Option<Envelope>,
 }

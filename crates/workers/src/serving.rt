@@ -16,6 +16,7 @@ ghost use Rattle.workers.specs.Messages.{IsPlaced};
 ghost use Rattle.workers.specs.Turns.{filer_behaviour, job_of_message, HasServed};
 ghost use Rattle.workers.specs.Words.{layout_in, verifier_in, IsReady};
 
+use crate::envelope::Envelope;
 use crate::granted::{Ran, place_of, run};
 use crate::message::Message;
 use crate::shared::Filer;
@@ -51,7 +52,7 @@ fn answer<N: Node<Parcel<Files>>>(
     filer: &Filer,
     seat: &mut Seat<Service>,
     grant: NodeGrant<Parcel<Files>, N>,
-    message: Message,
+    message: Envelope,
     moment: Moment,
     reply: Reply,
     starved: bool,
@@ -77,7 +78,7 @@ fn answer<N: Node<Parcel<Files>>>(
         credential,
         affinity,
         room,
-    } = message;
+    } = message.into_message();
     let job = Job::Serve(ServedCall {
         connection: origin.connection,
         number: origin.number,
@@ -106,7 +107,7 @@ fn has_eight(bytes: [u8; 8])
 fn serve_on<N: TaskNode<Parcel<Files>, ParcelKinds>, G: Gate>(
     filer: &Filer,
     seat: &mut Seat<Service>,
-    message: Message,
+    message: Envelope,
     moment: Moment,
     gate: &G,
 ) -> Served
@@ -123,7 +124,8 @@ fn serve_on<N: TaskNode<Parcel<Files>, ParcelKinds>, G: Gate>(
     replies_fit();
     servers_are_roomy();
     has_eight(filer.verifier.0);
-    let place = place_of(&message, Stage::Ended);
+    let mut message = message;
+    let place = place_of(message.message(), Stage::Ended);
     let Ran { grant, outcome } = match run::<N, G>(filer, seat, &message, moment, gate) {
         Ok(ran) => ran,
         Err(refusal) => return Served::Refused(message, refusal),
@@ -143,10 +145,8 @@ fn serve_on<N: TaskNode<Parcel<Files>, ParcelKinds>, G: Gate>(
         Outcome::Moved(affinity) => {
             put_back_node::<Service, N>(&filer.depot, seat, grant);
             gate.pass(place);
-            Served::Moved(Message {
-                affinity,
-                ..message
-            })
+            message.readdress(affinity);
+            Served::Moved(message)
         }
     }
 }
@@ -155,7 +155,7 @@ fn serve_on<N: TaskNode<Parcel<Files>, ParcelKinds>, G: Gate>(
 pub(crate) fn serve<G: Gate>(
     filer: &Filer,
     seat: &mut Seat<Service>,
-    message: Message,
+    message: Envelope,
     moment: Moment,
     gate: &G,
 ) -> Served
@@ -168,7 +168,7 @@ pub(crate) fn serve<G: Gate>(
     ensures served { HasServed (layout_in filer.now)
         (view seat.old) message moment result (view seat.new) }
 {
-    match message.affinity.kind() {
+    match message.message().affinity.kind() {
         Kind::Range => serve_on::<RangeNode, G>(filer, seat, message, moment, gate),
         Kind::VolumeVbn => serve_on::<VbnNode, G>(filer, seat, message, moment, gate),
         Kind::Stripe => serve_on::<StripeNode, G>(filer, seat, message, moment, gate),

@@ -1,6 +1,6 @@
 //! What workers share.
 
-use crate::message::Message;
+use crate::envelope::Envelope;
 use crate::shared_waiting::SharedWaiting;
 use affinity_tree::Layout;
 use depot::Depot;
@@ -16,7 +16,7 @@ pub struct Filer {
     pub(crate) alloc: Global,
     pub(crate) verifier: Verifier,
     pub(crate) depot: Depot<Service>,
-    pub(crate) waiting: SharedWaiting<Message, Layout>,
+    pub(crate) waiting: SharedWaiting<Envelope, Layout>,
     pub(crate) outboxes: Mutex<Outboxes>,
 }
 

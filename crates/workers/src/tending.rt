@@ -8,7 +8,9 @@ ghost use Rattle.workers.specs.Carries.{hand_after, HasMovedBatch, IsToldAs, IsT
 ghost use Rattle.workers.specs.Tends.{call_of, call_to_put};
 ghost use Rattle.workers.specs.Words.{IsHandIn};
 
+use crate::envelope::Envelope;
 use crate::shared::Filer;
+use crate::shared_waiting::SharedWaiting;
 use crate::tend::{Carried, Tend, TendRefusal, Tended};
 use crate::worker::Worker;
 use affinity_tree::Layout;
@@ -129,7 +131,7 @@ pub(crate) fn answer(carried: Carried) -> (BatchInHand, Result<Tended, TendRefus
 impl Worker {
     ghost use Rattle.std.specs.Option.{is_some};
     ghost use Rattle.workers.specs.Tends.{hand_in, kept_in, IsNextTend, Tends};
-    ghost use Rattle.workers.specs.Words.{layout_in, passed, seats_in, IsIn};
+    ghost use Rattle.workers.specs.Words.{layout_in, passed, seats_in, IsAt, IsIn};
 
     /// What is in the worker's hand.
     pub fn hand(&self) -> &BatchInHand
@@ -172,7 +174,27 @@ impl Worker {
     }
 
     /// Fetches, culls or puts down: begins the inner call on its node, runs it, and finishes it or
-    /// puts it back. It waits for nobody.
+    /// puts it back. It waits for nobody, and leaves the queue of the worker's messages.
+    pub fn tend_in(
+        &mut self,
+        filer: &Filer,
+        queue: &SharedWaiting<Envelope, Layout>,
+        tend: Tend,
+    ) -> Result<Tended, TendRefusal>
+        requires { IsAt filer.now queue.now self.old }
+        ensures inside { IsAt filer.now queue.now self.new }
+        ensures tends { Tends (layout_in filer.now) self.old tend result self.new }
+        ensures pass { passed self.new ≡ passed self.old }
+        ensures kept { kept_in self.new ≡ kept_in self.old }
+        ensures seats { seats_in self.new ≡ seats_in self.old }
+    {
+        match call_of(filer.depot.layout(), &self.hand, tend) {
+            Ok(call) => self.carry(filer, queue, call),
+            Err(refusal) => Err(refusal),
+        }
+    }
+
+    /// A tend of a worker of the filer's own queue.
     pub fn tend_turn(self, filer: &Filer, tend: Tend) -> (Worker, Result<Tended, TendRefusal>)
         requires { IsIn filer.now self }
         ensures inside { IsIn filer.now result.0 }
@@ -181,9 +203,8 @@ impl Worker {
         ensures kept { kept_in result.0 ≡ kept_in self }
         ensures seats { seats_in result.0 ≡ seats_in self }
     {
-        match call_of(filer.depot.layout(), &self.hand, tend) {
-            Ok(call) => self.carry(filer, call),
-            Err(refusal) => (self, Err(refusal)),
-        }
+        let mut worker = self;
+        let answer = worker.tend_in(filer, &filer.waiting, tend);
+        (worker, answer)
     }
 }

@@ -3,10 +3,12 @@
 ghost use Rattle.std.specs.Prelude.{◌≡◌};
 ghost use Rattle.workers.specs.Turns.{turned_by, IsTold};
 
-use crate::message::Message;
+use crate::envelope::Envelope;
 use crate::shared::Filer;
+use crate::shared_waiting::{Pass, SharedWaiting};
 use crate::turned::{Gate, Served, Turned};
 use crate::worker::Worker;
+use affinity_tree::Layout;
 use depot::Refusal;
 use nfs_values::Moment;
 use std::sync::Wait;
@@ -22,7 +24,7 @@ fn refused(refusal: Refusal) -> Turned
 }
 
 /// What is kept of a message that was tried, and what its turn answers.
-pub(crate) fn told(served: Served) -> (Option<Message>, Turned)
+pub(crate) fn told(served: Served) -> (Option<Envelope>, Turned)
     ensures { IsTold served result.0 result.1 }
 {
     match served {
@@ -33,11 +35,66 @@ pub(crate) fn told(served: Served) -> (Option<Message>, Turned)
 }
 
 impl Worker {
+    ghost use Rattle.crossbeam_queue.specs.Fifo.{Held};
+    ghost use Rattle.workers.specs.declared.turned.Turned.TheVariants.{Idle};
+    ghost use Rattle.workers.specs.shared_waiting.Balance.{both, Leaves};
+    ghost use Rattle.workers.specs.shared_waiting.Passes.{known, IsOf};
     ghost use Rattle.workers.specs.Turns.{Did, HasShareOf};
-    ghost use Rattle.workers.specs.Words.{layout_in, passed, seats_in, IsIn};
+    ghost use Rattle.workers.specs.Words.{layout_in, passed, seats_in, IsAt, IsIn};
 
-    /// Tries the call of the message that is kept, or else of the one that waits longest: begins it
-    /// on what it tries, runs it, and finishes it or puts it back.
+    /// Tries the call of the message that is kept, or else of the one that waits longest in a queue:
+    /// begins it on what it tries, runs it, and finishes it or puts it back.
+    pub fn turn_in<R: Wait, G: Gate>(
+        &mut self,
+        filer: &Filer,
+        queue: &SharedWaiting<Envelope, Layout>,
+        rt: &R,
+        gate: &G,
+        moment: Moment,
+    ) -> Turned
+        requires { IsAt filer.now queue.now self.old }
+        ensures inside { IsAt filer.now queue.now self.new }
+        ensures did { Did (layout_in filer.now) self.old moment result self.new }
+        ensures share { HasShareOf (passed self.old) (passed self.new) }
+        ensures seats { seats_in self.new ≡ seats_in self.old }
+        ensures hand { self.new.hand ≡ self.old.hand }
+    {
+        self.pick(filer, queue, rt);
+        let turned = self.try_kept(filer, queue, gate, moment);
+        self.put(filer, queue, rt);
+        turned
+    }
+
+    /// `turn_in` for who has another pass of the queue beside: where no message is found, none waits
+    /// by both passes, and so none at all where nobody else has a pass.
+    pub fn turn_beside<R: Wait, G: Gate>(
+        &mut self,
+        filer: &Filer,
+        queue: &SharedWaiting<Envelope, Layout>,
+        other: &mut Pass<Envelope, Layout>,
+        rt: &R,
+        gate: &G,
+        moment: Moment,
+    ) -> Turned
+        requires inside { IsAt filer.now queue.now self.old }
+        requires other { IsOf queue.now other.old }
+        requires key { (known other.old).key ≡ (passed self.old).key }
+        ensures inside { IsAt filer.now queue.now self.new }
+        ensures other { IsOf queue.now other.new × (known other.new ≡ known other.old) }
+        ensures did { Did (layout_in filer.now) self.old moment result self.new }
+        ensures none { result ≡ Idle
+            → Held 0 (Leaves (both (passed self.old) (known other.old))) }
+        ensures share { HasShareOf (passed self.old) (passed self.new) }
+        ensures seats { seats_in self.new ≡ seats_in self.old }
+        ensures hand { self.new.hand ≡ self.old.hand }
+    {
+        self.pick_beside(filer, queue, other, rt);
+        let turned = self.try_kept(filer, queue, gate, moment);
+        self.put(filer, queue, rt);
+        turned
+    }
+
+    /// A turn in the filer's own queue.
     pub fn turn<R: Wait, G: Gate>(
         self,
         filer: &Filer,
@@ -52,7 +109,8 @@ impl Worker {
         ensures seats { seats_in result.0 ≡ seats_in self }
         ensures hand { result.0.hand ≡ self.hand }
     {
-        let (worker, turned) = self.pick(filer, rt).try_kept(filer, gate, moment);
-        (worker.put(filer, rt), turned)
+        let mut worker = self;
+        let turned = worker.turn_in(filer, &filer.waiting, rt, gate, moment);
+        (worker, turned)
     }
 }

@@ -1,6 +1,6 @@
 //! What comes of turns, and who looks on.
 
-use crate::message::Message;
+use crate::envelope::Envelope;
 use affinity_tree::Affinity;
 use depot::Refusal;
 use nfs_values::ConnectionNumber;
@@ -24,9 +24,9 @@ pub enum Turned {
 pub(crate) enum Served {
     Done(Answer),
     /// It has to run elsewhere, as the message says.
-    Moved(Message),
+    Moved(Envelope),
     /// It didn't begin.
-    Refused(Message, Refusal),
+    Refused(Envelope, Refusal),
 }
 
 /// How far a call came.

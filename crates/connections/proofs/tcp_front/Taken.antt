@@ -146,6 +146,12 @@ next-part xs m n = ap (λ (l : List ℕ). take m xs ++ take n l) (rest-is xs m) 
 module _ {S : Type 0} (came : S → List Arrival → S → Type 0) (layout : Layout) (law : ComesMore came) (s t s' : Stream)
     (sink mid sink' : S)
     (xs : List ℕ) (m n : ℕ) (before : HasTaken came layout s sink (take m xs) None t mid) where
+  -- a part more, whatever stopped it
+  pub part-taken : (stopped : Option Stopped) → HasTaken came layout t mid (take n (take (length xs - m) (drop m xs))) stopped s' sink'
+      → HasTaken came layout s sink (take (m + n) xs) stopped s' sink'
+  part-taken stopped h = subst (λ (l : List ℕ). HasTaken came layout s sink l stopped s' sink') (next-part xs m n)
+      (taken-more came layout law s t s' sink mid sink' _ _ stopped before h)
+
   -- a part more
   pub next-taken : HasTaken came layout t mid (take n (take (length xs - m) (drop m xs))) None s' sink'
       → HasTaken came layout s sink (take (m + n) xs) None s' sink'

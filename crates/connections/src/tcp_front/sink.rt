@@ -1,6 +1,7 @@
 //! Where what is read of a connection goes.
 
-ghost use Rattle.std.specs.Prelude.{◌≡◌, ◌≤◌, List, [], ◌∷◌, ◌++◌, Some, length, OnOk, OnErr};
+ghost use Rattle.std.specs.Prelude.{OnOk, OnErr};
+ghost use Rattle.std.specs.Prelude.{◌≡◌, ◌≤◌, List, [], ◌∷◌, ◌++◌, Some, Bool, true, length};
 ghost use Rattle.nfs_model.specs.Home.{home};
 ghost use Rattle.nfs_model.specs.Tree as trees;
 ghost use Rattle.nfs_values.specs.Call.{call_of};
@@ -24,6 +25,14 @@ pub trait RecordSink {
 
     // The layout by which the calls that it takes are at home.
     ghost layout: { Self → trees.Layout };
+
+    // Whether there is room for what a record more comes to.
+    ghost room: { Self → Bool } = { λ _. true };
+
+    /// Whether there is room for what a record more comes to. It is asked by those who can wait
+    /// without a thread: to others all records are given.
+    fn has_room(&self) -> bool
+        ensures { result ≡ room self.now };
 
     /// Admits a call that tries its home, and waits while there is no place for it.
     fn admit(&mut self, message: Message<OfferedCall>) -> Result<(), AllocError>

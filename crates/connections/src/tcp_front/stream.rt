@@ -6,22 +6,25 @@ use rpc_record::Reassembler;
 use std::alloc::Global;
 
 /// How many records a connection may bring.
-pub(crate) const MOST_RECORDS: usize = 1 << 62;
+pub const MOST_RECORDS: usize = 1 << 62;
 
 /// Where the reading of a connection stands.
 #[derive(Drop)]
-pub(crate) struct Stream {
-    pub(crate) alloc: Global,
-    pub(crate) connection: ConnectionNumber,
-    pub(crate) reassembler: Reassembler,
+pub struct Stream {
+    pub alloc: Global,
+    pub connection: ConnectionNumber,
+    pub reassembler: Reassembler,
     /// How many records were given on.
-    pub(crate) records: usize,
+    pub records: usize,
 }
 
 /// Why bytes are taken no further.
 #[derive(Clone, Copy)]
-pub(crate) enum Stopped {
+pub enum Stopped {
+    /// The stream came to a fault.
     Fault(StreamFault),
+    /// Memory ran out.
     NoMemory,
+    /// The connection brought `MOST_RECORDS`.
     NumbersUsed,
 }

@@ -1,6 +1,6 @@
 //! Bytes whose records are given on.
 
-ghost use Rattle.std.specs.Prelude.{◌≡◌, ◌<◌, ◌≤◌, None, length, take};
+ghost use Rattle.std.specs.Prelude.{◌≡◌, ◌<◌, ◌≤◌, None, false, length, take};
 ghost use Rattle.affinity_tree.specs.Layout.{layout_of};
 ghost use Rattle.connections.specs.tcp_front.Arrivals.{most_records};
 ghost use Rattle.engine_feed.specs.Seen.{heard_of};
@@ -90,4 +90,34 @@ pub(crate) fn take_all<S: RecordSink>(
         }
     }
     None
+}
+
+/// Takes bytes, and gives on the records that they complete, as long as the sink has room for one
+/// more. Answers how many it took. What it leaves where nothing stops it waits for room.
+pub fn take_some<S: RecordSink>(
+    stream: &mut Stream,
+    sink: &mut S,
+    layout: &Layout,
+    bytes: &[u8],
+) -> (usize, Option<Stopped>)
+    requires few { stream.old.records < most_records }
+    requires layout { S.layout sink.old ≡ layout_of layout.now }
+    ensures within { result.0 ≤ length bytes.now }
+    ensures taken { HasTaken S.came (layout_of layout.now) stream.old sink.old
+        (take result.0 bytes.now) result.1 stream.new sink.new }
+    ensures layout { S.layout sink.new ≡ S.layout sink.old }
+    ensures room { result.1 ≡ None → result.0 < length bytes.now → S.room sink.new ≡ false }
+{
+    let mut taken = 0;
+    while taken < bytes.len() {
+        if !sink.has_room() {
+            return (taken, None);
+        }
+        let (size, stopped) = take_record(stream, sink, layout, &bytes[taken..]);
+        match stopped {
+            None => taken += size,
+            Some(stopped) => return (taken + size, Some(stopped)),
+        }
+    }
+    (taken, None)
 }

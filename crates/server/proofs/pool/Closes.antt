@@ -90,12 +90,14 @@ module _ (L : Layout) (lawful : fault_of L ≡ None) (verifier : List ℕ) (v : 
       (other-hands (filer_contents L g) there.0 hands (length v.seen)
       (λ weigh. let a = there.1 weigh in let b = own weigh in omega (arith, a, b)) as-laid-out)
 
-  pub ends : (hands : List Hand) (kept waiting : List Message) (admitted : Weight → ℕ) → AreHands job_takes job_gives (entries_of v) hands
+  pub ends : (hands : List Hand) (kept waiting : List Message) (admitted : Weight → ℕ) (finished : (FilerEntry → ℕ) → ℕ)
+      → AreHands job_takes job_gives (entries_of v) hands
       → ((weigh : FilerEntry → ℕ) → total weigh (entries_of v) ≡ total weigh v.seen)
       → ((weight : Weight) → admitted weight ≡ total (by_entry weight) (entries_of v)
       + (total (by_key weight) kept + total (by_key weight) waiting))
-      → HasEnded L verifier f hands kept waiting admitted
-  ends hands kept waiting admitted own all sum = record {
+      → ((weight : FilerEntry → ℕ) → finished weight ≡ total weight (entries_of v))
+      → HasEnded L verifier f hands kept waiting admitted finished
+  ends hands kept waiting admitted finished own all sum same = record {
     first = v.first;
     opened = opened;
     log = v.seen;
@@ -105,5 +107,6 @@ module _ (L : Layout) (lawful : fault_of L ≡ None) (verifier : List ℕ) (v : 
     left = is-left;
     are_hands = hands-again (entries_of v) v.seen hands all own;
     sound = has-sound hands own;
+    all = λ weight. let a = same weight in let b = all weight in omega (arith, a, b);
     calls = λ weight. let a = sum weight in let b = all (by_entry weight) in omega (arith, a, b);
   }

@@ -16,9 +16,9 @@ counted v w n same whole held =
     omega (arith, e, a, b, c, d)
 
 -- one more was picked
-pub more : (h : Message → ℕ) (v w : Passed) (x : Message) (xs ys : List Message) (was : ℕ) → w ≡ taken v x → total h v.picked ≡ was + total h xs
-    → ys ≡ xs ++ x ∷ [] → total h w.picked ≡ was + total h ys
-more h v w x xs ys was took same is =
+pub more : (h : Message → ℕ) (v w : Passed) (x : Message) (xs ys : List Message) (before was : ℕ) → w ≡ taken v x
+    → total h v.picked + before ≡ was + total h xs → ys ≡ xs ++ x ∷ [] → total h w.picked + before ≡ was + total h ys
+more h v w x xs ys before was took same is =
     let a = ap (λ (u : Passed). total h u.picked) took in
     let b = total-append h v.picked (x ∷ []) in
     let c = ap (total h) is in
@@ -33,9 +33,9 @@ one-more v w x took =
     omega (arith, a, b, c, d)
 
 -- nothing waits any more
-pub all-picked : (h : Message → ℕ) (u v : Passed) (xs : List Message) → IsWhole v → Held 0 (Leaves v) → v.put ≡ u.put
-    → total h v.picked ≡ total h u.picked + total h xs → total h u.put ≡ total h u.picked + total h xs
-all-picked h u v xs whole held put picked =
+pub all-picked : (h : Message → ℕ) (u v : Passed) (before xs : List Message) → IsWhole v → Held 0 (Leaves v) → v.put ≡ u.put
+    → total h v.picked + total h before ≡ total h u.picked + total h xs → total h u.put + total h before ≡ total h u.picked + total h xs
+all-picked h u v before xs whole held put picked =
     let e = held.2 whole h in
     let z = ap (total h) (none-left held.0 held.1) in
     let p = ap (total h) put in

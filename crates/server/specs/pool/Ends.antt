@@ -20,10 +20,10 @@ use Rattle.workers.specs.Turns.{filer_behaviour}
 
 -- From the opening parcels there is one legal history. A serial run of its calls, in its order, goes from the opening server to the
 -- one that the parcels stand for, and gives its replies. The parcels are as it left them. The hands are what it took and didn't give,
--- with which each block number of each volume stands in one place. And each call that was admitted is, as often, in the history, or was
--- kept, or waits.
+-- with which each block number of each volume stands in one place. The calls that were finished are, as often, those of the history; and
+-- each call that was admitted is, as often, in the history, or was kept, or waits.
 pub record HasEnded (layout : trees.Layout) (verifier : List ℕ) (parcels : ℕ → Option (FilerParcel Files)) (hands : List Hand)
-    (kept waiting : List Message) (admitted : Weight → ℕ) : Type 0 where
+    (kept waiting : List Message) (admitted : Weight → ℕ) (finished : (FilerEntry → ℕ) → ℕ) : Type 0 where
   pub first : List (Option (FilerParcel Files))
   pub opened : AreOpening layout verifier (listed first)
   pub log : List FilerEntry
@@ -33,5 +33,6 @@ pub record HasEnded (layout : trees.Layout) (verifier : List ℕ) (parcels : ℕ
   pub left : (k : ℕ) → 0 < k → k < length (parents layout) → parcels k ≡ after (parents layout) (listed first) log k
   pub are_hands : AreHands job_takes job_gives log hands
   pub sound : AllSound layout parcels hands (length log)
+  pub all : (weight : FilerEntry → ℕ) → finished weight ≡ total weight log
   pub calls : (weight : Weight)
       → admitted weight ≡ total (by_entry weight) log + (total (by_key weight) kept + total (by_key weight) waiting)

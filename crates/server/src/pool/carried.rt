@@ -4,7 +4,7 @@ ghost use Rattle.std.specs.Prelude.{◌≡◌, ◌≤◌, ◌+◌, ◌++◌, opt
 ghost use Rattle.parcels.specs.state.Jobs.{batches_in};
 
 use parcel_sets::Hand;
-use workers::{BatchInHand, Message};
+use workers::{BatchInHand, Envelope};
 
 /// Puts the batch of a hand, if it has one.
 pub(crate) fn push_batch(hands: &mut Vec<BatchInHand>, hand: BatchInHand)
@@ -25,7 +25,7 @@ pub(crate) fn push_batch(hands: &mut Vec<BatchInHand>, hand: BatchInHand)
 }
 
 /// Puts the message that is kept, if one is.
-pub(crate) fn push_kept(messages: &mut Vec<Message>, kept: Option<Message>)
+pub(crate) fn push_kept(messages: &mut Vec<Envelope>, kept: Option<Envelope>)
     requires room { vec_len messages.old + 1 ≤ vec_capacity messages.old }
     ensures items { messages.new.items ≡ messages.old.items ++ option_to_list kept }
     ensures len { vec_len messages.new ≤ vec_len messages.old + 1 }

@@ -3,9 +3,12 @@
 ghost use Rattle.std.specs.Prelude.{◌≡◌, ℕ};
 ghost use Rattle.server.specs.pool.Ends.{HasEnded};
 ghost use Rattle.server.specs.pool.Gathered.{calls_by, IsLeftOf};
+ghost use Rattle.depot.specs.Words.{view};
+ghost use Rattle.depot.specs.rule.History.{entries_of};
+ghost use Rattle.depot.specs.rule.Sums.{total};
 ghost use Rattle.nfs_model.specs.Tree as trees;
 ghost use Rattle.parcel_sets.specs.Sets.{serial_parcels};
-ghost use Rattle.workers.specs.Balance.{Weight};
+ghost use Rattle.workers.specs.Balance.{FilerEntry, Weight};
 ghost use Rattle.workers.specs.Words.{layout_in, verifier_in};
 
 use crate::pool::ended::Ended;
@@ -16,11 +19,13 @@ use workers::Filer;
 /// Ends a filer. Its parcels come back, with what its workers left.
 pub fn close(filer: Filer, left: Left) -> Ended
     requires left { IsLeftOf filer left }
-    ensures ended { (admitted : Weight → ℕ)
+    ensures ended { (admitted : Weight → ℕ) (finished : (FilerEntry → ℕ) → ℕ)
         → ((weight : Weight) → admitted weight ≡ calls_by weight left)
+        → ((weight : FilerEntry → ℕ)
+        → finished weight ≡ total weight (entries_of (view left.seat)))
         → HasEnded (layout_in filer) (verifier_in filer)
         (serial_parcels (layout_in filer) trees.Serial result.parcels) result.hands.items
-        result.kept.items result.waiting.items admitted }
+        result.kept.items result.waiting.items admitted finished }
     ensures hands { result.hands ≡ left.hands }
     ensures kept { result.kept ≡ left.kept }
     ensures waiting { result.waiting ≡ left.waiting }

@@ -1,6 +1,6 @@
 //! The messages that wait at the end.
 
-ghost use Rattle.std.specs.Prelude.{◌≡◌, ◌≤◌, ◌+◌, ℕ, [], vec_capacity};
+ghost use Rattle.std.specs.Prelude.{◌≡◌, ◌≤◌, ◌+◌, ℕ, [], vec_len, vec_capacity};
 ghost use Rattle.depot.specs.rule.Sums.{total};
 ghost use Rattle.workers.specs.shared_waiting.Balance.{IsWhole};
 ghost use Rattle.workers.specs.shared_waiting.Passes.{known, IsOf};
@@ -8,23 +8,24 @@ ghost use Rattle.workers.specs.declared.message.Message as messages;
 
 use affinity_tree::Layout;
 use std::sync::Wait;
-use workers::Message;
+use workers::Envelope;
 use workers::shared_waiting::{Pass, SharedWaiting};
 
-/// Picks all messages that wait, by the only pass that is left.
-pub(crate) fn drain<R: Wait>(
-    waiting: &SharedWaiting<Message, Layout>,
+/// Picks all messages that wait, by the only pass that is left, behind others.
+pub(crate) fn drain_behind<R: Wait>(
+    waiting: &SharedWaiting<Envelope, Layout>,
     rt: &R,
-    mut pass: Pass<Message, Layout>,
-    mut into: Vec<Message>,
-) -> Vec<Message>
+    mut pass: Pass<Envelope, Layout>,
+    mut into: Vec<Envelope>,
+) -> Vec<Envelope>
     requires of { IsOf waiting.now pass }
     requires whole { IsWhole (known pass) }
-    requires empty { into.items ≡ [] }
-    requires room { 1024 ≤ vec_capacity into }
-    ensures { (weigh : messages.Message → ℕ)
-        → total weigh (known pass).put
+    requires room { vec_len into + 1024 ≤ vec_capacity into }
+    ensures all { (weigh : messages.Message → ℕ)
+        → total weigh (known pass).put + total weigh into.items
         ≡ total weigh (known pass).picked + total weigh result.items }
+    ensures len { vec_len result ≤ vec_len into + 1024 }
+    ensures room { vec_capacity result ≡ vec_capacity into }
 {
     let most = waiting.count(rt, &mut pass);
     for _ in 0..most {
@@ -36,4 +37,22 @@ pub(crate) fn drain<R: Wait>(
     }
     waiting.look(&mut pass);
     into
+}
+
+/// Picks all messages that wait, by the only pass that is left.
+pub(crate) fn drain<R: Wait>(
+    waiting: &SharedWaiting<Envelope, Layout>,
+    rt: &R,
+    pass: Pass<Envelope, Layout>,
+    into: Vec<Envelope>,
+) -> Vec<Envelope>
+    requires of { IsOf waiting.now pass }
+    requires whole { IsWhole (known pass) }
+    requires empty { into.items ≡ [] }
+    requires room { 1024 ≤ vec_capacity into }
+    ensures { (weigh : messages.Message → ℕ)
+        → total weigh (known pass).put
+        ≡ total weigh (known pass).picked + total weigh result.items }
+{
+    drain_behind(waiting, rt, pass, into)
 }

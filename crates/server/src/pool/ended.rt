@@ -2,7 +2,7 @@
 
 use parcel_sets::SerialHeld;
 use parcels::Files;
-use workers::{BatchInHand, Message};
+use workers::{BatchInHand, Envelope};
 
 /// What a filer leaves: all its parcels, the batches that were in hands, and the messages that
 /// weren't finished.
@@ -10,6 +10,6 @@ use workers::{BatchInHand, Message};
 pub struct Ended {
     pub parcels: SerialHeld<Files>,
     pub hands: Vec<BatchInHand>,
-    pub kept: Vec<Message>,
-    pub waiting: Vec<Message>,
+    pub kept: Vec<Envelope>,
+    pub waiting: Vec<Envelope>,
 }

@@ -17,7 +17,7 @@ use crate::pool::room::Room;
 use affinity_tree::Layout;
 use std::sync::Wait;
 use workers::shared_waiting::Pass;
-use workers::{Filer, Message, Worker};
+use workers::{Envelope, Filer, Worker};
 
 /// Puts all workers of a filer together, and all passes of those that only put messages, and picks
 /// what waits. The seats are all 64 of the depot, and the shares of the passes are the whole. What
@@ -26,7 +26,7 @@ pub fn gather<R: Wait>(
     filer: &Filer,
     rt: &R,
     mut workers: Vec<Worker>,
-    passes: Vec<Pass<Message, Layout>>,
+    passes: Vec<Pass<Envelope, Layout>>,
     room: Room,
 ) -> Left
     requires workers { All (IsIn filer.now) workers.items }

@@ -9,7 +9,7 @@ ghost use Rattle.workers.specs.shared_waiting.Passes.{known};
 use affinity_tree::Layout;
 use depot::Seat;
 use workers::shared_waiting::Pass;
-use workers::{BatchInHand, Message, Service};
+use workers::{BatchInHand, Envelope, Service};
 
 /// Workers as one: their seats, their passes, the batches in their hands and the messages that they
 /// keep. What the pass picked is, as often, what the seat finished, what the pass put and what is
@@ -17,9 +17,9 @@ use workers::{BatchInHand, Message, Service};
 /// grant.
 pub(crate) struct Gathered {
     pub(crate) seat: Seat<Service>,
-    pub(crate) pass: Pass<Message, Layout>,
+    pub(crate) pass: Pass<Envelope, Layout>,
     pub(crate) hands: Vec<BatchInHand>,
-    pub(crate) kept: Vec<Message>,
+    pub(crate) kept: Vec<Envelope>,
     pub(crate) ghost balance: { IsEvenWith (known pass) (entries_of (view seat)) kept.items },
     pub(crate) ghost in_hand: { AreHands job_takes job_gives (entries_of (view seat)) hands.items },
     pub(crate) ghost none_open: { HasNoGrant seat },

@@ -29,14 +29,14 @@ use crate::pool::carried::{push_batch, push_kept};
 use crate::pool::gathered::Gathered;
 use affinity_tree::Layout;
 use workers::shared_waiting::{Pass, SharedWaiting};
-use workers::{BatchInHand, Filer, Message, Worker, WorkerParts};
+use workers::{BatchInHand, Envelope, Filer, Worker, WorkerParts};
 
 /// One worker, as the first that is put together.
 pub(crate) fn begin(
     filer: &Filer,
     worker: Worker,
     mut hands: Vec<BatchInHand>,
-    mut kept: Vec<Message>,
+    mut kept: Vec<Envelope>,
 ) -> Gathered
     requires inside { IsIn filer.now worker }
     requires hands { (hands.items ≡ []) × (1 ≤ vec_capacity hands) }
@@ -129,10 +129,10 @@ pub(crate) fn join_all(filer: &Filer, mut gathered: Gathered, mut workers: Vec<W
 
 /// Puts passes to one.
 pub(crate) fn join_passes(
-    waiting: &SharedWaiting<Message, Layout>,
-    mut pass: Pass<Message, Layout>,
-    mut passes: Vec<Pass<Message, Layout>>,
-) -> Pass<Message, Layout>
+    waiting: &SharedWaiting<Envelope, Layout>,
+    mut pass: Pass<Envelope, Layout>,
+    mut passes: Vec<Pass<Envelope, Layout>>,
+) -> Pass<Envelope, Layout>
     requires of { IsOf waiting.now pass }
     requires each { All (IsOf waiting.now) passes.items }
     ensures of { IsOf waiting.now result }

@@ -1,7 +1,7 @@
 //! What workers leave.
 
 use depot::Seat;
-use workers::{BatchInHand, Message, Service};
+use workers::{BatchInHand, Envelope, Service};
 
 /// What all workers of a filer leave: their seats as one, the batches in their hands, the messages
 /// that they kept, and those that waited.
@@ -9,6 +9,6 @@ use workers::{BatchInHand, Message, Service};
 pub struct Left {
     pub seat: Seat<Service>,
     pub hands: Vec<BatchInHand>,
-    pub kept: Vec<Message>,
-    pub waiting: Vec<Message>,
+    pub kept: Vec<Envelope>,
+    pub waiting: Vec<Envelope>,
 }

@@ -3,7 +3,7 @@
 ghost use Rattle.std.specs.Prelude.{◌≡◌, ◌≤◌, [], vec_capacity};
 
 use std::alloc::{AllocError, Global};
-use workers::{BatchInHand, Message};
+use workers::{BatchInHand, Envelope};
 
 /// The most workers of a filer.
 const MOST_WORKERS: usize = 64;
@@ -16,8 +16,8 @@ const MOST_WAITING: usize = 1024;
 #[derive(Drop)]
 pub struct Room {
     pub(crate) hands: Vec<BatchInHand>,
-    pub(crate) kept: Vec<Message>,
-    pub(crate) waiting: Vec<Message>,
+    pub(crate) kept: Vec<Envelope>,
+    pub(crate) waiting: Vec<Envelope>,
     ghost empty: { (hands.items ≡ []) × (kept.items ≡ []) × (waiting.items ≡ []) },
     ghost wide: { (64 ≤ vec_capacity hands) × (64 ≤ vec_capacity kept)
         × (1024 ≤ vec_capacity waiting) },

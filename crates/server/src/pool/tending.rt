@@ -37,7 +37,7 @@ pub(crate) struct Tending {
 }
 
 /// What a tend found, by its answer.
-fn found_by(answer: Result<Tended, TendRefusal>) -> Found
+pub(crate) fn found_by(answer: Result<Tended, TendRefusal>) -> Found
     ensures { result ≡ found_by answer }
 {
     match answer {
@@ -79,7 +79,7 @@ impl Tending {
     }
 
     /// Counts a tend, which was made with an empty hand or not.
-    fn count(&mut self, empty: bool, found: Found)
+    pub(crate) fn count(&mut self, empty: bool, found: Found)
         ensures { IsCounted self.old empty found self.new }
     {
         if empty {

@@ -1,7 +1,8 @@
 -- Each move keeps the balance.
 use Rattle.std.proofs.lemmas.Nat.{pow_pos}
+use Rattle.std.proofs.Math.Seq.{drop-append_seam}
 use Rattle.std.specs.Prelude.{Option, None}
-use Rattle.std.proofs.Common.{◌≡◌, ◌≢◌, ℕ, suc, ◌+◌, ◌*◌, ◌-◌, ◌^◌, ◌<◌, List, [], ◌∷◌, ◌++◌, set, sym, refl, ap, ◌∙◌, subst, arith, ⊎_elim, zero-mul}
+use Rattle.std.proofs.Common.{◌≡◌, ◌≢◌, ℕ, suc, ◌+◌, ◌*◌, ◌-◌, ◌^◌, ◌<◌, List, [], ◌∷◌, ◌++◌, length, drop, set, sym, refl, ap, ◌∙◌, subst, arith, ⊎_elim, zero-mul, mul-pos}
 use mathlib.Core.Option.{some, some-ne-none}
 use lib.ListN.{get_elem?}
 use Rattle.crossbeam_queue.specs.Fifo.{Pushes, Pops, Forks, Merges, Learns}
@@ -10,8 +11,19 @@ use Rattle.atomic_table.proofs.Lists.{set_else}
 use Rattle.depot.specs.rule.Sums.{total}
 use Rattle.depot.specs.rule.lemmas.Sums.{total-append}
 use Rattle.workers.specs.declared.shared_waiting.view.View.{View}
-use Rattle.workers.specs.shared_waiting.Balance.{part, added, taken, opening, left, right, both, spent, keyed, Balanced, IsWhole, Leaves, FitsIn, AllFit}
+use Rattle.workers.specs.shared_waiting.Balance.{part, added, taken, opening, left, right, both, spent, keyed, grown, HasGrown, Balanced, IsWhole, Leaves, FitsIn, AllFit}
 use Rattle.workers.proofs.shared_waiting.Sums.{total-set, total-alone, total-at, power, halves, joined, part-none}
+
+-- what was there of two passes and what came beside it
+pub seam : {T : Type 0} (xs ys more all : List T) → all ≡ (xs ++ ys) ++ more → xs ++ drop (length (xs ++ ys)) all ≡ xs ++ more
+seam xs ys more all is = ap (λ l. xs ++ l) (ap (λ l. drop (length (xs ++ ys)) l) is ∙ drop-append_seam (xs ++ ys) more)
+
+shared : {T : Type 0} (h : T → ℕ) (xs ys all more : List T) → all ≡ (xs ++ ys) ++ more
+    → total h all ≡ total h (xs ++ drop (length (xs ++ ys)) all) + total h ys
+shared h xs ys all more is =
+    let a = ap (total h) is in
+    let b = ap (total h) (seam xs ys more all is) in
+    omega (arith, a, b, total-append h (xs ++ ys) more, total-append h xs ys, total-append h xs more)
 
 module _ (T K : Type 0) (Fits : K → T → Type 0) where
   abbrev Idle : List (View T K) → Type 0
@@ -156,6 +168,101 @@ module _ (T K : Type 0) (Fits : K → T → Type 0) where
         same = same-set b.key vs other spent (λ p. absurd (omega arith)) (same-set b.key views port w (λ p. b.same port v at some_part) b.same);
         fit = b.fit;
       }
+
+  -- a pass gives all that it has to a new one
+  pub gives : (port : ℕ) (v : View T K) → Forks (Balanced Fits) port v spent v
+  gives port v items views b at =
+      let none : View T K = spent in
+      let vs : List (View T K) = set views port none in
+      record {
+        level = b.level;
+        whole = λ k le.
+            let s = total-set (part k) views port v none at in
+            let t = total-append (part k) vs (v ∷ []) in
+            let z = zero-mul (2 ^ (k - 0)) in
+            let p = b.whole k le in
+            omega arith;
+        even = λ h.
+            let s = total-set (in_put h) views port v none at in
+            let t = total-set (in_picked h) views port v none at in
+            let p = b.even h in
+            omega (arith, total-append (in_put h) vs (v ∷ []), total-append (in_picked h) vs (v ∷ []));
+        idle = idle-snoc vs v (λ z. b.idle port v at z) (idle-set views port none (λ z. (refl, refl)) b.idle);
+        key = b.key;
+        same = same-snoc b.key vs v (λ p. b.same port v at p) (same-set b.key views port none (λ p. absurd (omega arith)) b.same);
+        fit = b.fit;
+      }
+
+  -- a spent pass takes all that the other has
+  pub takes : (port : ℕ) (v : View T K) → v.share ≡ 0 → (other : ℕ) (u : View T K) → Merges (Balanced Fits) port v other u u spent
+  takes port v none other u items views b at two at' =
+      let vs : List (View T K) = set views port u in
+      let was : get_elem? views other ≡ some u = ⊎_elim (λ (x : (other ≡ port) × (u ≡ u)). absurd (two x.0))
+      (λ (x : (other ≢ port) × (get_elem? views other ≡ some u)). x.1) (at_set views port other u u at') in
+      let empty = b.idle port v at none in
+      record {
+        level = b.level;
+        whole = λ k le.
+            let s = total-set (part k) views port v u at in
+            let t = total-set (part k) vs other u spent at' in
+            let y : part k v ≡ 0 = ap (λ n. n * 2 ^ (k - v.halvings)) none ∙ zero-mul (2 ^ (k - v.halvings)) in
+            let z = zero-mul (2 ^ (k - 0)) in
+            let p = b.whole k le in
+            omega arith;
+        even = λ h.
+            let s = total-set (in_put h) views port v u at in
+            let t = total-set (in_picked h) views port v u at in
+            let s' = total-set (in_put h) vs other u spent at' in
+            let t' = total-set (in_picked h) vs other u spent at' in
+            let x = ap (total h) empty.0 in
+            let y = ap (total h) empty.1 in
+            let p = b.even h in
+            omega arith;
+        idle = idle-set vs other spent (λ z. (refl, refl)) (idle-set views port u (λ z. b.idle other u was z) b.idle);
+        key = b.key;
+        same = same-set b.key vs other spent (λ p. absurd (omega arith)) (same-set b.key views port u (λ p. b.same other u was p) b.same);
+        fit = b.fit;
+      }
+
+  -- a pass is cut in two that have together what it has
+  deals : (port : ℕ) (v l r : View T K) → 0 < l.share → 0 < r.share → v.share ≡ l.share * 2 ^ r.halvings + r.share * 2 ^ l.halvings
+      → v.halvings ≡ l.halvings + r.halvings → ((h : T → ℕ) → total h v.put ≡ total h l.put + total h r.put)
+      → ((h : T → ℕ) → total h v.picked ≡ total h l.picked + total h r.picked) → l.key ≡ v.key → r.key ≡ v.key
+      → Forks (Balanced Fits) port v l r
+  deals port v l r some_l some_r share halvings put picked key_l key_r items views b at =
+      let vs : List (View T K) = set views port l in
+      let half : 0 < l.share * 2 ^ r.halvings = mul-pos some_l (pow_pos r.halvings) in
+      let live : 0 < v.share = omega (arith, half, share) in
+      record {
+        level = b.level + (l.halvings + r.halvings);
+        whole = λ k le.
+            let s = total-set (part k) views port v l at in
+            let t = total-append (part k) vs (r ∷ []) in
+            let p = b.whole k (omega arith) in
+            let q = joined l.share r.share l.halvings r.halvings k (omega arith) in
+            let e : part k v ≡ (l.share * 2 ^ r.halvings + r.share * 2 ^ l.halvings) * 2 ^ (k - (l.halvings + r.halvings)) =
+            (λ j. share j * 2 ^ (k - halvings j)) in
+            omega arith;
+        even = λ h.
+            let s = total-set (in_put h) views port v l at in
+            let t = total-set (in_picked h) views port v l at in
+            let p = b.even h in
+            let x = put h in
+            let y = picked h in
+            omega (arith, total-append (in_put h) vs (r ∷ []), total-append (in_picked h) vs (r ∷ []));
+        idle = idle-snoc vs r (λ none. absurd (omega arith)) (idle-set views port l (λ none. absurd (omega arith)) b.idle);
+        key = b.key;
+        same = same-snoc b.key vs r (λ p. key_r ∙ b.same port v at live) (same-set b.key views port l (λ p. key_l ∙ b.same port v at live) b.same);
+        fit = b.fit;
+      }
+
+  -- a pass that took in another is parted from it
+  pub parts : (port : ℕ) (own other v : View T K) → 0 < own.share → 0 < other.share → other.key ≡ own.key → HasGrown own other v
+      → Forks (Balanced Fits) port v (grown own other v) other
+  parts port own other v some_own some_other key g =
+      deals port v (grown own other v) other some_own some_other g.share g.halvings
+      (λ h. shared h own.put other.put v.put g.more_put g.put) (λ h. shared h own.picked other.picked v.picked g.more_picked g.picked)
+      (sym g.key) (key ∙ sym g.key)
 
   -- the only pass: no other has a share
   alone : (items : List T) (views : List (View T K)) (b : Balanced Fits items views) (port : ℕ) (v : View T K) → get_elem? views port ≡ some v → IsWhole v

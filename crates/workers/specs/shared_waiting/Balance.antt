@@ -1,5 +1,5 @@
 -- What a pass of a shared queue knows, and the rule over all passes: what went in came out or is there, and fits the queue's key (our profile).
-use Rattle.std.specs.Prelude.{◌≡◌, ◌≤◌, ◌<◌, ℕ, ◌+◌, ◌*◌, ◌-◌, ◌^◌, List, [], ◌∷◌, ◌++◌, Option, Some, None}
+use Rattle.std.specs.Prelude.{◌≡◌, ◌≤◌, ◌<◌, ℕ, ◌+◌, ◌*◌, ◌-◌, ◌^◌, List, [], ◌∷◌, ◌++◌, length, drop, Option, Some, None}
 use mathlib.Core.Option.{some}
 use lib.ListN.{get_elem?}
 use Rattle.depot.specs.rule.Sums.{total}
@@ -43,6 +43,25 @@ module _ {T K : Type 0} where
   -- two passes joined, with the key of the first
   abbrev pub both : View T K → View T K → View T K
   both v w = viewed (v.share * 2 ^ w.halvings + w.share * 2 ^ v.halvings) (v.halvings + w.halvings) (v.put ++ w.put) (v.picked ++ w.picked) v.key
+
+  -- ---- two passes of one owner
+
+  -- a pass that took in another and was parted from it: it has its share, and what was put and picked since beside what it had
+  abbrev pub grown : View T K → View T K → View T K → View T K
+  grown own other v = record own {
+    put = own.put ++ drop (length (own.put ++ other.put)) v.put;
+    picked = own.picked ++ drop (length (own.picked ++ other.picked)) v.picked;
+  }
+
+  -- a pass that took in another has what both had, and what was put and picked since
+  pub record HasGrown (own other v : View T K) : Type 0 where
+    pub share : v.share ≡ (both own other).share
+    pub halvings : v.halvings ≡ (both own other).halvings
+    pub key : v.key ≡ own.key
+    pub more_put : List T
+    pub put : v.put ≡ (own.put ++ other.put) ++ more_put
+    pub more_picked : List T
+    pub picked : v.picked ≡ (own.picked ++ other.picked) ++ more_picked
 
   -- ---- the whole
 

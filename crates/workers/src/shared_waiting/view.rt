@@ -79,6 +79,57 @@ impl<T, K> Join<View<T, K>> for Glue {
     ghost spent = { spent };
 }
 
+/// A pass gives all that it has to a new one, and is spent.
+pub struct Gives;
+
+impl<T, K> Split<View<T, K>> for Gives {
+    ghost use Rattle.workers.specs.shared_waiting.Balance.{spent};
+
+    ghost left = { λ v. spent };
+
+    ghost right = { λ v. v };
+}
+
+/// A spent pass takes all that the other has; the other is spent.
+pub struct Takes;
+
+impl<T, K> Join<View<T, K>> for Takes {
+    ghost use Rattle.workers.specs.shared_waiting.Balance.{spent};
+
+    ghost both = { λ v w. w };
+
+    ghost spent = { spent };
+}
+
+/// What two passes know, which one call picks.
+pub trait Pair<V> {
+    ghost own: { V };
+
+    ghost other: { V };
+}
+
+impl<T, K> Pair<View<T, K>> for Brand {
+    ghost use Rattle.workers.specs.shared_waiting.Balance.{opening};
+
+    ghost own = { opening };
+
+    ghost other = { opening };
+}
+
+/// A pass that took in the second of two is cut again: the first has what was added since, and the
+/// second is as it was.
+pub struct Parts<J> {
+    pair: PhantomData<J>,
+}
+
+impl<T, K, J: Pair<View<T, K>>> Split<View<T, K>> for Parts<J> {
+    ghost use Rattle.workers.specs.shared_waiting.Balance.{grown};
+
+    ghost left = { grown J.own J.other };
+
+    ghost right = { λ v. J.other };
+}
+
 /// A message is put.
 pub struct Puts;
 

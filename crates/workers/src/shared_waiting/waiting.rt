@@ -7,6 +7,7 @@ ghost use Rattle.workers.specs.shared_waiting.Balance.{both};
 ghost use Rattle.workers.specs.shared_waiting.Balance.{Leaves, FitsIn};
 ghost use Rattle.workers.specs.shared_waiting.Passes.{known, IsOf};
 
+use crate::shared_waiting::beside::{admit_by, pick_by};
 use crate::shared_waiting::naming::name_as;
 use crate::shared_waiting::pass::{PLACES, Pass, SharedWaiting};
 use crate::shared_waiting::view::{Cut, Fitting, Glue, Picks, Puts};
@@ -50,6 +51,49 @@ impl<T: Fitting<K> + Drop, K: Drop> SharedWaiting<T, K> {
             × FitsIn T.fits (known pass.old).key message) }
     {
         self.queue.pop_as::<Picks, R>(rt, &mut pass.seat)
+    }
+
+    /// `admit` for who has two passes, by the first. A message comes back only where 1,024 were
+    /// there by both passes, if these are all that there are.
+    pub fn admit_beside<R: Wait>(
+        &self,
+        rt: &R,
+        pass: &mut Pass<T, K>,
+        other: &mut Pass<T, K>,
+        message: T,
+    ) -> Result<(), T>
+        requires of { IsOf self.now pass.old × IsOf self.now other.old }
+        requires key { (known other.old).key ≡ (known pass.old).key }
+        requires fits { FitsIn T.fits (known pass.old).key message }
+        ensures of { IsOf self.now pass.new × IsOf self.now other.new }
+        ensures other { known other.new ≡ known other.old }
+        ensures rule { MatchResult result
+            (λ _. known pass.new ≡ added (known pass.old) message)
+            (λ back. (back ≡ message) × (known pass.new ≡ known pass.old)
+            × Held 1024 (Leaves (both (known pass.old) (known other.old)))) }
+    {
+        admit_by::<T, K, R, Brand>(&self.queue, rt, &mut pass.seat, &mut other.seat, message)
+    }
+
+    /// `pick` for who has two passes, by the first: `None` only where none was there by both
+    /// passes, if these are all that there are.
+    pub fn pick_beside<R: Wait>(
+        &self,
+        rt: &R,
+        pass: &mut Pass<T, K>,
+        other: &mut Pass<T, K>,
+    ) -> Option<T>
+        requires of { IsOf self.now pass.old × IsOf self.now other.old }
+        requires key { (known other.old).key ≡ (known pass.old).key }
+        ensures of { IsOf self.now pass.new × IsOf self.now other.new }
+        ensures other { known other.new ≡ known other.old }
+        ensures rule { MatchOption result
+            ((known pass.new ≡ known pass.old)
+            × Held 0 (Leaves (both (known pass.old) (known other.old))))
+            (λ message. (known pass.new ≡ taken (known pass.old) message)
+            × FitsIn T.fits (known pass.old).key message) }
+    {
+        pick_by::<T, K, R, Brand>(&self.queue, rt, &mut pass.seat, &mut other.seat)
     }
 
     /// A pass cut in two. The first goes on with what it has put and picked; the second has put

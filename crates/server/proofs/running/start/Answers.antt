@@ -1,8 +1,11 @@
+use Rattle.std.proofs.Common.{refl}
 use Rattle.std.specs.Arc.{arc_value}
-use Rattle.server.proofs.Wholes.{running}
+use Rattle.server.proofs.Started.{threads-of}
 use Rattle.server.proofs.running.start.Goals as goal
 
-pub returns-in-Ok : goal.returns-in-Ok
-returns-in-Ok g c =
-    running (arc_value c.args.opened.shared.filer) c.args.opened.worker c.args.opened.slots c.in-Ok.pool c.args.workers c.requires.opened
-    c.in-Ok.ensures.serve c.in-Ok.ensures.seats c.in-Ok.ensures.share
+pub returns : goal.returns
+returns g c =
+    let filer = arc_value c.in_ok-filer.filer in
+    threads-of filer c.in_ok-filer.lanes.items c.in_ok-tasks.tasks.items c.man_all.new.tasks.items c.in_ok-threads.threads.items
+    c.start_all.new.threads.items c.in_ok-filer.ensures.lanes c.in_ok-tasks.ensures.items c.in_ok-threads.ensures.items
+    (c.in_ok-man_all.ensures.of filer) (c.start_all.ensures.serve filer) c.in_ok-man_all.ensures.seats (c.if-not-start_all.ensures.seats refl)

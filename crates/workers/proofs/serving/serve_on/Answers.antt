@@ -156,11 +156,10 @@ returns-in-Moved-clause-served g c =
     let v = view c.args.seat.now in
     let w = view c.run.new.seat in
     let m = c.args.message in
-    let u = view c.put_back_node.new.seat in
-    let moved = record m { affinity = c.in-Moved.affinity } in (
+    let u = view c.put_back_node.new.seat in (
       moves-on L c.args.filer.now.depot.layout.lawful m c.requires.placed c.args.moment v w
           c.requires.seat.1.0 c.run.ensures.seat.1.0 c.in-Ok.ran.outcome
-          (node_lent L c.in-Ok.ran.grant) c.in-Ok.ensures.ran c.in-Moved.affinity c.in-Moved.is u c.put_back_node.ensures.ended moved refl,
+          (node_lent L c.in-Ok.ran.grant) c.in-Ok.ensures.ran c.in-Moved.affinity c.in-Moved.is u c.put_back_node.ensures.ended c.readdress.new.self c.readdress.ensures,
       back-entries L c.args.filer.now.depot.layout.lawful m c.requires.placed c.args.moment v w
           c.requires.seat.1.0 c.run.ensures.seat.1.0 c.in-Ok.ran.outcome
           (node_lent L c.in-Ok.ran.grant) c.in-Ok.ensures.ran c.in-Moved.affinity c.in-Moved.is u c.put_back_node.ensures.ended,

@@ -3,12 +3,16 @@ use Rattle.depot.specs.rule.Sums.{total}
 use Rattle.workers.specs.shared_waiting.Passes.{known}
 use Rattle.workers.specs.declared.worker.Worker.{Worker}
 use Rattle.workers.specs.Balance.{by_key}
-use Rattle.workers.specs.Words.{seats_in}
+use Rattle.workers.specs.Words.{seats_in, IsIn}
 use Rattle.server.specs.pool.Shares.{carried_by, kept_by}
 use Rattle.server.proofs.pool.Joins.{kept-once}
-use Rattle.server.proofs.pool.Lists.{as-many, total-last}
+use Rattle.server.proofs.pool.Lists.{all-popped, as-many, total-last}
 use Rattle.server.proofs.pool.Sharing.{with-first}
 use Rattle.server.proofs.pool.everything.gather.Goals as goal
+
+pub join_all-seat-requires-clause-inside : goal.join_all-seat-requires-clause-inside
+join_all-seat-requires-clause-inside g c =
+    (all-popped (IsIn c.args.filer.now) c.args.workers.items c.pop.new.self.items c.in-Some.worker c.in-Some.ensures.items c.requires.workers).0
 
 pub join_all-seat-requires-clause-room : goal.join_all-seat-requires-clause-room
 join_all-seat-requires-clause-room g c =

@@ -4,11 +4,11 @@ use Rattle.workers.specs.shared_waiting.Passes.{known}
 use Rattle.workers.proofs.Turning.{picks}
 use Rattle.workers.proofs.worker.Worker.pick.Goals as goal
 
-pub invariant_of-result : goal.invariant_of-result
-invariant_of-result g c =
+pub invariant_of-self : goal.invariant_of-self
+invariant_of-self g c =
     record {
-      balance = picks (known c.args.self.pass) (known c.next-kept.new.pass) c.args.self.kept c.next-kept.result (entries_of (view c.args.self.seat))
-          c.args.self.balance c.next-kept.ensures.next c.next-kept.ensures.put;
-      in_hand = c.args.self.in_hand;
-      none_open = c.args.self.none_open;
+      balance = picks (known c.args.self.now.pass) (known c.next.new.pass) c.args.self.now.kept c.next.result (entries_of (view c.args.self.now.seat))
+          c.args.self.now.balance (rw c.take-kept.ensures.value at c.next.ensures.next) c.next.ensures.put;
+      in_hand = c.args.self.now.in_hand;
+      none_open = c.args.self.now.none_open;
     }

@@ -4,11 +4,11 @@ use Rattle.workers.specs.shared_waiting.Passes.{known}
 use Rattle.workers.proofs.Turning.{puts}
 use Rattle.workers.proofs.worker.Worker.put.Goals as goal
 
-pub invariant_of-result : goal.invariant_of-result
-invariant_of-result g c =
+pub invariant_of-self : goal.invariant_of-self
+invariant_of-self g c =
     record {
-      balance = puts (known c.args.self.pass) (known c.put_kept-kept.new.pass) c.args.self.kept c.put_kept-kept.result (entries_of (view c.args.self.seat))
-          c.args.self.balance c.put_kept-kept.ensures.again c.put_kept-kept.ensures.picked;
-      in_hand = c.args.self.in_hand;
-      none_open = c.args.self.none_open;
+      balance = puts (known c.args.self.now.pass) (known c.put_kept.new.pass) c.args.self.now.kept c.put_kept.result (entries_of (view c.args.self.now.seat))
+          c.args.self.now.balance (rw c.take-kept.ensures.value at c.put_kept.ensures.again) c.put_kept.ensures.picked;
+      in_hand = c.args.self.now.in_hand;
+      none_open = c.args.self.now.none_open;
     }

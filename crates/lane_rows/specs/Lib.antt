@@ -1,0 +1,2 @@
+pub mod Gathering
+pub mod Opened

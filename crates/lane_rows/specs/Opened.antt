@@ -1,0 +1,34 @@
+-- Queues of lanes that begin.
+use Rattle.std.specs.Prelude.{◌≡◌, [], Some}
+use Rattle.affinity_tree.specs.declared.layout.Layout.{Layout}
+use Rattle.lanes.specs.Lanes.{HasBoth}
+use Rattle.workers.specs.declared.message.Message.{Message}
+use Rattle.workers.specs.declared.shared.Filer.{Filer}
+use Rattle.workers.specs.declared.shared_waiting.pass.Pass.{Pass}
+use Rattle.workers.specs.declared.shared_waiting.pass.SharedWaiting.{SharedWaiting}
+use Rattle.workers.specs.declared.worker.Worker.{Worker}
+use Rattle.workers.specs.Words.{entries_in, layout_in, layout_known, IsAt}
+use Rattle.workers.specs.shared_waiting.Balance.{IsWhole, both}
+use Rattle.workers.specs.shared_waiting.Passes.{known, IsOf}
+
+-- a pass of a queue of the filer's layout by which nothing was put or picked
+pub record IsNewPass (filer : Filer) (queue : SharedWaiting Message Layout) (pass : Pass Message Layout) : Type 0 where
+  pub of : IsOf queue pass
+  pub layout : layout_known (known pass) ≡ Some (layout_in filer)
+  pub put : (known pass).put ≡ []
+  pub picked : (known pass).picked ≡ []
+
+-- both passes of a queue are new, and nobody has another
+pub record IsNewQueue (filer : Filer) (queue : SharedWaiting Message Layout) (admits picks : Pass Message Layout) : Type 0 where
+  pub puts : IsNewPass filer queue admits
+  pub takes : IsNewPass filer queue picks
+  pub whole : IsWhole (both (known admits) (known picks))
+  pub key : (known admits).key ≡ (known picks).key
+
+-- a worker of the filer on such a queue, which has done nothing, and the pass that will admit
+pub record IsReadyLane (filer : Filer) (queue : SharedWaiting Message Layout) (admits : Pass Message Layout) (worker : Worker)
+    : Type 0 where
+  pub new : IsNewPass filer queue admits
+  pub inside : IsAt filer queue worker
+  pub both : HasBoth admits worker
+  pub none : entries_in worker ≡ []

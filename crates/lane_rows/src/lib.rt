@@ -1,0 +1,22 @@
+//! Connections and lanes that read and write over a device in memory, whole and cut anywhere, with
+//! bytes typed from the standards.
+#![tactic(auto)]
+
+#[cfg(test)]
+mod beside;
+#[cfg(test)]
+mod gathered;
+#[cfg(test)]
+mod laned;
+#[cfg(test)]
+mod latch;
+#[cfg(test)]
+mod memory;
+#[cfg(test)]
+mod opening;
+#[cfg(test)]
+mod rows;
+#[cfg(test)]
+mod texts;
+#[cfg(test)]
+mod watching;

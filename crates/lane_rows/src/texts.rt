@@ -1,0 +1,173 @@
+//! Records, as words of four bytes: calls and replies typed from RFC 5531, and from RFC 1813.
+
+/// A NULL call of NFS version 3, xid 1.
+pub(crate) const NULL: [u32; 11] = [0x8000_0028, 1, 0, 2, 100_003, 3, 0, 0, 0, 0, 0];
+
+/// The same in fragments of 8 and 32 bytes.
+pub(crate) const NULL_IN_TWO: [u32; 12] = [8, 1, 0, 0x8000_0020, 2, 100_003, 3, 0, 0, 0, 0, 0];
+
+/// Its reply.
+pub(crate) const NULL_REPLY: [u32; 7] = [0x8000_0018, 1, 1, 0, 0, 0, 0];
+
+/// A GETATTR call of the root, xid 2.
+pub(crate) const GETATTR: [u32; 15] = [
+    0x8000_0038,
+    2,
+    0,
+    2,
+    100_003,
+    3,
+    1,
+    0,
+    0,
+    0,
+    0,
+    12,
+    0,
+    0,
+    1,
+];
+
+/// A call of a program that isn't there, xid 4.
+pub(crate) const NO_PROGRAM: [u32; 11] = [0x8000_0028, 4, 0, 2, 100_005, 3, 0, 0, 0, 0, 0];
+
+/// Its reply, PROG_UNAVAIL.
+pub(crate) const NO_PROGRAM_REPLY: [u32; 7] = [0x8000_0018, 4, 1, 0, 0, 0, 1];
+
+/// A header that brings a record above the limit.
+pub(crate) const TOO_LONG: [u32; 1] = [0x8002_0001];
+
+/// The reply to the GETATTR: a directory of mode 0755 (octal) with two links, fileid 1, whose times
+/// are zero.
+pub(crate) const GETATTR_REPLY: [u32; 29] = [
+    0x8000_0070,
+    2,
+    1,
+    0,
+    0,
+    0,
+    0,
+    0,
+    2,
+    0o755,
+    2,
+    0,
+    0,
+    0,
+    4_096,
+    0,
+    0,
+    0,
+    0,
+    0,
+    0,
+    0,
+    1,
+    0,
+    0,
+    0,
+    0,
+    0,
+    0,
+];
+
+/// The first words of a GETATTR call.
+pub(crate) const CUT: [u32; 5] = [0x8000_0038, 2, 0, 2, 100_003];
+
+/// A CREATE call in the root of volume 0, unchecked, which sets nothing, of a name of two letters.
+pub(crate) fn create(xid: u32, name: u32) -> [u32; 24] {
+    [
+        0x8000_005c,
+        xid,
+        0,
+        2,
+        100_003,
+        3,
+        8,
+        0,
+        0,
+        0,
+        0,
+        12,
+        0,
+        0,
+        1,
+        2,
+        name,
+        0,
+        0,
+        0,
+        0,
+        0,
+        0,
+        0,
+    ]
+}
+
+/// A LOOKUP call of such a name.
+pub(crate) fn lookup(xid: u32, name: u32) -> [u32; 17] {
+    [
+        0x8000_0040,
+        xid,
+        0,
+        2,
+        100_003,
+        3,
+        3,
+        0,
+        0,
+        0,
+        0,
+        12,
+        0,
+        0,
+        1,
+        2,
+        name,
+    ]
+}
+
+/// A READ call of 4 KiB of the file 2 of volume 0.
+pub(crate) fn read(xid: u32) -> [u32; 18] {
+    [
+        0x8000_0044,
+        xid,
+        0,
+        2,
+        100_003,
+        3,
+        6,
+        0,
+        0,
+        0,
+        0,
+        12,
+        0,
+        0,
+        2,
+        0,
+        0,
+        4_096,
+    ]
+}
+
+/// A GETATTR call of the root of volume 1.
+pub(crate) fn getattr(xid: u32) -> [u32; 15] {
+    [
+        0x8000_0038,
+        xid,
+        0,
+        2,
+        100_003,
+        3,
+        1,
+        0,
+        0,
+        0,
+        0,
+        12,
+        1,
+        0,
+        1,
+    ]
+}

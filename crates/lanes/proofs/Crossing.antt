@@ -1,0 +1,90 @@
+-- A lane may cross threads, where its device and what it waits by may.
+use denote.RattleType.{RattleType}
+use denote.Param.Send.{IsSend, sendable, view_send}
+use denote.Param.SendFields.{as_row_send, declared_send}
+use Rattle.std.proofs.Crossing.{crosses, send, frees}
+use Rattle.slab.proofs.Slab.TheSendSync as slab
+use Rattle.connections.proofs.tcp_front.stream.Stopped.TheSendSync as stopped
+use Rattle.connections.proofs.tcp_front.stream.Stream.TheSendSync as stream
+use Rattle.outboxes.specs.contracts.record.Record as Record
+use Rattle.outboxes.specs.contracts.record.Record.TheInside as RecordInside
+use Rattle.outboxes.specs.contracts.said.Said as Said
+use Rattle.outboxes.specs.contracts.said.Said.TheInside as SaidInside
+use Rattle.workers.proofs.crossings.Outboxes.{outboxes-send}
+use Rattle.workers.proofs.crossings.Structs.{struct-send}
+use Rattle.workers.proofs.Crossing.{envelope-send, worker-send, filer-send, filer-sync}
+use Rattle.workers.proofs.shared_waiting.pass.Pass.TheSendSync as pass
+use Rattle.workers.proofs.shared_waiting.pass.SharedWaiting.TheSendSync as waiting
+use Rattle.lanes.proofs.backlog.Backlog.TheSendSync as backlog
+use Rattle.lanes.proofs.connection.Flags.TheSendSync as flags
+use Rattle.lanes.proofs.due.Due.TheSendSync as due
+use Rattle.lanes.proofs.watched.Watched.TheSendSync as watched
+use Rattle.lanes.specs.contracts.backlog.Backlog as Backlog
+use Rattle.lanes.specs.contracts.connection.Connection as Connection
+use Rattle.lanes.specs.contracts.intake.Intake as Intake
+use Rattle.lanes.specs.contracts.lane.Lane as Lane
+use Rattle.lanes.specs.contracts.rest.Rest as Rest
+use Rattle.lanes.specs.contracts.rest.Rest.TheInside as RestInside
+use Rattle.lanes.specs.declared.device.Device as devices
+
+said-send : IsSend Said.the_row
+said-send = view_send SaidInside.the_row _ _ _ _
+    (struct-send SaidInside.the_type (search sendable depth 20, (search (crosses, sendable) depth 20, tt)))
+
+record-send : IsSend Record.the_row
+record-send = view_send RecordInside.the_row _ _ _ _ (struct-send RecordInside.the_type (search (crosses, sendable) depth 20, (said-send, tt)))
+
+rest-send : IsSend Rest.the_row
+rest-send = view_send RestInside.the_row _ _ _ _
+    (struct-send RestInside.the_type (backlog.the_send, (search (record-send, sendable) depth 20, (search sendable depth 20, tt))))
+
+connection-send : (D : RattleType) → IsSend D → IsSend (Connection.the_row D)
+connection-send D d = declared_send (Connection.the_type D) (
+  search (watched.the_send, d, sendable) depth 20,
+  (
+    search (stream.the_send, sendable) depth 20,
+    (
+      search (backlog.the_send, sendable) depth 20,
+      (
+        search (rest-send, sendable) depth 20,
+        (
+          search (stopped.the_send, sendable) depth 20,
+          (
+            search sendable depth 20,
+            (search (crosses, sendable) depth 20, (search (due.the_send, sendable) depth 20, (search (flags.the_send, sendable) depth 20, tt))),
+          ),
+        ),
+      ),
+    ),
+  ),
+)
+
+intake-send : (R : RattleType) → IsSend R → IsSend (Intake.the_row R)
+intake-send R r = declared_send (Intake.the_type R) (
+  search (r, sendable) depth 20,
+  (
+    search (crosses, sendable) depth 20,
+    (
+      search (crosses, sendable) depth 20,
+      (
+        search (waiting.the_send, envelope-send, sendable) depth 20,
+        (
+          search (pass.the_send, envelope-send, sendable) depth 20,
+          (
+            search (outboxes-send, sendable) depth 20,
+            (search sendable depth 20, (search sendable depth 20, (search (due.the_send, sendable) depth 20, tt))),
+          ),
+        ),
+      ),
+    ),
+  ),
+)
+
+pub lane-send : (D R : RattleType) (G : devices.Ghosts D.Denot) → IsSend D → IsSend R → IsSend (Lane.the_row D R G)
+lane-send D R G d r = declared_send (Lane.the_type D R G) (
+  search (filer-send, filer-sync, crosses, sendable) depth 20,
+  (
+    search (intake-send, r, sendable) depth 20,
+    (search (worker-send, sendable) depth 20, (slab.the_send _ _ _ (connection-send D d) send frees, tt)),
+  ),
+)

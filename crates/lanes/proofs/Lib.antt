@@ -1,0 +1,11 @@
+pub mod Lists
+pub mod Served
+pub mod Lived
+mod Cut
+mod OneRead
+mod OneWrite
+pub mod Crossing
+pub mod Inside
+pub mod Fitting
+pub mod Steps
+pub mod Idle

@@ -1,0 +1,312 @@
+-- What each call of a lane leaves: its story, and both passes.
+use Rattle.std.proofs.Common.{◌≡◌, ◌≢◌, ◌<◌, ◌≤◌, ℕ, ◌+◌, ◌*◌, ◌^◌, List, [], ◌∷◌, ◌++◌, map, Option, Some, None, Result, Ok, Err, refl, sym, ap, subst, ◌∙◌, append-nil, arith}
+use Rattle.std.specs.Prelude.{IsSome}
+use Rattle.std.specs.FinMap as maps
+use Rattle.std.proofs.Math.Logic.{∥∥₁_map}
+use Rattle.nfs_model.specs.Tree.{Layout}
+use Rattle.nfs_model.specs.World.{Heard}
+use Rattle.affinity_tree.specs.declared.layout.Layout as layouts
+use Rattle.nfs_values.specs.declared.moment.Moment.{Moment}
+use Rattle.nfs_values.specs.Credential.{credential_of}
+use Rattle.parcels.specs.state.Jobs as jobs
+use Rattle.depot.specs.rule.History.{entries_of}
+use Rattle.slab.specs.Slab.{Slab, get, ContainsKey, Updates, with_value}
+use Rattle.slab.proofs.SlabLemmas.{Updates-with_value}
+use Rattle.outboxes.specs.Boxes.{Addressed, addressed, Boxes, put, shut, opened}
+use Rattle.outboxes.specs.Messages.{ReplyMessage, message}
+use Rattle.service.specs.declared.job.Job.{Job}
+use Rattle.service.specs.declared.job.Job.TheVariants.{Serve, Inner}
+use Rattle.workers.specs.Jobs.{job_of, job_reply_of}
+use Rattle.workers.specs.Tends.{Answers, Tends, call_of, hand_in}
+use Rattle.workers.specs.declared.tend.Tend.{Tend}
+use Rattle.workers.specs.declared.tend.Tended.{Tended}
+use Rattle.workers.specs.declared.tend.TendRefusal.{TendRefusal}
+use Rattle.workers.specs.Balance.{FilerEntry, Passed}
+use Rattle.workers.specs.Turns.{Did, HasDone, HasFinished, HasReturned, IsEntryOf, WasIdle, HasShareOf, job_of_message}
+use Rattle.workers.specs.Words.{entries_in, passed}
+use Rattle.workers.specs.declared.message.Message.{Message}
+use Rattle.workers.specs.declared.shared_waiting.pass.Pass.{Pass}
+use Rattle.workers.specs.declared.turned.Turned.{Turned}
+use Rattle.workers.specs.declared.turned.Turned.TheVariants as turns
+use Rattle.workers.specs.declared.worked.Worked.{Worked}
+use Rattle.workers.specs.declared.worker.Worker.{Worker}
+use Rattle.workers.specs.shared_waiting.Passes.{known}
+use Rattle.lanes.specs.declared.connection.Connection.{Connection}
+use Rattle.lanes.specs.declared.connection.Flags.{Flags}
+use Rattle.lanes.specs.declared.intake.Intake.{Intake}
+use Rattle.lanes.specs.declared.reading.Came.{Came}
+use Rattle.lanes.specs.declared.writing.Sent.{Sent}
+use Rattle.connections.specs.declared.tcp_front.stream.Stopped.{Stopped}
+use Rattle.connections.specs.declared.tcp_front.stream.Stream.{Stream}
+use Rattle.connections.specs.tcp_front.Arrivals.{Arrival}
+use Rattle.lanes.specs.Connections.{flagged, number_of, owing}
+use Rattle.lanes.specs.Intakes.{HasTakenIn, has_room_in}
+use Rattle.lanes.specs.Lanes.{Closes, Flagged, HasBoth, HasTurned, IsPutAs, ReadsOn, ReadsUnder, WritesUnder, owing_in}
+use Rattle.lanes.specs.Reading.{Cuts, HasRead, Reads}
+use Rattle.lanes.specs.Story.{Ending, Served, answer_to, said_by, served_in, with_served, Story}
+use Rattle.lanes.specs.Writing.{HasWritten, Writes}
+use Rattle.lanes.specs.lemmas.Reading.{reads-on, writes-kept}
+use Rattle.lanes.specs.lemmas.Writing.{written-takes, written-same, writes-on, reads-kept}
+use Rattle.lanes.proofs.Lists.{entries-append}
+use Rattle.lanes.proofs.Lived.{Sets, story-turns, story-ends, story-opens, story-reads, story-writes, story-shuts}
+
+-- ---- both passes
+
+whole-same : (a b c d a' b' c' d' : ℕ) → a' ≡ a → b' ≡ b → c' ≡ c → d' ≡ d → a * 2 ^ d + c * 2 ^ b ≡ 2 ^ (b + d) → a' * 2 ^ d' + c' * 2 ^ b' ≡ 2 ^ (b' + d')
+whole-same a b c d a' b' c' d' p q r s h =
+    (λ i. p i * 2 ^ s i + r i * 2 ^ q i) ∙ h ∙ sym (λ i. 2 ^ (q i + s i))
+
+pub both-kept : (p p' : Pass Message layouts.Layout) (w w' : Worker) → HasShareOf (known p) (known p') → HasShareOf (passed w) (passed w')
+    → HasBoth p w → HasBoth p' w'
+both-kept p p' w w' h k b = (
+  whole-same (known p).share (known p).halvings (passed w).share (passed w).halvings (known p').share (known p').halvings (passed w').share
+      (passed w').halvings h.0 h.1 k.0 k.1 b.0,
+  h.2 ∙ b.1 ∙ sym k.2,
+)
+
+pub same-share : (p p' : Pass Message layouts.Layout) → known p' ≡ known p → HasShareOf (known p) (known p')
+same-share p p' e = (ap (λ (v : Passed). v.share) e, ap (λ (v : Passed). v.halvings) e, ap (λ (v : Passed). v.key) e)
+
+pub share-same : (w : Worker) → HasShareOf (passed w) (passed w)
+share-same w = (refl, refl, refl)
+
+-- ---- slabs
+
+module _ {D : Type 0} where
+  sets-at : (slab slab' : Slab (Connection D)) (key : ℕ) (c c' : Connection D) → get slab key ≡ Some c → slab' ≡ with_value slab key c'
+      → (get slab' key ≡ Some c') × ((other : ℕ) → other ≢ key → get slab' other ≡ get slab other)
+  sets-at slab slab' key c c' was is =
+      let u = subst (λ (n : Slab (Connection D)). Updates slab n key (Some c')) (sym is)
+      (Updates-with_value slab key c' (subst (λ (o : Option (Connection D)). IsSome o) (sym was) refl)) in
+      (u.changed, u.others)
+
+module _ {D : Type 0} (unread written : D → Option (List ℕ)) (layout : Layout) (entries : List FilerEntry) where
+  -- what a lane's type keeps
+  abbrev pub Told : List Message → Boxes → Slab (Connection D) → Type 0
+  Told messages boxes slab = ∥ Story unread written layout entries messages boxes (get slab) ∥₁
+
+  -- ---- reading
+
+  module _ {R : Type 0} (c : Connection D) (sink sink' : Intake R) (size : ℕ) (result : Came) (between : Connection D)
+      (h : HasRead unread written HasTakenIn has_room_in layout c (owing_in c.owed sink) size result between sink') where
+    read-number : number_of between ≡ number_of c
+    read-number = ap (λ n. n.0) h.number
+
+  read-told : {R : Type 0} (slab slab' : Slab (Connection D)) (key : ℕ) (o : Option (Connection D)) → get slab key ≡ o → (sink sink' : Intake R)
+      (size : ℕ) (result : Came) → ReadsUnder unread written layout slab key o sink size result slab' sink'
+      → Told (known sink.pass).put sink.outboxes slab → Told (known sink'.pass).put sink'.outboxes slab'
+  read-told slab slab' key None is sink sink' size result (_, same, sink_same) t =
+      subst (λ (s : Slab (Connection D)). Told (known sink'.pass).put sink'.outboxes s) (sym same)
+      (subst (λ s. Told (known s.pass).put s.outboxes slab) (sym sink_same) t)
+  read-told slab slab' key (Some c) is sink sink' size result (after, now, on) t =
+      ∥∥₁_map t (λ s.
+      let h = on.read in
+      let number : number_of after ≡ number_of c = ap (λ (x : Connection D). number_of x) on.is ∙ read-number c sink sink' size result on.between h in
+      let same : after.opened.value ≡ c.opened.value = ap (λ (x : Connection D). x.opened.value) on.is ∙ ap (λ x. x.value) h.same.2 in
+      story-reads unread written layout entries (known sink.pass).put sink.outboxes (get slab) s (get slab') key c after is
+      (sets-at slab slab' key c after is now) number same (known sink'.pass).put h.heard sink'.outboxes h.given.put h.given.boxes_are
+      (λ before r. subst (λ (x : Connection D). Reads unread c.opened.value x (before ++ h.heard)) (sym on.is)
+      (reads-on unread written HasTakenIn has_room_in layout c (owing_in c.owed sink) size result on.between sink' h c.opened.value before r))
+      (λ waiting replies r. subst (λ (x : Connection D). Writes written c.opened.value x waiting replies) (sym on.is)
+      (writes-kept unread written HasTakenIn has_room_in layout c (owing_in c.owed sink) size result on.between sink' h c.opened.value waiting replies r)))
+
+  pub reads-told : {R : Type 0} (layout' : Layout) (slab slab' : Slab (Connection D)) (key : ℕ) (sink sink' : Intake R)
+      (size : ℕ) (result : Came) → layout' ≡ layout → ReadsUnder unread written layout' slab key (get slab key) sink size result slab' sink'
+      → Told (known sink.pass).put sink.outboxes slab → Told (known sink'.pass).put sink'.outboxes slab'
+  reads-told {R} layout' slab slab' key sink sink' size result same h t =
+      read-told slab slab' key (get slab key) refl sink sink' size result
+      (subst (λ (l : Layout). ReadsUnder unread written l slab key (get slab key) sink size result slab' sink') same h) t
+
+  -- ---- writing
+
+  write-told : (slab slab' : Slab (Connection D)) (key : ℕ) (o : Option (Connection D)) → get slab key ≡ o → (messages : List Message)
+      (boxes boxes' : Boxes) (result : Sent) → WritesUnder unread written slab key o boxes result slab' boxes'
+      → Told messages boxes slab → Told messages boxes' slab'
+  write-told slab slab' key None is messages boxes boxes' result (_, same, boxes_same) t =
+      subst (λ (s : Slab (Connection D)). Told messages boxes' s) (sym same)
+      (subst (λ (b : Boxes). Told messages b slab) (sym boxes_same) t)
+  write-told slab slab' key (Some c) is messages boxes boxes' result (after, now, h) t =
+      ∥∥₁_map t (λ s.
+      let kept = written-same unread written c boxes result after boxes' h in
+      let takes = written-takes unread written c boxes result after boxes' h in
+      story-writes unread written layout entries messages boxes (get slab) s (get slab') key c after is (sets-at slab slab' key c after is now)
+      (ap (λ (x : Stream). x.connection.0) kept.0) (ap (λ x. x.value) kept.3)
+      boxes' takes.1.next takes.1.others (reads-kept unread written c boxes result after boxes' h c.opened.value)
+      (λ waiting replies e r. let w = writes-on unread written c boxes result after boxes' h c.opened.value waiting replies e r in (w.0, w.1.0, w.1.1)))
+
+  pub writes-told : (slab slab' : Slab (Connection D)) (key : ℕ) (messages : List Message) (boxes boxes' : Boxes) (result : Sent)
+      → WritesUnder unread written slab key (get slab key) boxes result slab' boxes' → Told messages boxes slab → Told messages boxes' slab'
+  writes-told slab slab' key messages boxes boxes' result h t = write-told slab slab' key (get slab key) refl messages boxes boxes' result h t
+
+  -- ---- flags
+
+  flag-told : (slab slab' : Slab (Connection D)) (key : ℕ) (o : Option (Connection D)) → get slab key ≡ o → (messages : List Message)
+      (boxes : Boxes) (flags : Flags) → Flagged slab key o flags slab' → Told messages boxes slab → Told messages boxes slab'
+  flag-told slab slab' key None is messages boxes flags same t = subst (λ (s : Slab (Connection D)). Told messages boxes s) (sym same) t
+  flag-told slab slab' key (Some c) is messages boxes flags now t =
+      ∥∥₁_map t (λ s.
+      story-writes unread written layout entries messages boxes (get slab) s (get slab') key c (flagged flags c) is
+      (sets-at slab slab' key c (flagged flags c) is now) refl refl boxes refl (λ other n. refl) (λ heard r. r)
+      (λ waiting replies e r. (waiting, e, r)))
+
+  pub flags-told : (slab slab' : Slab (Connection D)) (key : ℕ) (messages : List Message) (boxes : Boxes) (flags : Flags)
+      → Flagged slab key (get slab key) flags slab' → Told messages boxes slab → Told messages boxes slab'
+  flags-told slab slab' key messages boxes flags h t = flag-told slab slab' key (get slab key) refl messages boxes flags h t
+
+  -- ---- opening and closing
+
+  pub opens-told : (slab between slab' : Slab (Connection D)) (key : ℕ) (c : Connection D) (messages : List Message) (boxes boxes' : Boxes)
+      → between ≡ record slab { capacity = between.capacity } → Updates between slab' key (Some c) → boxes' ≡ opened boxes
+      → number_of c ≡ boxes.next → boxes.next < (opened boxes).next → Reads unread c.opened.value c [] → Writes written c.opened.value c [] []
+      → Told messages boxes slab → Told messages boxes' slab'
+  opens-told slab between slab' key c messages boxes boxes' reserved updates is number rises reads writes t =
+      subst (λ (b : Boxes). Told messages b slab') (sym is)
+      (∥∥₁_map t (λ s. story-opens unread written layout entries messages boxes (get slab) s (get slab') key c
+      (updates.changed, (λ other n. updates.others other n ∙ ap (λ (x : Slab (Connection D)). get x other) reserved)) number rises reads writes))
+
+  pub reserved-told : (slab slab' : Slab (Connection D)) (messages : List Message) (boxes boxes' : Boxes)
+      → slab' ≡ record slab { capacity = slab'.capacity } → boxes' ≡ boxes → Told messages boxes slab → Told messages boxes' slab'
+  reserved-told slab slab' messages boxes boxes' reserved is t =
+      subst (λ (b : Boxes). Told messages b slab') (sym is)
+      (subst (λ (s : ℕ → Option (Connection D)). ∥ Story unread written layout entries messages boxes s ∥₁)
+      (sym (ap (λ (x : Slab (Connection D)). get x) reserved)) t)
+
+  pub closes-told : (slab slab' : Slab (Connection D)) (key : ℕ) (c : Connection D) (messages : List Message) (boxes boxes' : Boxes)
+      → get slab key ≡ Some c → Updates slab slab' key None → boxes' ≡ shut (number_of c) boxes
+      → Told messages boxes slab → Told messages boxes' slab'
+  closes-told slab slab' key c messages boxes boxes' was updates is t =
+      subst (λ (b : Boxes). Told messages b slab') (sym is)
+      (∥∥₁_map t (λ s. story-shuts unread written layout entries messages boxes (get slab) s (get slab') key c was (updates.changed, updates.others)))
+
+module _ {D : Type 0} (unread written : D → Option (List ℕ)) (layout : Layout) (entries : List FilerEntry) where
+  close-told : (slab slab' : Slab (Connection D)) (key : ℕ) (o : Option (Connection D)) → get slab key ≡ o → (messages : List Message)
+      (boxes boxes' : Boxes) (device : Option D) → Closes slab key boxes o device slab' boxes'
+      → ∥ Story unread written layout entries messages boxes (get slab) ∥₁ → ∥ Story unread written layout entries messages boxes' (get slab') ∥₁
+  close-told slab slab' key None is messages boxes boxes' device (_, same, boxes_same) t =
+      subst (λ (s : Slab (Connection D)). ∥ Story unread written layout entries messages boxes' (get s) ∥₁) (sym same)
+      (subst (λ (b : Boxes). ∥ Story unread written layout entries messages b (get slab) ∥₁) (sym boxes_same) t)
+  close-told slab slab' key (Some c) is messages boxes boxes' device (_, updates, boxes_is) t =
+      closes-told unread written layout entries slab slab' key c messages boxes boxes' is updates boxes_is t
+
+  pub closed-told : (slab slab' : Slab (Connection D)) (key : ℕ) (messages : List Message) (boxes boxes' : Boxes) (device : Option D)
+      → Closes slab key boxes (get slab key) device slab' boxes'
+      → ∥ Story unread written layout entries messages boxes (get slab) ∥₁ → ∥ Story unread written layout entries messages boxes' (get slab') ∥₁
+  closed-told slab slab' key messages boxes boxes' device h t = close-told slab slab' key (get slab key) refl messages boxes boxes' device h t
+
+-- ---- turns
+
+-- a pass by which nothing was put
+pub put-kept : {D : Type 0} (unread written : D → Option (List ℕ)) (layout : Layout) (entries : List FilerEntry) (boxes : Boxes)
+    (slots : ℕ → Option (Connection D)) (p p' : Pass Message layouts.Layout) → known p' ≡ known p
+    → ∥ Story unread written layout entries (known p).put boxes slots ∥₁ → ∥ Story unread written layout entries (known p').put boxes slots ∥₁
+put-kept unread written layout entries boxes slots p p' e t =
+    subst (λ (v : Passed). ∥ Story unread written layout entries v.put boxes slots ∥₁) (sym e) t
+
+module _ {D : Type 0} (unread written : D → Option (List ℕ)) (layout : Layout) where
+  replied : (m : Message) (moment : Moment) (a : Addressed) (e : FilerEntry) → IsEntryOf m moment a e → said_by (Served e) ≡ Some a
+  replied m moment a e i =
+      ap (λ (j : Job). answer_to j (job_reply_of e.reply)) i.call ∙ ap (λ r. answer_to (job_of_message m moment i.starved) r) i.reply
+      ∙ ap (λ n. Some (addressed n (message m.origin.xid a.message.reply))) (sym i.connection)
+      ∙ ap (λ n. Some (addressed a.connection (message n a.message.reply))) (sym i.xid)
+
+  served-one : (m : Message) (moment : Moment) (a : Addressed) (e : FilerEntry) → IsEntryOf m moment a e → served_in (e ∷ []) ≡ e ∷ []
+  served-one m moment a e i = ap (λ (j : Job). with_served e j []) i.call
+
+  module _ (messages : List Message) (boxes boxes' : Boxes) (slots : ℕ → Option (Connection D)) (before after : Worker) (moment : Moment) where
+    abbrev Before : Type 0
+    Before = ∥ Story unread written layout (entries_in before) messages boxes slots ∥₁
+
+    abbrev After : Type 0
+    After = ∥ Story unread written layout (entries_in after) messages boxes' slots ∥₁
+
+    same-told : entries_in after ≡ entries_in before → boxes' ≡ boxes → Before → After
+    same-told e is t =
+        subst (λ (b : Boxes). ∥ Story unread written layout (entries_in after) messages b slots ∥₁) (sym is)
+        (subst (λ (es : List FilerEntry). ∥ Story unread written layout es messages boxes slots ∥₁) (sym e) t)
+
+    done-told : (a : Addressed) → HasDone before moment a after → boxes' ≡ put a boxes → Before → After
+    done-told a d is t =
+        let f = d.finished in
+        subst (λ (b : Boxes). ∥ Story unread written layout (entries_in after) messages b slots ∥₁) (sym is)
+        (subst (λ (es : List FilerEntry). ∥ Story unread written layout es messages (put a boxes) slots ∥₁) (sym f.entries)
+        (∥∥₁_map t (λ s. story-ends unread written layout (entries_in before) messages boxes slots s f.entry a
+        (replied d.message moment a f.entry f.is) (served-one d.message moment a f.entry f.is))))
+
+    pub turns-told : (turned : Turned) (worked : Worked) → Did layout before moment turned after → IsPutAs turned boxes worked boxes' → Before → After
+    turns-told (turns.Done a) worked d p t = done-told a d p.0 t
+    turns-told turns.Moved worked (m, m', _, r) p t = same-told r.entries p.0 t
+    turns-told (turns.Busy at word) worked (m, r, _) p t = same-told r.entries p.0 t
+    turns-told turns.Worn worked (m, r, _) p t = same-told r.entries p.0 t
+    turns-told turns.Idle worked d p t = same-told (ap entries_of d.view) p.0 t
+
+-- ---- tends
+
+inner-none : (e : FilerEntry) (job : Job) (call : jobs.InnerCall) → job_of job ≡ jobs.Inner call → with_served e job [] ≡ []
+inner-none e (Serve served) call h = let no : ⊥ = cc in absurd no
+inner-none e (Inner inner) call h = refl
+
+module _ {D : Type 0} (unread written : D → Option (List ℕ)) (layout : Layout) (messages : List Message) (boxes : Boxes)
+    (slots : ℕ → Option (Connection D)) (before after : Worker) where
+  tended-told : (entries entries' : List FilerEntry) → served_in entries' ≡ served_in entries
+      → ∥ Story unread written layout entries messages boxes slots ∥₁ → ∥ Story unread written layout entries' messages boxes slots ∥₁
+  tended-told entries entries' e t = ∥∥₁_map t (λ s. story-turns unread written layout entries messages boxes slots s entries' e)
+
+  answers-told : (inner : Result jobs.InnerCall TendRefusal) (answer : Result Tended TendRefusal) → Answers layout before inner answer after
+      → served_in (entries_in after) ≡ served_in (entries_in before)
+  answers-told (Ok call) (Ok tended) h =
+      let k = h.carries in
+      ap served_in k.entries ∙ entries-append (entries_in before) (k.entry ∷ [])
+      ∙ ap (λ (l : List FilerEntry). served_in (entries_in before) ++ l) (inner-none k.entry k.entry.call call k.is_call)
+      ∙ append-nil (served_in (entries_in before))
+  answers-told (Ok call) (Err refusal) h = ap served_in h.0
+  answers-told (Err why) answer h = ap (λ v. served_in (entries_of v)) h.1
+
+  pub tends-told : (tend : Tend) (answer : Result Tended TendRefusal) → Tends layout before tend answer after
+      → ∥ Story unread written layout (entries_in before) messages boxes slots ∥₁ → ∥ Story unread written layout (entries_in after) messages boxes slots ∥₁
+  tends-told tend answer h t =
+      tended-told (entries_in before) (entries_in after) (answers-told (call_of layout tend (hand_in before)) answer h) t
+
+-- ---- under a key
+
+module _ {D R : Type 0} (unread written : D → Option (List ℕ)) (layout : Layout) where
+  pub read-owing : (c : Connection D) (start sink sink' : Intake R) (size : ℕ) (result : Came) (between : Connection D) → start ≡ owing_in c.owed sink
+      → HasRead unread written HasTakenIn has_room_in layout c start size result between sink'
+      → HasRead unread written HasTakenIn has_room_in layout c (owing_in c.owed sink) size result between sink'
+  read-owing c start sink sink' size result between e h =
+      subst (λ (s : Intake R). HasRead unread written HasTakenIn has_room_in layout c s size result between sink') e h
+
+  pub reads-under : (slab slab' : Slab (Connection D)) (key : ℕ) (o : Option (Connection D)) (before after : Connection D) (sink sink' : Intake R)
+      (size : ℕ) (result : Came) → Some before ≡ o → slab' ≡ with_value slab key after
+      → ReadsOn unread written layout before sink size result after sink' → ReadsUnder unread written layout slab key o sink size result slab' sink'
+  reads-under slab slab' key o before after sink sink' size result is now on =
+      subst (λ (x : Option (Connection D)). ReadsUnder unread written layout slab key x sink size result slab' sink') is (after, now, on)
+
+  keep-under : (slab slab' : Slab (Connection D)) (key : ℕ) (o : Option (Connection D)) (sink sink' : Intake R) (size : ℕ) (result : Came)
+      → ReadsUnder unread written layout slab key o sink size result slab' sink'
+      → (sink'.filer.value ≡ sink.filer.value) × (sink'.queue ≡ sink.queue) × ((known sink'.pass).picked ≡ (known sink.pass).picked)
+      × HasShareOf (known sink.pass) (known sink'.pass)
+  keep-under slab slab' key None sink sink' size result h = (
+    ap (λ (s : Intake R). s.filer.value) h.2,
+    ap (λ (s : Intake R). s.queue) h.2,
+    ap (λ (s : Intake R). (known s.pass).picked) h.2,
+    (
+      ap (λ (s : Intake R). (known s.pass).share) h.2,
+      ap (λ (s : Intake R). (known s.pass).halvings) h.2,
+      ap (λ (s : Intake R). (known s.pass).key) h.2,
+    ),
+  )
+  keep-under slab slab' key (Some c) sink sink' size result (after, now, on) =
+      let k = on.read.given in (k.filer_is, k.queue_is, k.picked, k.share)
+
+  pub reads-keep : (slab slab' : Slab (Connection D)) (key : ℕ) (sink sink' : Intake R) (size : ℕ) (result : Came)
+      → ReadsUnder unread written layout slab key (get slab key) sink size result slab' sink'
+      → (sink'.filer.value ≡ sink.filer.value) × (sink'.queue ≡ sink.queue) × ((known sink'.pass).picked ≡ (known sink.pass).picked)
+      × HasShareOf (known sink.pass) (known sink'.pass)
+  reads-keep slab slab' key sink sink' size result h = keep-under slab slab' key (get slab key) sink sink' size result h
+
+module _ {D : Type 0} (unread written : D → Option (List ℕ)) where
+  pub writes-under : (slab slab' : Slab (Connection D)) (key : ℕ) (o : Option (Connection D)) (before after : Connection D) (boxes boxes' : Boxes)
+      (result : Sent) → Some before ≡ o → slab' ≡ with_value slab key after → HasWritten unread written before boxes result after boxes'
+      → WritesUnder unread written slab key o boxes result slab' boxes'
+  writes-under slab slab' key o before after boxes boxes' result is now on =
+      subst (λ (x : Option (Connection D)). WritesUnder unread written slab key x boxes result slab' boxes') is (after, now, on)

@@ -1,0 +1,14 @@
+use Rattle.std.proofs.Common.{refl, rules}
+use Rattle.workers.specs.Words.{entries_in, layout_in}
+use Rattle.workers.specs.shared_waiting.Passes.{known}
+use Rattle.lanes.proofs.Lived.{story-begins}
+use Rattle.lanes.proofs.lane.Lane.new.Goals as goal
+
+pub invariant_of-result-2 : goal.invariant_of-result-2
+invariant_of-result-2 g c = record {
+  filer_is = search rules;
+  inside = ∣ c.requires.inside ∣₁;
+  both = c.requires.both;
+  picked = c.requires.nothing.1;
+  story = ∣ story-begins _ _ _ (entries_in c.args.worker) (known c.args.pass).put _ _ c.requires.nothing.2 c.requires.nothing.0 (search rules) ∣₁;
+}

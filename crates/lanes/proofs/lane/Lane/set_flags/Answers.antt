@@ -1,0 +1,22 @@
+use Rattle.std.proofs.Common.{refl, sym, ap, subst, ◌∙◌, rules}
+use Rattle.std.specs.Arc.{arc_value}
+use Rattle.affinity_tree.specs.declared.layout.Layout.{Layout}
+use Rattle.workers.specs.Words.{entries_in, layout_in, IsAt}
+use Rattle.workers.specs.shared_waiting.Passes.{known}
+use Rattle.workers.specs.declared.message.Message.{Message}
+use Rattle.workers.specs.declared.shared.Filer.{Filer}
+use Rattle.workers.specs.declared.shared_waiting.pass.SharedWaiting.{SharedWaiting}
+use Rattle.lanes.proofs.Steps.{flags-told}
+use Rattle.lanes.proofs.lane.Lane.set_flags.Goals as goal
+
+pub invariant_of-self : goal.invariant_of-self
+invariant_of-self g c =
+    let l = c.args.self.now in
+    record {
+      filer_is = l.filer_is;
+      inside = l.inside;
+      both = l.both;
+      picked = l.picked;
+      story = flags-told _ _ (layout_in (arc_value l.filer)) (entries_in l.worker) l.connections c.flag_under.new.connections c.args.key
+          (known l.intake.pass).put l.intake.outboxes c.args.flags c.flag_under.ensures l.story;
+    }

@@ -1,0 +1,32 @@
+use Rattle.std.proofs.Common.{◌≡◌, refl, sym, ap, subst, ◌∙◌, rules}
+use Rattle.std.specs.Arc.{arc_value}
+use Rattle.affinity_tree.specs.declared.layout.Layout.{Layout}
+use Rattle.workers.specs.Tends.{Tends}
+use Rattle.workers.specs.Words.{entries_in, layout_in, IsAt}
+use Rattle.workers.specs.shared_waiting.Passes.{known}
+use Rattle.workers.specs.declared.message.Message.{Message}
+use Rattle.workers.specs.declared.shared.Filer.{Filer}
+use Rattle.workers.specs.declared.shared_waiting.pass.SharedWaiting.{SharedWaiting}
+use Rattle.lanes.proofs.Inside.{at-inside}
+use Rattle.lanes.proofs.Steps.{both-kept, tends-told}
+use Rattle.lanes.proofs.lane.Lane.tend.Goals as goal
+
+pub tend_in-requires : goal.tend_in-requires
+tend_in-requires g c =
+    let l = c.args.self.now in
+    let same : c.deref.result.now ≡ arc_value l.filer = search rules in
+    subst (λ (f : Filer). IsAt f l.intake.queue l.worker) (sym same) (at-inside (arc_value l.filer) l.intake.queue l.worker l.inside)
+
+pub invariant_of-self-2 : goal.invariant_of-self-2
+invariant_of-self-2 g c =
+    let l = c.args.self.now in
+    let same : c.deref.result.now ≡ arc_value l.filer = search rules in
+    record {
+      filer_is = l.filer_is;
+      inside = ∣ subst (λ (f : Filer). IsAt f l.intake.queue c.tend_in.new.self) same c.tend_in.ensures.inside ∣₁;
+      both = both-kept l.intake.pass l.intake.pass l.worker c.tend_in.new.self (refl, refl, refl)
+          (ap (λ v. v.share) c.tend_in.ensures.pass, ap (λ v. v.halvings) c.tend_in.ensures.pass, ap (λ v. v.key) c.tend_in.ensures.pass) l.both;
+      picked = l.picked;
+      story = tends-told _ _ (layout_in (arc_value l.filer)) (known l.intake.pass).put l.intake.outboxes _ l.worker c.tend_in.new.self c.args.tend
+          c.tend_in.result (subst (λ (f : Filer). Tends (layout_in f) l.worker c.args.tend c.tend_in.result c.tend_in.new.self) same c.tend_in.ensures.tends) l.story;
+    }

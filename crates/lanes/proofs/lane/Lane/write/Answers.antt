@@ -1,0 +1,22 @@
+use Rattle.std.proofs.Common.{refl, sym, ap, subst, ◌∙◌, rules}
+use Rattle.std.specs.Arc.{arc_value}
+use Rattle.affinity_tree.specs.declared.layout.Layout.{Layout}
+use Rattle.workers.specs.Words.{entries_in, layout_in, IsAt}
+use Rattle.workers.specs.shared_waiting.Passes.{known}
+use Rattle.workers.specs.declared.message.Message.{Message}
+use Rattle.workers.specs.declared.shared.Filer.{Filer}
+use Rattle.workers.specs.declared.shared_waiting.pass.SharedWaiting.{SharedWaiting}
+use Rattle.lanes.proofs.Steps.{writes-told}
+use Rattle.lanes.proofs.lane.Lane.write.Goals as goal
+
+pub invariant_of-self-2 : goal.invariant_of-self-2
+invariant_of-self-2 g c =
+    let l = c.args.self.now in
+    record {
+      filer_is = l.filer_is;
+      inside = l.inside;
+      both = l.both;
+      picked = l.picked;
+      story = writes-told _ _ (layout_in (arc_value l.filer)) (entries_in l.worker) l.connections c.write_under.new.connections c.args.key
+          (known l.intake.pass).put l.intake.outboxes c.write_under.new.outboxes c.write_under.result c.write_under.ensures l.story;
+    }

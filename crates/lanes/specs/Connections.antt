@@ -1,0 +1,42 @@
+-- What contracts name of a connection.
+use Rattle.std.specs.Prelude.{ℕ, ⊤, List, Option, Some, None}
+use Rattle.connections.specs.declared.tcp_front.stream.Stopped.{Stopped}
+use Rattle.lanes.specs.declared.connection.Connection.{Connection}
+use Rattle.lanes.specs.declared.connection.Flags.{Flags}
+use Rattle.lanes.specs.declared.due.Due.{Due}
+use Rattle.lanes.specs.Told.{device_of, calls_of}
+
+-- its device
+abbrev pub now_of : {D : Type 0} → Connection D → D
+now_of c = device_of c.device
+
+-- how often its device was called, wrapping
+abbrev pub calls_to : {D : Type 0} → Connection D → ℕ
+calls_to c = calls_of c.device
+
+abbrev pub number_of : {D : Type 0} → Connection D → ℕ
+number_of c = c.stream.connection.0
+
+-- the bytes that were read and aren't cut into records yet
+abbrev pub kept_of : {D : Type 0} → Connection D → List ℕ
+kept_of c = c.kept
+
+-- the bytes that were taken to be written and aren't written yet
+abbrev pub rest_of : {D : Type 0} → Connection D → List ℕ
+rest_of c = c.rest
+
+abbrev pub has_stopped : Option Stopped → Type 0
+has_stopped None = ⊥
+has_stopped (Some stopped) = ⊤
+
+-- no more of it is read
+abbrev pub IsStopped : {D : Type 0} → Connection D → Type 0
+IsStopped c = has_stopped c.stopped
+
+-- with another count of what is owed
+abbrev pub owing : {D : Type 0} → Due → Connection D → Connection D
+owing owed c = record c { owed = owed }
+
+-- with other flags
+abbrev pub flagged : {D : Type 0} → Flags → Connection D → Connection D
+flagged flags c = record c { flags = flags }

@@ -1,0 +1,47 @@
+-- What came to a lane's queue and outboxes.
+use Rattle.std.specs.Prelude.{◌≡◌, ℕ, Bool, ◌&&◌, nat_lt, List, [], ◌∷◌, ◌++◌, map}
+use Rattle.affinity_tree.specs.declared.layout.Layout.{Layout}
+use Rattle.outboxes.specs.Boxes.{Addressed, Boxes, put}
+use Rattle.connections.specs.Admitted.{calls_of, seen_of}
+use Rattle.connections.specs.tcp_front.Arrivals.{Arrival, Waits, Answered}
+use Rattle.workers.specs.declared.message.Message.{Message}
+use Rattle.workers.specs.declared.shared.Filer.{Filer}
+use Rattle.workers.specs.declared.shared_waiting.pass.Pass.{Pass}
+use Rattle.workers.specs.declared.shared_waiting.pass.SharedWaiting.{SharedWaiting}
+use Rattle.workers.specs.shared_waiting.Passes.{known}
+use Rattle.workers.specs.Turns.{HasShareOf}
+use Rattle.lanes.specs.declared.intake.Intake.{Intake}
+
+-- the replies among what came
+abbrev pub answered_of : List Arrival → List Addressed
+answered_of [] = []
+answered_of (Waits message ∷ xs) = answered_of xs
+answered_of (Answered reply ∷ xs) = reply ∷ answered_of xs
+
+-- replies put into the outboxes, one after another
+abbrev pub all_put : List Addressed → Boxes → Boxes
+all_put [] b = b
+all_put (a ∷ xs) b = all_put xs (put a b)
+
+-- The calls among these were put into the queue, in order and each once, and the replies into the outboxes, in order; nothing
+-- else was.
+pub record Takes (filer : Filer) (queue : SharedWaiting Message Layout) (pass : Pass Message Layout) (boxes : Boxes)
+    (came : List Arrival) (filer' : Filer) (queue' : SharedWaiting Message Layout) (pass' : Pass Message Layout)
+    (boxes' : Boxes) : Type 0 where
+  pub filer_is : filer' ≡ filer
+  pub queue_is : queue' ≡ queue
+  pub put : map seen_of (known pass').put ≡ map seen_of (known pass).put ++ calls_of came
+  pub picked : (known pass').picked ≡ (known pass).picked
+  pub share : HasShareOf (known pass) (known pass')
+  pub boxes_are : boxes' ≡ all_put (answered_of came) boxes
+
+abbrev pub HasTakenIn : {R : Type 0} → Intake R → List Arrival → Intake R → Type 0
+HasTakenIn s came t = Takes s.filer.value s.queue s.pass s.outboxes came t.filer.value t.queue t.pass t.outboxes
+
+-- the most room of the replies that are owed to one connection while it is read
+abbrev pub most_owed : ℕ
+most_owed = 1048576
+
+-- a message more may wait, and the connection may be owed more
+abbrev pub has_room_in : {R : Type 0} → Intake R → Bool
+has_room_in s = nat_lt s.waiting s.most && nat_lt s.owed.room most_owed

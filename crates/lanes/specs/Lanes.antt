@@ -1,0 +1,115 @@
+-- What the calls of a lane do.
+use Rattle.std.specs.Prelude.{◌≡◌, ◌≢◌, ℕ, Bool, List, [], Option, Some, None, Result, Ok, Err}
+use Rattle.slab.specs.Slab.{Slab, get, Updates, with_value}
+use Rattle.affinity_tree.specs.declared.layout.Layout as layouts
+use Rattle.nfs_model.specs.Tree.{Layout}
+use Rattle.nfs_values.specs.declared.moment.Moment.{Moment}
+use Rattle.nfs_values.specs.declared.number.ConnectionNumber.{ConnectionNumber}
+use Rattle.outboxes.specs.Boxes.{Boxes, put, shut, opened}
+use Rattle.workers.specs.declared.message.Message.{Message}
+use Rattle.workers.specs.declared.shared_waiting.pass.Pass.{Pass}
+use Rattle.depot.specs.rule.Sums.{total}
+use Rattle.workers.specs.shared_waiting.Balance.{IsWhole, both}
+use Rattle.workers.specs.shared_waiting.Passes.{known}
+use Rattle.workers.specs.declared.turned.Turned.{Turned}
+use Rattle.workers.specs.declared.turned.Turned.TheVariants as turns
+use Rattle.workers.specs.declared.worked.Worked.{Worked}
+use Rattle.workers.specs.declared.worked.Worked.TheVariants as works
+use Rattle.workers.specs.declared.worker.Worker.{Worker}
+use Rattle.workers.specs.Turns.{Did}
+use Rattle.workers.specs.Words.{passed}
+use Rattle.lanes.specs.declared.connection.Connection.{Connection}
+use Rattle.lanes.specs.declared.connection.Flags.{Flags}
+use Rattle.lanes.specs.declared.due.Due.{Due}
+use Rattle.lanes.specs.declared.intake.Intake.{Intake}
+use Rattle.lanes.specs.declared.reading.Came.{Came}
+use Rattle.lanes.specs.declared.reading.Came.TheVariants as cames
+use Rattle.lanes.specs.declared.writing.Sent.{Sent}
+use Rattle.lanes.specs.declared.writing.Sent.TheVariants as sents
+use Rattle.lanes.specs.Connections.{flagged, now_of, number_of, owing}
+use Rattle.lanes.specs.Intakes.{HasTakenIn, has_room_in}
+use Rattle.lanes.specs.Reading.{HasRead}
+use Rattle.lanes.specs.Writing.{HasWritten}
+
+-- both passes of a queue, which nobody else has
+abbrev pub HasBoth : Pass Message layouts.Layout → Worker → Type 0
+HasBoth pass worker = IsWhole (both (known pass) (passed worker)) × ((known pass).key ≡ (passed worker).key)
+
+-- what was put into the queue by these was picked, each message as often
+abbrev pub HasNoneLeft : Pass Message layouts.Layout → Worker → Type 0
+HasNoneLeft pass worker = (weigh : Message → ℕ)
+    → total weigh (both (known pass) (passed worker)).put ≡ total weigh (both (known pass) (passed worker)).picked
+
+-- with another count of what is owed to the connection that is read
+abbrev pub owing_in : {R : Type 0} → Due → Intake R → Intake R
+owing_in owed s = record s { owed = owed }
+
+-- ---- under a key
+
+-- a connection was read, and it is known how much it is owed
+pub record ReadsOn {D R : Type 0} (unread written : D → Option (List ℕ)) (layout : Layout) (before : Connection D)
+    (sink : Intake R) (size : ℕ) (result : Came) (after : Connection D) (sink' : Intake R) : Type 0 where
+  pub between : Connection D
+  pub owed : Due
+  pub is : after ≡ owing owed between
+  pub read : HasRead unread written HasTakenIn has_room_in layout before (owing_in before.owed sink) size result between sink'
+
+-- the connection of a key was, or there is none and nothing changed
+abbrev pub ReadsUnder : {D R : Type 0} → (D → Option (List ℕ)) → (D → Option (List ℕ)) → Layout → Slab (Connection D)
+    → ℕ → Option (Connection D) → Intake R → ℕ → Came → Slab (Connection D) → Intake R → Type 0
+ReadsUnder unread written layout slab key None sink size result slab' sink' =
+    (result ≡ cames.Stopped) × (slab' ≡ slab) × (sink' ≡ sink)
+ReadsUnder {D} unread written layout slab key (Some before) sink size result slab' sink' =
+    (after : Connection D) × (slab' ≡ with_value slab key after) × ReadsOn unread written layout before sink size result after sink'
+
+-- the connection of a key was written, or there is none and nothing changed
+abbrev pub WritesUnder : {D : Type 0} → (D → Option (List ℕ)) → (D → Option (List ℕ)) → Slab (Connection D) → ℕ
+    → Option (Connection D) → Boxes → Sent → Slab (Connection D) → Boxes → Type 0
+WritesUnder unread written slab key None boxes result slab' boxes' =
+    (result ≡ sents.Failed) × (slab' ≡ slab) × (boxes' ≡ boxes)
+WritesUnder {D} unread written slab key (Some before) boxes result slab' boxes' =
+    (after : Connection D) × (slab' ≡ with_value slab key after) × HasWritten unread written before boxes result after boxes'
+
+-- ---- turns
+
+-- what is told of a turn, and what it did to the outboxes: its answer was put
+abbrev pub IsPutAs : Turned → Boxes → Worked → Boxes → Type 0
+IsPutAs (turns.Done a) boxes worked boxes' = (boxes' ≡ put a boxes) × ((number : ConnectionNumber) × (worked ≡ works.Done number) × (number.0 ≡ a.connection))
+IsPutAs turns.Moved boxes worked boxes' = (boxes' ≡ boxes) × (worked ≡ works.Moved)
+IsPutAs (turns.Busy at word) boxes worked boxes' = (boxes' ≡ boxes) × (worked ≡ works.Busy at word)
+IsPutAs turns.Worn boxes worked boxes' = (boxes' ≡ boxes) × (worked ≡ works.Worn)
+IsPutAs turns.Idle boxes worked boxes' = (boxes' ≡ boxes) × (worked ≡ works.Idle)
+
+-- The worker made a turn, and the answer of it, if there is one, was put into the outboxes.
+pub record HasTurned (layout : Layout) (before : Worker) (moment : Moment) (boxes : Boxes) (worked : Worked) (after : Worker)
+    (boxes' : Boxes) : Type 0 where
+  pub turned : Turned
+  pub did : Did layout before moment turned after
+  pub told : IsPutAs turned boxes worked boxes'
+
+-- ---- openings
+
+-- A connection is open under the key that was next, over the device that was given, and with the number that was next; or the
+-- device came back, and nothing changed.
+abbrev pub Opens : {D : Type 0} → Slab (Connection D) → Boxes → D → Result ℕ D → Slab (Connection D) → Boxes → Type 0
+Opens {D} slab boxes device (Ok key) slab' boxes' =
+    (key ≡ slab.vacant_key) × (boxes' ≡ opened boxes)
+    × ((c : Connection D) × Updates slab slab' key (Some c) × (c.opened.value ≡ device) × (number_of c ≡ boxes.next))
+Opens {D} slab boxes device (Err back) slab' boxes' =
+    (back ≡ device) × ((key : ℕ) → get slab' key ≡ get slab key) × (boxes' ≡ boxes)
+
+-- ---- closings
+
+-- the connection of a key is closed, and its device comes back; or there is none
+abbrev pub Closes : {D : Type 0} → Slab (Connection D) → ℕ → Boxes → Option (Connection D) → Option D → Slab (Connection D)
+    → Boxes → Type 0
+Closes slab key boxes None device slab' boxes' = (device ≡ None) × (slab' ≡ slab) × (boxes' ≡ boxes)
+Closes slab key boxes (Some c) device slab' boxes' =
+    (device ≡ Some (now_of c)) × Updates slab slab' key None × (boxes' ≡ shut (number_of c) boxes)
+
+-- ---- flags
+
+-- the connection of a key has these, if there is one
+abbrev pub Flagged : {D : Type 0} → Slab (Connection D) → ℕ → Option (Connection D) → Flags → Slab (Connection D) → Type 0
+Flagged slab key None flags slab' = slab' ≡ slab
+Flagged slab key (Some c) flags slab' = slab' ≡ with_value slab key (flagged flags c)

@@ -1,0 +1,13 @@
+pub mod Told
+pub mod Rests
+pub mod Connections
+pub mod Taking
+pub mod Cutting
+pub mod Reading
+pub mod Joining
+pub mod Writing
+pub mod Intakes
+pub mod Story
+pub mod Lanes
+pub mod Parting
+pub mod lemmas

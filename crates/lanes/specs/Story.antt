@@ -1,0 +1,114 @@
+-- The whole life of a lane: what came, what ended, and what is known of each of its connections.
+use Rattle.std.specs.Prelude.{◌≡◌, ◌==◌, ℕ, ◌<◌, ◌≤◌, Bool, List, [], ◌∷◌, ◌++◌, map, Option, Some, None, if◌then◌else◌}
+use Rattle.std.specs.FinMap.{get}
+use Rattle.nfs_model.specs.Tree.{Layout}
+use Rattle.nfs_model.specs.World.{Heard, Message}
+use Rattle.outboxes.specs.Boxes.{Addressed, addressed, Boxes}
+use Rattle.outboxes.specs.Messages.{ReplyMessage, message}
+use Rattle.parcels.specs.state.Jobs as jobs
+use Rattle.service.specs.declared.job.Job.{Job}
+use Rattle.service.specs.declared.job.Job.TheVariants.{Serve, Inner}
+use Rattle.workers.specs.Jobs.{job_reply_of}
+use Rattle.workers.specs.Balance.{FilerEntry}
+use Rattle.workers.specs.declared.message.Message as workers
+use Rattle.connections.specs.Admitted.{calls_of, seen_of}
+use Rattle.connections.specs.tcp_front.Arrivals.{Arrival, Waits, Answered, arrivals}
+use Rattle.lanes.specs.declared.connection.Connection.{Connection}
+use Rattle.lanes.specs.Connections.{number_of}
+use Rattle.lanes.specs.Intakes.{answered_of}
+use Rattle.lanes.specs.Reading.{Reads}
+use Rattle.lanes.specs.Writing.{Writes}
+
+-- ---- what came of one connection
+
+abbrev pub comes_of : Arrival → ℕ
+comes_of (Waits message) = message.connection
+comes_of (Answered reply) = reply.connection
+
+-- these of a connection, in order
+abbrev pub of_connection : ℕ → List Arrival → List Arrival
+of_connection number [] = []
+of_connection number (x ∷ xs) = if comes_of x == number then x ∷ of_connection number xs else of_connection number xs
+
+-- ---- what ended
+
+-- a call that the lane's worker finished, by its entry in the history; or a reply at once
+pub data Ending : Type 0 where
+  Served : (entry : FilerEntry) → Ending
+  AtOnce : (reply : Addressed) → Ending
+
+-- The reply of an entry, under the xid of its call and to its connection. An inner call has none.
+abbrev pub answer_to : Job → jobs.JobReply → Option Addressed
+answer_to (Serve call) (jobs.Replied reply) = Some (addressed call.connection.0 (message call.xid reply))
+answer_to job reply = None
+
+abbrev pub said_by : Ending → Option Addressed
+said_by (Served e) = answer_to e.call (job_reply_of e.reply)
+said_by (AtOnce reply) = Some reply
+
+abbrev pub with_reply : ℕ → Option Addressed → List ReplyMessage → List ReplyMessage
+with_reply number None ms = ms
+with_reply number (Some a) ms = if a.connection == number then a.message ∷ ms else ms
+
+-- the replies to a connection among what ended, in order
+abbrev pub replies_to : ℕ → List Ending → List ReplyMessage
+replies_to number [] = []
+replies_to number (x ∷ xs) = with_reply number (said_by x) (replies_to number xs)
+
+-- the entries of what ended, and the replies at once
+abbrev pub served_of : List Ending → List FilerEntry
+served_of [] = []
+served_of (Served e ∷ xs) = e ∷ served_of xs
+served_of (AtOnce reply ∷ xs) = served_of xs
+
+abbrev pub at_once_of : List Ending → List Addressed
+at_once_of [] = []
+at_once_of (Served e ∷ xs) = at_once_of xs
+at_once_of (AtOnce reply ∷ xs) = reply ∷ at_once_of xs
+
+-- the entries that answer calls
+abbrev pub with_served : FilerEntry → Job → List FilerEntry → List FilerEntry
+with_served e (Serve call) es = e ∷ es
+with_served e (Inner call) es = es
+
+abbrev pub served_in : List FilerEntry → List FilerEntry
+served_in [] = []
+served_in (e ∷ es) = with_served e e.call (served_in es)
+
+-- ---- what is known
+
+-- Of an open connection: the records of the bytes that were read of it, from its opening on, are just what came of it; and
+-- the bytes that were given to its device are a beginning of the records of the replies to it among what ended since its
+-- opening, in that order. The others wait.
+pub record IsServed {D : Type 0} (unread written : D → Option (List ℕ)) (layout : Layout) (boxes : Boxes)
+    (came : List Arrival) (endings : List Ending) (c : Connection D) : Type 0 where
+  pub given_number : number_of c < boxes.next
+  pub heard : List Heard
+  pub arrived : of_connection (number_of c) came ≡ arrivals layout (number_of c) 0 heard
+  pub reads : Reads unread c.opened.value c heard
+  pub before : List Ending
+  pub since : List Ending
+  pub ended : endings ≡ before ++ since
+  pub waiting : List ReplyMessage
+  pub box : get boxes.waiting (number_of c) ≡ Some waiting
+  pub writes : Writes written c.opened.value c waiting (replies_to (number_of c) since)
+
+-- Of each connection, also of one that is closed, the records that came bear the numbers from 0 on, in order and each once.
+abbrev pub ComesInOrder : Layout → List Arrival → Type 0
+ComesInOrder layout came = (number : ℕ) → (heard : List Heard) × (of_connection number came ≡ arrivals layout number 0 heard)
+
+-- What came to a lane, of all its connections in one order, and what ended, in one order: the calls that came were admitted,
+-- in order and each once; the lane's entries are just those that ended, and so are the replies at once that came; nothing
+-- came under a number that isn't given yet; each open connection is served by these, and no two have one number.
+pub record Story {D : Type 0} (unread written : D → Option (List ℕ)) (layout : Layout) (entries : List FilerEntry)
+    (put : List workers.Message) (boxes : Boxes) (slots : ℕ → Option (Connection D)) : Type 0 where
+  pub came : List Arrival
+  pub endings : List Ending
+  pub admitted : map seen_of put ≡ calls_of came
+  pub finished : served_of endings ≡ served_in entries
+  pub at_once : at_once_of endings ≡ answered_of came
+  pub in_order : ComesInOrder layout came
+  pub new_numbers : (number : ℕ) → boxes.next ≤ number → of_connection number came ≡ []
+  pub each : (key : ℕ) (c : Connection D) → slots key ≡ Some c → IsServed unread written layout boxes came endings c
+  pub apart : (key other : ℕ) (c d : Connection D) → slots key ≡ Some c → slots other ≡ Some d → number_of c ≡ number_of d
+      → key ≡ other

@@ -1,0 +1,48 @@
+-- What comes to an intake adds up.
+use Rattle.std.proofs.Common.{◌≡◌, refl, sym, ap, ◌∙◌, List, [], ◌∷◌, ◌++◌, map, append_assoc, append-nil}
+use Rattle.outboxes.specs.Boxes.{Addressed, Boxes, put}
+use Rattle.connections.specs.Admitted.{calls_of, seen_of}
+use Rattle.connections.specs.tcp_front.Arrivals.{Arrival, Waits, Answered}
+use Rattle.workers.specs.shared_waiting.Passes.{known}
+use Rattle.lanes.specs.declared.intake.Intake.{Intake}
+use Rattle.lanes.specs.Intakes.{answered_of, all_put, HasTakenIn}
+
+pub calls-append : (xs ys : List Arrival) → calls_of (xs ++ ys) ≡ calls_of xs ++ calls_of ys
+calls-append [] ys = refl
+calls-append (Waits message ∷ xs) ys = ap (λ l. message ∷ l) (calls-append xs ys)
+calls-append (Answered reply ∷ xs) ys = calls-append xs ys
+
+pub answered-append : (xs ys : List Arrival) → answered_of (xs ++ ys) ≡ answered_of xs ++ answered_of ys
+answered-append [] ys = refl
+answered-append (Waits message ∷ xs) ys = answered-append xs ys
+answered-append (Answered reply ∷ xs) ys = ap (λ l. reply ∷ l) (answered-append xs ys)
+
+pub all-put-append : (xs ys : List Addressed) (b : Boxes) → all_put (xs ++ ys) b ≡ all_put ys (all_put xs b)
+all-put-append [] ys b = refl
+all-put-append (x ∷ xs) ys b = all-put-append xs ys (put x b)
+
+pub taken_none : {R : Type 0} (s : Intake R) → HasTakenIn s [] s
+taken_none s =
+    record {
+      filer_is = refl;
+      queue_is = refl;
+      put = sym (append-nil (map seen_of (known s.pass).put));
+      picked = refl;
+      share = (refl, refl, refl);
+      boxes_are = refl;
+    }
+
+pub taken_more : {R : Type 0} (s t u : Intake R) (xs ys : List Arrival) → HasTakenIn s xs t → HasTakenIn t ys u → HasTakenIn s (xs ++ ys) u
+taken_more s t u xs ys f g =
+    record {
+      filer_is = g.filer_is ∙ f.filer_is;
+      queue_is = g.queue_is ∙ f.queue_is;
+      put =
+          g.put ∙ ap (λ ms. ms ++ calls_of ys) f.put ∙ append_assoc (map seen_of (known s.pass).put) (calls_of xs) (calls_of ys)
+          ∙ ap (λ ms. map seen_of (known s.pass).put ++ ms) (sym (calls-append xs ys));
+      picked = g.picked ∙ f.picked;
+      share = (g.share.0 ∙ f.share.0, g.share.1 ∙ f.share.1, g.share.2 ∙ f.share.2);
+      boxes_are =
+          g.boxes_are ∙ ap (all_put (answered_of ys)) f.boxes_are ∙ sym (all-put-append (answered_of xs) (answered_of ys) s.outboxes)
+          ∙ ap (λ l. all_put l s.outboxes) (sym (answered-append xs ys));
+    }

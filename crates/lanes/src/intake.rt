@@ -1,0 +1,103 @@
+//! Where the records of a lane's connections go.
+
+ghost use Rattle.std.specs.Prelude.{◌≡◌, Some};
+ghost use Rattle.workers.specs.shared_waiting.Passes.{known, IsOf};
+ghost use Rattle.workers.specs.Words.{layout_in, layout_known};
+
+use crate::due::Due;
+use affinity_tree::Layout;
+use connections::message::in_room;
+use connections::tcp_front::RecordSink;
+use engine_feed::OfferedCall;
+use nfs_values::{ConnectionNumber, Reply};
+use outboxes::Outboxes;
+use std::alloc::{AllocError, Global};
+use std::snapshot::Snapshot;
+use std::sync::Wait;
+use workers::shared_waiting::{Pass, SharedWaiting};
+use workers::{Envelope, Filer};
+
+/// The most room of the replies that are owed to one connection while it is read.
+pub(crate) const MOST_OWED: usize = 1_048_576;
+
+/// The queue and the outboxes of a lane. Its pass only admits.
+#[derive(Drop)]
+pub struct Intake<R> {
+    pub(crate) rt: R,
+    pub(crate) alloc: Global,
+    /// Whose messages the queue has.
+    pub(crate) filer: Snapshot<Filer>,
+    pub(crate) queue: SharedWaiting<Envelope, Layout>,
+    pub(crate) pass: Pass<Envelope, Layout>,
+    pub(crate) outboxes: Outboxes,
+    /// How many messages were admitted and not finished.
+    pub(crate) waiting: usize,
+    /// How many may be.
+    pub(crate) most: usize,
+    /// What is owed to the connection that is read.
+    pub(crate) owed: Due,
+    pub ghost of: { IsOf queue pass },
+    pub ghost layout: { layout_known (known pass) ≡ Some (layout_in filer.value) },
+}
+
+impl<R> Intake<R> {
+    ghost use Rattle.lanes.specs.Lanes.{owing_in};
+
+    /// So much is owed to the connection that is read.
+    pub(crate) fn set_owed(&mut self, owed: Due)
+        ensures { self.new ≡ owing_in owed self.old }
+    {
+        self.owed = owed;
+    }
+}
+
+impl<R: Wait> RecordSink for Intake<R> {
+    ghost use Rattle.lanes.specs.Intakes.{HasTakenIn, has_room_in};
+    ghost use Rattle.lanes.specs.lemmas.Coming.{taken_none, taken_more};
+
+    ghost came = { HasTakenIn };
+
+    ghost layout = { λ s. layout_in s.filer.value };
+
+    ghost room = { has_room_in };
+
+    fn has_room(&self) -> bool {
+        self.waiting < self.most && self.owed.room < MOST_OWED
+    }
+
+    fn admit(
+        &mut self,
+        message: affinity_tree::scheduler::Message<OfferedCall>,
+    ) -> Result<(), AllocError> {
+        let room = message.room;
+        let message = in_room(self.alloc, message)?;
+        match self.queue.admit(&self.rt, &mut self.pass, message) {
+            Ok(()) => {
+                self.waiting = self.waiting.saturating_add(1);
+                self.owed.add(room);
+                Ok(())
+            }
+            Err(message) => {
+                drop(message);
+                Err(AllocError)
+            }
+        }
+    }
+
+    fn answer(
+        &mut self,
+        connection: ConnectionNumber,
+        xid: u32,
+        reply: &Reply,
+    ) -> Result<(), AllocError> {
+        self.outboxes.put_at_once(connection, xid, reply)?;
+        self.owed.add(0);
+        Ok(())
+    }
+
+    fn wake(&mut self) {}
+
+    ghost came_none = { taken_none };
+
+    ghost came_more = { taken_more };
+}

@@ -1,0 +1,43 @@
+//! Lanes.
+
+ghost use Rattle.std.specs.Prelude.{◌≡◌, []};
+ghost use Rattle.slab.specs.Slab.{get};
+ghost use Rattle.std.specs.Arc.{arc_value};
+ghost use Rattle.workers.specs.shared_waiting.Passes.{known};
+ghost use Rattle.workers.specs.Words.{entries_in, layout_in, IsAt};
+ghost use Rattle.lanes.specs.Lanes.{HasBoth};
+ghost use Rattle.lanes.specs.Story.{Story};
+
+mod closing;
+mod looking;
+mod opening;
+mod parting;
+mod reading;
+mod tending;
+mod turning;
+mod writing;
+
+use crate::connection::Connection;
+use crate::device::Device;
+use crate::intake::Intake;
+pub use parting::LaneParts;
+use slab::Slab;
+use std::sync::Arc;
+use workers::{Filer, Worker};
+
+/// One thread's connections, with the queue of their calls, the worker that runs these, and the
+/// outboxes of the replies. Its type says what it has done in its whole life: what came of each
+/// connection's bytes, what ended, and which bytes went out.
+#[derive(Drop)]
+pub struct Lane<D: Device, R> {
+    pub(crate) filer: Arc<Filer>,
+    pub(crate) intake: Intake<R>,
+    pub(crate) worker: Worker,
+    pub(crate) connections: Slab<Connection<D>>,
+    pub ghost filer_is: { intake.filer.value ≡ arc_value filer },
+    pub ghost inside: { ∥ IsAt (arc_value filer) intake.queue worker ∥₁ },
+    pub ghost both: { HasBoth intake.pass worker },
+    pub ghost picked: { (known intake.pass).picked ≡ [] },
+    pub ghost story: { ∥ Story D.unread D.written (layout_in (arc_value filer)) (entries_in worker)
+        (known intake.pass).put intake.outboxes (get connections) ∥₁ },
+}

@@ -1,0 +1,98 @@
+//! A lane that begins, and connections that are opened.
+
+use crate::connection::Connection;
+use crate::device::Device;
+use crate::due::Due;
+use crate::intake::Intake;
+use crate::lane::Lane;
+use affinity_tree::Layout;
+use outboxes::Outboxes;
+use slab::Slab;
+use std::alloc::Global;
+use std::snapshot::Snapshot;
+use std::sync::Arc;
+use workers::shared_waiting::{Pass, SharedWaiting};
+use workers::{Envelope, Filer, Worker};
+
+/// How many messages all lanes hold together.
+const PLACES: usize = 1024;
+
+impl<D: Device, R> Lane<D, R> {
+    ghost use Rattle.std.specs.Prelude.{◌≡◌, ◌<◌, ◌≤◌, [], None, Some, IfOk, MatchResult};
+    ghost use Rattle.std.specs.Arc.{arc_value};
+    ghost use Rattle.outboxes.specs.Boxes.{AreOfLane};
+    ghost use Rattle.slab.specs.Slab.{get};
+    ghost use Rattle.workers.specs.shared_waiting.Passes.{known, IsOf};
+    ghost use Rattle.workers.specs.Words.{entries_in, layout_in, layout_known, IsAt};
+    ghost use Rattle.lanes.specs.Connections.{now_of};
+    ghost use Rattle.lanes.specs.Lanes.{HasBoth, Opens};
+
+    /// One of so many lanes of a filer, with a queue of its own: a pass that will only admit, and
+    /// a worker with the other pass. Neither has done anything.
+    pub fn new(
+        rt: R,
+        alloc: Global,
+        filer: Arc<Filer>,
+        queue: SharedWaiting<Envelope, Layout>,
+        pass: Pass<Envelope, Layout>,
+        worker: Worker,
+        lane: usize,
+        lanes: usize,
+    ) -> Lane<D, R>
+        requires lane { lane < lanes }
+        requires few { lanes ≤ 1024 }
+        requires of { IsOf queue pass }
+        requires layout { layout_known (known pass) ≡ Some (layout_in (arc_value filer)) }
+        requires inside { IsAt (arc_value filer) queue worker }
+        requires both { HasBoth pass worker }
+        requires nothing { ((known pass).put ≡ []) × ((known pass).picked ≡ [])
+            × (entries_in worker ≡ []) }
+        ensures filer { arc_value result.filer ≡ arc_value filer }
+        ensures worker { result.worker ≡ worker }
+        ensures numbers { AreOfLane lane lanes result.intake.outboxes }
+    {
+        Lane {
+            intake: Intake {
+                rt,
+                alloc,
+                filer: Snapshot::of(&*filer),
+                queue,
+                pass,
+                outboxes: Outboxes::of_lane(alloc, lane, lanes),
+                waiting: 0,
+                most: PLACES / lanes,
+                owed: Due::nothing(),
+            },
+            filer,
+            worker,
+            connections: Slab::new(alloc),
+        }
+    }
+
+    /// The key that the next connection gets.
+    pub fn next_key(&self) -> usize
+        ensures { result ≡ self.now.connections.vacant_key }
+    {
+        self.connections.vacant_key()
+    }
+
+    /// Opens a connection over a device, under the next key. The device comes back where there is
+    /// no memory, or where 64 connections are open.
+    pub fn open(&mut self, device: D) -> Result<usize, D>
+        ensures opens { Opens self.old.connections self.old.intake.outboxes device result
+            self.new.connections self.new.intake.outboxes }
+        ensures pass { known self.new.intake.pass ≡ known self.old.intake.pass }
+        ensures worker { self.new.worker ≡ self.old.worker }
+        ensures filer { arc_value self.new.filer ≡ arc_value self.old.filer }
+    {
+        if self.connections.reserve(1).is_err() {
+            return Err(device);
+        }
+        let number = match self.intake.outboxes.open() {
+            Ok(number) => number,
+            Err(_refused) => return Err(device),
+        };
+        let connection = Connection::new(self.intake.alloc, device, number);
+        Ok(self.connections.insert_reserved(connection))
+    }
+}

@@ -1,0 +1,71 @@
+//! Connections that are read.
+
+ghost use Rattle.std.specs.Prelude.{◌≡◌, ◌<◌, length};
+ghost use Rattle.affinity_tree.specs.Layout.{layout_of};
+ghost use Rattle.slab.specs.Slab.{get};
+ghost use Rattle.workers.specs.Words.{layout_in};
+ghost use Rattle.lanes.specs.Lanes.{ReadsOn, ReadsUnder};
+
+use crate::connection::Connection;
+use crate::device::Device;
+use crate::intake::Intake;
+use crate::lane::Lane;
+use crate::reading::Came;
+use affinity_tree::Layout;
+use slab::Slab;
+use std::sync::Wait;
+
+/// Goes on reading a connection, and keeps how much it is owed then.
+fn read_one<D: Device, R: Wait>(
+    connection: &mut Connection<D>,
+    intake: &mut Intake<R>,
+    layout: &Layout,
+    block: &mut [u8],
+) -> Came
+    requires some { 0 < length block.old }
+    requires layout { layout_in intake.old.filer.value ≡ layout_of layout.now }
+    ensures { ReadsOn D.unread D.written (layout_of layout.now) connection.old intake.old
+        (length block.old) result connection.new intake.new }
+{
+    intake.set_owed(connection.owed);
+    let came = connection.read(intake, layout, block);
+    connection.set_owed(intake.owed);
+    came
+}
+
+/// Goes on reading the connection of a key.
+fn read_under<D: Device, R: Wait>(
+    connections: &mut Slab<Connection<D>>,
+    key: usize,
+    intake: &mut Intake<R>,
+    layout: &Layout,
+    block: &mut [u8],
+) -> Came
+    requires some { 0 < length block.old }
+    requires layout { layout_in intake.old.filer.value ≡ layout_of layout.now }
+    ensures { ReadsUnder D.unread D.written (layout_of layout.now) connections.old key
+        (get connections.old key) intake.old (length block.old) result connections.new intake.new }
+{
+    match connections.get_mut(key) {
+        Some(connection) => read_one(connection, intake, layout, block),
+        None => Came::Stopped,
+    }
+}
+
+impl<D: Device, R: Wait> Lane<D, R> {
+    ghost use Rattle.std.specs.Arc.{arc_value};
+
+    /// Goes on reading the connection of a key (`Connection::read`): what its records come to is
+    /// admitted or answered. Where there is none, nothing is done, as where its reading stopped.
+    pub fn read(&mut self, key: usize, block: &mut [u8]) -> Came
+        requires { 0 < length block.old }
+        ensures read { ReadsUnder D.unread D.written (layout_in (arc_value self.old.filer))
+            self.old.connections key (get self.old.connections key) self.old.intake
+            (length block.old) result self.new.connections self.new.intake }
+        ensures worker { self.new.worker ≡ self.old.worker }
+        ensures filer { arc_value self.new.filer ≡ arc_value self.old.filer }
+    {
+        let layout = self.filer.depot().layout();
+        read_under(&mut self.connections, key, &mut self.intake, layout, block)
+    }
+}

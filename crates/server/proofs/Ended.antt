@@ -1,0 +1,39 @@
+-- A filer whose lanes have stopped is closed.
+use Rattle.std.proofs.Common.{◌≡◌, ℕ, List, sym, subst}
+use Rattle.depot.specs.Words.{view}
+use Rattle.depot.specs.rule.History.{entries_of}
+use Rattle.depot.specs.rule.Sums.{total}
+use Rattle.nfs_model.specs.Tree as trees
+use Rattle.parcel_sets.specs.Sets.{serial_parcels}
+use Rattle.lanes.specs.declared.device.Device as devices
+use Rattle.lanes.specs.declared.lane.Lane.{Lane}
+use Rattle.workers.specs.Balance.{FilerEntry, Weight}
+use Rattle.workers.specs.Words.{layout_in, verifier_in}
+use Rattle.workers.specs.declared.shared.Filer.{Filer}
+use Rattle.server.specs.declared.pool.ended.Ended.{Ended}
+use Rattle.server.specs.declared.pool.left.Left.{Left}
+use Rattle.server.specs.declared.socket.Socket.{Socket}
+use Rattle.server.specs.Ends.{HaveStopped, HasClosed}
+use Rattle.server.specs.Lanes.{admitted_by, finished_by}
+use Rattle.server.specs.pool.Ends.{HasEnded}
+use Rattle.server.specs.pool.Gathered.{calls_by, IsLeftOf}
+
+-- what closing it says, whatever was admitted and finished
+abbrev pub Closes : Left → Ended → Filer → Type 0
+Closes left ended filer = (admitted : Weight → ℕ) (finished : (FilerEntry → ℕ) → ℕ)
+    → ((weight : Weight) → admitted weight ≡ calls_by weight left)
+    → ((weight : FilerEntry → ℕ) → finished weight ≡ total weight (entries_of (view left.seat)))
+    → HasEnded (layout_in filer) (verifier_in filer) (serial_parcels (layout_in filer) trees.Serial ended.parcels) ended.hands.items
+    ended.kept.items ended.waiting.items admitted finished
+
+module _ {R : Type 0} {G : devices.Ghosts Socket} (filer there : Filer) (same : there ≡ filer) (lanes : List (Lane Socket R G)) (left : Left)
+    (stopped : HaveStopped filer lanes left) where
+  pub left-there : IsLeftOf there left
+  left-there = subst (λ (f : Filer). IsLeftOf f left) (sym same) stopped.leaves
+
+  pub all-closed : (ended : Ended) → Closes left ended there → HasClosed filer lanes ended
+  all-closed ended closes = record {
+    lanes_are = stopped.lanes_are;
+    closes = subst (λ (f : Filer). Closes left ended f) same closes (λ weight. total (admitted_by weight) lanes)
+        (λ weight. total (finished_by weight) lanes) stopped.calls stopped.entries;
+  }

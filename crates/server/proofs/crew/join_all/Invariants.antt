@@ -1,0 +1,19 @@
+use Rattle.std.proofs.Common.{◌≡◌, ◌≤◌, ◌+◌, ℕ, All, vec_len, vec_capacity}
+use Rattle.depot.specs.rule.Sums.{total}
+use Rattle.workers.specs.declared.shared.Filer.{Filer}
+use Rattle.server.specs.Lanes.{seats_of, IsLaneOf}
+use Rattle.server.specs.Threads.{seats_with, ServesFor}
+use Rattle.server.proofs.crew.join_all.Given as goal
+
+abbrev pub invariant-loop-thread : goal.invariant-loop-thread
+invariant-loop-thread g l = record {
+  room : vec_len l.lanes + vec_len l.threads ≤ vec_capacity l.lanes;
+  of : (filer : Filer) → All (ServesFor filer) l.fn.threads.items → All (IsLaneOf filer) l.fn.lanes.items
+      → All (ServesFor filer) l.threads.items × All (IsLaneOf filer) l.lanes.items;
+  len : vec_len l.lanes + vec_len l.threads ≡ vec_len l.fn.lanes + vec_len l.fn.threads;
+  seats : total seats_of l.lanes.items + total seats_with l.threads.items
+      ≡ total seats_of l.fn.lanes.items + total seats_with l.fn.threads.items;
+}
+
+abbrev pub decreases-loop-thread : goal.decreases-loop-thread
+decreases-loop-thread g l = l.threads.len

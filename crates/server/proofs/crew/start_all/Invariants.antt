@@ -1,0 +1,18 @@
+use Rattle.std.proofs.Common.{◌≡◌, ◌≤◌, ◌+◌, ℕ, All, vec_len, vec_capacity}
+use Rattle.depot.specs.rule.Sums.{total}
+use Rattle.workers.specs.declared.shared.Filer.{Filer}
+use Rattle.server.specs.Threads.{seats_for, seats_with, IsTaskFor, ServesFor}
+use Rattle.server.proofs.crew.start_all.Given as goal
+
+abbrev pub invariant-loop-task : goal.invariant-loop-task
+invariant-loop-task g l = record {
+  room : vec_len l.threads + vec_len l.tasks ≤ vec_capacity l.threads;
+  serve : (filer : Filer) → All (IsTaskFor filer) l.fn.tasks.items → All (ServesFor filer) l.fn.threads.items
+      → All (IsTaskFor filer) l.tasks.items × All (ServesFor filer) l.threads.items;
+  len : vec_len l.threads + vec_len l.tasks ≡ vec_len l.fn.threads + vec_len l.fn.tasks;
+  seats : total seats_with l.threads.items + total seats_for l.tasks.items
+      ≡ total seats_with l.fn.threads.items + total seats_for l.fn.tasks.items;
+}
+
+abbrev pub decreases-loop-task : goal.decreases-loop-task
+decreases-loop-task g l = l.tasks.len

@@ -1,0 +1,40 @@
+use Rattle.std.proofs.Common.{◌+◌, ap, ◌∙◌, subst, sym}
+use Rattle.depot.specs.Words.{view, IsSeatHere}
+use Rattle.depot.specs.rule.History.{entries_of}
+use Rattle.depot.specs.rule.Sums.{total}
+use Rattle.parcels.specs.state.Jobs.{batches_in}
+use Rattle.workers.specs.Balance.{by_key}
+use Rattle.workers.specs.shared_waiting.Passes.{known}
+use Rattle.server.specs.Remains.{calls_in}
+use Rattle.server.proofs.Remaining.{calls-both}
+use Rattle.server.proofs.pool.Joins.{hands-both, none-both}
+use Rattle.server.proofs.gathering.join.Goals as goal
+
+pub join_seat-requires-clause-first : goal.join_seat-requires-clause-first
+join_seat-requires-clause-first g c =
+    subst (λ d. IsSeatHere d c.args.remains.seat) (sym c.depot.ensures) c.requires.inside.seat
+
+pub invariant_of-result : goal.invariant_of-result
+invariant_of-result g c =
+    let x = c.args.remains in
+    let p = c.into_parts-other.result in
+    let settled = c.into_parts-other.ensures.settled in
+    let v = view x.seat in
+    let u = view p.seat in
+    let w = view c.join_seat.result in
+    record {
+      in_hand = hands-both (entries_of v) (entries_of u) (entries_of w) x.hands.items (batches_in p.hand) c.push_batch.new.hands.items
+          c.join_seat.ensures.entries c.push_batch.ensures.items x.in_hand settled.in_hand;
+      none_open = none-both v u w x.none_open settled.none_open c.join_seat.ensures.no_other;
+    }
+
+pub returns-clause-calls : goal.returns-clause-calls
+returns-clause-calls g c weight =
+    let x = c.args.remains in
+    let p = c.into_parts-worker.result in
+    let w = c.into_parts-other.result in
+    calls-both weight (known p.pass) (known w.pass) (known c.join_pass.result) (entries_of (view x.seat)) (entries_of (view w.seat))
+    (entries_of (view c.join_seat.result)) w.kept x.kept.items c.push_kept.new.messages.items x.waiting.items c.drain_behind-waiting.result.items
+    c.into_parts-worker.ensures.picked c.join_pass.ensures.both c.into_parts-other.ensures.settled.balance c.push_kept.ensures.items
+    c.join_seat.ensures.entries (c.drain_behind-waiting.ensures.all (by_key weight))
+    ∙ ap (λ q. calls_in weight x + total (by_key weight) (known q).put) c.into_parts-worker.ensures.pass

@@ -1,0 +1,92 @@
+use Rattle.std.proofs.Common.{◌≡◌, ◌∙◌, ap, arith, subst, sym}
+use Rattle.std.specs.Arc.{arc_value}
+use Rattle.depot.specs.Words.{IsSeatHere}
+use Rattle.workers.specs.declared.shared.Filer.{Filer}
+use Rattle.workers.specs.declared.worker.Worker.{Worker}
+use Rattle.workers.specs.shared_waiting.Balance.{both, IsWhole}
+use Rattle.workers.specs.shared_waiting.Passes.{known}
+use Rattle.workers.specs.Balance.{Passed}
+use Rattle.workers.specs.Words.{seats_in, IsAt}
+use Rattle.server.specs.Lanes.{seats_of, IsLaneOf}
+use Rattle.server.specs.Queues.{IsNewQueue}
+use Rattle.server.proofs.pool.Handed.{all-pushed}
+use Rattle.server.proofs.pool.Lists.{total-last}
+use Rattle.server.proofs.opening.open_lanes.Goals as goal
+
+pub start-worker-requires-clause-seat : goal.start-worker-requires-clause-seat
+start-worker-requires-clause-seat g c =
+    subst (λ (f : Filer). IsSeatHere f.depot c.in_ok-filer.seat) (sym (c.deref-2.ensures ∙ c.in_ok-filer-2.ensures.ok)) c.in_ok-filer.ensures.seat
+
+pub open_lane-requires-clause-ready : goal.open_lane-requires-clause-ready
+open_lane-requires-clause-ready g c =
+    let q = c.in_ok-theirs.field-0 in
+    let s = c.split_with-first.ensures in
+    let new = subst (λ (f : Filer). IsNewQueue f q) c.deref-in-loop-index.ensures c.in_ok-theirs.ensures in
+    record {
+      new = new.admits;
+      inside = subst (λ (f : Filer). IsAt f q.queue c.split_with-first.result.1) c.deref-in-loop-index-2.ensures s.second;
+      both = subst (λ (v : Passed). IsWhole (both (known q.admits) v) × ((known q.admits).key ≡ v.key)) (sym s.passes.1) (new.whole, new.key);
+      none = s.entries.1;
+    }
+
+pub open_lane-requires-2-clause-ready : goal.open_lane-requires-2-clause-ready
+open_lane-requires-2-clause-ready g c =
+    let q = c.in_ok-queue.field-0 in
+    let i = c.loop-index.invariant in
+    record {
+      new = (subst (λ (f : Filer). IsNewQueue f q) c.deref.ensures c.in_ok-queue.ensures).admits;
+      inside = i.inside;
+      both = i.both;
+      none = i.none;
+    }
+
+pub loop-index-preserved : goal.loop-index-preserved
+loop-index-preserved g c =
+    let i = c.loop-index.invariant in
+    let filer = arc_value c.in_ok-filer-2.filer in
+    let s = c.split_with-first.ensures in
+    let x = c.in_ok-lane.lane in
+    let xs = c.loop-index.lanes.items in
+    let ys = c.push_reserved.new.self.items in
+    let is = c.push_reserved.ensures.items in
+    let n = c.push_reserved.ensures.len in
+    record {
+      inside = subst (λ (f : Filer). IsAt f c.in_ok-queue.field-0.queue c.split_with-first.result.0) c.deref-in-loop-index-2.ensures s.first;
+      both = subst (λ (v : Passed). IsWhole (both (known c.in_ok-queue.field-0.admits) v) × ((known c.in_ok-queue.field-0.admits).key ≡ v.key))
+          (sym s.passes.0) i.both;
+      none = s.entries.0 ∙ i.none;
+      of = all-pushed (IsLaneOf filer) xs ys x is i.of c.in_ok-lane.ensures.of;
+      len = let a = i.len in omega (arith, n, a);
+      room = c.push_reserved.ensures.capacity ∙ i.room;
+      left = let a = i.left in let b = s.seats.0 in omega (arith, n, a, b);
+      seats =
+          let a = total-last seats_of ys xs x is in
+          let b = s.seats.0 in
+          let d = s.seats.1 in
+          let e = ap (λ (w : Worker). seats_in w) c.in_ok-lane.ensures.worker in
+          let k = i.seats in
+          omega (arith, a, b, d, e, k);
+    }
+
+pub returns-clause-lanes : goal.returns-clause-lanes
+returns-clause-lanes g c =
+    let i = c.loop-index.invariant in
+    let x = c.in_ok-lane-2.lane in
+    let xs = c.loop-index.lanes.items in
+    let ys = c.push_reserved-2.new.self.items in
+    let is = c.push_reserved-2.ensures.items in
+    record {
+      of = all-pushed (IsLaneOf (arc_value c.in_ok-filer-2.filer)) xs ys x is i.of c.in_ok-lane-2.ensures.of;
+      seats =
+          let a = total-last seats_of ys xs x is in
+          let e = ap (λ (w : Worker). seats_in w) c.in_ok-lane-2.ensures.worker in
+          let k = i.seats in
+          omega (arith, a, e, k);
+    }
+
+pub returns-clause-count : goal.returns-clause-count
+returns-clause-count g c =
+    let n = c.push_reserved-2.ensures.len in
+    let a = c.loop-index.invariant.len in
+    let t = c.loop-index-test.false in
+    omega (arith, n, a, t)

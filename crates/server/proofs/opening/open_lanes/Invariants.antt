@@ -1,0 +1,19 @@
+use Rattle.std.proofs.Common.{◌≡◌, ◌≤◌, ◌+◌, ℕ, [], All, vec_len, vec_capacity}
+use Rattle.std.specs.Arc.{arc_value}
+use Rattle.depot.specs.rule.Sums.{total}
+use Rattle.lanes.specs.Lanes.{HasBoth}
+use Rattle.workers.specs.Words.{entries_in, seats_in, IsAt}
+use Rattle.server.specs.Lanes.{seats_of, IsLaneOf}
+use Rattle.server.proofs.opening.open_lanes.Given as goal
+
+abbrev pub invariant-loop-index : goal.invariant-loop-index
+invariant-loop-index g l = record {
+  inside : IsAt (arc_value l.filer) l.queue l.worker;
+  both : HasBoth l.admits l.worker;
+  none : entries_in l.worker ≡ [];
+  of : All (IsLaneOf (arc_value l.filer)) l.lanes.items;
+  len : vec_len l.lanes + 1 ≡ l.index;
+  room : vec_capacity l.lanes ≡ vec_capacity l.fn.lanes;
+  left : seats_in l.worker + vec_len l.lanes ≡ 64;
+  seats : seats_in l.worker + total seats_of l.lanes.items ≡ 64;
+}

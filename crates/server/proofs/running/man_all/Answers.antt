@@ -1,0 +1,56 @@
+use Rattle.std.proofs.Common.{rules, ap, ◌∙◌, refl, arith}
+use Rattle.depot.specs.rule.Sums.{total}
+use Rattle.server.specs.Lanes.{seats_of, IsLaneOf}
+use Rattle.server.specs.Threads.{seats_for, IsTaskFor}
+use Rattle.server.proofs.pool.Handed.{handed, all-pushed, all-popped}
+use Rattle.server.proofs.pool.Lists.{none-left}
+use Rattle.server.proofs.running.man_all.Goals as goal
+
+pub loop-lane-preserved : goal.loop-lane-preserved
+loop-lane-preserved g c =
+    let i = c.loop-lane.invariant in
+    let x = c.in-Some.lane in
+    let all = c.loop-lane.lanes.items in
+    let rest = c.pop.new.self.items in
+    let ts = c.loop-lane.tasks.items in
+    let us = c.push_reserved-in-Some.new.self.items in
+    let was = c.in-Some.ensures.items in
+    let is = c.push_reserved-in-Some.ensures.items in
+    let a = c.push_reserved-in-Some.ensures.len in
+    let b = c.push_reserved-in-Some.ensures.capacity in
+    let d = c.push_reserved.ensures.len in
+    let e = c.push_reserved.ensures.capacity in
+    let l = c.in-Some.ensures.len in
+    let m = c.in-Some.ensures.capacity in
+    let r = i.task_room in
+    let q = i.box_room in
+    let n = i.len in
+    record {
+      task_room = omega (arith, a, b, l, r);
+      box_room = omega (arith, d, e, l, q);
+      room = m ∙ i.room;
+      len = omega (arith, a, l, n);
+      of = λ filer lanes tasks.
+          let both = i.of filer lanes tasks in
+          let popped = all-popped (IsLaneOf filer) all rest x was both.0 in
+          (popped.0, all-pushed (IsTaskFor filer) ts us _ is both.1 popped.1);
+      seats = handed seats_for seats_of ts us all rest _ x is was refl ∙ i.seats;
+    }
+
+pub returns-in_err-ends-clause-of : goal.returns-in_err-ends-clause-of
+returns-in_err-ends-clause-of g c filer lanes tasks = (c.loop-lane.invariant.of filer lanes tasks).1
+
+pub returns-in-Err-clause-of : goal.returns-in-Err-clause-of
+returns-in-Err-clause-of g c filer lanes tasks = (c.loop-lane.invariant.of filer lanes tasks).1
+
+pub returns-in_err-try_clone-clause-of : goal.returns-in_err-try_clone-clause-of
+returns-in_err-try_clone-clause-of g c filer lanes tasks = (c.loop-lane.invariant.of filer lanes tasks).1
+
+pub returns-clause-of : goal.returns-clause-of
+returns-clause-of g c filer lanes tasks = (c.loop-lane.invariant.of filer lanes tasks).1
+
+pub returns-clause-seats : goal.returns-clause-seats
+returns-clause-seats g c =
+    let none = ap (total seats_of) (none-left c.loop-lane.lanes.items (let z = c.in_default.ensures.cases.0 in let o = c.loop-lane.lanes.ok.0 in omega (arith, z, o))) in
+    let s = c.loop-lane.invariant.seats in
+    omega (arith, none, s)

@@ -1,0 +1,21 @@
+use Rattle.std.proofs.Common.{◌≡◌, ◌≤◌, ◌+◌, ℕ, All, vec_len, vec_capacity}
+use Rattle.depot.specs.rule.Sums.{total}
+use Rattle.workers.specs.declared.shared.Filer.{Filer}
+use Rattle.server.specs.Lanes.{seats_of, IsLaneOf}
+use Rattle.server.specs.Threads.{seats_for, IsTaskFor}
+use Rattle.server.proofs.running.man_all.Given as goal
+
+abbrev pub invariant-loop-lane : goal.invariant-loop-lane
+invariant-loop-lane g l = record {
+  task_room : vec_len l.tasks + vec_len l.lanes ≤ vec_capacity l.tasks;
+  box_room : vec_len l.boxes + vec_len l.lanes ≤ vec_capacity l.boxes;
+  room : vec_capacity l.lanes ≡ vec_capacity l.fn.lanes;
+  len : vec_len l.tasks + vec_len l.lanes ≡ vec_len l.fn.tasks + vec_len l.fn.lanes;
+  of : (filer : Filer) → All (IsLaneOf filer) l.fn.lanes.items → All (IsTaskFor filer) l.fn.tasks.items
+      → All (IsLaneOf filer) l.lanes.items × All (IsTaskFor filer) l.tasks.items;
+  seats : total seats_for l.tasks.items + total seats_of l.lanes.items
+      ≡ total seats_for l.fn.tasks.items + total seats_of l.fn.lanes.items;
+}
+
+abbrev pub decreases-loop-lane : goal.decreases-loop-lane
+decreases-loop-lane g l = l.lanes.len

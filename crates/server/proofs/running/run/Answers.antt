@@ -1,0 +1,28 @@
+use Rattle.std.proofs.Common.{ap, arith, length}
+use Rattle.std.specs.Arc.{arc_value}
+use Rattle.server.proofs.Started.{lanes-back}
+use Rattle.server.proofs.running.run.Goals as goal
+
+pub join_all-lanes-requires : goal.join_all-lanes-requires
+join_all-lanes-requires g c =
+    let none = ap (λ xs. length xs) c.args.running.none_back in
+    let n = c.args.running.lanes.ok.0 in
+    let w = c.args.running.wide.0 in
+    omega (arith, none, n, w)
+
+pub end-requires-clause-lanes : goal.end-requires-clause-lanes
+end-requires-clause-lanes g c =
+    let filer = arc_value c.args.running.filer in
+    lanes-back filer c.args.running.threads.items c.args.running.lanes.items c.join_all-lanes.result.items c.requires c.args.running.none_back
+    (c.join_all-lanes.ensures.of filer) c.join_all-lanes.ensures.seats
+
+pub end-requires-clause-room : goal.end-requires-clause-room
+end-requires-clause-room g c =
+    let none = ap (λ xs. length xs) c.args.running.none_back in
+    let n = c.args.running.lanes.ok.0 in
+    let l = c.join_all-lanes.ensures.len in
+    let w = c.args.running.wide.1 in
+    omega (arith, none, n, l, w)
+
+pub returns-in-Ok : goal.returns-in-Ok
+returns-in-Ok g c = (c.join_all-lanes.result.items, c.end.ensures)

@@ -1,0 +1,71 @@
+//! The threads of a filer's lanes.
+
+ghost use Rattle.std.specs.Prelude.{◌≡◌, ◌≤◌, ◌+◌, All, true, vec_len, vec_capacity};
+ghost use Rattle.depot.specs.rule.Sums.{total};
+ghost use Rattle.server.specs.Lanes.{seats_of, IsLaneOf};
+ghost use Rattle.server.specs.Threads.{seats_for, seats_with, IsTaskFor, ServesFor};
+ghost use Rattle.workers.specs.declared.shared.Filer.{Filer};
+
+use crate::ends::Ends;
+use crate::mailbox::Mailbox;
+use crate::socket::Socket;
+use crate::task::{Task, Thread, start_one};
+use lanes::Lane;
+use std::rt::Clock;
+use std::sync::{Arc, Wait};
+use std::thread::Threads;
+
+/// What is left for the lanes of a filer, and what they count.
+#[derive(Drop)]
+pub(crate) struct Mail {
+    pub(crate) boxes: Vec<Arc<Mailbox>>,
+    pub(crate) ends: Arc<Ends>,
+}
+
+impl Mail {
+    /// Tells all lanes to stop.
+    pub(crate) fn stop(&self) {
+        for mailbox in self.boxes.iter() {
+            mailbox.stop();
+        }
+    }
+}
+
+/// Starts a thread for each of these lanes. Answers whether all were started.
+pub(crate) fn start_all<R>(rt: R, tasks: &mut Vec<Task<R>>, threads: &mut Vec<Thread<R>>) -> bool
+where
+    R: Threads + Wait + Clock + Copy + Drop + Send + 'static,
+    requires { vec_len threads.old + vec_len tasks.old ≤ vec_capacity threads.old }
+    ensures serve { (filer : Filer) → All (IsTaskFor filer) tasks.old.items
+        → All (ServesFor filer) threads.old.items → All (ServesFor filer) threads.new.items }
+    ensures seats { result ≡ true → total seats_with threads.new.items
+        ≡ total seats_with threads.old.items + total seats_for tasks.old.items }
+    ensures len { vec_len threads.new ≤ vec_len threads.old + vec_len tasks.old }
+{
+    while let Some(task) = tasks.pop() {
+        match start_one(rt, task) {
+            Ok(thread) => threads.push_reserved(thread),
+            Err(()) => return false,
+        }
+    }
+    true
+}
+
+/// Waits for the ends of threads, and puts the lanes that they give back behind others.
+pub(crate) fn join_all<R: Threads + Drop>(
+    rt: &R,
+    mut threads: Vec<Thread<R>>,
+    mut lanes: Vec<Lane<Socket, R>>,
+) -> Vec<Lane<Socket, R>>
+    requires { vec_len lanes + vec_len threads ≤ vec_capacity lanes }
+    ensures of { (filer : Filer) → All (ServesFor filer) threads.items
+        → All (IsLaneOf filer) lanes.items → All (IsLaneOf filer) result.items }
+    ensures len { vec_len result ≡ vec_len lanes + vec_len threads }
+    ensures seats { total seats_of result.items
+        ≡ total seats_of lanes.items + total seats_with threads.items }
+{
+    while let Some(thread) = threads.pop() {
+        lanes.push_reserved(thread.join(rt));
+    }
+    lanes
+}

@@ -1,0 +1,93 @@
+//! What a lane's thread keeps between its rounds: when it tends, and how long it waits.
+
+ghost use Rattle.std.specs.Prelude.{◌<◌};
+
+use crate::patience::Patience;
+use crate::pool::{Tending, share_millisecond};
+use nfs_values::Moment;
+use outboxes::bells::time_now;
+use std::rt::Clock;
+
+/// How often in a row a call may move before the lane waits as for what another has.
+const MOST_MOVES: u32 = 2;
+
+/// What a lane's thread keeps between its rounds.
+pub(crate) struct Pace {
+    pub(crate) tending: Tending,
+    pub(crate) patience: Patience,
+    /// How many turns in a row came to a move.
+    moves: u32,
+    /// Whether a call may have been finished since tends were last begun anew.
+    pub(crate) is_untended: bool,
+    /// When that was.
+    begun: Moment,
+    /// When the round began.
+    last: Moment,
+    ghost last_is: { last.nanoseconds < 1000000000 },
+}
+
+// By hand, as those of what is in it.
+impl Drop for Pace {
+    fn drop(self) {
+        let Pace {
+            tending: _,
+            patience: _,
+            moves: _,
+            is_untended: _,
+            begun: _,
+            last: _,
+        } = self;
+    }
+}
+
+impl Pace {
+    /// Before the first round.
+    pub(crate) fn new() -> Pace {
+        Pace {
+            tending: Tending::new(),
+            patience: Patience::new(),
+            moves: 0,
+            is_untended: false,
+            begun: Moment::START,
+            last: Moment::START,
+        }
+    }
+
+    /// The time at which a round begins.
+    pub(crate) fn time<R: Clock>(&mut self, rt: &R) -> Moment
+        ensures { result.nanoseconds < 1000000000 }
+    {
+        self.last = time_now(rt, self.last);
+        self.last
+    }
+
+    /// Begins to tend anew where a call was finished since, but once in a millisecond only.
+    pub(crate) fn begin_if_due(&mut self) {
+        if self.is_untended && !share_millisecond(self.begun, self.last) {
+            self.is_untended = false;
+            self.begun = self.last;
+            self.tending.begin_anew();
+        }
+    }
+
+    /// A call was finished.
+    pub(crate) fn finish(&mut self) {
+        self.is_untended = true;
+        self.moves = 0;
+        self.patience = Patience::new();
+    }
+
+    /// A call was refused what another has: whether to try at once again.
+    pub(crate) fn refuse(&mut self) -> bool {
+        self.patience.pause()
+    }
+
+    /// A call has to run elsewhere: whether to try at once there.
+    pub(crate) fn move_on(&mut self) -> bool {
+        if self.moves < MOST_MOVES {
+            self.moves += 1;
+            return true;
+        }
+        self.patience.pause()
+    }
+}

@@ -1,0 +1,131 @@
+//! A round of a lane's thread.
+
+ghost use Rattle.std.specs.Prelude.{IfNone};
+ghost use Rattle.server.specs.Lanes.{IsAtRest, Stays};
+
+use crate::hearing::hear;
+use crate::pace::Pace;
+use crate::socket::Socket;
+use crate::station::Station;
+use crate::tends::{may_rest, put_down, tend};
+use crate::visits::{any_is_due, close_ended, open, read_all, write_all};
+use lanes::Lane;
+use nfs_values::Moment;
+use std::rt::Clock;
+use std::sync::Wait;
+use std::time::Duration;
+use workers::{Unwatched, Worked};
+
+/// The most turns of a round.
+const MOST_TURNS: usize = 64;
+
+/// How long a lane waits until it tends again where calls were finished, in milliseconds.
+const UNTENDED: u64 = 1;
+
+/// How long it waits until it tries again to put down what is in its hand, for which there was no
+/// memory, in milliseconds.
+const STARVED: u64 = 100;
+
+/// How long the next poll waits: not at all where there is something to do, and without an end
+/// only after tends over all volumes and ranges moved nothing, with nothing in the hand.
+fn longest_wait<R>(lane: &Lane<Socket, R>, station: &mut Station) -> Option<Duration>
+    ensures { IfNone result (IsAtRest lane.now station.old.pace.tending) }
+{
+    let pace = &mut station.pace;
+    if station.is_writing || lane.waiting() > 0 {
+        return Some(Duration::ZERO);
+    }
+    if !may_rest(lane, pace) || any_is_due(lane, station.keys) {
+        return Some(Duration::ZERO);
+    }
+    if !lane.worker().has_empty_hand() {
+        pace.is_untended = true;
+        return Some(Duration::from_millis(STARVED));
+    }
+    if pace.is_untended {
+        return Some(Duration::from_millis(UNTENDED));
+    }
+    None
+}
+
+/// Waits until something is to be done, and notes what is told of the sockets.
+fn wait<R: Wait + Clock>(rt: &R, lane: &mut Lane<Socket, R>, station: &mut Station)
+    ensures { Stays lane.old lane.new }
+{
+    let longest = longest_wait(lane, station);
+    match station.poll.poll(&mut station.events, longest) {
+        Ok(()) => {
+            for event in &station.events {
+                hear(lane, event);
+            }
+        }
+        // It isn't known of any reason. The lane goes on as if nothing was told.
+        Err(_failed) => rt.sleep(Duration::from_millis(UNTENDED)),
+    }
+}
+
+/// Opens connections of the streams that were left, if some were.
+fn take_mail<R: Wait>(rt: &R, lane: &mut Lane<Socket, R>, station: &mut Station)
+    ensures { Stays lane.old lane.new }
+{
+    let left = station.mailbox.left();
+    if left == station.seen {
+        return;
+    }
+    station.seen = left;
+    station.mailbox.take(rt, &mut station.mail);
+    while let Some(stream) = station.mail.pop() {
+        let registry = station.poll.registry();
+        open(lane, &mut station.keys, registry, &station.ends, stream);
+    }
+}
+
+/// Makes turns until no message waits, or 64. Answers whether the last found none.
+fn run_calls<R: Wait>(lane: &mut Lane<Socket, R>, pace: &mut Pace, moment: Moment) -> bool
+    ensures { Stays lane.old lane.new }
+{
+    for _ in 0..MOST_TURNS {
+        if lane.waiting() == 0 && may_rest(lane, pace) {
+            return false;
+        }
+        let goes_on = match lane.turn(&Unwatched, moment) {
+            Worked::Done(_connection) => {
+                pace.finish();
+                true
+            }
+            Worked::Moved => {
+                put_down(lane, pace);
+                pace.move_on()
+            }
+            Worked::Busy { node: _, word: _ } => pace.refuse(),
+            Worked::Worn => pace.refuse(),
+            Worked::Idle => return true,
+        };
+        if !goes_on {
+            return false;
+        }
+    }
+    false
+}
+
+/// A round: what the sockets tell and what was left is taken, each connection is read once, calls
+/// are run, each connection's replies are written once, and then the lane tends once if no message
+/// waits.
+pub(crate) fn round<R: Wait + Clock>(rt: &R, lane: &mut Lane<Socket, R>, station: &mut Station)
+    ensures { Stays lane.old lane.new }
+{
+    wait(rt, lane, station);
+    station.pace.patience.give_way(rt);
+    take_mail(rt, lane, station);
+    read_all(lane, &mut station.keys, &mut station.buffers);
+    let moment = station.pace.time(rt);
+    station.pace.begin_if_due();
+    let is_idle = run_calls(lane, &mut station.pace, moment);
+    station.is_writing = write_all(lane, station.keys, &mut station.buffers);
+    close_ended(lane, station.keys, &station.ends);
+    if is_idle {
+        tend(lane, &mut station.pace);
+    } else {
+        put_down(lane, &mut station.pace);
+    }
+}

@@ -1,0 +1,110 @@
+//! What a lane's thread has beside its lane.
+
+ghost use Rattle.std.specs.Prelude.{◌<◌, length};
+
+use crate::ends::Ends;
+use crate::keys::Keys;
+use crate::mailbox::Mailbox;
+use crate::pace::Pace;
+use crate::pool::StartRefusal;
+use mio::{Events, Poll};
+use std::alloc::{AllocError, Global};
+use std::net::{Net, TcpStream};
+use std::sync::Arc;
+
+/// The most bytes of one read, and of one write of replies that are joined.
+const BLOCK: usize = 262_144;
+
+/// The most events that one poll gives.
+const EVENTS: usize = 128;
+
+/// The most streams that a thread takes from its mailbox without memory.
+const STREAMS: usize = 64;
+
+/// What a lane reads into, and what it joins replies in.
+#[derive(Drop)]
+pub(crate) struct Buffers {
+    pub(crate) block: Vec<u8>,
+    pub(crate) buffer: Vec<u8>,
+    ghost some: { 0 < length block.items },
+}
+
+impl Buffers {
+    /// 256 KiB of each.
+    fn new(alloc: Global) -> Result<Buffers, AllocError> {
+        Ok(Buffers {
+            block: vec![in alloc; 0; BLOCK]?,
+            buffer: Vec::with_capacity(alloc, BLOCK)?,
+        })
+    }
+}
+
+/// What a lane's thread has beside its lane: what it waits by, what is left for it, and what it
+/// keeps between its rounds.
+pub(crate) struct Station {
+    pub(crate) poll: Poll,
+    pub(crate) events: Events,
+    pub(crate) mailbox: Arc<Mailbox>,
+    pub(crate) ends: Arc<Ends>,
+    pub(crate) keys: Keys,
+    pub(crate) buffers: Buffers,
+    pub(crate) pace: Pace,
+    /// Room for the streams of the mailbox.
+    pub(crate) mail: Vec<TcpStream>,
+    /// How often a stream had been left when the mailbox was last emptied.
+    pub(crate) seen: u64,
+    /// Whether there may be replies that weren't written, though the socket has room.
+    pub(crate) is_writing: bool,
+}
+
+// By hand, so that crates above have no proof of the drop of each of its parts.
+impl Drop for Station {
+    fn drop(self) {
+        let Station {
+            poll: _,
+            events: _,
+            mailbox: _,
+            ends: _,
+            keys: _,
+            buffers: _,
+            pace: _,
+            mail: _,
+            seen: _,
+            is_writing: _,
+        } = self;
+    }
+}
+
+impl From<AllocError> for StartRefusal {
+    fn from(_refused: AllocError) -> StartRefusal {
+        StartRefusal::NoMemory
+    }
+}
+
+impl Station {
+    /// A station whose connections' ends are counted there.
+    pub(crate) fn new(
+        alloc: Global,
+        net: &impl Net,
+        ends: Arc<Ends>,
+    ) -> Result<Station, StartRefusal> {
+        let Ok(poll) = Poll::new(net) else {
+            return Err(StartRefusal::NoThread);
+        };
+        let Ok(mailbox) = Arc::new(alloc, Mailbox::new(alloc, &poll)?) else {
+            return Err(StartRefusal::NoMemory);
+        };
+        Ok(Station {
+            poll,
+            events: Events::with_capacity(alloc, EVENTS)?,
+            mailbox,
+            ends,
+            keys: Keys::new(),
+            buffers: Buffers::new(alloc)?,
+            pace: Pace::new(),
+            mail: Vec::with_capacity(alloc, STREAMS)?,
+            seen: 0,
+            is_writing: false,
+        })
+    }
+}

@@ -1,0 +1,40 @@
+//! What a lane does without a message.
+
+ghost use Rattle.std.specs.Prelude.{◌≡◌};
+ghost use Rattle.server.specs.Lanes.{filer_of, Stays};
+ghost use Rattle.server.specs.declared.pool.tending.Found as found;
+ghost use Rattle.server.specs.pool.Rests.{may_sleep, HasTended};
+ghost use Rattle.workers.specs.Words.{layout_in};
+
+use crate::pace::Pace;
+use crate::pool::{Found, found_by};
+use crate::socket::Socket;
+use lanes::Lane;
+
+/// Makes the next tend of a lane, and counts it.
+pub(crate) fn tend<R>(lane: &mut Lane<Socket, R>, pace: &mut Pace)
+    ensures stays { Stays lane.old lane.new }
+    ensures tended { (what : found.Found) × HasTended (layout_in (filer_of lane.old))
+        lane.old.worker pace.old.tending what lane.new.worker pace.new.tending }
+{
+    let empty = lane.worker().has_empty_hand();
+    let next = lane.worker().next_tend(lane.filer(), pace.tending.made);
+    let found = found_by(lane.tend(next));
+    pace.tending.count(empty, found);
+}
+
+/// Puts down what is in the lane's hand, if anything is.
+pub(crate) fn put_down<R>(lane: &mut Lane<Socket, R>, pace: &mut Pace)
+    ensures { Stays lane.old lane.new }
+{
+    if !lane.worker().has_empty_hand() {
+        tend(lane, pace);
+    }
+}
+
+/// Whether tends over all volumes and ranges moved nothing, so that a lane makes none.
+pub(crate) fn may_rest<R>(lane: &Lane<Socket, R>, pace: &Pace) -> bool
+    ensures { result ≡ may_sleep (layout_in (filer_of lane.now)) lane.now.worker pace.now.tending }
+{
+    pace.tending.may_sleep(lane.filer(), lane.worker())
+}
