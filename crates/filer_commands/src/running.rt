@@ -6,6 +6,7 @@ use crate::choice::Command;
 use crate::replay::{ProgramFault, print_fault, replay};
 use crate::words::command;
 use server::{Options, ServerFault, serve};
+use std::alloc::{AllocError, Global};
 use std::convert::AsStr;
 use std::fs::File;
 use std::io::Write;
@@ -37,6 +38,17 @@ fn run_script<R: Files + AllocGlobal, W: Write>(
     Ok(replay(rt.alloc(), &mut file, out))
 }
 
+/// How much memory a server takes and gives back as it starts.
+const KEPT: usize = 25_165_824;
+
+/// Takes memory and gives it back. From then on the C library's allocator keeps twice as much of
+/// what is free, where it would give it back to the system after each burst of long replies and
+/// ask for it again. Where there is no memory nothing is done.
+fn keep_freed_memory(alloc: Global) {
+    let room: Result<Vec<u8>, AllocError> = Vec::with_capacity(alloc, KEPT);
+    drop(room);
+}
+
 /// Listens, and serves.
 fn run_server<R, W>(rt: R, options: &Options, out: &mut W) -> Result<u8, ProgramFault>
 where
@@ -49,6 +61,7 @@ where
         Ok(listener) => listener,
         Err(_failed) => return Err(ProgramFault::Listen),
     };
+    keep_freed_memory(rt.alloc());
     match serve(rt, rt.alloc(), &listener, options, out) {
         Ok(()) => Ok(0),
         Err(fault) => Err(of_server(fault)),
