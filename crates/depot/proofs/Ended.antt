@@ -39,7 +39,7 @@ all-some : {T : Type 0} (y : Option T) (Q : T → Type 0) → ((p : T) → y ≡
 all-some None Q h = tt
 all-some (Some p) Q h = h p refl
 
-set-again : {T : Type 0} (xs : List T) (i : ℕ) (x y : T) → set (set xs i x) i y ≡ set xs i y
+pub set-again : {T : Type 0} (xs : List T) (i : ℕ) (x y : T) → set (set xs i x) i y ≡ set xs i y
 set-again [] i x y = refl
 set-again (z ∷ zs) zero x y = refl
 set-again (z ∷ zs) (suc i) x y = ap (λ l. z ∷ l) (set-again zs i x y)

@@ -13,6 +13,7 @@ pub mod Opening
 pub mod Following
 pub mod Looking
 pub mod Stamping
+pub mod Renewing
 pub mod Current
 pub mod Chosen
 pub mod Remembering

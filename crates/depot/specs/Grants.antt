@@ -74,6 +74,12 @@ module _ {P E : Type 0} where
   IsWorn v w = (more : List Read) × HasRead v v.looked more w × HasLooked (λ ticket. worn ≤ ticket) more
       × (IsOnly v → (worn ≤ made v) × (worn ≤ length v.seen))
 
+  -- the ticket was read at 2^62 - 1 or more, so that after one entry more no call may begin, and nothing else was done. If
+  -- it is the only seat, with one more it made as many entries, which are all that it has seen
+  abbrev pub IsLast : View P E → View P E → Type 0
+  IsLast v w = (looked : ℕ) × (more : List Read) × HasRead v looked more w × HasLooked (λ ticket. worn ≤ ticket + 1) more
+      × (IsOnly v → (worn ≤ made v + 1) × (worn ≤ length v.seen + 1))
+
   -- a call on the node a was refused
   abbrev pub IsRefused : Layout → View P E → codes.Affinity → Refusal → View P E → Type 0
   IsRefused layout v a (Busy node word) w = IsNode layout (affinity_of node) × IsBusy (parents layout) v (number_of layout (affinity_of a))
@@ -111,6 +117,16 @@ module _ {P C R B : Type 0} (m : Behaviour P C R B) where
   IsFinished v b e w = (gone : List ℕ) × (more : List Read) × (between : List (Entry P C R))
       × (w ≡ record (with_entry v between e) { stamped = 0; held = slice_set v.held b None; gone = gone; reads = more ++ v.reads })
       × HasAdded m v between e
+
+  -- what the seat's grants list was granted anew, after a history that the ticket counts for the only seat
+  abbrev pub IsRenewed : View P (Entry P C R) → ℕ → List (View P (Entry P C R)) → Type 0
+  IsRenewed v ticket vs = (vs ≡ record v { looked = 0; stamped = 0; reads = record { word = 0; value = ticket; shares = 0 } ∷ v.reads } ∷ [])
+      × (IsOnly v → Counts v ticket)
+      × ((b : ℕ) (g : List (Option P)) → Has v b g → IsAfter v b (listed g))
+
+  -- the call of the entry e was finished, and one on the same node was begun, with the parcels f as e left them
+  abbrev pub HasGoneOn : View P (Entry P C R) → ℕ → (ℕ → Option P) → Entry P C R → View P (Entry P C R) → Type 0
+  HasGoneOn v b f e w = (mid : View P (Entry P C R)) × IsFinished v b e mid × IsBegun mid b f w × IsAfter mid b f
 
   -- the history of the only seat, at the end: it is legal, with the invariant throughout; the seat's own hand is all
   -- hands; each entry is the seat's; and the parcels f are as it left them

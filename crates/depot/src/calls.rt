@@ -10,6 +10,7 @@ use crate::homing::{give_home, stamp_call};
 use crate::plays::Look;
 use crate::rule::machine::Machine;
 use crate::seats::Seat;
+use crate::stamps::renew;
 use crate::table::Place;
 use affinity_tree::Affinity;
 use atomic_table::Badge;
@@ -21,11 +22,12 @@ use std::mem;
 const WORN: u64 = 1 << 62;
 
 impl<M: Machine> Depot<M> {
-    ghost use Rattle.std.specs.Prelude.{IfOk, IfErr};
+    ghost use Rattle.std.specs.Prelude.{IfOk, OnOk, IfErr};
     ghost use Rattle.affinity_tree.specs.Affinity.{affinity_of};
     ghost use Rattle.affinity_tree.specs.Tree.{IsNode};
     ghost use Rattle.depot.specs.Grants.{HasWith, IsBegun, IsAfter, IsStep, HasInHand};
-    ghost use Rattle.depot.specs.Grants.{IsEnded, IsFinished, IsRefused};
+    ghost use Rattle.depot.specs.Grants.{IsEnded, IsFinished, IsRefused, IsLast, HasGoneOn};
+    ghost use Rattle.depot.specs.declared.grants.Refusal.TheVariants.{Worn};
     ghost use Rattle.depot.specs.Words.{machine_of, layout_in, view, splits_left};
     ghost use Rattle.depot.specs.Words.{IsSeatHere, IsNodeOf};
     ghost use Rattle.depot.specs.Words.{node_of, number_in, parcels_in, entry_with, IsWhole};
@@ -127,5 +129,44 @@ impl<M: Machine> Depot<M> {
         stamp_call::<M, N, Brand>(board, &mut place, &self.layout, &grant, call, reply);
         let place = give_home(board, place, &self.layout, &self.parents, grant);
         seat.badge = place.into_badge();
+    }
+
+    /// Ends a call by one step, with its parcels as they are then, and begins one on the same node,
+    /// which has them: the grant stays. It takes no memory, waits for nobody, and moves no parcel.
+    /// Where the ticket is worn, or this entry would wear it, the call is as it was, to be finished.
+    pub fn go_on<N: Node<M::Parcel>>(
+        &self,
+        seat: &mut Seat<M>,
+        grant: &Grant<M::Parcel, N>,
+        call: &M::Call,
+        reply: &M::Reply,
+    ) -> Result<(), Refusal>
+        requires seat { IsSeatHere self.now seat.old }
+        requires node { IsNode (layout_in self.now) (affinity_of (node_of grant.now)) }
+        requires step { let L = layout_in self.now in
+            IsStep (machine_of seat.old) (view seat.old) (number_in L grant.now)
+            call.now reply.now (parcels_in N.parcels L grant.now) }
+        requires hand { HasInHand (machine_of seat.old) (view seat.old) call.now reply.now }
+        requires exact { IsWhole M.Parcel.kind N.parcels (layout_in self.now) grant.now }
+        ensures seat { IsSeatHere self.now seat.new }
+        ensures splits { splits_left seat.new ≡ splits_left seat.old }
+        ensures gone_on { let L = layout_in self.now in OnOk result
+            (HasGoneOn (machine_of seat.old)
+            (view seat.old) (number_in L grant.now) (parcels_in N.parcels L grant.now)
+            (entry_with N.parcels L grant.now call.now reply.now) (view seat.new)) }
+        ensures refused { IfErr result (λ refusal.
+            (refusal ≡ Worn) × IsLast (view seat.old) (view seat.new)) }
+    {
+        let board = &self.table.shared;
+        let mut place: Place<M> = mem::replace(&mut seat.badge, Badge::blank()).into_seat();
+        let ticket = board.load::<Look>(&mut place, 0);
+        if ticket >= WORN - 1 {
+            seat.badge = place.into_badge();
+            return Err(Refusal::Worn);
+        }
+        stamp_call::<M, N, Brand>(board, &mut place, &self.layout, grant, call, reply);
+        renew(board, &mut place);
+        seat.badge = place.into_badge();
+        Ok(())
     }
 }

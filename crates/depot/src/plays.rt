@@ -99,6 +99,18 @@ impl<P, E> Play<Option<P>, Views<P, E>> for Look {
     ghost then = { LookSays };
 }
 
+/// What was stamped is granted anew, by the right of a look.
+pub struct Renew<M> {
+    machine: PhantomData<M>,
+}
+
+impl<M: Machine> Play<Option<M::Parcel>, ViewsOf<M>> for Renew<M> {
+    ghost use Rattle.depot.specs.rule.History.{behaviour};
+    ghost use Rattle.depot.specs.rule.Plays.{RenewSays};
+
+    ghost then = { RenewSays (behaviour M.steps M.takes M.gives M.invariant) };
+}
+
 /// Two seats that met are found to be alike.
 pub struct Alike;
 

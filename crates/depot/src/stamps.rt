@@ -5,9 +5,10 @@ ghost use Rattle.affinity_tree.specs.Ancestors.{Covers};
 ghost use Rattle.depot.specs.rule.Shares.{Has};
 ghost use Rattle.depot.specs.rule.Seats.{view_of};
 ghost use Rattle.depot.specs.rule.History.{behaviour};
-ghost use Rattle.depot.specs.Grants.{IsStep, HasInHand, IsStamped};
+ghost use Rattle.depot.specs.Grants.{IsStep, HasInHand, IsStamped, IsRenewed};
 ghost use Rattle.depot.specs.Places.{tree_of, IsStill, AreOut, Fits};
 
+use crate::plays::Renew;
 use crate::rule::machine::Machine;
 use crate::table::{Board, EntryOf, Place, ViewsOf};
 use atomic_table::Play;
@@ -56,4 +57,15 @@ pub fn stamp_as<M: Machine, J: Said<EntryOf<M>>>(board: &Board<M>, place: &mut P
         → IsStamped (behaviour M.steps M.takes M.gives M.invariant) v e result place.new.me.0 }
 {
     board.fetch_add::<Stamp<M, J>>(place, 0, 1)
+}
+
+/// Grants anew what was stamped, by the right of a look. The answer is the ticket.
+pub fn renew<M: Machine>(board: &Board<M>, place: &mut Place<M>) -> u64
+    requires table { (place.old.table_id ≡ board.now.table_id) × (0 < board.now.table_id.words) }
+    requires one { (length place.old.me.0 ≡ 1) × ((view_of place.old.me.0).looked ≡ 1) }
+    ensures seat { IsStill place.old place.new }
+    ensures renewed { IsRenewed (behaviour M.steps M.takes M.gives M.invariant)
+        (view_of place.old.me.0) result place.new.me.0 }
+{
+    board.load::<Renew<M>>(place, 0)
 }

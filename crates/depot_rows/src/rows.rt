@@ -7,7 +7,7 @@ use crate::trial::{
     Found, claim_all, claim_any, close_joined, holds_beside, look, opened, same, splits, two_seats,
 };
 use affinity_tree::Affinity;
-use depot::trial::adding::{Adding, add, read, touches};
+use depot::trial::adding::{Adding, add, read, touch_on, touches};
 use depot::trial::lending;
 use depot::trial::lending::{give, take};
 use depot::{Depot, Seat};
@@ -155,4 +155,16 @@ fn calls_of_two_threads(rt: HostRuntime) {
     );
     mem::forget(depot);
     same(&rt, &granted, &(10, 10));
+}
+
+#[test]
+fn calls_under_one_grant(rt: HostRuntime) {
+    let (depot, mut seat) = opened(&rt);
+    let sum = add(&depot, &mut seat, stripe(0, 0), 5);
+    same(&rt, &sum, &Some(5));
+    let made = touch_on::<StripeNode>(&depot, &mut seat, stripe(0, 0), 9);
+    same(&rt, &made, &10);
+    let found = read(&depot, &mut seat, stripe(0, 0));
+    same(&rt, &found, &Some(5));
+    mem::forget((depot, seat));
 }

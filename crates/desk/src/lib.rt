@@ -27,7 +27,7 @@ pub use desk::Desk;
 pub use grant::{LargeGrant, NodeGrant, SmallGrant};
 pub use kinds::{NodeKinds, ParcelKinds};
 pub use node_task::{TaskNode, work_node};
-pub use nodes::{begin_node, finish_node, put_back_node};
+pub use nodes::{begin_node, finish_node, go_on_node, put_back_node};
 pub use place::Place;
 pub use refusal::Refusal;
 pub use task::Task;

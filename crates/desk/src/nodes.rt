@@ -1,11 +1,12 @@
 //! Grants of nodes of one kind, begun and ended.
 
-ghost use Rattle.std.specs.Prelude.{◌≡◌, IfOk, IfErr};
+ghost use Rattle.std.specs.Prelude.{◌≡◌, IfOk, OnOk, IfErr};
 ghost use Rattle.affinity_tree.specs.Affinity.{affinity_of};
 ghost use Rattle.affinity_tree.specs.Numbers.{number_of};
-ghost use Rattle.depot.specs.Grants.{entry_of, IsEnded, IsFinished, IsRefused};
+ghost use Rattle.depot.specs.Grants.{entry_of, IsEnded, IsFinished, IsRefused, IsLast};
+ghost use Rattle.depot.specs.declared.grants.Refusal.TheVariants.{Worn};
 ghost use Rattle.depot.specs.Words.{machine_of, layout_in, view, splits_left, IsSeatHere, IsNodeOf};
-ghost use Rattle.desk.specs.laws.Backing.{IsGranted, CanFinish, CanPutBack};
+ghost use Rattle.desk.specs.laws.Backing.{IsGranted, CanFinish, CanPutBack, HasGoneOn};
 ghost use Rattle.desk.specs.Any.{node_lent};
 
 use crate::grant::NodeGrant;
@@ -55,6 +56,32 @@ pub fn finish_node<M: Machine, N: Node<M::Parcel>>(
         (entry_of L l.affinity l.parcels call.now reply.now) (view seat.new) }
 {
     depot.finish(seat, node.grant, call, reply);
+}
+
+/// Ends a call on a node of one kind by an entry, and begins one on the same node, which has its
+/// parcels. Where the ticket is worn, or this entry would wear it, the call is as it was.
+#[inline(never)]
+pub fn go_on_node<M: Machine, N: Node<M::Parcel>>(
+    depot: &Depot<M>,
+    seat: &mut Seat<M>,
+    node: &NodeGrant<M::Parcel, N>,
+    call: &M::Call,
+    reply: &M::Reply,
+) -> Result<(), Refusal>
+    requires seat { IsSeatHere depot.now seat.old }
+    requires can { let L = layout_in depot.now in
+        CanFinish M.Parcel.kind (machine_of seat.old) L (view seat.old) (node_lent L node.now)
+        call.now reply.now }
+    ensures seat { IsSeatHere depot.now seat.new }
+    ensures splits { splits_left seat.new ≡ splits_left seat.old }
+    ensures gone_on { let L = layout_in depot.now in OnOk result
+        (HasGoneOn M.Parcel.kind (machine_of seat.old) L (view seat.old) (node_lent L node.now)
+        call.now reply.now (view seat.new)) }
+    ensures refused { IfErr result (λ refusal.
+        (refusal ≡ Worn) × IsLast (view seat.old) (view seat.new)) }
+{
+    depot.go_on(seat, &node.grant, call, reply)?;
+    Ok(())
 }
 
 /// Ends a call on a node of one kind without an entry.

@@ -27,7 +27,7 @@ use Rattle.depot.proofs.rule.Meeting.{first-chosen, second-chosen, merged-weigh}
 use Rattle.depot.proofs.rule.Remembering.{still}
 use Rattle.affinity_tree.specs.declared.affinity.Kind.{Kind}
 
-same-word : (ws : List ℕ) → set ws 0 (get_or ws 0 0) ≡ ws
+pub same-word : (ws : List ℕ) → set ws 0 (get_or ws 0 0) ≡ ws
 same-word [] = refl
 same-word (w ∷ ws) = refl
 
@@ -103,7 +103,7 @@ module _ (P C R B : Type 0) (kind_of : P → Kind) (m : Behaviour P C R B) where
       }
 
   -- the ticket counts the only seat's entries
-  only-counts : (ps : List ℕ) (first : List (Option P)) (s : State (Option P) (List (View P E))) (whole : Rule kind_of m ps first s) (id : ℕ) (v : View P E)
+  pub only-counts : (ps : List ℕ) (first : List (Option P)) (s : State (Option P) (List (View P E))) (whole : Rule kind_of m ps first s) (id : ℕ) (v : View P E)
       → get_elem? s.views id ≡ some (v ∷ []) → IsOnly v → Counts v (get_or s.words 0 0)
   only-counts ps first s whole id v at all = (
     whole.base.shares.ticket ∙ only-view P E ps s.words s.views whole.base.shares id v at all made,

@@ -148,3 +148,14 @@ module _ {P C R B : Type 0} where
       } ∷ [])
       × HasAdded m v between e) me.0)
       × (me'.1 ≡ me.1)
+
+  -- a load of the ticket, by which a grant that was stamped is granted anew: the right of a look is used up, and no grant
+  -- is stamped any more. What the seat's grants list is as a sound history left it. For the only seat that history is what
+  -- it has seen, and the ticket counts its entries
+  abbrev pub RenewSays : Behaviour P C R B → Step (Option P) → Place P (Entry P C R) → ℕ → Place P (Entry P C R) → Type 0
+  RenewSays m st me found me' = Goes (λ v vs.
+      (vs ≡ record v { looked = 0; stamped = 0; reads = record { word = 0; value = found; shares = 0 } ∷ v.reads } ∷ [])
+      × (IsOnly v → Counts v found)
+      × ((log : List (Entry P C R)) × IsHistory m v.tree v.first v log × (length log < too_many) × (IsOnly v → log ≡ v.seen)
+      × ((b k : ℕ) (g : List (Option P)) → Has v b g → 0 < k → k < length v.tree → Covers v.tree b k
+      → slice_index_or g k None ≡ after v.tree (listed v.first) log k))) me me'

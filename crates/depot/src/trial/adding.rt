@@ -1,16 +1,21 @@
 //! A machine for tests and measurements: each parcel is a number, and a call adds to its node's, or
 //! leaves it.
 
-ghost use Rattle.std.specs.Prelude.{◌≡◌, ◌≤◌, true, [], Option, IfOk, IfSome};
+ghost use Rattle.std.specs.Prelude.{◌≡◌, ◌+◌, ◌≤◌, true, [], Option, IfOk, IfSome};
 ghost use Rattle.nfs_model.specs.Tree as trees;
 ghost use Rattle.affinity_tree.specs.Layout.{layout_of};
 ghost use Rattle.parcel_sets.specs.Exact.{kind_in, HasExactly};
 ghost use Rattle.parcel_sets.specs.Sets.{serial_parcels};
+ghost use Rattle.affinity_tree.specs.Affinity.{affinity_of};
+ghost use Rattle.affinity_tree.specs.Tree.{IsNode};
+ghost use Rattle.depot.specs.Grants.{HasWith, HasInHand};
+ghost use Rattle.depot.specs.declared.trial.adding.Change.TheVariants as changes;
 ghost use Rattle.depot.specs.Words.{layout_in, IsSeatHere, IsNodeOf, all_parcels};
+ghost use Rattle.depot.specs.Words.{machine_of, view, node_of, number_in, parcels_in, IsWhole};
 ghost use Rattle.depot.specs.trial.Adding.{AreEach};
 
 use crate::rule::machine::Machine;
-use crate::{Depot, Seat};
+use crate::{Depot, Grant, Seat};
 use affinity_tree::{Affinity, AggregateSpec, Kind, Layout, VolumeSpec};
 use parcel_sets::{Node, Numbers, Parcel, SerialHeld, SerialNode, StripeNode, VecShelf};
 use std::alloc::{AllocError, Global};
@@ -200,4 +205,58 @@ pub fn touches<N: Node<Parcel<Numbers>>>(
         }
     }
     count - refused
+}
+
+/// Ends a call that changes nothing, and begins one on the same node with the same grant. Whether
+/// it did.
+fn touch_again<N: Node<Parcel<Numbers>>>(
+    depot: &Depot<Adding>,
+    seat: &mut Seat<Adding>,
+    grant: &Grant<Parcel<Numbers>, N>,
+) -> bool
+    requires seat { IsSeatHere depot.now seat.old }
+    requires node { IsNode (layout_in depot.now) (affinity_of (node_of grant.now)) }
+    requires exact { IsWhole kind_in N.parcels (layout_in depot.now) grant.now }
+    requires granted { let L = layout_in depot.now in
+        HasWith (view seat.old) (number_in L grant.now) (parcels_in N.parcels L grant.now) }
+    requires hand { HasInHand (machine_of seat.old) (view seat.old) changes.Touch 0 }
+    ensures seat { IsSeatHere depot.now seat.new }
+    ensures granted { let L = layout_in depot.now in
+        HasWith (view seat.new) (number_in L grant.now) (parcels_in N.parcels L grant.now) }
+    ensures hand { HasInHand (machine_of seat.old) (view seat.new) changes.Touch 0 }
+{
+    match depot.go_on::<N>(seat, grant, &Change::Touch, &0) {
+        Ok(()) => true,
+        Err(_) => false,
+    }
+}
+
+/// Begins a call on a node and, if it is granted, makes so many and one with its grant: nothing
+/// changes. How many were made; none at a node of another kind, or one that isn't there.
+pub fn touch_on<N: Node<Parcel<Numbers>>>(
+    depot: &Depot<Adding>,
+    seat: &mut Seat<Adding>,
+    affinity: Affinity,
+    count: u32,
+) -> u32
+    requires seat { IsSeatHere depot.now seat.old }
+    requires few { count ≤ 1_000_000_000 }
+    ensures seat { IsSeatHere depot.now seat.new }
+    ensures most { result ≤ count + 1 }
+{
+    if !is_node_of(depot, N::KIND, affinity) {
+        return 0;
+    }
+    let grant = match depot.begin::<N>(seat, affinity) {
+        Ok(grant) => grant,
+        Err(_) => return 0,
+    };
+    let mut refused = 0;
+    for _call in 0..count {
+        if !touch_again::<N>(depot, seat, &grant) {
+            refused += 1;
+        }
+    }
+    depot.finish(seat, grant, &Change::Touch, &0);
+    count - refused + 1
 }

@@ -12,7 +12,7 @@ use Rattle.depot.specs.declared.rule.view.Entry.{Entry}
 use Rattle.depot.specs.rule.History.{Behaviour, listed, after, entries_of}
 use Rattle.depot.specs.rule.Shares.{Has}
 use Rattle.depot.specs.rule.Plays.{IsOnly}
-use Rattle.depot.specs.Grants.{IsSeatOf, HasWith, IsBegun, IsAfter, IsStep, HasInHand}
+use Rattle.depot.specs.Grants.{entry_of, IsSeatOf, HasWith, IsBegun, IsAfter, IsStep, HasInHand, IsFinished}
 use Rattle.desk.specs.laws.Books.{Lent, Books, HasLent}
 use Rattle.desk.specs.laws.Calls.{Does}
 
@@ -71,6 +71,12 @@ module _ {P C R : Type 0} (kind : P → Kind) where
     pub exact : HasExactly kind layout l.affinity l.parcels
     pub step : IsStep m v (number_of layout l.affinity) call reply l.parcels
     pub hand : HasInHand m v call reply
+
+  -- a depot finished a call with what is lent, and granted one on the same node, with what it left
+  abbrev pub HasGoneOn : {B : Type 0} → Behaviour P C R B → Layout → View P (Entry P C R) → Lent P → C → R → View P (Entry P C R) → Type 0
+  HasGoneOn m layout v l call reply w = (mid : View P (Entry P C R))
+      × IsFinished m v (number_of layout l.affinity) (entry_of layout l.affinity l.parcels call reply) mid
+      × IsGranted m layout mid l.affinity l w
 
 -- a depot can take back what is lent
 pub record CanPutBack {P C R : Type 0} (layout : Layout) (v : View P (Entry P C R)) (l : Lent P) : Type 0 where
