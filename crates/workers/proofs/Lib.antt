@@ -2,6 +2,9 @@ mod Called
 mod Replayed
 mod Grants
 mod Served
+mod Entered
+mod Linked
+mod Chained
 mod Turning
 mod Started
 mod Batches

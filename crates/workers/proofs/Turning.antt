@@ -106,7 +106,7 @@ module _ {P : Type 0} where
       omega (arith, e, a, q)
 
   -- a message of the same record is kept
-  keeps : (v : Passed) (m m' : Message) (done done' : List (Entry P Job JobReply)) → m'.origin ≡ m.origin → done' ≡ done
+  pub keeps : (v : Passed) (m m' : Message) (done done' : List (Entry P Job JobReply)) → m'.origin ≡ m.origin → done' ≡ done
       → IsEven v done (Some m) → IsEven v done' (Some m')
   keeps v m m' done done' origin same even h =
       let e = even h in
@@ -115,7 +115,7 @@ module _ {P : Type 0} where
       omega (arith, e, d, k)
 
 -- what is kept is finished
-finishes : (v : Passed) (m : Message) (moment : Moment) (a : Addressed) (e : FilerEntry) (done done' : List FilerEntry)
+pub finishes : (v : Passed) (m : Message) (moment : Moment) (a : Addressed) (e : FilerEntry) (done done' : List FilerEntry)
     → IsEven v done (Some m) → done' ≡ done ++ e ∷ [] → IsEntryOf m moment a e → IsEven v done' None
 finishes v m moment a e done done' even did is h =
     let b = even h in
@@ -132,7 +132,7 @@ share-from u v w one two = (two.0 ∙ one.0, two.1 ∙ one.1, two.2 ∙ one.2)
 -- ---- the hand
 
 -- an entry that moves no batch leaves the hand
-hand-stays : (es es' : List FilerEntry) (e : FilerEntry) (hand : List Hand) → job_takes e.call e.reply ≡ [] → job_gives e.call e.reply ≡ []
+pub hand-stays : (es es' : List FilerEntry) (e : FilerEntry) (hand : List Hand) → job_takes e.call e.reply ≡ [] → job_gives e.call e.reply ≡ []
     → es' ≡ es ++ e ∷ [] → AreHands job_takes job_gives es hand → AreHands job_takes job_gives es' hand
 hand-stays es es' e hand none none' more own = subst (λ (ds : List FilerEntry). AreHands job_takes job_gives ds hand) (sym more) (λ weigh.
     let t = moved-snoc job_takes weigh es e in

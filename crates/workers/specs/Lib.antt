@@ -2,7 +2,9 @@ pub mod Messages
 pub mod Balance
 pub mod Words
 pub mod Turns
+pub mod Chains
 pub mod Runs
+pub mod Links
 pub mod Apart
 pub mod Works
 pub mod Logs

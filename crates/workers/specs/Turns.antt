@@ -148,35 +148,58 @@ HasTried layout before moment turns.Idle after = (before.kept ≡ None) × (afte
 
 -- ---- turns
 
+-- what a turn says of a worker: what its seat and its pass know, and what it keeps
+pub record Standing : Type 0 where
+  pub view : FilerView
+  pub pass : Passed
+  pub kept : Option Message
+
+abbrev pub standing_of : Worker → Standing
+standing_of w = record { view = seat_view w; pass = passed w; kept = w.kept }
+
 -- no entry was made, and a message of the one that was tried waits again, or is kept
-pub record HasReturned (before : Worker) (m m' : Message) (after : Worker) : Type 0 where
-  pub next : IsNext (passed before) before.kept (passed after) m
-  pub again : WaitsAgain (passed before) (passed after) after.kept m'
-  pub entries : entries_in after ≡ entries_in before
+pub record HasReturnedFrom (before : Standing) (m m' : Message) (after : Standing) : Type 0 where
+  pub next : IsNext before.pass before.kept after.pass m
+  pub again : WaitsAgain before.pass after.pass after.kept m'
+  pub entries : entries_of after.view ≡ entries_of before.view
 
 -- one entry was made, of the message that was kept or picked, and nothing was put or is kept
-pub record HasDone (before : Worker) (moment : Moment) (a : Addressed) (after : Worker) : Type 0 where
+pub record HasDoneFrom (before : Standing) (moment : Moment) (a : Addressed) (after : Standing) : Type 0 where
   pub message : Message
-  pub next : IsNext (passed before) before.kept (passed after) message
-  pub put : (passed after).put ≡ (passed before).put
+  pub next : IsNext before.pass before.kept after.pass message
+  pub put : after.pass.put ≡ before.pass.put
   pub kept : after.kept ≡ None
-  pub finished : HasFinished (seat_view before) message moment a (seat_view after)
+  pub finished : HasFinished before.view message moment a after.view
 
 -- no message was kept, and the pass found none in the queue
-pub record WasIdle (before after : Worker) : Type 0 where
+pub record WasIdleFrom (before after : Standing) : Type 0 where
   pub was_kept : before.kept ≡ None
   pub kept : after.kept ≡ None
-  pub pass : passed after ≡ passed before
-  pub found : Held 0 (Leaves (passed before))
-  pub view : seat_view after ≡ seat_view before
+  pub pass : after.pass ≡ before.pass
+  pub found : Held 0 (Leaves before.pass)
+  pub view : after.view ≡ before.view
 
 -- what a turn at a moment did, by its answer
+abbrev pub DidFrom : Layout → Standing → Moment → Turned → Standing → Type 0
+DidFrom layout before moment (turns.Done a) after = HasDoneFrom before moment a after
+DidFrom layout before moment turns.Moved after =
+    (m m' : Message) × HasMoved layout before.view m moment m' after.view × HasReturnedFrom before m m' after
+DidFrom layout before moment (turns.Busy at word) after = (m : Message) × HasReturnedFrom before m m after
+    × IsRefused layout before.view m.affinity (refusals.Busy at word) after.view
+DidFrom layout before moment turns.Worn after = (m : Message) × HasReturnedFrom before m m after
+    × IsRefused layout before.view m.affinity refusals.Worn after.view
+DidFrom layout before moment turns.Idle after = WasIdleFrom before after
+
+-- ---- of a worker
+
+abbrev pub HasReturned : Worker → Message → Message → Worker → Type 0
+HasReturned before m m' after = HasReturnedFrom (standing_of before) m m' (standing_of after)
+
+abbrev pub HasDone : Worker → Moment → Addressed → Worker → Type 0
+HasDone before moment a after = HasDoneFrom (standing_of before) moment a (standing_of after)
+
+abbrev pub WasIdle : Worker → Worker → Type 0
+WasIdle before after = WasIdleFrom (standing_of before) (standing_of after)
+
 abbrev pub Did : Layout → Worker → Moment → Turned → Worker → Type 0
-Did layout before moment (turns.Done a) after = HasDone before moment a after
-Did layout before moment turns.Moved after =
-    (m m' : Message) × HasMoved layout (seat_view before) m moment m' (seat_view after) × HasReturned before m m' after
-Did layout before moment (turns.Busy at word) after = (m : Message) × HasReturned before m m after
-    × IsRefused layout (seat_view before) m.affinity (refusals.Busy at word) (seat_view after)
-Did layout before moment turns.Worn after = (m : Message) × HasReturned before m m after
-    × IsRefused layout (seat_view before) m.affinity refusals.Worn (seat_view after)
-Did layout before moment turns.Idle after = WasIdle before after
+Did layout before moment turned after = DidFrom layout (standing_of before) moment turned (standing_of after)

@@ -1,2 +1,3 @@
 pub mod Logs
 pub mod Covered
+pub mod Putting

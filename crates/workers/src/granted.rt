@@ -1,12 +1,15 @@
 //! Calls on grants of nodes of one kind.
 
-ghost use Rattle.std.specs.Prelude.{IfOk, IfErr};
+ghost use Rattle.std.specs.Prelude.{◌≡◌, IfOk, IfErr};
 ghost use Rattle.depot.specs.Grants.{IsRefused};
 ghost use Rattle.depot.specs.Words.{view, splits_left, IsNodeOf, IsSeatHere};
 ghost use Rattle.desk.specs.Any.{node_lent};
-ghost use Rattle.std.specs.Prelude.{◌≡◌};
+ghost use Rattle.desk.specs.laws.Backing.{IsGranted};
+ghost use Rattle.parcel_sets.specs.Exact.{kind_in};
+ghost use Rattle.affinity_tree.specs.Affinity.{affinity_of};
 ghost use Rattle.workers.specs.Messages.{IsPlaced};
-ghost use Rattle.workers.specs.Runs.{HasRunOn};
+ghost use Rattle.workers.specs.Runs.{HasRunFrom, HasRunOn, IsLentFor};
+ghost use Rattle.workers.specs.Turns.{filer_behaviour};
 ghost use Rattle.workers.specs.Words.{layout_in};
 
 use crate::envelope::Envelope;
@@ -35,6 +38,33 @@ pub(crate) struct Ran<G, O> {
     pub(crate) outcome: O,
 }
 
+/// Runs the call of a message on what was granted of what it tries.
+pub(crate) fn run_on<N: TaskNode<Parcel<Files>, ParcelKinds>, G: Gate>(
+    filer: &Filer,
+    grant: &mut NodeGrant<Parcel<Files>, N>,
+    envelope: &Envelope,
+    moment: Moment,
+    gate: &G,
+) -> Outcome
+    requires placed { IsPlaced (layout_in filer.now) envelope.now }
+    requires lent { let L = layout_in filer.now in
+        IsLentFor L envelope.now (node_lent L grant.old) }
+    ensures ran { let L = layout_in filer.now in
+        HasRunFrom L envelope.now moment (node_lent L grant.old) result (node_lent L grant.new) }
+{
+    let message = envelope.message();
+    let run = Run {
+        alloc: filer.alloc,
+        call: &message.call,
+        credential: message.credential,
+        moment,
+    };
+    let layout = filer.depot.layout();
+    let outcome = work_node::<Parcel<Files>, ParcelKinds, N, Run>(layout, grant, run);
+    gate.pass(place_of(message, Stage::Run));
+    outcome
+}
+
 /// Begins the call of a message on what it tries, a node of this kind, and runs it there.
 pub(crate) fn run<N: TaskNode<Parcel<Files>, ParcelKinds>, G: Gate>(
     filer: &Filer,
@@ -54,17 +84,30 @@ pub(crate) fn run<N: TaskNode<Parcel<Files>, ParcelKinds>, G: Gate>(
     ensures refused { IfErr result (λ refusal. IsRefused (layout_in filer.now)
         (view seat.old) envelope.now.affinity refusal (view seat.new)) }
 {
-    let message = envelope.message();
-    let mut grant = begin_node::<Service, N>(&filer.depot, seat, message.affinity)?;
-    gate.pass(place_of(message, Stage::Begun));
-    let run = Run {
-        alloc: filer.alloc,
-        call: &message.call,
-        credential: message.credential,
-        moment,
-    };
-    let layout = filer.depot.layout();
-    let outcome = work_node::<Parcel<Files>, ParcelKinds, N, Run>(layout, &mut grant, run);
-    gate.pass(place_of(message, Stage::Run));
+    let mut grant = begin_on::<N, G>(filer, seat, envelope, gate)?;
+    let outcome = run_on::<N, G>(filer, &mut grant, envelope, moment, gate);
     Ok(Ran { grant, outcome })
+}
+
+/// Begins the call of a message on what it tries, a node of this kind.
+pub(crate) fn begin_on<N: TaskNode<Parcel<Files>, ParcelKinds>, G: Gate>(
+    filer: &Filer,
+    seat: &mut Seat<Service>,
+    envelope: &Envelope,
+    gate: &G,
+) -> Result<NodeGrant<Parcel<Files>, N>, Refusal>
+    requires seat { IsSeatHere filer.now.depot seat.old }
+    requires kind { IsNodeOf (layout_in filer.now) N.KIND envelope.now.affinity }
+    ensures seat { IsSeatHere filer.now.depot seat.new }
+    ensures splits { splits_left seat.new ≡ splits_left seat.old }
+    ensures granted { let L = layout_in filer.now in IfOk result (λ grant.
+        IsGranted kind_in filer_behaviour L (view seat.old) (affinity_of envelope.now.affinity)
+        (node_lent L grant) (view seat.new)) }
+    ensures refused { IfErr result (λ refusal. IsRefused (layout_in filer.now)
+        (view seat.old) envelope.now.affinity refusal (view seat.new)) }
+{
+    let message = envelope.message();
+    let grant = begin_node::<Service, N>(&filer.depot, seat, message.affinity)?;
+    gate.pass(place_of(message, Stage::Begun));
+    Ok(grant)
 }

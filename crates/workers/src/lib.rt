@@ -2,10 +2,14 @@
 //! turns. A worker's type keeps the balance of what it picked, finished, put back and keeps.
 #![tactic(auto)]
 
+mod chained;
+mod chaining;
 pub mod crossings;
+mod entering;
 mod envelope;
 mod granted;
 mod inner;
+mod linking;
 mod making;
 mod message;
 mod opening;
@@ -19,10 +23,12 @@ mod tend;
 mod tending;
 mod turn;
 mod turned;
+mod turns;
 mod worked;
 mod worker;
 mod working;
 
+pub use chained::{AnswerSink, Chained, Hint, Wanted};
 pub use envelope::Envelope;
 pub use message::Message;
 pub use parts::WorkerParts;

@@ -16,9 +16,10 @@ ghost use Rattle.workers.specs.Messages.{IsPlaced};
 ghost use Rattle.workers.specs.Turns.{filer_behaviour, job_of_message, HasServed};
 ghost use Rattle.workers.specs.Words.{layout_in, verifier_in, IsReady};
 
+use crate::entering::{answered, enter};
 use crate::envelope::Envelope;
 use crate::granted::{Ran, place_of, run};
-use crate::message::Message;
+use crate::linking::has_eight;
 use crate::shared::Filer;
 use crate::turned::{Gate, Served, Stage};
 use affinity_tree::Kind;
@@ -32,20 +33,7 @@ use parcel_sets::{
 };
 use parcels::Files;
 use rpc_msg::{replies_fit, servers_are_roomy};
-use service::{Asked, Job, JobReply, Outcome, ServedCall, Service};
-
-/// The reply of an entry to a record.
-fn into_reply(told: JobReply) -> Reply
-    requires { (reply : _) × (told ≡ Replied reply) }
-    ensures { Replied result ≡ told }
-{
-    match told {
-        JobReply::Replied(reply) => reply,
-        JobReply::Took(_took) => unreachable!(),
-        JobReply::Gave(_gave) => unreachable!(),
-        JobReply::Surveyed(_counts) => unreachable!(),
-    }
-}
+use service::{Outcome, Service};
 
 /// Ends a message's call by its entry, and answers it.
 fn answer<N: Node<Parcel<Files>>>(
@@ -72,35 +60,10 @@ fn answer<N: Node<Parcel<Files>>>(
     ensures answer { result ≡ addressed message.origin.connection.0
         (replies.message message.origin.xid (reply_of reply)) }
 {
-    let Message {
-        origin,
-        call,
-        credential,
-        affinity,
-        room,
-    } = message.into_message();
-    let job = Job::Serve(ServedCall {
-        connection: origin.connection,
-        number: origin.number,
-        xid: origin.xid,
-        asked: Asked::Call { call, credential },
-        affinity,
-        moment,
-        starved,
-    });
-    let told = JobReply::Replied(reply);
-    finish_node::<Service, N>(&filer.depot, seat, grant, &job, &told);
-    drop(job);
-    let reply = into_reply(told);
-    let answer = Answer::new(origin.connection, origin.xid, &reply, room);
-    drop(reply);
-    answer
+    let entry = enter(message, moment, reply, starved);
+    finish_node::<Service, N>(&filer.depot, seat, grant, &entry.job, &entry.told);
+    answered(entry)
 }
-
-/// An array of eight bytes has eight.
-fn has_eight(bytes: [u8; 8])
-    ensures { length bytes ≡ 8 }
-{}
 
 /// Begins the call of a message on what it tries, a node of this kind, runs it, and ends it.
 #[inline(never)]

@@ -1,0 +1,143 @@
+-- A message under a grant that stays open, and the one after it.
+use Rattle.std.proofs.Common.{◌≡◌, ℕ, ◌≤◌, Bool, true, false, List, [], ◌∷◌, ◌++◌, length, set, Option, Some, None, inr, refl, sym, ap, ◌∙◌, subst, append_assoc}
+use Rattle.nfs_model.specs.Tree.{Layout}
+use Rattle.nfs_values.specs.Reply.{reply_of}
+use Rattle.nfs_values.specs.declared.moment.Moment.{Moment}
+use Rattle.nfs_values.specs.declared.reply.Reply.{Reply}
+use Rattle.affinity_tree.specs.declared.scheduler.message.Origin.{Origin}
+use Rattle.affinity_tree.specs.Affinity.{affinity_of}
+use Rattle.affinity_tree.specs.Fault.{fault_of}
+use Rattle.affinity_tree.specs.Numbers.{number_of, parents}
+use Rattle.parcel_sets.specs.Exact.{kind_in}
+use Rattle.depot.specs.declared.rule.view.Read.{Read}
+use Rattle.depot.specs.rule.Plays.{with_entry}
+use Rattle.depot.specs.Grants.{entry_of, IsFinished}
+use Rattle.desk.specs.laws.Backing.{CanFinish, IsGranted}
+use Rattle.outboxes.specs.Boxes.{Addressed, addressed}
+use Rattle.outboxes.specs.Messages as replies
+use Rattle.outboxes.specs.Messages.{record_of}
+use Rattle.service.specs.declared.job.Job.{Job}
+use Rattle.service.specs.declared.job.JobReply.{JobReply}
+use Rattle.service.specs.declared.job.JobReply.TheVariants.{Replied}
+use Rattle.service.specs.declared.outcome.Outcome.{Outcome}
+use Rattle.workers.specs.declared.message.Message.{Message}
+use Rattle.workers.specs.declared.entering.Entry.{Entry}
+use Rattle.workers.specs.Balance.{Passed, FilerView, FilerEntry}
+use Rattle.workers.specs.Messages.{IsPlaced}
+use Rattle.workers.specs.Chains.{IsAhead, IsPicked, left_standing}
+use Rattle.workers.specs.Links.{IsEntered, IsToEnter, HasRoom, HasOnlyRead, Stands}
+use Rattle.workers.specs.Runs.{FilerLent, HasRunFrom, HasRunOn, IsLentFor}
+use Rattle.workers.specs.Turns.{filer_behaviour, job_of_message, HasFinished, Standing, HasDoneFrom}
+use Rattle.workers.specs.Words.{IsReady}
+use Rattle.workers.proofs.Replayed.{RoomyBegins, RoomyStays, RepliesFit}
+use Rattle.workers.proofs.Served.{may-finish, may-starve, entered, entered-ready, fits, starved-room}
+
+-- ---- reads
+
+-- a call was finished after reads, so it was finished, but for what its seat had looked at
+pub unread : (w w' u : FilerView) (n : ℕ) (e : FilerEntry) → HasOnlyRead w w' → IsFinished filer_behaviour w' n e u
+    → IsFinished filer_behaviour w n e (record u { looked = w.looked })
+unread w w' u n e (looked, more, is) f =
+    let w1 : FilerView = record w { looked = looked; reads = more ++ w.reads } in
+    let d : IsFinished filer_behaviour w1 n e u = subst (λ (x : FilerView). IsFinished filer_behaviour x n e u) is f in (
+      d.0,
+      d.1 ++ more,
+      d.2,
+      ap (λ (x : FilerView). let z : FilerView = record x { looked = w.looked } in z) d.3
+          ∙ ap (λ (rs : List Read). let z : FilerView = record w1 {
+            looked = w.looked;
+            seen = (with_entry w1 d.2 e).seen;
+            mine = (with_entry w1 d.2 e).mine;
+            stamped = 0;
+            held = set w.held n None;
+            gone = d.0;
+            reads = rs;
+          } in z) (sym (append_assoc d.1 more w.reads)),
+      d.4,
+    )
+
+pub can-read : (layout : Layout) (w w' : FilerView) (l : FilerLent) (job : Job) (told : JobReply) → HasOnlyRead w w'
+    → CanFinish kind_in filer_behaviour layout w l job told → CanFinish kind_in filer_behaviour layout w' l job told
+can-read layout w w' l job told (looked, more, is) can =
+    subst (λ (x : FilerView). CanFinish kind_in filer_behaviour layout x l job told) (sym is)
+    (record { node = can.node; exact = can.exact; step = can.step; hand = can.hand })
+
+module _ (layout : Layout) (lawful : fault_of layout ≡ None) (verifier : List ℕ) (b : Standing) (m : Message) (placed : IsPlaced layout m)
+    (moment : Moment) (pass : Passed) (l : FilerLent) (w : FilerView) (stands : Stands layout verifier b m pass l w) where
+  pub holding-tree : w.tree ≡ parents layout
+  holding-tree = ap (λ (x : FilerView). x.tree) stands.granted.begun.3 ∙ stands.tree
+
+  pub lent-for : IsLentFor layout m l
+  lent-for = record { before = b.view; holding = w; tree = stands.tree; granted = stands.granted }
+
+  pub ran-on : (outcome : Outcome) (l' : FilerLent) → HasRunFrom layout m moment l outcome l' → HasRunOn layout b.view m moment outcome l' w
+  ran-on outcome l' ran = record { before = l; granted = stands.granted; done = ran.done; whole = ran.whole }
+
+  module _ (e : Entry) (l' : FilerLent) (enters : IsToEnter layout m moment l e l') where
+    run : HasRunOn layout b.view m moment enters.outcome l' w
+    run = ran-on enters.outcome l' enters.ran
+
+    pub may-enter : CanFinish kind_in filer_behaviour layout w l' e.job e.told
+    may-enter =
+        subst (λ (j : Job). CanFinish kind_in filer_behaviour layout w l' j e.told) (sym enters.entry.job)
+        (subst (λ (t : JobReply). CanFinish kind_in filer_behaviour layout w l' (job_of_message m moment enters.starved) t) (sym enters.entry.told)
+        (by enters.starved enters.is))
+      where
+        by : (starved : Bool) → IsEntered enters.outcome enters.reply starved
+            → CanFinish kind_in filer_behaviour layout w l' (job_of_message m moment starved) (Replied enters.reply)
+        by false is = may-finish layout lawful m placed moment b.view w stands.tree holding-tree enters.outcome l' run enters.reply is
+        by true is = may-starve layout lawful m placed moment b.view w stands.tree holding-tree enters.outcome l' run enters.reply is.1 is.0
+
+    pub has-room : length verifier ≡ 8 → RoomyBegins → RoomyStays → RepliesFit → HasRoom e
+    has-room eight begins stays fit = (
+      enters.reply,
+      enters.entry.told,
+      subst (λ (o : Origin). length (record_of (replies.message o.xid (reply_of enters.reply))) ≤ e.room) (sym enters.entry.origin)
+          (subst (λ (n : ℕ). length (record_of (replies.message m.origin.xid (reply_of enters.reply))) ≤ n) (sym enters.entry.room)
+          (by enters.starved enters.is)),
+    )
+      where
+        by : (starved : Bool) → IsEntered enters.outcome enters.reply starved
+            → length (record_of (replies.message m.origin.xid (reply_of enters.reply))) ≤ m.room
+        by false is = fits layout lawful m placed moment b.view w stands.tree holding-tree enters.outcome l' run verifier eight stands.ready.opened
+            begins stays fit enters.reply is
+        by true is = starved-room layout lawful m placed moment b.view w stands.tree holding-tree enters.outcome l' run verifier eight stands.ready.opened
+            begins stays fit enters.reply is.1
+
+    -- ---- it was entered
+
+    module _ (u : FilerView)
+        (finished : IsFinished filer_behaviour w (number_of layout l'.affinity) (entry_of layout l'.affinity l'.parcels e.job e.told) u) where
+      ends : IsFinished filer_behaviour w (number_of layout l'.affinity)
+          (entry_of layout l'.affinity l'.parcels (job_of_message m moment enters.starved) (Replied enters.reply)) u
+      ends =
+          subst (λ (t : JobReply). IsFinished filer_behaviour w (number_of layout l'.affinity)
+          (entry_of layout l'.affinity l'.parcels (job_of_message m moment enters.starved) t) u) enters.entry.told
+          (subst (λ (j : Job). IsFinished filer_behaviour w (number_of layout l'.affinity)
+          (entry_of layout l'.affinity l'.parcels j e.told) u) enters.entry.job finished)
+
+      pub is-ready : IsReady layout verifier u
+      is-ready =
+          entered-ready layout lawful m placed moment b.view w stands.tree holding-tree enters.outcome l' run u enters.reply enters.starved ends verifier
+          stands.ready
+
+      module _ (a : Addressed) (is : a ≡ addressed e.origin.connection.0 (replies.message e.origin.xid (reply_of enters.reply))) where
+        pub is-finished : HasFinished b.view m moment a u
+        is-finished =
+            entered layout lawful m placed moment b.view w stands.tree holding-tree enters.outcome l' run u enters.reply enters.starved ends a
+            (is ∙ ap (λ (o : Origin). addressed o.connection.0 (replies.message o.xid (reply_of enters.reply))) enters.entry.origin)
+
+        pub is-done : HasDoneFrom b moment a (left_standing u pass None)
+        is-done = record { message = m; next = stands.picked.next; put = stands.picked.put; kept = refl; finished = is-finished }
+
+      -- the next has the grant
+      pub stands-on : (next : Message) (pass' : Passed) (w' : FilerView) → next.affinity ≡ m.affinity → IsAhead pass pass' (Some next)
+          → IsGranted kind_in filer_behaviour layout u l'.affinity l' w'
+          → Stands layout verifier (left_standing u pass None) next pass' l' w'
+      stands-on next pass' w' same ahead granted = record {
+        ready = is-ready;
+        tree = ap (λ (x : FilerView). x.tree) finished.3 ∙ holding-tree;
+        granted = subst (λ a. IsGranted kind_in filer_behaviour layout u a l' w')
+            (enters.ran.done.affinity ∙ stands.granted.affinity ∙ ap affinity_of (sym same)) granted;
+        picked = record { view = refl; next = inr (refl, ahead.0); put = ahead.1 };
+      }

@@ -1,0 +1,41 @@
+use Rattle.std.proofs.Common.{true, false, refl, subst}
+use Rattle.nfs_values.specs.declared.reply.Reply.TheVariants.{SystemError}
+use Rattle.desk.specs.Any.{node_lent}
+use Rattle.service.specs.declared.outcome.Outcome.{Outcome}
+use Rattle.workers.specs.Runs.{HasRunFrom}
+use Rattle.workers.specs.Words.{layout_in}
+use Rattle.workers.proofs.linking.try_on.Goals as goal
+
+pub returns-in-Replied-clause-ran : goal.returns-in-Replied-clause-ran
+returns-in-Replied-clause-ran g c = (
+  refl,
+  record {
+    outcome = c.run_on.result;
+    reply = c.in-Replied.reply;
+    starved = false;
+    is = c.in-Replied.is;
+    ran = c.run_on.ensures.ran;
+    entry = c.enter.ensures;
+  },
+)
+
+pub returns-in-Starved-clause-ran : goal.returns-in-Starved-clause-ran
+returns-in-Starved-clause-ran g c = (
+  refl,
+  record {
+    outcome = c.run_on.result;
+    reply = SystemError;
+    starved = true;
+    is = (c.in-Starved.is, refl);
+    ran = c.run_on.ensures.ran;
+    entry = c.enter-in-Starved.ensures;
+  },
+)
+
+pub returns-in-Moved-clause-ran : goal.returns-in-Moved-clause-ran
+returns-in-Moved-clause-ran g c =
+    let L = layout_in c.args.filer.now in (
+      refl,
+      subst (λ (o : Outcome). HasRunFrom L c.args.message c.args.moment (node_lent L c.args.grant.now) o (node_lent L c.run_on.new.grant))
+          c.in-Moved.is c.run_on.ensures.ran,
+    )
