@@ -454,3 +454,15 @@ pub none-kept : {S : Type 0} (took : S → List Addressed → S → Type 0) (lay
     (chained : Chained) → HasTriedAll took layout picked moment sink chained sink' tried → chained ≡ chains.Idle → picked.kept ≡ None
 none-kept took layout picked tried moment sink sink' chained did is =
     (subst (λ (x : Chained). HasTriedAll took layout picked moment sink x sink' tried) is did).0
+
+-- who keeps a message tried it
+pub tried-all : {S : Type 0} (took : S → List Addressed → S → Type 0) (layout : Layout) (before after : Standing) (moment : Moment) (sink sink' : S)
+    (m : Message) → before.kept ≡ Some m → (chained : Chained)
+    → ((s : Standing) → IsPicked s before.view before.pass m → HasServedOn took layout s moment sink chained sink' after)
+    → HasTriedAll took layout before moment sink chained sink' after
+tried-all took layout before after moment sink sink' m kept chains.Done served = (m, kept, served)
+tried-all took layout before after moment sink sink' m kept chains.Moved served = (m, kept, served)
+tried-all took layout before after moment sink sink' m kept (chains.Busy at word) served = (m, kept, served)
+tried-all took layout before after moment sink sink' m kept chains.Worn served = (m, kept, served)
+tried-all took layout before after moment sink sink' m kept chains.Idle served =
+    absurd (served before (picked-kept before.view before.pass before.kept m kept)).left

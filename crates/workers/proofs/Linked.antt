@@ -4,6 +4,7 @@ use Rattle.nfs_model.specs.Tree.{Layout}
 use Rattle.nfs_values.specs.Reply.{reply_of}
 use Rattle.nfs_values.specs.declared.moment.Moment.{Moment}
 use Rattle.nfs_values.specs.declared.reply.Reply.{Reply}
+use Rattle.affinity_tree.specs.declared.affinity.Affinity as codes
 use Rattle.affinity_tree.specs.declared.scheduler.message.Origin.{Origin}
 use Rattle.affinity_tree.specs.Affinity.{affinity_of}
 use Rattle.affinity_tree.specs.Fault.{fault_of}
@@ -25,7 +26,10 @@ use Rattle.workers.specs.declared.entering.Entry.{Entry}
 use Rattle.workers.specs.Balance.{Passed, FilerView, FilerEntry}
 use Rattle.workers.specs.Messages.{IsPlaced}
 use Rattle.workers.specs.Chains.{IsAhead, IsPicked, left_standing}
-use Rattle.workers.specs.Links.{IsEntered, IsToEnter, HasRoom, HasOnlyRead, Stands}
+use Rattle.workers.specs.Links.{IsEntered, IsToEnter, HasLinked, HasOnlyRead, HasRoom, HasRunSo, IsOver, Stands}
+use Rattle.workers.specs.declared.linking.Tried.{Tried}
+use Rattle.workers.specs.declared.linking.Tried.TheVariants as tries
+use Rattle.workers.specs.declared.linking.Link.TheVariants as links
 use Rattle.workers.specs.Runs.{FilerLent, HasRunFrom, HasRunOn, IsLentFor}
 use Rattle.workers.specs.Turns.{filer_behaviour, job_of_message, HasFinished, Standing, HasDoneFrom}
 use Rattle.workers.specs.Words.{IsReady}
@@ -141,3 +145,59 @@ module _ (layout : Layout) (lawful : fault_of layout ≡ None) (verifier : List 
             (enters.ran.done.affinity ∙ stands.granted.affinity ∙ ap affinity_of (sym same)) granted;
         picked = record { view = refl; next = inr (refl, ahead.0); put = ahead.1 };
       }
+
+-- ---- what came of a run
+
+pub entered-so : (layout : Layout) (m : Message) (moment : Moment) (l l' : FilerLent) (tried : Tried) (e : Entry) (next : Option Message)
+    → tried ≡ tries.Entered e next → HasRunSo layout m moment l tried l' → IsToEnter layout m moment l e l'
+entered-so layout m moment l l' tried e next is ran = (subst (λ (t : Tried). HasRunSo layout m moment l t l') is ran).1
+
+module _ (layout : Layout) (lawful : fault_of layout ≡ None) (verifier : List ℕ) (b : Standing) (m : Message) (placed : IsPlaced layout m)
+    (moment : Moment) (pass : Passed) (l : FilerLent) (w : FilerView) (stands : Stands layout verifier b m pass l w) (l' : FilerLent) where
+  pub link-moved : (tried : Tried) (back : Message) (to : codes.Affinity) → tried ≡ tries.Moved back to → HasRunSo layout m moment l tried l'
+      → IsOver layout verifier moment b (tries.Moved back to) pass l' w
+  link-moved tried back to is ran = record {
+    message = m;
+    placed = placed;
+    pass = pass;
+    before = l;
+    holding = w;
+    stands = stands;
+    ran = subst (λ (t : Tried). HasRunSo layout m moment l t l') is ran;
+    stayed = refl;
+    ahead = refl;
+  }
+
+  module _ (e : Entry) (enters : IsToEnter layout m moment l e l') (pass' : Passed) (w' : FilerView) where
+    pub link-over : (next : Option Message) → IsAhead pass pass' next → HasOnlyRead w w'
+        → IsOver layout verifier moment b (tries.Entered e next) pass' l' w'
+    link-over next ahead read = record {
+      message = m;
+      placed = placed;
+      pass = pass;
+      before = l;
+      holding = w;
+      stands = stands;
+      ran = enters;
+      stayed = read;
+      ahead = ahead;
+    }
+
+    pub link-on : {S : Type 0} (took : S → List Addressed → S → Type 0) (sink sink' : S) (next : Message) → next.affinity ≡ m.affinity
+        → IsAhead pass pass' (Some next) → (mid : FilerView)
+        → IsFinished filer_behaviour w (number_of layout l'.affinity) (entry_of layout l'.affinity l'.parcels e.job e.told) mid
+        → IsGranted kind_in filer_behaviour layout mid l'.affinity l' w'
+        → (a : Addressed) → ((reply : Reply) → e.told ≡ Replied reply
+        → a ≡ addressed e.origin.connection.0 (replies.message e.origin.xid (reply_of reply)))
+        → took sink (a ∷ []) sink'
+        → HasLinked took layout verifier b m moment pass l w sink (links.On next) pass' l' w' sink'
+    link-on took sink sink' next same ahead mid finished granted a is told = (
+      a,
+      left_standing mid pass None,
+      is-done layout lawful verifier b m placed moment pass l w stands e l' enters mid finished a (is enters.reply enters.entry.told),
+      told,
+      stands-on layout lawful verifier b m placed moment pass l w stands e l' enters mid finished next pass' w' same ahead granted,
+    )
+
+pub none-read : (w : FilerView) → HasOnlyRead w w
+none-read w = (w.looked, [], refl)

@@ -1,0 +1,104 @@
+use Rattle.std.proofs.Common.{◌≡◌, ◌∙◌, refl, subst}
+use Rattle.depot.specs.Words.{view}
+use Rattle.desk.specs.Any.{node_lent}
+use Rattle.workers.specs.shared_waiting.Passes.{known}
+use Rattle.workers.specs.declared.linking.Link.{Link}
+use Rattle.workers.specs.Links.{HasLinked, IsNextPlaced}
+use Rattle.workers.specs.Words.{layout_in, verifier_in}
+use Rattle.workers.proofs.Chained.{begins, goes-on, stops, lasts, last-placed}
+use Rattle.workers.proofs.Linked.{lent-for}
+use Rattle.workers.proofs.Turning.{known-still, share-from}
+use Rattle.workers.proofs.chaining.chain.Goals as goal
+
+pub loop-link-init : goal.loop-link-init
+loop-link-init g c =
+    let L = layout_in c.args.filer.now in record {
+      seat = c.requires.seat;
+      splits = refl;
+      of = c.requires.of;
+      share = (refl, refl, refl);
+      placed = c.requires.placed;
+      gone = λ s stands. begins g.S.AnswerSink.took g.met.S.AnswerSink.took_none L (verifier_in c.args.filer.now) s c.args.moment c.args.sink.now
+          c.args.message (known c.args.pass.now) (node_lent L c.args.grant.now) (view c.args.seat.now) stands;
+    }
+
+pub link-requires-clause-layout : goal.link-requires-clause-layout
+link-requires-clause-layout g c =
+    known-still (layout_in c.args.filer.now) (known c.args.pass.now) (known c.loop-link.pass) c.loop-link.invariant.share c.requires.layout
+
+pub link-requires-clause-stands : goal.link-requires-clause-stands
+link-requires-clause-stands g c =
+    let gone = c.loop-link.invariant.gone c.requires.stands.0 c.requires.stands.1 in (gone.between, gone.stands)
+
+pub loop-link-preserved : goal.loop-link-preserved
+loop-link-preserved g c =
+    let L = layout_in c.args.filer.now in
+    let took = g.S.AnswerSink.took in
+    let ver = verifier_in c.args.filer.now in
+    let m = c.loop-link.message in
+    let pass = known c.loop-link.pass in
+    let pass' = known c.link.new.pass in
+    let l = node_lent L c.loop-link.grant in
+    let l' = node_lent L c.link.new.grant in
+    let w = view c.loop-link.seat in
+    let w' = view c.link.new.seat in record {
+      seat = c.link.ensures.seat;
+      splits = c.link.ensures.splits ∙ c.loop-link.invariant.splits;
+      of = c.link.ensures.of;
+      share = share-from (known c.args.pass.now) pass pass' c.loop-link.invariant.share c.link.ensures.share;
+      placed = subst (λ (x : Link). IsNextPlaced L x) c.in-On.is c.link.ensures.placed;
+      gone = λ s stands.
+          let gone = c.loop-link.invariant.gone s stands in
+          goes-on took g.met.S.AnswerSink.took_more L ver s c.args.moment c.args.sink.now c.loop-link.sink c.link.new.sink m pass pass' l l' w w'
+          gone c.in-On.next
+          (subst (λ (x : Link). HasLinked took L ver gone.between m c.args.moment pass l w c.loop-link.sink x pass' l' w' c.link.new.sink) c.in-On.is
+          (c.link.ensures.linked gone.between gone.stands));
+    }
+
+pub returns-in-Over-clause-splits : goal.returns-in-Over-clause-splits
+returns-in-Over-clause-splits g c = c.link.ensures.splits ∙ c.loop-link.invariant.splits
+
+pub returns-in-Over-clause-share : goal.returns-in-Over-clause-share
+returns-in-Over-clause-share g c =
+    share-from (known c.args.pass.now) (known c.loop-link.pass) (known c.link.new.pass) c.loop-link.invariant.share c.link.ensures.share
+
+pub returns-in-Over-clause-placed : goal.returns-in-Over-clause-placed
+returns-in-Over-clause-placed g c = subst (λ (x : Link). IsNextPlaced (layout_in c.args.filer.now) x) c.in-Over.is c.link.ensures.placed
+
+pub returns-in-Over-clause-chained : goal.returns-in-Over-clause-chained
+returns-in-Over-clause-chained g c s stands =
+    let L = layout_in c.args.filer.now in
+    let took = g.S.AnswerSink.took in
+    let ver = verifier_in c.args.filer.now in
+    let m = c.loop-link.message in
+    let pass = known c.loop-link.pass in
+    let pass' = known c.link.new.pass in
+    let l = node_lent L c.loop-link.grant in
+    let l' = node_lent L c.link.new.grant in
+    let w = view c.loop-link.seat in
+    let w' = view c.link.new.seat in
+    let gone = c.loop-link.invariant.gone s stands in
+    stops took g.met.S.AnswerSink.took_more L ver s c.args.moment c.args.sink.now c.loop-link.sink c.link.new.sink m pass pass' l l' w w'
+    gone c.in-Over.tried
+    (subst (λ (x : Link). HasLinked took L ver gone.between m c.args.moment pass l w c.loop-link.sink x pass' l' w' c.link.new.sink) c.in-Over.is
+    (c.link.ensures.linked gone.between gone.stands))
+
+pub try_on-requires-clause-lent : goal.try_on-requires-clause-lent
+try_on-requires-clause-lent g c =
+    let L = layout_in c.args.filer.now in
+    let gone = c.loop-link.invariant.gone c.requires.stands.0 c.requires.stands.1 in
+    lent-for L c.args.filer.now.depot.layout.lawful (verifier_in c.args.filer.now) gone.between c.loop-link.message c.loop-link.invariant.placed
+    c.args.moment (known c.loop-link.pass) (node_lent L c.loop-link.grant) (view c.loop-link.seat) gone.stands
+
+pub returns-clause-placed : goal.returns-clause-placed
+returns-clause-placed g c =
+    let L = layout_in c.args.filer.now in
+    last-placed g.S.AnswerSink.took g.met.S.AnswerSink.took_more L (verifier_in c.args.filer.now) c.requires.stands.0 c.args.moment c.loop-link.message
+    (node_lent L c.loop-link.grant) (node_lent L c.try_on.new.grant) c.try_on.result c.try_on.ensures.ran
+
+pub returns-clause-chained : goal.returns-clause-chained
+returns-clause-chained g c s stands =
+    let L = layout_in c.args.filer.now in
+    lasts g.S.AnswerSink.took g.met.S.AnswerSink.took_more L (verifier_in c.args.filer.now) s c.args.moment c.args.sink.now c.loop-link.sink
+    c.loop-link.message c.loop-link.invariant.placed (known c.loop-link.pass) (node_lent L c.loop-link.grant) (node_lent L c.try_on.new.grant)
+    (view c.loop-link.seat) (c.loop-link.invariant.gone s stands) c.try_on.result c.try_on.ensures.ran

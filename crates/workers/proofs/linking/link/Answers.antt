@@ -1,0 +1,58 @@
+use Rattle.std.proofs.Common.{rules, ◌≡◌, true, false, Option, Some, None, refl, sym, ap, subst}
+use Rattle.affinity_tree.specs.declared.affinity.Affinity.{Affinity}
+use Rattle.depot.specs.Words.{view}
+use Rattle.desk.specs.Any.{node_lent}
+use Rattle.workers.specs.declared.message.Message.{Message}
+use Rattle.workers.specs.shared_waiting.Passes.{known}
+use Rattle.workers.specs.Chains.{IsAhead}
+use Rattle.workers.specs.Words.{layout_in, verifier_in}
+use Rattle.workers.proofs.Linked.{lent-for, may-enter, has-room, entered-so, link-moved, link-over, link-on, none-read}
+use Rattle.workers.proofs.linking.link.Goals as goal
+
+pub try_on-requires-clause-lent : goal.try_on-requires-clause-lent
+try_on-requires-clause-lent g c =
+    let L = layout_in c.args.filer.now in
+    lent-for L c.args.filer.now.depot.layout.lawful (verifier_in c.args.filer.now) c.requires.stands.0 c.args.message c.requires.placed c.args.moment
+    (known c.args.pass.now) (node_lent L c.args.grant.now) (view c.args.seat.now) c.requires.stands.1
+
+pub go_on_by-requires-clause-can : goal.go_on_by-requires-clause-can
+go_on_by-requires-clause-can g c =
+    let L = layout_in c.args.filer.now in
+    let l = node_lent L c.args.grant.now in
+    let l' = node_lent L c.try_on.new.grant in
+    may-enter L c.args.filer.now.depot.layout.lawful (verifier_in c.args.filer.now) c.requires.stands.0 c.args.message c.requires.placed c.args.moment
+    (known c.args.pass.now) l (view c.args.seat.now) c.requires.stands.1 c.in-Entered.entry l'
+    (entered-so L c.args.message c.args.moment l l' c.try_on.result c.in-Entered.entry _ c.in-Entered.is c.try_on.ensures.ran)
+
+pub answered-requires : goal.answered-requires
+answered-requires g c =
+    let L = layout_in c.args.filer.now in
+    let l = node_lent L c.args.grant.now in
+    let l' = node_lent L c.try_on.new.grant in
+    has-room L c.args.filer.now.depot.layout.lawful (verifier_in c.args.filer.now) c.requires.stands.0 c.args.message c.requires.placed c.args.moment
+    (known c.args.pass.now) l (view c.args.seat.now) c.requires.stands.1 c.in-Entered.entry l'
+    (entered-so L c.args.message c.args.moment l l' c.try_on.result c.in-Entered.entry _ c.in-Entered.is c.try_on.ensures.ran)
+    c.has_eight.ensures c.servers_are_roomy.ensures.begins c.servers_are_roomy.ensures.stays c.replies_fit.ensures.offered
+
+pub returns-in-Moved-clause-linked : goal.returns-in-Moved-clause-linked
+returns-in-Moved-clause-linked g c b stands =
+    let L = layout_in c.args.filer.now in (
+      refl,
+      link-moved L c.args.filer.now.depot.layout.lawful (verifier_in c.args.filer.now) b c.args.message c.requires.placed c.args.moment
+          (known c.args.pass.now) (node_lent L c.args.grant.now) (view c.args.seat.now) stands (node_lent L c.try_on.new.grant)
+          c.try_on.result c.in-Moved.message c.in-Moved.affinity c.in-Moved.is c.try_on.ensures.ran,
+    )
+
+pub returns-in-None-clause-linked : goal.returns-in-None-clause-linked
+returns-in-None-clause-linked g c b stands =
+    let L = layout_in c.args.filer.now in
+    let l = node_lent L c.args.grant.now in
+    let l' = node_lent L c.try_on.new.grant in (
+      refl,
+      link-over L c.args.filer.now.depot.layout.lawful (verifier_in c.args.filer.now) b c.args.message c.requires.placed c.args.moment
+          (known c.args.pass.now) l (view c.args.seat.now) stands l' c.in-Entered.entry
+          (entered-so L c.args.message c.args.moment l l' c.try_on.result c.in-Entered.entry _ c.in-Entered.is c.try_on.ensures.ran)
+          (known c.pick_ahead.new.pass) (view c.args.seat.now) None
+          (subst (λ (k : Option Message). IsAhead (known c.args.pass.now) (known c.pick_ahead.new.pass) k) c.in-None.is c.pick_ahead.ensures.ahead)
+          (none-read (view c.args.seat.now)),
+    )

@@ -1,0 +1,26 @@
+use Rattle.std.proofs.Common.{Option, Some, refl, subst}
+use Rattle.std.specs.Prelude.{IfSome}
+use Rattle.depot.specs.Words.{view}
+use Rattle.parcels.specs.state.Jobs.{batches_in}
+use Rattle.workers.specs.shared_waiting.Passes.{known}
+use Rattle.workers.specs.declared.message.Message.{Message}
+use Rattle.workers.specs.Chains.{left_standing}
+use Rattle.workers.specs.Messages.{IsPlaced}
+use Rattle.workers.specs.Turns.{standing_of}
+use Rattle.workers.specs.Words.{layout_in}
+use Rattle.workers.proofs.Chained.{picked-kept, served-even, served-hand, tried-all}
+use Rattle.workers.proofs.worker.Worker.try_all.Goals as goal
+
+pub invariant_of-self-2 : goal.invariant_of-self-2
+invariant_of-self-2 g c =
+    let L = layout_in c.args.filer.now in
+    let s = standing_of c.args.self.now in
+    let kept = rw c.take.ensures.value at c.in-Some.is in
+    let t = left_standing (view c.serve_all.new.seat) (known c.serve_all.new.pass) c.serve_all-kept.kept in
+    let served = c.serve_all.ensures.served s (picked-kept s.view s.pass s.kept c.in-Some.message kept) in
+    record {
+      balance = served-even g.S.AnswerSink.took L s t c.args.moment c.args.sink.now _ c.serve_all.new.sink served c.args.self.now.balance;
+      in_hand = served-hand g.S.AnswerSink.took L s t c.args.moment c.args.sink.now _ c.serve_all.new.sink served (batches_in c.args.self.now.hand)
+          c.args.self.now.in_hand;
+      none_open = c.serve_all.ensures.ready.none_open;
+    }
