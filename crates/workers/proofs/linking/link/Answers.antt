@@ -1,10 +1,11 @@
-use Rattle.std.proofs.Common.{rules, ◌≡◌, true, false, Option, Some, None, refl, sym, ap, subst}
-use Rattle.affinity_tree.specs.declared.affinity.Affinity.{Affinity}
+use Rattle.std.proofs.Common.{rules, ◌≡◌, true, false, Option, Some, None, refl, subst}
+use Rattle.std.specs.Prelude.{IfSome}
 use Rattle.depot.specs.Words.{view}
 use Rattle.desk.specs.Any.{node_lent}
 use Rattle.workers.specs.declared.message.Message.{Message}
 use Rattle.workers.specs.shared_waiting.Passes.{known}
 use Rattle.workers.specs.Chains.{IsAhead}
+use Rattle.workers.specs.Messages.{IsPlaced}
 use Rattle.workers.specs.Words.{layout_in, verifier_in}
 use Rattle.workers.proofs.Linked.{lent-for, may-enter, has-room, entered-so, link-moved, link-over, link-on, none-read}
 use Rattle.workers.proofs.linking.link.Goals as goal
@@ -56,3 +57,63 @@ returns-in-None-clause-linked g c b stands =
           (subst (λ (k : Option Message). IsAhead (known c.args.pass.now) (known c.pick_ahead.new.pass) k) c.in-None.is c.pick_ahead.ensures.ahead)
           (none-read (view c.args.seat.now)),
     )
+
+pub returns-then-is_same-clause-placed : goal.returns-then-is_same-clause-placed
+returns-then-is_same-clause-placed g c =
+    let L = layout_in c.args.filer.now in
+    subst (λ (k : Option Message). IfSome k (IsPlaced L)) c.in-Some.is (c.pick_ahead.ensures.placed L c.requires.layout)
+
+pub returns-then-is_same-clause-linked : goal.returns-then-is_same-clause-linked
+returns-then-is_same-clause-linked g c b stands =
+    let L = layout_in c.args.filer.now in
+    let l = node_lent L c.args.grant.now in
+    let l' = node_lent L c.try_on.new.grant in (
+      refl,
+      link-over L c.args.filer.now.depot.layout.lawful (verifier_in c.args.filer.now) b c.args.message c.requires.placed c.args.moment
+          (known c.args.pass.now) l (view c.args.seat.now) stands l' c.in-Entered.entry
+          (entered-so L c.args.message c.args.moment l l' c.try_on.result c.in-Entered.entry _ c.in-Entered.is c.try_on.ensures.ran)
+          (known c.pick_ahead.new.pass) (view c.args.seat.now) (Some c.in-Some.next)
+          (subst (λ (k : Option Message). IsAhead (known c.args.pass.now) (known c.pick_ahead.new.pass) k) c.in-Some.is c.pick_ahead.ensures.ahead)
+          (none-read (view c.args.seat.now)),
+    )
+
+pub returns-then-go_on_by-clause-placed : goal.returns-then-go_on_by-clause-placed
+returns-then-go_on_by-clause-placed g c =
+    let L = layout_in c.args.filer.now in
+    subst (λ (k : Option Message). IfSome k (IsPlaced L)) c.in-Some.is (c.pick_ahead.ensures.placed L c.requires.layout)
+
+pub returns-then-go_on_by-clause-linked : goal.returns-then-go_on_by-clause-linked
+returns-then-go_on_by-clause-linked g c b stands =
+    let L = layout_in c.args.filer.now in
+    let l = node_lent L c.args.grant.now in
+    let l' = node_lent L c.try_on.new.grant in
+    let stayed : c.go_on_by.result ≡ false = search rules in
+    let last = c.go_on_by.ensures.stayed stayed in (
+      refl,
+      link-over L c.args.filer.now.depot.layout.lawful (verifier_in c.args.filer.now) b c.args.message c.requires.placed c.args.moment
+          (known c.args.pass.now) l (view c.args.seat.now) stands l' c.in-Entered.entry
+          (entered-so L c.args.message c.args.moment l l' c.try_on.result c.in-Entered.entry _ c.in-Entered.is c.try_on.ensures.ran)
+          (known c.pick_ahead.new.pass) (view c.go_on_by.new.seat) (Some c.in-Some.next)
+          (subst (λ (k : Option Message). IsAhead (known c.args.pass.now) (known c.pick_ahead.new.pass) k) c.in-Some.is c.pick_ahead.ensures.ahead)
+          (last.0, last.1, last.2),
+    )
+
+pub returns-clause-placed : goal.returns-clause-placed
+returns-clause-placed g c =
+    let L = layout_in c.args.filer.now in
+    subst (λ (k : Option Message). IfSome k (IsPlaced L)) c.in-Some.is (c.pick_ahead.ensures.placed L c.requires.layout)
+
+pub returns-clause-linked : goal.returns-clause-linked
+returns-clause-linked g c b stands =
+    let L = layout_in c.args.filer.now in
+    let l = node_lent L c.args.grant.now in
+    let l' = node_lent L c.try_on.new.grant in
+    let went : c.go_on_by.result ≡ true = search rules in
+    let gone = c.go_on_by.ensures.went went in
+    let same : c.in-Some.next.affinity ≡ c.args.message.affinity = search rules in
+    link-on L c.args.filer.now.depot.layout.lawful (verifier_in c.args.filer.now) b c.args.message c.requires.placed c.args.moment
+    (known c.args.pass.now) l (view c.args.seat.now) stands l' c.in-Entered.entry
+    (entered-so L c.args.message c.args.moment l l' c.try_on.result c.in-Entered.entry _ c.in-Entered.is c.try_on.ensures.ran)
+    (known c.pick_ahead.new.pass) (view c.go_on_by.new.seat) g.S.AnswerSink.took c.args.sink.now c.take.new.self c.in-Some.next same
+    (subst (λ (k : Option Message). IsAhead (known c.args.pass.now) (known c.pick_ahead.new.pass) k) c.in-Some.is c.pick_ahead.ensures.ahead)
+    gone.0 gone.1 gone.2 c.answered.result c.answered.ensures c.take.ensures
