@@ -1,8 +1,56 @@
--- The reply of an entry.
-use Rattle.std.proofs.Common.{◌≡◌, ◌∙◌, sym}
+-- An entry of a message's call.
+use Rattle.std.proofs.Common.{◌≡◌, ℕ, ◌≤◌, Bool, length, sym, ap, ◌∙◌, subst}
+use Rattle.nfs_model.specs.Tree.{Layout}
+use Rattle.nfs_values.specs.Reply.{reply_of}
+use Rattle.nfs_values.specs.declared.moment.Moment.{Moment}
 use Rattle.nfs_values.specs.declared.reply.Reply.{Reply}
+use Rattle.affinity_tree.specs.declared.scheduler.message.Origin.{Origin}
+use Rattle.affinity_tree.specs.Numbers.{number_of}
+use Rattle.parcel_sets.specs.Exact.{kind_in}
+use Rattle.depot.specs.Grants.{entry_of, IsFinished}
+use Rattle.desk.specs.laws.Backing.{CanFinish}
+use Rattle.outboxes.specs.Boxes.{Addressed, addressed}
+use Rattle.outboxes.specs.Messages as replies
+use Rattle.outboxes.specs.Messages.{record_of}
+use Rattle.service.specs.declared.job.Job.{Job}
 use Rattle.service.specs.declared.job.JobReply.{JobReply}
 use Rattle.service.specs.declared.job.JobReply.TheVariants.{Replied}
+use Rattle.workers.specs.declared.message.Message.{Message}
+use Rattle.workers.specs.declared.entering.Entry.{Entry}
+use Rattle.workers.specs.Balance.{FilerView}
+use Rattle.workers.specs.Links.{HasRoom, IsEntryFor}
+use Rattle.workers.specs.Runs.{FilerLent}
+use Rattle.workers.specs.Turns.{filer_behaviour, job_of_message}
 
 pub one-reply : (r s : Reply) (told : JobReply) → told ≡ Replied r → Replied s ≡ told → r ≡ s
 one-reply r s told one two = let e : Replied r ≡ Replied s = sym one ∙ sym two in cc
+
+module _ (m : Message) (moment : Moment) (reply : Reply) (starved : Bool) (e : Entry) (is : IsEntryFor m moment reply starved e) where
+  pub entry-can : (layout : Layout) (w : FilerView) (l : FilerLent)
+      → CanFinish kind_in filer_behaviour layout w l (job_of_message m moment starved) (Replied reply)
+      → CanFinish kind_in filer_behaviour layout w l e.job e.told
+  entry-can layout w l can =
+      subst (λ (j : Job). CanFinish kind_in filer_behaviour layout w l j e.told) (sym is.job)
+      (subst (λ (t : JobReply). CanFinish kind_in filer_behaviour layout w l (job_of_message m moment starved) t) (sym is.told) can)
+
+  pub entry-finished : (layout : Layout) (w : FilerView) (l : FilerLent) (u : FilerView)
+      → IsFinished filer_behaviour w (number_of layout l.affinity) (entry_of layout l.affinity l.parcels e.job e.told) u
+      → IsFinished filer_behaviour w (number_of layout l.affinity)
+      (entry_of layout l.affinity l.parcels (job_of_message m moment starved) (Replied reply)) u
+  entry-finished layout w l u finished =
+      subst (λ (t : JobReply). IsFinished filer_behaviour w (number_of layout l.affinity)
+      (entry_of layout l.affinity l.parcels (job_of_message m moment starved) t) u) is.told
+      (subst (λ (j : Job). IsFinished filer_behaviour w (number_of layout l.affinity) (entry_of layout l.affinity l.parcels j e.told) u) is.job
+      finished)
+
+  pub entry-room : length (record_of (replies.message m.origin.xid (reply_of reply))) ≤ m.room → HasRoom e
+  entry-room fits = (
+    reply,
+    is.told,
+    subst (λ (o : Origin). length (record_of (replies.message o.xid (reply_of reply))) ≤ e.room) (sym is.origin)
+        (subst (λ (n : ℕ). length (record_of (replies.message m.origin.xid (reply_of reply))) ≤ n) (sym is.room) fits),
+  )
+
+  pub entry-answer : (a : Addressed) → a ≡ addressed e.origin.connection.0 (replies.message e.origin.xid (reply_of reply))
+      → a ≡ addressed m.origin.connection.0 (replies.message m.origin.xid (reply_of reply))
+  entry-answer a same = same ∙ ap (λ (o : Origin). addressed o.connection.0 (replies.message o.xid (reply_of reply))) is.origin

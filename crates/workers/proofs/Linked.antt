@@ -5,7 +5,6 @@ use Rattle.nfs_values.specs.Reply.{reply_of}
 use Rattle.nfs_values.specs.declared.moment.Moment.{Moment}
 use Rattle.nfs_values.specs.declared.reply.Reply.{Reply}
 use Rattle.affinity_tree.specs.declared.affinity.Affinity as codes
-use Rattle.affinity_tree.specs.declared.scheduler.message.Origin.{Origin}
 use Rattle.affinity_tree.specs.Affinity.{affinity_of}
 use Rattle.affinity_tree.specs.Fault.{fault_of}
 use Rattle.affinity_tree.specs.Numbers.{number_of, parents}
@@ -33,6 +32,7 @@ use Rattle.workers.specs.declared.linking.Link.TheVariants as links
 use Rattle.workers.specs.Runs.{FilerLent, HasRunFrom, HasRunOn, IsLentFor}
 use Rattle.workers.specs.Turns.{filer_behaviour, job_of_message, HasFinished, Standing, HasDoneFrom}
 use Rattle.workers.specs.Words.{IsReady}
+use Rattle.workers.proofs.Entered.{entry-answer, entry-can, entry-finished, entry-room}
 use Rattle.workers.proofs.Replayed.{RoomyBegins, RoomyStays, RepliesFit}
 use Rattle.workers.proofs.Served.{may-finish, may-starve, entered, entered-ready, fits, starved-room}
 
@@ -82,10 +82,7 @@ module _ (layout : Layout) (lawful : fault_of layout ≡ None) (verifier : List 
     run = ran-on enters.outcome l' enters.ran
 
     pub may-enter : CanFinish kind_in filer_behaviour layout w l' e.job e.told
-    may-enter =
-        subst (λ (j : Job). CanFinish kind_in filer_behaviour layout w l' j e.told) (sym enters.entry.job)
-        (subst (λ (t : JobReply). CanFinish kind_in filer_behaviour layout w l' (job_of_message m moment enters.starved) t) (sym enters.entry.told)
-        (by enters.starved enters.is))
+    may-enter = entry-can m moment enters.reply enters.starved e enters.entry layout w l' (by enters.starved enters.is)
       where
         by : (starved : Bool) → IsEntered enters.outcome enters.reply starved
             → CanFinish kind_in filer_behaviour layout w l' (job_of_message m moment starved) (Replied enters.reply)
@@ -93,13 +90,7 @@ module _ (layout : Layout) (lawful : fault_of layout ≡ None) (verifier : List 
         by true is = may-starve layout lawful m placed moment b.view w stands.tree holding-tree enters.outcome l' run enters.reply is.1 is.0
 
     pub has-room : length verifier ≡ 8 → RoomyBegins → RoomyStays → RepliesFit → HasRoom e
-    has-room eight begins stays fit = (
-      enters.reply,
-      enters.entry.told,
-      subst (λ (o : Origin). length (record_of (replies.message o.xid (reply_of enters.reply))) ≤ e.room) (sym enters.entry.origin)
-          (subst (λ (n : ℕ). length (record_of (replies.message m.origin.xid (reply_of enters.reply))) ≤ n) (sym enters.entry.room)
-          (by enters.starved enters.is)),
-    )
+    has-room eight begins stays fit = entry-room m moment enters.reply enters.starved e enters.entry (by enters.starved enters.is)
       where
         by : (starved : Bool) → IsEntered enters.outcome enters.reply starved
             → length (record_of (replies.message m.origin.xid (reply_of enters.reply))) ≤ m.room
@@ -114,11 +105,7 @@ module _ (layout : Layout) (lawful : fault_of layout ≡ None) (verifier : List 
         (finished : IsFinished filer_behaviour w (number_of layout l'.affinity) (entry_of layout l'.affinity l'.parcels e.job e.told) u) where
       ends : IsFinished filer_behaviour w (number_of layout l'.affinity)
           (entry_of layout l'.affinity l'.parcels (job_of_message m moment enters.starved) (Replied enters.reply)) u
-      ends =
-          subst (λ (t : JobReply). IsFinished filer_behaviour w (number_of layout l'.affinity)
-          (entry_of layout l'.affinity l'.parcels (job_of_message m moment enters.starved) t) u) enters.entry.told
-          (subst (λ (j : Job). IsFinished filer_behaviour w (number_of layout l'.affinity)
-          (entry_of layout l'.affinity l'.parcels j e.told) u) enters.entry.job finished)
+      ends = entry-finished m moment enters.reply enters.starved e enters.entry layout w l' u finished
 
       pub is-ready : IsReady layout verifier u
       is-ready =
@@ -129,7 +116,7 @@ module _ (layout : Layout) (lawful : fault_of layout ≡ None) (verifier : List 
         pub is-finished : HasFinished b.view m moment a u
         is-finished =
             entered layout lawful m placed moment b.view w stands.tree holding-tree enters.outcome l' run u enters.reply enters.starved ends a
-            (is ∙ ap (λ (o : Origin). addressed o.connection.0 (replies.message o.xid (reply_of enters.reply))) enters.entry.origin)
+            (entry-answer m moment enters.reply enters.starved e enters.entry a is)
 
         pub is-done : HasDoneFrom b moment a (left_standing u pass None)
         is-done = record { message = m; next = stands.picked.next; put = stands.picked.put; kept = refl; finished = is-finished }

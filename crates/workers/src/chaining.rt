@@ -13,7 +13,7 @@ ghost use Rattle.workers.specs.Words.{layout_in, layout_known, verifier_in, IsRe
 use crate::chained::{AnswerSink, Chained, Hint};
 use crate::envelope::Envelope;
 use crate::granted::begin_on;
-use crate::linking::{Link, Tried, end_on, has_eight, link, try_on};
+use crate::linking::{Link, Tried, end_on, has_eight, link_on, try_on};
 use crate::shared::Filer;
 use crate::shared_waiting::{Pass, SharedWaiting};
 use crate::turned::Gate;
@@ -30,7 +30,7 @@ use service::Service;
 use std::sync::Wait;
 
 /// What is kept of messages that were tried one after the other, and what came of them.
-pub(crate) struct Served {
+pub(crate) struct ServedAll {
     pub(crate) kept: Option<Envelope>,
     pub(crate) chained: Chained,
 }
@@ -87,7 +87,7 @@ fn chain<
 {
     let mut message = message;
     for _link in 1..most {
-        match link::<N, R, G, H, S>(
+        match link_on::<N, R, G, H, S>(
             filer, seat, queue, rt, pass, grant, message, moment, gate, hint, sink,
         ) {
             Link::On(next) => message = next,
@@ -128,7 +128,7 @@ fn serve_all_on<
     hint: &H,
     most: usize,
     sink: &mut S,
-) -> Served
+) -> ServedAll
     requires seat { IsSeatHere filer.now.depot seat.old }
     requires ready { IsReady (layout_in filer.now) (verifier_in filer.now) (view seat.old) }
     requires of { IsOf queue.now pass.old }
@@ -152,7 +152,7 @@ fn serve_all_on<
     let mut grant = match begin_on::<N, G>(filer, seat, &message, gate) {
         Ok(grant) => grant,
         Err(refusal) => {
-            return Served {
+            return ServedAll {
                 kept: Some(message),
                 chained: refused(refusal),
             };
@@ -163,7 +163,7 @@ fn serve_all_on<
     );
     let chained = told(&tried);
     let kept = end_on::<N, G, S>(filer, seat, grant, tried, gate, sink);
-    Served { kept, chained }
+    ServedAll { kept, chained }
 }
 
 /// Begins the call of a message on what it tries, runs it, and ends it; and so with the next
@@ -180,7 +180,7 @@ pub(crate) fn serve_all<R: Wait, G: Gate, H: Hint, S: AnswerSink>(
     hint: &H,
     most: usize,
     sink: &mut S,
-) -> Served
+) -> ServedAll
     requires seat { IsSeatHere filer.now.depot seat.old }
     requires ready { IsReady (layout_in filer.now) (verifier_in filer.now) (view seat.old) }
     requires of { IsOf queue.now pass.old }

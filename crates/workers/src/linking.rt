@@ -131,7 +131,7 @@ pub(crate) fn has_eight(bytes: [u8; 8])
 
 /// Runs the call of a message on what was granted, picks the next message, and where that one
 /// tries the same node, ends the call by its entry and goes on with the grant.
-pub(crate) fn link<
+pub(crate) fn link_on<
     N: TaskNode<Parcel<Files>, ParcelKinds>,
     R: Wait,
     G: Gate,

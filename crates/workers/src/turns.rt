@@ -3,7 +3,7 @@
 ghost use Rattle.std.specs.Prelude.{◌≡◌};
 
 use crate::chained::{AnswerSink, Chained, Hint, leave_word};
-use crate::chaining::{Served, serve_all};
+use crate::chaining::{ServedAll, serve_all};
 use crate::envelope::Envelope;
 use crate::shared::Filer;
 use crate::shared_waiting::{Pass, SharedWaiting};
@@ -49,7 +49,7 @@ impl Worker {
             Some(message) => message,
             None => return Chained::Idle,
         };
-        let Served { kept, chained } = serve_all(
+        let ServedAll { kept, chained } = serve_all(
             filer,
             &mut self.seat,
             queue,

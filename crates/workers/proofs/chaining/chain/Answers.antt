@@ -22,12 +22,12 @@ loop-link-init g c =
           c.args.message (known c.args.pass.now) (node_lent L c.args.grant.now) (view c.args.seat.now) stands;
     }
 
-pub link-requires-clause-layout : goal.link-requires-clause-layout
-link-requires-clause-layout g c =
+pub link_on-requires-clause-layout : goal.link_on-requires-clause-layout
+link_on-requires-clause-layout g c =
     known-still (layout_in c.args.filer.now) (known c.args.pass.now) (known c.loop-link.pass) c.loop-link.invariant.share c.requires.layout
 
-pub link-requires-clause-stands : goal.link-requires-clause-stands
-link-requires-clause-stands g c =
+pub link_on-requires-clause-stands : goal.link_on-requires-clause-stands
+link_on-requires-clause-stands g c =
     let gone = c.loop-link.invariant.gone c.requires.stands.0 c.requires.stands.1 in (gone.between, gone.stands)
 
 pub loop-link-preserved : goal.loop-link-preserved
@@ -37,33 +37,33 @@ loop-link-preserved g c =
     let ver = verifier_in c.args.filer.now in
     let m = c.loop-link.message in
     let pass = known c.loop-link.pass in
-    let pass' = known c.link.new.pass in
+    let pass' = known c.link_on.new.pass in
     let l = node_lent L c.loop-link.grant in
-    let l' = node_lent L c.link.new.grant in
+    let l' = node_lent L c.link_on.new.grant in
     let w = view c.loop-link.seat in
-    let w' = view c.link.new.seat in record {
-      seat = c.link.ensures.seat;
-      splits = c.link.ensures.splits ∙ c.loop-link.invariant.splits;
-      of = c.link.ensures.of;
-      share = share-from (known c.args.pass.now) pass pass' c.loop-link.invariant.share c.link.ensures.share;
-      placed = subst (λ (x : Link). IsNextPlaced L x) c.in-On.is c.link.ensures.placed;
+    let w' = view c.link_on.new.seat in record {
+      seat = c.link_on.ensures.seat;
+      splits = c.link_on.ensures.splits ∙ c.loop-link.invariant.splits;
+      of = c.link_on.ensures.of;
+      share = share-from (known c.args.pass.now) pass pass' c.loop-link.invariant.share c.link_on.ensures.share;
+      placed = subst (λ (x : Link). IsNextPlaced L x) c.in-On.is c.link_on.ensures.placed;
       gone = λ s stands.
           let gone = c.loop-link.invariant.gone s stands in
-          goes-on took g.met.S.AnswerSink.took_more L ver s c.args.moment c.args.sink.now c.loop-link.sink c.link.new.sink m pass pass' l l' w w'
+          goes-on took g.met.S.AnswerSink.took_more L ver s c.args.moment c.args.sink.now c.loop-link.sink c.link_on.new.sink m pass pass' l l' w w'
           gone c.in-On.next
-          (subst (λ (x : Link). HasLinked took L ver gone.between m c.args.moment pass l w c.loop-link.sink x pass' l' w' c.link.new.sink) c.in-On.is
-          (c.link.ensures.linked gone.between gone.stands));
+          (subst (λ (x : Link). HasLinked took L ver gone.between m c.args.moment pass l w c.loop-link.sink x pass' l' w' c.link_on.new.sink) c.in-On.is
+          (c.link_on.ensures.linked gone.between gone.stands));
     }
 
 pub returns-in-Over-clause-splits : goal.returns-in-Over-clause-splits
-returns-in-Over-clause-splits g c = c.link.ensures.splits ∙ c.loop-link.invariant.splits
+returns-in-Over-clause-splits g c = c.link_on.ensures.splits ∙ c.loop-link.invariant.splits
 
 pub returns-in-Over-clause-share : goal.returns-in-Over-clause-share
 returns-in-Over-clause-share g c =
-    share-from (known c.args.pass.now) (known c.loop-link.pass) (known c.link.new.pass) c.loop-link.invariant.share c.link.ensures.share
+    share-from (known c.args.pass.now) (known c.loop-link.pass) (known c.link_on.new.pass) c.loop-link.invariant.share c.link_on.ensures.share
 
 pub returns-in-Over-clause-placed : goal.returns-in-Over-clause-placed
-returns-in-Over-clause-placed g c = subst (λ (x : Link). IsNextPlaced (layout_in c.args.filer.now) x) c.in-Over.is c.link.ensures.placed
+returns-in-Over-clause-placed g c = subst (λ (x : Link). IsNextPlaced (layout_in c.args.filer.now) x) c.in-Over.is c.link_on.ensures.placed
 
 pub returns-in-Over-clause-chained : goal.returns-in-Over-clause-chained
 returns-in-Over-clause-chained g c s stands =
@@ -72,16 +72,16 @@ returns-in-Over-clause-chained g c s stands =
     let ver = verifier_in c.args.filer.now in
     let m = c.loop-link.message in
     let pass = known c.loop-link.pass in
-    let pass' = known c.link.new.pass in
+    let pass' = known c.link_on.new.pass in
     let l = node_lent L c.loop-link.grant in
-    let l' = node_lent L c.link.new.grant in
+    let l' = node_lent L c.link_on.new.grant in
     let w = view c.loop-link.seat in
-    let w' = view c.link.new.seat in
+    let w' = view c.link_on.new.seat in
     let gone = c.loop-link.invariant.gone s stands in
-    stops took g.met.S.AnswerSink.took_more L ver s c.args.moment c.args.sink.now c.loop-link.sink c.link.new.sink m pass pass' l l' w w'
+    stops took g.met.S.AnswerSink.took_more L ver s c.args.moment c.args.sink.now c.loop-link.sink c.link_on.new.sink m pass pass' l l' w w'
     gone c.in-Over.tried
-    (subst (λ (x : Link). HasLinked took L ver gone.between m c.args.moment pass l w c.loop-link.sink x pass' l' w' c.link.new.sink) c.in-Over.is
-    (c.link.ensures.linked gone.between gone.stands))
+    (subst (λ (x : Link). HasLinked took L ver gone.between m c.args.moment pass l w c.loop-link.sink x pass' l' w' c.link_on.new.sink) c.in-Over.is
+    (c.link_on.ensures.linked gone.between gone.stands))
 
 pub try_on-requires-clause-lent : goal.try_on-requires-clause-lent
 try_on-requires-clause-lent g c =

@@ -1,18 +1,26 @@
-use Rattle.std.proofs.Common.{subst}
-use Rattle.affinity_tree.specs.Numbers.{number_of}
-use Rattle.depot.specs.Grants.{entry_of, IsFinished}
 use Rattle.depot.specs.Words.{view}
 use Rattle.desk.specs.Any.{node_lent}
-use Rattle.service.specs.declared.job.JobReply.TheVariants.{Replied}
-use Rattle.workers.specs.Turns.{filer_behaviour, job_of_message}
 use Rattle.workers.specs.Words.{layout_in}
-use Rattle.workers.specs.declared.message.Message.{Message}
+use Rattle.workers.proofs.Entered.{entry-answer, entry-can, entry-finished, entry-room}
 use Rattle.workers.proofs.serving.answer.Goals as goal
+
+pub finish_node-requires-clause-can : goal.finish_node-requires-clause-can
+finish_node-requires-clause-can g c =
+    let L = layout_in c.args.filer.now in
+    entry-can c.args.message c.args.moment c.args.reply c.args.starved c.enter-entry.result c.enter-entry.ensures L (view c.args.seat.now)
+    (node_lent L c.args.grant) c.requires.can
+
+pub answered-requires : goal.answered-requires
+answered-requires g c =
+    entry-room c.args.message c.args.moment c.args.reply c.args.starved c.enter-entry.result c.enter-entry.ensures c.requires.room
 
 pub returns-clause-finished : goal.returns-clause-finished
 returns-clause-finished g c =
     let L = layout_in c.args.filer.now in
-    let l = node_lent L c.args.grant in
-    subst (λ (m : Message). IsFinished filer_behaviour (view c.args.seat.now) (number_of L l.affinity)
-    (entry_of L l.affinity l.parcels (job_of_message m c.args.moment c.args.starved) (Replied c.args.reply)) (view c.finish_node.new.seat))
-    c.into_message-call.ensures c.finish_node.ensures.finished
+    entry-finished c.args.message c.args.moment c.args.reply c.args.starved c.enter-entry.result c.enter-entry.ensures L (view c.args.seat.now)
+    (node_lent L c.args.grant) (view c.finish_node.new.seat) c.finish_node.ensures.finished
+
+pub returns-clause-answer : goal.returns-clause-answer
+returns-clause-answer g c =
+    entry-answer c.args.message c.args.moment c.args.reply c.args.starved c.enter-entry.result c.enter-entry.ensures c.answered.result
+    (c.answered.ensures c.args.reply c.enter-entry.ensures.told)

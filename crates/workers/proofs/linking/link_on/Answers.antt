@@ -8,7 +8,7 @@ use Rattle.workers.specs.Chains.{IsAhead}
 use Rattle.workers.specs.Messages.{IsPlaced}
 use Rattle.workers.specs.Words.{layout_in, verifier_in}
 use Rattle.workers.proofs.Linked.{lent-for, may-enter, has-room, entered-so, link-moved, link-over, link-on, none-read}
-use Rattle.workers.proofs.linking.link.Goals as goal
+use Rattle.workers.proofs.linking.link_on.Goals as goal
 
 pub try_on-requires-clause-lent : goal.try_on-requires-clause-lent
 try_on-requires-clause-lent g c =
