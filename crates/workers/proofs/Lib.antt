@@ -4,7 +4,7 @@ mod Grants
 mod Served
 mod Entered
 mod Linked
-mod Chained
+mod Chains
 mod Turning
 mod Started
 mod Batches

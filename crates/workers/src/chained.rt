@@ -46,7 +46,7 @@ pub trait AnswerSink: Sized {
     ghost took: { Self → List Addressed → Self → Type 0 };
 
     /// Takes an answer.
-    fn take(&mut self, answer: Answer)
+    fn take_answer(&mut self, answer: Answer)
         ensures { took self.old (answer ∷ []) self.new };
 
     ghost took_none: { (s : Self) → took s [] s };
@@ -63,7 +63,7 @@ impl AnswerSink for Outboxes {
 
     ghost took = { HasPutAll };
 
-    fn take(&mut self, answer: Answer) {
+    fn take_answer(&mut self, answer: Answer) {
         self.put(answer);
     }
 

@@ -190,7 +190,7 @@ pub(crate) fn link_on<
     }
     gate.pass(place);
     gate.pass(place_of(next.message(), Stage::Begun));
-    sink.take(answered(entry));
+    sink.take_answer(answered(entry));
     Link::On(next)
 }
 
@@ -228,7 +228,7 @@ pub(crate) fn end_on<N: Node<Parcel<Files>>, G: Gate, S: AnswerSink>(
                 stage: Stage::Ended,
             };
             gate.pass(place);
-            sink.take(answered(entry));
+            sink.take_answer(answered(entry));
             next
         }
     }

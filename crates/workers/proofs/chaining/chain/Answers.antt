@@ -5,7 +5,7 @@ use Rattle.workers.specs.shared_waiting.Passes.{known}
 use Rattle.workers.specs.declared.linking.Link.{Link}
 use Rattle.workers.specs.Links.{HasLinked, IsNextPlaced}
 use Rattle.workers.specs.Words.{layout_in, verifier_in}
-use Rattle.workers.proofs.Chained.{begins, goes-on, stops, lasts, last-placed}
+use Rattle.workers.proofs.Chains.{begins, goes-on, stops, lasts, last-placed}
 use Rattle.workers.proofs.Linked.{lent-for}
 use Rattle.workers.proofs.Turning.{known-still, share-from}
 use Rattle.workers.proofs.chaining.chain.Goals as goal

@@ -5,7 +5,7 @@ use Rattle.workers.specs.declared.chained.Chained.{Chained}
 use Rattle.workers.specs.shared_waiting.Passes.{known}
 use Rattle.workers.specs.Chains.{left_standing, HasServedOn}
 use Rattle.workers.specs.Words.{layout_in, verifier_in}
-use Rattle.workers.proofs.Chained.{can-end, end-placed, end-ready, end-served, picked-kept, refused-served, stands-first}
+use Rattle.workers.proofs.Chains.{can-end, end-placed, end-ready, end-served, picked-kept, refused-served, stands-first}
 use Rattle.workers.proofs.Served.{refused-ready}
 use Rattle.workers.proofs.chaining.serve_all_on.Goals as goal
 

@@ -114,6 +114,6 @@ returns-clause-linked g c b stands =
     link-on L c.args.filer.now.depot.layout.lawful (verifier_in c.args.filer.now) b c.args.message c.requires.placed c.args.moment
     (known c.args.pass.now) l (view c.args.seat.now) stands l' c.in-Entered.entry
     (entered-so L c.args.message c.args.moment l l' c.try_on.result c.in-Entered.entry _ c.in-Entered.is c.try_on.ensures.ran)
-    (known c.pick_ahead.new.pass) (view c.go_on_by.new.seat) g.S.AnswerSink.took c.args.sink.now c.take.new.self c.in-Some.next same
+    (known c.pick_ahead.new.pass) (view c.go_on_by.new.seat) g.S.AnswerSink.took c.args.sink.now c.take_answer.new.self c.in-Some.next same
     (subst (λ (k : Option Message). IsAhead (known c.args.pass.now) (known c.pick_ahead.new.pass) k) c.in-Some.is c.pick_ahead.ensures.ahead)
-    gone.0 gone.1 gone.2 c.answered.result c.answered.ensures c.take.ensures
+    gone.0 gone.1 gone.2 c.answered.result c.answered.ensures c.take_answer.ensures

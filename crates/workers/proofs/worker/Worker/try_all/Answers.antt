@@ -8,7 +8,7 @@ use Rattle.workers.specs.Chains.{left_standing}
 use Rattle.workers.specs.Messages.{IsPlaced}
 use Rattle.workers.specs.Turns.{standing_of}
 use Rattle.workers.specs.Words.{layout_in}
-use Rattle.workers.proofs.Chained.{picked-kept, served-even, served-hand, tried-all}
+use Rattle.workers.proofs.Chains.{picked-kept, served-even, served-hand, tried-all}
 use Rattle.workers.proofs.worker.Worker.try_all.Goals as goal
 
 pub invariant_of-self-2 : goal.invariant_of-self-2

@@ -4,7 +4,7 @@ use Rattle.workers.specs.shared_waiting.Passes.{known}
 use Rattle.workers.specs.Chains.{each_done}
 use Rattle.workers.specs.Turns.{standing_of}
 use Rattle.workers.specs.Words.{layout_in}
-use Rattle.workers.proofs.Chained.{all-done, not-all, none-kept}
+use Rattle.workers.proofs.Chains.{all-done, not-all, none-kept}
 use Rattle.workers.proofs.worker.Worker.turns_beside.Goals as goal
 
 pub returns-clause-turned : goal.returns-clause-turned
