@@ -46,12 +46,12 @@ use Rattle.workers.proofs.Turning.{finishes, hand-stays, keeps, picks, puts}
 
 -- ---- turns one after the other
 
-pub did-snoc : (moment : Moment) (s t u : Standing) (as : List Addressed) (a : Addressed) → DidAll moment s as t → HasDoneFrom t moment a u
-    → DidAll moment s (as ++ a ∷ []) u
+pub did-snoc : (moment : Moment) (s t u : Standing) (rest : List Addressed) (a : Addressed) → DidAll moment s rest t → HasDoneFrom t moment a u
+    → DidAll moment s (rest ++ a ∷ []) u
 did-snoc moment s t u [] a did done = (u, subst (λ (x : Standing). HasDoneFrom x moment a u) did done, refl)
-did-snoc moment s t u (b ∷ as) a did done = (did.0, did.1, did-snoc moment did.0 t u as a did.2 done)
+did-snoc moment s t u (b ∷ rest) a did done = (did.0, did.1, did-snoc moment did.0 t u rest a did.2 done)
 
--- the seat's entries, as a pass and what is kept balance them
+-- the seat's entries, rest a pass and what is kept balance them
 abbrev Even : Standing → Type 0
 Even s = IsEven s.pass (entries_of s.view) s.kept
 
@@ -62,9 +62,9 @@ done-even s t moment a done even =
     subst (λ (k : Option Message). IsEven t.pass (entries_of t.view) k) (sym done.kept)
     (finishes t.pass done.message moment a done.finished.entry (entries_of s.view) (entries_of t.view) kept done.finished.entries done.finished.is)
 
-all-even : (moment : Moment) (s t : Standing) (as : List Addressed) → DidAll moment s as t → Even s → Even t
+all-even : (moment : Moment) (s t : Standing) (rest : List Addressed) → DidAll moment s rest t → Even s → Even t
 all-even moment s t [] did even = subst Even (sym did) even
-all-even moment s t (a ∷ as) did even = all-even moment did.0 t as did.2 (done-even s did.0 moment a did.1 even)
+all-even moment s t (a ∷ rest) did even = all-even moment did.0 t rest did.2 (done-even s did.0 moment a did.1 even)
 
 -- the seat's hand
 abbrev HasHand : List Hand → Standing → Type 0
@@ -76,9 +76,9 @@ done-hand hand s t moment a done own =
     hand-stays (entries_of s.view) (entries_of t.view) f.entry hand (ap (λ (r : jobs.JobReply). takes (job_of f.entry.call) r) f.is.reply)
     (ap (λ (r : jobs.JobReply). gives (job_of f.entry.call) r) f.is.reply) f.entries own
 
-all-hand : (hand : List Hand) (moment : Moment) (s t : Standing) (as : List Addressed) → DidAll moment s as t → HasHand hand s → HasHand hand t
+all-hand : (hand : List Hand) (moment : Moment) (s t : Standing) (rest : List Addressed) → DidAll moment s rest t → HasHand hand s → HasHand hand t
 all-hand hand moment s t [] did own = subst (HasHand hand) (sym did) own
-all-hand hand moment s t (a ∷ as) did own = all-hand hand moment did.0 t as did.2 (done-hand hand s did.0 moment a did.1 own)
+all-hand hand moment s t (a ∷ rest) did own = all-hand hand moment did.0 t rest did.2 (done-hand hand s did.0 moment a did.1 own)
 
 -- a message is kept that is one of those of a record that was picked
 tried-even : (b t : Standing) (m m' : Message) → IsPicked b b.view t.pass m → t.kept ≡ Some m' → m'.origin ≡ m.origin

@@ -17,15 +17,15 @@ use Rattle.workers.specs.Turns.{IsNext, HasNext, HasMoved, Standing, HasDoneFrom
 -- answers put into the outboxes, one after another
 abbrev pub puts : List Addressed → Boxes → Boxes
 puts [] b = b
-puts (a ∷ as) b = puts as (put a b)
+puts (a ∷ rest) b = puts rest (put a b)
 
 abbrev pub HasPutAll : Boxes → List Addressed → Boxes → Type 0
-HasPutAll b as b' = b' ≡ puts as b
+HasPutAll b answers b' = b' ≡ puts answers b
 
 -- turns at a moment, each of which finished a call, by their answers
 abbrev pub DidAll : Moment → Standing → List Addressed → Standing → Type 0
 DidAll moment s [] t = t ≡ s
-DidAll moment s (a ∷ as) t = (mid : Standing) × HasDoneFrom s moment a mid × DidAll moment mid as t
+DidAll moment s (a ∷ rest) t = (mid : Standing) × HasDoneFrom s moment a mid × DidAll moment mid rest t
 
 -- nothing is kept but a message that was picked for the next turn, if one was
 abbrev pub IsAhead : Passed → Passed → Option Message → Type 0

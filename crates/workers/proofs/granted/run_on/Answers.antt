@@ -39,8 +39,8 @@ work_node-outcome-requires-clause-asks g c =
       granted L l.affinity (subst (λ a. IsNode L a) (sym here) placed.node) lent.before lent.tree l.parcels lent.granted.after,
     )
 
-pub returns-clause-ran : goal.returns-clause-ran
-returns-clause-ran g c =
+pub returns : goal.returns
+returns g c =
     let L = layout_in c.args.filer.now in
     let m = c.message-message.result.now in
     subst (λ (x : Message). HasRunFrom L x c.args.moment (node_lent L c.args.grant.now) c.work_node-outcome.result

@@ -6,36 +6,36 @@ use Rattle.workers.specs.Runs.{HasRunFrom}
 use Rattle.workers.specs.Words.{layout_in}
 use Rattle.workers.proofs.linking.try_on.Goals as goal
 
-pub returns-in-Replied-clause-ran : goal.returns-in-Replied-clause-ran
-returns-in-Replied-clause-ran g c = (
+pub returns-in-Replied : goal.returns-in-Replied
+returns-in-Replied g c = (
   refl,
   record {
     outcome = c.run_on.result;
     reply = c.in-Replied.reply;
     starved = false;
     is = c.in-Replied.is;
-    ran = c.run_on.ensures.ran;
+    ran = c.run_on.ensures;
     entry = c.enter.ensures;
   },
 )
 
-pub returns-in-Starved-clause-ran : goal.returns-in-Starved-clause-ran
-returns-in-Starved-clause-ran g c = (
+pub returns-in-Starved : goal.returns-in-Starved
+returns-in-Starved g c = (
   refl,
   record {
     outcome = c.run_on.result;
     reply = SystemError;
     starved = true;
     is = (c.in-Starved.is, refl);
-    ran = c.run_on.ensures.ran;
+    ran = c.run_on.ensures;
     entry = c.enter-in-Starved.ensures;
   },
 )
 
-pub returns-in-Moved-clause-ran : goal.returns-in-Moved-clause-ran
-returns-in-Moved-clause-ran g c =
+pub returns-in-Moved : goal.returns-in-Moved
+returns-in-Moved g c =
     let L = layout_in c.args.filer.now in (
       refl,
       subst (λ (o : Outcome). HasRunFrom L c.args.message c.args.moment (node_lent L c.args.grant.now) o (node_lent L c.run_on.new.grant))
-          c.in-Moved.is c.run_on.ensures.ran,
+          c.in-Moved.is c.run_on.ensures,
     )
