@@ -12,7 +12,7 @@ use Rattle.affinity_tree.specs.Numbers.{number_of, parents}
 use Rattle.parcel_sets.specs.Exact.{kind_in}
 use Rattle.depot.specs.rule.Sums.{total}
 use Rattle.depot.specs.rule.History.{AreHands, entries_of}
-use Rattle.depot.specs.Grants.{IsEnded, IsRefused}
+use Rattle.depot.specs.Grants.{entry_of, IsEnded, IsRefused}
 use Rattle.depot.specs.declared.grants.Refusal.{Refusal}
 use Rattle.depot.specs.declared.grants.Refusal.TheVariants as refusals
 use Rattle.desk.specs.laws.Backing.{CanPutBack, IsGranted}
@@ -46,12 +46,12 @@ use Rattle.workers.proofs.Turning.{finishes, hand-stays, keeps, picks, puts}
 
 -- ---- turns one after the other
 
-pub did-snoc : (moment : Moment) (s t u : Standing) (rest : List Addressed) (a : Addressed) → DidAll moment s rest t → HasDoneFrom t moment a u
-    → DidAll moment s (rest ++ a ∷ []) u
+pub did-snoc : (moment : Moment) (s t u : Standing) (answers : List Addressed) (a : Addressed) → DidAll moment s answers t → HasDoneFrom t moment a u
+    → DidAll moment s (answers ++ a ∷ []) u
 did-snoc moment s t u [] a did done = (u, subst (λ (x : Standing). HasDoneFrom x moment a u) did done, refl)
 did-snoc moment s t u (b ∷ rest) a did done = (did.0, did.1, did-snoc moment did.0 t u rest a did.2 done)
 
--- the seat's entries, rest a pass and what is kept balance them
+-- the seat's entries, balanced by a pass and what is kept
 abbrev Even : Standing → Type 0
 Even s = IsEven s.pass (entries_of s.view) s.kept
 
@@ -62,7 +62,7 @@ done-even s t moment a done even =
     subst (λ (k : Option Message). IsEven t.pass (entries_of t.view) k) (sym done.kept)
     (finishes t.pass done.message moment a done.finished.entry (entries_of s.view) (entries_of t.view) kept done.finished.entries done.finished.is)
 
-all-even : (moment : Moment) (s t : Standing) (rest : List Addressed) → DidAll moment s rest t → Even s → Even t
+all-even : (moment : Moment) (s t : Standing) (answers : List Addressed) → DidAll moment s answers t → Even s → Even t
 all-even moment s t [] did even = subst Even (sym did) even
 all-even moment s t (a ∷ rest) did even = all-even moment did.0 t rest did.2 (done-even s did.0 moment a did.1 even)
 
@@ -76,7 +76,7 @@ done-hand hand s t moment a done own =
     hand-stays (entries_of s.view) (entries_of t.view) f.entry hand (ap (λ (r : jobs.JobReply). takes (job_of f.entry.call) r) f.is.reply)
     (ap (λ (r : jobs.JobReply). gives (job_of f.entry.call) r) f.is.reply) f.entries own
 
-all-hand : (hand : List Hand) (moment : Moment) (s t : Standing) (rest : List Addressed) → DidAll moment s rest t → HasHand hand s → HasHand hand t
+all-hand : (hand : List Hand) (moment : Moment) (s t : Standing) (answers : List Addressed) → DidAll moment s answers t → HasHand hand s → HasHand hand t
 all-hand hand moment s t [] did own = subst (HasHand hand) (sym did) own
 all-hand hand moment s t (a ∷ rest) did own = all-hand hand moment did.0 t rest did.2 (done-hand hand s did.0 moment a did.1 own)
 
@@ -220,7 +220,7 @@ module _ {S : Type 0} (took : S → List Addressed → S → Type 0)
       end-ready (tries.Entered e next) h ended =
           let o = h.over in
           let ready = is-ready layout lawful verifier h.between o.message o.placed moment o.pass o.before o.holding o.stands e l' o.ran
-          (record u { looked = o.holding.looked }) (unread o.holding w' u (number_of layout l'.affinity) _ o.stayed ended.0) in
+          (record u { looked = o.holding.looked }) (unread o.holding w' u (number_of layout l'.affinity) (entry_of layout l'.affinity l'.parcels e.job e.told) o.stayed ended.0) in
           record { opened = ready.opened; none_open = ready.none_open }
 
       pub end-placed : (tried : Tried) → HasChained took layout verifier s moment sink tried pass' l' w' sink1
@@ -264,7 +264,7 @@ module _ {S : Type 0} (took : S → List Addressed → S → Type 0)
           let a = addressed e.origin.connection.0 (replies.message e.origin.xid (reply_of o.ran.reply)) in
           let u0 : FilerView = record u { looked = o.holding.looked } in
           let done = is-done layout lawful verifier h.between o.message o.placed moment o.pass o.before o.holding o.stands e l' o.ran u0
-          (unread o.holding w' u (number_of layout l'.affinity) _ o.stayed ended.0) a refl in
+          (unread o.holding w' u (number_of layout l'.affinity) (entry_of layout l'.affinity l'.parcels e.job e.told) o.stayed ended.0) a refl in
           let did : HasDoneFrom h.between moment a (left_standing u o.pass None) = record {
             message = done.message;
             next = done.next;

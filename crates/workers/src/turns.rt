@@ -1,7 +1,5 @@
 //! A worker's turns one after the other.
 
-ghost use Rattle.std.specs.Prelude.{◌≡◌};
-
 use crate::chained::{AnswerSink, Chained, Hint, leave_word};
 use crate::chaining::{ServedAll, serve_all};
 use crate::envelope::Envelope;
@@ -14,7 +12,7 @@ use nfs_values::Moment;
 use std::sync::Wait;
 
 impl Worker {
-    ghost use Rattle.std.specs.Prelude.{◌≡◌, None, Some};
+    ghost use Rattle.std.specs.Prelude.{◌≡◌};
     ghost use Rattle.crossbeam_queue.specs.Fifo.{Held};
     ghost use Rattle.workers.specs.declared.chained.Chained.TheVariants.{Idle};
     ghost use Rattle.workers.specs.shared_waiting.Balance.{both, Leaves};

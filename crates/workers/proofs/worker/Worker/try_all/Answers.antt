@@ -9,6 +9,7 @@ use Rattle.workers.specs.Messages.{IsPlaced}
 use Rattle.workers.specs.Turns.{standing_of}
 use Rattle.workers.specs.Words.{layout_in}
 use Rattle.workers.proofs.Chains.{picked-kept, served-even, served-hand, tried-all}
+use Rattle.workers.proofs.Turning.{known-still}
 use Rattle.workers.proofs.worker.Worker.try_all.Goals as goal
 
 pub invariant_of-self-2 : goal.invariant_of-self-2
@@ -24,3 +25,18 @@ invariant_of-self-2 g c =
           c.args.self.now.in_hand;
       none_open = c.serve_all.ensures.ready.none_open;
     }
+
+pub returns-clause-inside : goal.returns-clause-inside
+returns-clause-inside g c = record {
+  seat = c.serve_all.ensures.seat;
+  opened = c.serve_all.ensures.ready.opened;
+  pass = c.serve_all.ensures.of;
+  layout = known-still (layout_in c.args.filer.now) (known c.args.self.now.pass) (known c.serve_all.new.pass) c.serve_all.ensures.share c.requires.layout;
+  hand = c.requires.hand;
+  kept = c.serve_all.ensures.placed;
+}
+
+pub returns-clause-tried : goal.returns-clause-tried
+returns-clause-tried g c =
+    tried-all g.S.AnswerSink.took (layout_in c.args.filer.now) (standing_of c.args.self.now) _ c.args.moment c.args.sink.now c.serve_all.new.sink
+    c.in-Some.message (rw c.take.ensures.value at c.in-Some.is) _ c.serve_all.ensures.served
