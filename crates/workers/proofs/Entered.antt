@@ -25,6 +25,10 @@ use Rattle.workers.specs.Turns.{filer_behaviour, job_of_message}
 pub one-reply : (r s : Reply) (told : JobReply) → told ≡ Replied r → Replied s ≡ told → r ≡ s
 one-reply r s told one two = let e : Replied r ≡ Replied s = sym one ∙ sym two in cc
 
+pub entry-for : (m m' : Message) (moment : Moment) (reply : Reply) (starved : Bool) (e : Entry) → m' ≡ m
+    → IsEntryFor m' moment reply starved e → IsEntryFor m moment reply starved e
+entry-for m m' moment reply starved e same is = subst (λ (x : Message). IsEntryFor x moment reply starved e) same is
+
 module _ (m : Message) (moment : Moment) (reply : Reply) (starved : Bool) (e : Entry) (is : IsEntryFor m moment reply starved e) where
   pub entry-can : (layout : Layout) (w : FilerView) (l : FilerLent)
       → CanFinish kind_in filer_behaviour layout w l (job_of_message m moment starved) (Replied reply)

@@ -94,11 +94,11 @@ pub returns-clause-placed : goal.returns-clause-placed
 returns-clause-placed g c =
     let L = layout_in c.args.filer.now in
     last-placed g.S.AnswerSink.took g.met.S.AnswerSink.took_more L (verifier_in c.args.filer.now) c.requires.stands.0 c.args.moment c.loop-link.message
-    (node_lent L c.loop-link.grant) (node_lent L c.try_on.new.grant) c.try_on.result c.try_on.ensures
+    (node_lent L c.loop-link.grant) (node_lent L c.try_on.new.grant) c.try_on.result c.try_on.ensures.ran
 
 pub returns-clause-chained : goal.returns-clause-chained
 returns-clause-chained g c s stands =
     let L = layout_in c.args.filer.now in
     lasts g.S.AnswerSink.took g.met.S.AnswerSink.took_more L (verifier_in c.args.filer.now) s c.args.moment c.args.sink.now c.loop-link.sink
     c.loop-link.message c.loop-link.invariant.placed (known c.loop-link.pass) (node_lent L c.loop-link.grant) (node_lent L c.try_on.new.grant)
-    (view c.loop-link.seat) (c.loop-link.invariant.gone s stands) c.try_on.result c.try_on.ensures
+    (view c.loop-link.seat) (c.loop-link.invariant.gone s stands) c.try_on.result c.try_on.ensures.ran

@@ -15,6 +15,6 @@ pub returns-clause-ran : goal.returns-clause-ran
 returns-clause-ran g c = record {
   before = node_lent (layout_in c.args.filer.now) c.in_ok-grant.grant;
   granted = c.in_ok-grant.ensures.granted;
-  done = c.run_on-outcome.ensures.done;
-  whole = c.run_on-outcome.ensures.whole;
+  done = c.run_on-outcome.ensures.ran.done;
+  whole = c.run_on-outcome.ensures.ran.whole;
 }

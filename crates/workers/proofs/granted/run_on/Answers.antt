@@ -43,11 +43,13 @@ pub returns : goal.returns
 returns g c =
     let L = layout_in c.args.filer.now in
     let m = c.message-message.result.now in
-    subst (λ (x : Message). HasRunFrom L x c.args.moment (node_lent L c.args.grant.now) c.work_node-outcome.result
-    (node_lent L c.work_node-outcome.new.node)) c.message-message.ensures
-    (record {
-      done = subst (λ (x : Layout). IsDone (HasRun m.call (credential_of m.credential) (moment_of c.args.moment)) x (node_lent x c.args.grant.now)
-          c.work_node-outcome.result (node_lent x c.work_node-outcome.new.node)) c.layout-layout.ensures c.work_node-outcome.ensures.done;
-      whole = subst (λ (x : Layout). IsWhole kind_in x (node_lent x c.work_node-outcome.new.node)) c.layout-layout.ensures
-          c.work_node-outcome.ensures.whole;
-    })
+    record {
+      ran = subst (λ (x : Message). HasRunFrom L x c.args.moment (node_lent L c.args.grant.now) c.work_node-outcome.result
+          (node_lent L c.work_node-outcome.new.node)) c.message-message.ensures
+          (record {
+            done = subst (λ (x : Layout). IsDone (HasRun m.call (credential_of m.credential) (moment_of c.args.moment)) x (node_lent x c.args.grant.now)
+                c.work_node-outcome.result (node_lent x c.work_node-outcome.new.node)) c.layout-layout.ensures c.work_node-outcome.ensures.done;
+            whole = subst (λ (x : Layout). IsWhole kind_in x (node_lent x c.work_node-outcome.new.node)) c.layout-layout.ensures
+                c.work_node-outcome.ensures.whole;
+          });
+    }

@@ -23,7 +23,7 @@ go_on_by-requires-clause-can g c =
     let l' = node_lent L c.try_on.new.grant in
     may-enter L c.args.filer.now.depot.layout.lawful (verifier_in c.args.filer.now) c.requires.stands.0 c.args.message c.requires.placed c.args.moment
     (known c.args.pass.now) l (view c.args.seat.now) c.requires.stands.1 c.in-Entered.entry l'
-    (entered-so L c.args.message c.args.moment l l' c.try_on.result c.in-Entered.entry _ c.in-Entered.is c.try_on.ensures)
+    (entered-so L c.args.message c.args.moment l l' c.try_on.result c.in-Entered.entry _ c.in-Entered.is c.try_on.ensures.ran)
 
 pub answered-requires : goal.answered-requires
 answered-requires g c =
@@ -32,7 +32,7 @@ answered-requires g c =
     let l' = node_lent L c.try_on.new.grant in
     has-room L c.args.filer.now.depot.layout.lawful (verifier_in c.args.filer.now) c.requires.stands.0 c.args.message c.requires.placed c.args.moment
     (known c.args.pass.now) l (view c.args.seat.now) c.requires.stands.1 c.in-Entered.entry l'
-    (entered-so L c.args.message c.args.moment l l' c.try_on.result c.in-Entered.entry _ c.in-Entered.is c.try_on.ensures)
+    (entered-so L c.args.message c.args.moment l l' c.try_on.result c.in-Entered.entry _ c.in-Entered.is c.try_on.ensures.ran)
     c.has_eight.ensures c.servers_are_roomy.ensures.begins c.servers_are_roomy.ensures.stays c.replies_fit.ensures.offered
 
 pub returns-in-Moved-clause-linked : goal.returns-in-Moved-clause-linked
@@ -41,7 +41,7 @@ returns-in-Moved-clause-linked g c b stands =
       refl,
       link-moved L c.args.filer.now.depot.layout.lawful (verifier_in c.args.filer.now) b c.args.message c.requires.placed c.args.moment
           (known c.args.pass.now) (node_lent L c.args.grant.now) (view c.args.seat.now) stands (node_lent L c.try_on.new.grant)
-          c.try_on.result c.in-Moved.message c.in-Moved.affinity c.in-Moved.is c.try_on.ensures,
+          c.try_on.result c.in-Moved.message c.in-Moved.affinity c.in-Moved.is c.try_on.ensures.ran,
     )
 
 pub returns-in-None-clause-linked : goal.returns-in-None-clause-linked
@@ -52,38 +52,38 @@ returns-in-None-clause-linked g c b stands =
       refl,
       link-over L c.args.filer.now.depot.layout.lawful (verifier_in c.args.filer.now) b c.args.message c.requires.placed c.args.moment
           (known c.args.pass.now) l (view c.args.seat.now) stands l' c.in-Entered.entry
-          (entered-so L c.args.message c.args.moment l l' c.try_on.result c.in-Entered.entry _ c.in-Entered.is c.try_on.ensures)
+          (entered-so L c.args.message c.args.moment l l' c.try_on.result c.in-Entered.entry _ c.in-Entered.is c.try_on.ensures.ran)
           (known c.pick_ahead.new.pass) (view c.args.seat.now) None
           (subst (λ (k : Option Message). IsAhead (known c.args.pass.now) (known c.pick_ahead.new.pass) k) c.in-None.is c.pick_ahead.ensures.ahead)
           (none-read (view c.args.seat.now)),
     )
 
-pub returns-then-is_same-clause-placed : goal.returns-then-is_same-clause-placed
-returns-then-is_same-clause-placed g c =
+pub returns-then-not-is_same-clause-placed : goal.returns-then-not-is_same-clause-placed
+returns-then-not-is_same-clause-placed g c =
     let L = layout_in c.args.filer.now in
     subst (λ (k : Option Message). IfSome k (IsPlaced L)) c.in-Some.is (c.pick_ahead.ensures.placed L c.requires.layout)
 
-pub returns-then-is_same-clause-linked : goal.returns-then-is_same-clause-linked
-returns-then-is_same-clause-linked g c b stands =
+pub returns-then-not-is_same-clause-linked : goal.returns-then-not-is_same-clause-linked
+returns-then-not-is_same-clause-linked g c b stands =
     let L = layout_in c.args.filer.now in
     let l = node_lent L c.args.grant.now in
     let l' = node_lent L c.try_on.new.grant in (
       refl,
       link-over L c.args.filer.now.depot.layout.lawful (verifier_in c.args.filer.now) b c.args.message c.requires.placed c.args.moment
           (known c.args.pass.now) l (view c.args.seat.now) stands l' c.in-Entered.entry
-          (entered-so L c.args.message c.args.moment l l' c.try_on.result c.in-Entered.entry _ c.in-Entered.is c.try_on.ensures)
+          (entered-so L c.args.message c.args.moment l l' c.try_on.result c.in-Entered.entry _ c.in-Entered.is c.try_on.ensures.ran)
           (known c.pick_ahead.new.pass) (view c.args.seat.now) (Some c.in-Some.next)
           (subst (λ (k : Option Message). IsAhead (known c.args.pass.now) (known c.pick_ahead.new.pass) k) c.in-Some.is c.pick_ahead.ensures.ahead)
           (none-read (view c.args.seat.now)),
     )
 
-pub returns-then-go_on_by-clause-placed : goal.returns-then-go_on_by-clause-placed
-returns-then-go_on_by-clause-placed g c =
+pub returns-then-not-go_on_by-clause-placed : goal.returns-then-not-go_on_by-clause-placed
+returns-then-not-go_on_by-clause-placed g c =
     let L = layout_in c.args.filer.now in
     subst (λ (k : Option Message). IfSome k (IsPlaced L)) c.in-Some.is (c.pick_ahead.ensures.placed L c.requires.layout)
 
-pub returns-then-go_on_by-clause-linked : goal.returns-then-go_on_by-clause-linked
-returns-then-go_on_by-clause-linked g c b stands =
+pub returns-then-not-go_on_by-clause-linked : goal.returns-then-not-go_on_by-clause-linked
+returns-then-not-go_on_by-clause-linked g c b stands =
     let L = layout_in c.args.filer.now in
     let l = node_lent L c.args.grant.now in
     let l' = node_lent L c.try_on.new.grant in
@@ -92,7 +92,7 @@ returns-then-go_on_by-clause-linked g c b stands =
       refl,
       link-over L c.args.filer.now.depot.layout.lawful (verifier_in c.args.filer.now) b c.args.message c.requires.placed c.args.moment
           (known c.args.pass.now) l (view c.args.seat.now) stands l' c.in-Entered.entry
-          (entered-so L c.args.message c.args.moment l l' c.try_on.result c.in-Entered.entry _ c.in-Entered.is c.try_on.ensures)
+          (entered-so L c.args.message c.args.moment l l' c.try_on.result c.in-Entered.entry _ c.in-Entered.is c.try_on.ensures.ran)
           (known c.pick_ahead.new.pass) (view c.go_on_by.new.seat) (Some c.in-Some.next)
           (subst (λ (k : Option Message). IsAhead (known c.args.pass.now) (known c.pick_ahead.new.pass) k) c.in-Some.is c.pick_ahead.ensures.ahead)
           (last.0, last.1, last.2),
@@ -113,7 +113,7 @@ returns-clause-linked g c b stands =
     let same : c.in-Some.next.affinity ≡ c.args.message.affinity = search rules in
     link-on L c.args.filer.now.depot.layout.lawful (verifier_in c.args.filer.now) b c.args.message c.requires.placed c.args.moment
     (known c.args.pass.now) l (view c.args.seat.now) stands l' c.in-Entered.entry
-    (entered-so L c.args.message c.args.moment l l' c.try_on.result c.in-Entered.entry _ c.in-Entered.is c.try_on.ensures)
+    (entered-so L c.args.message c.args.moment l l' c.try_on.result c.in-Entered.entry _ c.in-Entered.is c.try_on.ensures.ran)
     (known c.pick_ahead.new.pass) (view c.go_on_by.new.seat) g.S.AnswerSink.took c.args.sink.now c.take_answer.new.self c.in-Some.next same
     (subst (λ (k : Option Message). IsAhead (known c.args.pass.now) (known c.pick_ahead.new.pass) k) c.in-Some.is c.pick_ahead.ensures.ahead)
     gone.0 gone.1 gone.2 c.answered.result c.answered.ensures c.take_answer.ensures

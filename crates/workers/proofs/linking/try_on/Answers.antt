@@ -7,35 +7,41 @@ use Rattle.workers.specs.Words.{layout_in}
 use Rattle.workers.proofs.linking.try_on.Goals as goal
 
 pub returns-in-Replied : goal.returns-in-Replied
-returns-in-Replied g c = (
-  refl,
-  record {
-    outcome = c.run_on.result;
-    reply = c.in-Replied.reply;
-    starved = false;
-    is = c.in-Replied.is;
-    ran = c.run_on.ensures;
-    entry = c.enter.ensures;
-  },
-)
+returns-in-Replied g c = record {
+  ran = (
+    refl,
+    record {
+      outcome = c.run_on.result;
+      reply = c.in-Replied.reply;
+      starved = false;
+      is = c.in-Replied.is;
+      ran = c.run_on.ensures.ran;
+      entry = c.enter.ensures;
+    },
+  );
+}
 
 pub returns-in-Starved : goal.returns-in-Starved
-returns-in-Starved g c = (
-  refl,
-  record {
-    outcome = c.run_on.result;
-    reply = SystemError;
-    starved = true;
-    is = (c.in-Starved.is, refl);
-    ran = c.run_on.ensures;
-    entry = c.enter-in-Starved.ensures;
-  },
-)
+returns-in-Starved g c = record {
+  ran = (
+    refl,
+    record {
+      outcome = c.run_on.result;
+      reply = SystemError;
+      starved = true;
+      is = (c.in-Starved.is, refl);
+      ran = c.run_on.ensures.ran;
+      entry = c.enter-in-Starved.ensures;
+    },
+  );
+}
 
 pub returns-in-Moved : goal.returns-in-Moved
 returns-in-Moved g c =
-    let L = layout_in c.args.filer.now in (
-      refl,
-      subst (λ (o : Outcome). HasRunFrom L c.args.message c.args.moment (node_lent L c.args.grant.now) o (node_lent L c.run_on.new.grant))
-          c.in-Moved.is c.run_on.ensures,
-    )
+    let L = layout_in c.args.filer.now in record {
+      ran = (
+        refl,
+        subst (λ (o : Outcome). HasRunFrom L c.args.message c.args.moment (node_lent L c.args.grant.now) o (node_lent L c.run_on.new.grant))
+            c.in-Moved.is c.run_on.ensures.ran,
+      );
+    }

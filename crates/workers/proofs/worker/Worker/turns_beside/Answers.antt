@@ -1,11 +1,19 @@
 use Rattle.depot.specs.Words.{view}
-use Rattle.std.proofs.Common.{◌≡◌, true, false, rules, ap, ◌∙◌, sym}
+use Rattle.std.proofs.Common.{◌≡◌, true, false, rules}
 use Rattle.workers.specs.shared_waiting.Passes.{known}
 use Rattle.workers.specs.Chains.{each_done}
 use Rattle.workers.specs.Turns.{standing_of}
 use Rattle.workers.specs.Words.{layout_in}
 use Rattle.workers.proofs.Chains.{all-done, not-all, none-kept}
 use Rattle.workers.proofs.worker.Worker.turns_beside.Goals as goal
+
+pub returns-then-is_done-clause-turned : goal.returns-then-is_done-clause-turned
+returns-then-is_done-clause-turned g c =
+    let is : each_done c.try_all-chained.result ≡ true = search rules in
+    all-done g.S.AnswerSink.took g.met.S.AnswerSink.took_none (layout_in c.args.filer.now) (standing_of c.args.self.now)
+    (standing_of c.pick_beside.new.self) (standing_of c.try_all-chained.new.self) c.args.moment c.args.sink.now c.try_all-chained.new.sink
+    (λ j. view (c.pick_beside.ensures.seat j)) c.pick_beside.ensures.next c.pick_beside.ensures.put c.try_all-chained.result is
+    c.try_all-chained.ensures.tried
 
 pub returns-clause-turned : goal.returns-clause-turned
 returns-clause-turned g c =
