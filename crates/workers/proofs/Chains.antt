@@ -80,7 +80,7 @@ all-hand : (hand : List Hand) (moment : Moment) (s t : Standing) (answers : List
 all-hand hand moment s t [] did own = subst (HasHand hand) (sym did) own
 all-hand hand moment s t (a ∷ rest) did own = all-hand hand moment did.0 t rest did.2 (done-hand hand s did.0 moment a did.1 own)
 
--- a message is kept that is one of those of a record that was picked
+-- a message of the record that was picked is kept
 tried-even : (b t : Standing) (m m' : Message) → IsPicked b b.view t.pass m → t.kept ≡ Some m' → m'.origin ≡ m.origin
     → entries_of t.view ≡ entries_of b.view → Even b → Even t
 tried-even b t m m' picked kept origin same even =

@@ -12,7 +12,7 @@ use Rattle.workers.specs.declared.turned.Turned.TheVariants as turns
 use Rattle.workers.specs.declared.chained.Chained.{Chained}
 use Rattle.workers.specs.declared.chained.Chained.TheVariants as chains
 use Rattle.workers.specs.Balance.{Passed, FilerView}
-use Rattle.workers.specs.Turns.{IsNext, HasNext, HasMoved, Standing, HasDoneFrom, DidFrom}
+use Rattle.workers.specs.Turns.{IsNext, HasMoved, Standing, HasDoneFrom, DidFrom}
 
 -- answers put into the outboxes, one after another
 abbrev pub puts : List Addressed → Boxes → Boxes

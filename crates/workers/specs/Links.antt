@@ -1,11 +1,10 @@
 -- A message under a grant that stays open, and the one after it.
-use Rattle.std.specs.Prelude.{◌≡◌, ℕ, ◌≤◌, Bool, true, false, List, [], ◌∷◌, ◌++◌, length, Option, Some, None, IfSome}
+use Rattle.std.specs.Prelude.{◌≡◌, ℕ, ◌≤◌, Bool, true, false, List, [], ◌∷◌, length, Option, Some, None, IfSome}
 use Rattle.nfs_model.specs.Types.{SystemError}
 use Rattle.nfs_model.specs.Tree.{Layout}
 use Rattle.nfs_values.specs.Reply.{reply_of}
 use Rattle.nfs_values.specs.declared.moment.Moment.{Moment}
 use Rattle.nfs_values.specs.declared.reply.Reply.{Reply}
-use Rattle.affinity_tree.specs.declared.affinity.Affinity as codes
 use Rattle.affinity_tree.specs.Affinity.{affinity_of}
 use Rattle.affinity_tree.specs.Numbers.{number_of, parents}
 use Rattle.parcel_sets.specs.Exact.{kind_in}
