@@ -152,7 +152,7 @@ fn data_is_copied(rt: HostRuntime) {
         } => {
             same(&rt, handle.as_bytes(), &[7]);
             holds(&rt, *offset == 8 && *count == 3);
-            same(&rt, bytes, &[1, 2, 3]);
+            same(&rt, bytes.as_slice(), &[1, 2, 3]);
         }
         _ => panic!(rt; "no WRITE"),
     }

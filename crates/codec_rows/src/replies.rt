@@ -2,8 +2,8 @@
 
 use crate::bytes::{bytes_of, holds, same};
 use nfs_values::{
-    Answer, AuthFault, Call, Cookie, CreateMode, FileHandle, Fileid, Name, Named, Reply, Target,
-    Verifier, VolumeNumber,
+    Answer, AuthFault, BytesToWrite, Call, Cookie, CreateMode, FileHandle, Fileid, Name, Named,
+    Reply, Target, Verifier, VolumeNumber,
 };
 use rpc_msg::{room_of_reply, write_reply, write_reply_record};
 use std::alloc::Global;
@@ -76,7 +76,7 @@ fn rooms_of_writes(rt: HostRuntime) {
         handle: root(),
         offset: 0,
         count: 4,
-        bytes: Vec::new(rt.alloc()),
+        bytes: BytesToWrite::all(Vec::new(rt.alloc())),
     };
     takes(&rt, write, 56);
     let create = Call::Create {

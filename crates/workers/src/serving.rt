@@ -91,8 +91,8 @@ fn answer<N: Node<Parcel<Files>>>(
     let told = JobReply::Replied(reply);
     finish_node::<Service, N>(&filer.depot, seat, grant, &job, &told);
     drop(job);
-    let reply = into_reply(told);
-    let answer = Answer::new(origin.connection, origin.xid, &reply, room);
+    let mut reply = into_reply(told);
+    let answer = Answer::new(origin.connection, origin.xid, &mut reply, room);
     drop(reply);
     answer
 }
