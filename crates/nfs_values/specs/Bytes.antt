@@ -1,6 +1,6 @@
 -- The bytes of a READ, in place.
 use Rattle.std.specs.Prelude.{◌≡◌, ◌⊎◌, ℕ, ◌+◌, ◌-◌, ◌%◌, ◌≤◌, [], length, vec_len, vec_capacity}
-use Rattle.std.specs.Vec.{Vec}
+use Rattle.std.specs.Global.{Vec}
 
 -- There is nothing, or 48 bytes before those of the READ; and room for zeros up to a multiple of four.
 abbrev pub HasRoom : Vec ℕ → Type 0

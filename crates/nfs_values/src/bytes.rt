@@ -103,6 +103,27 @@ pub fn room_to_read(alloc: Global, count: usize) -> Result<Vec<u8>, AllocError>
     Ok(room)
 }
 
+/// Puts a head before the bytes.
+fn put_head(place: &mut [u8], head: &[u8])
+    requires head { length head.now ≡ 48 }
+    requires place { 48 ≤ length place.old }
+    ensures { place.new ≡ head.now ++ drop 48 place.old }
+{
+    place[..HEAD].copy_from_slice(head);
+}
+
+/// Puts zeros behind the bytes, up to a multiple of four.
+fn pad(place: &mut Vec<u8>)
+    requires head { 48 ≤ length place.old.items }
+    requires room { vec_len place.old + (4 - (vec_len place.old - 48) % 4) % 4
+        ≤ vec_capacity place.old }
+    ensures { place.new.items
+        ≡ place.old.items ++ replicate ((4 - (length place.old.items - 48) % 4) % 4) 0 }
+{
+    let padding = (4 - (place.len() - HEAD) % 4) % 4;
+    place.extend_from_slice(&[0; 4][..padding]).unwrap();
+}
+
 impl BytesRead {
     /// No bytes.
     pub fn none(alloc: Global) -> BytesRead
@@ -145,9 +166,8 @@ impl BytesRead {
         if self.place.is_empty() {
             return;
         }
-        let padding = (4 - (self.place.len() - HEAD) % 4) % 4;
-        self.place[..HEAD].copy_from_slice(head);
-        self.place.extend_from_slice(&[0; 4][..padding]).unwrap();
+        put_head(&mut self.place, head);
+        pad(&mut self.place);
         mem::swap(&mut self.place, head);
     }
 }

@@ -1,0 +1,42 @@
+-- Arguments and bytes where they stand in records.
+use Rattle.std.proofs.Common.{◌≡◌, ℕ, ◌+◌, ◌-◌, ◌%◌, ◌≤◌, Bool, List, [], ◌∷◌, ◌++◌, length, drop, replicate, refl, sym, ap, ◌∙◌, append_assoc, arith}
+use Rattle.std.specs.List.{flat_map}
+use Rattle.std.proofs.lemmas.List.{length-append, drop_at}
+use Rattle.xdr.specs.Shape.{word, flag, spelling}
+use Rattle.xdr.specs.lemmas.Items.{IsBytes}
+use Rattle.nfs_model.specs.Types as model
+use Rattle.nfs_values.specs.declared.procedure.Procedure.{Procedure}
+use Rattle.nfs_values.specs.Procedure.{numbers_of}
+use Rattle.rpc_msg.specs.Heads.{Call, head_of}
+use Rattle.rpc_msg.specs.Calls.{call_shape, call_value}
+use Rattle.rpc_msg.specs.Replies.{accepted, message, reply_bytes}
+use Rattle.rpc_msg.proofs.Spelled.{call_found}
+
+-- the arguments of a call end its record
+pub arguments-stand : (bytes : List ℕ) (xid : ℕ) (p : Procedure) (who : model.Credential) (arguments : List ℕ) (from : ℕ) → IsBytes bytes
+    → head_of bytes ≡ Call xid p who arguments → from ≡ length bytes - length arguments → drop from bytes ≡ arguments
+arguments-stand bytes xid p who arguments from fits e is =
+    let c = call_found bytes xid p who arguments fits e in
+    let head = spelling call_shape (call_value xid (numbers_of p) c.version c.cred c.verf) in
+    let size : length bytes ≡ length (head ++ arguments) = ap (λ (l : List ℕ). length l) c.bytes_are in
+    ap (λ (l : List ℕ). drop from l) c.bytes_are ∙ drop_at head arguments from (omega (arith, size, length-append head arguments, is))
+
+-- NFS3_OK, no attributes, count, eof and the length of the bytes, before the bytes (RFC 1813 section 3.3.6)
+abbrev pub arm_of : ℕ → Bool → List ℕ
+arm_of n eof = flat_map word (0 ∷ 0 ∷ n ∷ flag eof ∷ n ∷ [])
+
+-- the head of a READ's reply, behind its record's header
+pub head-size : (xid n : ℕ) (eof : Bool) (header head : List ℕ) → length header ≡ 4 → head ≡ header ++ (message xid ++ accepted 0 (arm_of n eof))
+    → length head ≡ 48
+head-size xid n eof header head size is =
+    let all : length head ≡ length (header ++ (message xid ++ accepted 0 (arm_of n eof))) = ap (λ (l : List ℕ). length l) is in
+    let rest : length (message xid ++ accepted 0 (arm_of n eof)) ≡ 44 = refl in
+    omega (arith, all, length-append header (message xid ++ accepted 0 (arm_of n eof)), rest, size)
+
+-- and the bytes behind it
+pub read-whole : (xid : ℕ) (eof : Bool) (bytes header head whole : List ℕ)
+    → head ≡ header ++ (message xid ++ accepted 0 (arm_of (length bytes) eof)) → whole ≡ head ++ (bytes ++ replicate ((4 - length bytes % 4) % 4) 0)
+    → whole ≡ header ++ reply_bytes xid (model.Success (model.ReadDone (length bytes) eof bytes))
+read-whole xid eof bytes header head whole is e =
+    let padded = bytes ++ replicate ((4 - length bytes % 4) % 4) 0 in
+    e ∙ ap (λ (l : List ℕ). l ++ padded) is ∙ append_assoc header (message xid ++ accepted 0 (arm_of (length bytes) eof)) padded
