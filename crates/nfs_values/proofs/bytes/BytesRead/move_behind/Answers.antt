@@ -1,4 +1,4 @@
-use Rattle.std.proofs.Common.{drop, ◌++◌, sym, ap, ◌∙◌, List, ℕ, arith}
+use Rattle.std.proofs.Common.{drop, ◌++◌, sym, ap, ◌∙◌, ℕ, arith}
 use Rattle.std.specs.Global.{Vec}
 use Rattle.std.proofs.lemmas.List.{drop_all}
 use Rattle.nfs_values.proofs.Behind.{has-head, with-head, long-still, moved}
