@@ -1,8 +1,7 @@
 -- The data of a WRITE, where they stand in its record.
-use Rattle.std.proofs.Common.{◌≡◌, ℕ, ◌+◌, ◌-◌, ◌<◌, ◌≤◌, List, ◌++◌, length, get_or, take, drop, replicate, Result, Ok, inl, inr, refl, sym, ap, ◌∙◌, append_assoc}
+use Rattle.std.proofs.Common.{◌≡◌, ℕ, ◌+◌, ◌-◌, ◌≤◌, List, ◌++◌, length, take, drop, replicate, Result, Ok, refl, sym, ap, ◌∙◌, append_assoc}
 use Rattle.std.proofs.Common.{arith}
-use Rattle.std.proofs.lemmas.Bool.{cases_lt}
-use Rattle.std.proofs.lemmas.List.{length-append, length-drop, length-replicate, get_or_past, take_all, take_at, drop_at, take-append-drop}
+use Rattle.std.proofs.lemmas.List.{length-append, length-drop, length-replicate, take_all, take_at, drop_at, take-append-drop}
 use Rattle.xdr.specs.declared.fault.Fault.{Fault}
 use Rattle.xdr.specs.Shape.{Value, word, hyper, padding, spelling}
 use Rattle.xdr.specs.Reading.{◌>>=◌, all_of}
@@ -11,14 +10,6 @@ use Rattle.xdr.specs.lemmas.Shapes.{all_found}
 use Rattle.nfs_model.specs.Types as model
 use Rattle.nfs_types.specs.Shapes.{handle_shape}
 use Rattle.nfs_types.specs.Arguments.{asked_by, write_call, writing_shape}
-
--- bytes by index
-pub are-bytes : (bytes : List ℕ) → ((i : ℕ) → i < length bytes → get_or bytes i 0 < 256) → IsBytes bytes
-are-bytes bytes h i =
-    elim (cases_lt i (length bytes)) [
-      | inl lt ↦ h i lt
-      | inr le ↦ rw (get_or_past bytes i 0 le) (omega arith)
-    ]
 
 -- all from one on
 pub rest-is : (bytes lent : List ℕ) (from : ℕ) → lent ≡ bytes → take (length lent - from) (drop from lent) ≡ drop from bytes

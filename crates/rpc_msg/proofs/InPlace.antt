@@ -12,18 +12,35 @@ use Rattle.rpc_msg.specs.Calls.{call_shape, call_value}
 use Rattle.rpc_msg.specs.Replies.{accepted, message, reply_bytes}
 use Rattle.rpc_msg.proofs.Spelled.{call_found}
 
--- the arguments of a call end its record
-pub arguments-stand : (bytes : List ℕ) (xid : ℕ) (p : Procedure) (who : model.Credential) (arguments : List ℕ) (from : ℕ) → IsBytes bytes
-    → head_of bytes ≡ Call xid p who arguments → from ≡ length bytes - length arguments → drop from bytes ≡ arguments
-arguments-stand bytes xid p who arguments from fits e is =
+-- arguments end a record of so many bytes
+pub record End (record_bytes arguments : List ℕ) (len : ℕ) : Type 0 where
+  pub fits : length arguments ≤ len
+  pub there : drop (len - length arguments) record_bytes ≡ arguments
+
+pub arguments-end : (bytes : List ℕ) (xid : ℕ) (p : Procedure) (who : model.Credential) (arguments : List ℕ) (len : ℕ) → IsBytes bytes
+    → head_of bytes ≡ Call xid p who arguments → len ≡ length bytes → End bytes arguments len
+arguments-end bytes xid p who arguments len fits e is =
     let c = call_found bytes xid p who arguments fits e in
-    let head = spelling call_shape (call_value xid (numbers_of p) c.version c.cred c.verf) in
+    let head : List ℕ = spelling call_shape (call_value xid (numbers_of p) c.version c.cred c.verf) in
     let size : length bytes ≡ length (head ++ arguments) = ap (λ (l : List ℕ). length l) c.bytes_are in
-    ap (λ (l : List ℕ). drop from l) c.bytes_are ∙ drop_at head arguments from (omega (arith, size, length-append head arguments, is))
+    let parts = length-append head arguments in
+    record {
+      fits = omega (arith, size, parts, is);
+      there = ap (λ (l : List ℕ). drop (len - length arguments) l) c.bytes_are
+          ∙ drop_at head arguments (len - length arguments) (omega (arith, size, parts, is));
+    }
 
 -- NFS3_OK, no attributes, count, eof and the length of the bytes, before the bytes (RFC 1813 section 3.3.6)
 abbrev pub arm_of : ℕ → Bool → List ℕ
 arm_of n eof = flat_map word (0 ∷ 0 ∷ n ∷ flag eof ∷ n ∷ [])
+
+-- the bytes of a READ are fewer than those of its reply
+pub bytes-few : (xid : ℕ) (eof : Bool) (bytes : List ℕ)
+    → length bytes ≤ length (reply_bytes xid (model.Success (model.ReadDone (length bytes) eof bytes)))
+bytes-few xid eof bytes =
+    let zeros : List ℕ = replicate ((4 - length bytes % 4) % 4) 0 in
+    let all : length (reply_bytes xid (model.Success (model.ReadDone (length bytes) eof bytes))) ≡ 44 + length (bytes ++ zeros) = refl in
+    omega (arith, all, length-append bytes zeros)
 
 -- the head of a READ's reply, behind its record's header
 pub head-size : (xid n : ℕ) (eof : Bool) (header head : List ℕ) → length header ≡ 4 → head ≡ header ++ (message xid ++ accepted 0 (arm_of n eof))

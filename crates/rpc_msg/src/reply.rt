@@ -172,6 +172,7 @@ fn gives_bytes(reply: &Reply) -> bool
 /// Appends the reply of a READ to its record's header. Its bytes aren't copied.
 fn append_read(xid: u32, reply: &mut Reply, out: &mut Vec<u8>)
     requires gives { GivesBytes reply.old }
+    requires short { length (reply_bytes xid (reply_of reply.old)) ≤ limit }
     requires header { length out.old.items ≡ 4 }
     requires room { 48 ≤ vec_capacity out.old }
     ensures { out.new.items ≡ out.old.items ++ reply_bytes xid (reply_of reply.old) }
