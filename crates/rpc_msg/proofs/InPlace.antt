@@ -39,18 +39,10 @@ pub bytes-few : (xid : ℕ) (eof : Bool) (bytes : List ℕ)
     → length bytes ≤ length (reply_bytes xid (model.Success (model.ReadDone (length bytes) eof bytes)))
 bytes-few xid eof bytes =
     let zeros : List ℕ = replicate ((4 - length bytes % 4) % 4) 0 in
-    let all : length (reply_bytes xid (model.Success (model.ReadDone (length bytes) eof bytes))) ≡ 44 + length (bytes ++ zeros) = refl in
+    let all : length (reply_bytes xid (model.Success (model.ReadDone (length bytes) eof bytes))) ≡ 44 + length (bytes ++ zeros) = omega arith in
     omega (arith, all, length-append bytes zeros)
 
--- the head of a READ's reply, behind its record's header
-pub head-size : (xid n : ℕ) (eof : Bool) (header head : List ℕ) → length header ≡ 4 → head ≡ header ++ (message xid ++ accepted 0 (arm_of n eof))
-    → length head ≡ 48
-head-size xid n eof header head size is =
-    let all : length head ≡ length (header ++ (message xid ++ accepted 0 (arm_of n eof))) = ap (λ (l : List ℕ). length l) is in
-    let rest : length (message xid ++ accepted 0 (arm_of n eof)) ≡ 44 = refl in
-    omega (arith, all, length-append header (message xid ++ accepted 0 (arm_of n eof)), rest, size)
-
--- and the bytes behind it
+-- the reply of a READ to its header, and the bytes behind it
 pub read-whole : (xid : ℕ) (eof : Bool) (bytes header head whole : List ℕ)
     → head ≡ header ++ (message xid ++ accepted 0 (arm_of (length bytes) eof)) → whole ≡ head ++ (bytes ++ replicate ((4 - length bytes % 4) % 4) 0)
     → whole ≡ header ++ reply_bytes xid (model.Success (model.ReadDone (length bytes) eof bytes))
