@@ -1,6 +1,6 @@
 -- READ of a set, as its checks come out.
 use Rattle.std.proofs.Common.{◌≡◌, ℕ, zero, suc, ◌+◌, ◌-◌, ◌<◌, min, Bool, true, false, List, [], ◌++◌, map, length, drop, Option, Result, Ok, Err}
-use Rattle.std.proofs.Common.{refl, sym, ap, ◌∙◌, subst, arith}
+use Rattle.std.proofs.Common.{◌≤◌, vec_len, vec_capacity, Vec, length-append, refl, sym, ap, ◌∙◌, subst, arith}
 use Rattle.std.proofs.lemmas.Bool.Decides.{nat_tests}
 use Rattle.std.proofs.lemmas.List.{drop_at}
 use Rattle.std.proofs.lemmas.List.FromFn.{length-map-range_with_len}
@@ -69,6 +69,15 @@ module _ (f : ℕ → ℕ) (offset most size : ℕ) where
       → ReadDone (length read) eof read ≡ read_told bytes offset most size
   told-read given eof head place read count ends size is behind =
       told-these given eof read count ends (behind ∙ ap (λ (l : List ℕ). drop 48 l) is ∙ drop_at head (bytes given) 48 size)
+
+-- room that is left behind what was read
+pub room-behind : {Z : Type 0} (old new : Vec ℕ Z) (f : ℕ → ℕ) (offset n : ℕ) → new.items ≡ old.items ++ map f (range_with_len offset n)
+    → vec_capacity old ≤ vec_capacity new → vec_len old + n + 3 ≤ vec_capacity old → vec_len new + 3 ≤ vec_capacity new
+room-behind old new f offset n is more room =
+    let long : vec_len new ≡ vec_len old + n =
+    new.ok.0 ∙ ap (λ (l : List ℕ). length l) is ∙ length-append old.items (map f (range_with_len offset n))
+    ∙ (λ j. sym old.ok.0 j + length-map-range_with_len f offset n j) in
+    omega (arith, long, more, room)
 
 -- ---- by a stripe
 

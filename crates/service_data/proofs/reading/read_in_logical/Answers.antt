@@ -8,7 +8,7 @@ use Rattle.parcels.specs.state.Lenses.{LogicalSet}
 use Rattle.parcels.specs.state.Sets.{logical_before}
 use Rattle.parcels.specs.state.Tree.{file_byte}
 use Rattle.service_data.proofs.Spanned.{stripes-held}
-use Rattle.service_data.proofs.Told.{told-read, told-none, logical-told, logical-right, logical-starved}
+use Rattle.service_data.proofs.Told.{told-read, told-none, room-behind, logical-told, logical-right, logical-starved}
 use Rattle.service_data.proofs.reading.read_in_logical.Goals as goal
 
 pub returns-in-Err : goal.returns-in-Err
@@ -20,11 +20,11 @@ returns-in-Err c =
           (sym (logical-told c.args.fileid.0 c.args.offset c.args.count set _ (Err c.in-Err.status) there c.in-Err.ensures));
     }
 
-pub returns-if-given-eq-0 : goal.returns-if-given-eq-0
-returns-if-given-eq-0 c =
+pub returns-then-given-eq0 : goal.returns-then-given-eq0
+returns-then-given-eq0 c =
     let set : LogicalSet = logical_before c.args.held.now in
     let there = c.get-2.ensures ∙ ap (λ (l : LogicalValue). inode_of l.inodes c.args.fileid.0) c.get.ensures in
-    let none : c.given_of-given.result.0 ≡ 0 = grind (arith, nat_tests, c.if-given-eq-0.true) in
+    let none : c.given_of-given.result.0 ≡ 0 = grind (arith, nat_tests, c.if-given-eq0.true) in
     record {
       right = logical-right c.args.fileid.0 c.args.offset c.args.count set (Ok c.none_read.result)
           (ap (λ (r : ReadResults). answers.bytes_read r) c.none_read.ensures
@@ -37,7 +37,7 @@ pub returns-in_err-place : goal.returns-in_err-place
 returns-in_err-place c =
     let set : LogicalSet = logical_before c.args.held.now in
     let there = c.get-2.ensures ∙ ap (λ (l : LogicalValue). inode_of l.inodes c.args.fileid.0) c.get.ensures in
-    let some : 0 < c.given_of-given.result.0 = grind (arith, nat_tests, c.if-given-eq-0.false) in
+    let some : 0 < c.given_of-given.result.0 = grind (arith, nat_tests, c.if-given-eq0.false) in
     record {
       right = logical-starved c.args.fileid.0 c.args.offset c.args.count set c.from_residual.result c.from_residual.ensures.0 c.in-Ok.size
           c.given_of-given.result.0 some c.given_of-given.ensures.given
@@ -46,6 +46,12 @@ returns-in_err-place c =
 
 pub read_spans-requires-clause-stripes : goal.read_spans-requires-clause-stripes
 read_spans-requires-clause-stripes c = stripes-held c.args.held.now c.requires.whole
+
+pub new-bytes-requires-clause-room : goal.new-bytes-requires-clause-room
+new-bytes-requires-clause-room c =
+    let set : LogicalSet = logical_before c.args.held.now in
+    room-behind c.in_ok-place.place c.read_spans.new.into (file_byte set.stripes c.args.fileid.0) c.args.offset c.given_of-given.result.0
+    c.read_spans.ensures.bytes c.read_spans.ensures.capacity c.in_ok-place.ensures.room
 
 pub returns : goal.returns
 returns c =
