@@ -1,7 +1,7 @@
 //! Arguments that take memory, each once where memory is there.
 
 use crate::bytes::{holds, joined, same};
-use nfs_types::{Bad, decode_args, decode_call};
+use nfs_types::{Bad, decode_args, decode_call, decode_in_place};
 use nfs_values::{
     Call, CreateMode, Moment, NFS_PROGRAM, Procedure, SetAttributes, SetTime, Target,
 };
@@ -136,26 +136,41 @@ fn directories_are_made_with_attributes(rt: HostRuntime) {
     mem::forget(call);
 }
 
-#[test]
-fn data_is_copied(rt: HostRuntime) {
-    let arguments = [
-        0, 0, 0, 1, 7, 0, 0, 0, 0, 0, 0, 0, 0, 0, 0, 8, 0, 0, 0, 3, 0, 0, 0, 2, 0, 0, 0, 3, 1, 2,
-        3, 0,
-    ];
-    let call = decoded(&rt, Procedure::Write, &arguments);
-    match &call {
+/// The handle 7, offset 8, count 3, FILE_SYNC, and three bytes.
+const WRITE: [u8; 32] = [
+    0, 0, 0, 1, 7, 0, 0, 0, 0, 0, 0, 0, 0, 0, 0, 8, 0, 0, 0, 3, 0, 0, 0, 2, 0, 0, 0, 3, 1, 2, 3, 0,
+];
+
+/// Looks whether a call is the one that those ask.
+fn is_write(rt: &impl Abort, call: &Call) {
+    match call {
         Call::Write {
             handle,
             offset,
             count,
             bytes,
         } => {
-            same(&rt, handle.as_bytes(), &[7]);
-            holds(&rt, *offset == 8 && *count == 3);
-            same(&rt, bytes, &[1, 2, 3]);
+            same(rt, handle.as_bytes(), &[7]);
+            holds(rt, *offset == 8 && *count == 3);
+            same(rt, bytes.as_slice(), &[1, 2, 3]);
         }
         _ => panic!(rt; "no WRITE"),
     }
+}
+
+#[test]
+fn data_is_copied(rt: HostRuntime) {
+    let call = decoded(&rt, Procedure::Write, &WRITE);
+    is_write(&rt, &call);
+    mem::forget(call);
+}
+
+#[test]
+fn data_stays_in_its_record(rt: HostRuntime) {
+    let record = joined(&rt, &[&[9; 5], &WRITE]);
+    let decoded = decode_in_place(rt.alloc(), Procedure::Write, record, 5);
+    let call = decoded.expect(&rt, "no call");
+    is_write(&rt, &call);
     mem::forget(call);
 }
 

@@ -11,7 +11,7 @@ fn null_of_a_user(rt: HostRuntime) {
         9, 0, 2, 0x000186a3, 3, 0, 1, 0x14, 0, 0, 0x3e8, 0x64, 0, 0, 0,
     ];
     let record = bytes_of(&rt, &words);
-    let heard = read_record(rt.alloc(), &record).ok();
+    let heard = read_record(rt.alloc(), record).ok();
     let heard = heard.expect(&rt, "a fault");
     holds(&rt, heard.xid == 9);
     match &heard.request {

@@ -125,12 +125,12 @@ fn a_fragment_may_be_too_long_by_itself(rt: HostRuntime) {
 fn an_empty_record_is_no_call(rt: HostRuntime) {
     let mut reassembler = Reassembler::new(rt.alloc());
     let (taken, step) = fed(&rt, &mut reassembler, &[0x80, 0, 0, 0]);
-    let is_fault = match &step {
+    let is_fault = match step {
         Step::Record(made) => matches!(read_record(rt.alloc(), made), Err(RecordFault::BadHeader)),
         _ => false,
     };
     holds(&rt, taken == 4 && is_fault);
-    mem::forget((reassembler, step));
+    mem::forget(reassembler);
 }
 
 /// A GETATTR call of a root, xid 1, without its header.
@@ -147,12 +147,12 @@ fn the_longest_record_has_zeros_behind_its_call(rt: HostRuntime) {
     mem::forget(step);
     let (taken, step) = fed(&rt, &mut reassembler, &record);
     holds(&rt, taken == 131_072);
-    is_garbage(&rt, &step);
-    mem::forget((record, reassembler, step));
+    is_garbage(&rt, step);
+    mem::forget((record, reassembler));
 }
 
 /// Looks whether bytes led to a call whose arguments are no spelling.
-fn is_garbage(rt: &(impl Abort + AllocGlobal), step: &Step) {
+fn is_garbage(rt: &(impl Abort + AllocGlobal), step: Step) {
     let heard = match step {
         Step::Record(made) => read_record(rt.alloc(), made).ok(),
         _ => None,

@@ -1,11 +1,13 @@
 //! Records of replies, and the room that they take.
 
+ghost use Rattle.std.specs.Prelude.{◌≤◌, length};
+
 use crate::bytes::{bytes_of, holds, same};
 use nfs_values::{
-    Answer, AuthFault, Call, Cookie, CreateMode, FileHandle, Fileid, Name, Named, Reply, Target,
-    Verifier, VolumeNumber,
+    Answer, AuthFault, BytesRead, BytesToWrite, Call, Cookie, CreateMode, FileHandle, Fileid, Name,
+    Named, ReadResults, Reply, Target, Verifier, VolumeNumber, room_to_read,
 };
-use rpc_msg::{room_of_reply, write_reply, write_reply_record};
+use rpc_msg::{move_reply_record, room_of_reply, write_reply, write_reply_record};
 use std::alloc::Global;
 use std::mem;
 use std::process::Abort;
@@ -33,6 +35,31 @@ fn bare_replies(rt: HostRuntime) {
     write_reply(&mut bare, 3, &mismatch).expect(&rt, "no memory");
     mem::forget(mismatch);
     same(&rt, &bare, &bytes_of(&rt, &[3, 1, 1, 0, 2, 2]));
+}
+
+/// A reply to a READ.
+fn read_reply(rt: &(impl Abort + AllocGlobal), bytes: &[u8]) -> Reply
+    requires { length bytes.now ≤ 131072 }
+{
+    let mut place = room_to_read(rt.alloc(), bytes.len()).expect(rt, "no memory");
+    place.extend_from_slice(bytes).expect(rt, "no memory");
+    Reply::Success(Answer::Read(Ok(ReadResults {
+        eof: true,
+        bytes: BytesRead::new(place),
+    })))
+}
+
+#[test]
+fn bytes_of_a_read_are_moved(rt: HostRuntime) {
+    for size in 0..9 {
+        let mut reply = read_reply(&rt, &[7; 8][..size]);
+        let mut wanted = Vec::new(rt.alloc());
+        write_reply_record(&mut wanted, 9, &reply).expect(&rt, "no memory");
+        let mut moved = Vec::new(rt.alloc());
+        move_reply_record(&mut moved, 9, &mut reply).expect(&rt, "no memory");
+        same(&rt, &moved, &wanted);
+        mem::forget((reply, wanted, moved));
+    }
 }
 
 /// The handle of the root of volume 0.
@@ -76,7 +103,7 @@ fn rooms_of_writes(rt: HostRuntime) {
         handle: root(),
         offset: 0,
         count: 4,
-        bytes: Vec::new(rt.alloc()),
+        bytes: BytesToWrite::all(Vec::new(rt.alloc())),
     };
     takes(&rt, write, 56);
     let create = Call::Create {

@@ -3,16 +3,18 @@
 use crate::bytes::{joined, same};
 use nfs_types::encode_result;
 use nfs_values::{
-    Answer, Attributes, Change, Cookie, DirectoryEntry, FileKind, Fileid, Moment, Name,
-    PriorAttributes, ReadDirectoryResults, ReadResults, RenameResults, Status,
+    Answer, Attributes, BytesRead, Change, Cookie, DirectoryEntry, FileKind, Fileid, Moment, Name,
+    PriorAttributes, ReadDirectoryResults, ReadResults, RenameResults, Status, room_to_read,
 };
 use std::mem;
 
 #[test]
 fn results_are_written(rt: HostRuntime) {
+    let mut place = room_to_read(rt.alloc(), 3).expect(&rt, "no memory");
+    place.extend_from_slice(&[1, 2, 3]).expect(&rt, "no memory");
     let read = Answer::Read(Ok(ReadResults {
         eof: true,
-        bytes: [1, 2, 3].to_vec(rt.alloc()).expect(&rt, "no memory"),
+        bytes: BytesRead::new(place),
     }));
     let mut out = Vec::new(rt.alloc());
     encode_result(&mut out, &read).expect(&rt, "no memory");

@@ -35,7 +35,7 @@ pub(crate) fn take_bytes(from: &mut ConnectionState, bytes: &[u8]) -> (usize, Ar
             from.fault = Some(StreamFault::RecordTooLong);
             (taken, Arrival::Fault(StreamFault::RecordTooLong))
         }
-        Step::Record(record) => match read_record(from.alloc, &record) {
+        Step::Record(record) => match read_record(from.alloc, record) {
             RecordRead::Heard(heard) => {
                 from.records += 1;
                 (taken, Arrival::Heard(heard))

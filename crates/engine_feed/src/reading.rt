@@ -28,11 +28,11 @@ fn stream_fault(fault: rpc_msg::RecordFault) -> StreamFault
     }
 }
 
-/// Reads a whole record. Only names and data take memory.
-pub fn read_record(alloc: Global, bytes: &[u8]) -> RecordRead
-    ensures { IsReadAs result (heard bytes.now) }
+/// Reads a whole record. Only names take memory: the data of a WRITE stay in the record.
+pub fn read_record(alloc: Global, record: Vec<u8>) -> RecordRead
+    ensures { IsReadAs result (heard record.items) }
 {
-    match rpc_msg::read_record(alloc, bytes) {
+    match rpc_msg::read_record(alloc, record) {
         Err(fault) => RecordRead::Fault(stream_fault(fault)),
         Ok(rpc_msg::Heard { xid, request }) => match request {
             rpc_msg::Request::Call { call, credential } => RecordRead::Heard(Heard {

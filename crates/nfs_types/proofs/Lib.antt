@@ -2,3 +2,4 @@ pub mod Memory
 pub mod Outcomes
 pub mod Rest
 pub mod Numbered
+pub mod InPlace

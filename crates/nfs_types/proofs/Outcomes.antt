@@ -40,8 +40,8 @@ pub found_bytes : (result : Result LookupResults Status)
 found_bytes = arm lookup_shape (λ r. lookup_value r.handle (shown_of r.object) (shown_of r.directory)) looked_up 1 (λ r. refl)
 
 pub read_bytes : (result : Result ReadResults Status)
-    → answer_bytes (result_of bytes_read 1 result) ≡ result_bytes read_shape (λ r. read_value (length r.bytes.items) r.eof r.bytes.items) 1 result
-read_bytes = arm read_shape (λ r. read_value (length r.bytes.items) r.eof r.bytes.items) bytes_read 1 (λ r. refl)
+    → answer_bytes (result_of bytes_read 1 result) ≡ result_bytes read_shape (λ r. read_value (length r.bytes) r.eof r.bytes) 1 result
+read_bytes = arm read_shape (λ r. read_value (length r.bytes) r.eof r.bytes) bytes_read 1 (λ r. refl)
 
 pub written_bytes : (result : Result WriteResults Status)
     → answer_bytes (result_of bytes_written 2 result) ≡ result_bytes write_shape (λ r. write_value r.count r.verifier.0) 2 result

@@ -1,3 +1,4 @@
 -- Lemmas alone, which no reader has to believe: for crates above.
 pub mod Exact
 pub mod Absent
+pub mod Bytes

@@ -1,6 +1,6 @@
 //! Arguments of calls.
 
-ghost use Rattle.std.specs.Prelude.{◌≡◌, ◌≢◌, true, false, Err, IfOk, IfErr};
+ghost use Rattle.std.specs.Prelude.{◌≡◌, ◌≢◌, ◌≤◌, true, false, Err, IfOk, IfErr, length, drop};
 ghost use Rattle.nfs_types.specs.declared.bad.Bad.TheVariants as bads;
 ghost use Rattle.xdr.specs.declared.fault.Fault.TheVariants as faults;
 ghost use Rattle.xdr.specs.Shape.{Void};
@@ -21,8 +21,8 @@ ghost use Rattle.nfs_types.specs.Arguments.{census_call, grow_call};
 use crate::bad::Bad;
 use crate::decode::{StableHow, decode_all};
 use nfs_values::{
-    Call, Cookie, CreateMode, FileHandle, Moment, Name, Procedure, SetAttributes, Target, Verifier,
-    VolumeNumber,
+    BytesToWrite, Call, Cookie, CreateMode, FileHandle, Moment, Name, Procedure, SetAttributes,
+    Target, Verifier, VolumeNumber,
 };
 use std::alloc::Global;
 use xdr::Fault;
@@ -100,7 +100,26 @@ fn write(alloc: Global, bytes: &[u8]) -> Result<Call, Bad>
         handle,
         offset,
         count,
-        bytes: Vec::from_slice(alloc, written)?,
+        bytes: BytesToWrite::all(Vec::from_slice(alloc, written)?),
+    })
+}
+
+/// WRITE, by the bytes of its record from one on, whose data stay in the record.
+fn write_in_place(record: Vec<u8>, from: usize) -> Result<Call, Bad>
+    requires { from ≤ length record.items }
+    ensures { Makes call_of true result
+        (asked_by writing_shape write_call (drop from record.items)) }
+{
+    let (handle, (offset, (count, (_stable, written)))) = decode_all::<
+        (FileHandle, (u64, (u32, (StableHow, &[u8])))),
+    >(&record[from..])?;
+    let size = written.len();
+    let start = record.len() - (size + (4 - size % 4) % 4);
+    Ok(Call::Write {
+        handle,
+        offset,
+        count,
+        bytes: BytesToWrite::part(record, start, size),
     })
 }
 
@@ -216,6 +235,24 @@ pub fn decode_call(alloc: Global, procedure: Procedure, bytes: &[u8]) -> Result<
         Procedure::Commit => commit(bytes),
         Procedure::Census => census(bytes),
         Procedure::Grow => grow(bytes),
+    }
+}
+
+/// The call that the bytes of a record from one on make, which are the arguments of a procedure.
+/// The data of a WRITE stay in the record, and take no memory.
+pub fn decode_in_place(
+    alloc: Global,
+    procedure: Procedure,
+    record: Vec<u8>,
+    from: usize,
+) -> Result<Call, Bad>
+    requires { from ≤ length record.items }
+    ensures { Makes call_of (takes_memory procedure) result
+        (asked procedure (drop from record.items)) }
+{
+    match procedure {
+        Procedure::Write => write_in_place(record, from),
+        _ => decode_call(alloc, procedure, &record[from..]),
     }
 }
 

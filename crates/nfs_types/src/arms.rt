@@ -36,7 +36,7 @@ impl Encode for LookupResults {
 impl Encode for ReadResults {
     ghost shape = { read_shape };
 
-    ghost value = { λ r. read_value (length r.bytes.items) r.eof r.bytes.items };
+    ghost value = { λ r. read_value (length r.bytes) r.eof r.bytes };
 
     fn size(&self) -> usize {
         12 + self.bytes.size()
@@ -44,7 +44,7 @@ impl Encode for ReadResults {
 
     fn write(&self, out: &mut Vec<u8>) {
         write_absent(out);
-        (self.bytes.len() as u32).write(out);
+        (self.bytes.as_slice().len() as u32).write(out);
         self.eof.write(out);
         self.bytes.write(out);
     }

@@ -12,8 +12,8 @@ ghost use Rattle.nfs_types.specs.Shapes.{attributes_value, prior_shape, prior_va
 ghost use Rattle.nfs_types.specs.Shapes.{change_value};
 
 use nfs_values::{
-    Attributes, Change, Cookie, FileHandle, FileKind, Fileid, Moment, Name, PriorAttributes,
-    Verifier, VolumeNumber,
+    Attributes, BytesRead, Change, Cookie, FileHandle, FileKind, Fileid, Moment, Name,
+    PriorAttributes, Verifier, VolumeNumber,
 };
 use xdr::{put_bool, put_fixed, put_opaque, put_u32, put_u64};
 
@@ -111,17 +111,17 @@ fn size_of_opaque(bytes: &[u8]) -> usize
     4 + size_of_fixed(bytes)
 }
 
-impl Encode for Vec<u8> {
+impl Encode for BytesRead {
     ghost shape = { any_bytes };
 
-    ghost value = { λ v. v.items };
+    ghost value = { λ b. b };
 
     fn size(&self) -> usize {
-        size_of_opaque(self)
+        size_of_opaque(self.as_slice())
     }
 
     fn write(&self, out: &mut Vec<u8>) {
-        put_opaque(out, self).unwrap()
+        put_opaque(out, self.as_slice()).unwrap()
     }
 }
 

@@ -10,12 +10,12 @@ mod laws;
 mod lists;
 mod results;
 
-pub use arguments::{decode_args, decode_call};
+pub use arguments::{decode_args, decode_call, decode_in_place};
 pub use bad::Bad;
 pub use laws::arguments_are_exact;
 pub use nfs_values::{
-    ADMIN_PROGRAM, Answer, Attributes, AuthFault, BlockNumber, Call, Change, CommitResults,
-    ConnectionNumber, Cookie, CreateMode, Credential, DirectoryEntry, FileHandle, FileKind, Fileid,
+    ADMIN_PROGRAM, Answer, Attributes, AuthFault, BlockNumber, BytesRead, BytesToWrite, Call,
+    Change, CommitResults, ConnectionNumber, Cookie, CreateMode, Credential, DirectoryEntry, FileHandle, FileKind, Fileid,
     FilesystemStatusResults, LookupResults, MakeResults, Moment, NFS_PROGRAM, Name, Named,
     PriorAttributes, Procedure, ReadDirectoryResults, ReadResults, RenameResults, Reply,
     SetAttributes, SetTime, Status, Target, Verifier, VolumeCount, VolumeNumber, WorkerNumber,

@@ -1,1 +1,2 @@
 pub mod Zeros
+pub mod Behind

@@ -31,7 +31,7 @@ abbrev pub looked_up : LookupResults → model.Answer
 looked_up r = model.LookupDone r.handle (shown_of r.object) (shown_of r.directory)
 
 abbrev pub bytes_read : ReadResults → model.Answer
-bytes_read r = model.ReadDone (length r.bytes.items) r.eof r.bytes.items
+bytes_read r = model.ReadDone (length r.bytes) r.eof r.bytes
 
 abbrev pub bytes_written : WriteResults → model.Answer
 bytes_written r = model.WriteDone r.count r.verifier.0

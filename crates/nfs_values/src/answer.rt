@@ -1,6 +1,7 @@
 //! What replies tell.
 
 use crate::attributes::{Attributes, Change};
+use crate::bytes::BytesRead;
 use crate::handle::FileHandle;
 use crate::name::Name;
 use crate::number::{Cookie, Fileid, VolumeNumber};
@@ -18,7 +19,7 @@ pub struct LookupResults {
 /// READ3resok (RFC 1813 section 3.3.6), whose count is that of the bytes.
 pub struct ReadResults {
     pub eof: bool,
-    pub bytes: Vec<u8>,
+    pub bytes: BytesRead,
 }
 
 // By hand, so that crates above have no proof of the drop of each of its parts.

@@ -1,5 +1,6 @@
 //! What calls ask.
 
+use crate::bytes::BytesToWrite;
 use crate::handle::FileHandle;
 use crate::moment::Moment;
 use crate::number::{Cookie, VolumeNumber};
@@ -32,7 +33,7 @@ pub enum Call {
         handle: FileHandle,
         offset: u64,
         count: u32,
-        bytes: Vec<u8>,
+        bytes: BytesToWrite,
     },
     Create {
         target: Target,

@@ -3,6 +3,7 @@
 
 mod answer;
 mod attributes;
+mod bytes;
 mod call;
 mod credential;
 mod handle;
@@ -22,6 +23,7 @@ pub use answer::{
     ReadDirectoryResults, ReadResults, RenameResults, VolumeCount, WriteResults,
 };
 pub use attributes::{Attributes, Change, FileKind, PriorAttributes};
+pub use bytes::{BytesRead, BytesToWrite, room_to_read};
 pub use call::Call;
 pub use credential::Credential;
 pub use handle::{FileHandle, Named};

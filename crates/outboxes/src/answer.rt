@@ -31,10 +31,11 @@ impl Model for Answer {
 
 impl Answer {
     /// The reply to a call of this xid, whose record fits the room. The record is written here,
-    /// so that who puts the answer moves no bytes.
-    pub fn new(connection: ConnectionNumber, xid: u32, reply: &Reply, room: Room) -> Answer
-        requires { length (record_of (message xid (reply_of reply.now))) ≤ room }
-        ensures { result ≡ addressed connection.0 (message xid (reply_of reply.now)) }
+    /// so that who puts the answer moves no bytes; those of a READ aren't copied, and the reply has
+    /// none left.
+    pub fn new(connection: ConnectionNumber, xid: u32, reply: &mut Reply, room: Room) -> Answer
+        requires { length (record_of (message xid (reply_of reply.old))) ≤ room }
+        ensures { result ≡ addressed connection.0 (message xid (reply_of reply.old)) }
     {
         let link = room.write(xid, reply);
         Answer { connection, link }

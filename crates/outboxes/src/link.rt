@@ -9,7 +9,7 @@ ghost use Rattle.outboxes.specs.Popped.{IsBlank, IsOf};
 use crate::chain::{Chain, Link};
 use crate::said::Said;
 use nfs_values::Reply;
-use rpc_msg::write_reply_record;
+use rpc_msg::{move_reply_record, write_reply_record};
 use std::alloc::{AllocError, Global};
 
 /// A blank record with room for so many bytes.
@@ -34,6 +34,26 @@ pub(crate) fn write(link: &mut Link, xid: u32, reply: &Reply) -> Result<(), Allo
     match write_reply_record(&mut link.bytes, xid, reply) {
         Ok(()) => {
             link.said = Said::new(xid, reply);
+            Ok(())
+        }
+        Err(refused) => Err(refused),
+    }
+}
+
+/// Writes a reply into a blank record. The bytes of a READ aren't copied, and the reply has none
+/// left.
+pub(crate) fn move_in(link: &mut Link, xid: u32, reply: &mut Reply) -> Result<(), AllocError>
+    requires blank { link.old.bytes.items ≡ [] }
+    requires short { length (record_of (message xid (reply_of reply.old))) ≤ most_bytes }
+    ensures ok { OnOk result (IsOf (message xid (reply_of reply.old)) link.new) }
+    ensures succeeds { length (record_of (message xid (reply_of reply.old)))
+        ≤ vec_capacity link.old.bytes
+        → IsOk result }
+{
+    let said = Said::new(xid, reply);
+    match move_reply_record(&mut link.bytes, xid, reply) {
+        Ok(()) => {
+            link.said = said;
             Ok(())
         }
         Err(refused) => Err(refused),

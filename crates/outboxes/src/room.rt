@@ -7,7 +7,7 @@ ghost use Rattle.outboxes.specs.Messages.{message, record_of};
 ghost use Rattle.outboxes.specs.Popped.{IsOf};
 
 use crate::chain::Link;
-use crate::link::{blank, write};
+use crate::link::{blank, move_in};
 use nfs_values::Reply;
 use std::alloc::{AllocError, Global};
 use std::marker::Model;
@@ -49,13 +49,14 @@ impl Room {
         })
     }
 
-    /// The record of a reply, in this room. It takes no memory.
-    pub(crate) fn write(self, xid: u32, reply: &Reply) -> Box<Link>
-        requires { length (record_of (message xid (reply_of reply.now))) ≤ self }
-        ensures { IsOf (message xid (reply_of reply.now)) result.value }
+    /// The record of a reply, in this room, but for the bytes of a READ, which stay in theirs. The
+    /// reply has none left. It takes no memory.
+    pub(crate) fn write(self, xid: u32, reply: &mut Reply) -> Box<Link>
+        requires { length (record_of (message xid (reply_of reply.old))) ≤ self }
+        ensures { IsOf (message xid (reply_of reply.old)) result.value }
     {
         let Room { mut link, bytes: _ } = self;
-        write(&mut link, xid, reply).unwrap();
+        move_in(&mut link, xid, reply).unwrap();
         link
     }
 }

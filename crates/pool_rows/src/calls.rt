@@ -4,7 +4,8 @@ ghost use Rattle.std.specs.Prelude.{IfOk};
 ghost use Rattle.workers.specs.Running.{IsRun};
 
 use nfs_values::{
-    Call, CreateMode, FileHandle, Fileid, Name, Named, SetAttributes, SetTime, Target, VolumeNumber,
+    BytesToWrite, Call, CreateMode, FileHandle, Fileid, Name, Named, SetAttributes, SetTime, Target,
+    VolumeNumber,
 };
 use std::alloc::{AllocError, Global};
 
@@ -60,7 +61,7 @@ fn write(alloc: Global, volume: u32, number: u32) -> Result<Call, AllocError>
         handle: handle(volume, 2 + u64::from(number % 16)),
         offset: u64::from(number % 3 * 4096),
         count: WRITTEN as u32,
-        bytes: vec![in alloc; 7; WRITTEN]?,
+        bytes: BytesToWrite::all(vec![in alloc; 7; WRITTEN]?),
     })
 }
 

@@ -16,7 +16,7 @@ use crate::putting::{FilerPass, put, record_of};
 use crate::replies::{LOOKS, connect};
 use crate::turns::came::Came;
 use crate::turns::turning::put_answer;
-use nfs_values::{BlockNumber, Call, ConnectionNumber, Moment, VolumeNumber};
+use nfs_values::{BlockNumber, BytesToWrite, Call, ConnectionNumber, Moment, VolumeNumber};
 use outboxes::bells::Bells;
 use parcel_sets::{Hand, SerialHeld};
 use parcels::Files;
@@ -159,7 +159,7 @@ fn call_of(alloc: Global, xid: u32) -> Result<Call, AllocError>
             handle: handle(0, 2),
             offset: 0,
             count: 4,
-            bytes: vec![in alloc; 7; 4]?,
+            bytes: BytesToWrite::all(vec![in alloc; 7; 4]?),
         }),
         _ => Ok(Call::GetAttributes {
             handle: handle(1, ROOT),

@@ -1,4 +1,5 @@
 pub mod Replies
+pub mod Given
 pub mod Room
 pub mod Heads
 pub mod Calls

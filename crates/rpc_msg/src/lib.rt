@@ -20,5 +20,5 @@ pub use laws::{
 };
 pub use nfs_values::Procedure as Served;
 pub use record::{Heard, Request, read_record};
-pub use reply::{size_of_reply, write_reply, write_reply_record};
+pub use reply::{move_reply_record, size_of_reply, write_reply, write_reply_record};
 pub use room::{REFUSAL_ROOM, room_of_reply};

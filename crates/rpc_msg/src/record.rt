@@ -1,5 +1,6 @@
 //! What records ask.
 
+ghost use Rattle.std.specs.Prelude.{◌≤◌, length, drop};
 ghost use Rattle.nfs_values.specs.Credential.{credential_of};
 ghost use Rattle.rpc_msg.specs.Heads.{Call as Asks};
 ghost use Rattle.rpc_msg.specs.Records.{heard, heard_from};
@@ -7,7 +8,7 @@ ghost use Rattle.rpc_msg.specs.Seen.{Hears, Tells};
 
 use crate::fault::RecordFault;
 use crate::head::{Head, read_call};
-use nfs_types::{Bad, decode_call};
+use nfs_types::{Bad, decode_in_place};
 use nfs_values::{Call, Credential, Procedure, Reply};
 use std::alloc::Global;
 
@@ -28,38 +29,44 @@ pub struct Heard {
     pub request: Request,
 }
 
-/// What a call of a procedure with these arguments asks.
+/// What a call of a procedure asks, whose arguments are the bytes of its record from one on.
 fn decode(
     alloc: Global,
     xid: u32,
     procedure: Procedure,
     credential: Credential,
-    arguments: &[u8],
+    record: Vec<u8>,
+    from: usize,
 ) -> Request
+    requires { from ≤ length record.items }
     ensures { Tells xid result
-        (heard_from (Asks xid procedure (credential_of credential) arguments.now)) }
+        (heard_from (Asks xid procedure (credential_of credential) (drop from record.items))) }
 {
-    match decode_call(alloc, procedure, arguments) {
+    match decode_in_place(alloc, procedure, record, from) {
         Ok(call) => Request::Call { call, credential },
         Err(Bad::Fault(_fault)) => Request::Refused(Reply::GarbageArguments),
         Err(Bad::NoMemory) => Request::Undecoded,
     }
 }
 
-/// Reads a whole record (RFC 5531 section 9). Only names and data take memory.
-pub fn read_record(alloc: Global, bytes: &[u8]) -> Result<Heard, RecordFault>
-    ensures { Hears result (heard bytes.now) }
+/// Reads a whole record (RFC 5531 section 9). Only names take memory: the data of a WRITE stay in
+/// the record.
+pub fn read_record(alloc: Global, record: Vec<u8>) -> Result<Heard, RecordFault>
+    ensures { Hears result (heard record.items) }
 {
-    match read_call(bytes) {
+    match read_call(&record) {
         Head::Call {
             xid,
             procedure,
             credential,
             arguments,
-        } => Ok(Heard {
-            xid,
-            request: decode(alloc, xid, procedure, credential, arguments),
-        }),
+        } => {
+            let from = record.len() - arguments.len();
+            Ok(Heard {
+                xid,
+                request: decode(alloc, xid, procedure, credential, record, from),
+            })
+        }
         Head::Refuse { xid, reply } => Ok(Heard {
             xid,
             request: Request::Refused(reply),

@@ -1,16 +1,17 @@
 //! Replies.
 
 ghost use Rattle.std.specs.Prelude.{◌≡◌, ◌+◌, ◌*◌, ◌≤◌, ◌<◌, ◌^◌, ◌++◌, length, IsOk, OnOk, OnErr};
-ghost use Rattle.std.specs.Prelude.{vec_len, vec_capacity};
+ghost use Rattle.std.specs.Prelude.{[], vec_len, vec_capacity, IsTrue};
 ghost use Rattle.std.specs.List.{flat_map};
 ghost use Rattle.xdr.specs.Shape.{word};
 ghost use Rattle.rpc_record.specs.Records.{limit};
 ghost use Rattle.nfs_values.specs.Reply.{reply_of};
 ghost use Rattle.rpc_msg.specs.Replies.{accepted, body_bytes, denied, message, results};
 ghost use Rattle.rpc_msg.specs.Replies.{reply_bytes, reply_record};
+ghost use Rattle.rpc_msg.specs.Given.{GivesBytes};
 
 use nfs_types::{encode_result, size_of_result};
-use nfs_values::Reply;
+use nfs_values::{Answer, Reply};
 use rpc_record::put_header;
 use std::alloc::AllocError;
 use xdr::put_u32;
@@ -39,6 +40,12 @@ const RPC_MISMATCH: u32 = 0;
 const AUTH_ERROR: u32 = 1;
 
 const AUTH_NONE: u32 = 0;
+
+/// NFS3_OK (RFC 1813 section 2.6).
+const NFS3_OK: u32 = 0;
+
+/// How many bytes stand before those of a READ in the record of its reply.
+const READ_HEAD: usize = 48;
 
 /// Appends words, for which there is room.
 fn write_words(words: &[u32], out: &mut Vec<u8>)
@@ -146,5 +153,61 @@ pub fn write_reply_record(out: &mut Vec<u8>, xid: u32, reply: &Reply) -> Result<
     out.try_reserve(4 + size)?;
     put_header(out, size as u32)?;
     append(xid, reply, out);
+    Ok(())
+}
+
+/// Whether a reply gives bytes of a file.
+fn gives_bytes(reply: &Reply) -> bool
+    ensures { IsTrue result → GivesBytes reply.now }
+{
+    match reply {
+        Reply::Success(answer) => match answer {
+            Answer::Read(told) => told.is_ok(),
+            _ => false,
+        },
+        _ => false,
+    }
+}
+
+/// Appends the reply of a READ to its record's header. Its bytes aren't copied.
+fn append_read(xid: u32, reply: &mut Reply, out: &mut Vec<u8>)
+    requires gives { GivesBytes reply.old }
+    requires short { length (reply_bytes xid (reply_of reply.old)) ≤ limit }
+    requires header { length out.old.items ≡ 4 }
+    requires room { 48 ≤ vec_capacity out.old }
+    ensures { out.new.items ≡ out.old.items ++ reply_bytes xid (reply_of reply.old) }
+{
+    match reply {
+        Reply::Success(answer) => match answer {
+            Answer::Read(told) => match told {
+                Ok(results) => {
+                    let size = results.bytes.as_slice().len() as u32;
+                    let arm = [NFS3_OK, 0, size, u32::from(results.eof), size];
+                    write_accepted(xid, SUCCESS, &arm, out);
+                    results.bytes.move_behind(out);
+                }
+                Err(_) => unreachable!(),
+            },
+            _ => unreachable!(),
+        },
+        _ => unreachable!(),
+    }
+}
+
+/// Writes the record of a reply where nothing is written yet, or nothing. The bytes of a READ
+/// aren't copied: their vector comes in the place of what there was, and the reply has none left.
+pub fn move_reply_record(out: &mut Vec<u8>, xid: u32, reply: &mut Reply) -> Result<(), AllocError>
+    requires empty { out.old.items ≡ [] }
+    requires short { length (reply_bytes xid (reply_of reply.old)) ≤ limit }
+    ensures ok { OnOk result (out.new.items ≡ reply_record xid (reply_of reply.old)) }
+    ensures succeeds { length (reply_record xid (reply_of reply.old)) ≤ vec_capacity out.old
+        → IsOk result }
+{
+    if !gives_bytes(reply) {
+        return write_reply_record(out, xid, reply);
+    }
+    out.try_reserve(READ_HEAD)?;
+    put_header(out, size_of_reply(reply) as u32)?;
+    append_read(xid, reply, out);
     Ok(())
 }

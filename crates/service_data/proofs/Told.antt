@@ -1,7 +1,8 @@
 -- READ of a set, as its checks come out.
-use Rattle.std.proofs.Common.{◌≡◌, ℕ, zero, suc, ◌+◌, ◌-◌, ◌<◌, min, Bool, true, false, List, [], ◌++◌, map, length, Option, Result, Ok, Err}
-use Rattle.std.proofs.Common.{refl, sym, ap, ◌∙◌, subst, arith}
+use Rattle.std.proofs.Common.{◌≡◌, ℕ, zero, suc, ◌+◌, ◌-◌, ◌<◌, min, Bool, true, false, List, [], ◌++◌, map, length, drop, Option, Result, Ok, Err}
+use Rattle.std.proofs.Common.{◌≤◌, vec_len, vec_capacity, Vec, length-append, refl, sym, ap, ◌∙◌, subst, arith}
 use Rattle.std.proofs.lemmas.Bool.Decides.{nat_tests}
+use Rattle.std.proofs.lemmas.List.{drop_at}
 use Rattle.std.proofs.lemmas.List.FromFn.{length-map-range_with_len}
 use Rattle.std.specs.Prelude.{nat_le, if◌then◌else◌}
 use Rattle.std.specs.List.{range_with_len}
@@ -46,20 +47,37 @@ module _ (f : ℕ → ℕ) (offset most size : ℕ) where
           let eof : true ≡ nat_le size (offset + 0) = grind (arith, nat_tests, e) in
           (λ j. ReadDone 0 (eof j) []) ∙ ap (some_told bytes offset size) none
 
-  -- what was read into a vector
-  pub told-read : (given : ℕ) (eof : Bool) (empty items : List ℕ) → given ≡ min most (size - offset)
-      → eof ≡ nat_le size (offset + min most (size - offset)) → empty ≡ [] → items ≡ empty ++ bytes given
+  -- so many of its bytes
+  told-these : (given : ℕ) (eof : Bool) (items : List ℕ) → given ≡ min most (size - offset)
+      → eof ≡ nat_le size (offset + min most (size - offset)) → items ≡ bytes given
       → ReadDone (length items) eof items ≡ read_told bytes offset most size
-  told-read given eof empty items count ends none is =
-      let these : items ≡ bytes (min most (size - offset)) = is ∙ ap (λ (l : List ℕ). l ++ bytes given) none ∙ ap bytes count in
+  told-these given eof items count ends is =
+      let these : items ≡ bytes (min most (size - offset)) = is ∙ ap bytes count in
       let long : length items ≡ min most (size - offset) =
       ap (λ (l : List ℕ). length l) these ∙ length-map-range_with_len f offset (min most (size - offset)) in
       (λ j. ReadDone (long j) (ends j) (these j)) ∙ sym told-some
 
--- memory runs out only where some are asked for
-pub some-asked : (n : ℕ) → (n ≡ 0 → false ≡ true) → 0 < n
-some-asked zero none = absurd (let no : false ≡ true = none refl in cc)
-some-asked (suc n) none = omega arith
+  -- none
+  pub told-none : (given : ℕ) (eof : Bool) → given ≡ min most (size - offset)
+      → eof ≡ nat_le size (offset + min most (size - offset)) → given ≡ 0
+      → ReadDone 0 eof [] ≡ read_told bytes offset most size
+  told-none given eof count ends none = told-these given eof [] count ends (ap bytes (sym none))
+
+  -- what was read behind the first 48 bytes of a vector
+  pub told-read : (given : ℕ) (eof : Bool) (head place read : List ℕ) → given ≡ min most (size - offset)
+      → eof ≡ nat_le size (offset + min most (size - offset)) → length head ≡ 48 → place ≡ head ++ bytes given → read ≡ drop 48 place
+      → ReadDone (length read) eof read ≡ read_told bytes offset most size
+  told-read given eof head place read count ends size is behind =
+      told-these given eof read count ends (behind ∙ ap (λ (l : List ℕ). drop 48 l) is ∙ drop_at head (bytes given) 48 size)
+
+-- room that is left behind what was read
+pub room-behind : {Z : Type 0} (old new : Vec ℕ Z) (f : ℕ → ℕ) (offset n : ℕ) → new.items ≡ old.items ++ map f (range_with_len offset n)
+    → vec_capacity old ≤ vec_capacity new → vec_len old + n + 3 ≤ vec_capacity old → vec_len new + 3 ≤ vec_capacity new
+room-behind old new f offset n is more room =
+    let long : vec_len new ≡ vec_len old + n =
+    new.ok.0 ∙ ap (λ (l : List ℕ). length l) is ∙ length-append old.items (map f (range_with_len offset n))
+    ∙ (λ j. sym old.ok.0 j + length-map-range_with_len f offset n j) in
+    omega (arith, long, more, room)
 
 -- ---- by a stripe
 

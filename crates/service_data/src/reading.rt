@@ -1,6 +1,6 @@
 //! READ.
 
-ghost use Rattle.std.specs.Prelude.{◌≡◌, ℕ, ◌+◌, ◌-◌, min, nat_le};
+ghost use Rattle.std.specs.Prelude.{◌≡◌, ℕ, ◌+◌, ◌-◌, [], min, nat_le};
 ghost use Rattle.std.specs.Option.{option_map};
 ghost use Rattle.nfs_model.specs.Types as types;
 ghost use Rattle.nfs_values.specs.Answer.{result_of};
@@ -16,7 +16,7 @@ ghost use Rattle.service_data.specs.Promises.{
 };
 
 use crate::spans::read_spans;
-use nfs_values::{Fileid, ReadResults, Status};
+use nfs_values::{BytesRead, Fileid, ReadResults, Status, room_to_read};
 use parcel_sets::{LogicalHeld, StripeHeld};
 use parcels::Files;
 use std::alloc::{AllocError, Global};
@@ -46,8 +46,12 @@ pub fn read_in_stripe(
         Err(status) => return Ok(Err(status)),
     };
     let (given, eof) = given_of(size, offset, count);
-    let mut bytes = Vec::with_capacity(alloc, given)?;
-    stripe.read(fileid, offset, given, &mut bytes);
+    if given == 0 {
+        return Ok(Ok(none_read(alloc, eof)));
+    }
+    let mut place = room_to_read(alloc, given)?;
+    stripe.read(fileid, offset, given, &mut place);
+    let bytes = BytesRead::new(place);
     Ok(Ok(ReadResults { eof, bytes }))
 }
 
@@ -67,9 +71,21 @@ pub fn read_in_logical(
         Err(status) => return Ok(Err(status)),
     };
     let (given, eof) = given_of(size, offset, count);
-    let mut bytes = Vec::with_capacity(alloc, given)?;
-    read_spans(held, fileid, offset, given, &mut bytes);
+    if given == 0 {
+        return Ok(Ok(none_read(alloc, eof)));
+    }
+    let mut place = room_to_read(alloc, given)?;
+    read_spans(held, fileid, offset, given, &mut place);
+    let bytes = BytesRead::new(place);
     Ok(Ok(ReadResults { eof, bytes }))
+}
+
+/// No bytes, which need no memory.
+fn none_read(alloc: Global, eof: bool) -> ReadResults
+    ensures { result ≡ record { eof = eof; bytes = [] } }
+{
+    let bytes = BytesRead::none(alloc);
+    ReadResults { eof, bytes }
 }
 
 /// The size of a file by its card: STALE where there is none, INVAL for a directory.

@@ -28,8 +28,9 @@ pub(crate) fn read_spans(
     requires two { n ≤ span_bytes }
     requires below { offset + n < 18446744073709551616 }
     requires room { vec_len into.old + n ≤ vec_capacity into.old }
-    ensures { into.new.items ≡ into.old.items
+    ensures bytes { into.new.items ≡ into.old.items
         ++ bytes_under (logical_before held.now).stripes fileid.0 offset n }
+    ensures capacity { vec_capacity into.old ≤ vec_capacity into.new }
 {
     let first = (SPAN - offset % SPAN) as usize;
     if n <= first {

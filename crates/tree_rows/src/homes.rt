@@ -5,8 +5,8 @@ use crate::layouts::two_volumes;
 use affinity_tree::homes::home_of;
 use affinity_tree::{Affinity, Layout};
 use nfs_values::{
-    Call, Cookie, CreateMode, FileHandle, Name, SetAttributes, SetTime, Target, Verifier,
-    VolumeNumber,
+    BytesToWrite, Call, Cookie, CreateMode, FileHandle, Name, SetAttributes, SetTime, Target,
+    Verifier, VolumeNumber,
 };
 use std::alloc::Global;
 use std::mem;
@@ -202,7 +202,7 @@ fn write(alloc: Global, offset: u64, count: u32) -> Call {
         handle: handle(0, 2),
         offset,
         count,
-        bytes: Vec::new(alloc),
+        bytes: BytesToWrite::all(Vec::new(alloc)),
     }
 }
 

@@ -77,8 +77,8 @@ pub(crate) fn answered(entry: Entry) -> Answer
         told,
     } = entry;
     drop(job);
-    let reply = into_reply(told);
-    let answer = Answer::new(origin.connection, origin.xid, &reply, room);
+    let mut reply = into_reply(told);
+    let answer = Answer::new(origin.connection, origin.xid, &mut reply, room);
     drop(reply);
     answer
 }

@@ -29,7 +29,7 @@ fn kept_by(call: &Call) -> u64 {
         Call::GetAttributes { handle } | Call::Read { handle, .. } => kept_by_handle(handle),
         Call::Lookup(target) => kept_by_target(target),
         Call::Write { handle, bytes, .. } => {
-            kept_by_handle(handle).saturating_add(bytes.len() as u64)
+            kept_by_handle(handle).saturating_add(bytes.as_slice().len() as u64)
         }
         _ => 0,
     }

@@ -1,11 +1,11 @@
 //! The calls and replies that are measured.
 
-ghost use Rattle.std.specs.Prelude.{IfOk};
+ghost use Rattle.std.specs.Prelude.{◌≡◌, length, IfOk};
 ghost use Rattle.bench.specs.Fits.{FitsRecord};
 
 use nfs_values::{
-    Answer, Attributes, FileHandle, FileKind, Fileid, LookupResults, Moment, Named, Procedure,
-    ReadResults, Reply, Verifier, VolumeNumber, WriteResults,
+    Answer, Attributes, BytesRead, FileHandle, FileKind, Fileid, LookupResults, Moment, Named,
+    Procedure, ReadResults, Reply, Verifier, VolumeNumber, WriteResults, room_to_read,
 };
 use std::alloc::{AllocError, Global};
 
@@ -123,6 +123,15 @@ pub fn write(alloc: Global) -> Result<Sample, AllocError>
     })
 }
 
+/// The data of a READ of 64 KiB.
+fn data(alloc: Global) -> Result<BytesRead, AllocError>
+    ensures { IfOk result (λ bytes. length bytes ≡ 65536) }
+{
+    let mut place = room_to_read(alloc, DATA)?;
+    place.extend_from_slice(&vec![in alloc; 7; DATA]?)?;
+    Ok(BytesRead::new(place))
+}
+
 /// READ of 64 KiB (RFC 1813 section 3.3.6).
 pub fn read(alloc: Global) -> Result<Sample, AllocError>
     ensures { IfOk result (λ s. FitsRecord s.reply) }
@@ -133,7 +142,7 @@ pub fn read(alloc: Global) -> Result<Sample, AllocError>
         record: record(alloc, &[0, 0, DATA as u32], 0)?,
         reply: Reply::Success(Answer::Read(Ok(ReadResults {
             eof: false,
-            bytes: vec![in alloc; 7; DATA]?,
+            bytes: data(alloc)?,
         }))),
     })
 }

@@ -21,10 +21,10 @@ pub(crate) enum Next {
 }
 
 /// What a whole record is.
-fn next_of(alloc: Global, bytes: &[u8]) -> Next
-    ensures { IsNext result (heard bytes.now) }
+fn next_of(alloc: Global, record: Vec<u8>) -> Next
+    ensures { IsNext result (heard record.items) }
 {
-    match read_record(alloc, bytes) {
+    match read_record(alloc, record) {
         RecordRead::Heard(heard) => Next::Heard(heard),
         RecordRead::Undecoded(_xid) => Next::Stopped(Stopped::NoMemory),
         RecordRead::Fault(fault) => Next::Stopped(Stopped::Fault(fault)),
@@ -43,7 +43,7 @@ pub(crate) fn next_record(
     let (taken, step) = reassembler.feed(bytes);
     match step {
         Step::More => (taken, Next::More),
-        Step::Record(record) => (taken, next_of(alloc, &record)),
+        Step::Record(record) => (taken, next_of(alloc, record)),
         Step::Fault => (
             taken,
             Next::Stopped(Stopped::Fault(StreamFault::RecordTooLong)),

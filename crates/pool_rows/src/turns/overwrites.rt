@@ -11,7 +11,7 @@ use crate::turns::rows::{answered, at, created, open, same, served};
 use crate::turns::starting::{Started, start_workers};
 use crate::turns::texts::{ACCEPTED, mark};
 use affinity_tree::Affinity;
-use nfs_values::{Call, ConnectionNumber};
+use nfs_values::{BytesToWrite, Call, ConnectionNumber};
 use outboxes::bells::Bells;
 use std::mem;
 use std::process::Abort;
@@ -74,7 +74,7 @@ fn ask<R: Abort + AllocGlobal + Wait>(
         handle: handle(0, 2),
         offset: write.offset,
         count: 1,
-        bytes: vec![in rt.alloc(); write.byte].expect(rt, "no memory"),
+        bytes: BytesToWrite::all(vec![in rt.alloc(); write.byte].expect(rt, "no memory")),
     };
     let waits = reader.ask(rt, rt.alloc(), record_of(connection, write.xid), call);
     same(rt, &waits, &true);

@@ -14,7 +14,8 @@ use crate::turns::texts::{ACCEPTED, bytes_of, mark, root_shown};
 use affinity_tree::Affinity;
 use affinity_tree::scheduler::Origin;
 use nfs_values::{
-    Call, ConnectionNumber, CreateMode, Moment, Name, SetAttributes, Target, VolumeNumber,
+    BytesToWrite, Call, ConnectionNumber, CreateMode, Moment, Name, SetAttributes, Target,
+    VolumeNumber,
 };
 use outboxes::bells::Bells;
 use std::fmt::Debug;
@@ -138,7 +139,7 @@ fn written<'a, R: Abort + AllocGlobal + Wait>(
         handle: handle(0, 2),
         offset: 0,
         count: 4,
-        bytes: b"abcd".to_vec(rt.alloc()).expect(rt, "no memory"),
+        bytes: BytesToWrite::all(b"abcd".to_vec(rt.alloc()).expect(rt, "no memory")),
     };
     let waits = reader.ask(rt, rt.alloc(), record_of(connection, 2), call);
     same(rt, &waits, &true);

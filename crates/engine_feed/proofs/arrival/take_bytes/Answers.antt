@@ -66,8 +66,8 @@ returns-in-Heard-clause-takes c =
     let taken = c.feed-taken.result.0 in
     let t = took_as from c.args.bytes.now taken c.feed-taken.result.1 (steps.Record c.in-Record.record) c.feed-taken.new.self c.requires.in_step
     c.requires.taking.faultless c.in-Record.is c.feed-taken.ensures.feeds in
-    let r = subst (λ (x : RecordRead). IsReadAs x (heard c.deref.result.now)) c.in-Heard.is c.read_record.ensures in
-    let k = read_as _ _ _ _ (Ok (heard_of c.in-Heard.heard)) c.deref.ensures.value r t.1.1 in
+    let r = subst (λ (x : RecordRead). IsReadAs x (heard c.in-Record.record.items)) c.in-Heard.is c.read_record.ensures in
+    let k = read_as _ _ _ _ (Ok (heard_of c.in-Heard.heard)) refl r t.1.1 in
     let size = length_taken taken c.args.bytes.now t.0.within in
     record {
       arrives = (t.1.0, t.0.within, k);
@@ -90,8 +90,8 @@ returns-in-Undecoded-clause-takes c =
     let taken = c.feed-taken.result.0 in
     let t = took_as from c.args.bytes.now taken c.feed-taken.result.1 (steps.Record c.in-Record.record) c.feed-taken.new.self c.requires.in_step
     c.requires.taking.faultless c.in-Record.is c.feed-taken.ensures.feeds in
-    let r = subst (λ (x : RecordRead). IsReadAs x (heard c.deref.result.now)) c.in-Undecoded.is c.read_record.ensures in
-    let k = read_as _ _ _ _ (Ok (record { xid = c.in-Undecoded.xid; asked = r.0 })) c.deref.ensures.value r.2 t.1.1 in
+    let r = subst (λ (x : RecordRead). IsReadAs x (heard c.in-Record.record.items)) c.in-Undecoded.is c.read_record.ensures in
+    let k = read_as _ _ _ _ (Ok (record { xid = c.in-Undecoded.xid; asked = r.0 })) refl r.2 t.1.1 in
     let size = length_taken taken c.args.bytes.now t.0.within in
     record {
       arrives = (t.1.0, t.0.within, (r.0, r.1, k));
@@ -114,9 +114,9 @@ returns-clause-takes c =
     let taken = c.feed-taken.result.0 in
     let t = took_as from c.args.bytes.now taken c.feed-taken.result.1 (steps.Record c.in-Record.record) c.feed-taken.new.self c.requires.in_step
     c.requires.taking.faultless c.in-Record.is c.feed-taken.ensures.feeds in
-    let r = subst (λ (x : RecordRead). IsReadAs x (heard c.deref.result.now)) c.in-Fault-read_record.is c.read_record.ensures in
+    let r = subst (λ (x : RecordRead). IsReadAs x (heard c.in-Record.record.items)) c.in-Fault-read_record.is c.read_record.ensures in
     let k = ended-as _ _ (fault_number c.in-Fault-read_record.fault)
-    (read_as _ _ _ _ (Err (fault_number c.in-Fault-read_record.fault)) c.deref.ensures.value r t.1.1) in
+    (read_as _ _ _ _ (Err (fault_number c.in-Fault-read_record.fault)) refl r t.1.1) in
     let size = length_taken taken c.args.bytes.now t.0.within in
     record {
       arrives = (t.1.0, t.0.within, k);

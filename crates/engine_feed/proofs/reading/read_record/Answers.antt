@@ -18,27 +18,27 @@ use Rattle.engine_feed.proofs.reading.read_record.Goals as goal
 
 pub returns-in-Err : goal.returns-in-Err
 returns-in-Err c =
-    let bytes = c.args.bytes.now in
+    let bytes = c.args.record.items in
     let h = subst (λ (r : Result Heard RecordFault). Hears r (records.heard bytes)) c.in-Err.is c.read_record.ensures in
     heard_is bytes ∙ h ∙ ap (λ n. Err n) (sym (numbers-same _)) ∙ ap (λ (f : StreamFault). Err (fault_number f)) (sym c.stream_fault.ensures)
 
 pub new-requires : goal.new-requires
 new-requires c =
-    let bytes = c.args.bytes.now in
+    let bytes = c.args.record.items in
     let h = subst (λ (r : Result Heard RecordFault). Hears r (records.heard bytes)) c.in-Ok.is c.read_record.ensures in
     let q = subst (λ (r : Request). Tells c.in-Ok.field-0.xid r (records.heard bytes)) c.in-Call.is h in
     heard-is-offered bytes c.in-Ok.field-0.xid (call_of c.in-Call.call) (credential_of c.in-Call.credential) q
 
 pub new-requires-in-Refused : goal.new-requires-in-Refused
 new-requires-in-Refused c =
-    let bytes = c.args.bytes.now in
+    let bytes = c.args.record.items in
     let h = subst (λ (r : Result Heard RecordFault). Hears r (records.heard bytes)) c.in-Ok.is c.read_record.ensures in
     let q = subst (λ (r : Request). Tells c.in-Ok.field-0.xid r (records.heard bytes)) c.in-Refused.is h in
     refused-refuses bytes c.in-Ok.field-0.xid (reply_of c.in-Refused.reply) q
 
 pub returns-in-Call : goal.returns-in-Call
 returns-in-Call c =
-    let bytes = c.args.bytes.now in
+    let bytes = c.args.record.items in
     let h = subst (λ (r : Result Heard RecordFault). Hears r (records.heard bytes)) c.in-Ok.is c.read_record.ensures in
     let q = subst (λ (r : Request). Tells c.in-Ok.field-0.xid r (records.heard bytes)) c.in-Call.is h in
     heard_is bytes ∙ q ∙ ap (λ (k : Call). Ok (record { xid = c.in-Ok.field-0.xid; asked = types.Ask (call_of k) (credential_of c.in-Call.credential) }))
@@ -46,14 +46,14 @@ returns-in-Call c =
 
 pub returns-in-Refused : goal.returns-in-Refused
 returns-in-Refused c =
-    let bytes = c.args.bytes.now in
+    let bytes = c.args.record.items in
     let h = subst (λ (r : Result Heard RecordFault). Hears r (records.heard bytes)) c.in-Ok.is c.read_record.ensures in
     let q = subst (λ (r : Request). Tells c.in-Ok.field-0.xid r (records.heard bytes)) c.in-Refused.is h in
     heard_is bytes ∙ q ∙ ap (λ (r : Reply). Ok (record { xid = c.in-Ok.field-0.xid; asked = types.Refused (reply_of r) })) (sym c.new-in-Refused.ensures)
 
 pub returns-in-Undecoded : goal.returns-in-Undecoded
 returns-in-Undecoded c =
-    let bytes = c.args.bytes.now in
+    let bytes = c.args.record.items in
     let h = subst (λ (r : Result Heard RecordFault). Hears r (records.heard bytes)) c.in-Ok.is c.read_record.ensures in
     let q = subst (λ (r : Request). Tells c.in-Ok.field-0.xid r (records.heard bytes)) c.in-Undecoded.is h in
     (types.Ask q.0 q.1.0, q.1.1, heard_is bytes ∙ q.1.2)

@@ -1,6 +1,9 @@
-use Rattle.std.proofs.Common.{sym, ap, ◌∙◌, ◌++◌, Ok, Err}
+use Rattle.std.proofs.Common.{ℕ, ◌<◌, ◌≡◌, sym, ap, ◌∙◌, ◌++◌, Ok, Err, arith}
+use Rattle.std.proofs.lemmas.Bool.Decides.{nat_tests}
+use Rattle.nfs_values.specs.Answer as answers
+use Rattle.nfs_values.specs.declared.answer.ReadResults.{ReadResults}
 use Rattle.nfs_model.specs.volume.Stripes.{StripeValue, byte_at, bytes_read}
-use Rattle.service_data.proofs.Told.{told-read, some-asked, stripe-told, stripe-right, stripe-starved}
+use Rattle.service_data.proofs.Told.{told-read, told-none, room-behind, stripe-told, stripe-right, stripe-starved}
 use Rattle.service_data.proofs.reading.read_in_stripe.Goals as goal
 
 pub returns-in-Err : goal.returns-in-Err
@@ -12,26 +15,47 @@ returns-in-Err c =
           c.get-stripe.ensures c.card.ensures.card c.in-Err.ensures));
     }
 
-pub returns-in_err-bytes : goal.returns-in_err-bytes
-returns-in_err-bytes c =
+pub returns-then-given-eq0 : goal.returns-then-given-eq0
+returns-then-given-eq0 c =
     let s : StripeValue = c.args.held.now.own in
+    let none : c.given_of-given.result.0 ≡ 0 = grind (arith, nat_tests, c.if-given-eq0.true) in
+    record {
+      right = stripe-right c.args.fileid.0 c.args.offset c.args.count s (Ok c.none_read.result)
+          (ap (λ (r : ReadResults). answers.bytes_read r) c.none_read.ensures
+          ∙ told-none (byte_at s c.args.fileid.0) c.args.offset _ c.in-Ok.size c.given_of-given.result.0 c.given_of-given.result.1
+          c.given_of-given.ensures.given c.given_of-given.ensures.eof none
+          ∙ sym (stripe-told c.args.fileid.0 c.args.offset c.args.count s c.get-stripe.result.now _ (Ok c.in-Ok.size)
+          c.get-stripe.ensures c.card.ensures.card c.in-Ok.ensures));
+    }
+
+pub returns-in_err-place : goal.returns-in_err-place
+returns-in_err-place c =
+    let s : StripeValue = c.args.held.now.own in
+    let some : 0 < c.given_of-given.result.0 = grind (arith, nat_tests, c.if-given-eq0.false) in
     record {
       right = stripe-starved c.args.fileid.0 c.args.offset c.args.count s c.from_residual.result c.from_residual.ensures.0 c.in-Ok.size
-          c.given_of-given.result.0 (some-asked c.given_of-given.result.0 c.in_err-bytes.ensures.succeeds) c.given_of-given.ensures.given
+          c.given_of-given.result.0 some c.given_of-given.ensures.given
           (stripe-told c.args.fileid.0 c.args.offset c.args.count s c.get-stripe.result.now _ (Ok c.in-Ok.size)
           c.get-stripe.ensures c.card.ensures.card c.in-Ok.ensures);
     }
+
+pub new-bytes-requires-clause-room : goal.new-bytes-requires-clause-room
+new-bytes-requires-clause-room c =
+    room-behind c.in_ok-place.place c.read.new.into (byte_at c.get-stripe.result.now c.args.fileid.0) c.args.offset c.given_of-given.result.0
+    c.read.ensures.bytes c.read.ensures.capacity c.in_ok-place.ensures.room
 
 pub returns : goal.returns
 returns c =
     let s : StripeValue = c.args.held.now.own in
     record {
       right = stripe-right c.args.fileid.0 c.args.offset c.args.count s
-          (Ok (record { eof = c.given_of-given.result.1; bytes = c.read.new.into }))
+          (Ok (record { eof = c.given_of-given.result.1; bytes = c.new-bytes.result }))
           (told-read (byte_at s c.args.fileid.0) c.args.offset _ c.in-Ok.size c.given_of-given.result.0 c.given_of-given.result.1
-          c.in_ok-bytes.bytes.items c.read.new.into.items c.given_of-given.ensures.given c.given_of-given.ensures.eof c.in_ok-bytes.ensures.items
+          c.in_ok-place.place.items c.read.new.into.items c.new-bytes.result c.given_of-given.ensures.given c.given_of-given.ensures.eof
+          c.in_ok-place.ensures.head
           (c.read.ensures.bytes
-          ∙ ap (λ (x : StripeValue). c.in_ok-bytes.bytes.items ++ bytes_read x c.args.fileid.0 c.args.offset c.given_of-given.result.0) c.get-stripe.ensures)
+          ∙ ap (λ (x : StripeValue). c.in_ok-place.place.items ++ bytes_read x c.args.fileid.0 c.args.offset c.given_of-given.result.0) c.get-stripe.ensures)
+          c.new-bytes.ensures
           ∙ sym (stripe-told c.args.fileid.0 c.args.offset c.args.count s c.get-stripe.result.now _ (Ok c.in-Ok.size)
           c.get-stripe.ensures c.card.ensures.card c.in-Ok.ensures));
     }

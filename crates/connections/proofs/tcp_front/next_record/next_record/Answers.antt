@@ -1,8 +1,6 @@
 use Rattle.std.proofs.Common.{List, ℕ, take, subst}
 use Rattle.rpc_record.specs.declared.reassembler.Step.{Step}
 use Rattle.rpc_record.specs.Feeds.{Feeds, given}
-use Rattle.engine_feed.specs.Codec.{heard}
-use Rattle.connections.specs.tcp_front.Steps.{IsNext}
 use Rattle.connections.proofs.tcp_front.Adding.{Reads, comes-next, comes-fault}
 use Rattle.connections.proofs.tcp_front.next_record.next_record.Goals as goal
 
@@ -14,8 +12,7 @@ returns-in-Record-clause-comes c =
     let at' = c.feed-taken.new.self in
     let fed = subst (λ (s : Step). Feeds at bytes taken s at') c.in-Record.is c.feed-taken.ensures.feeds in
     let reads = subst (λ (s : Step). Reads at (take taken bytes) (given s) at') c.in-Record.is c.feed-taken.ensures.reads in
-    let is = subst (λ (l : List ℕ). IsNext c.next_of.result (heard l)) c.deref.ensures.value c.next_of.ensures in
-    comes-next at at' bytes taken c.in-Record.record.items c.next_of.result fed.0 reads fed.3 is
+    comes-next at at' bytes taken c.in-Record.record.items c.next_of.result fed.0 reads fed.3 c.next_of.ensures
 
 pub returns-in-Fault-clause-comes : goal.returns-in-Fault-clause-comes
 returns-in-Fault-clause-comes c =
