@@ -1,7 +1,7 @@
 //! Heads of calls. Whole heads with their replies, and those at fault, stand in `command_rows`.
 
 use crate::bytes::{bytes_of, holds};
-use nfs_values::{Call, Reply};
+use nfs_values::{Call, Refusal};
 use rpc_msg::{Head, Request, Served, read_call, read_record};
 use std::mem;
 
@@ -48,7 +48,7 @@ fn admin_mismatch(rt: HostRuntime) {
         &head,
         Head::Refuse {
             xid: 9,
-            reply: Reply::ProgramMismatch { low: 1, high: 1 }
+            reply: Refusal::ProgramMismatch { low: 1, high: 1 }
         }
     );
     mem::forget(head);

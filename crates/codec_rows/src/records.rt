@@ -1,7 +1,7 @@
 //! Records out of a stream, and a record's frame.
 
 use crate::bytes::{bytes_of, holds, same};
-use nfs_values::Reply;
+use nfs_values::Refusal;
 use rpc_msg::{RecordFault, Request, read_record};
 use rpc_record::{Look, Reassembler, Step, frame, put_header};
 use std::mem;
@@ -159,7 +159,7 @@ fn is_garbage(rt: &(impl Abort + AllocGlobal), step: Step) {
     };
     let heard = heard.expect(rt, "no call");
     holds(rt, heard.xid == 1);
-    let is_refused = matches!(&heard.request, Request::Refused(Reply::GarbageArguments));
+    let is_refused = matches!(&heard.request, Request::Refused(Refusal::GarbageArguments));
     mem::forget(heard);
     holds(rt, is_refused);
 }

@@ -5,7 +5,7 @@ ghost use Rattle.std.specs.Prelude.{◌≤◌, length};
 use crate::bytes::{bytes_of, holds, same};
 use nfs_values::{
     Answer, AuthFault, BytesRead, BytesToWrite, Call, Cookie, CreateMode, FileHandle, Fileid, Name,
-    Named, ReadResults, Reply, Target, Verifier, VolumeNumber, room_to_read,
+    Named, ReadResults, Refusal, Reply, Target, Verifier, VolumeNumber, room_to_read,
 };
 use rpc_msg::{move_reply_record, room_of_reply, write_reply, write_reply_record};
 use std::alloc::Global;
@@ -17,9 +17,9 @@ fn records_of_replies(rt: HostRuntime) {
     let mut out = Vec::new(rt.alloc());
     let null = Reply::Success(Answer::Null);
     write_reply_record(&mut out, 9, &null).expect(&rt, "no memory");
-    let refused = Reply::AuthError(AuthFault::BadCredential);
+    let refused = Reply::Refused(Refusal::AuthError(AuthFault::BadCredential));
     write_reply_record(&mut out, 9, &refused).expect(&rt, "no memory");
-    let starved = Reply::SystemError;
+    let starved = Reply::Refused(Refusal::SystemError);
     write_reply_record(&mut out, 9, &starved).expect(&rt, "no memory");
     mem::forget((null, refused, starved));
     let words = [
@@ -31,7 +31,7 @@ fn records_of_replies(rt: HostRuntime) {
 #[test]
 fn bare_replies(rt: HostRuntime) {
     let mut bare = Vec::new(rt.alloc());
-    let mismatch = Reply::RpcMismatch { low: 2, high: 2 };
+    let mismatch = Reply::Refused(Refusal::RpcMismatch { low: 2, high: 2 });
     write_reply(&mut bare, 3, &mismatch).expect(&rt, "no memory");
     mem::forget(mismatch);
     same(&rt, &bare, &bytes_of(&rt, &[3, 1, 1, 0, 2, 2]));

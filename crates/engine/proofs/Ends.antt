@@ -14,7 +14,8 @@ use Rattle.nfs_model.specs.Events.Refusals.{Written, is_open}
 use Rattle.nfs_model.specs.Events.Step.{finished_call, finished_by, stamp_added, without_call, told_of, bytes_of_reply}
 use Rattle.nfs_values.specs.declared.call.Call.{Call}
 use Rattle.nfs_values.specs.declared.reply.Reply.{Reply}
-use Rattle.nfs_values.specs.declared.reply.Reply.TheVariants.{SystemError}
+use Rattle.nfs_values.specs.declared.reply.Reply.TheVariants.{Refused}
+use Rattle.nfs_values.specs.declared.reply.Refusal.TheVariants.{SystemError}
 use Rattle.nfs_values.specs.Reply.{reply_of}
 use Rattle.affinity_tree.specs.declared.scheduler.message.Message.{Message}
 use Rattle.parcels.specs.state.Contents.{filer_contents}
@@ -74,7 +75,7 @@ module _ {P C R : Type 0} (job : C → Job) (told : R → JobReply) (setup : Set
 
 -- what a message came to, as a reply: one of its own, or SYSTEM_ERR where it was starved
 abbrev pub ToldAs : Outcome → Reply → Bool → Type 0
-ToldAs outcome reply starved = ((outcome ≡ Replied reply) × (starved ≡ false)) ⊎ ((outcome ≡ Starved) × (reply ≡ SystemError) × (starved ≡ true))
+ToldAs outcome reply starved = ((outcome ≡ Replied reply) × (starved ≡ false)) ⊎ ((outcome ≡ Starved) × (reply ≡ Refused SystemError) × (starved ≡ true))
 
 module _ {P C R : Type 0} (setup : Setup) (b : FilerBooks P C R) (r : worlds.Running) (l : Lent (FilerParcel P)) where
   -- what it was lent was left so by its entry
@@ -84,7 +85,7 @@ module _ {P C R : Type 0} (setup : Setup) (b : FilerBooks P C R) (r : worlds.Run
       (λ (t : (outcome ≡ Replied reply) × (starved ≡ false)).
       subst (λ x. IsServed b l (finished_call r x) (reply_of reply)) (sym t.1)
       (subst (λ x. HasOutcome setup b r l (Some (outcome_of x))) t.0 did))
-      (λ (t : (outcome ≡ Starved) × (reply ≡ SystemError) × (starved ≡ true)).
+      (λ (t : (outcome ≡ Starved) × (reply ≡ Refused SystemError) × (starved ≡ true)).
       subst (λ x. IsServed b l (finished_call r x) (reply_of reply)) (sym t.2)
       (subst (λ x. IsServed b l (finished_call r true) (reply_of x)) (sym t.1)
       (subst (λ x. HasOutcome setup b r l (Some (outcome_of x))) t.0 did)))
@@ -95,7 +96,7 @@ pub fits-as : (layout : Layout) (m : Message Call) (outcome : Outcome) (reply : 
     → MayEnd layout m outcome → length (reply_record m.origin.xid (reply_of reply)) ≤ m.room
 fits-as layout m outcome reply starved is may = ⊎_elim
     (λ (t : (outcome ≡ Replied reply) × (starved ≡ false)). subst (MayEnd layout m) t.0 may)
-    (λ (t : (outcome ≡ Starved) × (reply ≡ SystemError) × (starved ≡ true)).
+    (λ (t : (outcome ≡ Starved) × (reply ≡ Refused SystemError) × (starved ≡ true)).
     subst (λ (x : Reply). length (reply_record m.origin.xid (reply_of x)) ≤ m.room) (sym t.1) (subst (MayEnd layout m) t.0 may))
     is
 
@@ -106,7 +107,7 @@ finished-as setup w i r outcome reply starved is = ⊎_elim
     (λ (t : (outcome ≡ Replied reply) × (starved ≡ false)).
     ap (λ x. finished_by setup w i r (outcome_of x)) t.0
     ∙ ap (λ x. finish setup (stamp_added (without_call w i)) (finished_call r x) (reply_of reply)) (sym t.1))
-    (λ (t : (outcome ≡ Starved) × (reply ≡ SystemError) × (starved ≡ true)).
+    (λ (t : (outcome ≡ Starved) × (reply ≡ Refused SystemError) × (starved ≡ true)).
     ap (λ x. finished_by setup w i r (outcome_of x)) t.0
     ∙ (λ j. finish setup (stamp_added (without_call w i)) (finished_call r (sym t.2 j)) (reply_of (sym t.1 j))))
     is
@@ -116,7 +117,7 @@ pub told-as : (setup : Setup) (w : World) (r : worlds.Running) (outcome : Outcom
     → told_of setup w r (outcome_of outcome) ≡ Written r.message.connection (length (bytes_of_reply setup w r.message (reply_of reply)))
 told-as setup w r outcome reply starved is = ⊎_elim
     (λ (t : (outcome ≡ Replied reply) × (starved ≡ false)). ap (λ x. told_of setup w r (outcome_of x)) t.0)
-    (λ (t : (outcome ≡ Starved) × (reply ≡ SystemError) × (starved ≡ true)).
+    (λ (t : (outcome ≡ Starved) × (reply ≡ Refused SystemError) × (starved ≡ true)).
     ap (λ x. told_of setup w r (outcome_of x)) t.0
     ∙ ap (λ (x : Reply). Written r.message.connection (length (bytes_of_reply setup w r.message (reply_of x)))) (sym t.1))
     is
@@ -127,7 +128,7 @@ pub left-as : (r : worlds.Running) (outcome : Outcome) (reply : Reply) (starved 
 left-as r outcome reply starved is server = ⊎_elim
     (λ (t : (outcome ≡ Replied reply) × (starved ≡ false)).
     ap (λ x. worked_by server r (Some (outcome_of x))) t.0 ∙ ap (λ x. (step_of server (finished_call r x)).server) (sym t.1))
-    (λ (t : (outcome ≡ Starved) × (reply ≡ SystemError) × (starved ≡ true)).
+    (λ (t : (outcome ≡ Starved) × (reply ≡ Refused SystemError) × (starved ≡ true)).
     ap (λ x. worked_by server r (Some (outcome_of x))) t.0 ∙ ap (λ x. (step_of server (finished_call r x)).server) (sym t.2))
     is
 

@@ -174,7 +174,7 @@ pub(crate) fn finish(state: &mut State, worker: usize) -> Result<Done, Refusal>
     let connection = running.message.origin.connection;
     let (reply, starved) = match outcome {
         Outcome::Replied(reply) => (reply, false),
-        Outcome::Starved => (Reply::SystemError, true),
+        Outcome::Starved => (Reply::Refused(nfs_values::Refusal::SystemError), true),
         Outcome::Moved(affinity) => {
             take_back(&mut state.desk, worker);
             state.calls.put_back(Message {

@@ -8,7 +8,7 @@ use Rattle.nfs_values.specs.declared.call.Call.{Call}
 use Rattle.nfs_values.specs.Moment.{moment_of}
 use Rattle.nfs_values.specs.Credential.{credential_of}
 use Rattle.nfs_values.specs.Call.{call_of}
-use Rattle.nfs_values.specs.Reply.{reply_of}
+use Rattle.nfs_values.specs.Reply.{refusal_of}
 use Rattle.affinity_tree.specs.Affinity.{affinity_of}
 use Rattle.affinity_tree.specs.Layout as layouts
 use Rattle.affinity_tree.specs.declared.scheduler.message.Message.{Message}
@@ -24,7 +24,7 @@ use Rattle.engine_feed.specs.declared.state.CallsState.{CallsState}
 
 abbrev pub asked_of : Request → types.Asked
 asked_of (requests.Call call credential) = types.Ask (call_of call) (credential_of credential)
-asked_of (requests.Refused reply) = types.Refused (reply_of reply)
+asked_of (requests.Refused refusal) = types.Refused (refusal_of refusal)
 
 -- what an entry's record asks, where it was decoded
 abbrev pub asked_in : Option Request → types.Asked

@@ -5,7 +5,7 @@ ghost use Rattle.nfs_model.specs.Types as types;
 ghost use Rattle.nfs_model.specs.Server.{start_of_times};
 ghost use Rattle.nfs_values.specs.Call.{call_of};
 ghost use Rattle.nfs_values.specs.Credential.{credential_of};
-ghost use Rattle.nfs_values.specs.Reply.{reply_of};
+ghost use Rattle.nfs_values.specs.Reply.{refusal_of, reply_of};
 ghost use Rattle.engine_feed.specs.Codec.{reply_record};
 ghost use Rattle.engine_feed.specs.Offered.{reply_limit};
 ghost use Rattle.engine_feed.specs.Seen.{asked_of, layout_in, pending, entry_at};
@@ -13,7 +13,7 @@ ghost use Rattle.engine_feed.specs.Sound.{IsSoundConnection, AreSound, IsAdmitte
 ghost use Rattle.engine_feed.specs.Sound.{HasRoomToReply, HaveRoomToAdmit};
 ghost use Rattle.engine_feed.specs.Words.{HasHeard, Finishes, Waits, Keeps};
 
-use crate::asked::{OfferedCall, Refused};
+use crate::asked::OfferedCall;
 use crate::at_once::answer_at_once;
 use crate::finishing::{keep_entry, write_reply};
 use crate::message::Request;
@@ -22,7 +22,7 @@ use affinity_tree::homes::home_of;
 use affinity_tree::scheduler::laws::nodes_have_queues;
 use affinity_tree::scheduler::{Message, Origin};
 use nfs_laws::laws::without_home_stays;
-use nfs_values::{Credential, Moment, Reply};
+use nfs_values::{Credential, Moment, Refusal, Reply};
 use rpc_msg::{refusals_fit, replies_fit, room_of_reply};
 
 /// Answers a call as its record is complete.
@@ -48,18 +48,23 @@ fn answer(
 }
 
 /// Refuses a record.
-fn refuse(connection: &mut ConnectionState, calls: &mut CallsState, origin: Origin, reply: Refused)
+fn refuse(
+    connection: &mut ConnectionState,
+    calls: &mut CallsState,
+    origin: Origin,
+    refusal: Refusal,
+)
     requires connection { IsSoundConnection connection.old }
     requires calls { AreSound calls.old }
     requires room { HasRoomToReply connection.old }
     requires entry { HaveRoomToAdmit calls.old }
-    ensures admitted { HasHeard calls.old connection.old origin (types.Refused (reply_of reply))
+    ensures admitted { HasHeard calls.old connection.old origin (types.Refused (refusal_of refusal))
         false calls.new connection.new }
     ensures keeps { Keeps calls.old connection.old origin.connection.0 calls.new connection.new }
 {
     refusals_fit();
-    write_reply(connection, origin.xid, reply.as_reply());
-    let request = Some(Request::Refused(reply));
+    write_reply(connection, origin.xid, &Reply::Refused(refusal));
+    let request = Some(Request::Refused(refusal));
     keep_entry(calls, origin, request, None, Moment::START, false);
 }
 
@@ -74,7 +79,7 @@ pub(crate) fn starve(connection: &mut ConnectionState, calls: &mut CallsState, o
     ensures keeps { Keeps calls.old connection.old origin.connection.0 calls.new connection.new }
 {
     refusals_fit();
-    write_reply(connection, origin.xid, &Reply::SystemError);
+    write_reply(connection, origin.xid, &Reply::Refused(Refusal::SystemError));
     keep_entry(calls, origin, None, None, Moment::START, true);
 }
 
@@ -154,6 +159,6 @@ pub(crate) fn admit(
         Request::Call { call, credential } => {
             admit_call(connection, calls, origin, call, credential);
         }
-        Request::Refused(reply) => refuse(connection, calls, origin, reply),
+        Request::Refused(refusal) => refuse(connection, calls, origin, refusal),
     }
 }

@@ -3,11 +3,9 @@
 
 ghost use Rattle.std.specs.Prelude.{◌≡◌};
 ghost use Rattle.nfs_values.specs.Call.{call_of};
-ghost use Rattle.nfs_values.specs.Reply.{reply_of};
-ghost use Rattle.rpc_msg.specs.Replies.{IsRefusal};
 ghost use Rattle.rpc_msg.specs.Offered.{IsOffered};
 
-use nfs_values::{Call, Reply};
+use nfs_values::Call;
 use std::marker::Model;
 
 /// A call of a procedure that is offered.
@@ -51,40 +49,5 @@ impl OfferedCall {
         ensures offered { IsOffered (call_of self.now) }
     {
         &self.call
-    }
-}
-
-/// A reply that refuses a record.
-#[derive(Drop)]
-pub struct Refused {
-    reply: Reply,
-}
-
-impl Model for Refused {
-    ghost use Rattle.nfs_values.specs.declared.reply.Reply.{Reply};
-
-    ghost Value = { Reply };
-
-    ghost use Rattle.nfs_values.specs.Reply.{reply_of};
-    ghost use Rattle.rpc_msg.specs.Replies.{IsRefusal};
-
-    ghost view = { λ r. r.reply };
-
-    ghost invariant = { λ r. IsRefusal (reply_of r.reply) };
-}
-
-impl Refused {
-    pub(crate) fn new(reply: Reply) -> Refused
-        requires { IsRefusal (reply_of reply) }
-        ensures { result ≡ reply }
-    {
-        Refused { reply }
-    }
-
-    pub fn as_reply(&self) -> &Reply
-        ensures value { result.now ≡ self.now }
-        ensures refuses { IsRefusal (reply_of self.now) }
-    {
-        &self.reply
     }
 }

@@ -18,7 +18,7 @@ mod reply;
 mod state;
 mod stop;
 
-pub use asked::{OfferedCall, Refused};
+pub use asked::OfferedCall;
 pub use at_once::answer_at_once;
 pub use calls::Calls;
 pub use connection::OpenConnection;

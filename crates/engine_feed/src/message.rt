@@ -1,9 +1,9 @@
 //! What records ask, and calls that are finished.
 
-use crate::asked::{OfferedCall, Refused};
+use crate::asked::OfferedCall;
 use affinity_tree::Affinity;
 use affinity_tree::scheduler::Origin;
-use nfs_values::{Credential, Moment};
+use nfs_values::{Credential, Moment, Refusal};
 
 /// What a record asks.
 #[derive(Drop)]
@@ -14,7 +14,7 @@ pub enum Request {
         credential: Credential,
     },
     /// A call message that is refused.
-    Refused(Refused),
+    Refused(Refusal),
 }
 
 /// What was read of a record.

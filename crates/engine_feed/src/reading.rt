@@ -4,7 +4,7 @@ ghost use Rattle.std.specs.Prelude.{◌≡◌};
 ghost use Rattle.engine_feed.specs.Codec.{heard};
 ghost use Rattle.engine_feed.specs.Records.{IsReadAs, fault_of};
 
-use crate::asked::{OfferedCall, Refused};
+use crate::asked::OfferedCall;
 use crate::message::{Heard, Request};
 use crate::stop::StreamFault;
 use std::alloc::Global;
@@ -42,9 +42,9 @@ pub fn read_record(alloc: Global, record: Vec<u8>) -> RecordRead
                     credential,
                 },
             }),
-            rpc_msg::Request::Refused(reply) => RecordRead::Heard(Heard {
+            rpc_msg::Request::Refused(refusal) => RecordRead::Heard(Heard {
                 xid,
-                request: Request::Refused(Refused::new(reply)),
+                request: Request::Refused(refusal),
             }),
             rpc_msg::Request::Undecoded => RecordRead::Undecoded(xid),
         },

@@ -17,7 +17,7 @@ pub use nfs_values::{
     ADMIN_PROGRAM, Answer, Attributes, AuthFault, BlockNumber, BytesRead, BytesToWrite, Call,
     Change, CommitResults, ConnectionNumber, Cookie, CreateMode, Credential, DirectoryEntry, FileHandle, FileKind, Fileid,
     FilesystemStatusResults, LookupResults, MakeResults, Moment, NFS_PROGRAM, Name, Named,
-    PriorAttributes, Procedure, ReadDirectoryResults, ReadResults, RenameResults, Reply,
+    PriorAttributes, Procedure, ReadDirectoryResults, ReadResults, Refusal, RenameResults, Reply,
     SetAttributes, SetTime, Status, Target, Verifier, VolumeCount, VolumeNumber, WorkerNumber,
     WriteResults,
 };

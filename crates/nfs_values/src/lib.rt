@@ -31,7 +31,7 @@ pub use moment::Moment;
 pub use name::Name;
 pub use number::{BlockNumber, ConnectionNumber, Cookie, Fileid, VolumeNumber, WorkerNumber};
 pub use procedure::{ADMIN_PROGRAM, NFS_PROGRAM, Procedure};
-pub use reply::{AuthFault, Reply};
+pub use reply::{AuthFault, Refusal, Reply};
 pub use set::{CreateMode, SetAttributes, SetTime};
 pub use status::Status;
 pub use target::Target;

@@ -22,9 +22,9 @@ impl AuthFault {
     }
 }
 
-/// A reply (RFC 5531 section 9).
-pub enum Reply {
-    Success(Answer),
+/// A reply that gives no results (RFC 5531 section 9): a record is refused, or memory ran out.
+#[derive(Clone, Copy)]
+pub enum Refusal {
     ProgramUnavailable,
     ProgramMismatch { low: u32, high: u32 },
     ProcedureUnavailable,
@@ -34,18 +34,18 @@ pub enum Reply {
     AuthError(AuthFault),
 }
 
+/// A reply (RFC 5531 section 9).
+pub enum Reply {
+    Success(Answer),
+    Refused(Refusal),
+}
+
 // By hand, so that crates above have no proof of the drop of each of its parts.
 impl Drop for Reply {
     fn drop(self) {
         match self {
             Reply::Success(_) => {}
-            Reply::ProgramUnavailable => {}
-            Reply::ProgramMismatch { low: _, high: _ } => {}
-            Reply::ProcedureUnavailable => {}
-            Reply::GarbageArguments => {}
-            Reply::SystemError => {}
-            Reply::RpcMismatch { low: _, high: _ } => {}
-            Reply::AuthError(_) => {}
+            Reply::Refused(_) => {}
         }
     }
 }

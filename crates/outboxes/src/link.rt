@@ -8,7 +8,7 @@ ghost use Rattle.outboxes.specs.Popped.{IsBlank, IsOf};
 
 use crate::chain::{Chain, Link};
 use crate::said::Said;
-use nfs_values::Reply;
+use nfs_values::{Refusal, Reply};
 use rpc_msg::{move_reply_record, write_reply_record};
 use std::alloc::{AllocError, Global};
 
@@ -17,7 +17,7 @@ pub(crate) fn blank(alloc: Global, bytes: usize) -> Result<Box<Link>, AllocError
     ensures { IfOk result (λ link. IsBlank bytes link.value) }
 {
     let bytes = Vec::with_capacity(alloc, bytes)?;
-    let said = Said::new(0, &Reply::SystemError);
+    let said = Said::new(0, &Reply::Refused(Refusal::SystemError));
     let rest = Chain::new();
     Ok(Box::new(alloc, Link { bytes, said, rest })?)
 }

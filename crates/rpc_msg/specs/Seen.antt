@@ -7,7 +7,7 @@ use Rattle.nfs_model.specs.World as world
 use Rattle.nfs_model.specs.Serial.Starve.{has_bytes}
 use Rattle.nfs_values.specs.Call.{call_of}
 use Rattle.nfs_values.specs.Credential.{credential_of}
-use Rattle.nfs_values.specs.Reply.{reply_of}
+use Rattle.nfs_values.specs.Reply.{refusal_of}
 use Rattle.rpc_msg.specs.declared.fault.RecordFault.{RecordFault}
 use Rattle.rpc_msg.specs.declared.fault.RecordFault.TheVariants.{BadHeader, NotACall}
 use Rattle.rpc_msg.specs.declared.stop.Stop.{Stop}
@@ -31,7 +31,7 @@ fault_number NotACall = 13
 
 abbrev pub stop_of : Stop → heads.Stop
 stop_of stops.Incomplete = heads.Incomplete
-stop_of (stops.Refuse reply) = heads.Refuse (reply_of reply)
+stop_of (stops.Refuse reply) = heads.Refuse (refusal_of reply)
 
 abbrev pub numbers_value : Numbers → Value numbers_shape
 numbers_value n = (n.program, (n.version, (n.procedure, (n.flavor, n.size))))
@@ -44,7 +44,7 @@ body_of b = record { procedure = b.procedure; credential = credential_of b.crede
 
 abbrev pub head_seen : Head → heads.Head
 head_seen (codes.Call xid procedure credential arguments) = heads.Call xid procedure (credential_of credential) arguments.now
-head_seen (codes.Refuse xid reply) = heads.Refused xid (reply_of reply)
+head_seen (codes.Refuse xid reply) = heads.Refused xid (refusal_of reply)
 head_seen (codes.Fault fault) = heads.Faulty (fault_number fault)
 
 -- What was returned, seen by these views, is what a step gives.
@@ -64,7 +64,7 @@ passed (Err fault) = Err fault
 -- What a record asks, as it is told. None is told only where memory ran out: where a call has a name or data.
 abbrev pub Tells : ℕ → Request → Result world.Heard ℕ → Type 0
 Tells xid (requests.Call call credential) heard = heard ≡ Ok (record { xid = xid; asked = model.Ask (call_of call) (credential_of credential) })
-Tells xid (requests.Refused reply) heard = heard ≡ Ok (record { xid = xid; asked = model.Refused (reply_of reply) })
+Tells xid (requests.Refused reply) heard = heard ≡ Ok (record { xid = xid; asked = model.Refused (refusal_of reply) })
 Tells xid requests.Undecoded heard =
     (call : model.Call) × ((credential : model.Credential) × (has_bytes call ≡ true) × (heard ≡ Ok (record { xid = xid; asked = model.Ask call credential })))
 

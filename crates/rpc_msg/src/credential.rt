@@ -9,7 +9,7 @@ ghost use Rattle.rpc_msg.specs.Seen.{Says, passed, stop_of, with_rest};
 
 use crate::items::fixed;
 use crate::stop::Stop;
-use nfs_values::{AuthFault, Credential, Reply};
+use nfs_values::{AuthFault, Credential, Refusal};
 use xdr::Cursor;
 
 // Flavors (auth_flavor, RFC 5531 section 8.2).
@@ -63,7 +63,7 @@ fn user_of(flavor: u32, body: &[u8]) -> Result<Credential, Stop>
     }
     match read_user(body) {
         Ok(user) => Ok(user),
-        Err(_fault) => Err(Stop::Refuse(Reply::AuthError(AuthFault::BadCredential))),
+        Err(_fault) => Err(Stop::Refuse(Refusal::AuthError(AuthFault::BadCredential))),
     }
 }
 
@@ -74,7 +74,7 @@ fn read_body(bytes: &[u8], size: u32) -> Result<(&[u8], &[u8]), Stop>
     match fixed(bytes, size) {
         Ok(found) => Ok(found),
         Err(xdr::Fault::Short) => Err(Stop::Incomplete),
-        Err(_padding) => Err(Stop::Refuse(Reply::AuthError(AuthFault::BadCredential))),
+        Err(_padding) => Err(Stop::Refuse(Refusal::AuthError(AuthFault::BadCredential))),
     }
 }
 
@@ -87,10 +87,10 @@ pub(crate) fn read_credential(
     ensures { Says (with_rest credential_of) stop_of result (credential_at flavor size bytes.now) }
 {
     if flavor > AUTH_SYS {
-        return Err(Stop::Refuse(Reply::AuthError(AuthFault::RejectedCredential)));
+        return Err(Stop::Refuse(Refusal::AuthError(AuthFault::RejectedCredential)));
     }
     if size > MOST_BODY {
-        return Err(Stop::Refuse(Reply::AuthError(AuthFault::BadCredential)));
+        return Err(Stop::Refuse(Refusal::AuthError(AuthFault::BadCredential)));
     }
     let (body, rest) = read_body(bytes, size)?;
     let user = user_of(flavor, body)?;

@@ -14,7 +14,7 @@ use crate::credential::read_credential;
 use crate::fault::RecordFault;
 use crate::items::{opaque, word};
 use crate::stop::Stop;
-use nfs_values::{ADMIN_PROGRAM, Credential, NFS_PROGRAM, Procedure, Reply};
+use nfs_values::{ADMIN_PROGRAM, Credential, NFS_PROGRAM, Procedure, Refusal};
 
 /// The type of a message that is a call (msg_type, RFC 5531 section 9).
 const CALL: u32 = 0;
@@ -41,7 +41,7 @@ pub enum Head<'a> {
     /// A call that is refused, whatever its arguments.
     Refuse {
         xid: u32,
-        reply: Reply,
+        reply: Refusal,
     },
     /// No call.
     Fault(RecordFault),
@@ -73,7 +73,7 @@ fn read_version(bytes: &[u8]) -> Result<&[u8], Stop>
 {
     let (version, rest) = word(bytes)?;
     if version != RPC_VERSION {
-        return Err(Stop::Refuse(Reply::RpcMismatch { low: 2, high: 2 }));
+        return Err(Stop::Refuse(Refusal::RpcMismatch { low: 2, high: 2 }));
     }
     Ok(rest)
 }
@@ -133,17 +133,17 @@ fn offered(program: u32, version: u32, number: u32) -> Result<Procedure, Stop>
     ensures { Says (λ p. p) stop_of result (procedure_of program version number) }
 {
     let Some(offered) = version_of(program) else {
-        return Err(Stop::Refuse(Reply::ProgramUnavailable));
+        return Err(Stop::Refuse(Refusal::ProgramUnavailable));
     };
     if version != offered {
-        return Err(Stop::Refuse(Reply::ProgramMismatch {
+        return Err(Stop::Refuse(Refusal::ProgramMismatch {
             low: offered,
             high: offered,
         }));
     }
     match Procedure::of(program, number) {
         Some(procedure) => Ok(procedure),
-        None => Err(Stop::Refuse(Reply::ProcedureUnavailable)),
+        None => Err(Stop::Refuse(Refusal::ProcedureUnavailable)),
     }
 }
 

@@ -9,7 +9,7 @@ ghost use Rattle.rpc_msg.specs.Seen.{Hears, Tells};
 use crate::fault::RecordFault;
 use crate::head::{Head, read_call};
 use nfs_types::{Bad, decode_in_place};
-use nfs_values::{Call, Credential, Procedure, Reply};
+use nfs_values::{Call, Credential, Procedure, Refusal};
 use std::alloc::Global;
 
 /// What a record asks.
@@ -17,7 +17,7 @@ use std::alloc::Global;
 pub enum Request {
     Call { call: Call, credential: Credential },
     /// The reply refuses it.
-    Refused(Reply),
+    Refused(Refusal),
     /// A call, but memory for its name or data ran out.
     Undecoded,
 }
@@ -44,7 +44,7 @@ fn decode(
 {
     match decode_in_place(alloc, procedure, record, from) {
         Ok(call) => Request::Call { call, credential },
-        Err(Bad::Fault(_fault)) => Request::Refused(Reply::GarbageArguments),
+        Err(Bad::Fault(_fault)) => Request::Refused(Refusal::GarbageArguments),
         Err(Bad::NoMemory) => Request::Undecoded,
     }
 }

@@ -5,13 +5,13 @@ ghost use Rattle.std.specs.Prelude.{[], vec_len, vec_capacity, IsTrue};
 ghost use Rattle.std.specs.List.{flat_map};
 ghost use Rattle.xdr.specs.Shape.{word};
 ghost use Rattle.rpc_record.specs.Records.{limit};
-ghost use Rattle.nfs_values.specs.Reply.{reply_of};
+ghost use Rattle.nfs_values.specs.Reply.{refusal_of, reply_of};
 ghost use Rattle.rpc_msg.specs.Replies.{accepted, body_bytes, denied, message, results};
 ghost use Rattle.rpc_msg.specs.Replies.{reply_bytes, reply_record};
 ghost use Rattle.rpc_msg.specs.Given.{GivesBytes};
 
 use nfs_types::{encode_result, size_of_result};
-use nfs_values::{Answer, Reply};
+use nfs_values::{Answer, Refusal, Reply};
 use rpc_record::put_header;
 use std::alloc::AllocError;
 use xdr::put_u32;
@@ -80,6 +80,26 @@ fn write_denied(xid: u32, reason: u32, arm: &[u32], out: &mut Vec<u8>)
     write_words(arm, out);
 }
 
+/// Appends a reply that gives no results, for which there is room.
+fn append_refusal(xid: u32, refusal: Refusal, out: &mut Vec<u8>)
+    requires room { vec_len out.old + length (reply_bytes xid (refusal_of refusal))
+        ≤ vec_capacity out.old }
+    ensures items { out.new.items ≡ out.old.items ++ reply_bytes xid (refusal_of refusal) }
+    ensures capacity { vec_capacity out.old ≤ vec_capacity out.new }
+{
+    match refusal {
+        Refusal::ProgramUnavailable => write_accepted(xid, PROG_UNAVAIL, &[], out),
+        Refusal::ProgramMismatch { low, high } => {
+            write_accepted(xid, PROG_MISMATCH, &[low, high], out);
+        }
+        Refusal::ProcedureUnavailable => write_accepted(xid, PROC_UNAVAIL, &[], out),
+        Refusal::GarbageArguments => write_accepted(xid, GARBAGE_ARGS, &[], out),
+        Refusal::SystemError => write_accepted(xid, SYSTEM_ERR, &[], out),
+        Refusal::RpcMismatch { low, high } => write_denied(xid, RPC_MISMATCH, &[low, high], out),
+        Refusal::AuthError(fault) => write_denied(xid, AUTH_ERROR, &[fault.number()], out),
+    }
+}
+
 /// Appends a reply, for which there is room.
 fn append(xid: u32, reply: &Reply, out: &mut Vec<u8>)
     requires small { length (results (reply_of reply.now)) < 2 ^ 32 }
@@ -93,15 +113,22 @@ fn append(xid: u32, reply: &Reply, out: &mut Vec<u8>)
             write_accepted(xid, SUCCESS, &[], out);
             encode_result(out, answer).unwrap();
         }
-        Reply::ProgramUnavailable => write_accepted(xid, PROG_UNAVAIL, &[], out),
-        Reply::ProgramMismatch { low, high } => {
-            write_accepted(xid, PROG_MISMATCH, &[*low, *high], out);
-        }
-        Reply::ProcedureUnavailable => write_accepted(xid, PROC_UNAVAIL, &[], out),
-        Reply::GarbageArguments => write_accepted(xid, GARBAGE_ARGS, &[], out),
-        Reply::SystemError => write_accepted(xid, SYSTEM_ERR, &[], out),
-        Reply::RpcMismatch { low, high } => write_denied(xid, RPC_MISMATCH, &[*low, *high], out),
-        Reply::AuthError(fault) => write_denied(xid, AUTH_ERROR, &[fault.number()], out),
+        Reply::Refused(refusal) => append_refusal(xid, *refusal, out),
+    }
+}
+
+/// How many bytes a reply that gives no results takes.
+fn size_of_refusal(refusal: Refusal) -> usize
+    ensures { result ≡ 8 + length (body_bytes (refusal_of refusal)) }
+{
+    match refusal {
+        Refusal::ProgramMismatch { .. } => 32,
+        Refusal::ProgramUnavailable
+        | Refusal::ProcedureUnavailable
+        | Refusal::GarbageArguments
+        | Refusal::SystemError
+        | Refusal::RpcMismatch { .. } => 24,
+        Refusal::AuthError(_) => 20,
     }
 }
 
@@ -112,13 +139,7 @@ pub fn size_of_reply(reply: &Reply) -> usize
 {
     match reply {
         Reply::Success(answer) => 24 + size_of_result(answer),
-        Reply::ProgramMismatch { .. } => 32,
-        Reply::ProgramUnavailable
-        | Reply::ProcedureUnavailable
-        | Reply::GarbageArguments
-        | Reply::SystemError
-        | Reply::RpcMismatch { .. } => 24,
-        Reply::AuthError(_) => 20,
+        Reply::Refused(refusal) => size_of_refusal(*refusal),
     }
 }
 

@@ -3,7 +3,7 @@
 ghost use Rattle.std.specs.Prelude.{◌≡◌};
 ghost use Rattle.rpc_msg.specs.declared.stop.Stop.TheVariants as stops;
 
-use nfs_values::Reply;
+use nfs_values::Refusal;
 
 /// Why a call isn't offered.
 #[derive(Drop)]
@@ -11,7 +11,7 @@ pub(crate) enum Stop {
     /// Its head isn't all there.
     Incomplete,
     /// The reply refuses it.
-    Refuse(Reply),
+    Refuse(Refusal),
 }
 
 impl From<xdr::Fault> for Stop {

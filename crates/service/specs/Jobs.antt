@@ -7,7 +7,7 @@ use Rattle.affinity_tree.specs.Affinity.{affinity_of}
 use Rattle.nfs_values.specs.Call.{call_of}
 use Rattle.nfs_values.specs.Credential.{credential_of}
 use Rattle.nfs_values.specs.Moment.{moment_of}
-use Rattle.nfs_values.specs.Reply.{reply_of}
+use Rattle.nfs_values.specs.Reply.{refusal_of, reply_of}
 use Rattle.depot.specs.rule.Machine.{IsLocal, Keeps}
 use Rattle.parcels.specs.state.Parcels.{FilerParcel}
 use Rattle.parcels.specs.state.Sound.{IsFiler}
@@ -27,7 +27,7 @@ use Rattle.service.specs.declared.job.JobReply.TheVariants.{Replied, Took, Gave,
 
 abbrev pub asked_of : Asked → types.Asked
 asked_of (Call call credential) = types.Ask (call_of call) (credential_of credential)
-asked_of (Refused reply) = types.Refused (reply_of reply)
+asked_of (Refused refusal) = types.Refused (refusal_of refusal)
 asked_of Undecoded = types.Undecoded
 
 abbrev pub finished_of : ServedCall → replay.FinishedCall

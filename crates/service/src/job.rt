@@ -2,7 +2,7 @@
 
 use crate::batch::BatchInHand;
 use affinity_tree::Affinity;
-use nfs_values::{Call, ConnectionNumber, Credential, Moment, Reply, VolumeNumber};
+use nfs_values::{Call, ConnectionNumber, Credential, Moment, Refusal, Reply, VolumeNumber};
 
 /// What a record asks.
 #[derive(Drop)]
@@ -10,7 +10,7 @@ pub enum Asked {
     /// A call, and whom it acts for.
     Call { call: Call, credential: Credential },
     /// A call message that is refused by this reply.
-    Refused(Reply),
+    Refused(Refusal),
     /// A call whose name or data there was no memory for.
     Undecoded,
 }

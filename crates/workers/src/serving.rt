@@ -25,7 +25,7 @@ use crate::turned::{Gate, Served, Stage};
 use affinity_tree::Kind;
 use depot::Seat;
 use desk::{NodeGrant, ParcelKinds, TaskNode, finish_node, put_back_node};
-use nfs_values::{Moment, Reply};
+use nfs_values::{Moment, Refusal, Reply};
 use outboxes::Answer;
 use parcel_sets::{
     AggregateNode, LogicalNode, Node, Parcel, RangeNode, SerialNode, StripeNode, VbnNode,
@@ -100,7 +100,7 @@ fn serve_on<N: TaskNode<Parcel<Files>, ParcelKinds>, G: Gate>(
             Served::Done(answer)
         }
         Outcome::Starved => {
-            let reply = Reply::SystemError;
+            let reply = Reply::Refused(Refusal::SystemError);
             let answer = answer(filer, seat, grant, message, moment, reply, true);
             gate.pass(place);
             Served::Done(answer)

@@ -5,7 +5,7 @@ ghost use Rattle.nfs_model.specs.Types as types;
 ghost use Rattle.nfs_values.specs.Call.{call_of};
 ghost use Rattle.nfs_values.specs.Credential.{credential_of};
 ghost use Rattle.affinity_tree.specs.Layout.{layout_of};
-ghost use Rattle.nfs_values.specs.Reply.{reply_of};
+ghost use Rattle.nfs_values.specs.Reply.{refusal_of};
 ghost use Rattle.outboxes.specs.Boxes.{addressed};
 ghost use Rattle.outboxes.specs.Messages.{message};
 ghost use Rattle.engine_feed.specs.Seen.{asked_of};
@@ -16,8 +16,8 @@ use crate::tcp_front::sink::RecordSink;
 use affinity_tree::Layout;
 use affinity_tree::homes::home_of;
 use affinity_tree::scheduler::{Message, Origin};
-use engine_feed::{OfferedCall, Refused, Request, answer_at_once};
-use nfs_values::{Credential, Reply};
+use engine_feed::{OfferedCall, Request, answer_at_once};
+use nfs_values::{Credential, Refusal, Reply};
 use rpc_msg::{refusals_fit, replies_fit, room_of_reply};
 use std::alloc::{AllocError, Global};
 
@@ -54,14 +54,14 @@ fn give_call<S: RecordSink>(
 }
 
 /// Answers a record that is refused.
-fn refuse<S: RecordSink>(sink: &mut S, origin: Origin, refused: &Refused) -> Result<(), AllocError>
+fn refuse<S: RecordSink>(sink: &mut S, origin: Origin, refusal: Refusal) -> Result<(), AllocError>
     ensures ok { OnOk result (S.came sink.old (Answered (addressed origin.connection.0
-        (message origin.xid (reply_of refused.now))) ∷ []) sink.new) }
+        (message origin.xid (refusal_of refusal))) ∷ []) sink.new) }
     ensures err { OnErr result (S.came sink.old [] sink.new) }
     ensures layout { S.layout sink.new ≡ S.layout sink.old }
 {
     refusals_fit();
-    sink.answer(origin.connection, origin.xid, refused.as_reply())
+    sink.answer(origin.connection, origin.xid, &Reply::Refused(refusal))
 }
 
 /// Gives on what a record asks.
@@ -82,6 +82,6 @@ pub(crate) fn give<S: RecordSink>(
         Request::Call { call, credential } => {
             give_call(alloc, sink, layout, origin, call, credential)
         }
-        Request::Refused(refused) => refuse(sink, origin, &refused),
+        Request::Refused(refusal) => refuse(sink, origin, refusal),
     }
 }

@@ -7,6 +7,9 @@ use Rattle.xdr.specs.Reading.{Reads, read, all_of}
 use Rattle.nfs_model.specs.Types as model
 use Rattle.nfs_model.specs.World.{Heard}
 use Rattle.nfs_values.specs.declared.procedure.Procedure.{Procedure}
+use Rattle.nfs_values.specs.declared.reply.Refusal.{Refusal}
+use Rattle.nfs_values.specs.declared.reply.Refusal.TheVariants as refusals
+use Rattle.nfs_values.specs.Reply.{refusal_of}
 use Rattle.nfs_types.specs.Arguments.{asked}
 use Rattle.nfs_types.specs.Shapes.{◌&◌}
 use Rattle.rpc_msg.specs.Replies.{auth_shape, reply_record, IsRefusal}
@@ -121,3 +124,13 @@ refusal_fits model.GarbageArguments xid r = omega arith
 refusal_fits model.SystemError xid r = omega arith
 refusal_fits (model.RpcMismatch low high) xid r = omega arith
 refusal_fits (model.AuthError number) xid r = omega arith
+
+-- a reply that gives no results is no SUCCESS
+pub refusal_is : (r : Refusal) → IsRefusal (refusal_of r)
+refusal_is refusals.ProgramUnavailable = tt
+refusal_is (refusals.ProgramMismatch low high) = tt
+refusal_is refusals.ProcedureUnavailable = tt
+refusal_is refusals.GarbageArguments = tt
+refusal_is refusals.SystemError = tt
+refusal_is (refusals.RpcMismatch low high) = tt
+refusal_is (refusals.AuthError fault) = tt

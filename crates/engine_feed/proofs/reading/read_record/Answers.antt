@@ -29,13 +29,6 @@ new-requires c =
     let q = subst (λ (r : Request). Tells c.in-Ok.field-0.xid r (records.heard bytes)) c.in-Call.is h in
     heard-is-offered bytes c.in-Ok.field-0.xid (call_of c.in-Call.call) (credential_of c.in-Call.credential) q
 
-pub new-requires-in-Refused : goal.new-requires-in-Refused
-new-requires-in-Refused c =
-    let bytes = c.args.record.items in
-    let h = subst (λ (r : Result Heard RecordFault). Hears r (records.heard bytes)) c.in-Ok.is c.read_record.ensures in
-    let q = subst (λ (r : Request). Tells c.in-Ok.field-0.xid r (records.heard bytes)) c.in-Refused.is h in
-    refused-refuses bytes c.in-Ok.field-0.xid (reply_of c.in-Refused.reply) q
-
 pub returns-in-Call : goal.returns-in-Call
 returns-in-Call c =
     let bytes = c.args.record.items in
@@ -49,7 +42,7 @@ returns-in-Refused c =
     let bytes = c.args.record.items in
     let h = subst (λ (r : Result Heard RecordFault). Hears r (records.heard bytes)) c.in-Ok.is c.read_record.ensures in
     let q = subst (λ (r : Request). Tells c.in-Ok.field-0.xid r (records.heard bytes)) c.in-Refused.is h in
-    heard_is bytes ∙ q ∙ ap (λ (r : Reply). Ok (record { xid = c.in-Ok.field-0.xid; asked = types.Refused (reply_of r) })) (sym c.new-in-Refused.ensures)
+    heard_is bytes ∙ q
 
 pub returns-in-Undecoded : goal.returns-in-Undecoded
 returns-in-Undecoded c =

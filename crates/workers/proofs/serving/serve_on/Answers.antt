@@ -1,6 +1,7 @@
 use Rattle.std.proofs.Common.{◌≡◌, ◌≤◌, length, true, false, refl}
 use Rattle.nfs_values.specs.Reply.{reply_of}
-use Rattle.nfs_values.specs.declared.reply.Reply.TheVariants.{SystemError}
+use Rattle.nfs_values.specs.declared.reply.Reply.TheVariants.{Refused}
+use Rattle.nfs_values.specs.declared.reply.Refusal.TheVariants.{SystemError}
 use Rattle.affinity_tree.specs.Numbers.{number_of}
 use Rattle.parcel_sets.specs.Exact.{kind_in}
 use Rattle.depot.specs.Grants.{entry_of, IsEnded, IsFinished}
@@ -65,7 +66,7 @@ answer-answer-requires-in-Starved-clause-can g c =
     let m = c.args.message in
     may-starve L c.args.filer.now.depot.layout.lawful m c.requires.placed c.args.moment v w
     c.requires.seat.1.0 c.run.ensures.seat.1.0 c.in-Ok.ran.outcome
-    (node_lent L c.in-Ok.ran.grant) c.in-Ok.ensures.ran SystemError refl c.in-Starved.is
+    (node_lent L c.in-Ok.ran.grant) c.in-Ok.ensures.ran (Refused SystemError) refl c.in-Starved.is
 
 pub answer-answer-requires-in-Starved-clause-room : goal.answer-answer-requires-in-Starved-clause-room
 answer-answer-requires-in-Starved-clause-room g c =
@@ -78,7 +79,7 @@ answer-answer-requires-in-Starved-clause-room g c =
     (node_lent L c.in-Ok.ran.grant) c.in-Ok.ensures.ran
     (verifier_in c.args.filer.now) c.has_eight.ensures c.requires.ready.opened c.servers_are_roomy.ensures.begins
     c.servers_are_roomy.ensures.stays c.replies_fit.ensures.offered
-    SystemError refl
+    (Refused SystemError) refl
 
 pub put_back_node-requires-clause-can : goal.put_back_node-requires-clause-can
 put_back_node-requires-clause-can g c =
@@ -123,7 +124,7 @@ returns-in-Starved-clause-ready g c =
     let u = view c.answer-answer-in-Starved.new.seat in
     entered-ready L c.args.filer.now.depot.layout.lawful m c.requires.placed c.args.moment v w
     c.requires.seat.1.0 c.run.ensures.seat.1.0 c.in-Ok.ran.outcome
-    (node_lent L c.in-Ok.ran.grant) c.in-Ok.ensures.ran u SystemError true c.answer-answer-in-Starved.ensures.finished (verifier_in c.args.filer.now)
+    (node_lent L c.in-Ok.ran.grant) c.in-Ok.ensures.ran u (Refused SystemError) true c.answer-answer-in-Starved.ensures.finished (verifier_in c.args.filer.now)
     c.requires.ready
 
 pub returns-in-Starved-clause-served : goal.returns-in-Starved-clause-served
@@ -135,7 +136,7 @@ returns-in-Starved-clause-served g c =
     let u = view c.answer-answer-in-Starved.new.seat in
     entered L c.args.filer.now.depot.layout.lawful m c.requires.placed c.args.moment v w
     c.requires.seat.1.0 c.run.ensures.seat.1.0 c.in-Ok.ran.outcome
-    (node_lent L c.in-Ok.ran.grant) c.in-Ok.ensures.ran u SystemError true c.answer-answer-in-Starved.ensures.finished c.answer-answer-in-Starved.result
+    (node_lent L c.in-Ok.ran.grant) c.in-Ok.ensures.ran u (Refused SystemError) true c.answer-answer-in-Starved.ensures.finished c.answer-answer-in-Starved.result
     c.answer-answer-in-Starved.ensures.answer
 
 pub returns-in-Moved-clause-ready : goal.returns-in-Moved-clause-ready

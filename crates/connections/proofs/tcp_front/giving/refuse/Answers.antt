@@ -1,9 +1,11 @@
-use Rattle.nfs_values.specs.Reply.{reply_of}
+use Rattle.std.proofs.Common.{refl}
+use Rattle.nfs_values.specs.declared.reply.Reply.TheVariants.{Refused}
+use Rattle.nfs_values.specs.Reply.{refusal_of}
+use Rattle.rpc_msg.specs.lemmas.Refusals.{refusal_is}
 use Rattle.connections.proofs.tcp_front.Fitting.{refused-fits}
 use Rattle.connections.proofs.tcp_front.giving.refuse.Goals as goal
 
 pub answer-requires : goal.answer-requires
 answer-requires g c =
-    let reply = reply_of c.args.refused.now in
-    refused-fits c.args.origin.xid _ c.args.refused.now c.as_reply.ensures.value
-    (c.refusals_fit.ensures.room reply c.args.origin.xid c.as_reply.ensures.refuses)
+    refused-fits c.args.origin.xid _ (Refused c.args.refusal) refl
+    (c.refusals_fit.ensures.room (refusal_of c.args.refusal) c.args.origin.xid (refusal_is c.args.refusal))
