@@ -4,7 +4,14 @@ use Rattle.crossbeam_queue.specs.Fifo.{Held}
 use Rattle.affinity_tree.specs.declared.layout.Layout as layouts
 use Rattle.depot.specs.rule.Sums.{total}
 use Rattle.depot.specs.rule.lemmas.Sums.{total-append}
+use Rattle.nfs_model.specs.Tree.{Layout}
+use Rattle.nfs_values.specs.declared.moment.Moment.{Moment}
+use Rattle.outboxes.specs.Boxes.{Addressed}
 use Rattle.workers.specs.Balance.{Passed}
+use Rattle.workers.specs.Chains.{DidAll, HasTurnedOn}
+use Rattle.workers.specs.Turns.{Standing}
+use Rattle.workers.specs.declared.chained.Chained.{Chained}
+use Rattle.workers.specs.declared.chained.Chained.TheVariants as chains
 use Rattle.workers.specs.Words.{passed}
 use Rattle.workers.specs.declared.message.Message.{Message}
 use Rattle.workers.specs.declared.shared_waiting.pass.Pass.{Pass}
@@ -39,3 +46,12 @@ none-left pass pass' worker worker' h held same_pass same_worker weigh =
     subst (λ (v : Passed). total weigh (v.put ++ (passed worker').put) ≡ total weigh (v.picked ++ (passed worker').picked)) (sym same_pass)
     (subst (λ (w : Passed). total weigh ((known pass).put ++ w.put) ≡ total weigh ((known pass).picked ++ w.picked)) (sym same_worker)
     (none-waits (known pass) (passed worker) h.0 held weigh))
+
+-- turns that found no message picked nothing and put nothing
+pub idle-same : {S : Type 0} (took : S → List Addressed → S → Type 0) (layout : Layout) (s : Standing) (moment : Moment) (sink : S)
+    (chained : Chained) (sink' : S) (t : Standing) → HasTurnedOn took layout s moment sink chained sink' t → chained ≡ chains.Idle
+    → t.pass ≡ s.pass
+idle-same took layout s moment sink chained sink' t h is =
+    let i = subst (λ (c : Chained). HasTurnedOn took layout s moment sink c sink' t) is h in
+    let same : i.between ≡ s = subst (λ (l : List Addressed). DidAll moment s l i.between) i.suits.0 i.did in
+    i.ends.pass ∙ ap (λ (x : Standing). x.pass) same

@@ -6,7 +6,7 @@ use Rattle.workers.specs.Words.{entries_in, layout_in, IsAt}
 use Rattle.workers.specs.shared_waiting.Passes.{known}
 use Rattle.workers.specs.declared.shared.Filer.{Filer}
 use Rattle.lanes.proofs.Inside.{at-inside}
-use Rattle.lanes.proofs.Idle.{none-left}
+use Rattle.lanes.proofs.Idle.{idle-same, none-left}
 use Rattle.lanes.proofs.Steps.{both-kept, put-kept, same-share, turns-told}
 use Rattle.lanes.proofs.lane.Lane.turns.Goals as goal
 
@@ -42,6 +42,7 @@ invariant_of-self-4 g c =
 pub returns-clause-idle : goal.returns-clause-idle
 returns-clause-idle g c idle =
     let l = c.args.self.now in
-    let found = c.turns_beside-chained.ensures.none idle in
-    none-left l.intake.pass c.count-queued.new.pass l.worker c.turns_beside-chained.new.self l.both found.0
-    (c.count-queued.ensures.same.1 ∙ c.turns_beside-chained.ensures.other.1) found.1
+    none-left l.intake.pass c.count-queued.new.pass l.worker c.turns_beside-chained.new.self l.both (c.turns_beside-chained.ensures.none idle)
+    (c.count-queued.ensures.same.1 ∙ c.turns_beside-chained.ensures.other.1)
+    (idle-same _ _ (standing_of l.worker) c.args.moment l.intake.outboxes c.turns_beside-chained.result c.turns_beside-chained.new.sink
+    (standing_of c.turns_beside-chained.new.self) c.turns_beside-chained.ensures.turned idle)
