@@ -7,10 +7,13 @@ use std::marker::Model;
 /// The most bytes of a name that is kept in place.
 pub(crate) const MOST_SHORT: usize = 23;
 
+/// The bytes of its place: three words, since an odd number of bytes is moved in parts that overlap.
+const PLACE_SIZE: usize = 24;
+
 /// The bytes of a short name, kept in place.
 #[derive(Drop)]
 pub(crate) struct ShortName {
-    bytes: [u8; MOST_SHORT],
+    bytes: [u8; PLACE_SIZE],
     size: u8,
 }
 
@@ -27,11 +30,11 @@ impl Model for ShortName {
 
 /// These bytes, and zeros behind them.
 #[tactic(auto, using(crate::proofs::Zeros::drop_short_zeros))]
-fn with_zeros(bytes: &[u8]) -> [u8; MOST_SHORT]
+fn with_zeros(bytes: &[u8]) -> [u8; PLACE_SIZE]
     requires { length bytes.now ≤ 23 }
-    ensures { result ≡ bytes.now ++ replicate (23 - length bytes.now) 0 }
+    ensures { result ≡ bytes.now ++ replicate (24 - length bytes.now) 0 }
 {
-    let mut all = [0; MOST_SHORT];
+    let mut all = [0; PLACE_SIZE];
     all[..bytes.len()].copy_from_slice(bytes);
     all
 }
@@ -46,6 +49,16 @@ impl ShortName {
         ShortName {
             bytes: with_zeros(bytes),
             size: bytes.len() as u8,
+        }
+    }
+
+    /// A copy.
+    pub(crate) fn copy(&self) -> ShortName
+        ensures { result ≡ self.now }
+    {
+        ShortName {
+            bytes: self.bytes,
+            size: self.size,
         }
     }
 
