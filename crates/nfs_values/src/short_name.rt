@@ -7,14 +7,15 @@ use std::marker::Model;
 /// The most bytes of a name that is kept in place.
 pub(crate) const MOST_SHORT: usize = 23;
 
-/// The bytes of its place: three words, since an odd number of bytes is moved in parts that overlap.
+/// The bytes of its place.
 const PLACE_SIZE: usize = 24;
 
-/// The bytes of a short name, kept in place.
+/// The bytes of a short name, kept in place. Its parts are whole words, since others are moved by
+/// stores that overlap.
 #[derive(Drop)]
 pub(crate) struct ShortName {
+    size: u32,
     bytes: [u8; PLACE_SIZE],
-    size: u8,
 }
 
 impl Model for ShortName {
@@ -47,8 +48,8 @@ impl ShortName {
         ensures { result ≡ bytes.now }
     {
         ShortName {
+            size: bytes.len() as u32,
             bytes: with_zeros(bytes),
-            size: bytes.len() as u8,
         }
     }
 
@@ -57,8 +58,8 @@ impl ShortName {
         ensures { result ≡ self.now }
     {
         ShortName {
-            bytes: self.bytes,
             size: self.size,
+            bytes: self.bytes,
         }
     }
 
