@@ -11,11 +11,11 @@ handle_with_zeros bytes h =
     let zeros = replicate (64 - length bytes) 0 in
     (omega (arith, length-append bytes zeros, length-replicate {A = ℕ} (64 - length bytes) 0), take_at bytes zeros (length bytes) refl)
 
-pub drop_short_zeros : (n : ℕ) → n ≤ 23 → drop {A = ℕ} n (replicate 23 0) ≡ replicate (23 - n) 0
-drop_short_zeros n h = drop-replicate n 23 0
+pub drop_short_zeros : (n : ℕ) → n ≤ 23 → drop {A = ℕ} n (replicate 24 0) ≡ replicate (24 - n) 0
+drop_short_zeros n h = drop-replicate n 24 0
 
 pub short_with_zeros : (bytes : List ℕ) → length bytes ≤ 23
-    → (length (bytes ++ replicate (23 - length bytes) 0) ≡ 23) × (take (length bytes) (bytes ++ replicate (23 - length bytes) 0) ≡ bytes)
+    → (length (bytes ++ replicate (24 - length bytes) 0) ≡ 24) × (take (length bytes) (bytes ++ replicate (24 - length bytes) 0) ≡ bytes)
 short_with_zeros bytes h =
-    let zeros = replicate (23 - length bytes) 0 in
-    (omega (arith, length-append bytes zeros, length-replicate {A = ℕ} (23 - length bytes) 0), take_at bytes zeros (length bytes) refl)
+    let zeros = replicate (24 - length bytes) 0 in
+    (omega (arith, length-append bytes zeros, length-replicate {A = ℕ} (24 - length bytes) 0), take_at bytes zeros (length bytes) refl)

@@ -64,6 +64,20 @@ impl Name {
         Ok(Name { bytes })
     }
 
+    /// A copy. One of at most 23 bytes takes no memory.
+    pub fn try_clone(&self, alloc: Global) -> Result<Name, AllocError>
+        ensures name { IfOk result (λ name. name ≡ self.now) }
+        ensures short { length self.now ≤ 23 → IsOk result }
+    {
+        match &self.bytes {
+            NameBytes::Short(short) => {
+                let bytes = NameBytes::Short(short.copy());
+                Ok(Name { bytes })
+            }
+            NameBytes::Long(bytes) => Name::copied(alloc, bytes),
+        }
+    }
+
     /// The bytes of a name.
     pub fn as_bytes(&self) -> &[u8]
         ensures { result.now ≡ self.now }

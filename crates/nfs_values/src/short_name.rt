@@ -7,11 +7,15 @@ use std::marker::Model;
 /// The most bytes of a name that is kept in place.
 pub(crate) const MOST_SHORT: usize = 23;
 
-/// The bytes of a short name, kept in place.
+/// The bytes of its place.
+const PLACE_SIZE: usize = 24;
+
+/// The bytes of a short name, kept in place. Its parts are whole words, since others are moved by
+/// stores that overlap.
 #[derive(Drop)]
 pub(crate) struct ShortName {
-    bytes: [u8; MOST_SHORT],
-    size: u8,
+    size: u32,
+    bytes: [u8; PLACE_SIZE],
 }
 
 impl Model for ShortName {
@@ -27,11 +31,11 @@ impl Model for ShortName {
 
 /// These bytes, and zeros behind them.
 #[tactic(auto, using(crate::proofs::Zeros::drop_short_zeros))]
-fn with_zeros(bytes: &[u8]) -> [u8; MOST_SHORT]
+fn with_zeros(bytes: &[u8]) -> [u8; PLACE_SIZE]
     requires { length bytes.now ≤ 23 }
-    ensures { result ≡ bytes.now ++ replicate (23 - length bytes.now) 0 }
+    ensures { result ≡ bytes.now ++ replicate (24 - length bytes.now) 0 }
 {
-    let mut all = [0; MOST_SHORT];
+    let mut all = [0; PLACE_SIZE];
     all[..bytes.len()].copy_from_slice(bytes);
     all
 }
@@ -44,8 +48,18 @@ impl ShortName {
         ensures { result ≡ bytes.now }
     {
         ShortName {
+            size: bytes.len() as u32,
             bytes: with_zeros(bytes),
-            size: bytes.len() as u8,
+        }
+    }
+
+    /// A copy.
+    pub(crate) fn copy(&self) -> ShortName
+        ensures { result ≡ self.now }
+    {
+        ShortName {
+            size: self.size,
+            bytes: self.bytes,
         }
     }
 

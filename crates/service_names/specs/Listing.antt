@@ -19,14 +19,6 @@ dot_dot_entry parent = entry_here 2 dot_dot parent
 abbrev pub all_under : LogicalValue → ℕ → ℕ → List Listed
 all_under own fileid parent = dot_entry fileid ∷ (dot_dot_entry parent ∷ (entries_of own fileid).list)
 
--- a page with an entry before it
-abbrev pub begun_with : Listed → Page → Page
-begun_with e p = record p { entries = e ∷ p.entries }
-
--- a page on which no entry fits, though some remain
-abbrev pub no_entry_fits : Page
-no_entry_fits = record { entries = []; is_last = false }
-
 -- whether a page has no entry though some remain
 abbrev pub tells_nothing : Page → Bool
 tells_nothing p = (length p.entries == 0) && not p.is_last

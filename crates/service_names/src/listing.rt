@@ -1,8 +1,14 @@
 //! READDIR.
 
-ghost use Rattle.std.specs.Prelude.{◌≡◌, ◌<◌, ◌≤◌, [], ◌∷◌, length, IfOk, OnErr};
+ghost use Rattle.std.specs.Prelude.{◌≡◌, ◌<◌, ◌≤◌, [], ◌∷◌, ◌++◌, length};
+ghost use Rattle.std.specs.Prelude.{IfOk, OnOk, OnErr};
 ghost use Rattle.nfs_model.specs.Serial.Readdir.{above_cookie, fitting};
-ghost use Rattle.volume_logical.specs.directories.Entries.{page_value};
+ghost use Rattle.volume_logical.specs.directories.Entries.{
+  listed,
+  page_told,
+  page_value,
+  page_behind,
+};
 ghost use Rattle.nfs_model.specs.volume.Directories.{page_of};
 ghost use Rattle.parcels.specs.changes.NameAnswers.{entries_of, is_bad_cookie};
 ghost use Rattle.parcels.specs.state.Lenses.{logical_lens};
@@ -13,9 +19,7 @@ ghost use Rattle.service_names.specs.Listing.{
   dot_entry,
   dot_dot_entry,
   all_under,
-  begun_with,
   entry_here,
-  no_entry_fits,
   tells_nothing,
 };
 
@@ -114,110 +118,124 @@ fn page_at(
     ensures err { OnErr result (0 < length (fitting room
         (above_cookie cookie.0 (all_under held.now.own directory.0 parent.0)))) }
 {
-    if cookie.0 == 0 {
-        return page_from_dot(alloc, held, directory, parent, cookie, room);
-    }
-    if cookie.0 == 1 {
-        return page_from_dot_dot(alloc, held, directory, parent, cookie, room);
-    }
-    page_after(alloc, held, directory, cookie, room)
+    let mut entries = Vec::new(alloc);
+    let is_last = append_at(alloc, held, directory, parent, cookie, room, &mut entries)?;
+    Ok(Page { entries, is_last })
 }
 
-/// `.`, `..` and the entries after a cookie, as many as fit into a number of bytes.
-fn page_from_dot(
+/// Appends the page after a cookie of the directory of a fileid, with `.` and `..`, and tells
+/// whether no entry remains after it.
+fn append_at(
     alloc: Global,
     held: &LogicalHeld<Files>,
     directory: Fileid,
     parent: Fileid,
     cookie: Cookie,
     room: usize,
-) -> Result<Page, AllocError>
-    ensures ok { IfOk result (λ p. page_value p ≡ page_of room
+    entries: &mut Vec<DirectoryEntry>,
+) -> Result<bool, AllocError>
+    ensures ok { IfOk result (λ is_last. page_told entries.new.items is_last
+        ≡ page_behind (listed entries.old.items) (page_of room
+        (above_cookie cookie.0 (all_under held.now.own directory.0 parent.0)))) }
+    ensures err { OnErr result (0 < length (fitting room
+        (above_cookie cookie.0 (all_under held.now.own directory.0 parent.0)))) }
+{
+    if cookie.0 == 0 {
+        return append_from_dot(alloc, held, directory, parent, cookie, room, entries);
+    }
+    if cookie.0 == 1 {
+        return append_from_dot_dot(alloc, held, directory, parent, cookie, room, entries);
+    }
+    append_after(alloc, held, directory, cookie, room, entries)
+}
+
+/// Appends `.`, `..` and the entries after a cookie, as many as fit into a number of bytes, and
+/// tells whether none remains after them.
+fn append_from_dot(
+    alloc: Global,
+    held: &LogicalHeld<Files>,
+    directory: Fileid,
+    parent: Fileid,
+    cookie: Cookie,
+    room: usize,
+    entries: &mut Vec<DirectoryEntry>,
+) -> Result<bool, AllocError>
+    ensures ok { IfOk result (λ is_last. page_told entries.new.items is_last
+        ≡ page_behind (listed entries.old.items) (page_of room
         (dot_entry directory.0 ∷ (dot_dot_entry parent.0
+        ∷ above_cookie cookie.0 (entries_of held.now.own directory.0).list)))) }
+    ensures err { OnErr result (28 ≤ room) }
+{
+    if room < DOTS_SIZE {
+        return Ok(false);
+    }
+    append_entry(alloc, entries, &[b'.'], directory, Cookie(1))?;
+    let left = room - DOTS_SIZE;
+    append_from_dot_dot(alloc, held, directory, parent, cookie, left, entries)
+}
+
+/// Appends `..` and the entries after a cookie, as many as fit into a number of bytes, and tells
+/// whether none remains after them.
+fn append_from_dot_dot(
+    alloc: Global,
+    held: &LogicalHeld<Files>,
+    directory: Fileid,
+    parent: Fileid,
+    cookie: Cookie,
+    room: usize,
+    entries: &mut Vec<DirectoryEntry>,
+) -> Result<bool, AllocError>
+    ensures ok { IfOk result (λ is_last. page_told entries.new.items is_last
+        ≡ page_behind (listed entries.old.items) (page_of room
+        (dot_dot_entry parent.0
         ∷ above_cookie cookie.0 (entries_of held.now.own directory.0).list))) }
     ensures err { OnErr result (28 ≤ room) }
 {
     if room < DOTS_SIZE {
-        return Ok(empty_page(alloc));
+        return Ok(false);
     }
-    let page = page_from_dot_dot(alloc, held, directory, parent, cookie, room - DOTS_SIZE)?;
-    begin_with(alloc, page, &[b'.'], directory, Cookie(1))
+    append_entry(alloc, entries, &[b'.', b'.'], parent, Cookie(2))?;
+    append_after(alloc, held, directory, cookie, room - DOTS_SIZE, entries)
 }
 
-/// `..` and the entries after a cookie, as many as fit into a number of bytes.
-fn page_from_dot_dot(
-    alloc: Global,
-    held: &LogicalHeld<Files>,
-    directory: Fileid,
-    parent: Fileid,
-    cookie: Cookie,
-    room: usize,
-) -> Result<Page, AllocError>
-    ensures ok { IfOk result (λ p. page_value p ≡ page_of room
-        (dot_dot_entry parent.0
-        ∷ above_cookie cookie.0 (entries_of held.now.own directory.0).list)) }
-    ensures err { OnErr result (28 ≤ room) }
-{
-    if room < DOTS_SIZE {
-        return Ok(empty_page(alloc));
-    }
-    let page = page_after(alloc, held, directory, cookie, room - DOTS_SIZE)?;
-    begin_with(alloc, page, &[b'.', b'.'], parent, Cookie(2))
-}
-
-/// The entries of a directory after a cookie, as many as fit into a number of bytes.
-fn page_after(
+/// Appends the entries of a directory after a cookie, as many as fit into a number of bytes, and
+/// tells whether none remains after them.
+fn append_after(
     alloc: Global,
     held: &LogicalHeld<Files>,
     directory: Fileid,
     cookie: Cookie,
     room: usize,
-) -> Result<Page, AllocError>
-    ensures ok { IfOk result (λ p. page_value p ≡ page_of room
-        (above_cookie cookie.0 (entries_of held.now.own directory.0).list)) }
+    entries: &mut Vec<DirectoryEntry>,
+) -> Result<bool, AllocError>
+    ensures ok { IfOk result (λ is_last. page_told entries.new.items is_last
+        ≡ page_behind (listed entries.old.items) (page_of room
+        (above_cookie cookie.0 (entries_of held.now.own directory.0).list))) }
     ensures err { OnErr result (0 < length (fitting room
         (above_cookie cookie.0 (entries_of held.now.own directory.0).list))) }
 {
     match held.own.get().directories.get(directory) {
-        Some(directory) => directory.page(alloc, cookie, room),
-        None => Ok(Page {
-            entries: Vec::new(alloc),
-            is_last: true,
-        }),
+        Some(directory) => directory.append_page(alloc, cookie, room, entries),
+        None => Ok(true),
     }
 }
 
-/// A page on which no entry fits, though some remain.
-fn empty_page(alloc: Global) -> Page
-    ensures { page_value result ≡ no_entry_fits }
-{
-    Page {
-        entries: Vec::new(alloc),
-        is_last: false,
-    }
-}
-
-/// A page with an entry before it.
-fn begin_with(
+/// Appends an entry.
+fn append_entry(
     alloc: Global,
-    page: Page,
+    entries: &mut Vec<DirectoryEntry>,
     name: &[u8],
     fileid: Fileid,
     cookie: Cookie,
-) -> Result<Page, AllocError>
-    ensures { IfOk result (λ p. page_value p
-        ≡ begun_with (entry_here cookie.0 name.now fileid.0) (page_value page)) }
+) -> Result<(), AllocError>
+    ensures { OnOk result (listed entries.new.items
+        ≡ listed entries.old.items ++ entry_here cookie.0 name.now fileid.0 ∷ []) }
 {
-    let Page {
-        mut entries,
-        is_last,
-    } = page;
     let name = Name::copied(alloc, name)?;
-    let entry = DirectoryEntry {
+    entries.push(DirectoryEntry {
         fileid,
         name,
         cookie,
-    };
-    entries.insert(0, entry)?;
-    Ok(Page { entries, is_last })
+    })?;
+    Ok(())
 }

@@ -1,10 +1,10 @@
 //! Directories of one entry and of a thousand, and pages at their edges.
 
 use crate::same::same;
-use nfs_values::{Cookie, Fileid, Name};
+use nfs_values::{Cookie, DirectoryEntry, Fileid, Name};
 use std::mem;
 use std::process::Abort;
-use volume_logical::directories::{Directory, Page};
+use volume_logical::directories::Directory;
 
 /// The last decimal digit of a number.
 fn digit(number: u64) -> u8 {
@@ -79,8 +79,8 @@ fn thousand_names(rt: HostRuntime) {
 type Listed = (usize, u64, u64, bool);
 
 /// The cookie of an entry of a page, or 0.
-fn cookie_of(page: &Page, place: usize) -> u64 {
-    match page.entries.get(place) {
+fn cookie_of(entries: &[DirectoryEntry], place: usize) -> u64 {
+    match entries.get(place) {
         Some(entry) => entry.cookie.0,
         None => 0,
     }
@@ -94,11 +94,12 @@ fn lists(
     room: usize,
     wanted: &Listed,
 ) {
-    let page = directory.page(rt.alloc(), Cookie(cookie), room);
-    let page = page.expect(rt, "no memory");
-    let cookies = (cookie_of(&page, 0), cookie_of(&page, 1));
-    let listed = (page.entries.len(), cookies.0, cookies.1, page.is_last);
-    mem::forget(page);
+    let mut entries = Vec::new(rt.alloc());
+    let told = directory.append_page(rt.alloc(), Cookie(cookie), room, &mut entries);
+    let is_last = told.expect(rt, "no memory");
+    let cookies = (cookie_of(&entries, 0), cookie_of(&entries, 1));
+    let listed = (entries.len(), cookies.0, cookies.1, is_last);
+    mem::forget(entries);
     same(rt, &listed, wanted);
 }
 

@@ -1,6 +1,6 @@
 -- A page is copied entry by entry.
 use Rattle.std.proofs.Common.{◌≡◌, refl, sym, subst, ◌∙◌, ap, ℕ, zero, suc, ◌+◌, ◌-◌, ◌<◌, ◌≤◌, Bool}
-use Rattle.std.proofs.Common.{true, false, nat_le, min, List, [], ◌∷◌, ◌++◌, length, take, drop, Option, Some, is_some, arith, add-one, append_assoc}
+use Rattle.std.proofs.Common.{true, false, nat_le, min, List, [], ◌∷◌, ◌++◌, length, take, drop, Option, None, Some, is_some, arith, add-one, append_assoc}
 use Rattle.std.proofs.Common.{length-append, if◌then◌else◌, Result, Ok, Err}
 use Rattle.std.proofs.lemmas.Bool.Decides.{nat_tests}
 use Rattle.std.proofs.lemmas.List.{append-nil, drop-map, take-map, drop-drop, take-append-drop, drop_at, length-take, length-drop, length-map}
@@ -55,8 +55,14 @@ one-copied copied left i es whole e x size h g s f same =
     (ap (λ y. listed copied ++ y ∷ fitting (left - size) rest) same ∙ (ap (λ l. listed copied ++ l) (sym head) ∙ h))
 
 -- some fit at all where some fit after others
-pub some-after : (copied : List DirectoryEntry) (fit whole : List Listed) → listed copied ++ fit ≡ whole → 0 < length fit → 0 < length whole
-some-after copied fit whole e l = subst (λ (w : List Listed). 0 < length w) e (let n = length-append (listed copied) fit in omega (arith, n, l))
+some-after : (initial copied : List DirectoryEntry) (fit page : List Listed) → listed copied ++ fit ≡ listed initial ++ page
+    → length initial ≤ length copied → 0 < length fit → 0 < length page
+some-after initial copied fit page e n l =
+    let whole : length (listed copied ++ fit) ≡ length (listed initial ++ page) = ap (λ (l : List Listed). length l) e in
+    let a = length-append (listed copied) fit in
+    let b = length-append (listed initial) page in
+    let c = length-map copied entry_of in
+    let d = length-map initial entry_of in omega (arith, whole, a, b, c, d, n, l)
 
 -- one that fits after some is of those that fit
 pub some-fit : (old copied : List DirectoryEntry) (left i : ℕ) (es : List Listed) (room : ℕ) (e : Listed) (size : ℕ)
@@ -135,9 +141,24 @@ run-next old new left place rest slots order run whole h e f =
     f (drop (place + length run) (in_order slots order)) ∙ (ap (λ l. listed old ++ fitting left l) (run-ahead slots order run place e) ∙ h)
 
 -- where one of a run fits, some fit of all
-pub run-fits : (old : List DirectoryEntry) (left place : ℕ) (slots : List Slot) (order run : List ℕ) (whole : List Listed)
-    → SoFar old left place (in_order slots order) whole → take (length run) (drop place order) ≡ run
-    → ((more : List Listed) → 0 < length (fitting left (in_order slots run ++ more))) → 0 < length whole
-run-fits old left place slots order run whole h e f =
-    some-after old (fitting left (drop place (in_order slots order))) whole h
+pub run-fits : (initial old : List DirectoryEntry) (left place : ℕ) (slots : List Slot) (order run : List ℕ) (page : List Listed)
+    → SoFar old left place (in_order slots order) (listed initial ++ page) → length initial ≤ length old → take (length run) (drop place order) ≡ run
+    → ((more : List Listed) → 0 < length (fitting left (in_order slots run ++ more))) → 0 < length page
+run-fits initial old left place slots order run page h n e f =
+    some-after initial old (fitting left (drop place (in_order slots order))) page h n
     (subst (λ (l : List Listed). 0 < length (fitting left l)) (run-ahead slots order run place e) (f (drop (place + length run) (in_order slots order))))
+
+none-in-none : (rest : Option ℕ) → length (fitting_in rest []) ≡ 0
+none-in-none None = refl
+none-in-none (Some left) = refl
+
+-- a run takes nothing away
+pub run-longer : (initial old new : List DirectoryEntry) (left : ℕ) (rest : Option ℕ) (es : List Listed) → length initial ≤ length old
+    → ((more : List Listed) → listed new ++ fitting_in rest more ≡ listed old ++ fitting left (es ++ more)) → length initial ≤ length new
+run-longer initial old new left rest es n f =
+    let whole : length (listed new ++ fitting_in rest []) ≡ length (listed old ++ fitting left (es ++ [])) = ap (λ (l : List Listed). length l) (f []) in
+    let a = length-append (listed new) (fitting_in rest []) in
+    let b = length-append (listed old) (fitting left (es ++ [])) in
+    let c = length-map new entry_of in
+    let d = length-map old entry_of in
+    let none = none-in-none rest in omega (arith, whole, a, b, c, d, n, none)

@@ -1,5 +1,5 @@
 -- The entries of a directory by their cookies.
-use Rattle.std.specs.Prelude.{ℕ, Bool, ◌==◌, not, List, [], ◌∷◌, map, is_some, Option, Some, None, if◌then◌else◌}
+use Rattle.std.specs.Prelude.{ℕ, Bool, ◌==◌, not, List, [], ◌∷◌, ◌++◌, map, is_some, Option, Some, None, if◌then◌else◌}
 use Rattle.std.specs.List.{filter}
 use Rattle.nfs_model.specs.Types.{Listed}
 use Rattle.nfs_model.specs.Serial.Readdir.{fitting}
@@ -38,5 +38,12 @@ fitting_in None es = []
 fitting_in (Some left) es = fitting left es
 
 -- a page as the values have it
+abbrev pub page_told : List DirectoryEntry → Bool → Page
+page_told entries is_last = record { entries = listed entries; is_last = is_last }
+
 abbrev pub page_value : pages.Page → Page
-page_value p = record { entries = listed p.entries.items; is_last = p.is_last }
+page_value p = page_told p.entries.items p.is_last
+
+-- a page with entries before it
+abbrev pub page_behind : List Listed → Page → Page
+page_behind before p = record p { entries = before ++ p.entries }

@@ -25,16 +25,15 @@ ghost use Rattle.nfs_model.specs.volume.Directories.{
   removed,
 };
 ghost use Rattle.volume_logical.specs.directories.Digits.{binary_digits};
-ghost use Rattle.volume_logical.specs.directories.Entries.{page_value};
+ghost use Rattle.volume_logical.specs.directories.Entries.{listed, page_told, page_behind};
 ghost use Rattle.volume_logical.specs.directories.Index.{IsAt, IsIndexed, IsPlace, cookies};
 ghost use Rattle.volume_logical.specs.directories.Index.{fileid_number};
 
 use crate::directories::entries::Entries;
-use crate::directories::page::Page;
 use crate::directories::search::find_place;
 use crate::directories::spot::Spot;
 use crate::sequences::Sequence;
-use nfs_values::{Cookie, Fileid, Name};
+use nfs_values::{Cookie, DirectoryEntry, Fileid, Name};
 use std::alloc::{AllocError, Global};
 use std::marker::Model;
 
@@ -181,15 +180,22 @@ impl Directory {
         true
     }
 
-    /// The entries after a cookie, as many as fit into a number of bytes, and whether none
-    /// remains after them. An entry takes 24 bytes and its name, padded to a multiple of 4
+    /// Appends the entries after a cookie, as many as fit into a number of bytes, and tells whether
+    /// none remains after them. An entry takes 24 bytes and its name, padded to a multiple of 4
     /// (entry3 with the mark of another item, RFC 1813 section 3.3.16). Memory runs out only where
     /// an entry fits.
-    pub fn page(&self, alloc: Global, cookie: Cookie, room: usize) -> Result<Page, AllocError>
-        ensures ok { IfOk result (λ p. page_value p ≡ page self.now cookie.0 room) }
+    pub fn append_page(
+        &self,
+        alloc: Global,
+        cookie: Cookie,
+        room: usize,
+        entries: &mut Vec<DirectoryEntry>,
+    ) -> Result<bool, AllocError>
+        ensures ok { IfOk result (λ is_last. page_told entries.new.items is_last
+            ≡ page_behind (listed entries.old.items) (page self.now cookie.0 room)) }
         ensures err { OnErr result (0 < length (page self.now cookie.0 room).entries) }
     {
-        self.entries.page(alloc, cookie, room)
+        self.entries.append_page(alloc, cookie, room, entries)
     }
 }
 

@@ -30,16 +30,19 @@ ghost use Rattle.volume_logical.specs.directories.Entries.{
   has,
   dropped,
   fitting_in,
-  page_value,
+  page_told,
+  page_behind,
 };
 ghost use Rattle.volume_logical.specs.directories.Slots.{in_slot, in_order, IsOrdered};
 
-use crate::directories::page::Page;
 use crate::directories::slot::{Slot, entry_in, holds, put, vacate};
 use crate::sequences::Sequence;
 use nfs_values::{Cookie, DirectoryEntry, Fileid, Name};
 use std::alloc::{AllocError, Global};
 use std::marker::Model;
+
+/// The bytes in a page of an entry with a name of one byte.
+const LEAST_SIZE: usize = 28;
 
 /// Entries by rising cookies, from 3 on, and the next cookie.
 #[derive(Drop)]
@@ -137,16 +140,26 @@ impl Entries {
         self.vacant = slot;
     }
 
-    /// The entries after a cookie, as many as fit into a number of bytes. Memory runs out only
-    /// where one fits.
-    pub fn page(&self, alloc: Global, cookie: Cookie, room: usize) -> Result<Page, AllocError>
-        ensures ok { IfOk result (λ p. page_value p ≡ page self.now cookie.0 room) }
+    /// Appends the entries after a cookie, as many as fit into a number of bytes, and tells whether
+    /// none remains after them. Memory runs out only where one fits.
+    pub fn append_page(
+        &self,
+        alloc: Global,
+        cookie: Cookie,
+        room: usize,
+        entries: &mut Vec<DirectoryEntry>,
+    ) -> Result<bool, AllocError>
+        ensures ok { IfOk result (λ is_last. page_told entries.new.items is_last
+            ≡ page_behind (listed entries.old.items) (page self.now cookie.0 room)) }
         ensures err { OnErr result (0 < length (page self.now cookie.0 room).entries) }
     {
         let after = place_after(&self.slots, &self.order, cookie);
-        let entries = copy_fitting(alloc, &self.slots, &self.order, after, room)?;
-        let is_last = entries.len() == self.order.len() - after;
-        Ok(Page { entries, is_last })
+        let remaining = self.order.len() - after;
+        // Room for all of them at once; where there is none it is made as they come.
+        let _ = entries.try_reserve(remaining.min(room / LEAST_SIZE));
+        let before = entries.len();
+        append_fitting(alloc, &self.slots, &self.order, after, room, entries)?;
+        Ok(entries.len() - before == remaining)
     }
 }
 
@@ -195,33 +208,33 @@ fn place_after(slots: &[Slot], order: &Sequence<u32>, cookie: Cookie) -> usize
     low
 }
 
-/// Copies the entries from a place of the order on that fit into a number of bytes. Memory runs
+/// Appends the entries from a place of the order on that fit into a number of bytes. Memory runs
 /// out only where one fits.
-fn copy_fitting(
+fn append_fitting(
     alloc: Global,
     slots: &[Slot],
     order: &Sequence<u32>,
     after: usize,
     room: usize,
-) -> Result<Vec<DirectoryEntry>, AllocError>
+    copied: &mut Vec<DirectoryEntry>,
+) -> Result<(), AllocError>
     requires { AllByRecursion (λ s. is_some (in_slot slots.now s) ≡ true) order.now }
-    ensures ok { IfOk result (λ v.
-        listed v.items ≡ fitting room (drop after (in_order slots.now order.now))) }
+    ensures ok { OnOk result (listed copied.new.items
+        ≡ listed copied.old.items ++ fitting room (drop after (in_order slots.now order.now))) }
     ensures err { OnErr result
         (0 < length (fitting room (drop after (in_order slots.now order.now)))) }
 {
-    let mut copied = Vec::new(alloc);
     let mut left = room;
     let mut place = after;
     while place < order.len() {
         let run = order.run_at(place);
-        match copy_run(alloc, slots, run, left, &mut copied)? {
+        match copy_run(alloc, slots, run, left, copied)? {
             Some(rest) => left = rest,
-            None => return Ok(copied),
+            None => return Ok(()),
         }
         place += run.len();
     }
-    Ok(copied)
+    Ok(())
 }
 
 /// Copies the entries of a run of slots that fit into a number of bytes behind others. The result
@@ -266,7 +279,7 @@ fn copy(alloc: Global, entry: &DirectoryEntry) -> Result<DirectoryEntry, AllocEr
 {
     Ok(DirectoryEntry {
         fileid: entry.fileid,
-        name: Name::copied(alloc, entry.name.as_bytes())?,
+        name: entry.name.try_clone(alloc)?,
         cookie: entry.cookie,
     })
 }
