@@ -165,7 +165,15 @@ module _ {S : Type 0} (took : S → List Addressed → S → Type 0)
     did = gone.did;
     told = gone.told;
     over = record {
-      message = m; placed = placed; pass = pass; before = l; holding = w; stands = gone.stands; ran = ran; stayed = refl; ahead = refl;
+      message = m;
+      placed = placed;
+      pass = pass;
+      before = l;
+      holding = w;
+      stands = gone.stands;
+      ran = ran;
+      stayed = refl;
+      ahead = refl;
     };
   }
   lasts sink sink1 m placed pass l l' w gone (tries.Entered e next) ran = record {

@@ -47,13 +47,7 @@ fn refused(refusal: Refusal) -> Chained
 
 /// Runs the call of a message on what was granted, and the next ones while they try the same node,
 /// at most so many. The last of them is still to be ended.
-fn chain<
-    N: TaskNode<Parcel<Files>, ParcelKinds>,
-    R: Wait,
-    G: Gate,
-    H: Hint,
-    S: AnswerSink,
->(
+fn chain<N: TaskNode<Parcel<Files>, ParcelKinds>, R: Wait, G: Gate, H: Hint, S: AnswerSink>(
     filer: &Filer,
     seat: &mut Seat<Service>,
     queue: &SharedWaiting<Envelope, Layout>,
@@ -110,13 +104,7 @@ fn told(tried: &Tried) -> Chained
 /// Begins the call of a message on what it tries, a node of this kind, runs it, and ends it; and so
 /// with the next messages under the same grant, while they try the same node.
 #[inline(never)]
-fn serve_all_on<
-    N: TaskNode<Parcel<Files>, ParcelKinds>,
-    R: Wait,
-    G: Gate,
-    H: Hint,
-    S: AnswerSink,
->(
+fn serve_all_on<N: TaskNode<Parcel<Files>, ParcelKinds>, R: Wait, G: Gate, H: Hint, S: AnswerSink>(
     filer: &Filer,
     seat: &mut Seat<Service>,
     queue: &SharedWaiting<Envelope, Layout>,
