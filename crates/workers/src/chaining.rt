@@ -1,10 +1,11 @@
 //! Messages one after the other under one grant.
 
-ghost use Rattle.std.specs.Prelude.{◌≡◌, Some, IfSome};
+ghost use Rattle.std.specs.Prelude.{◌≡◌, ◌-◌, Some, IfSome};
 ghost use Rattle.depot.specs.Words.{view, splits_left, IsNodeOf, IsSeatHere};
 ghost use Rattle.desk.specs.Any.{node_lent};
 ghost use Rattle.workers.specs.shared_waiting.Passes.{known, IsOf};
-ghost use Rattle.workers.specs.Chains.{chained_by, left_standing, HasServedOn, IsPicked};
+ghost use Rattle.workers.specs.Chains.{chained_by, left_standing, turns_at_most};
+ghost use Rattle.workers.specs.Chains.{HasDoneFew, HasServedOn, IsPicked};
 ghost use Rattle.workers.specs.Links.{chained_so, kept_of, HasChained, Stands};
 ghost use Rattle.workers.specs.Messages.{IsPlaced};
 ghost use Rattle.workers.specs.Turns.{HasShareOf, Standing};
@@ -72,6 +73,7 @@ fn chain<N: TaskNode<Parcel<Files>, ParcelKinds>, R: Wait, G: Gate, H: Hint, S: 
     ensures splits { splits_left seat.new ≡ splits_left seat.old }
     ensures of { IsOf queue.now pass.new }
     ensures share { HasShareOf (known pass.old) (known pass.new) }
+    ensures few { HasDoneFew (most - 1) (view seat.old) (view seat.new) }
     ensures placed { IfSome (kept_of result) (IsPlaced (layout_in filer.now)) }
     ensures chained { let L = layout_in filer.now in (s : Standing)
         → Stands L (verifier_in filer.now) s message (known pass.old) (node_lent L grant.old)
@@ -128,6 +130,7 @@ fn serve_all_on<N: TaskNode<Parcel<Files>, ParcelKinds>, R: Wait, G: Gate, H: Hi
     ensures ready { IsReady (layout_in filer.now) (verifier_in filer.now) (view seat.new) }
     ensures of { IsOf queue.now pass.new }
     ensures share { HasShareOf (known pass.old) (known pass.new) }
+    ensures few { HasDoneFew (turns_at_most most) (view seat.old) (view seat.new) }
     ensures placed { IfSome result.kept (IsPlaced (layout_in filer.now)) }
     ensures served { (s : Standing)
         → IsPicked s (view seat.old) (known pass.old) message
@@ -179,6 +182,7 @@ pub(crate) fn serve_all<R: Wait, G: Gate, H: Hint, S: AnswerSink>(
     ensures ready { IsReady (layout_in filer.now) (verifier_in filer.now) (view seat.new) }
     ensures of { IsOf queue.now pass.new }
     ensures share { HasShareOf (known pass.old) (known pass.new) }
+    ensures few { HasDoneFew (turns_at_most most) (view seat.old) (view seat.new) }
     ensures placed { IfSome result.kept (IsPlaced (layout_in filer.now)) }
     ensures served { (s : Standing)
         → IsPicked s (view seat.old) (known pass.old) message
