@@ -65,7 +65,8 @@ pub(crate) fn try_on<N: TaskNode<Parcel<Files>, ParcelKinds>, G: Gate>(
     match run_on::<N, G>(filer, grant, &message, moment, gate) {
         Outcome::Replied(reply) => Tried::Entered(enter(message, moment, reply, false), None),
         Outcome::Starved => {
-            Tried::Entered(enter(message, moment, Reply::Refused(Refusal::SystemError), true), None)
+            let reply = Reply::Refused(Refusal::SystemError);
+            Tried::Entered(enter(message, moment, reply, true), None)
         }
         Outcome::Moved(affinity) => Tried::Moved(message, affinity),
     }
