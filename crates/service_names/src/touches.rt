@@ -7,7 +7,6 @@ ghost use Rattle.nfs_model.specs.Shown.{moment_le, same_moment};
 ghost use Rattle.nfs_values.specs.Moment.{moment_of};
 ghost use Rattle.parcel_sets.specs.Filled.{logical_alike};
 ghost use Rattle.nfs_model.specs.volume.Stripes.{touch_of, touch_taken};
-ghost use Rattle.stripes.specs.cards.Cards.{card_of};
 ghost use Rattle.parcels.specs.state.Changes.{touches_taken};
 ghost use Rattle.parcels.specs.state.Sets.{logical_before, logical_after, stripe_value};
 ghost use Rattle.parcels.specs.state.Tree.{file_touch, later};
@@ -15,7 +14,6 @@ ghost use Rattle.parcels.specs.state.Tree.{file_touch, later};
 use nfs_values::{Fileid, Moment};
 use parcel_sets::{LogicalHeld, StripeHeld};
 use parcels::Files;
-use stripes::cards::Card;
 
 /// The latest touch of a file in the stripes of its volume.
 pub(crate) fn latest_touch(held: &LogicalHeld<Files>, fileid: Fileid) -> Option<Moment>
@@ -71,18 +69,7 @@ fn touch_in(place: &Option<StripeHeld<Files>>, fileid: Fileid) -> Option<Moment>
         ≡ touch_of (get (stripe_value place.now).cards fileid.0) }
 {
     match place {
-        Some(stripe) => touch_on(stripe.own.get().card(fileid)),
-        None => None,
-    }
-}
-
-/// The touch on a card.
-fn touch_on(card: Option<Card>) -> Option<Moment>
-    ensures { option_map moment_of result ≡ touch_of (option_map card_of card) }
-{
-    match card {
-        Some(Card::File { size: _, touch }) => touch,
-        Some(Card::Directory) => None,
+        Some(stripe) => stripe.own.get().touch(fileid),
         None => None,
     }
 }

@@ -2,6 +2,7 @@
 
 mod card;
 mod cards;
+mod counts;
 mod packed;
 
 pub use card::{Card, CardKind};

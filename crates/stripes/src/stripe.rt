@@ -137,6 +137,13 @@ impl Stripe {
         self.cards.get(fileid)
     }
 
+    /// The touch of a file: the latest moment of a write to this stripe since it was last taken.
+    pub fn touch(&self, fileid: Fileid) -> Option<Moment>
+        ensures { option_map moment_of result ≡ touch_of (get self.now.cards fileid.0) }
+    {
+        self.cards.touch_of(fileid)
+    }
+
     /// Sets the card of an inode; the touch of a file stays. Memory is needed only for a card that
     /// isn't there, and where there is none for it nothing changes.
     pub fn set_card(&mut self, fileid: Fileid, card: CardKind) -> Result<(), AllocError>

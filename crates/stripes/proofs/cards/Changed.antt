@@ -1,5 +1,5 @@
 -- Maps of cards, after what the code does to a `BTreeMap`.
-use Rattle.std.proofs.Common.{◌≡◌, ℕ, Bool, true, false, cond, Option, Some, None, IsSome, refl, sym, ap, ◌∙◌}
+use Rattle.std.proofs.Common.{◌≡◌, ℕ, Bool, true, false, cond, Option, Some, None, is_some, IsSome, refl, sym, ap, ◌∙◌}
 use Rattle.std.specs.Option.{option_map}
 use Rattle.std.proofs.Common.{Result, Ok, Err, OnOk, OnErr}
 use Rattle.std.specs.Ordering.{nat_cmp, eq_by_cmp}
@@ -72,3 +72,12 @@ on_ok f (Err e) p = p
 pub on_err : {T E P Q : Type 0} → (P → Q) → (r : Result T E) → OnErr r P → OnErr r Q
 on_err f (Ok x) p = p
 on_err f (Err e) p = f p
+
+-- what follows either way
+pub either : {T E P Q C : Type 0} → (r : Result T E) → OnOk r P → OnErr r Q → (P → C) → (Q → C) → C
+either (Ok x) p q f g = f p
+either (Err e) p q f g = g q
+
+pub some-mapped : {X Y : Type 0} (f : X → Y) (o : Option X) → is_some (option_map f o) ≡ is_some o
+some-mapped f (Some x) = refl
+some-mapped f None = refl

@@ -6,6 +6,7 @@ ghost use Rattle.nfs_values.specs.Moment.{moment_of};
 ghost use Rattle.nfs_model.specs.Shown.{touched as later_moment};
 ghost use Rattle.nfs_model.specs.volume.Stripes.{touch_of, card_touched, card_settled};
 ghost use Rattle.stripes.specs.cards.Cards.{card_of, card_resized};
+ghost use Rattle.stripes.specs.cards.Counts.{is_untouched};
 
 use nfs_values::Moment;
 
@@ -72,6 +73,16 @@ pub(crate) fn touch_on(card: Option<Card>) -> Option<Moment>
         Some(Card::File { touch, .. }) => touch,
         Some(Card::Directory) => None,
         None => None,
+    }
+}
+
+/// Whether a card is of a file without a touch.
+pub(crate) fn is_untouched(card: Card) -> bool
+    ensures { result ≡ is_untouched (Some (card_of card)) }
+{
+    match card {
+        Card::File { touch, .. } => touch.is_none(),
+        Card::Directory => false,
     }
 }
 

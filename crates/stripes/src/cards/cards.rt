@@ -1,6 +1,6 @@
 //! Cards by fileid.
 
-ghost use Rattle.std.specs.Prelude.{◌≡◌, ℕ, Some, IsOk, IsSome, OnOk, OnErr};
+ghost use Rattle.std.specs.Prelude.{◌≡◌, ℕ, Some, is_some, IsOk, IsSome, OnOk, OnErr};
 ghost use Rattle.std.specs.Option.{option_map};
 ghost use Rattle.std.specs.FinMap.{empty, get, insert, remove};
 ghost use Rattle.nfs_values.specs.Moment.{moment_of};
@@ -12,9 +12,18 @@ ghost use Rattle.nfs_model.specs.volume.Stripes.{
   card_touched,
   card_settled,
 };
-ghost use Rattle.stripes.specs.cards.Cards.{card_of, card_at, card_resized, Puts, Changes};
+ghost use Rattle.stripes.specs.cards.Cards.{
+  card_of,
+  packed_card,
+  card_at,
+  card_resized,
+  Puts,
+  Changes,
+};
+ghost use Rattle.stripes.specs.cards.Counts.{is_untouched};
 
-use crate::cards::card::{Card, resized, settled, touch_on, touched};
+use crate::cards::card::{Card, is_untouched, resized, settled, touch_on, touched};
+use crate::cards::counts::{TouchCounts, class_of, count_down, count_up, no_touches};
 use crate::cards::packed::{Packed, pack, unpack};
 use nfs_values::{Fileid, Moment};
 use std::alloc::{AllocError, Global};
@@ -24,12 +33,17 @@ use std::marker::Model;
 /// A map from fileids to cards.
 pub struct Cards {
     by_fileid: BTreeMap<u64, Packed>,
+    /// How many cards have a touch, so that where there is none the map isn't asked for it.
+    touches: TouchCounts,
 }
 
 // By hand, so that crates above have no proof of the drop of each of its parts.
 impl Drop for Cards {
     fn drop(self) {
-        let Cards { by_fileid: _ } = self;
+        let Cards {
+            by_fileid: _,
+            touches: _,
+        } = self;
     }
 }
 
@@ -41,12 +55,15 @@ impl Model for Cards {
     ghost use Rattle.nfs_model.specs.volume.Stripes as values;
     ghost use Rattle.nfs_model.specs.volume.Codes.{coded_card};
     ghost use Rattle.stripes.specs.cards.Cards.{cards_of};
+    ghost use Rattle.stripes.specs.cards.Counts.{AreCounted};
 
     ghost Value = { FinMap nat_cmp values.Card };
 
     ghost coded = { maps.code coded_ℕ coded_card };
 
     ghost view = { λ c. cards_of c.by_fileid.entries };
+
+    ghost invariant = { λ c. AreCounted c.touches (cards_of c.by_fileid.entries) };
 }
 
 impl Cards {
@@ -56,6 +73,7 @@ impl Cards {
     {
         Cards {
             by_fileid: BTreeMap::new(alloc),
+            touches: no_touches(),
         }
     }
 
@@ -64,6 +82,16 @@ impl Cards {
         ensures { option_map card_of result ≡ get self.now fileid.0 }
     {
         card_in(&self.by_fileid, fileid.0)
+    }
+
+    /// The touch of a file.
+    pub fn touch_of(&self, fileid: Fileid) -> Option<Moment>
+        ensures { option_map moment_of result ≡ touch_of (get self.now fileid.0) }
+    {
+        if self.touches[class_of(fileid.0)] == 0 {
+            return None;
+        }
+        touch_on(self.get(fileid))
     }
 
     /// Sets the card of a file to a size; the touch stays. Memory is needed only for a card that
@@ -101,7 +129,9 @@ impl Cards {
     pub fn touch(&mut self, fileid: Fileid, moment: Moment)
         ensures { self.new ≡ changed_at (card_touched (moment_of moment)) fileid.0 self.old }
     {
-        touch_at(&mut self.by_fileid, fileid.0, moment);
+        if touch_at(&mut self.by_fileid, fileid.0, moment) {
+            count_up(&mut self.touches, class_of(fileid.0));
+        }
     }
 
     /// Takes the touch of a file. It takes no memory.
@@ -109,14 +139,24 @@ impl Cards {
         ensures touch { option_map moment_of result ≡ touch_of (get self.old fileid.0) }
         ensures taken { self.new ≡ changed_at card_settled fileid.0 self.old }
     {
-        take_touch_at(&mut self.by_fileid, fileid.0)
+        let class = class_of(fileid.0);
+        if self.touches[class] == 0 {
+            return None;
+        }
+        let touch = take_touch_at(&mut self.by_fileid, fileid.0);
+        if touch.is_some() {
+            count_down(&mut self.touches, class);
+        }
+        touch
     }
 
     /// Removes the card of an inode. It takes no memory.
     pub fn remove(&mut self, fileid: Fileid)
         ensures { self.new ≡ remove self.old fileid.0 }
     {
-        self.by_fileid.remove(&fileid.0);
+        if has_touch(self.by_fileid.remove(&fileid.0)) {
+            count_down(&mut self.touches, class_of(fileid.0));
+        }
     }
 }
 
@@ -149,12 +189,28 @@ fn resize_at(by_fileid: &mut BTreeMap<u64, Packed>, fileid: u64, size: u64)
     }
 }
 
-/// Touches a card, if it is there.
-fn touch_at(by_fileid: &mut BTreeMap<u64, Packed>, fileid: u64, moment: Moment)
-    ensures { Changes (card_touched (moment_of moment)) fileid by_fileid.old by_fileid.new }
+/// Whether a card, if it is there, has a touch.
+fn has_touch(packed: Option<Packed>) -> bool
+    ensures { result ≡ is_some (touch_of (option_map packed_card packed)) }
 {
-    if let Some(packed) = by_fileid.get_mut(&fileid) {
-        *packed = pack(touched(unpack(*packed), moment));
+    match packed {
+        Some(packed) => touch_on(Some(unpack(packed))).is_some(),
+        None => false,
+    }
+}
+
+/// Touches a card, if it is there, and tells whether it is the first touch of a file.
+fn touch_at(by_fileid: &mut BTreeMap<u64, Packed>, fileid: u64, moment: Moment) -> bool
+    ensures touched { Changes (card_touched (moment_of moment)) fileid by_fileid.old by_fileid.new }
+    ensures first { result ≡ is_untouched (card_at by_fileid.old fileid) }
+{
+    match by_fileid.get_mut(&fileid) {
+        Some(packed) => {
+            let card = unpack(*packed);
+            *packed = pack(touched(card, moment));
+            is_untouched(card)
+        }
+        None => false,
     }
 }
 

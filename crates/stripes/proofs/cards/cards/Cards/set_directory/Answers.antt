@@ -2,6 +2,10 @@ use Rattle.std.proofs.Common.{IsSome, sym, ap, subst, ◌∙◌}
 use Rattle.std.specs.FinMap.{get, insert}
 use Rattle.nfs_model.specs.volume.Stripes.{OfFolder}
 use Rattle.stripes.proofs.cards.Changed.{get-cards_of, same-cards, put-cards, on_ok, on_err}
+use Rattle.stripes.specs.cards.Cards.{cards_of}
+use Rattle.stripes.specs.cards.Counts.{AreCounted}
+use Rattle.stripes.proofs.cards.Changed.{either}
+use Rattle.stripes.proofs.cards.Counted.{counted-folder}
 use Rattle.stripes.proofs.cards.cards.Cards.set_directory.Goals as goal
 
 pub returns-clause-ok : goal.returns-clause-ok
@@ -15,3 +19,12 @@ returns-clause-err c = on_err (λ same. same-cards c.self.inside.by_fileid c.put
 pub returns-clause-succeeds : goal.returns-clause-succeeds
 returns-clause-succeeds c = λ there.
     c.put.ensures.succeeds (subst IsSome (ap (λ m. get m c.args.fileid.0) (sym c.self.view_is) ∙ get-cards_of c.self.inside.by_fileid c.args.fileid.0) there)
+
+pub invariant_of-self : goal.invariant_of-self
+invariant_of-self c =
+    let old = c.self.inside.by_fileid in
+    let new = c.put.new.by_fileid in
+    either c.put.result c.put.ensures.ok c.put.ensures.err
+    (λ puts. subst (AreCounted c.self.inside.touches) (sym (put-cards c.args.fileid.0 OfFolder old new puts))
+    (counted-folder c.self.inside.touches (cards_of old.entries) c.args.fileid.0 c.self.invariant))
+    (λ same. subst (AreCounted c.self.inside.touches) (sym (same-cards old new same)) c.self.invariant)
