@@ -15,10 +15,10 @@ pub use bad::Bad;
 pub use laws::arguments_are_exact;
 pub use nfs_values::{
     ADMIN_PROGRAM, Answer, Attributes, AuthFault, BlockNumber, BytesRead, BytesToWrite, Call,
-    Change, CommitResults, ConnectionNumber, Cookie, CreateMode, Credential, DirectoryEntry, FileHandle, FileKind, Fileid,
-    FilesystemStatusResults, LookupResults, MakeResults, Moment, NFS_PROGRAM, Name, Named,
-    PriorAttributes, Procedure, ReadDirectoryResults, ReadResults, Refusal, RenameResults, Reply,
-    SetAttributes, SetTime, Status, Target, Verifier, VolumeCount, VolumeNumber, WorkerNumber,
-    WriteResults,
+    Change, CommitResults, ConnectionNumber, Cookie, CreateMode, Credential, DirectoryEntry,
+    FileHandle, FileKind, Fileid, FilesystemStatusResults, LookupResults, MakeResults, Moment,
+    NFS_PROGRAM, Name, Named, PriorAttributes, Procedure, ReadDirectoryResults, ReadResults,
+    Refusal, RenameResults, Reply, SetAttributes, SetTime, Status, Target, Verifier, VolumeCount,
+    VolumeNumber, WorkerNumber, WriteResults,
 };
 pub use results::{encode_result, size_of_result};
