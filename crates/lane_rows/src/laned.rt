@@ -15,7 +15,7 @@ use std::thread;
 use workers::{Chained, Gate, Tend, TendRefusal, Tended, Unwatched, Wanted};
 
 /// The first of two lanes. The other is dropped.
-fn lane<R: Abort + AllocGlobal + Wait + Copy + Drop>(rt: R) -> MemoryLane<R> {
+pub(crate) fn lane<R: Abort + AllocGlobal + Wait + Copy + Drop>(rt: R) -> MemoryLane<R> {
     let layout = layout(&rt, 1);
     let opened = open_lanes(rt, rt.alloc(), layout).ok();
     let (lane, _other) = opened.expect(&rt, "no memory");
@@ -86,7 +86,7 @@ pub(crate) fn write_all<R: Wait>(
 }
 
 /// Closes a connection, to which just these words were written.
-fn close<R: Wait>(
+pub(crate) fn close<R: Wait>(
     rt: &(impl Abort + AllocGlobal),
     lane: &mut MemoryLane<R>,
     key: usize,
@@ -98,7 +98,7 @@ fn close<R: Wait>(
 }
 
 /// Takes a lane apart, in whose queue so many messages wait.
-fn part<R: Abort + Wait + Copy + Drop>(rt: R, lane: MemoryLane<R>, waiting: usize) {
+pub(crate) fn part<R: Abort + Wait + Copy + Drop>(rt: R, lane: MemoryLane<R>, waiting: usize) {
     let LaneParts {
         worker,
         queue,

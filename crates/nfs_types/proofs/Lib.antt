@@ -3,3 +3,4 @@ pub mod Outcomes
 pub mod Rest
 pub mod Numbered
 pub mod InPlace
+pub mod Entry

@@ -102,7 +102,7 @@ impl Cards {
         ensures err { OnErr result (self.new ≡ self.old) }
         ensures succeeds { IsSome (get self.old fileid.0) → IsOk result }
     {
-        let touch = touch_on(self.get(fileid));
+        let touch = self.touch_of(fileid);
         put(&mut self.by_fileid, fileid.0, Card::File { size, touch })
     }
 

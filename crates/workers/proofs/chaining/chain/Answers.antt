@@ -18,6 +18,7 @@ loop-link-init g c =
       splits = refl;
       of = c.requires.of;
       share = (refl, refl, refl);
+      up = omega arith;
       few = omega arith;
       placed = c.requires.placed;
       gone = λ s stands. begins g.S.AnswerSink.took g.met.S.AnswerSink.took_none L (verifier_in c.args.filer.now) s c.args.moment c.args.sink.now
@@ -55,6 +56,7 @@ loop-link-preserved g c =
           (c.link_on.ensures.linked gone.between gone.stands)) in
           let few = c.loop-link.invariant.few in
           omega (arith, one, few);
+      up = let less = c.loop-link-test.true in omega (arith, less);
       placed = subst (λ (x : Link). IsNextPlaced L x) c.in-On.is c.link_on.ensures.placed;
       gone = λ s stands.
           let gone = c.loop-link.invariant.gone s stands in
@@ -88,7 +90,8 @@ returns-in-Over-clause-few g c =
     (subst (λ (x : Link). HasLinked took L ver gone.between m c.args.moment pass l w c.loop-link.sink x pass' l' w' c.link_on.new.sink) c.in-Over.is
     (c.link_on.ensures.linked gone.between gone.stands)) in
     let few = c.loop-link.invariant.few in
-    ?
+    let less = c.loop-link-test.true in
+    omega (arith, same, few, less)
 
 pub returns-in-Over-clause-placed : goal.returns-in-Over-clause-placed
 returns-in-Over-clause-placed g c = subst (λ (x : Link). IsNextPlaced (layout_in c.args.filer.now) x) c.in-Over.is c.link_on.ensures.placed
@@ -119,7 +122,10 @@ try_on-requires-clause-lent g c =
     c.args.moment (known c.loop-link.pass) (node_lent L c.loop-link.grant) (view c.loop-link.seat) gone.stands
 
 pub returns-clause-few : goal.returns-clause-few
-returns-clause-few g c = let few = c.loop-link.invariant.few in ?
+returns-clause-few g c =
+    let few = c.loop-link.invariant.few in
+    let up = c.loop-link.invariant.up in
+    omega (arith, few, up)
 
 pub returns-clause-placed : goal.returns-clause-placed
 returns-clause-placed g c =

@@ -12,7 +12,7 @@ pub returns-clause-ok : goal.returns-clause-ok
 returns-clause-ok c =
     on_ok (λ puts. put-cards c.args.fileid.0 _ c.self.inside.by_fileid c.put.new.by_fileid puts
     ∙ ap (λ touch. insert (cards_of c.self.inside.by_fileid.entries) c.args.fileid.0 (OfFile c.args.size touch))
-    (c.touch_on-touch.ensures ∙ ap touch_of c.get.ensures)
+    c.touch_of-touch.ensures
     ∙ ap (λ m. insert m c.args.fileid.0 (OfFile c.args.size (touch_of (get c.args.self.now c.args.fileid.0)))) c.self.view_is) c.put.result c.put.ensures.ok
 
 pub returns-clause-err : goal.returns-clause-err
@@ -29,5 +29,5 @@ invariant_of-self c =
     either c.put.result c.put.ensures.ok c.put.ensures.err
     (λ puts. subst (AreCounted c.self.inside.touches) (sym (put-cards c.args.fileid.0 _ old new puts))
     (counted-set c.self.inside.touches (cards_of old.entries) c.args.fileid.0 _
-    (c.touch_on-touch.ensures ∙ ap touch_of c.get.ensures ∙ ap (λ m. touch_of (get m c.args.fileid.0)) (sym c.self.view_is)) c.self.invariant))
+    (c.touch_of-touch.ensures ∙ ap (λ m. touch_of (get m c.args.fileid.0)) (sym c.self.view_is)) c.self.invariant))
     (λ same. subst (AreCounted c.self.inside.touches) (sym (same-cards old new same)) c.self.invariant)
