@@ -336,7 +336,8 @@ module _ (layout : Layout) (verifier : List ℕ) (s : Standing) (m : Message) (v
       refl,
       subst (λ (x : FilerView). IsRefused layout x m.affinity (refusals.Busy at word) w) picked.view refused,
       refused-entries layout v w m.affinity (refusals.Busy at word) refused ∙ ap (λ (x : FilerView). entries_of x) picked.view,
-    );    suits = (refl, refl);
+    );
+    suits = (refl, refl);
   }
   refused-served took took_none moment sink w refusals.Worn refused = record {
     answers = [];
@@ -349,7 +350,8 @@ module _ (layout : Layout) (verifier : List ℕ) (s : Standing) (m : Message) (v
       refl,
       subst (λ (x : FilerView). IsRefused layout x m.affinity refusals.Worn w) picked.view refused,
       refused-entries layout v w m.affinity refusals.Worn refused ∙ ap (λ (x : FilerView). entries_of x) picked.view,
-    );    suits = (refl, refl);
+    );
+    suits = (refl, refl);
   }
 
 -- who keeps a message has picked it
