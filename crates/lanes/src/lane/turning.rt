@@ -12,9 +12,9 @@ impl<D: Device, R: Wait> Lane<D, R> {
     ghost use Rattle.std.specs.Arc.{arc_value};
     ghost use Rattle.workers.specs.declared.chained.Chained.TheVariants.{Idle};
     ghost use Rattle.workers.specs.shared_waiting.Passes.{known};
-    ghost use Rattle.workers.specs.Chains.{HasPutAll, HasTurnedOn};
+    ghost use Rattle.workers.specs.Chains.{turns_at_most, HasDoneFew, HasPutAll, HasTurnedOn};
     ghost use Rattle.workers.specs.Turns.{standing_of};
-    ghost use Rattle.workers.specs.Words.{layout_in, seats_in};
+    ghost use Rattle.workers.specs.Words.{layout_in, seat_view, seats_in};
     ghost use Rattle.lanes.specs.Lanes.{HasNoneLeft};
 
     /// Tries the call of the message that its worker keeps, or else of the one that waits longest,
@@ -31,6 +31,8 @@ impl<D: Device, R: Wait> Lane<D, R> {
         ensures turned { HasTurnedOn HasPutAll (layout_in (arc_value self.old.filer))
             (standing_of self.old.worker) moment self.old.intake.outboxes result
             self.new.intake.outboxes (standing_of self.new.worker) }
+        ensures few { HasDoneFew (turns_at_most most) (seat_view self.old.worker)
+            (seat_view self.new.worker) }
         ensures idle { result ≡ Idle
             → HasNoneLeft self.new.intake.pass self.new.worker }
         ensures pass { known self.new.intake.pass ≡ known self.old.intake.pass }
