@@ -1,6 +1,6 @@
 //! Lists in results.
 
-ghost use Rattle.std.specs.Prelude.{◌≡◌, ◌+◌, ◌-◌, ◌≤◌, ◌<◌, ◌^◌, ◌++◌, length, map, replicate};
+ghost use Rattle.std.specs.Prelude.{◌≡◌, ◌+◌, ◌≤◌, ◌<◌, ◌^◌, ◌++◌, length, map, replicate};
 ghost use Rattle.std.specs.Prelude.{vec_len, vec_capacity};
 ghost use Rattle.std.specs.List.{flat_map};
 ghost use Rattle.xdr.specs.Shape.{Chain, Hyper, Word, padding, spelling};
@@ -25,8 +25,8 @@ impl Encode for DirectoryEntry {
         let name = self.name.as_bytes();
         append(out, &before_name(self.fileid, name.len() as u32));
         append(out, name);
-        let behind = behind_name(self.cookie);
-        append(out, &behind[padding_left_out(name.len())..]);
+        pad(out, name.len());
+        self.cookie.write(out);
     }
 }
 
@@ -49,21 +49,26 @@ fn before_name(fileid: Fileid, size: u32) -> [u8; 12]
     before
 }
 
-/// What stands behind the bytes of an entry's name where it has three bytes of padding: these, and
-/// its cookie.
-fn behind_name(cookie: Cookie) -> [u8; 11]
-    ensures { result ≡ replicate 3 0 ++ spelling Hyper cookie.0 }
+/// Appends the padding of so many bytes, for which there is room: a few bytes of a known number
+/// are written without a call.
+fn pad(out: &mut Vec<u8>, size: usize)
+    requires { vec_len out.old + padding size ≤ vec_capacity out.old }
+    ensures items { out.new.items ≡ out.old.items ++ replicate (padding size) 0 }
+    ensures capacity { vec_capacity out.old ≤ vec_capacity out.new }
 {
-    let mut behind = [0; 11];
-    behind[3..].copy_from_slice(&cookie.0.to_be_bytes());
-    behind
-}
-
-/// How many of three bytes of padding a name of so many bytes doesn't have.
-fn padding_left_out(size: usize) -> usize
-    ensures { result ≡ 3 - padding size }
-{
-    3 - (4 - size % 4) % 4
+    let past = size % 4;
+    if past == 0 {
+        return;
+    }
+    if past == 1 {
+        append(out, &[0; 3]);
+        return;
+    }
+    if past == 2 {
+        append(out, &[0; 2]);
+        return;
+    }
+    append(out, &[0]);
 }
 
 /// How many bytes the entries of a directory take.
