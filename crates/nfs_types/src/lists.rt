@@ -9,7 +9,7 @@ ghost use Rattle.nfs_values.specs.Answer.{entry_of, count_of};
 ghost use Rattle.nfs_types.specs.Results.{entry_shape, entry_value, readdir_shape, readdir_value};
 ghost use Rattle.nfs_types.specs.Results.{count_shape, count_value, census_shape};
 
-use crate::encode::{Encode, size_of_present, write_present};
+use crate::encode::{Encode, append, size_of_present, write_present};
 use nfs_values::{Cookie, DirectoryEntry, Fileid, ReadDirectoryResults, Verifier, VolumeCount};
 
 impl Encode for DirectoryEntry {
@@ -28,15 +28,6 @@ impl Encode for DirectoryEntry {
         pad(out, name.len());
         self.cookie.write(out);
     }
-}
-
-/// Appends bytes for which there is room.
-fn append(out: &mut Vec<u8>, bytes: &[u8])
-    requires { vec_len out.old + length bytes.now ≤ vec_capacity out.old }
-    ensures items { out.new.items ≡ out.old.items ++ bytes.now }
-    ensures capacity { vec_capacity out.old ≤ vec_capacity out.new }
-{
-    out.extend_from_slice(bytes).unwrap();
 }
 
 /// What stands before the bytes of an entry's name: its fileid, and how many they are.
