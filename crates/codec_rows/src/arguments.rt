@@ -168,6 +168,7 @@ fn data_is_copied(rt: HostRuntime) {
 #[test]
 fn data_stays_in_its_record(rt: HostRuntime) {
     let record = joined(&rt, &[&[9; 5], &WRITE]);
+    assert!(rt; record.len() == 37);
     let decoded = decode_in_place(rt.alloc(), Procedure::Write, record, 5);
     let call = decoded.expect(&rt, "no call");
     is_write(&rt, &call);

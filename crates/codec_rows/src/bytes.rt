@@ -1,5 +1,10 @@
 //! Bytes, put together and compared.
 
+ghost use Rattle.std.specs.Prelude.{◌≤◌, length};
+ghost use Rattle.nfs_types.specs.Results.{answer_bytes};
+ghost use Rattle.nfs_values.specs.Answer.{answer_of};
+
+use nfs_values::{Answer, BytesRead, ReadResults, room_to_read};
 use std::process::Abort;
 
 /// Looks whether this is so.
@@ -29,4 +34,17 @@ pub(crate) fn bytes_of(rt: &(impl Abort + AllocGlobal), words: &[u32]) -> Vec<u8
         added.expect(rt, "no memory");
     }
     bytes
+}
+
+/// The answer of a READ that gives these bytes, the last of a file.
+pub(crate) fn read_answer(rt: &(impl Abort + AllocGlobal), bytes: &[u8]) -> Answer
+    requires { length bytes.now ≤ 8 }
+    ensures { length (answer_bytes (answer_of result)) ≤ 40 }
+{
+    let mut place = room_to_read(rt.alloc(), bytes.len()).expect(rt, "no memory");
+    place.extend_from_slice(bytes).expect(rt, "no memory");
+    Answer::Read(Ok(ReadResults {
+        eof: true,
+        bytes: BytesRead::new(place),
+    }))
 }

@@ -1,11 +1,9 @@
 //! Records of replies, and the room that they take.
 
-ghost use Rattle.std.specs.Prelude.{◌≤◌, length};
-
-use crate::bytes::{bytes_of, holds, same};
+use crate::bytes::{bytes_of, holds, read_answer, same};
 use nfs_values::{
-    Answer, AuthFault, BytesRead, BytesToWrite, Call, Cookie, CreateMode, FileHandle, Fileid, Name,
-    Named, ReadResults, Refusal, Reply, Target, Verifier, VolumeNumber, room_to_read,
+    Answer, AuthFault, BytesToWrite, Call, Cookie, CreateMode, FileHandle, Fileid, Name, Named,
+    Refusal, Reply, Target, Verifier, VolumeNumber,
 };
 use rpc_msg::{move_reply_record, room_of_reply, write_reply, write_reply_record};
 use std::alloc::Global;
@@ -37,22 +35,10 @@ fn bare_replies(rt: HostRuntime) {
     same(&rt, &bare, &bytes_of(&rt, &[3, 1, 1, 0, 2, 2]));
 }
 
-/// A reply to a READ.
-fn read_reply(rt: &(impl Abort + AllocGlobal), bytes: &[u8]) -> Reply
-    requires { length bytes.now ≤ 131072 }
-{
-    let mut place = room_to_read(rt.alloc(), bytes.len()).expect(rt, "no memory");
-    place.extend_from_slice(bytes).expect(rt, "no memory");
-    Reply::Success(Answer::Read(Ok(ReadResults {
-        eof: true,
-        bytes: BytesRead::new(place),
-    })))
-}
-
 #[test]
 fn bytes_of_a_read_are_moved(rt: HostRuntime) {
     for size in 0..9 {
-        let mut reply = read_reply(&rt, &[7; 8][..size]);
+        let mut reply = Reply::Success(read_answer(&rt, &[7; 8][..size]));
         let mut wanted = Vec::new(rt.alloc());
         write_reply_record(&mut wanted, 9, &reply).expect(&rt, "no memory");
         let mut moved = Vec::new(rt.alloc());

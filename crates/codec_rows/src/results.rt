@@ -1,21 +1,16 @@
 //! Results, as bytes.
 
-use crate::bytes::{joined, same};
+use crate::bytes::{joined, read_answer, same};
 use nfs_types::encode_result;
 use nfs_values::{
-    Answer, Attributes, BytesRead, Change, Cookie, DirectoryEntry, FileKind, Fileid, Moment, Name,
-    PriorAttributes, ReadDirectoryResults, ReadResults, RenameResults, Status, room_to_read,
+    Answer, Attributes, Change, Cookie, DirectoryEntry, FileKind, Fileid, Moment, Name,
+    PriorAttributes, ReadDirectoryResults, RenameResults, Status,
 };
 use std::mem;
 
 #[test]
 fn results_are_written(rt: HostRuntime) {
-    let mut place = room_to_read(rt.alloc(), 3).expect(&rt, "no memory");
-    place.extend_from_slice(&[1, 2, 3]).expect(&rt, "no memory");
-    let read = Answer::Read(Ok(ReadResults {
-        eof: true,
-        bytes: BytesRead::new(place),
-    }));
+    let read = read_answer(&rt, &[1, 2, 3]);
     let mut out = Vec::new(rt.alloc());
     encode_result(&mut out, &read).expect(&rt, "no memory");
     mem::forget(read);

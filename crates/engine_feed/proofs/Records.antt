@@ -5,14 +5,10 @@ use Rattle.std.proofs.lemmas.Bool.Decides.{nat_tests}
 use Rattle.nfs_model.specs.World.{Heard, IsDecoded}
 use Rattle.nfs_model.specs.Types as types
 use Rattle.rpc_msg.specs.Offered.{IsOffered}
-use Rattle.nfs_values.specs.declared.reply.Reply.{Reply}
-use Rattle.nfs_values.specs.Reply.{reply_of}
 use Rattle.rpc_msg.specs.Records as records
 use Rattle.rpc_msg.specs.Replies as replies
-use Rattle.rpc_msg.specs.Replies.{IsRefusal}
 use Rattle.rpc_msg.specs.Room.{refusal_room}
 use Rattle.engine_feed.specs.Offered.{reply_limit}
-use Rattle.rpc_msg.specs.lemmas.Refusals.{refusal_refuses}
 use Rattle.rpc_msg.specs.lemmas.Hearing.{fault_of_record, record_is_decoded, record_asks_offered}
 use Rattle.rpc_msg.specs.Seen as told
 use Rattle.rpc_msg.specs.declared.fault.RecordFault.{RecordFault}
@@ -39,10 +35,6 @@ pub heard-is-offered : (bytes : List ℕ) (xid : ℕ) (call : types.Call) (crede
     → records.heard bytes ≡ Ok (record { xid = xid; asked = types.Ask call credential }) → IsOffered call
 heard-is-offered bytes xid call credential e = record_asks_offered bytes (record { xid = xid; asked = types.Ask call credential }) e
 
-pub refused-refuses : (bytes : List ℕ) (xid : ℕ) (reply : types.Reply) → records.heard bytes ≡ Ok (record { xid = xid; asked = types.Refused reply })
-    → IsRefusal reply
-refused-refuses bytes xid reply e = refusal_refuses bytes (record { xid = xid; asked = types.Refused reply }) reply e refl
-
 -- ---- what was read
 
 pub numbers-same : (fault : RecordFault) → fault_number (fault_of fault) ≡ told.fault_number fault
@@ -62,7 +54,3 @@ room-same xid reply m n h = subst (λ (bs : List ℕ). m + length bs ≤ n) (rep
 
 pub refusal-fits : (xid : ℕ) (reply : types.Reply) → length (replies.reply_record xid reply) ≤ refusal_room → length (reply_record xid reply) ≤ reply_limit
 refusal-fits xid reply h = let size = ap (λ (bs : List ℕ). length bs) (reply_record_is xid reply) in omega (arith, size, h)
-
-pub refused-fits : (xid : ℕ) (r s : Reply) → r ≡ s → length (replies.reply_record xid (reply_of s)) ≤ refusal_room
-    → length (reply_record xid (reply_of r)) ≤ reply_limit
-refused-fits xid r s e h = subst (λ (x : Reply). length (reply_record xid (reply_of x)) ≤ reply_limit) (sym e) (refusal-fits xid (reply_of s) h)

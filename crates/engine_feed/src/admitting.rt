@@ -79,7 +79,11 @@ pub(crate) fn starve(connection: &mut ConnectionState, calls: &mut CallsState, o
     ensures keeps { Keeps calls.old connection.old origin.connection.0 calls.new connection.new }
 {
     refusals_fit();
-    write_reply(connection, origin.xid, &Reply::Refused(Refusal::SystemError));
+    write_reply(
+        connection,
+        origin.xid,
+        &Reply::Refused(Refusal::SystemError),
+    );
     keep_entry(calls, origin, None, None, Moment::START, true);
 }
 

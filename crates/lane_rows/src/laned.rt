@@ -12,10 +12,10 @@ use nfs_values::{Moment, VolumeNumber};
 use std::process::Abort;
 use std::sync::Wait;
 use std::thread;
-use workers::{Gate, Tend, TendRefusal, Tended, Unwatched, Worked};
+use workers::{Chained, Gate, Tend, TendRefusal, Tended, Unwatched, Wanted};
 
 /// The first of two lanes. The other is dropped.
-fn lane<R: Abort + AllocGlobal + Wait + Copy + Drop>(rt: R) -> MemoryLane<R> {
+pub(crate) fn lane<R: Abort + AllocGlobal + Wait + Copy + Drop>(rt: R) -> MemoryLane<R> {
     let layout = layout(&rt, 1);
     let opened = open_lanes(rt, rt.alloc(), layout).ok();
     let (lane, _other) = opened.expect(&rt, "no memory");
@@ -49,10 +49,15 @@ pub(crate) fn read_all<R: Wait>(lane: &mut MemoryLane<R>, key: usize) -> Came {
 pub(crate) fn run_by<R: Wait, G: Gate>(lane: &mut MemoryLane<R>, gate: &G) -> usize {
     let mut done: usize = 0;
     for _ in 0..MANY {
-        match lane.turn(gate, Moment::START) {
-            Worked::Done(_connection) => done = done.saturating_add(1),
-            Worked::Idle => return done,
-            Worked::Moved | Worked::Busy { node: _, word: _ } | Worked::Worn => thread::yield_now(),
+        let before = lane.waiting();
+        let chained = lane.turns(gate, &Wanted::new(), Moment::START, 3);
+        done = done.saturating_add(before.saturating_sub(lane.waiting()));
+        match chained {
+            Chained::Done => {}
+            Chained::Idle => return done,
+            Chained::Moved | Chained::Busy { node: _, word: _ } | Chained::Worn => {
+                thread::yield_now();
+            }
         }
     }
     done
@@ -81,7 +86,7 @@ pub(crate) fn write_all<R: Wait>(
 }
 
 /// Closes a connection, to which just these words were written.
-fn close<R: Wait>(
+pub(crate) fn close<R: Wait>(
     rt: &(impl Abort + AllocGlobal),
     lane: &mut MemoryLane<R>,
     key: usize,
@@ -93,7 +98,7 @@ fn close<R: Wait>(
 }
 
 /// Takes a lane apart, in whose queue so many messages wait.
-fn part<R: Abort + Wait + Copy + Drop>(rt: R, lane: MemoryLane<R>, waiting: usize) {
+pub(crate) fn part<R: Abort + Wait + Copy + Drop>(rt: R, lane: MemoryLane<R>, waiting: usize) {
     let LaneParts {
         worker,
         queue,

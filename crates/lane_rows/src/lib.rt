@@ -5,6 +5,8 @@
 #[cfg(test)]
 mod beside;
 #[cfg(test)]
+mod chained;
+#[cfg(test)]
 mod gathered;
 #[cfg(test)]
 mod laned;

@@ -71,6 +71,73 @@ pub(crate) const GETATTR_REPLY: [u32; 29] = [
     0,
 ];
 
+/// An FSSTAT call of the root, xid 7.
+pub(crate) const FSSTAT: [u32; 15] = [
+    0x8000_0038,
+    7,
+    0,
+    2,
+    100_003,
+    3,
+    18,
+    0,
+    0,
+    0,
+    0,
+    12,
+    0,
+    0,
+    1,
+];
+
+/// The reply to the FSSTAT of a volume of one range (4 MiB) with no file: all bytes are free, and
+/// all inodes but the root's.
+pub(crate) const FSSTAT_REPLY: [u32; 43] = [
+    0x8000_00a8,
+    7,
+    1,
+    0,
+    0,
+    0,
+    0,
+    0,
+    1,
+    2,
+    0o755,
+    2,
+    0,
+    0,
+    0,
+    4_096,
+    0,
+    0,
+    0,
+    0,
+    0,
+    0,
+    0,
+    1,
+    0,
+    0,
+    0,
+    0,
+    0,
+    0,
+    0,
+    0x0040_0000,
+    0,
+    0x0040_0000,
+    0,
+    0x0040_0000,
+    0,
+    0x0001_0000,
+    0,
+    0xffff,
+    0,
+    0xffff,
+    0,
+];
+
 /// The first words of a GETATTR call.
 pub(crate) const CUT: [u32; 5] = [0x8000_0038, 2, 0, 2, 100_003];
 

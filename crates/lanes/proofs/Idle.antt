@@ -2,24 +2,23 @@
 use Rattle.std.proofs.Common.{◌≡◌, ℕ, ◌+◌, ◌^◌, List, [], ◌∷◌, ◌++◌, length, refl, sym, ap, subst, ◌∙◌, arith}
 use Rattle.crossbeam_queue.specs.Fifo.{Held}
 use Rattle.affinity_tree.specs.declared.layout.Layout as layouts
-use Rattle.nfs_model.specs.Tree.{Layout}
-use Rattle.nfs_values.specs.declared.moment.Moment.{Moment}
 use Rattle.depot.specs.rule.Sums.{total}
 use Rattle.depot.specs.rule.lemmas.Sums.{total-append}
-use Rattle.outboxes.specs.Boxes.{Boxes}
+use Rattle.nfs_model.specs.Tree.{Layout}
+use Rattle.nfs_values.specs.declared.moment.Moment.{Moment}
+use Rattle.outboxes.specs.Boxes.{Addressed}
 use Rattle.workers.specs.Balance.{Passed}
-use Rattle.workers.specs.Turns.{Did}
+use Rattle.workers.specs.Chains.{DidAll, HasTurnedOn}
+use Rattle.workers.specs.Turns.{Standing}
+use Rattle.workers.specs.declared.chained.Chained.{Chained}
+use Rattle.workers.specs.declared.chained.Chained.TheVariants as chains
 use Rattle.workers.specs.Words.{passed}
 use Rattle.workers.specs.declared.message.Message.{Message}
 use Rattle.workers.specs.declared.shared_waiting.pass.Pass.{Pass}
-use Rattle.workers.specs.declared.turned.Turned.{Turned}
-use Rattle.workers.specs.declared.turned.Turned.TheVariants as turns
-use Rattle.workers.specs.declared.worked.Worked.{Worked}
-use Rattle.workers.specs.declared.worked.Worked.TheVariants as works
 use Rattle.workers.specs.declared.worker.Worker.{Worker}
 use Rattle.workers.specs.shared_waiting.Balance.{IsWhole, Leaves, both}
 use Rattle.workers.specs.shared_waiting.Passes.{known}
-use Rattle.lanes.specs.Lanes.{HasBoth, HasNoneLeft, IsPutAs}
+use Rattle.lanes.specs.Lanes.{HasBoth, HasNoneLeft}
 
 none-weighs : (items : List Message) → length items ≡ 0 → (weigh : Message → ℕ) → total weigh items ≡ 0
 none-weighs [] e weigh = refl
@@ -48,16 +47,11 @@ none-left pass pass' worker worker' h held same_pass same_worker weigh =
     (subst (λ (w : Passed). total weigh ((known pass).put ++ w.put) ≡ total weigh ((known pass).picked ++ w.picked)) (sym same_worker)
     (none-waits (known pass) (passed worker) h.0 held weigh))
 
--- what is told of a turn that found no message
-pub idle-is : (turned : Turned) (boxes : Boxes) (worked : Worked) (boxes' : Boxes) → IsPutAs turned boxes worked boxes' → worked ≡ works.Idle
-    → turned ≡ turns.Idle
-idle-is (turns.Done a) boxes worked boxes' (_, (number, is, _)) e = let no : works.Done number ≡ works.Idle = sym is ∙ e in absurd cc
-idle-is turns.Moved boxes worked boxes' (_, is) e = let no : works.Moved ≡ works.Idle = sym is ∙ e in absurd cc
-idle-is (turns.Busy at word) boxes worked boxes' (_, is) e = let no : works.Busy at word ≡ works.Idle = sym is ∙ e in absurd cc
-idle-is turns.Worn boxes worked boxes' (_, is) e = let no : works.Worn ≡ works.Idle = sym is ∙ e in absurd cc
-idle-is turns.Idle boxes worked boxes' (_, is) e = refl
-
--- such a turn picked nothing and put nothing
-pub idle-same : (layout : Layout) (before : Worker) (moment : Moment) (turned : Turned) (after : Worker) → Did layout before moment turned after
-    → turned ≡ turns.Idle → passed after ≡ passed before
-idle-same layout before moment turned after did is = (subst (λ (t : Turned). Did layout before moment t after) is did).pass
+-- turns that found no message picked nothing and put nothing
+pub idle-same : {S : Type 0} (took : S → List Addressed → S → Type 0) (layout : Layout) (s : Standing) (moment : Moment) (sink : S)
+    (chained : Chained) (sink' : S) (t : Standing) → HasTurnedOn took layout s moment sink chained sink' t → chained ≡ chains.Idle
+    → t.pass ≡ s.pass
+idle-same took layout s moment sink chained sink' t h is =
+    let i = subst (λ (c : Chained). HasTurnedOn took layout s moment sink c sink' t) is h in
+    let same : i.between ≡ s = subst (λ (l : List Addressed). DidAll moment s l i.between) i.suits.0 i.did in
+    i.ends.pass ∙ ap (λ (x : Standing). x.pass) same

@@ -22,13 +22,13 @@ use Rattle.workers.specs.declared.tend.Tend.{Tend}
 use Rattle.workers.specs.declared.tend.Tended.{Tended}
 use Rattle.workers.specs.declared.tend.TendRefusal.{TendRefusal}
 use Rattle.workers.specs.Balance.{FilerEntry, Passed}
-use Rattle.workers.specs.Turns.{Did, HasDone, HasFinished, HasReturned, IsEntryOf, WasIdle, HasShareOf, job_of_message}
+use Rattle.workers.specs.Chains.{puts, DidAll, EndsBy, HasPutAll, HasTurnedOn}
+use Rattle.workers.specs.Turns.{HasDoneFrom, HasFinished, IsEntryOf, Standing, HasShareOf, job_of_message}
 use Rattle.workers.specs.Words.{entries_in, passed}
 use Rattle.workers.specs.declared.message.Message.{Message}
 use Rattle.workers.specs.declared.shared_waiting.pass.Pass.{Pass}
-use Rattle.workers.specs.declared.turned.Turned.{Turned}
-use Rattle.workers.specs.declared.turned.Turned.TheVariants as turns
-use Rattle.workers.specs.declared.worked.Worked.{Worked}
+use Rattle.workers.specs.declared.chained.Chained.{Chained}
+use Rattle.workers.specs.declared.chained.Chained.TheVariants as chains
 use Rattle.workers.specs.declared.worker.Worker.{Worker}
 use Rattle.workers.specs.shared_waiting.Passes.{known}
 use Rattle.lanes.specs.declared.connection.Connection.{Connection}
@@ -41,7 +41,7 @@ use Rattle.connections.specs.declared.tcp_front.stream.Stream.{Stream}
 use Rattle.connections.specs.tcp_front.Arrivals.{Arrival}
 use Rattle.lanes.specs.Connections.{flagged, number_of, owing}
 use Rattle.lanes.specs.Intakes.{HasTakenIn, has_room_in}
-use Rattle.lanes.specs.Lanes.{Closes, Flagged, HasBoth, HasTurned, IsPutAs, ReadsOn, ReadsUnder, WritesUnder, owing_in}
+use Rattle.lanes.specs.Lanes.{Closes, Flagged, HasBoth, ReadsOn, ReadsUnder, WritesUnder, owing_in}
 use Rattle.lanes.specs.Reading.{Cuts, HasRead, Reads}
 use Rattle.lanes.specs.Story.{Ending, Served, answer_to, said_by, served_in, with_served, Story}
 use Rattle.lanes.specs.Writing.{HasWritten, Writes}
@@ -212,32 +212,40 @@ module _ {D : Type 0} (unread written : D → Option (List ℕ)) (layout : Layou
   served-one : (m : Message) (moment : Moment) (a : Addressed) (e : FilerEntry) → IsEntryOf m moment a e → served_in (e ∷ []) ≡ e ∷ []
   served-one m moment a e i = ap (λ (j : Job). with_served e j []) i.call
 
-  module _ (messages : List Message) (boxes boxes' : Boxes) (slots : ℕ → Option (Connection D)) (before after : Worker) (moment : Moment) where
-    abbrev Before : Type 0
-    Before = ∥ Story unread written layout (entries_in before) messages boxes slots ∥₁
+  module _ (messages : List Message) (slots : ℕ → Option (Connection D)) (moment : Moment) where
+    abbrev Known : Standing → Boxes → Type 0
+    Known s boxes = ∥ Story unread written layout (entries_of s.view) messages boxes slots ∥₁
 
-    abbrev After : Type 0
-    After = ∥ Story unread written layout (entries_in after) messages boxes' slots ∥₁
+    same-told : (s t : Standing) (boxes : Boxes) → entries_of t.view ≡ entries_of s.view → Known s boxes → Known t boxes
+    same-told s t boxes e k =
+        subst (λ (es : List FilerEntry). ∥ Story unread written layout es messages boxes slots ∥₁) (sym e) k
 
-    same-told : entries_in after ≡ entries_in before → boxes' ≡ boxes → Before → After
-    same-told e is t =
-        subst (λ (b : Boxes). ∥ Story unread written layout (entries_in after) messages b slots ∥₁) (sym is)
-        (subst (λ (es : List FilerEntry). ∥ Story unread written layout es messages boxes slots ∥₁) (sym e) t)
-
-    done-told : (a : Addressed) → HasDone before moment a after → boxes' ≡ put a boxes → Before → After
-    done-told a d is t =
+    done-told : (s t : Standing) (boxes : Boxes) (a : Addressed) → HasDoneFrom s moment a t → Known s boxes → Known t (put a boxes)
+    done-told s t boxes a d k =
         let f = d.finished in
-        subst (λ (b : Boxes). ∥ Story unread written layout (entries_in after) messages b slots ∥₁) (sym is)
-        (subst (λ (es : List FilerEntry). ∥ Story unread written layout es messages (put a boxes) slots ∥₁) (sym f.entries)
-        (∥∥₁_map t (λ s. story-ends unread written layout (entries_in before) messages boxes slots s f.entry a
-        (replied d.message moment a f.entry f.is) (served-one d.message moment a f.entry f.is))))
+        subst (λ (es : List FilerEntry). ∥ Story unread written layout es messages (put a boxes) slots ∥₁) (sym f.entries)
+        (∥∥₁_map k (λ y. story-ends unread written layout (entries_of s.view) messages boxes slots y f.entry a
+        (replied d.message moment a f.entry f.is) (served-one d.message moment a f.entry f.is)))
 
-    pub turns-told : (turned : Turned) (worked : Worked) → Did layout before moment turned after → IsPutAs turned boxes worked boxes' → Before → After
-    turns-told (turns.Done a) worked d p t = done-told a d p.0 t
-    turns-told turns.Moved worked (m, m', _, r) p t = same-told r.entries p.0 t
-    turns-told (turns.Busy at word) worked (m, r, _) p t = same-told r.entries p.0 t
-    turns-told turns.Worn worked (m, r, _) p t = same-told r.entries p.0 t
-    turns-told turns.Idle worked d p t = same-told (ap entries_of d.view) p.0 t
+    all-told : (s : Standing) (answers : List Addressed) (t : Standing) (boxes : Boxes) → DidAll moment s answers t → Known s boxes
+        → Known t (puts answers boxes)
+    all-told s [] t boxes same k = subst (λ (x : Standing). Known x boxes) (sym same) k
+    all-told s (a ∷ rest) t boxes (mid, done, more) k = all-told mid rest t (put a boxes) more (done-told s mid boxes a done k)
+
+    ends-same : (between : Standing) (chained : Chained) (after : Standing) → EndsBy layout between moment chained after
+        → entries_of after.view ≡ entries_of between.view
+    ends-same between chains.Done after (_, view, _) = ap entries_of view
+    ends-same between chains.Moved after (m, m', _, r) = r.entries
+    ends-same between (chains.Busy at word) after (m, r, _) = r.entries
+    ends-same between chains.Worn after (m, r, _) = r.entries
+    ends-same between chains.Idle after d = ap entries_of d.view
+
+    pub turns-told : (s : Standing) (boxes boxes' : Boxes) (chained : Chained) (t : Standing)
+        → HasTurnedOn HasPutAll layout s moment boxes chained boxes' t → Known s boxes → Known t boxes'
+    turns-told s boxes boxes' chained t h k =
+        subst (λ (b : Boxes). Known t b) (sym h.told)
+        (same-told h.between t (puts h.answers boxes) (ends-same h.between chained t h.ends)
+        (all-told s h.answers h.between boxes h.did k))
 
 -- ---- tends
 

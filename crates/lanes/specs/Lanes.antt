@@ -3,20 +3,13 @@ use Rattle.std.specs.Prelude.{◌≡◌, ◌≢◌, ℕ, Bool, List, [], Option,
 use Rattle.slab.specs.Slab.{Slab, get, Updates, with_value}
 use Rattle.affinity_tree.specs.declared.layout.Layout as layouts
 use Rattle.nfs_model.specs.Tree.{Layout}
-use Rattle.nfs_values.specs.declared.moment.Moment.{Moment}
-use Rattle.nfs_values.specs.declared.number.ConnectionNumber.{ConnectionNumber}
-use Rattle.outboxes.specs.Boxes.{Boxes, put, shut, opened}
+use Rattle.outboxes.specs.Boxes.{Boxes, shut, opened}
 use Rattle.workers.specs.declared.message.Message.{Message}
 use Rattle.workers.specs.declared.shared_waiting.pass.Pass.{Pass}
 use Rattle.depot.specs.rule.Sums.{total}
 use Rattle.workers.specs.shared_waiting.Balance.{IsWhole, both}
 use Rattle.workers.specs.shared_waiting.Passes.{known}
-use Rattle.workers.specs.declared.turned.Turned.{Turned}
-use Rattle.workers.specs.declared.turned.Turned.TheVariants as turns
-use Rattle.workers.specs.declared.worked.Worked.{Worked}
-use Rattle.workers.specs.declared.worked.Worked.TheVariants as works
 use Rattle.workers.specs.declared.worker.Worker.{Worker}
-use Rattle.workers.specs.Turns.{Did}
 use Rattle.workers.specs.Words.{passed}
 use Rattle.lanes.specs.declared.connection.Connection.{Connection}
 use Rattle.lanes.specs.declared.connection.Flags.{Flags}
@@ -69,23 +62,6 @@ WritesUnder unread written slab key None boxes result slab' boxes' =
     (result ≡ sents.Failed) × (slab' ≡ slab) × (boxes' ≡ boxes)
 WritesUnder {D} unread written slab key (Some before) boxes result slab' boxes' =
     (after : Connection D) × (slab' ≡ with_value slab key after) × HasWritten unread written before boxes result after boxes'
-
--- ---- turns
-
--- what is told of a turn, and what it did to the outboxes: its answer was put
-abbrev pub IsPutAs : Turned → Boxes → Worked → Boxes → Type 0
-IsPutAs (turns.Done a) boxes worked boxes' = (boxes' ≡ put a boxes) × ((number : ConnectionNumber) × (worked ≡ works.Done number) × (number.0 ≡ a.connection))
-IsPutAs turns.Moved boxes worked boxes' = (boxes' ≡ boxes) × (worked ≡ works.Moved)
-IsPutAs (turns.Busy at word) boxes worked boxes' = (boxes' ≡ boxes) × (worked ≡ works.Busy at word)
-IsPutAs turns.Worn boxes worked boxes' = (boxes' ≡ boxes) × (worked ≡ works.Worn)
-IsPutAs turns.Idle boxes worked boxes' = (boxes' ≡ boxes) × (worked ≡ works.Idle)
-
--- The worker made a turn, and the answer of it, if there is one, was put into the outboxes.
-pub record HasTurned (layout : Layout) (before : Worker) (moment : Moment) (boxes : Boxes) (worked : Worked) (after : Worker)
-    (boxes' : Boxes) : Type 0 where
-  pub turned : Turned
-  pub did : Did layout before moment turned after
-  pub told : IsPutAs turned boxes worked boxes'
 
 -- ---- openings
 

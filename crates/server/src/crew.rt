@@ -6,7 +6,7 @@ ghost use Rattle.server.specs.Lanes.{seats_of, IsLaneOf};
 ghost use Rattle.server.specs.Threads.{seats_for, seats_with, IsTaskFor, ServesFor};
 ghost use Rattle.workers.specs.declared.shared.Filer.{Filer};
 
-use crate::ends::Ends;
+use crate::common::Common;
 use crate::mailbox::Mailbox;
 use crate::socket::Socket;
 use crate::task::{Task, Thread, start_one};
@@ -15,11 +15,11 @@ use std::rt::Clock;
 use std::sync::{Arc, Wait};
 use std::thread::Threads;
 
-/// What is left for the lanes of a filer, and what they count.
+/// What is left for the lanes of a filer, and what their threads share.
 #[derive(Drop)]
 pub(crate) struct Mail {
     pub(crate) boxes: Vec<Arc<Mailbox>>,
-    pub(crate) ends: Arc<Ends>,
+    pub(crate) common: Arc<Common>,
 }
 
 impl Mail {

@@ -3,6 +3,7 @@
 #![tactic(auto)]
 
 mod accepting;
+mod common;
 mod crew;
 mod ending;
 mod ends;

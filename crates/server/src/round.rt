@@ -14,10 +14,13 @@ use nfs_values::Moment;
 use std::rt::Clock;
 use std::sync::Wait;
 use std::time::Duration;
-use workers::{Unwatched, Worked};
+use workers::{Chained, Unwatched, Wanted};
 
 /// The most turns of a round.
 const MOST_TURNS: usize = 64;
+
+/// The most of them under one grant.
+const MOST_CHAINED: usize = 32;
 
 /// How long a lane waits until it tends again where calls were finished, in milliseconds.
 const UNTENDED: u64 = 1;
@@ -76,30 +79,46 @@ fn take_mail<R: Wait>(rt: &R, lane: &mut Lane<Socket, R>, station: &mut Station)
     station.mailbox.take(rt, &mut station.mail);
     while let Some(stream) = station.mail.pop() {
         let registry = station.poll.registry();
-        open(lane, &mut station.keys, registry, &station.ends, stream);
+        open(
+            lane,
+            &mut station.keys,
+            registry,
+            &station.common.ends,
+            stream,
+        );
     }
 }
 
 /// Makes turns until no message waits, or 64. Answers whether the last found none.
-fn run_calls<R: Wait>(lane: &mut Lane<Socket, R>, pace: &mut Pace, moment: Moment) -> bool
+fn run_calls<R: Wait>(
+    lane: &mut Lane<Socket, R>,
+    pace: &mut Pace,
+    wanted: &Wanted,
+    moment: Moment,
+) -> bool
     ensures { Stays lane.old lane.new }
 {
+    let mut left = MOST_TURNS;
     for _ in 0..MOST_TURNS {
-        if lane.waiting() == 0 && may_rest(lane, pace) {
+        let before = lane.waiting();
+        if left == 0 || before == 0 && may_rest(lane, pace) {
             return false;
         }
-        let goes_on = match lane.turn(&Unwatched, moment) {
-            Worked::Done(_connection) => {
-                pace.finish();
-                true
-            }
-            Worked::Moved => {
+        let chained = lane.turns(&Unwatched, wanted, moment, left.min(MOST_CHAINED));
+        let finished = before.saturating_sub(lane.waiting());
+        left = left.saturating_sub(finished.max(1));
+        if finished > 0 {
+            pace.finish();
+        }
+        let goes_on = match chained {
+            Chained::Done => true,
+            Chained::Moved => {
                 put_down(lane, pace);
                 pace.move_on()
             }
-            Worked::Busy { node: _, word: _ } => pace.refuse(),
-            Worked::Worn => pace.refuse(),
-            Worked::Idle => return true,
+            Chained::Busy { node: _, word: _ } => pace.refuse(),
+            Chained::Worn => pace.refuse(),
+            Chained::Idle => return true,
         };
         if !goes_on {
             return false;
@@ -120,9 +139,9 @@ pub(crate) fn round<R: Wait + Clock>(rt: &R, lane: &mut Lane<Socket, R>, station
     read_all(lane, &mut station.keys, &mut station.buffers);
     let moment = station.pace.time(rt);
     station.pace.begin_if_due();
-    let is_idle = run_calls(lane, &mut station.pace, moment);
+    let is_idle = run_calls(lane, &mut station.pace, &station.common.wanted, moment);
     station.is_writing = write_all(lane, station.keys, &mut station.buffers);
-    close_ended(lane, station.keys, &station.ends);
+    close_ended(lane, station.keys, &station.common.ends);
     if is_idle {
         tend(lane, &mut station.pace);
     } else {

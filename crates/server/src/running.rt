@@ -12,9 +12,9 @@ ghost use Rattle.server.specs.declared.socket.Socket as sockets;
 ghost use Rattle.workers.specs.declared.shared.Filer as filers;
 
 use crate::accepting::accept_all;
+use crate::common::Common;
 use crate::crew::{Mail, join_all, start_all};
 use crate::ending::{FilerEnd, end};
-use crate::ends::Ends;
 use crate::fault::{ServerFault, of_serving, of_start};
 use crate::mailbox::Mailbox;
 use crate::opening::{layout_of, open_lanes, verifier_now};
@@ -49,7 +49,7 @@ struct Running<R> {
 fn man_all<R: Net + Drop>(
     rt: &R,
     alloc: Global,
-    ends: &Arc<Ends>,
+    common: &Arc<Common>,
     lanes: &mut Vec<Lane<Socket, R>>,
     tasks: &mut Vec<Task<R>>,
     boxes: &mut Vec<Arc<Mailbox>>,
@@ -65,8 +65,8 @@ fn man_all<R: Net + Drop>(
         ≡ total seats_for tasks.old.items + total seats_of lanes.old.items) }
 {
     while let Some(lane) = lanes.pop() {
-        let ends = Arc::try_clone(ends)?;
-        let station = match Station::new(alloc, rt, ends) {
+        let common = Arc::try_clone(common)?;
+        let station = match Station::new(alloc, rt, common) {
             Ok(station) => station,
             Err(refusal) => return Err(of_start(refusal)),
         };
@@ -89,13 +89,13 @@ where
     let mut tasks = Vec::with_capacity(alloc, workers)?;
     let mut boxes = Vec::with_capacity(alloc, workers)?;
     let room = Room::new(alloc, workers)?;
-    let ends = match Arc::new(alloc, Ends::new()) {
-        Ok(ends) => ends,
+    let common = match Arc::new(alloc, Common::new()) {
+        Ok(common) => common,
         Err(_refused) => return Err(ServerFault::NoMemory),
     };
     let (filer, mut lanes) = open_lanes(rt, alloc, layout, verifier_now(&rt), workers, lanes)?;
-    man_all(&rt, alloc, &ends, &mut lanes, &mut tasks, &mut boxes)?;
-    let mail = Mail { boxes, ends };
+    man_all(&rt, alloc, &common, &mut lanes, &mut tasks, &mut boxes)?;
+    let mail = Mail { boxes, common };
     if !start_all(rt, &mut tasks, &mut threads) {
         mail.stop();
         let _lanes = join_all(&rt, threads, lanes);
@@ -125,9 +125,9 @@ fn accept<R: Wait, W: Write>(
     out: &mut W,
 ) -> Result<(), ServerFault> {
     print_address(listener, out)?;
-    match accept_all(rt, listener, connections, &mail.boxes, &mail.ends) {
+    match accept_all(rt, listener, connections, &mail.boxes, &mail.common.ends) {
         Ok(()) => {
-            mail.ends.wait_for_fewer(rt, connections, 1);
+            mail.common.ends.wait_for_fewer(rt, connections, 1);
             Ok(())
         }
         Err(fault) => Err(of_serving(fault)),

@@ -2,7 +2,7 @@
 
 ghost use Rattle.std.specs.Prelude.{◌<◌, length};
 
-use crate::ends::Ends;
+use crate::common::Common;
 use crate::keys::Keys;
 use crate::mailbox::Mailbox;
 use crate::pace::Pace;
@@ -45,7 +45,7 @@ pub(crate) struct Station {
     pub(crate) poll: Poll,
     pub(crate) events: Events,
     pub(crate) mailbox: Arc<Mailbox>,
-    pub(crate) ends: Arc<Ends>,
+    pub(crate) common: Arc<Common>,
     pub(crate) keys: Keys,
     pub(crate) buffers: Buffers,
     pub(crate) pace: Pace,
@@ -64,7 +64,7 @@ impl Drop for Station {
             poll: _,
             events: _,
             mailbox: _,
-            ends: _,
+            common: _,
             keys: _,
             buffers: _,
             pace: _,
@@ -82,11 +82,11 @@ impl From<AllocError> for StartRefusal {
 }
 
 impl Station {
-    /// A station whose connections' ends are counted there.
+    /// A station of a server whose threads share this.
     pub(crate) fn new(
         alloc: Global,
         net: &impl Net,
-        ends: Arc<Ends>,
+        common: Arc<Common>,
     ) -> Result<Station, StartRefusal> {
         let Ok(poll) = Poll::new(net) else {
             return Err(StartRefusal::NoThread);
@@ -98,7 +98,7 @@ impl Station {
             poll,
             events: Events::with_capacity(alloc, EVENTS)?,
             mailbox,
-            ends,
+            common,
             keys: Keys::new(),
             buffers: Buffers::new(alloc)?,
             pace: Pace::new(),

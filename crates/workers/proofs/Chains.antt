@@ -1,5 +1,6 @@
 -- Turns one after the other: what they come to, and what a worker keeps by them.
-use Rattle.std.proofs.Common.{◌≡◌, ℕ, Bool, true, false, List, [], ◌∷◌, ◌++◌, length, Option, Some, None, inl, inr, ⊎_elim, refl, sym, ap, ◌∙◌, subst}
+use Rattle.std.proofs.Common.{◌≡◌, ◌<◌, ℕ, Bool, true, false, List, [], ◌∷◌, ◌++◌, length, length-append, Option, Some, None, inl, inr, ⊎_elim}
+use Rattle.std.proofs.Common.{refl, sym, ap, ◌∙◌, subst, arith}
 use Rattle.std.specs.Prelude.{IfSome}
 use Rattle.crossbeam_queue.specs.Fifo.{Held}
 use Rattle.nfs_model.specs.Parts.{Hand}
@@ -50,6 +51,10 @@ pub did-snoc : (moment : Moment) (s t u : Standing) (answers : List Addressed) (
     → DidAll moment s (answers ++ a ∷ []) u
 did-snoc moment s t u [] a did done = (u, subst (λ (x : Standing). HasDoneFrom x moment a u) did done, refl)
 did-snoc moment s t u (b ∷ rest) a did done = (did.0, did.1, did-snoc moment did.0 t u rest a did.2 done)
+
+-- there is one
+pub some-answer : (answers : List Addressed) (a : Addressed) → 0 < length (answers ++ a ∷ [])
+some-answer answers a = let more = length-append answers (a ∷ []) in omega (arith, more)
 
 -- the seat's entries, balanced by a pass and what is kept
 abbrev Even : Standing → Type 0
@@ -165,7 +170,15 @@ module _ {S : Type 0} (took : S → List Addressed → S → Type 0)
     did = gone.did;
     told = gone.told;
     over = record {
-      message = m; placed = placed; pass = pass; before = l; holding = w; stands = gone.stands; ran = ran; stayed = refl; ahead = refl;
+      message = m;
+      placed = placed;
+      pass = pass;
+      before = l;
+      holding = w;
+      stands = gone.stands;
+      ran = ran;
+      stayed = refl;
+      ahead = refl;
     };
   }
   lasts sink sink1 m placed pass l l' w gone (tries.Entered e next) ran = record {
@@ -258,6 +271,7 @@ module _ {S : Type 0} (took : S → List Addressed → S → Type 0)
               back-entries layout lawful o.message o.placed moment h.between.view o.holding o.stands.tree tree (outcomes.Moved to) l' run to refl u
                   back_at,
             );
+            suits = tt;
           }
       end-served (tries.Entered e next) h ended =
           let o = h.over in
@@ -284,6 +298,7 @@ module _ {S : Type 0} (took : S → List Addressed → S → Type 0)
             did = did-snoc moment s h.between (left_standing u o.pass None) h.answers a h.did did;
             told = took_more sink sink1 sink2 h.answers (a ∷ []) h.told (ended.2 o.ran.reply o.ran.entry.told);
             left = (refl, refl, subst (λ (k : Option Message). IsAhead o.pass pass' k) (sym ended.1) o.ahead);
+            suits = some-answer h.answers a;
           }
 
 -- ---- at the begin
@@ -322,6 +337,7 @@ module _ (layout : Layout) (verifier : List ℕ) (s : Standing) (m : Message) (v
       subst (λ (x : FilerView). IsRefused layout x m.affinity (refusals.Busy at word) w) picked.view refused,
       refused-entries layout v w m.affinity (refusals.Busy at word) refused ∙ ap (λ (x : FilerView). entries_of x) picked.view,
     );
+    suits = (refl, refl);
   }
   refused-served took took_none moment sink w refusals.Worn refused = record {
     answers = [];
@@ -335,6 +351,7 @@ module _ (layout : Layout) (verifier : List ℕ) (s : Standing) (m : Message) (v
       subst (λ (x : FilerView). IsRefused layout x m.affinity refusals.Worn w) picked.view refused,
       refused-entries layout v w m.affinity refusals.Worn refused ∙ ap (λ (x : FilerView). entries_of x) picked.view,
     );
+    suits = (refl, refl);
   }
 
 -- who keeps a message has picked it
@@ -358,7 +375,7 @@ module _ {S : Type 0} (took : S → List Addressed → S → Type 0) (took_none 
       → HasTurnedOn took layout before moment sink chained sink' tried
   all-done chains.Done is did =
       let h = did.2 before (is-picked did.0 did.1) in
-      record { answers = h.answers; between = h.between; did = h.did; told = h.told; ends = h.left }
+      record { answers = h.answers; between = h.between; did = h.did; told = h.told; ends = h.left; suits = h.suits }
   all-done chains.Moved is did = absurd (let no : false ≡ true = is in cc)
   all-done (chains.Busy at word) is did = absurd (let no : false ≡ true = is in cc)
   all-done chains.Worn is did = absurd (let no : false ≡ true = is in cc)
@@ -395,6 +412,7 @@ module _ {S : Type 0} (took : S → List Addressed → S → Type 0) (took_none 
           between = h.between;
           did = h.did;
           told = h.told;
+          suits = h.suits;
           ends = (
             x.0,
             x.1,
@@ -410,6 +428,7 @@ module _ {S : Type 0} (took : S → List Addressed → S → Type 0) (took_none 
           between = h.between;
           did = h.did;
           told = h.told;
+          suits = h.suits;
           ends = (
             x.0,
             returned h.between x.0 x.0 x.1 x.2 x.4,
@@ -424,6 +443,7 @@ module _ {S : Type 0} (took : S → List Addressed → S → Type 0) (took_none 
           between = h.between;
           did = h.did;
           told = h.told;
+          suits = h.suits;
           ends = (
             x.0,
             returned h.between x.0 x.0 x.1 x.2 x.4,
@@ -440,6 +460,7 @@ module _ {S : Type 0} (took : S → List Addressed → S → Type 0) (took_none 
           between = before;
           did = refl;
           told = subst (λ (x : S). took sink [] x) (sym did.2) (took_none sink);
+          suits = (refl, did.2);
           ends = record {
             was_kept = found.0;
             kept = put_none.0;

@@ -4,6 +4,7 @@ mod Grants
 mod Served
 mod Entered
 mod Linked
+mod Few
 mod Chains
 mod Turning
 mod Started

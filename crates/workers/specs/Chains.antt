@@ -1,5 +1,5 @@
 -- What turns one after the other do, of which each but the last finishes a call.
-use Rattle.std.specs.Prelude.{◌≡◌, Bool, true, false, List, [], ◌∷◌, ◌++◌, Option, Some, None}
+use Rattle.std.specs.Prelude.{◌≡◌, ◌<◌, ◌≤◌, ◌+◌, ◌-◌, ℕ, Bool, true, false, List, [], ◌∷◌, ◌++◌, length, Option, Some, None}
 use Rattle.nfs_model.specs.Tree.{Layout}
 use Rattle.nfs_values.specs.declared.moment.Moment.{Moment}
 use Rattle.depot.specs.rule.History.{entries_of}
@@ -49,6 +49,23 @@ EndsBy layout between moment (chains.Busy at word) after = DidFrom layout betwee
 EndsBy layout between moment chains.Worn after = DidFrom layout between moment turns.Worn after
 EndsBy layout between moment chains.Idle after = DidFrom layout between moment turns.Idle after
 
+-- What is told suits the turns that finished a call: there is one where each is told to have finished its own; and none where the
+-- depot refused a message or none waited, so that nothing went into the sink either.
+abbrev pub Suits : {S : Type 0} → List Addressed → S → Chained → S → Type 0
+Suits answers sink chains.Done sink' = 0 < length answers
+Suits answers sink chains.Moved sink' = Unit {0}
+Suits answers sink (chains.Busy at word) sink' = (answers ≡ []) × (sink' ≡ sink)
+Suits answers sink chains.Worn sink' = (answers ≡ []) × (sink' ≡ sink)
+Suits answers sink chains.Idle sink' = (answers ≡ []) × (sink' ≡ sink)
+
+-- a seat finished at most so many calls more
+abbrev pub HasDoneFew : ℕ → FilerView → FilerView → Type 0
+HasDoneFew most v w = length (entries_of w) ≤ length (entries_of v) + most
+
+-- where at most so many turns are asked for: one is made at least
+abbrev pub turns_at_most : ℕ → ℕ
+turns_at_most most = 1 + (most - 1)
+
 -- Turns were made at a moment: some that each finished a call, whose answers went into the sink, in order and each once; and
 -- a last one that didn't, but where it is told that each did.
 pub record HasTurnedOn {S : Type 0} (took : S → List Addressed → S → Type 0) (layout : Layout) (before : Standing) (moment : Moment)
@@ -58,6 +75,7 @@ pub record HasTurnedOn {S : Type 0} (took : S → List Addressed → S → Type 
   pub did : DidAll moment before answers between
   pub told : took sink answers sink'
   pub ends : EndsBy layout between moment chained after
+  pub suits : Suits answers sink chained sink'
 
 -- ---- parts of a chain
 
@@ -92,6 +110,7 @@ pub record HasServedOn {S : Type 0} (took : S → List Addressed → S → Type 
   pub did : DidAll moment before answers between
   pub told : took sink answers sink'
   pub left : IsLeft layout between moment chained after
+  pub suits : Suits answers sink chained sink'
 
 -- what a refusal of the depot answers
 abbrev pub chained_by : Refusal → Chained

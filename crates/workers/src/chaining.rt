@@ -1,10 +1,11 @@
 //! Messages one after the other under one grant.
 
-ghost use Rattle.std.specs.Prelude.{◌≡◌, Some, IfSome};
+ghost use Rattle.std.specs.Prelude.{◌≡◌, ◌-◌, Some, IfSome};
 ghost use Rattle.depot.specs.Words.{view, splits_left, IsNodeOf, IsSeatHere};
 ghost use Rattle.desk.specs.Any.{node_lent};
 ghost use Rattle.workers.specs.shared_waiting.Passes.{known, IsOf};
-ghost use Rattle.workers.specs.Chains.{chained_by, left_standing, HasServedOn, IsPicked};
+ghost use Rattle.workers.specs.Chains.{chained_by, left_standing, turns_at_most};
+ghost use Rattle.workers.specs.Chains.{HasDoneFew, HasServedOn, IsPicked};
 ghost use Rattle.workers.specs.Links.{chained_so, kept_of, HasChained, Stands};
 ghost use Rattle.workers.specs.Messages.{IsPlaced};
 ghost use Rattle.workers.specs.Turns.{HasShareOf, Standing};
@@ -47,13 +48,7 @@ fn refused(refusal: Refusal) -> Chained
 
 /// Runs the call of a message on what was granted, and the next ones while they try the same node,
 /// at most so many. The last of them is still to be ended.
-fn chain<
-    N: TaskNode<Parcel<Files>, ParcelKinds>,
-    R: Wait,
-    G: Gate,
-    H: Hint,
-    S: AnswerSink,
->(
+fn chain<N: TaskNode<Parcel<Files>, ParcelKinds>, R: Wait, G: Gate, H: Hint, S: AnswerSink>(
     filer: &Filer,
     seat: &mut Seat<Service>,
     queue: &SharedWaiting<Envelope, Layout>,
@@ -78,6 +73,7 @@ fn chain<
     ensures splits { splits_left seat.new ≡ splits_left seat.old }
     ensures of { IsOf queue.now pass.new }
     ensures share { HasShareOf (known pass.old) (known pass.new) }
+    ensures few { HasDoneFew (most - 1) (view seat.old) (view seat.new) }
     ensures placed { IfSome (kept_of result) (IsPlaced (layout_in filer.now)) }
     ensures chained { let L = layout_in filer.now in (s : Standing)
         → Stands L (verifier_in filer.now) s message (known pass.old) (node_lent L grant.old)
@@ -110,13 +106,7 @@ fn told(tried: &Tried) -> Chained
 /// Begins the call of a message on what it tries, a node of this kind, runs it, and ends it; and so
 /// with the next messages under the same grant, while they try the same node.
 #[inline(never)]
-fn serve_all_on<
-    N: TaskNode<Parcel<Files>, ParcelKinds>,
-    R: Wait,
-    G: Gate,
-    H: Hint,
-    S: AnswerSink,
->(
+fn serve_all_on<N: TaskNode<Parcel<Files>, ParcelKinds>, R: Wait, G: Gate, H: Hint, S: AnswerSink>(
     filer: &Filer,
     seat: &mut Seat<Service>,
     queue: &SharedWaiting<Envelope, Layout>,
@@ -140,6 +130,7 @@ fn serve_all_on<
     ensures ready { IsReady (layout_in filer.now) (verifier_in filer.now) (view seat.new) }
     ensures of { IsOf queue.now pass.new }
     ensures share { HasShareOf (known pass.old) (known pass.new) }
+    ensures few { HasDoneFew (turns_at_most most) (view seat.old) (view seat.new) }
     ensures placed { IfSome result.kept (IsPlaced (layout_in filer.now)) }
     ensures served { (s : Standing)
         → IsPicked s (view seat.old) (known pass.old) message
@@ -191,6 +182,7 @@ pub(crate) fn serve_all<R: Wait, G: Gate, H: Hint, S: AnswerSink>(
     ensures ready { IsReady (layout_in filer.now) (verifier_in filer.now) (view seat.new) }
     ensures of { IsOf queue.now pass.new }
     ensures share { HasShareOf (known pass.old) (known pass.new) }
+    ensures few { HasDoneFew (turns_at_most most) (view seat.old) (view seat.new) }
     ensures placed { IfSome result.kept (IsPlaced (layout_in filer.now)) }
     ensures served { (s : Standing)
         → IsPicked s (view seat.old) (known pass.old) message

@@ -26,7 +26,7 @@ use crate::turned::{Gate, Place, Stage};
 use affinity_tree::{Affinity, Layout};
 use depot::Seat;
 use desk::{NodeGrant, ParcelKinds, TaskNode, finish_node, go_on_node, put_back_node};
-use nfs_values::{Moment, Reply};
+use nfs_values::{Moment, Refusal, Reply};
 use parcel_sets::{Node, Parcel};
 use parcels::Files;
 use rpc_msg::{replies_fit, servers_are_roomy};
@@ -65,7 +65,8 @@ pub(crate) fn try_on<N: TaskNode<Parcel<Files>, ParcelKinds>, G: Gate>(
     match run_on::<N, G>(filer, grant, &message, moment, gate) {
         Outcome::Replied(reply) => Tried::Entered(enter(message, moment, reply, false), None),
         Outcome::Starved => {
-            Tried::Entered(enter(message, moment, Reply::SystemError, true), None)
+            let reply = Reply::Refused(Refusal::SystemError);
+            Tried::Entered(enter(message, moment, reply, true), None)
         }
         Outcome::Moved(affinity) => Tried::Moved(message, affinity),
     }

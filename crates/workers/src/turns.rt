@@ -17,9 +17,9 @@ impl Worker {
     ghost use Rattle.workers.specs.declared.chained.Chained.TheVariants.{Idle};
     ghost use Rattle.workers.specs.shared_waiting.Balance.{both, Leaves};
     ghost use Rattle.workers.specs.shared_waiting.Passes.{known, IsOf};
-    ghost use Rattle.workers.specs.Chains.{HasTriedAll, HasTurnedOn};
+    ghost use Rattle.workers.specs.Chains.{turns_at_most, HasDoneFew, HasTriedAll, HasTurnedOn};
     ghost use Rattle.workers.specs.Turns.{standing_of, HasShareOf};
-    ghost use Rattle.workers.specs.Words.{layout_in, passed, seats_in, IsAt};
+    ghost use Rattle.workers.specs.Words.{layout_in, passed, seat_view, seats_in, IsAt};
 
     /// Tries the message that is kept, if one is, and then those that wait and try the same node,
     /// at most so many. What is kept then: the last where it isn't finished, or else one that was
@@ -39,6 +39,7 @@ impl Worker {
         ensures inside { IsAt filer.now queue.now self.new }
         ensures tried { HasTriedAll S.took (layout_in filer.now) (standing_of self.old) moment
             sink.old result sink.new (standing_of self.new) }
+        ensures few { HasDoneFew (turns_at_most most) (seat_view self.old) (seat_view self.new) }
         ensures share { HasShareOf (passed self.old) (passed self.new) }
         ensures seats { seats_in self.new ≡ seats_in self.old }
         ensures hand { self.new.hand ≡ self.old.hand }
@@ -88,6 +89,7 @@ impl Worker {
         ensures other { IsOf queue.now other.new × (known other.new ≡ known other.old) }
         ensures turned { HasTurnedOn S.took (layout_in filer.now) (standing_of self.old) moment
             sink.old result sink.new (standing_of self.new) }
+        ensures few { HasDoneFew (turns_at_most most) (seat_view self.old) (seat_view self.new) }
         ensures none { result ≡ Idle
             → Held 0 (Leaves (both (passed self.old) (known other.old))) }
         ensures share { HasShareOf (passed self.old) (passed self.new) }

@@ -70,7 +70,7 @@ impl Reads {
             return Ok(false);
         }
         match read_in_stripe(self.alloc, &self.held, FILE, offset, self.count)? {
-            Ok(results) => Ok(results.bytes.len() == self.count as usize),
+            Ok(results) => Ok(results.bytes.as_slice().len() == self.count as usize),
             Err(_status) => Ok(false),
         }
     }

@@ -4,21 +4,17 @@ use Rattle.nfs_model.specs.Types as types
 use Rattle.nfs_model.specs.Tree.{Layout}
 use Rattle.nfs_model.specs.Serial.AtOnce.{answer_without_home}
 use Rattle.nfs_values.specs.declared.call.Call.{Call}
-use Rattle.nfs_values.specs.declared.reply.Reply.{Reply}
 use Rattle.nfs_values.specs.Call.{call_of}
-use Rattle.nfs_values.specs.Reply.{reply_of}
 use Rattle.rpc_msg.specs.Replies.{reply_record}
 use Rattle.rpc_msg.specs.Room.{refusal_room, reply_room}
 use Rattle.outboxes.specs.Boxes.{most_bytes}
 use Rattle.outboxes.specs.Messages.{message, record_of}
 use Rattle.outboxes.specs.lemmas.Messages.{record_is}
 
-pub refused-fits : (xid : ℕ) (told reply : Reply) → told ≡ reply → length (reply_record xid (reply_of reply)) ≤ refusal_room
-    → length (record_of (message xid (reply_of told))) ≤ most_bytes
-refused-fits xid told reply e fits =
-    let there = ap (λ (r : Reply). length (record_of (message xid (reply_of r)))) e in
-    let same = ap (λ (l : List ℕ). length l) (record_is xid (reply_of reply)) in
-    omega (arith, there, same, fits)
+pub refused-fits : (xid : ℕ) (reply : types.Reply) → length (reply_record xid reply) ≤ refusal_room → length (record_of (message xid reply)) ≤ most_bytes
+refused-fits xid reply fits =
+    let same = ap (λ (l : List ℕ). length l) (record_is xid reply) in
+    omega (arith, same, fits)
 
 pub at-once-fits : (layout : Layout) (xid : ℕ) (call : Call) (asked : Call) (answer : types.Answer) (volumes room : ℕ)
     → answer ≡ answer_without_home layout (call_of call) → asked ≡ call → volumes ≡ length layout.volumes

@@ -1,5 +1,5 @@
 -- The history of an engine's only seat, as callers see it, and what it says of the world.
-use Rattle.std.specs.Prelude.{◌≡◌, ℕ, List, [], ◌∷◌, length, map, Option, Some, None}
+use Rattle.std.specs.Prelude.{◌≡◌, ℕ, List, [], ◌∷◌, length, Option, Some, None}
 use Rattle.nfs_model.specs.Tree.{Layout}
 use Rattle.nfs_model.specs.Replay.{server_after}
 use Rattle.nfs_model.specs.World.{Setup, World, Running, Worker}

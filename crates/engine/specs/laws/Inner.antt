@@ -10,7 +10,6 @@ use Rattle.depot.specs.rule.History.{patched}
 use Rattle.depot.specs.Grants.{entry_of}
 use Rattle.desk.specs.laws.Books.{settled, now, stamps, HasLent, IsTaken, UnderLent, IsSettled}
 use Rattle.parcels.specs.state.Parcels.{FilerParcel}
-use Rattle.parcels.specs.state.Jobs as jobs
 use Rattle.parcels.specs.state.Jobs.{InnerCall, Inner, Job, JobReply, Took, gives, batches_in, inner_node, inner_volume, InnerMoves}
 use Rattle.parcels.specs.state.Deeds.{FilerSteps}
 use Rattle.engine.specs.laws.Store.{FilerBooks, filer}

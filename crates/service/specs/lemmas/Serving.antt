@@ -317,7 +317,7 @@ moved-there layout a credential moment (calls.Write handle offset count bytes) t
     let v : ℕ = volume_around a in
     let c = call_on layout a credential moment (call_of (calls.Write handle offset count bytes)) in
     let up : (other ≡ Logical v) ⊎ (other ≡ Volume v) =
-    moves-up a (parts_of p) (ready_at (Some (located_on c p)) offset count (length bytes.items)) other e in (
+    moves-up a (parts_of p) (ready_at (Some (located_on c p)) offset count (length bytes)) other e in (
       node-above layout v other (node-within layout a v here.above there) up,
       (tt, inr (subst (λ (named : Option Named). RunsAbove named other) (sym here.names) up)),
     )

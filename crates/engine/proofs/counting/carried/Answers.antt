@@ -1,4 +1,4 @@
-use Rattle.std.proofs.Common.{◌≡◌, length, sym, ap, ◌∙◌}
+use Rattle.std.proofs.Common.{length, sym, ap, ◌∙◌}
 use Rattle.nfs_model.specs.Parts.{hand_blocks}
 use Rattle.engine.specs.declared.worker.Worker.{Worker}
 use Rattle.engine.proofs.Counted.{carried-more, carried-all}

@@ -1,11 +1,11 @@
 -- An inner call is made on a desk: it begins, runs on what was lent, and is finished or put back.
-use Rattle.std.proofs.Common.{◌≡◌, ◌≢◌, ℕ, zero, suc, ◌+◌, ◌<◌, List, [], ◌∷◌, ◌++◌, Option, Some, None, refl, sym, ap, ◌∙◌}
+use Rattle.std.proofs.Common.{◌≡◌, ◌≢◌, ℕ, zero, suc, ◌<◌, List, [], ◌∷◌, ◌++◌, Some, None, refl, sym, ap, ◌∙◌}
 use Rattle.std.proofs.Common.{subst, arith}
 use Rattle.std.specs.Prelude.{slice_set}
 use mathlib.Core.Option.{some, some-injective}
 use lib.ListN.{get_elem?}
 use Rattle.atomic_table.proofs.Lists.{set_here, set_else, set_again}
-use Rattle.nfs_model.specs.Tree.{Layout, Affinity}
+use Rattle.nfs_model.specs.Tree.{Layout}
 use Rattle.nfs_model.specs.Parts.{Hand}
 use Rattle.affinity_tree.specs.Fault.{fault_of}
 use Rattle.affinity_tree.specs.Tree.{IsNode}
@@ -19,11 +19,11 @@ use Rattle.depot.specs.rule.lemmas.Sums.{total-append}
 use Rattle.depot.specs.rule.History.{patched}
 use Rattle.depot.specs.rule.lemmas.Trees.{cover-excludes}
 use Rattle.depot.specs.Grants.{entry_of}
-use Rattle.desk.specs.laws.Books.{Lent, settled, now, stamps, HasLent, IsIdle, UnderLent, IsUnchanged, HasHands, IsSettled}
+use Rattle.desk.specs.laws.Books.{Lent, settled, now, stamps, HasLent, IsIdle, UnderLent, HasHands, IsSettled}
 use Rattle.desk.specs.laws.Calls.{Does, with_lent, HasBegun, HasWorked, MayFinish, HasFinished, MayPutBack, HasPutBack}
 use Rattle.desk.specs.laws.lemmas.Overlays.{overlaid-here}
 use Rattle.desk.specs.laws.lemmas.Seats.{at-length}
-use Rattle.desk.specs.laws.lemmas.Beside.{lent-here, begun-fresh, still-fresh, work-lent, work-done, hands-still}
+use Rattle.desk.specs.laws.lemmas.Beside.{lent-here, begun-fresh, still-fresh, work-lent, work-done}
 use Rattle.parcels.specs.state.Parcels.{FilerParcel}
 use Rattle.parcels.specs.state.Contents.{filer_contents}
 use Rattle.parcels.specs.state.Sound.{AreSound, AllSound}

@@ -1,16 +1,14 @@
 -- An inner call that was made: the books stand for the world after it, and it did what the model says.
-use Rattle.std.proofs.Common.{◌≡◌, ℕ, zero, suc, ◌+◌, ◌*◌, ◌/◌, ◌<◌, ◌≤◌, Bool, true, false, List, [], ◌∷◌, ◌++◌, length, map, Option, Some, None}
+use Rattle.std.proofs.Common.{◌≡◌, ℕ, zero, suc, ◌+◌, ◌*◌, ◌/◌, ◌<◌, ◌≤◌, false, List, [], ◌∷◌, ◌++◌, length, Option, Some, None}
 use Rattle.std.proofs.Common.{refl, sym, ap, ◌∙◌, subst, arith}
 use Rattle.std.proofs.lemmas.Bool.Decides.{nat_tests}
 use Rattle.std.specs.Prelude.{slice_get, slice_set, option_map, nat_lt}
 use Rattle.std.proofs.lemmas.List.{length-append, append-nil}
 use Rattle.std.proofs.lemmas.Option.{slice_get-map}
-use Rattle.nfs_model.specs.Tree.{Layout, Range}
-use Rattle.nfs_model.specs.Server.{VolumeState, Server}
-use Rattle.nfs_model.specs.Parts.{Parts, Hand, Empty, range_blocks}
+use Rattle.nfs_model.specs.Tree.{Layout}
+use Rattle.nfs_model.specs.Server.{Server}
+use Rattle.nfs_model.specs.Parts.{Hand, Empty, range_blocks}
 use Rattle.nfs_model.specs.World.{Setup, World, Worker, changed_at, with_hand}
-use Rattle.nfs_model.specs.Headline.{start}
-use Rattle.nfs_model.specs.Replay.{server_after}
 use Rattle.nfs_model.specs.Events.Refusals.{excluded, is_range_in_use}
 use Rattle.affinity_tree.specs.Fault.{fault_of}
 use Rattle.affinity_tree.specs.Tree.{IsNode}
@@ -22,9 +20,9 @@ use Rattle.depot.specs.rule.lemmas.Sums.{total-append}
 use Rattle.depot.specs.rule.History.{patched, put_in, Legal}
 use Rattle.depot.specs.rule.lemmas.Histories.{after-snoc, legal-snoc, moved-snoc}
 use Rattle.depot.specs.Grants.{entry_of}
-use Rattle.desk.specs.laws.Books.{Lent, settled, now, stamps, HasHands, IsSettled}
+use Rattle.desk.specs.laws.Books.{Lent, settled, now, stamps, HasHands}
 use Rattle.parcels.specs.state.Parcels.{FilerParcel}
-use Rattle.parcels.specs.state.Contents.{VolumeContents, FilerContents, volume_at, contents_of, filer_contents}
+use Rattle.parcels.specs.state.Contents.{VolumeContents, volume_at, contents_of, filer_contents}
 use Rattle.parcels.specs.state.Tree.{tree, server_of, volume_of, ranges_used}
 use Rattle.parcels.specs.state.Partition.{all_parts, parts_of}
 use Rattle.parcels.specs.state.Sound.{AllSound}
@@ -35,7 +33,7 @@ use Rattle.parcels.specs.state.Deeds.{DoesInner, FilerSteps}
 use Rattle.parcels.specs.state.Running.{IsRefusedIn, IsRefusedOn}
 use Rattle.parcels.specs.laws.lemmas.Each.{each-get}
 use Rattle.parcels.specs.laws.lemmas.Lawful.{entry-does}
-use Rattle.engine.specs.laws.Store.{FilerBooks, filer, RunsOn, RunOn, IsApart, StandsFor, batches_carried, calls_served, with_served}
+use Rattle.engine.specs.laws.Store.{FilerBooks, filer, RunOn, IsApart, StandsFor, batches_carried, calls_served, with_served}
 use Rattle.engine.specs.laws.Inner.{IsFree, HasMade, HasMoved, hand_after}
 use Rattle.engine.specs.laws.lemmas.Agreeing.{sound-settled, now-served}
 use Rattle.engine.specs.laws.lemmas.Beginning.{told-free}

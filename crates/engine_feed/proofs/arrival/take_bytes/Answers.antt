@@ -108,8 +108,8 @@ returns-in-Undecoded-clause-takes c =
       faultless = c.requires.taking.faultless;
     }
 
-pub returns-clause-takes : goal.returns-clause-takes
-returns-clause-takes c =
+pub returns-in-Fault-read_record-clause-takes : goal.returns-in-Fault-read_record-clause-takes
+returns-in-Fault-read_record-clause-takes c =
     let from = c.args.from.now in
     let taken = c.feed-taken.result.0 in
     let t = took_as from c.args.bytes.now taken c.feed-taken.result.1 (steps.Record c.in-Record.record) c.feed-taken.new.self c.requires.in_step

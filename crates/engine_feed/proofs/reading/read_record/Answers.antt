@@ -1,10 +1,8 @@
 use Rattle.std.proofs.Common.{Result, Ok, Err, sym, ap, subst, ◌∙◌}
 use Rattle.nfs_model.specs.Types as types
 use Rattle.nfs_values.specs.declared.call.Call.{Call}
-use Rattle.nfs_values.specs.declared.reply.Reply.{Reply}
 use Rattle.nfs_values.specs.Call.{call_of}
 use Rattle.nfs_values.specs.Credential.{credential_of}
-use Rattle.nfs_values.specs.Reply.{reply_of}
 use Rattle.rpc_msg.specs.declared.fault.RecordFault.{RecordFault}
 use Rattle.rpc_msg.specs.declared.record.Heard.{Heard}
 use Rattle.rpc_msg.specs.declared.record.Request.{Request}
@@ -13,7 +11,7 @@ use Rattle.rpc_msg.specs.Seen.{Hears, Tells}
 use Rattle.engine_feed.specs.declared.stop.StreamFault.{StreamFault}
 use Rattle.engine_feed.specs.Numbers.{fault_number}
 use Rattle.engine_feed.specs.lemmas.Codec.{heard_is}
-use Rattle.engine_feed.proofs.Records.{numbers-same, heard-is-offered, refused-refuses}
+use Rattle.engine_feed.proofs.Records.{numbers-same, heard-is-offered}
 use Rattle.engine_feed.proofs.reading.read_record.Goals as goal
 
 pub returns-in-Err : goal.returns-in-Err

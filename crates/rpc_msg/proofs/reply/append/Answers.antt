@@ -4,9 +4,3 @@ use Rattle.rpc_msg.proofs.reply.append.Goals as goal
 pub returns-in-Success-clause-items : goal.returns-in-Success-clause-items
 returns-in-Success-clause-items c =
     rw (c.in-Success.is, rw c.unwrap.ensures at c.encode_result.ensures.ok, c.write_accepted.ensures.items) (simp append_assoc)
-
-pub returns-in-ProgramMismatch-clause-items : goal.returns-in-ProgramMismatch-clause-items
-returns-in-ProgramMismatch-clause-items c = rw c.in-ProgramMismatch.is c.write_accepted-in-ProgramMismatch.ensures.items
-
-pub returns-in-RpcMismatch-clause-items : goal.returns-in-RpcMismatch-clause-items
-returns-in-RpcMismatch-clause-items c = rw c.in-RpcMismatch.is c.write_denied.ensures.items

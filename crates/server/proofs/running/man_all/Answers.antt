@@ -37,8 +37,8 @@ loop-lane-preserved g c =
       seats = handed seats_for seats_of ts us all rest _ x is was refl ∙ i.seats;
     }
 
-pub returns-in_err-ends-clause-of : goal.returns-in_err-ends-clause-of
-returns-in_err-ends-clause-of g c filer lanes tasks = (c.loop-lane.invariant.of filer lanes tasks).1
+pub returns-in_err-common-clause-of : goal.returns-in_err-common-clause-of
+returns-in_err-common-clause-of g c filer lanes tasks = (c.loop-lane.invariant.of filer lanes tasks).1
 
 pub returns-in-Err-clause-of : goal.returns-in-Err-clause-of
 returns-in-Err-clause-of g c filer lanes tasks = (c.loop-lane.invariant.of filer lanes tasks).1

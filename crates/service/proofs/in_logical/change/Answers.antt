@@ -46,9 +46,9 @@ returns-in-Write-clause-runs c =
     let asked = c.in-Write in
     let told = c.write_in_logical-told in
     writing-runs (layout_of c.args.layout.now) n.volume logical_lens (Logical n.volume) n.fileid c.args.run.call.now asked.handle asked.offset asked.count
-    asked.bytes.items c.as_slice-written.result.now (credential_of c.args.run.credential) (moment_of c.args.run.moment) (logical_before c.args.held.now)
+    asked.bytes c.as_slice-written.result.now (credential_of c.args.run.credential) (moment_of c.args.run.moment) (logical_before c.args.held.now)
     (logical_after c.args.held.now told.new.held) (outcome_of c.outcome_written.result) (written_outcome n.volume told.result) (ap call_of asked.is)
-    c.as_slice-written.ensures.value c.outcome_written.ensures (told.ensures.right n.volume asked.handle)
+    c.as_slice-written.ensures c.outcome_written.ensures (told.ensures.right n.volume asked.handle)
 
 pub returns-in-Write-clause-moved : goal.returns-in-Write-clause-moved
 returns-in-Write-clause-moved c =

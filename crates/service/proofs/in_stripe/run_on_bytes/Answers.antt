@@ -46,9 +46,9 @@ returns-in-Write-clause-runs c layout =
     let asked = c.in-Write in
     let told = c.write_in_stripe-told in
     let lies = subst (λ (call : Call). BytesLieIn s.stripes i f (call_of call)) asked.is c.requires.bytes in
-    writing-runs layout v (stripe_lens i) (Stripe v i) f c.args.run.call.now asked.handle asked.offset asked.count asked.bytes.items
+    writing-runs layout v (stripe_lens i) (Stripe v i) f c.args.run.call.now asked.handle asked.offset asked.count asked.bytes
     c.as_slice-written.result.now (credential_of c.args.run.credential) (moment_of c.args.run.moment) s told.new.held.own
-    (outcome_of c.outcome_written_in_stripe.result) (writing_outcome v told.result) (ap call_of asked.is) c.as_slice-written.ensures.value
+    (outcome_of c.outcome_written_in_stripe.result) (writing_outcome v told.result) (ap call_of asked.is) c.as_slice-written.ensures
     c.outcome_written_in_stripe.ensures (told.ensures.right v i asked.handle c.requires.there lies)
 
 pub returns-in-Write-clause-moved : goal.returns-in-Write-clause-moved

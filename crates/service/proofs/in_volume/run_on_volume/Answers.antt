@@ -33,8 +33,8 @@ returns-in-Write-clause-runs c =
     let new = volume_after c.args.held.now told.new.held in
     let outcome = outcome_of c.outcome_written.result in
     runs-here L v volume_lens (Volume v) f (call_of call) credential moment old new outcome c.fileid_here-fileid.ensures
-    (writing-runs L v volume_lens (Volume v) f call asked.handle asked.offset asked.count asked.bytes.items c.as_slice-written.result.now credential moment
-    old new outcome (written_outcome v told.result) (ap call_of asked.is) c.as_slice-written.ensures.value c.outcome_written.ensures
+    (writing-runs L v volume_lens (Volume v) f call asked.handle asked.offset asked.count asked.bytes c.as_slice-written.result.now credential moment
+    old new outcome (written_outcome v told.result) (ap call_of asked.is) c.as_slice-written.ensures c.outcome_written.ensures
     (told.ensures.right v asked.handle))
 
 pub returns-in-FilesystemStatus-clause-runs : goal.returns-in-FilesystemStatus-clause-runs

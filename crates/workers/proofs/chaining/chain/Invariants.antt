@@ -1,7 +1,9 @@
-use Rattle.std.proofs.Common.{◌≡◌}
+use Rattle.std.proofs.Common.{◌≡◌, ◌≤◌, ◌+◌, length}
+use Rattle.depot.specs.rule.History.{entries_of}
 use Rattle.depot.specs.Words.{view, splits_left, IsSeatHere}
 use Rattle.desk.specs.Any.{node_lent}
 use Rattle.workers.specs.shared_waiting.Passes.{known, IsOf}
+use Rattle.workers.specs.Chains.{turns_at_most}
 use Rattle.workers.specs.Links.{HasGoneSo, Stands}
 use Rattle.workers.specs.Messages.{IsPlaced}
 use Rattle.workers.specs.Turns.{HasShareOf, Standing}
@@ -15,6 +17,8 @@ invariant-loop-link g l = record {
   splits : splits_left l.seat ≡ splits_left l.fn.seat;
   of : IsOf l.queue l.pass;
   share : HasShareOf (known l.fn.pass) (known l.pass);
+  up : l._link ≤ turns_at_most l.most;
+  few : length (entries_of (view l.seat)) + 1 ≤ length (entries_of (view l.fn.seat)) + l._link;
   placed : IsPlaced (layout_in l.filer) l.message;
   gone : (s : Standing)
       → Stands (layout_in l.filer) (verifier_in l.filer) s l.fn.message (known l.fn.pass) (node_lent (layout_in l.filer) l.fn.grant) (view l.fn.seat)

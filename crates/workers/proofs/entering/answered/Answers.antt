@@ -19,4 +19,4 @@ pub returns : goal.returns
 returns c reply is =
     c.new-answer.ensures
     ∙ ap (λ (r : Reply). addressed c.args.entry.origin.connection.0 (replies.message c.args.entry.origin.xid (reply_of r)))
-        (sym (one-reply reply c.into_reply-reply.result c.args.entry.told is c.into_reply-reply.ensures))
+    (sym (one-reply reply c.into_reply-reply.result c.args.entry.told is c.into_reply-reply.ensures))

@@ -1,5 +1,6 @@
 use Rattle.std.proofs.Common.{true, false, refl, subst}
-use Rattle.nfs_values.specs.declared.reply.Reply.TheVariants.{SystemError}
+use Rattle.nfs_values.specs.declared.reply.Refusal.TheVariants.{SystemError}
+use Rattle.nfs_values.specs.declared.reply.Reply.TheVariants.{Refused}
 use Rattle.desk.specs.Any.{node_lent}
 use Rattle.service.specs.declared.outcome.Outcome.{Outcome}
 use Rattle.workers.specs.Runs.{HasRunFrom}
@@ -27,7 +28,7 @@ returns-in-Starved g c = record {
     refl,
     record {
       outcome = c.run_on.result;
-      reply = SystemError;
+      reply = Refused SystemError;
       starved = true;
       is = (c.in-Starved.is, refl);
       ran = c.run_on.ensures.ran;

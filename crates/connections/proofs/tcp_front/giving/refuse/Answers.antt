@@ -1,5 +1,3 @@
-use Rattle.std.proofs.Common.{refl}
-use Rattle.nfs_values.specs.declared.reply.Reply.TheVariants.{Refused}
 use Rattle.nfs_values.specs.Reply.{refusal_of}
 use Rattle.rpc_msg.specs.lemmas.Refusals.{refusal_is}
 use Rattle.connections.proofs.tcp_front.Fitting.{refused-fits}
@@ -7,5 +5,5 @@ use Rattle.connections.proofs.tcp_front.giving.refuse.Goals as goal
 
 pub answer-requires : goal.answer-requires
 answer-requires g c =
-    refused-fits c.args.origin.xid _ (Refused c.args.refusal) refl
-    (c.refusals_fit.ensures.room (refusal_of c.args.refusal) c.args.origin.xid (refusal_is c.args.refusal))
+    let reply = refusal_of c.args.refusal in
+    refused-fits c.args.origin.xid reply (c.refusals_fit.ensures.room reply c.args.origin.xid (refusal_is c.args.refusal))

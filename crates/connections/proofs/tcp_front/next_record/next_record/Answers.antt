@@ -1,4 +1,4 @@
-use Rattle.std.proofs.Common.{List, ℕ, take, subst}
+use Rattle.std.proofs.Common.{take, subst}
 use Rattle.rpc_record.specs.declared.reassembler.Step.{Step}
 use Rattle.rpc_record.specs.Feeds.{Feeds, given}
 use Rattle.connections.proofs.tcp_front.Adding.{Reads, comes-next, comes-fault}

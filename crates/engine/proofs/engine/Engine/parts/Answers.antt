@@ -1,4 +1,4 @@
-use Rattle.std.proofs.Common.{◌≡◌, ◌≤◌, length, refl, sym, ap, ◌∙◌, rules}
+use Rattle.std.proofs.Common.{length, refl, ap, ◌∙◌, rules}
 use Rattle.nfs_model.specs.World.{hands_blocks, counts_of}
 use Rattle.std.specs.Prelude.{map, Some}
 use Rattle.engine.specs.Seen.{worker_seen}

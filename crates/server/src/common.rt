@@ -1,0 +1,29 @@
+//! What the threads of a server share.
+
+use crate::ends::Ends;
+use workers::Wanted;
+
+/// What the threads of a server share.
+pub(crate) struct Common {
+    /// The connections that have ended.
+    pub(crate) ends: Ends,
+    /// Word that a lane leaves where another has what it tries.
+    pub(crate) wanted: Wanted,
+}
+
+// By hand, so that crates above have no proof of the drop of each of its parts.
+impl Drop for Common {
+    fn drop(self) {
+        let Common { ends: _, wanted: _ } = self;
+    }
+}
+
+impl Common {
+    /// Before the first connection.
+    pub(crate) fn new() -> Common {
+        Common {
+            ends: Ends::new(),
+            wanted: Wanted::new(),
+        }
+    }
+}
