@@ -1,6 +1,6 @@
 //! The calls and replies that are measured.
 
-ghost use Rattle.std.specs.Prelude.{◌≡◌, length, IfOk};
+ghost use Rattle.std.specs.Prelude.{◌≡◌, ◌≤◌, length, IfOk};
 ghost use Rattle.bench.specs.Fits.{FitsRecord};
 
 use nfs_values::{
@@ -123,12 +123,13 @@ pub fn write(alloc: Global) -> Result<Sample, AllocError>
     })
 }
 
-/// The data of a READ of 64 KiB.
-fn data(alloc: Global) -> Result<BytesRead, AllocError>
-    ensures { IfOk result (λ bytes. length bytes ≡ 65536) }
+/// The data of a READ of so many bytes.
+fn data(alloc: Global, count: usize) -> Result<BytesRead, AllocError>
+    requires { count ≤ 131072 }
+    ensures { IfOk result (λ bytes. length bytes ≡ count) }
 {
-    let mut place = room_to_read(alloc, DATA)?;
-    place.extend_from_slice(&vec![in alloc; 7; DATA]?)?;
+    let mut place = room_to_read(alloc, count)?;
+    place.extend_from_slice(&vec![in alloc; 7; count]?)?;
     Ok(BytesRead::new(place))
 }
 
@@ -142,7 +143,7 @@ pub fn read(alloc: Global) -> Result<Sample, AllocError>
         record: record(alloc, &[0, 0, DATA as u32], 0)?,
         reply: Reply::Success(Answer::Read(Ok(ReadResults {
             eof: false,
-            bytes: data(alloc)?,
+            bytes: data(alloc, DATA)?,
         }))),
     })
 }
