@@ -37,6 +37,15 @@ pub trait Encode {
         ensures capacity { vec_capacity out.old ≤ vec_capacity out.new };
 }
 
+/// Appends bytes for which there is room.
+pub(crate) fn append(out: &mut Vec<u8>, bytes: &[u8])
+    requires { vec_len out.old + length bytes.now ≤ vec_capacity out.old }
+    ensures items { out.new.items ≡ out.old.items ++ bytes.now }
+    ensures capacity { vec_capacity out.old ≤ vec_capacity out.new }
+{
+    out.extend_from_slice(bytes).unwrap();
+}
+
 impl Encode for u32 {
     ghost shape = { Word };
 
@@ -249,9 +258,28 @@ impl Encode for Moment {
     }
 
     fn write(&self, out: &mut Vec<u8>) {
-        self.seconds.write(out);
-        self.nanoseconds.write(out);
+        append(out, &two_words(self.seconds, self.nanoseconds));
     }
+}
+
+/// The bytes of two words.
+fn two_words(first: u32, second: u32) -> [u8; 8]
+    ensures { result ≡ spelling Word first ++ spelling Word second }
+{
+    let mut bytes = [0; 8];
+    bytes[..4].copy_from_slice(&first.to_be_bytes());
+    bytes[4..].copy_from_slice(&second.to_be_bytes());
+    bytes
+}
+
+/// The bytes of two hypers.
+fn two_hypers(first: u64, second: u64) -> [u8; 16]
+    ensures { result ≡ spelling Hyper first ++ spelling Hyper second }
+{
+    let mut bytes = [0; 16];
+    bytes[..8].copy_from_slice(&first.to_be_bytes());
+    bytes[8..].copy_from_slice(&second.to_be_bytes());
+    bytes
 }
 
 impl Encode for FileKind {
@@ -278,10 +306,15 @@ impl Encode for Attributes {
     }
 
     fn write(&self, out: &mut Vec<u8>) {
-        let times = (self.atime, (self.mtime, self.ctime));
-        let place = ((0u32, 0u32), (self.fsid, (self.fileid, times)));
-        let owner = (self.uid, (self.gid, (self.size, (self.used, place))));
-        (self.kind, (self.mode, (self.links, owner))).write(out)
+        append(out, &two_words(self.kind.word(), self.mode));
+        append(out, &two_words(self.links, self.uid));
+        self.gid.write(out);
+        append(out, &two_hypers(self.size, self.used));
+        append(out, &[0; 8]);
+        append(out, &two_hypers(self.fsid, self.fileid.0));
+        self.atime.write(out);
+        self.mtime.write(out);
+        self.ctime.write(out);
     }
 }
 

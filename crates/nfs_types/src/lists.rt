@@ -1,6 +1,6 @@
 //! Lists in results.
 
-ghost use Rattle.std.specs.Prelude.{◌≡◌, ◌+◌, ◌-◌, ◌≤◌, ◌<◌, ◌^◌, ◌++◌, length, map, replicate};
+ghost use Rattle.std.specs.Prelude.{◌≡◌, ◌+◌, ◌≤◌, ◌<◌, ◌^◌, ◌++◌, length, map, replicate};
 ghost use Rattle.std.specs.Prelude.{vec_len, vec_capacity};
 ghost use Rattle.std.specs.List.{flat_map};
 ghost use Rattle.xdr.specs.Shape.{Chain, Hyper, Word, padding, spelling};
@@ -9,7 +9,7 @@ ghost use Rattle.nfs_values.specs.Answer.{entry_of, count_of};
 ghost use Rattle.nfs_types.specs.Results.{entry_shape, entry_value, readdir_shape, readdir_value};
 ghost use Rattle.nfs_types.specs.Results.{count_shape, count_value, census_shape};
 
-use crate::encode::{Encode, size_of_present, write_present};
+use crate::encode::{Encode, append, size_of_present, write_present};
 use nfs_values::{Cookie, DirectoryEntry, Fileid, ReadDirectoryResults, Verifier, VolumeCount};
 
 impl Encode for DirectoryEntry {
@@ -25,18 +25,9 @@ impl Encode for DirectoryEntry {
         let name = self.name.as_bytes();
         append(out, &before_name(self.fileid, name.len() as u32));
         append(out, name);
-        let behind = behind_name(self.cookie);
-        append(out, &behind[padding_left_out(name.len())..]);
+        pad(out, name.len());
+        self.cookie.write(out);
     }
-}
-
-/// Appends bytes for which there is room.
-fn append(out: &mut Vec<u8>, bytes: &[u8])
-    requires { vec_len out.old + length bytes.now ≤ vec_capacity out.old }
-    ensures items { out.new.items ≡ out.old.items ++ bytes.now }
-    ensures capacity { vec_capacity out.old ≤ vec_capacity out.new }
-{
-    out.extend_from_slice(bytes).unwrap();
 }
 
 /// What stands before the bytes of an entry's name: its fileid, and how many they are.
@@ -49,21 +40,26 @@ fn before_name(fileid: Fileid, size: u32) -> [u8; 12]
     before
 }
 
-/// What stands behind the bytes of an entry's name where it has three bytes of padding: these, and
-/// its cookie.
-fn behind_name(cookie: Cookie) -> [u8; 11]
-    ensures { result ≡ replicate 3 0 ++ spelling Hyper cookie.0 }
+/// Appends the padding of so many bytes, for which there is room: a few bytes of a known number
+/// are written without a call.
+fn pad(out: &mut Vec<u8>, size: usize)
+    requires { vec_len out.old + padding size ≤ vec_capacity out.old }
+    ensures items { out.new.items ≡ out.old.items ++ replicate (padding size) 0 }
+    ensures capacity { vec_capacity out.old ≤ vec_capacity out.new }
 {
-    let mut behind = [0; 11];
-    behind[3..].copy_from_slice(&cookie.0.to_be_bytes());
-    behind
-}
-
-/// How many of three bytes of padding a name of so many bytes doesn't have.
-fn padding_left_out(size: usize) -> usize
-    ensures { result ≡ 3 - padding size }
-{
-    3 - (4 - size % 4) % 4
+    let past = size % 4;
+    if past == 0 {
+        return;
+    }
+    if past == 1 {
+        append(out, &[0; 3]);
+        return;
+    }
+    if past == 2 {
+        append(out, &[0; 2]);
+        return;
+    }
+    append(out, &[0]);
 }
 
 /// How many bytes the entries of a directory take.

@@ -1,5 +1,5 @@
 -- Turns one after the other: what they come to, and what a worker keeps by them.
-use Rattle.std.proofs.Common.{◌≡◌, ◌<◌, ℕ, Bool, true, false, List, [], ◌∷◌, ◌++◌, length, length-append, Option, Some, None, inl, inr, ⊎_elim}
+use Rattle.std.proofs.Common.{◌≡◌, ◌<◌, ℕ, true, false, List, [], ◌∷◌, ◌++◌, length, length-append, Option, Some, None, inl, inr, ⊎_elim}
 use Rattle.std.proofs.Common.{refl, sym, ap, ◌∙◌, subst, arith}
 use Rattle.std.specs.Prelude.{IfSome}
 use Rattle.crossbeam_queue.specs.Fifo.{Held}
@@ -11,7 +11,6 @@ use Rattle.affinity_tree.specs.Affinity.{affinity_of}
 use Rattle.affinity_tree.specs.Fault.{fault_of}
 use Rattle.affinity_tree.specs.Numbers.{number_of, parents}
 use Rattle.parcel_sets.specs.Exact.{kind_in}
-use Rattle.depot.specs.rule.Sums.{total}
 use Rattle.depot.specs.rule.History.{AreHands, entries_of}
 use Rattle.depot.specs.Grants.{entry_of, IsEnded, IsRefused}
 use Rattle.depot.specs.declared.grants.Refusal.{Refusal}
@@ -24,26 +23,25 @@ use Rattle.parcels.specs.state.Jobs.{takes, gives}
 use Rattle.service.specs.Jobs.{job_of, job_takes, job_gives}
 use Rattle.service.specs.declared.outcome.Outcome.TheVariants as outcomes
 use Rattle.workers.specs.declared.message.Message.{Message}
-use Rattle.workers.specs.declared.turned.Turned.TheVariants as turns
 use Rattle.workers.specs.declared.chained.Chained.{Chained}
 use Rattle.workers.specs.declared.chained.Chained.TheVariants as chains
 use Rattle.workers.specs.declared.linking.Tried.{Tried}
 use Rattle.workers.specs.declared.linking.Tried.TheVariants as tries
 use Rattle.workers.specs.declared.linking.Link.TheVariants as links
-use Rattle.workers.specs.Balance.{Passed, FilerView, FilerEntry, by_key, by_kept, IsEven}
+use Rattle.workers.specs.Balance.{Passed, FilerView, FilerEntry, IsEven}
 use Rattle.workers.specs.Messages.{IsPlaced, readdressed}
-use Rattle.workers.specs.Chains.{DidAll, IsAhead, EndsBy, HasTurnedOn, IsPicked, IsLeft, HasServedOn, HasServedAll, HasTriedAll, left_standing}
+use Rattle.workers.specs.Chains.{DidAll, IsAhead, HasTurnedOn, IsPicked, IsLeft, HasServedOn, HasTriedAll, left_standing}
 use Rattle.workers.specs.Chains.{chained_by, each_done}
-use Rattle.workers.specs.Links.{chained_so, kept_of, CanEnd, HasChained, HasEnded, HasGoneSo, HasLinked, HasOnlyRead, HasRoom, HasRunSo, HasStayed, IsOver}
-use Rattle.workers.specs.Links.{IsToEnter, RanSo, Stands}
+use Rattle.workers.specs.Links.{chained_so, kept_of, CanEnd, HasChained, HasEnded, HasGoneSo, HasLinked, HasRunSo}
+use Rattle.workers.specs.Links.{Stands}
 use Rattle.workers.specs.Runs.{FilerLent}
-use Rattle.workers.specs.Turns.{IsNext, HasNext, WaitsAgain, HasPut, HasFinished, HasMoved, HasReturnedFrom, Standing, HasDoneFrom, filer_behaviour}
+use Rattle.workers.specs.Turns.{HasNext, WaitsAgain, HasPut, HasMoved, HasReturnedFrom, Standing, HasDoneFrom, filer_behaviour}
 use Rattle.workers.specs.Words.{IsReady}
 use Rattle.workers.specs.shared_waiting.Balance.{Leaves}
 use Rattle.workers.proofs.Replayed.{RoomyBegins, RoomyStays, RepliesFit}
-use Rattle.workers.proofs.Served.{may-go-back, moves-on, back-entries, back-ready, refused-entries, refused-ready}
+use Rattle.workers.proofs.Served.{may-go-back, moves-on, back-entries, back-ready, refused-entries}
 use Rattle.workers.proofs.Linked.{unread, can-read, holding-tree, ran-on, may-enter, has-room, is-ready, is-done}
-use Rattle.workers.proofs.Turning.{finishes, hand-stays, keeps, picks, puts}
+use Rattle.workers.proofs.Turning.{finishes, hand-stays, keeps, picks}
 
 -- ---- turns one after the other
 

@@ -1,5 +1,5 @@
 -- How many calls a seat finished under one grant.
-use Rattle.std.proofs.Common.{◌≡◌, ◌≤◌, ◌+◌, ℕ, List, [], ◌∷◌, ◌++◌, length, length-append, Option, refl, sym, ap, ◌∙◌, subst, arith}
+use Rattle.std.proofs.Common.{◌≡◌, ◌≤◌, ◌+◌, ℕ, List, [], ◌∷◌, ◌++◌, length, length-append, Option, ap, arith}
 use Rattle.nfs_model.specs.Tree.{Layout, Affinity}
 use Rattle.nfs_values.specs.declared.moment.Moment.{Moment}
 use Rattle.affinity_tree.specs.Affinity.{affinity_of}

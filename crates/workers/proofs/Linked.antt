@@ -24,7 +24,7 @@ use Rattle.workers.specs.declared.message.Message.{Message}
 use Rattle.workers.specs.declared.entering.Entry.{Entry}
 use Rattle.workers.specs.Balance.{Passed, FilerView, FilerEntry}
 use Rattle.workers.specs.Messages.{IsPlaced}
-use Rattle.workers.specs.Chains.{IsAhead, IsPicked, left_standing}
+use Rattle.workers.specs.Chains.{IsAhead, left_standing}
 use Rattle.workers.specs.Links.{IsEntered, IsToEnter, HasLinked, HasOnlyRead, HasRoom, HasRunSo, IsOver, Stands}
 use Rattle.workers.specs.declared.linking.Tried.{Tried}
 use Rattle.workers.specs.declared.linking.Tried.TheVariants as tries

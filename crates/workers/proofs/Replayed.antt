@@ -1,5 +1,5 @@
 -- Each reply of a history of a filer's depot fits its room.
-use Rattle.std.proofs.Common.{◌≡◌, ℕ, ◌≤◌, Bool, true, false, List, [], ◌∷◌, ◌++◌, length, map, Option, None, refl, sym, ap, subst, arith}
+use Rattle.std.proofs.Common.{◌≡◌, ℕ, ◌≤◌, Bool, true, false, List, [], ◌∷◌, length, Option, None, refl, sym, ap, subst, arith}
 use Rattle.nfs_model.specs.Types as types
 use Rattle.nfs_model.specs.Types.{Asked, Ask, Moment, Credential, SystemError}
 use Rattle.nfs_model.specs.Tree.{Layout, Affinity}
@@ -28,7 +28,7 @@ use Rattle.outboxes.specs.Messages.{record_of}
 use Rattle.outboxes.specs.lemmas.Messages.{record_is}
 use Rattle.rpc_msg.specs.Replies.{reply_record}
 use Rattle.rpc_msg.specs.Room.{IsRoomy, reply_room}
-use Rattle.service.specs.Jobs.{job_of, job_reply_of, job_steps, job_takes, job_gives}
+use Rattle.service.specs.Jobs.{job_steps, job_takes, job_gives}
 use Rattle.service.specs.declared.job.Job.{Job}
 use Rattle.service.specs.declared.job.JobReply.{JobReply}
 use Rattle.workers.specs.Logs.{calls_in}

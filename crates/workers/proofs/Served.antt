@@ -1,6 +1,5 @@
 -- A message on a seat: what its run may end in, and what comes of it.
-use Rattle.std.proofs.Common.{◌≡◌, ℕ, ◌≤◌, Bool, true, false, List, [], ◌∷◌, ◌++◌, length, Option, Some, None, refl, sym, ap, ◌∙◌, subst, arith}
-use Rattle.std.specs.Prelude.{IfSome, MatchOption}
+use Rattle.std.proofs.Common.{◌≡◌, ℕ, ◌≤◌, Bool, true, false, List, [], ◌∷◌, ◌++◌, length, Option, None, refl, sym, ap, ◌∙◌, subst, arith}
 use Rattle.nfs_model.specs.Types as types
 use Rattle.nfs_model.specs.Types.{Asked, Ask, SystemError}
 use Rattle.nfs_model.specs.Tree.{Layout, Affinity}

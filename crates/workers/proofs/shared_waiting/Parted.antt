@@ -1,9 +1,8 @@
 -- A pass that took in another, and what it has beside when it is parted from it.
-use Rattle.std.proofs.Common.{◌≡◌, ℕ, ◌+◌, ◌*◌, ◌^◌, ◌<◌, List, [], ◌∷◌, ◌++◌, length, drop, Option, Some, None, Result, Ok, Err, sym, refl, ap, ◌∙◌, subst, arith, mul-pos}
+use Rattle.std.proofs.Common.{◌≡◌, ◌*◌, ◌^◌, ◌<◌, List, [], ◌∷◌, ◌++◌, Option, Some, None, Result, Ok, Err, sym, refl, ap, ◌∙◌, subst, arith, mul-pos}
 use Rattle.std.specs.Prelude.{MatchOption, MatchResult}
 use Rattle.std.proofs.lemmas.Nat.{pow_pos}
 use Rattle.std.proofs.lemmas.List.{append-nil}
-use Rattle.crossbeam_queue.specs.Fifo.{Held}
 use Rattle.workers.specs.declared.shared_waiting.view.View.{View}
 use Rattle.workers.specs.shared_waiting.Balance.{added, taken, both, grown, HasGrown, FitsIn}
 use Rattle.workers.proofs.shared_waiting.Keeps.{seam}

@@ -7,7 +7,7 @@ use Rattle.workers.specs.Chains.{turns_at_most}
 use Rattle.workers.specs.Links.{HasGoneSo, Stands}
 use Rattle.workers.specs.Messages.{IsPlaced}
 use Rattle.workers.specs.Turns.{HasShareOf, Standing}
-use Rattle.workers.specs.Words.{layout_in, layout_known, verifier_in}
+use Rattle.workers.specs.Words.{layout_in, verifier_in}
 use Rattle.workers.proofs.chaining.chain.Given as goal
 
 -- for each who stood so, what was done is a row of turns, and the message has the grant

@@ -1,4 +1,4 @@
-use Rattle.std.proofs.Common.{◌≡◌, ◌≤◌, ◌∙◌, ap, length, sym, subst}
+use Rattle.std.proofs.Common.{◌≤◌, ◌∙◌, ap, length, sym, subst}
 use Rattle.nfs_values.specs.Reply.{reply_of}
 use Rattle.nfs_values.specs.declared.reply.Reply.{Reply}
 use Rattle.outboxes.specs.Boxes.{addressed}

@@ -1,19 +1,11 @@
 use Rattle.std.proofs.Common.{◌≡◌, sym, ◌∙◌, subst}
-use Rattle.affinity_tree.specs.Numbers.{number_of}
 use Rattle.nfs_model.specs.Parts.{Empty}
-use Rattle.parcel_sets.specs.Exact.{kind_in}
-use Rattle.depot.specs.Grants.{entry_of, IsEnded, IsFinished}
 use Rattle.depot.specs.Words.{view}
-use Rattle.depot.specs.rule.History.{entries_of}
 use Rattle.desk.specs.Any.{node_lent}
-use Rattle.desk.specs.laws.Backing.{CanFinish, CanPutBack}
-use Rattle.service.specs.Jobs.{inner_of, job_reply_of}
-use Rattle.service.specs.declared.job.Job.TheVariants.{Inner}
+use Rattle.service.specs.Jobs.{inner_of}
 use Rattle.workers.specs.declared.tend.TendRefusal.{TendRefusal}
-use Rattle.workers.specs.declared.tend.TendRefusal.TheVariants.{NoSuchRange}
-use Rattle.workers.specs.Carries.{node_tried, Carries, IsRefusedFor, HasRunInner}
-use Rattle.workers.specs.Turns.{filer_behaviour}
-use Rattle.workers.specs.Words.{layout_in, verifier_in, IsReady}
+use Rattle.workers.specs.Carries.{node_tried, IsRefusedFor}
+use Rattle.workers.specs.Words.{layout_in, verifier_in}
 use Rattle.workers.proofs.Ran.{refused-for, may-finish, made-ready, made, unused-goes-back, is-unused, empty-hand, starved-goes-back, left-entries, left-ready}
 use Rattle.workers.proofs.Served.{refused-entries, refused-ready}
 use Rattle.workers.proofs.inner.carry_on.Goals as goal

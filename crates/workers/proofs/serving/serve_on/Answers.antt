@@ -1,20 +1,9 @@
-use Rattle.std.proofs.Common.{◌≡◌, ◌≤◌, length, true, false, refl}
-use Rattle.nfs_values.specs.Reply.{reply_of}
+use Rattle.std.proofs.Common.{true, false, refl}
 use Rattle.nfs_values.specs.declared.reply.Reply.TheVariants.{Refused}
 use Rattle.nfs_values.specs.declared.reply.Refusal.TheVariants.{SystemError}
-use Rattle.affinity_tree.specs.Numbers.{number_of}
-use Rattle.parcel_sets.specs.Exact.{kind_in}
-use Rattle.depot.specs.Grants.{entry_of, IsEnded, IsFinished}
 use Rattle.depot.specs.Words.{view}
-use Rattle.depot.specs.rule.History.{entries_of}
 use Rattle.desk.specs.Any.{node_lent}
-use Rattle.desk.specs.laws.Backing.{CanFinish, CanPutBack}
-use Rattle.outboxes.specs.Messages as replies
-use Rattle.outboxes.specs.Messages.{record_of}
-use Rattle.service.specs.declared.job.JobReply.TheVariants.{Replied}
-use Rattle.workers.specs.Runs.{HasRunOn}
-use Rattle.workers.specs.Turns.{filer_behaviour, job_of_message, HasFinished, HasMoved}
-use Rattle.workers.specs.Words.{layout_in, verifier_in, IsReady}
+use Rattle.workers.specs.Words.{layout_in, verifier_in}
 use Rattle.workers.proofs.Served.{may-finish, may-starve, entered, entered-ready, fits, starved-room, may-go-back, moves-on, back-entries, back-ready}
 use Rattle.workers.proofs.Served.{refused-entries, refused-ready}
 use Rattle.workers.proofs.serving.serve_on.Goals as goal

@@ -1,6 +1,5 @@
-use Rattle.std.proofs.Common.{◌∙◌, ◌++◌, drop, sym, arith}
+use Rattle.std.proofs.Common.{◌∙◌, sym, arith}
 use Rattle.std.proofs.lemmas.List.{append-nil}
-use Rattle.nfs_model.specs.Serial.Readdir.{fitting}
 use Rattle.volume_logical.specs.directories.Entries.{listed}
 use Rattle.volume_logical.specs.directories.Slots.{in_order}
 use Rattle.volume_logical.proofs.directories.Pages.{run-filled, run-next, run-fits, run-longer, last-page, on-error}

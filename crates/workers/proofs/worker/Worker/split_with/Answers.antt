@@ -1,4 +1,4 @@
-use Rattle.std.proofs.Common.{◌≡◌, ℕ, ◌+◌, ◌∙◌, List, [], Option, None, sym, ap, subst, arith}
+use Rattle.std.proofs.Common.{◌∙◌, Option, sym, ap, subst}
 use Rattle.std.specs.Prelude.{IfSome}
 use Rattle.nfs_model.specs.Parts.{Hand}
 use Rattle.depot.specs.Words.{view, IsSeatHere}

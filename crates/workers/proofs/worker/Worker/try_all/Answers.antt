@@ -1,11 +1,7 @@
-use Rattle.std.proofs.Common.{Option, Some, refl, subst}
-use Rattle.std.specs.Prelude.{IfSome}
 use Rattle.depot.specs.Words.{view}
 use Rattle.parcels.specs.state.Jobs.{batches_in}
 use Rattle.workers.specs.shared_waiting.Passes.{known}
-use Rattle.workers.specs.declared.message.Message.{Message}
 use Rattle.workers.specs.Chains.{left_standing}
-use Rattle.workers.specs.Messages.{IsPlaced}
 use Rattle.workers.specs.Turns.{standing_of}
 use Rattle.workers.specs.Words.{layout_in}
 use Rattle.workers.proofs.Chains.{picked-kept, served-even, served-hand, tried-all}

@@ -1,6 +1,5 @@
 use Rattle.depot.specs.Words.{view}
 use Rattle.std.proofs.Common.{◌≡◌, true, false, rules}
-use Rattle.workers.specs.shared_waiting.Passes.{known}
 use Rattle.workers.specs.Chains.{each_done}
 use Rattle.workers.specs.Turns.{standing_of}
 use Rattle.workers.specs.Words.{layout_in}

@@ -1,5 +1,4 @@
 use Rattle.std.proofs.Common.{◌≡◌, ◌+◌, ◌∙◌, ℕ, sym, ap}
-use Rattle.nfs_model.specs.volume.Inodes.{InodesValue}
 use Rattle.volume_logical.specs.inodes.Inode.{inodes_value}
 use Rattle.volume_logical.proofs.inodes.Changes.{unmade, lowered-is}
 use Rattle.volume_logical.proofs.inodes.Few.{lowered-few}
