@@ -4,8 +4,8 @@ ghost use Rattle.std.specs.Prelude.{IfOk};
 ghost use Rattle.workers.specs.Running.{IsRun};
 
 use nfs_values::{
-    BytesToWrite, Call, CreateMode, FileHandle, Fileid, Name, Named, SetAttributes, SetTime, Target,
-    VolumeNumber,
+    BytesToWrite, Call, CreateMode, FileHandle, Fileid, Name, Named, SetAttributes, SetTime,
+    Target, VolumeNumber,
 };
 use std::alloc::{AllocError, Global};
 
