@@ -28,7 +28,7 @@ pub struct Heard {
 #[derive(Drop)]
 pub struct FinishedCall {
     pub origin: Origin,
-    /// Nothing where memory for its name or data ran out.
+    /// Nothing where memory for its name ran out.
     pub request: Option<Request>,
     /// What it ran on; nothing where it was answered as its record was complete.
     pub affinity: Option<Affinity>,

@@ -13,7 +13,7 @@ use std::alloc::Global;
 #[derive(Drop)]
 pub enum RecordRead {
     Heard(Heard),
-    /// A call of this xid, but memory for its name or data ran out.
+    /// A call of this xid, but memory for its name ran out.
     Undecoded(u32),
     Fault(StreamFault),
 }

@@ -40,7 +40,7 @@ pub(crate) enum Arrival {
     More,
     /// The last byte taken ends a record that is served.
     Heard(Heard),
-    /// The last byte taken ends a record of this xid, but memory for its name or data ran out.
+    /// The last byte taken ends a record of this xid, but memory for its name ran out.
     Undecoded(u32),
     /// The last byte taken ends the service.
     Fault(StreamFault),

@@ -16,9 +16,9 @@ use std::alloc::Global;
 #[derive(Drop)]
 pub enum Request {
     Call { call: Call, credential: Credential },
-    /// The reply refuses it.
+    /// It is refused.
     Refused(Refusal),
-    /// A call, but memory for its name or data ran out.
+    /// A call, but memory for its name ran out.
     Undecoded,
 }
 

@@ -11,7 +11,7 @@ pub enum Asked {
     Call { call: Call, credential: Credential },
     /// A call message that is refused by this reply.
     Refused(Refusal),
-    /// A call whose name or data there was no memory for.
+    /// A call whose name there was no memory for.
     Undecoded,
 }
 

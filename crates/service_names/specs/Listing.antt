@@ -1,5 +1,5 @@
 -- Pages of a directory with `.` and `..` (RFC 1813 section 3.3.16).
-use Rattle.std.specs.Prelude.{ℕ, Bool, false, not, ◌&&◌, ◌==◌, List, [], ◌∷◌, length}
+use Rattle.std.specs.Prelude.{ℕ, Bool, not, ◌&&◌, ◌==◌, List, ◌∷◌, length}
 use Rattle.nfs_model.specs.Types.{Listed}
 use Rattle.nfs_model.specs.Names.{dot, dot_dot}
 use Rattle.nfs_model.specs.volume.Directories.{Page}

@@ -288,6 +288,9 @@ module _ {S : Type 0} (took : S → List Addressed → S → Type 0)
               entries = done.finished.entries;
               between = done.finished.between;
               added = done.finished.added;
+              tree = done.finished.tree;
+              first = done.finished.first;
+              seen = done.finished.seen;
             };
           } in
           record {

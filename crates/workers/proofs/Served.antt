@@ -142,6 +142,9 @@ module _ (layout : Layout) (lawful : fault_of layout ≡ None) (m : Message) (pl
           ∙ ap (λ es. es ++ entry ∷ []) (begun-entries v w (number_of layout node) before begun);
       between = ends.2;
       added = subst (λ (x : FilerView). HasAdded filer_behaviour x ends.2 entry) begun.3 ends.4;
+      tree = ap (λ (x : FilerView). x.tree) ends.3 ∙ ap (λ (x : FilerView). x.tree) begun.3;
+      first = ap (λ (x : FilerView). x.first) ends.3 ∙ ap (λ (x : FilerView). x.first) begun.3;
+      seen = ap (λ (x : FilerView). x.seen) ends.3 ∙ ap (λ (x : FilerView). (x.seen ++ ends.2) ++ entry ∷ []) begun.3;
     }
 
   -- ---- its reply fits

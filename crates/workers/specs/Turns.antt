@@ -89,14 +89,17 @@ pub record IsEntryOf (m : Message) (moment : Moment) (a : Addressed) (e : FilerE
   pub connection : a.connection ≡ m.origin.connection.0
   pub xid : a.message.xid ≡ m.origin.xid
 
--- a seat made one entry more, of the message's call: it stands in one legal history after all that the seat had seen, and
--- what others put between
+-- a seat made one entry more, of the message's call: the seat has seen a legal history, from the same beginning, of all that
+-- it had seen, what others put between, and the entry
 pub record HasFinished (v : FilerView) (m : Message) (moment : Moment) (a : Addressed) (w : FilerView) : Type 0 where
   pub entry : FilerEntry
   pub is : IsEntryOf m moment a entry
   pub entries : entries_of w ≡ entries_of v ++ entry ∷ []
   pub between : List FilerEntry
   pub added : HasAdded filer_behaviour v between entry
+  pub tree : w.tree ≡ v.tree
+  pub first : w.first ≡ v.first
+  pub seen : w.seen ≡ (v.seen ++ between) ++ entry ∷ []
 
 -- The message's call has to move to another node at which it is run, as the parcels say that it was granted: the seat began a call
 -- on what the message tries, and had just these parcels by that grant, as a history left them that begins with all that the seat had

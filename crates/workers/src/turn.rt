@@ -5,7 +5,7 @@ ghost use Rattle.workers.specs.Turns.{turned_by, IsTold};
 
 use crate::envelope::Envelope;
 use crate::shared::Filer;
-use crate::shared_waiting::{Pass, SharedWaiting};
+use crate::shared_waiting::SharedWaiting;
 use crate::turned::{Gate, Served, Turned};
 use crate::worker::Worker;
 use affinity_tree::Layout;
@@ -35,10 +35,6 @@ pub(crate) fn told(served: Served) -> (Option<Envelope>, Turned)
 }
 
 impl Worker {
-    ghost use Rattle.crossbeam_queue.specs.Fifo.{Held};
-    ghost use Rattle.workers.specs.declared.turned.Turned.TheVariants.{Idle};
-    ghost use Rattle.workers.specs.shared_waiting.Balance.{both, Leaves};
-    ghost use Rattle.workers.specs.shared_waiting.Passes.{known, IsOf};
     ghost use Rattle.workers.specs.Turns.{Did, HasShareOf};
     ghost use Rattle.workers.specs.Words.{layout_in, passed, seats_in, IsAt, IsIn};
 
@@ -60,35 +56,6 @@ impl Worker {
         ensures hand { self.new.hand ≡ self.old.hand }
     {
         self.pick(filer, queue, rt);
-        let turned = self.try_kept(filer, queue, gate, moment);
-        self.put(filer, queue, rt);
-        turned
-    }
-
-    /// `turn_in` for who has another pass of the queue beside: where no message is found, none waits
-    /// by both passes, and so none at all where nobody else has a pass.
-    pub fn turn_beside<R: Wait, G: Gate>(
-        &mut self,
-        filer: &Filer,
-        queue: &SharedWaiting<Envelope, Layout>,
-        other: &mut Pass<Envelope, Layout>,
-        rt: &R,
-        gate: &G,
-        moment: Moment,
-    ) -> Turned
-        requires inside { IsAt filer.now queue.now self.old }
-        requires other { IsOf queue.now other.old }
-        requires key { (known other.old).key ≡ (passed self.old).key }
-        ensures inside { IsAt filer.now queue.now self.new }
-        ensures other { IsOf queue.now other.new × (known other.new ≡ known other.old) }
-        ensures did { Did (layout_in filer.now) self.old moment result self.new }
-        ensures none { result ≡ Idle
-            → Held 0 (Leaves (both (passed self.old) (known other.old))) }
-        ensures share { HasShareOf (passed self.old) (passed self.new) }
-        ensures seats { seats_in self.new ≡ seats_in self.old }
-        ensures hand { self.new.hand ≡ self.old.hand }
-    {
-        self.pick_beside(filer, queue, other, rt);
         let turned = self.try_kept(filer, queue, gate, moment);
         self.put(filer, queue, rt);
         turned

@@ -65,11 +65,12 @@ impl Worker {
         chained
     }
 
-    /// Turns for who has another pass of the queue beside (`turn_beside`): the call of the message
-    /// that is kept, or else of the one that waits longest, and then, under the same grant, those of
-    /// the messages after it that try the same node, at most so many. The answers go into a sink. A
-    /// message that was picked and tries another node is kept, for the next turn. Where the node
-    /// was refused, a hint is left to who has it; and where one is left here, no more is picked.
+    /// Turns for who has another pass of the queue beside: the call of the message that is kept, or
+    /// else of the one that waits longest, and then, under the same grant, those of the messages
+    /// after it that try the same node, at most so many. The answers go into a sink. A message that
+    /// was picked and tries another node is kept, for the next turn. Where the node was refused, a
+    /// hint is left to who has it; and where one is left here, no more is picked. Where no message
+    /// is found, none waits by both passes, and so none at all where nobody else has a pass.
     pub fn turns_beside<R: Wait, G: Gate, H: Hint, S: AnswerSink>(
         &mut self,
         filer: &Filer,
