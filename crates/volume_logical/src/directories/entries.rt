@@ -41,9 +41,6 @@ use nfs_values::{Cookie, DirectoryEntry, Fileid, Name};
 use std::alloc::{AllocError, Global};
 use std::marker::Model;
 
-/// The bytes in a page of an entry with a name of one byte.
-const LEAST_SIZE: usize = 28;
-
 /// Entries by rising cookies, from 3 on, and the next cookie.
 #[derive(Drop)]
 pub struct Entries {
@@ -155,8 +152,6 @@ impl Entries {
     {
         let after = place_after(&self.slots, &self.order, cookie);
         let remaining = self.order.len() - after;
-        // Room for all of them at once; where there is none it is made as they come.
-        let _ = entries.try_reserve(remaining.min(room / LEAST_SIZE));
         let before = entries.len();
         append_fitting(alloc, &self.slots, &self.order, after, room, entries)?;
         Ok(entries.len() - before == remaining)
