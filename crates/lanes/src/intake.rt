@@ -5,11 +5,12 @@ ghost use Rattle.workers.specs.shared_waiting.Passes.{known, IsOf};
 ghost use Rattle.workers.specs.Words.{layout_in, layout_known};
 
 use crate::due::Due;
-use affinity_tree::Layout;
+use affinity_tree::scheduler::Message;
+use affinity_tree::{Kind, Layout};
 use connections::message::in_room;
 use connections::tcp_front::RecordSink;
 use engine_feed::OfferedCall;
-use nfs_values::{ConnectionNumber, Reply};
+use nfs_values::{Call, ConnectionNumber, Reply};
 use outboxes::Outboxes;
 use std::alloc::{AllocError, Global};
 use std::snapshot::Snapshot;
@@ -36,6 +37,8 @@ pub struct Intake<R> {
     pub(crate) most: usize,
     /// What is owed to the connection that is read.
     pub(crate) owed: Due,
+    /// Whether one that may leave blocks to tend was admitted since none waited.
+    pub(crate) may_leave_blocks: bool,
     pub ghost of: { IsOf queue pass },
     pub ghost layout: { layout_known (known pass) ≡ Some (layout_in filer.value) },
 }
@@ -48,6 +51,23 @@ impl<R> Intake<R> {
         ensures { self.new ≡ owing_in owed self.old }
     {
         self.owed = owed;
+    }
+}
+
+/// Whether a call may change which blocks of its volume are in files or free, so that there may be
+/// something to tend after it. A WRITE on a stripe may not, unless it moves.
+fn may_leave_blocks(message: &Message<OfferedCall>) -> bool {
+    if message.affinity.kind() == Kind::Stripe {
+        return false;
+    }
+    match message.call.as_call() {
+        Call::SetAttributes { .. }
+        | Call::Write { .. }
+        | Call::Create { .. }
+        | Call::Remove(_)
+        | Call::Rename { .. }
+        | Call::Grow { .. } => true,
+        _ => false,
     }
 }
 
@@ -65,16 +85,15 @@ impl<R: Wait> RecordSink for Intake<R> {
         self.waiting < self.most && self.owed.room < MOST_OWED
     }
 
-    fn admit(
-        &mut self,
-        message: affinity_tree::scheduler::Message<OfferedCall>,
-    ) -> Result<(), AllocError> {
+    fn admit(&mut self, message: Message<OfferedCall>) -> Result<(), AllocError> {
         let room = message.room;
+        let may_leave_blocks = may_leave_blocks(&message);
         let message = in_room(self.alloc, message)?;
         match self.queue.admit(&self.rt, &mut self.pass, message) {
             Ok(()) => {
                 self.waiting = self.waiting.saturating_add(1);
                 self.owed.add(room);
+                self.may_leave_blocks = self.may_leave_blocks || may_leave_blocks;
                 Ok(())
             }
             Err(message) => {

@@ -1,6 +1,7 @@
 //! What the threads of a server share.
 
 use crate::ends::Ends;
+use crate::untended::Untended;
 use workers::Wanted;
 
 /// What the threads of a server share.
@@ -9,12 +10,18 @@ pub(crate) struct Common {
     pub(crate) ends: Ends,
     /// Word that a lane leaves where another has what it tries.
     pub(crate) wanted: Wanted,
+    /// Whether calls may have left blocks to tend.
+    pub(crate) untended: Untended,
 }
 
 // By hand, so that crates above have no proof of the drop of each of its parts.
 impl Drop for Common {
     fn drop(self) {
-        let Common { ends: _, wanted: _ } = self;
+        let Common {
+            ends: _,
+            wanted: _,
+            untended: _,
+        } = self;
     }
 }
 
@@ -24,6 +31,7 @@ impl Common {
         Common {
             ends: Ends::new(),
             wanted: Wanted::new(),
+            untended: Untended::new(),
         }
     }
 }

@@ -27,6 +27,7 @@ mod socket;
 mod station;
 mod task;
 mod tends;
+mod untended;
 mod visits;
 
 pub use fault::ServerFault;

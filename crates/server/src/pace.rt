@@ -1,9 +1,9 @@
-//! What a lane's thread keeps between its rounds: when it tends, and how long it waits.
+//! What a lane's thread keeps between its rounds: its tends, and how long it waits.
 
 ghost use Rattle.std.specs.Prelude.{◌<◌};
 
 use crate::patience::Patience;
-use crate::pool::{Tending, share_millisecond};
+use crate::pool::Tending;
 use nfs_values::Moment;
 use outboxes::bells::time_now;
 use std::rt::Clock;
@@ -17,10 +17,6 @@ pub(crate) struct Pace {
     pub(crate) patience: Patience,
     /// How many turns in a row came to a move.
     moves: u32,
-    /// Whether a call may have been finished since tends were last begun anew.
-    pub(crate) is_untended: bool,
-    /// When that was.
-    begun: Moment,
     /// When the round began.
     last: Moment,
     ghost last_is: { last.nanoseconds < 1000000000 },
@@ -33,8 +29,6 @@ impl Drop for Pace {
             tending: _,
             patience: _,
             moves: _,
-            is_untended: _,
-            begun: _,
             last: _,
         } = self;
     }
@@ -47,8 +41,6 @@ impl Pace {
             tending: Tending::new(),
             patience: Patience::new(),
             moves: 0,
-            is_untended: false,
-            begun: Moment::START,
             last: Moment::START,
         }
     }
@@ -61,18 +53,8 @@ impl Pace {
         self.last
     }
 
-    /// Begins to tend anew where a call was finished since, but once in a millisecond only.
-    pub(crate) fn begin_if_due(&mut self) {
-        if self.is_untended && !share_millisecond(self.begun, self.last) {
-            self.is_untended = false;
-            self.begun = self.last;
-            self.tending.begin_anew();
-        }
-    }
-
     /// A call was finished.
     pub(crate) fn finish(&mut self) {
-        self.is_untended = true;
         self.moves = 0;
         self.patience = Patience::new();
     }

@@ -3,6 +3,7 @@
 ghost use Rattle.std.specs.Prelude.{IfNone};
 ghost use Rattle.server.specs.Lanes.{IsAtRest, Stays};
 
+use crate::common::Common;
 use crate::hearing::hear;
 use crate::pace::Pace;
 use crate::socket::Socket;
@@ -14,7 +15,7 @@ use nfs_values::Moment;
 use std::rt::Clock;
 use std::sync::Wait;
 use std::time::Duration;
-use workers::{Chained, Unwatched, Wanted};
+use workers::{Chained, Unwatched};
 
 /// The most turns of a round.
 const MOST_TURNS: usize = 64;
@@ -31,21 +32,20 @@ const STARVED: u64 = 100;
 
 /// How long the next poll waits: not at all where there is something to do, and without an end
 /// only after tends over all volumes and ranges moved nothing, with nothing in the hand.
-fn longest_wait<R>(lane: &Lane<Socket, R>, station: &mut Station) -> Option<Duration>
-    ensures { IfNone result (IsAtRest lane.now station.old.pace.tending) }
+fn longest_wait<R>(lane: &Lane<Socket, R>, station: &Station) -> Option<Duration>
+    ensures { IfNone result (IsAtRest lane.now station.now.pace.tending) }
 {
-    let pace = &mut station.pace;
     if station.is_writing || lane.waiting() > 0 {
         return Some(Duration::ZERO);
     }
-    if !may_rest(lane, pace) || any_is_due(lane, station.keys) {
+    if !may_rest(lane, &station.pace) || any_is_due(lane, station.keys) {
         return Some(Duration::ZERO);
     }
     if !lane.worker().has_empty_hand() {
-        pace.is_untended = true;
+        station.common.untended.leave();
         return Some(Duration::from_millis(STARVED));
     }
-    if pace.is_untended {
+    if station.common.untended.is_left() {
         return Some(Duration::from_millis(UNTENDED));
     }
     None
@@ -93,7 +93,7 @@ fn take_mail<R: Wait>(rt: &R, lane: &mut Lane<Socket, R>, station: &mut Station)
 fn run_calls<R: Wait>(
     lane: &mut Lane<Socket, R>,
     pace: &mut Pace,
-    wanted: &Wanted,
+    common: &Common,
     moment: Moment,
 ) -> bool
     ensures { Stays lane.old lane.new }
@@ -101,18 +101,23 @@ fn run_calls<R: Wait>(
     let mut left = MOST_TURNS;
     for _ in 0..MOST_TURNS {
         let before = lane.waiting();
+        let may_leave_blocks = lane.may_leave_blocks();
         if left == 0 || before == 0 && may_rest(lane, pace) {
             return false;
         }
-        let chained = lane.turns(&Unwatched, wanted, moment, left.min(MOST_CHAINED));
+        let chained = lane.turns(&Unwatched, &common.wanted, moment, left.min(MOST_CHAINED));
         let finished = before.saturating_sub(lane.waiting());
         left = left.saturating_sub(finished.max(1));
         if finished > 0 {
             pace.finish();
         }
+        if finished > 0 && may_leave_blocks {
+            common.untended.leave();
+        }
         let goes_on = match chained {
             Chained::Done => true,
             Chained::Moved => {
+                common.untended.leave();
                 put_down(lane, pace);
                 pace.move_on()
             }
@@ -138,8 +143,10 @@ pub(crate) fn round<R: Wait + Clock>(rt: &R, lane: &mut Lane<Socket, R>, station
     take_mail(rt, lane, station);
     read_all(lane, &mut station.keys, &mut station.buffers);
     let moment = station.pace.time(rt);
-    station.pace.begin_if_due();
-    let is_idle = run_calls(lane, &mut station.pace, &station.common.wanted, moment);
+    if station.common.untended.take(moment) {
+        station.pace.tending.begin_anew();
+    }
+    let is_idle = run_calls(lane, &mut station.pace, &station.common, moment);
     station.is_writing = write_all(lane, station.keys, &mut station.buffers);
     close_ended(lane, station.keys, &station.common.ends);
     if is_idle {

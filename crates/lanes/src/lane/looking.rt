@@ -23,6 +23,11 @@ impl<D: Device, R> Lane<D, R> {
         &self.worker
     }
 
+    /// Whether a call that may leave blocks to tend was admitted since no message waited.
+    pub fn may_leave_blocks(&self) -> bool {
+        self.intake.may_leave_blocks
+    }
+
     /// Whether so much may be owed to a connection that is read further.
     pub fn may_owe(&self, owed: usize) -> bool {
         owed < MOST_OWED

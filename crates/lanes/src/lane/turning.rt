@@ -55,7 +55,9 @@ impl<D: Device, R: Wait> Lane<D, R> {
             .intake
             .queue
             .count(&self.intake.rt, &mut self.intake.pass);
-        self.intake.waiting = queued + usize::from(self.worker.keeps_message());
+        let waiting = queued + usize::from(self.worker.keeps_message());
+        self.intake.waiting = waiting;
+        self.intake.may_leave_blocks = self.intake.may_leave_blocks && waiting > 0;
         chained
     }
 }
