@@ -1,12 +1,11 @@
 -- Seats between two calls: what becomes of their grants' parcels as they part, join and meet.
 use Rattle.std.proofs.Common.{◌≡◌, ℕ, ◌+◌, ◌≤◌, ◌<◌, Bool, true, false, ltb, List, [], ◌∷◌, ◌++◌, length, sym, refl, ap, ◌∙◌, subst, arith}
-use Rattle.std.proofs.Common.{Option, Some, ⊎_elim}
+use Rattle.std.proofs.Common.{Some, ⊎_elim}
 use mathlib.Core.Option.{some}
 use lib.ListN.{get_elem?}
 use Rattle.depot.specs.declared.rule.view.View.{View}
 use Rattle.depot.specs.declared.rule.view.Read.{Read}
 use Rattle.affinity_tree.specs.Ancestors.{tally, Covers}
-use Rattle.depot.specs.rule.Shares.{opening_view}
 use Rattle.depot.specs.rule.Seats.{if_less, longer, fresh, merge, merged, having_seen, view_of}
 use Rattle.depot.specs.rule.lemmas.Sums.{tally-append}
 use Rattle.depot.proofs.rule.Joining.{none-held, held-of}
@@ -22,9 +21,6 @@ if-same false x = refl
 
 longer-same : {A : Type 0} (xs : List A) → longer xs xs ≡ xs
 longer-same xs = if-same (ltb (length xs) (length xs)) xs
-
-pub opening-gathered : (P E : Type 0) (ps : List ℕ) (first : List (Option P)) → IsGathered {P = P} {E = E} (opening_view ps first)
-opening-gathered P E ps first b k g has = absurd (none-held (length ps) b g has)
 
 module _ {P E : Type 0} where
   pub fresh-gathered : (v : View P E) → IsGathered (fresh v)

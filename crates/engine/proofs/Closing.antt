@@ -1,5 +1,5 @@
 -- A connection of a list that is closed, or has other bytes.
-use Rattle.std.proofs.Common.{◌≡◌, ◌≤◌, ℕ, zero, suc, ◌+◌, Bool, List, [], ◌∷◌, map, length, Option, Some, None, Ok, Err, refl, sym, ap, subst, ◌∙◌}
+use Rattle.std.proofs.Common.{◌≡◌, ℕ, zero, suc, ◌+◌, Bool, List, [], ◌∷◌, map, length, Option, Some, None, Ok, Err, refl, sym, ap, subst, ◌∙◌}
 use Rattle.std.proofs.Common.{inl, arith}
 use Rattle.std.specs.Prelude.{option_map, slice_get, slice_set, if◌then◌else◌}
 use Rattle.std.proofs.lemmas.Option.{slice_get-map}
@@ -67,15 +67,6 @@ count-closed (d ∷ cs) zero o c e =
     ap (λ (k : Held). open_count (map connection_seen (k ∷ cs))) same in
     omega (arith, t)
 count-closed (d ∷ cs) (suc i) o c e = let t = count-closed cs i o c e in omega (arith, t)
-
-pub some-open : (cs : List Held) (i : ℕ) (o : ConnectionState) → slice_get cs i ≡ Some (Open o) → 1 ≤ open_count (map connection_seen cs)
-some-open [] i o e = absurd cc
-some-open (d ∷ cs) zero o e =
-    let same : d ≡ Open o = cc in
-    let t : open_count (map connection_seen (d ∷ cs)) ≡ 1 + open_count (map connection_seen cs) =
-    ap (λ (k : Held). open_count (map connection_seen (k ∷ cs))) same in
-    omega (arith, t)
-some-open (d ∷ cs) (suc i) o e = let t = some-open cs i o e in omega (arith, t)
 
 -- ---- the state
 

@@ -1,9 +1,9 @@
 -- Connections that are opened and closed: nothing else changes.
-use Rattle.std.proofs.Common.{◌≡◌, ◌<◌, ◌≤◌, Bool, ℕ, zero, suc, ◌+◌, ◌⊎◌, inl, inr, List, [], ◌∷◌, ◌++◌, map, length, Some, None, Ok, Err}
+use Rattle.std.proofs.Common.{◌≡◌, ◌<◌, ◌≤◌, Bool, ℕ, zero, suc, ◌+◌, ◌⊎◌, inl, inr, List, [], ◌∷◌, ◌++◌, map, length, Some, None, Ok}
 use Rattle.std.proofs.Common.{refl, sym, ap, subst}
 use Rattle.std.proofs.Common.{◌∙◌, arith}
 use Rattle.std.specs.Prelude.{slice_get, if◌then◌else◌}
-use Rattle.std.proofs.lemmas.Bool.{lt-leb, le-leb}
+use Rattle.std.proofs.lemmas.Bool.{lt-leb}
 use Rattle.std.proofs.lemmas.List.{length-append, length-map, map_push}
 use Rattle.nfs_model.specs.Tree.{Layout}
 use Rattle.nfs_model.specs.World as worlds
@@ -24,7 +24,6 @@ use Rattle.engine.specs.Connections.{Held, Open, held_at, held_by, AreKeyed}
 use Rattle.std.specs.Global.{Vec}
 use Rattle.nfs_values.specs.declared.number.ConnectionNumber.{ConnectionNumber}
 use Rattle.engine.specs.declared.event.Done.TheVariants.{Opened}
-use Rattle.engine.specs.declared.event.Refusal.TheVariants.{Full}
 use Rattle.engine.specs.declared.state.State.{State}
 use Rattle.engine.specs.declared.worker.Worker.{Worker}
 use Rattle.engine.specs.Seen.{connection_seen, held_in, setup_in, world}
@@ -126,13 +125,6 @@ opened-events s new o n same items is number sound few =
         ap world same ∙ ap (λ (xs : List worlds.Connection). record (world s) { connections = xs }) seen,
       ),
     )
-
--- as many as can be are open
-pub full-events : (s new : State) → new ≡ s → IsSoundEngine s → 64 ≤ slab_len s.slab → Does s events.Open (Err Full) new
-full-events s new same sound many =
-    let opened = sound.opened in
-    let many_seen : 64 ≤ open_count (map connection_seen (held_in s)) = subst (λ (m : ℕ). 64 ≤ m) opened many in
-    (inl (ap (λ (b : Bool). if b then Some 31 else None) (le-leb 64 (open_count (map connection_seen (held_in s))) many_seen)), ap world same)
 
 -- ---- room in the list and in the slab
 

@@ -1,19 +1,14 @@
 -- Connections and calls that stay sound.
 use Rattle.std.proofs.Common.{◌≡◌, ℕ, ◌+◌, ◌≤◌, List, [], ◌∷◌, ◌++◌, sym, ap, subst, ◌∙◌, arith, length, length-append, append_assoc}
-use Rattle.std.specs.Prelude.{vec_len, vec_capacity, option_map}
 use Rattle.std.specs.List.{AllByRecursion}
 use Rattle.std.proofs.lemmas.List.{append-nil}
-use Rattle.rpc_record.specs.Stream.{read_stream}
 use Rattle.nfs_values.specs.declared.call.Call.{Call}
 use Rattle.affinity_tree.specs.declared.scheduler.message.Message.{Message}
 use Rattle.engine_feed.specs.declared.state.ConnectionState.{ConnectionState}
 use Rattle.engine_feed.specs.declared.state.CallsState.{CallsState}
-use Rattle.engine_feed.specs.declared.state.Arrival.{Arrival}
-use Rattle.engine_feed.specs.Numbers.{fault_number}
-use Rattle.engine_feed.specs.Streams.{scan_stream}
 use Rattle.engine_feed.specs.Offered.{reply_limit}
 use Rattle.engine_feed.specs.Seen.{owed_by, layout_in, messages_of, running_count}
-use Rattle.engine_feed.specs.Sound.{IsInStep, IsSoundConnection, AreSound, IsRoomier, IsStreamRoomier, AreRoomier, TakesFrom, IsWrittenTo, KeepsEntry}
+use Rattle.engine_feed.specs.Sound.{IsInStep, IsSoundConnection, AreSound, IsRoomier, IsWrittenTo, KeepsEntry}
 use Rattle.engine_feed.specs.Sound.{IsAnswered}
 use Rattle.engine_feed.specs.Sound.{HasRoomToReply, HaveRoomToAdmit}
 use Rattle.engine_feed.specs.Words.{rooms, IsOwn, Adds, Keeps}
@@ -88,26 +83,7 @@ roomier-sound c c' r s =
     let answered : IsAnswered c c' = r.same ∙ ap (λ (k : ℕ). record c { output = c'.output; owed = k }) (sym owed) in
     record { in_step = in-step-answered c c' answered s.in_step; room = omega (arith, owed, len, room, old) }
 
-pub stream-roomier-sound : (c c' : ConnectionState) → IsStreamRoomier c c' → IsSoundConnection c → IsSoundConnection c'
-stream-roomier-sound c c' r s =
-    subst IsSoundConnection (sym r.same) (record {
-      in_step = record {
-        reassembler = subst (λ (bytes : List ℕ). (read_stream bytes).at ≡ c.reassembler) (sym r.items) s.in_step.reassembler;
-        fault = subst (λ (bytes : List ℕ). (scan_stream bytes).fault ≡ option_map fault_number c.fault) (sym r.items) s.in_step.fault;
-        records = subst (λ (bytes : List ℕ). length (scan_stream bytes).served ≡ c.records) (sym r.items) s.in_step.records;
-        few = subst (λ (k : ℕ). c.records ≤ k) (sym r.len) s.in_step.few;
-      };
-      room = s.room;
-    })
-
 -- ---- calls
-
-pub roomier-are-sound : (calls calls' : CallsState) → AreRoomier calls calls' → AreSound calls → AreSound calls'
-roomier-are-sound calls calls' r s =
-    let len = r.len in
-    let room = r.room in
-    let entries = s.entries in
-    subst AreSound (sym r.same) (record { admitted = s.admitted; places = s.places; entries = omega (arith, len, room, entries) })
 
 pub kept-sound : (calls calls' : CallsState) → KeepsEntry calls calls' → HaveRoomToAdmit calls → AreSound calls → AreSound calls'
 kept-sound calls calls' k entry s =
@@ -128,17 +104,3 @@ answered-keeps calls calls' c c' n bytes w k short s t room entry = record {
 }
 
 -- ---- bytes that are taken
-
-pub took-sound : (c c' : ConnectionState) (bytes : List ℕ) (taken : ℕ) (arrival : Arrival) → TakesFrom c c' bytes taken arrival → IsSoundConnection c → IsSoundConnection c'
-took-sound c c' bytes taken arrival t s =
-    record {
-      in_step = t.in_step;
-      room = subst (λ out. vec_len out + c'.owed ≤ vec_capacity out) (sym t.output)
-          (subst (λ (k : ℕ). vec_len c.output + k ≤ vec_capacity c.output) (sym t.owed) s.room);
-    }
-
-pub took-room : (c c' : ConnectionState) (bytes : List ℕ) (taken : ℕ) (arrival : Arrival) → TakesFrom c c' bytes taken arrival → HasRoomToReply c
-    → HasRoomToReply c'
-took-room c c' bytes taken arrival t r =
-    subst (λ out. vec_len out + (c'.owed + reply_limit) ≤ vec_capacity out) (sym t.output)
-    (subst (λ (k : ℕ). vec_len c.output + (k + reply_limit) ≤ vec_capacity c.output) (sym t.owed) r)

@@ -14,7 +14,7 @@ use Rattle.engine_feed.specs.declared.state.CallsState.{CallsState}
 use Rattle.engine_feed.specs.declared.stop.Stop.{Stop}
 use Rattle.engine_feed.specs.declared.stop.StreamFault.{StreamFault}
 use Rattle.engine_feed.specs.Numbers.{fault_number, stop_number}
-use Rattle.engine_feed.specs.Seen.{owed_by, pending}
+use Rattle.engine_feed.specs.Seen.{pending}
 use Rattle.engine_feed.specs.Streams.{scan_stream}
 use Rattle.engine_feed.specs.Feeding.{TakesAll}
 use Rattle.engine_feed.specs.Within.{IsSetup, IsPartOf, with_part}
@@ -128,25 +128,6 @@ pub stopped-by-memory : (setup : Setup) (w : World) (calls : CallsState) (c c' :
 stopped-by-memory setup w calls c c' n bytes k p s t some m r =
     subst (Walks setup (feeding n bytes 0 90) w) (sym (part-is calls n c' w (roomier-part calls n c c' w r p)))
     (stops_before setup w calls c n bytes k p s t some m)
-
--- what is added is counted from before the room was made
-pub stays-roomier : (calls calls' : CallsState) (n : ℕ) (c c' c'' : ConnectionState) → IsStreamRoomier c c' → StaysSound calls c' n calls' c''
-    → StaysSound calls c n calls' c''
-stays-roomier calls calls' n c c' c'' r s =
-    let same : owed_by c' ≡ owed_by c = ap owed_by r.same in
-    let owed = s.adds.owed in
-    record {
-      adds = record {
-        more = s.adds.more;
-        waiting = s.adds.waiting;
-        own = s.adds.own;
-        owed = omega (arith, same, owed);
-        running = s.adds.running;
-        layout = s.adds.layout;
-      };
-      is_sound = s.is_sound;
-      are_sound = s.are_sound;
-    }
 
 -- ---- the whole feed
 

@@ -1,6 +1,5 @@
 -- Ranges in use, counted one place after another.
-use Rattle.std.proofs.Common.{◌≡◌, ◌+◌, ◌<◌, ◌≤◌, ℕ, suc, List, length, Option, sym, ap, ◌∙◌, arith}
-use Rattle.std.proofs.Math.Nat.{zero-add}
+use Rattle.std.proofs.Common.{◌≡◌, ◌+◌, ◌<◌, ◌≤◌, ℕ, suc, List, length, Option, ap, ◌∙◌, arith}
 use Rattle.std.specs.Prelude.{slice_index_or, if◌then◌else◌}
 use Rattle.nfs_model.specs.volume.Ranges.{RangeValue}
 use Rattle.parcels.specs.state.Contents.{each}
@@ -15,12 +14,6 @@ module _ (f : ℕ → RangeValue) (all : ℕ) where
 
   pub used-all : (at used : ℕ) → UsedSoFar at used → 16 ≤ at → at ≤ 16 → used ≡ all
   used-all at used sofar past most = let rest = sofar.1 0 (omega (arith, past, most)) in omega (arith, rest)
-
-pub used-first : (f : ℕ → RangeValue) → UsedSoFar f (ranges_used (each f 0 16)) 0 0
-used-first f = (
-  omega arith,
-  λ m all. zero-add (ranges_used (each f 0 m)) ∙ ap (λ (n : ℕ). ranges_used (each f 0 n)) (sym (zero-add m) ∙ all),
-)
 
 -- one place more
 module _ {P : Type 0} (places : List (Option (FilerRange P))) where

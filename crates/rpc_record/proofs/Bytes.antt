@@ -1,5 +1,5 @@
 -- Lists of bytes.
-use Rattle.std.proofs.Common.{ℕ, zero, suc, ◌<◌, arith, List, [], ◌∷◌, ◌++◌, get_or, take}
+use Rattle.std.proofs.Common.{ℕ, zero, suc, ◌<◌, arith, List, [], ◌∷◌, ◌++◌, get_or}
 use Rattle.rpc_record.specs.Stream.{AreBytes}
 
 -- bytes by index
@@ -11,12 +11,6 @@ are_bytes (b ∷ bytes) h = (h zero, are_bytes bytes (λ i. h (suc i)))
 pub AreBytes-append : (xs ys : List ℕ) → AreBytes xs → AreBytes ys → AreBytes (xs ++ ys)
 AreBytes-append [] ys p q = q
 AreBytes-append (x ∷ xs) ys p q = (p.0, AreBytes-append xs ys p.1 q)
-
--- fewer bytes
-pub AreBytes-take : (n : ℕ) (xs : List ℕ) → AreBytes xs → AreBytes (take n xs)
-AreBytes-take zero xs h = tt
-AreBytes-take (suc n) [] h = tt
-AreBytes-take (suc n) (x ∷ xs) h = (h.0, AreBytes-take n xs h.1)
 
 -- each is a byte
 pub below : (bytes : List ℕ) → AreBytes bytes → (i : ℕ) → get_or bytes i 0 < 256

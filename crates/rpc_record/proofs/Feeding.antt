@@ -1,5 +1,5 @@
 -- What feeding and looking say of a stream that the caller keeps.
-use Rattle.std.proofs.Common.{Bool, true, false, cond, ◌≡◌, ℕ, ◌<◌, ◌≤◌, ◌⊎◌, inl, inr, List, [], ◌∷◌, ◌++◌, length, take, refl, sym, ap, subst, ◌∙◌, arith}
+use Rattle.std.proofs.Common.{Bool, true, false, cond, ◌≡◌, ℕ, ◌<◌, ◌≤◌, List, [], ◌∷◌, ◌++◌, length, take, refl, sym, ap, subst, ◌∙◌, arith}
 use Rattle.std.proofs.Common.{Option, Some, None, IsSome}
 use Rattle.std.proofs.lemmas.List.{append-nil}
 use Rattle.std.proofs.Math.Seq.{take-length}
@@ -18,14 +18,6 @@ pub feeds_more : (failed : Bool) (s new : State) (now : Option State) (bytes : L
     → Feeds now bytes taken steps.More (cond failed None (Some new))
 feeds_more true s new now bytes taken some v e all = let none : IsSome {T = State} None = subst (λ (o : Option State). IsSome o) (sym v) some in absurd cc
 feeds_more false s new now bytes taken some v e all = (all, (new, ap (λ (o : Option State). outcome o bytes) (sym v) ∙ e, refl))
-
--- Bytes that lead to no record and no fault are all taken, if there is memory.
-pub more_answers : (bytes : List ℕ) (old new : Option State) (taken : ℕ) (step : Step) → IsMore (outcome old bytes) → Feeds old bytes taken step new
-    → ((step ≡ steps.More) × (taken ≡ length bytes)) ⊎ ((step ≡ steps.NoMemory) × (taken ≡ 0) × (new ≡ old))
-more_answers bytes old new taken (steps.Record made) more f = let wrong : Made taken made.items ≡ More more.0 = sym f.2 ∙ more.1 in absurd cc
-more_answers bytes old new taken steps.More more f = inl (refl, f.0)
-more_answers bytes old new taken steps.Fault more f = let wrong : Fault taken ≡ More more.0 = sym f.1 ∙ more.1 in absurd cc
-more_answers bytes old new taken steps.NoMemory more f = inr (refl, f.0, f.2)
 
 -- the same, by the answer alone
 pub more_gives_nothing : (bytes : List ℕ) (old new : Option State) (taken : ℕ) (step : Step) → IsMore (outcome old bytes) → Feeds old bytes taken step new

@@ -16,12 +16,6 @@ read_stream-append xs ys = read_on-append opening xs ys
 pub read_stream-push : (stream : List ℕ) (b : ℕ) → read_stream (stream ++ b ∷ []) ≡ byte_read (read_stream stream).records (read_stream stream).at b
 read_stream-push stream b = read_stream-append stream (b ∷ [])
 
--- after a fault nothing more is read
-pub read_on-failed : (records : List (List ℕ)) (bytes : List ℕ)
-    → read_on (record { records = records; at = None }) bytes ≡ record { records = records; at = None }
-read_on-failed records [] = refl
-read_on-failed records (b ∷ bytes) = read_on-failed records bytes
-
 -- what a scan of bytes says of reading them
 abbrev pub ReadsTo : ℕ → State → List ℕ → Outcome → Type 0
 ReadsTo t s bytes (More u) = (records : List (List ℕ)) → read_on (record { records = records; at = Some s }) bytes ≡ record { records = records; at = Some u }

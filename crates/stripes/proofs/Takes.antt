@@ -5,7 +5,7 @@ use Rattle.std.proofs.lemmas.Bool.{cases_lt}
 use Rattle.std.proofs.lemmas.Option.{same_Some}
 use Rattle.std.specs.BTreeMap.{is_at}
 use Rattle.nfs_model.specs.volume.Stripes.{Block, Place, place_cmp, span_blocks}
-use Rattle.stripes.specs.Spans.{Places, Spans, place_of, place_in, span_of, block_at, span_at, AllFilled, SameSpans, ChangesSpan, Where, There, Drops, Stays}
+use Rattle.stripes.specs.Spans.{Places, Spans, place_of, place_in, span_of, block_at, span_at, AllFilled, SameSpans, ChangesSpan, Where, There, Stays}
 use Rattle.stripes.specs.Spans.{Takes, TakesFirst, TakesNone, IsFirst, HasBlock, HasNoneFrom, FreesFirst}
 use Rattle.stripes.proofs.Keys.{key-cases, key-other, key-within}
 
@@ -121,18 +121,6 @@ none-left : (from : ℕ) (block : Block) (e : Bool) (o m n : Option Places) → 
 none-left from block e None m n is t gone = absurd t
 none-left from block e (Some a) None n is t gone = absurd t
 none-left from block e (Some a) (Some b) n is t gone = subst (Takes from block (Some a)) (sym gone) (b, subst (λ e. TakesFirst from block e a b) is t)
-
--- an array of which blocks are left, and one of which none is left
-pub takes-some : (from : ℕ) (block : Block) (e : Bool) (k : Place) (old new : Spans) → e ≡ false → ChangesSpan (There (TakesFirst from block e)) k old new
-    → ChangesSpan (Takes from block) k old new
-takes-some from block e k old new is changes = record { here = left-there from block e _ _ is changes.here; others = changes.others }
-
-pub takes-last : (from : ℕ) (block : Block) (e : Bool) (k : Place) (old mid new : Spans) → e ≡ true → ChangesSpan (There (TakesFirst from block e)) k old mid
-    → ChangesSpan Drops k mid new → ChangesSpan (Takes from block) k old new
-takes-last from block e k old mid new is changes drops = record {
-  here = none-left from block e _ (span_at mid k) _ is changes.here drops.here;
-  others = λ q other. drops.others q other ∙ changes.others q other;
-}
 
 -- what follows of what is taken, and where nothing is
 pub after-some : {A : Type 0} {P Q : A → Type 0} → ((x : A) → P x → Q x) → (o : Option A) → IfSome o P → IfSome o Q

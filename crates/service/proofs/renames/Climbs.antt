@@ -31,6 +31,3 @@ module _ (n : ℕ) (inodes : InodeMap) (target at : ℕ) (some : 0 < n) where
       ∙ ap (λ (b : Bool). b || on_parent (above at (parent_directory (get inodes at))) (climbs (n - 1) inodes target))
       (is-false at target elsewhere (at == target) refl)
       ∙ ap (λ (p : Option ℕ). on_parent p (climbs (n - 1) inodes target)) up
-
-pub climb-end : (n : ℕ) (inodes : InodeMap) (target at : ℕ) → n ≡ 0 → climbs n inodes target at ≡ (at == target)
-climb-end n inodes target at none = ap (λ (m : ℕ). climbs m inodes target at) none

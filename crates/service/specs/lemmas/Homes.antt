@@ -16,7 +16,7 @@ use Rattle.affinity_tree.specs.declared.affinity.Kind.TheVariants as kinds
 use Rattle.parcel_sets.specs.Sets.{volume_around}
 use Rattle.parcels.specs.state.Calls.{LieIn, handle_in}
 use Rattle.service_data.specs.HomeLemmas.{home-lies}
-use Rattle.service.specs.Running.{IsRun, IsRunInLogical, IsRunAt, IsRunIn, RunsAbove, BytesLieIn, fileid_in}
+use Rattle.service.specs.Running.{IsRun, IsRunAt, IsRunIn, RunsAbove, BytesLieIn, fileid_in}
 
 -- what its handle names, the first of RENAME's: a fileid of the node's volume; and what the node is
 pub record IsNodeOf (named : Option Named) (a : Affinity) : Type 0 where
@@ -193,10 +193,6 @@ only-census layout call at no_census = let above = (run-home layout call Serial 
 not-logical : (named : Option Named) (v : ℕ) → volume_home named ≡ Some (Logical v) → ⊥
 not-logical None v e = cc
 not-logical (Some n) v e = cc
-
-pub in-logical : (layout : Layout) (call : Call) (v : ℕ) → IsRunIn layout call (Logical v) → IsRunInLogical call
-in-logical layout (calls.FilesystemStatus handle) v at = not-logical (named_by layout handle) v at.1
-in-logical layout call v at = at.0
 
 -- on Volume only a WRITE, or FSSTAT
 not-volume : (named : Option Named) (v : ℕ) → logical_home named ≡ Some (Volume v) → ⊥

@@ -1,9 +1,9 @@
 -- A page is copied entry by entry.
 use Rattle.std.proofs.Common.{◌≡◌, refl, sym, subst, ◌∙◌, ap, ℕ, zero, suc, ◌+◌, ◌-◌, ◌<◌, ◌≤◌, Bool}
-use Rattle.std.proofs.Common.{true, false, nat_le, min, List, [], ◌∷◌, ◌++◌, length, take, drop, Option, None, Some, is_some, arith, add-one, append_assoc}
+use Rattle.std.proofs.Common.{true, false, nat_le, List, [], ◌∷◌, ◌++◌, length, take, drop, Option, None, Some, is_some, arith, add-one, append_assoc}
 use Rattle.std.proofs.Common.{length-append, if◌then◌else◌, Result, Ok, Err}
 use Rattle.std.proofs.lemmas.Bool.Decides.{nat_tests}
-use Rattle.std.proofs.lemmas.List.{append-nil, drop-map, take-map, drop-drop, take-append-drop, drop_at, length-take, length-drop, length-map}
+use Rattle.std.proofs.lemmas.List.{append-nil, drop-map, take-map, drop-drop, take-append-drop, drop_at, length-map}
 use Rattle.std.specs.Prelude.{OnErr}
 use Rattle.std.specs.List.{AllByRecursion, slice_get}
 use Rattle.nfs_model.specs.Types.{Listed}
@@ -126,11 +126,6 @@ pub run-filled : (slots : List Slot) (order run : List ℕ) (place : ℕ) → Al
 run-filled slots order run place a e =
     subst (λ l. AllByRecursion (λ s. is_some (in_slot slots s) ≡ true) l) e
     (all-take (λ s. is_some (in_slot slots s) ≡ true) (drop place order) (length run) (all-drop (λ s. is_some (in_slot slots s) ≡ true) order place a))
-
-pub run-within : (order run : List ℕ) (place : ℕ) → take (length run) (drop place order) ≡ run → length run ≤ length order - place
-run-within order run place e =
-    let n : min (length run) (length (drop place order)) ≡ length run = sym (length-take (length run) (drop place order)) ∙ ap (λ (l : List ℕ). length l) e in
-    let d = length-drop place order in omega (arith, n, d)
 
 -- what a run leaves to be copied
 pub run-next : (old new : List DirectoryEntry) (left place : ℕ) (rest : Option ℕ) (slots : List Slot) (order run : List ℕ) (whole : List Listed)

@@ -116,18 +116,6 @@ covers-below ps b k pos lt c = elim (dec_lt k (length ps)) [
       c)
 ]
 
--- what covers a node covers all that the node covers
-pub covers-through : (ps : List ℕ) → IsTree ps → (c b k : ℕ) → Covers ps c b → Covers ps b k → Covers ps c k
-covers-through ps t c b k cb bk = ⊎_elim
-    (λ (e : b ≡ k). subst (Covers ps c) e cb)
-    (λ (u : 0 < tally b (ancestors ps k)). ⊎_elim
-    (λ (e : c ≡ b). inr (subst (λ (z : ℕ). 0 < tally z (ancestors ps k)) (sym e) u))
-    (λ (w : 0 < tally c (ancestors ps b)). inr (through k u w)) cb) bk
-  where
-    through : (k : ℕ) → 0 < tally b (ancestors ps k) → 0 < tally c (ancestors ps b) → 0 < tally c (ancestors ps k)
-    through zero u w = absurd (omega arith)
-    through (suc k) u w = above-above ps t (suc k) (suc k) b c (omega arith) (omega arith) u w
-
 -- exclusion goes both ways
 pub excludes-back : (ps : List ℕ) (b c : ℕ) → Excludes ps b c → Excludes ps c b
 excludes-back ps b c = ⊎_elim

@@ -14,8 +14,7 @@ use Rattle.parcel_sets.specs.Exact.{HasExactly}
 use Rattle.depot.specs.declared.rule.view.View.{View}
 use Rattle.depot.specs.declared.rule.view.Entry.{Entry}
 use Rattle.depot.specs.rule.Sums.{total}
-use Rattle.depot.specs.rule.Machine.{IsLocal}
-use Rattle.depot.specs.rule.History.{Behaviour, AreHands, Steps, patched, listed, after}
+use Rattle.depot.specs.rule.History.{Behaviour, AreHands, patched, listed, after}
 use Rattle.depot.specs.rule.lemmas.Covering.{patched-in, patched-out}
 use Rattle.depot.specs.Grants.{HasWith, IsStep, HasInHand}
 use Rattle.desk.specs.laws.Books.{Lent, Books, settled, now, HasLent, IsWorked, HasHands}
@@ -143,9 +142,3 @@ module _ {P C R B : Type 0} (kind : P → Kind) (m : Behaviour P C R B) (b : Boo
         (λ x e d. out (subst (λ (z : Lent P). Covers ps (number_of b.layout z.affinity) k) (sym (inner l x e)) d))
         (λ x e d. out (subst (λ (z : Lent P). Covers ps (number_of b.layout z.affinity) k) (sym (inner l' x e)) d))
         ∙ sym (patched-out ps (number_of b.layout l.affinity) g (now b) k out))
-
--- a local machine's call is a step from whatever parcels agree under its affinity
-pub step-elsewhere : {P C R : Type 0} (steps : Steps P C R) → IsLocal steps
-    → (ps : List ℕ) (n : ℕ) (call : C) (reply : R) (f f' g : ℕ → Option P) → steps ps n call f reply f' → ((k : ℕ) → Covers ps n k → g k ≡ f k)
-    → steps ps n call g reply (patched ps n f' g)
-step-elsewhere steps local ps n call reply f f' g step same = (local ps n call f g reply f' step).1 same

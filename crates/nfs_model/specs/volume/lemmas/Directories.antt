@@ -4,7 +4,7 @@ use Rattle.std.proofs.Common.{not, nat_eq, List, [], ◌∷◌, ◌++◌, length
 use Rattle.std.specs.Cmp.Lexicographic.{pointwise, same_text, nat_list_eq_equiv}
 use Rattle.nfs_model.specs.Types.{Listed}
 use Rattle.nfs_model.specs.Names.{same_name, find_name, without_name}
-use Rattle.nfs_model.specs.volume.Directories.{DirectoryValue, found, added, removed, entry_added, IsOnlyOne, NamesDiffer, IsDirectory}
+use Rattle.nfs_model.specs.volume.Directories.{DirectoryValue, found, added, removed, IsOnlyOne, NamesDiffer, IsDirectory}
 
 -- ---- names that are the same
 
@@ -39,22 +39,9 @@ find-before : (es : List Listed) (e : Listed) (other : List ℕ) → same_name e
 find-before [] e other o = rw o refl
 find-before (x ∷ es) e other o = ap (λ r. if same_name x.name other then Some x else r) (find-before es e other o)
 
--- the name that is added is found
-pub found-added : (d : DirectoryValue) (name : List ℕ) (fileid : ℕ) → found d name ≡ None
-    → found (added name fileid d) name ≡ Some (entry_added name fileid d)
-found-added d name fileid f = find-last d.list (entry_added name fileid d) f
-
--- another name is found as before
-pub found-added-other : (d : DirectoryValue) (name : List ℕ) (fileid : ℕ) (other : List ℕ) → same_name name other ≡ false
-    → found (added name fileid d) other ≡ found d other
-found-added-other d name fileid other o = find-before d.list (entry_added name fileid d) other o
-
 length-push : (es : List Listed) (e : Listed) → length (es ++ e ∷ []) ≡ length es + 1
 length-push [] e = refl
 length-push (x ∷ es) e = let r = length-push es e in omega (arith, r)
-
-pub length-added : (d : DirectoryValue) (name : List ℕ) (fileid : ℕ) → length (added name fileid d).list ≡ length d.list + 1
-length-added d name fileid = length-push d.list (entry_added name fileid d)
 
 -- ---- after `removed`
 

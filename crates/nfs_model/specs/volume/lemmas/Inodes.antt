@@ -4,18 +4,16 @@ use Rattle.std.proofs.Common.{◌≡◌, refl, sym, ap, ◌∙◌, ℕ, ◌+◌,
 use Rattle.std.proofs.Common.{◌&&◌, List, [], ◌∷◌, length, Option, Some, None, is_some, if◌then◌else◌, arith}
 use Rattle.std.specs.declared.cmp.Ordering.{Ordering}
 use Rattle.std.specs.declared.cmp.Ordering.TheVariants.{Less, Equal, Greater}
-use Rattle.std.specs.Option.{option_map}
 use Rattle.std.specs.Ordering.{nat_cmp, is_eq}
 use Rattle.std.specs.Cmp.{nat_cmp_total, unsigned_tied}
 use Rattle.std.specs.FinMap.{FinMap, get, insert, remove, entries, len, find, put}
 use Rattle.std.specs.FinMap.{get-from_sorted, get-entries, entries-insert, entries-from_sorted, len-entries}
 use Rattle.std.specs.FinMap.{len-insert, len-remove}
 use Rattle.std.specs.FinMap.Entries.{by_order}
-use Rattle.std.proofs.lemmas.Bool.Decides.{nat_tests}
 use Rattle.std.proofs.lemmas.Map.Views.{exact_unsigned_eq}
 use Rattle.nfs_model.specs.Types.{Moment}
 use Rattle.nfs_model.specs.volume.Maps.{changed_value}
-use Rattle.nfs_model.specs.volume.lemmas.Numbered.{itself, get-insert_at, get-remove_at, get-changed_at, len-changed_at, insert-same, insert-twice}
+use Rattle.nfs_model.specs.volume.lemmas.Numbered.{itself, get-insert_at, get-remove_at, len-changed_at, insert-same, insert-twice}
 use Rattle.nfs_model.specs.volume.lemmas.Numbered.{insert-removed, removed-absent, remove-inserted, remove-absent}
 use Rattle.nfs_model.specs.volume.Inodes.{Inode, InodesValue, inode_of, filled_blocks, blocks_filled, settled_inode, inode_settled}
 use Rattle.nfs_model.specs.volume.Inodes.{inode_replaced, inode_set, inode_created, used_without, inode_dropped, inode_unmade}
@@ -104,38 +102,6 @@ inode-set-absent v fileid inode h = ap (λ o. inode_replaced o fileid inode v) h
 pub inode-set-other : (v : InodesValue) (fileid : ℕ) (inode : Inode) (q : ℕ) → (q == fileid) ≡ false → inode_of (inode_set fileid inode v) q ≡ inode_of v q
 inode-set-other v fileid inode q o = inode-set v fileid inode q ∙ ap (λ b. if b && is_some (inode_of v fileid) then Some inode else inode_of v q) o
 
-pub inode-settled : (v : InodesValue) (fileid : ℕ) (touch : Option Moment) (q : ℕ)
-    → inode_of (inode_settled fileid touch v) q ≡ (if q == fileid then option_map (settled_inode touch) (inode_of v fileid) else inode_of v q)
-inode-settled v fileid touch q = get-changed_at (settled_inode touch) fileid v.inodes q
-
-pub inode-settled-there : (v : InodesValue) (fileid : ℕ) (touch : Option Moment)
-    → inode_of (inode_settled fileid touch v) fileid ≡ option_map (settled_inode touch) (inode_of v fileid)
-inode-settled-there v fileid touch =
-    inode-settled v fileid touch fileid ∙ ap (λ b. if b then option_map (settled_inode touch) (inode_of v fileid) else inode_of v fileid) (itself fileid)
-
-pub inode-settled-other : (v : InodesValue) (fileid : ℕ) (touch : Option Moment) (q : ℕ) → (q == fileid) ≡ false
-    → inode_of (inode_settled fileid touch v) q ≡ inode_of v q
-inode-settled-other v fileid touch q o =
-    inode-settled v fileid touch q ∙ ap (λ b. if b then option_map (settled_inode touch) (inode_of v fileid) else inode_of v q) o
-
--- no touch settles nothing
-pub inode-settled-none : (v : InodesValue) (fileid : ℕ) → inode_settled fileid None v ≡ v
-inode-settled-none v fileid = ap (λ m. record v { inodes = m }) (by (get v.inodes fileid) refl)
-  where
-    by : (o : Option Inode) → get v.inodes fileid ≡ o → changed_value (settled_inode None) o fileid v.inodes ≡ v.inodes
-    by None h = refl
-    by (Some inode) h = insert-same v.inodes fileid inode h
-
--- to settle is to set what is settled
-pub inode-settled-set : (v : InodesValue) (fileid : ℕ) (touch : Option Moment) (inode : Inode) → IsInodes v → inode_of v fileid ≡ Some inode
-    → inode_settled fileid touch v ≡ inode_set fileid (settled_inode touch inode) v
-inode-settled-set v fileid touch inode i h =
-    let w = filled-within v fileid inode i h in
-    let u : v.used ≡ v.used - filled_blocks inode.kind + filled_blocks inode.kind = omega (arith, w) in
-    ap (λ o. record v { inodes = changed_value (settled_inode touch) o fileid v.inodes }) h
-    ∙ (ap (λ n. record v { used = n; inodes = insert v.inodes fileid (settled_inode touch inode) }) u
-    ∙ ap (λ o. inode_replaced o fileid (settled_inode touch inode) v) (sym h))
-
 pub inode-dropped : (v : InodesValue) (fileid q : ℕ) → inode_of (inode_dropped fileid v) q ≡ (if q == fileid then None else inode_of v q)
 inode-dropped v fileid q = get-remove_at v.inodes fileid q
 
@@ -146,14 +112,6 @@ pub inode-dropped-other : (v : InodesValue) (fileid q : ℕ) → (q == fileid) �
 inode-dropped-other v fileid q o = inode-dropped v fileid q ∙ ap (λ b. if b then None else inode_of v q) o
 
 -- ---- changes that change nothing, or nothing more
-
-pub inode-settled-absent : (v : InodesValue) (fileid : ℕ) (touch : Option Moment) → inode_of v fileid ≡ None → inode_settled fileid touch v ≡ v
-inode-settled-absent v fileid touch h = ap (λ o. record v { inodes = changed_value (settled_inode touch) o fileid v.inodes }) h
-
-pub inode-dropped-absent : (v : InodesValue) (fileid : ℕ) → inode_of v fileid ≡ None → inode_dropped fileid v ≡ v
-inode-dropped-absent v fileid h =
-    (λ i. record v { used = used_without v.used (h i); inodes = remove v.inodes fileid })
-    ∙ ap (λ m. record v { inodes = m }) (remove-absent v.inodes fileid h)
 
 pub inode-set-same : (v : InodesValue) (fileid : ℕ) (inode : Inode) → IsInodes v → inode_of v fileid ≡ Some inode → inode_set fileid inode v ≡ v
 inode-set-same v fileid inode i h =
@@ -303,16 +261,6 @@ dropped-is v fileid i = record {
     by None h = i.filled ∙ ap (λ m. blocks_filled (entries m)) (sym (remove-absent v.inodes fileid h))
     by (Some old) h = let s = filled-split v.inodes fileid old h in let u = i.filled in omega (arith, s, u)
 
-pub unmade-is : (v : InodesValue) → IsInodes v → IsInodes (inode_unmade v)
-unmade-is v i = record {
-  fileids = λ f y h. by f y (f == (v.next - 1)) refl (sym (get-remove_at v.inodes (v.next - 1) f) ∙ h);
-  filled = (dropped-is v (v.next - 1) i).filled;
-}
-  where
-    by : (f : ℕ) (y : Inode) (b : Bool) → b ≡ (f == (v.next - 1)) → (if b then None else get v.inodes f) ≡ Some y → f < v.next - 1
-    by f y true p g = absurd (grind (arith, g))
-    by f y false p g = let l = i.fileids f y g in grind (arith, nat_tests, p, l)
-
 -- one made and unmade leaves all as it was
 pub unmade-created : (v : InodesValue) (inode : Inode) → IsInodes v → inode_unmade (inode_created inode v) ≡ v
 unmade-created v inode i =
@@ -326,9 +274,3 @@ unmade-created v inode i =
       used = (ap (used_without (v.used + filled_blocks inode.kind)) found ∙ gone) x;
       inodes = (ap (remove made) last ∙ back) x;
     }
-
--- the fileid that was given last has an inode after a creation
-pub made-last : (v : InodesValue) (inode : Inode) → is_some (inode_of (inode_created inode v) ((inode_created inode v).next - 1)) ≡ true
-made-last v inode =
-    let last : v.next + 1 - 1 ≡ v.next = omega arith in
-    ap (λ q. is_some (inode_of (inode_created inode v) q)) last ∙ ap (λ o. is_some o) (inode-created-there v inode)

@@ -1,13 +1,10 @@
 -- From what a handler promises of a task on all that is stored to what a run of it comes to by parcels.
-use Rattle.std.proofs.Common.{◌≡◌, ℕ, ◌<◌, true, false, length, Option, Some, None, refl, sym, ap, ◌∙◌, subst}
-use Rattle.std.specs.Prelude.{IsTrue}
-use Rattle.nfs_model.specs.Types.{Asked, Ask, Grow, Credential, Moment, SystemError}
-use Rattle.nfs_model.specs.Tree.{Layout, VolumeLayout, Affinity, Serial, Aggregate, path, aggregate_in, aggregate_of}
-use Rattle.nfs_model.specs.Home.{grow_home}
+use Rattle.std.proofs.Common.{◌≡◌, ℕ, ◌<◌, true, false, length, Option, None, refl, ap}
+use Rattle.nfs_model.specs.Types.{Asked, Moment, SystemError}
+use Rattle.nfs_model.specs.Tree.{Layout, Affinity, Serial, Aggregate}
 use Rattle.nfs_model.specs.Work.{Outcome, Replied, Starved, Moved}
 use Rattle.affinity_tree.specs.Fault.{fault_of}
 use Rattle.affinity_tree.specs.Numbers.{number_of, parents}
-use Rattle.affinity_tree.specs.lemmas.Ways.{begins-self}
 use Rattle.parcel_sets.specs.Sets.{aggregate_parcels, serial_parcels}
 use Rattle.parcels.specs.state.Parcels.{FilerParcel}
 use Rattle.parcels.specs.state.Contents.{FilerContents, filer_contents}
@@ -18,7 +15,7 @@ use Rattle.parcels.specs.state.Lenses.{Lens, aggregate_lens, serial_lens}
 use Rattle.parcels.specs.state.Promises.{IsRight, IsSeenBy}
 use Rattle.parcels.specs.state.Running.{task_under, finished_at, UnlessReplied, MovesTo, Runs}
 use Rattle.parcels.specs.state.Sets.{FilerAggregate, FilerSerial, aggregate_set, serial_set}
-use Rattle.parcels.specs.laws.lemmas.Steps.{laid-out, get-some}
+use Rattle.parcels.specs.laws.lemmas.Steps.{laid-out}
 use Rattle.parcels.specs.laws.lemmas.Kinds.{aggregate-step, serial-step}
 use Rattle.parcels.specs.laws.lemmas.SeenSets.{aggregate-seen, serial-seen}
 use Rattle.parcels.specs.totals.Running.{RunsOnAll}
@@ -81,14 +78,3 @@ module _ {P : Type 0} (layout : Layout) (lawful : fault_of layout ≡ None) (ask
       (λ job reply step. serial-step layout lawful job reply old new step) outcome right
       (unless-mapped outcome (new ≡ old) ((k : ℕ) → serial_parcels layout Serial new k ≡ serial_parcels layout Serial old k)
       (λ e k. ap (λ (h : FilerSerial P). serial_parcels layout Serial h k) e) same)
-
--- GROW of a volume that is there has the volume's Aggregate as its home
-pub grow-home : (layout : Layout) (v more : ℕ) (credential : Credential) → v < length layout.volumes
-    → IsHomeOrAbove layout (Ask (Grow v more) credential) (Aggregate (aggregate_of layout v))
-grow-home layout v more credential on =
-    let found = get-some layout.volumes v on in
-    let node : Affinity = Aggregate (aggregate_of layout v) in (
-      node,
-      ap grow_home found.1 ∙ ap (λ (o : Option VolumeLayout). Some (Aggregate (aggregate_in o))) (sym found.1),
-      subst IsTrue (sym (begins-self (path layout node))) refl,
-    )
