@@ -1,6 +1,7 @@
 //! Replies.
 
-ghost use Rattle.std.specs.Prelude.{◌≡◌, ◌+◌, ◌*◌, ◌≤◌, ◌<◌, ◌^◌, ◌++◌, length, IsOk, OnOk, OnErr};
+ghost use Rattle.std.specs.Prelude.{◌≡◌, ◌+◌, ◌*◌, ◌≤◌, ◌<◌, ◌^◌, ◌++◌, length};
+ghost use Rattle.std.specs.Prelude.{IsOk, OnOk, OnErr};
 ghost use Rattle.std.specs.Prelude.{[], vec_len, vec_capacity, IsTrue};
 ghost use Rattle.std.specs.List.{flat_map};
 ghost use Rattle.xdr.specs.Shape.{word};
@@ -215,12 +216,14 @@ fn append_read(xid: u32, reply: &mut Reply, out: &mut Vec<u8>)
     }
 }
 
-/// Writes the record of a reply where nothing is written yet, or nothing. The bytes of a READ
-/// aren't copied: their vector comes in the place of what there was, and the reply has none left.
+/// Writes the record of a reply where nothing is written yet. The bytes of a READ aren't copied:
+/// their vector comes in the place of what there was, and the reply has none left. Where there is
+/// no memory nothing is written, and the reply stays as it was.
 pub fn move_reply_record(out: &mut Vec<u8>, xid: u32, reply: &mut Reply) -> Result<(), AllocError>
     requires empty { out.old.items ≡ [] }
     requires short { length (reply_bytes xid (reply_of reply.old)) ≤ limit }
     ensures ok { OnOk result (out.new.items ≡ reply_record xid (reply_of reply.old)) }
+    ensures err { OnErr result ((out.new.items ≡ []) × (reply.new ≡ reply.old)) }
     ensures succeeds { length (reply_record xid (reply_of reply.old)) ≤ vec_capacity out.old
         → IsOk result }
 {

@@ -94,12 +94,11 @@ fn lists(
     room: usize,
     wanted: &Listed,
 ) {
-    let mut entries = Vec::new(rt.alloc());
-    let told = directory.append_page(rt.alloc(), Cookie(cookie), room, &mut entries);
-    let is_last = told.expect(rt, "no memory");
-    let cookies = (cookie_of(&entries, 0), cookie_of(&entries, 1));
-    let listed = (entries.len(), cookies.0, cookies.1, is_last);
-    mem::forget(entries);
+    let told = directory.page(rt.alloc(), Cookie(cookie), room);
+    let page = told.expect(rt, "no memory");
+    let cookies = (cookie_of(&page.entries, 0), cookie_of(&page.entries, 1));
+    let listed = (page.entries.len(), cookies.0, cookies.1, page.is_last);
+    mem::forget(page);
     same(rt, &listed, wanted);
 }
 

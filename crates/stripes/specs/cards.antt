@@ -1,2 +1,3 @@
 pub mod Cards
+pub mod Chunks
 pub mod Counts

@@ -2,6 +2,8 @@
 
 mod card;
 mod cards;
+mod chunk;
+mod chunks;
 mod counts;
 mod packed;
 

@@ -1,6 +1,6 @@
 //! Cards by fileid.
 
-ghost use Rattle.std.specs.Prelude.{◌≡◌, ℕ, Some, is_some, IsOk, IsSome, OnOk, OnErr};
+ghost use Rattle.std.specs.Prelude.{◌≡◌, IsOk, IsSome, OnOk, OnErr};
 ghost use Rattle.std.specs.Option.{option_map};
 ghost use Rattle.std.specs.FinMap.{empty, get, insert, remove};
 ghost use Rattle.nfs_values.specs.Moment.{moment_of};
@@ -12,19 +12,11 @@ ghost use Rattle.nfs_model.specs.volume.Stripes.{
   card_touched,
   card_settled,
 };
-ghost use Rattle.stripes.specs.cards.Cards.{
-  card_of,
-  packed_card,
-  card_at,
-  card_resized,
-  Puts,
-  Changes,
-};
-ghost use Rattle.stripes.specs.cards.Counts.{is_untouched};
+ghost use Rattle.stripes.specs.cards.Cards.{card_of};
 
-use crate::cards::card::{Card, is_untouched, resized, settled, touch_on, touched};
+use crate::cards::card::{Card, touch_on};
+use crate::cards::chunks::{Chunks, card_in, put, remove_at, resize_at, take_touch_at, touch_at};
 use crate::cards::counts::{TouchCounts, class_of, count_down, count_up, no_touches};
-use crate::cards::packed::{Packed, pack, unpack};
 use nfs_values::{Fileid, Moment};
 use std::alloc::{AllocError, Global};
 use std::collections::BTreeMap;
@@ -32,7 +24,10 @@ use std::marker::Model;
 
 /// A map from fileids to cards.
 pub struct Cards {
-    by_fileid: BTreeMap<u64, Packed>,
+    alloc: Global,
+    chunks: Chunks,
+    /// The number of the chunk that is kept though it may be empty.
+    kept: u64,
     /// How many cards have a touch, so that where there is none the map isn't asked for it.
     touches: TouchCounts,
 }
@@ -41,7 +36,9 @@ pub struct Cards {
 impl Drop for Cards {
     fn drop(self) {
         let Cards {
-            by_fileid: _,
+            alloc: _,
+            chunks: _,
+            kept: _,
             touches: _,
         } = self;
     }
@@ -54,16 +51,16 @@ impl Model for Cards {
     ghost use Rattle.std.specs.Ordering.{nat_cmp};
     ghost use Rattle.nfs_model.specs.volume.Stripes as values;
     ghost use Rattle.nfs_model.specs.volume.Codes.{coded_card};
-    ghost use Rattle.stripes.specs.cards.Cards.{cards_of};
+    ghost use Rattle.stripes.specs.cards.Chunks.{cards_of};
     ghost use Rattle.stripes.specs.cards.Counts.{AreCounted};
 
     ghost Value = { FinMap nat_cmp values.Card };
 
     ghost coded = { maps.code coded_ℕ coded_card };
 
-    ghost view = { λ c. cards_of c.by_fileid.entries };
+    ghost view = { λ c. cards_of c.chunks.entries };
 
-    ghost invariant = { λ c. AreCounted c.touches (cards_of c.by_fileid.entries) };
+    ghost invariant = { λ c. AreCounted c.touches (cards_of c.chunks.entries) };
 }
 
 impl Cards {
@@ -72,7 +69,9 @@ impl Cards {
         ensures { result ≡ empty }
     {
         Cards {
-            by_fileid: BTreeMap::new(alloc),
+            alloc,
+            chunks: BTreeMap::new(alloc),
+            kept: 0,
             touches: no_touches(),
         }
     }
@@ -81,7 +80,7 @@ impl Cards {
     pub fn get(&self, fileid: Fileid) -> Option<Card>
         ensures { option_map card_of result ≡ get self.now fileid.0 }
     {
-        card_in(&self.by_fileid, fileid.0)
+        card_in(&self.chunks, fileid.0)
     }
 
     /// The touch of a file.
@@ -103,7 +102,12 @@ impl Cards {
         ensures succeeds { IsSome (get self.old fileid.0) → IsOk result }
     {
         let touch = self.touch_of(fileid);
-        put(&mut self.by_fileid, fileid.0, Card::File { size, touch })
+        put(
+            &mut self.chunks,
+            self.alloc,
+            fileid.0,
+            Card::File { size, touch },
+        )
     }
 
     /// Sets the card of a directory. Memory is needed only for a card that isn't there, and where
@@ -113,7 +117,7 @@ impl Cards {
         ensures err { OnErr result (self.new ≡ self.old) }
         ensures succeeds { IsSome (get self.old fileid.0) → IsOk result }
     {
-        put(&mut self.by_fileid, fileid.0, Card::Directory)
+        put(&mut self.chunks, self.alloc, fileid.0, Card::Directory)
     }
 
     /// Sets the size of a file whose card is there; the touch stays. It takes no memory.
@@ -122,14 +126,14 @@ impl Cards {
         ensures { self.new
             ≡ insert self.old fileid.0 (OfFile size (touch_of (get self.old fileid.0))) }
     {
-        resize_at(&mut self.by_fileid, fileid.0, size);
+        resize_at(&mut self.chunks, fileid.0, size);
     }
 
     /// Sets the touch of a file to the later of it and a moment. It takes no memory.
     pub fn touch(&mut self, fileid: Fileid, moment: Moment)
         ensures { self.new ≡ changed_at (card_touched (moment_of moment)) fileid.0 self.old }
     {
-        if touch_at(&mut self.by_fileid, fileid.0, moment) {
+        if touch_at(&mut self.chunks, fileid.0, moment) {
             count_up(&mut self.touches, class_of(fileid.0));
         }
     }
@@ -143,7 +147,7 @@ impl Cards {
         if self.touches[class] == 0 {
             return None;
         }
-        let touch = take_touch_at(&mut self.by_fileid, fileid.0);
+        let touch = take_touch_at(&mut self.chunks, fileid.0);
         if touch.is_some() {
             count_down(&mut self.touches, class);
         }
@@ -154,77 +158,8 @@ impl Cards {
     pub fn remove(&mut self, fileid: Fileid)
         ensures { self.new ≡ remove self.old fileid.0 }
     {
-        if has_touch(self.by_fileid.remove(&fileid.0)) {
+        if remove_at(&mut self.chunks, &mut self.kept, fileid.0) {
             count_down(&mut self.touches, class_of(fileid.0));
         }
-    }
-}
-
-/// The card under a fileid.
-fn card_in(by_fileid: &BTreeMap<u64, Packed>, fileid: u64) -> Option<Card>
-    ensures { option_map card_of result ≡ card_at by_fileid.now fileid }
-{
-    match by_fileid.get(&fileid) {
-        Some(packed) => Some(unpack(*packed)),
-        None => None,
-    }
-}
-
-/// Puts a card under a fileid. Memory is needed only where the fileid has none.
-fn put(by_fileid: &mut BTreeMap<u64, Packed>, fileid: u64, card: Card) -> Result<(), AllocError>
-    ensures ok { OnOk result (Puts fileid (card_of card) by_fileid.old by_fileid.new) }
-    ensures err { OnErr result ((q : ℕ) → card_at by_fileid.new q ≡ card_at by_fileid.old q) }
-    ensures succeeds { IsSome (card_at by_fileid.old fileid) → IsOk result }
-{
-    by_fileid.insert(fileid, pack(card))?;
-    Ok(())
-}
-
-/// Sets the size on a card, if it is there.
-fn resize_at(by_fileid: &mut BTreeMap<u64, Packed>, fileid: u64, size: u64)
-    ensures { Changes (card_resized size) fileid by_fileid.old by_fileid.new }
-{
-    if let Some(packed) = by_fileid.get_mut(&fileid) {
-        *packed = pack(resized(unpack(*packed), size));
-    }
-}
-
-/// Whether a card, if it is there, has a touch.
-fn has_touch(packed: Option<Packed>) -> bool
-    ensures { result ≡ is_some (touch_of (option_map packed_card packed)) }
-{
-    match packed {
-        Some(packed) => touch_on(Some(unpack(packed))).is_some(),
-        None => false,
-    }
-}
-
-/// Touches a card, if it is there, and tells whether it is the first touch of a file.
-fn touch_at(by_fileid: &mut BTreeMap<u64, Packed>, fileid: u64, moment: Moment) -> bool
-    ensures touched { Changes (card_touched (moment_of moment)) fileid by_fileid.old by_fileid.new }
-    ensures first { result ≡ is_untouched (card_at by_fileid.old fileid) }
-{
-    match by_fileid.get_mut(&fileid) {
-        Some(packed) => {
-            let card = unpack(*packed);
-            *packed = pack(touched(card, moment));
-            is_untouched(card)
-        }
-        None => false,
-    }
-}
-
-/// Takes the touch of a card, if it is there.
-fn take_touch_at(by_fileid: &mut BTreeMap<u64, Packed>, fileid: u64) -> Option<Moment>
-    ensures touch { option_map moment_of result ≡ touch_of (card_at by_fileid.old fileid) }
-    ensures taken { Changes card_settled fileid by_fileid.old by_fileid.new }
-{
-    match by_fileid.get_mut(&fileid) {
-        Some(packed) => {
-            let card = unpack(*packed);
-            *packed = pack(settled(card));
-            touch_on(Some(card))
-        }
-        None => None,
     }
 }

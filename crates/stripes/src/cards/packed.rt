@@ -1,14 +1,16 @@
 //! Cards as they are stored.
 
-ghost use Rattle.std.specs.Prelude.{◌≡◌};
+ghost use Rattle.std.specs.Prelude.{◌≡◌, Some};
+ghost use Rattle.std.specs.Option.{option_map};
 ghost use Rattle.stripes.specs.cards.Cards.{card_of, packed_card};
 
 use crate::cards::card::Card;
 use nfs_values::Moment;
 
-/// A card in 17 bytes, of which a map takes less room. Numbers are little-endian.
+/// A card in 17 bytes, of which a chunk takes less room, or none. Numbers are little-endian.
 #[derive(Clone, Copy)]
 pub enum Packed {
+    Absent,
     /// The size of a file without a touch.
     File([u8; 8]),
     /// The size of a file, and the seconds and nanoseconds of its touch.
@@ -18,7 +20,7 @@ pub enum Packed {
 
 /// A card as it is stored.
 pub fn pack(card: Card) -> Packed
-    ensures { packed_card result ≡ card_of card }
+    ensures { packed_card result ≡ Some (card_of card) }
 {
     match card {
         Card::File { size, touch: None } => Packed::File(size.to_le_bytes()),
@@ -34,22 +36,23 @@ pub fn pack(card: Card) -> Packed
     }
 }
 
-/// The card that is stored.
-pub fn unpack(packed: Packed) -> Card
-    ensures { card_of result ≡ packed_card packed }
+/// The card that is stored, if there is one.
+pub fn unpack(packed: Packed) -> Option<Card>
+    ensures { option_map card_of result ≡ packed_card packed }
 {
     match packed {
-        Packed::File(size) => Card::File {
+        Packed::Absent => None,
+        Packed::File(size) => Some(Card::File {
             size: u64::from_le_bytes(size),
             touch: None,
-        },
-        Packed::TouchedFile(size, seconds, nanoseconds) => Card::File {
+        }),
+        Packed::TouchedFile(size, seconds, nanoseconds) => Some(Card::File {
             size: u64::from_le_bytes(size),
             touch: Some(Moment {
                 seconds: u32::from_le_bytes(seconds),
                 nanoseconds: u32::from_le_bytes(nanoseconds),
             }),
-        },
-        Packed::Directory => Card::Directory,
+        }),
+        Packed::Directory => Some(Card::Directory),
     }
 }

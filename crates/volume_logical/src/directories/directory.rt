@@ -25,11 +25,17 @@ ghost use Rattle.nfs_model.specs.volume.Directories.{
   removed,
 };
 ghost use Rattle.volume_logical.specs.directories.Digits.{binary_digits};
-ghost use Rattle.volume_logical.specs.directories.Entries.{listed, page_told, page_behind};
+ghost use Rattle.volume_logical.specs.directories.Entries.{
+  listed,
+  page_told,
+  page_value,
+  page_behind,
+};
 ghost use Rattle.volume_logical.specs.directories.Index.{IsAt, IsIndexed, IsPlace, cookies};
 ghost use Rattle.volume_logical.specs.directories.Index.{fileid_number};
 
 use crate::directories::entries::Entries;
+use crate::directories::page::Page;
 use crate::directories::search::find_place;
 use crate::directories::spot::Spot;
 use crate::sequences::Sequence;
@@ -178,6 +184,19 @@ impl Directory {
         let spot = self.by_name.remove(search.place);
         self.entries.remove(spot.cookie);
         true
+    }
+
+    /// The entries after a cookie, as many as fit into a number of bytes, and whether none
+    /// remains after them. An entry takes 24 bytes and its name, padded to a multiple of 4
+    /// (entry3 with the mark of another item, RFC 1813 section 3.3.16). Memory runs out only where
+    /// an entry fits.
+    pub fn page(&self, alloc: Global, cookie: Cookie, room: usize) -> Result<Page, AllocError>
+        ensures ok { IfOk result (λ p. page_value p ≡ page self.now cookie.0 room) }
+        ensures err { OnErr result (0 < length (page self.now cookie.0 room).entries) }
+    {
+        let mut entries = Vec::new(alloc);
+        let is_last = self.append_page(alloc, cookie, room, &mut entries)?;
+        Ok(Page { entries, is_last })
     }
 
     /// Appends the entries after a cookie, as many as fit into a number of bytes, and tells whether

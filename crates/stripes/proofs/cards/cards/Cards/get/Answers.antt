@@ -5,4 +5,4 @@ use Rattle.stripes.proofs.cards.cards.Cards.get.Goals as goal
 
 pub returns : goal.returns
 returns c =
-    c.card_in.ensures ∙ sym (get-cards_of c.self.inside.by_fileid c.args.fileid.0) ∙ ap (λ m. get m c.args.fileid.0) c.self.view_is
+    c.card_in.ensures ∙ sym (get-cards_of c.self.inside.chunks c.args.fileid.0) ∙ ap (λ m. get m c.args.fileid.0) c.self.view_is

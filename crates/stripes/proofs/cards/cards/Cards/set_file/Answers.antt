@@ -1,7 +1,7 @@
 use Rattle.std.proofs.Common.{IsSome, sym, ap, subst, ◌∙◌}
 use Rattle.std.specs.FinMap.{get, insert}
 use Rattle.nfs_model.specs.volume.Stripes.{OfFile, touch_of}
-use Rattle.stripes.specs.cards.Cards.{cards_of}
+use Rattle.stripes.specs.cards.Chunks.{cards_of}
 use Rattle.stripes.proofs.cards.Changed.{get-cards_of, same-cards, put-cards, on_ok, on_err}
 use Rattle.stripes.specs.cards.Counts.{AreCounted}
 use Rattle.stripes.proofs.cards.Changed.{either}
@@ -10,22 +10,22 @@ use Rattle.stripes.proofs.cards.cards.Cards.set_file.Goals as goal
 
 pub returns-clause-ok : goal.returns-clause-ok
 returns-clause-ok c =
-    on_ok (λ puts. put-cards c.args.fileid.0 _ c.self.inside.by_fileid c.put.new.by_fileid puts
-    ∙ ap (λ touch. insert (cards_of c.self.inside.by_fileid.entries) c.args.fileid.0 (OfFile c.args.size touch))
+    on_ok (λ puts. put-cards c.args.fileid.0 _ c.self.inside.chunks c.put.new.chunks puts
+    ∙ ap (λ touch. insert (cards_of c.self.inside.chunks.entries) c.args.fileid.0 (OfFile c.args.size touch))
     c.touch_of-touch.ensures
     ∙ ap (λ m. insert m c.args.fileid.0 (OfFile c.args.size (touch_of (get c.args.self.now c.args.fileid.0)))) c.self.view_is) c.put.result c.put.ensures.ok
 
 pub returns-clause-err : goal.returns-clause-err
-returns-clause-err c = on_err (λ same. same-cards c.self.inside.by_fileid c.put.new.by_fileid same ∙ c.self.view_is) c.put.result c.put.ensures.err
+returns-clause-err c = on_err (λ same. same-cards c.self.inside.chunks c.put.new.chunks same ∙ c.self.view_is) c.put.result c.put.ensures.err
 
 pub returns-clause-succeeds : goal.returns-clause-succeeds
 returns-clause-succeeds c = λ there.
-    c.put.ensures.succeeds (subst IsSome (ap (λ m. get m c.args.fileid.0) (sym c.self.view_is) ∙ get-cards_of c.self.inside.by_fileid c.args.fileid.0) there)
+    c.put.ensures.succeeds (subst IsSome (ap (λ m. get m c.args.fileid.0) (sym c.self.view_is) ∙ get-cards_of c.self.inside.chunks c.args.fileid.0) there)
 
 pub invariant_of-self : goal.invariant_of-self
 invariant_of-self c =
-    let old = c.self.inside.by_fileid in
-    let new = c.put.new.by_fileid in
+    let old = c.self.inside.chunks in
+    let new = c.put.new.chunks in
     either c.put.result c.put.ensures.ok c.put.ensures.err
     (λ puts. subst (AreCounted c.self.inside.touches) (sym (put-cards c.args.fileid.0 _ old new puts))
     (counted-set c.self.inside.touches (cards_of old.entries) c.args.fileid.0 _
