@@ -15,8 +15,8 @@ use Rattle.nfs_model.specs.volume.lemmas.Maps.{get-changed_at}
 use Rattle.nfs_model.specs.volume.Stripes.{OfFile, touch_of}
 use Rattle.nfs_model.specs.volume.Stripes as values
 use Rattle.stripes.specs.cards.Cards.{card_resized}
+use Rattle.stripes.proofs.cards.Slots.{unlike}
 use Rattle.stripes.specs.cards.Chunks.{chunk_cards, Slots, slot_of, slot_in, card_at, with_slot, with_slots, cards_of, Puts, Changes, Removes, Same}
-use Rattle.stripes.proofs.Places.{unlike}
 
 get-with_slot : (k : ℕ) (o : Option values.Card) (m : FinMap nat_cmp values.Card) (q : ℕ) → get (with_slot k o m) q ≡ cond (q == k) o (get m q)
 get-with_slot k None m q = get-remove nat_cmp_total m k q ∙ ap (λ b. cond b None (get m q)) (unsigned_tied q k)

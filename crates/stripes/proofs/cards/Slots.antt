@@ -1,7 +1,8 @@
 -- What is done to one chunk, seen by fileids, and how many cards it has then.
-use Rattle.std.proofs.Common.{◌≡◌, ℕ, zero, suc, ◌+◌, ◌%◌, ◌<◌, ◌≤◌, ◌==◌, Bool, true, false, cond, List, [], ◌∷◌, map, length, get_or, set, replicate}
+use Rattle.std.proofs.Common.{◌≡◌, ◌≢◌, ℕ, zero, suc, ◌+◌, ◌%◌, ◌<◌, ◌≤◌, ◌==◌, Bool, true, false, cond, List, [], ◌∷◌, map, length, get_or, set, replicate}
 use Rattle.std.proofs.Common.{Option, Some, None, is_some, refl, sym, ap, ◌∙◌, inl, inr, arith, eq-eqb}
 use Rattle.std.proofs.lemmas.Bool.{cases_eq}
+use Rattle.std.proofs.lemmas.Bool.Decides.{nat_tests}
 use Rattle.std.proofs.lemmas.List.{map-set, get_or-map, get_or-set_same, get_or-set_other, length-map, length-set, length-replicate, get_or-replicate}
 use Rattle.nfs_model.specs.volume.Stripes.{Card}
 use Rattle.stripes.specs.declared.cards.packed.Packed.{Packed}
@@ -9,7 +10,9 @@ use Rattle.stripes.specs.declared.cards.packed.Packed.TheVariants as packed
 use Rattle.stripes.specs.cards.Cards.{packed_card}
 use Rattle.stripes.specs.cards.Chunks.{chunk_cards, Slots, slot_of, used_in}
 use Rattle.stripes.specs.cards.Counts.{one_if}
-use Rattle.stripes.proofs.Places.{unlike}
+
+pub unlike : (a b : ℕ) → a ≢ b → (a == b) ≡ false
+unlike a b h = grind (arith, nat_tests)
 
 -- ---- one chunk
 
