@@ -1,5 +1,5 @@
 -- One write to a connection, by its answer.
-use Rattle.std.proofs.Common.{◌≡◌, ◌==◌, ◌+◌, ◌<◌, ◌≤◌, ℕ, Bool, true, false, true≢false, ne_eqb, List, [], ◌∷◌, ◌++◌, length, length-append, take, drop, Option, Some, None, refl, sym, ap, subst, ◌∙◌, append-nil, append_assoc, take-append-drop, inl, inr, arith}
+use Rattle.std.proofs.Common.{◌≡◌, ◌==◌, ◌+◌, ◌<◌, ◌≤◌, ℕ, Bool, true, false, true≢false, ne_eqb, List, [], ◌∷◌, ◌++◌, length, length-append, take, drop, Option, Some, None, refl, sym, ap, subst, ◌∙◌, append-nil, append_assoc, take-append-drop, ◌⊎◌, inl, inr, arith}
 use Rattle.std.specs.Prelude.{IsTrue}
 use Rattle.std.proofs.lemmas.List.{drop-append-le, length-take-le}
 use Rattle.std.proofs.KnownBytes.{Appends-kept, Appends-nil}
@@ -8,16 +8,18 @@ use Rattle.std.specs.Io.KnownBytes.{Appends, Keeps}
 use Rattle.outboxes.specs.Boxes.{Boxes, oldest, taken}
 use Rattle.outboxes.specs.Messages.{ReplyMessage, record_of}
 use Rattle.connections.specs.tcp_front.Writing.{records_of}
+use Rattle.lanes.specs.declared.connection.Connection.{Connection}
 use Rattle.lanes.specs.declared.told.Told.{Told}
 use Rattle.lanes.specs.declared.told.Told.TheVariants as tolds
 use Rattle.lanes.specs.declared.watched.Watched.{Watched}
 use Rattle.lanes.specs.declared.writing.Sent.{Sent}
 use Rattle.lanes.specs.declared.writing.Sent.TheVariants as sents
 use Rattle.lanes.specs.Told.{device_of, HasCalled, HasGiven, MovesAtMost}
+use Rattle.lanes.specs.Connections.{number_of}
 use Rattle.lanes.specs.Rests.{list_of}
 use Rattle.lanes.specs.Taking.{IsOut, Takes}
-use Rattle.lanes.specs.Joining.{HasJoined}
-use Rattle.lanes.specs.Writing.{all_of, ComesTo, HasSent, HasWrittenParts, IsOutcome, Tells}
+use Rattle.lanes.specs.Joining.{HasJoined, IsOutAs}
+use Rattle.lanes.specs.Writing.{all_of, breaks, ComesTo, HasSent, HasWrittenAs, HasWrittenParts, IsOutcome, Tells}
 use Rattle.lanes.specs.lemmas.Taking.{takes-first, takes-more, takes-none, takes-out}
 use Rattle.lanes.specs.lemmas.Writing.{record-some, records-append}
 
@@ -184,6 +186,22 @@ module _ {D : Type 0} (unread written : D → Option (List ℕ)) (number : ℕ) 
     tells = tells-all result s.sent n e out s.comes_to;
   }
 
+-- nothing was there
+pub parts-none : {D : Type 0} (unread written : D → Option (List ℕ)) (number : ℕ) (old : Watched D) (boxes boxes' : Boxes)
+    (before buffer rest : List ℕ) → (h : HasJoined number boxes before None boxes' buffer) → before ≡ [] → rest ≡ [] → buffer ≡ []
+    → Keeps (unread (device_of old)) (unread (device_of old)) → Appends (written (device_of old)) (written (device_of old)) []
+    → HasWrittenParts unread written number old rest boxes sents.All old rest boxes'
+parts-none unread written number old boxes boxes' before buffer rest h blank none empty apart out = record {
+  taken = h.joined ++ [];
+  sent = [];
+  takes = h.takes;
+  split = all-joined unread written number old old boxes boxes' None before buffer rest rest h blank none
+      ∙ append-nil buffer ∙ empty ∙ sym none;
+  went_out = out;
+  apart = apart;
+  tells = (h.out, inl (none, refl, refl));
+}
+
 pub some-waits : (rest buffer : List ℕ) (m : ReplyMessage) → rest ≡ drop 0 buffer ++ records_of (m ∷ []) → 0 < length rest
 some-waits rest buffer m e =
     let first = record-some m in
@@ -213,6 +231,11 @@ parts-rest unread written number old new boxes rest rest' result s n = record {
     by sents.Failed n c = c
 
 -- ---- the call
+
+pub as-whole : {D : Type 0} (unread written : D → Option (List ℕ)) (old : Connection D) (boxes : Boxes) (result : Sent) (new : Connection D)
+    (boxes' : Boxes) (b : Bool) → b ≡ false → HasWrittenAs false unread written old boxes result new boxes'
+    → HasWrittenAs b unread written old boxes result new boxes'
+as-whole unread written old boxes result new boxes' b e h = subst (λ (x : Bool). HasWrittenAs x unread written old boxes result new boxes') (sym e) h
 
 -- ---- records that are joined
 

@@ -35,6 +35,14 @@ use Rattle.parcels.specs.state.Jobs.{takes, gives}
 
 -- ---- the queue's layout
 
+-- what fits a queue of a layout fits the layout
+pub placed-by : (layout : trees.Layout) (v : Passed) (m : Message) → layout_known v ≡ Some layout → FitsIn Fits v.key m → IsPlaced layout m
+placed-by layout v m known fits = by v.key known fits
+  where
+    by : (key : Option Layout) → option_map layout_of key ≡ Some layout → FitsIn Fits key m → IsPlaced layout m
+    by None e f = absurd f
+    by (Some key) e f = subst (λ (x : trees.Layout). IsPlaced x m) (let same : layout_of key ≡ layout = cc in same) f
+
 -- and the other way round
 pub fits-by : (layout : trees.Layout) (v : Passed) (m : Message) → layout_known v ≡ Some layout → IsPlaced layout m → FitsIn Fits v.key m
 fits-by layout v m known placed = by v.key known
@@ -261,3 +269,8 @@ module _ (layout : trees.Layout) (before picked tried after : Worker) (moment : 
 -- a pass that has its share still is of a queue of the same layout
 pub known-still : (layout : trees.Layout) (v w : Passed) → HasShareOf v w → layout_known v ≡ Some layout → layout_known w ≡ Some layout
 known-still layout v w share known = ap (λ (k : Option Layout). option_map layout_of k) share.2 ∙ known
+
+-- a turn that found no message was made by a worker that keeps none
+pub idle-kept : (layout : trees.Layout) (before : Worker) (moment : Moment) (turned : Turned) (after : Worker)
+    → HasTried layout before moment turned after → turned ≡ turns.Idle → before.kept ≡ None
+idle-kept layout before moment turned after h e = (subst (λ (t : Turned). HasTried layout before moment t after) e h).0

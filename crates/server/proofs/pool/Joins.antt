@@ -5,6 +5,7 @@ use Rattle.nfs_model.specs.Parts.{Hand}
 use Rattle.depot.specs.Words.{view, splits_left, IsSeatHere}
 use Rattle.depot.specs.declared.rule.view.Entry.{Entry}
 use Rattle.depot.specs.rule.History.{batches_of, AreHands}
+use Rattle.depot.specs.rule.Seats.{merge}
 use Rattle.depot.specs.rule.Shares.{Has}
 use Rattle.depot.specs.rule.Sums.{total}
 use Rattle.depot.specs.rule.lemmas.Sums.{total-append}
@@ -43,6 +44,17 @@ pub kept-once : (h : Weight) (kept : Option Message) → total (by_key h) (optio
 kept-once h None = refl
 kept-once h (Some m) = omega arith
 
+-- of the first
+pub even-first : (v : Passed) (es : List FilerEntry) (kept none all : List Message) (k : Option Message) → none ≡ [] → all ≡ none ++ option_to_list k
+    → IsEven v es k → IsEvenWith v es all
+even-first v es kept none all k empty is even h =
+    let a = ap (total (by_key h)) is in
+    let b = total-append (by_key h) none (option_to_list k) in
+    let c = ap (total (by_key h)) empty in
+    let d = kept-once h k in
+    let e = even h in
+    omega (arith, a, b, c, d, e)
+
 -- of one more
 pub even-both : (v u w : Passed) (es ds all : List FilerEntry) (kept more : List Message) (k : Option Message) → w ≡ both v u
     → ((weight : FilerEntry → ℕ) → total weight all ≡ total weight es + total weight ds) → more ≡ kept ++ option_to_list k
@@ -69,6 +81,15 @@ moved-weigh batches weigh (e ∷ es) =
     let r = moved-weigh batches weigh es in
     let a = total-append weigh (batches e.call e.reply) (batches_of batches es) in
     omega (arith, r, a)
+
+pub hands-first : (es : List FilerEntry) (none all hand : List Hand) → none ≡ [] → all ≡ none ++ hand → AreHands job_takes job_gives es hand
+    → AreHands job_takes job_gives es all
+hands-first es none all hand empty is own weigh =
+    let a = ap (total weigh) is in
+    let b = total-append weigh none hand in
+    let c = ap (total weigh) empty in
+    let d = own weigh in
+    omega (arith, a, b, c, d)
 
 pub hands-both : (xs ys zs : List FilerEntry) (one other all : List Hand)
     → ((weight : FilerEntry → ℕ) → total weight zs ≡ total weight xs + total weight ys) → all ≡ one ++ other
@@ -108,3 +129,7 @@ pub none-both : (v w j : FilerView) → ((b : ℕ) (g : List (Option (FilerParce
     → ((b : ℕ) (g : List (Option (FilerParcel Files))) → Has j b g → Has v b g ⊎ Has w b g)
     → (b : ℕ) (g : List (Option (FilerParcel Files))) → Has j b g → ⊥
 none-both v w j one other either b g has = ⊎_elim (one b g) (other b g) (either b g has)
+
+pub opened-both : (filer : Filer) (v w j : FilerView) → j ≡ merge v w → HasOpened (layout_in filer) (verifier_in filer) v
+    → HasOpened (layout_in filer) (verifier_in filer) j
+opened-both filer v w j is opened = subst (λ (x : FilerView). HasOpened (layout_in filer) (verifier_in filer) x) (sym is) opened

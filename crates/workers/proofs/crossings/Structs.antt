@@ -2,7 +2,7 @@
 use mathlib.Core.List.{List, [], ◌∷◌}
 use denote.RattleType.{RattleType}
 use denote.Param.Send.{IsSend, IsSync}
-use denote.Param.SendFields.{FieldsHave, as_row_send, as_row_sync, declared_send}
+use denote.Param.SendFields.{FieldsHave, as_row_send, as_row_sync, declared_send, declared_sync}
 use denote.Struct.Field.{Field}
 use denote.Struct.Declared as S
 
@@ -20,3 +20,6 @@ fields-sync (F ∷ Fs) s = (as_row_sync F s.0, fields-sync Fs s.1)
 
 pub struct-send : (T : S.Declared) → RowsHave IsSend T.parts → IsSend (S.row T)
 struct-send T s = declared_send T (fields-send T.parts s)
+
+pub struct-sync : (T : S.Declared) → RowsHave IsSync T.parts → IsSync (S.row T)
+struct-sync T s = declared_sync T (fields-sync T.parts s)
