@@ -13,9 +13,9 @@ ghost use Rattle.workers.specs.Turns.{filer_behaviour};
 ghost use Rattle.workers.specs.Words.{layout_in};
 
 use crate::envelope::Envelope;
-use crate::message::Message;
 use crate::shared::Filer;
 use crate::turned::{Gate, Place, Stage};
+use affinity_tree::scheduler::Origin;
 use depot::{Refusal, Seat};
 use desk::{NodeGrant, ParcelKinds, TaskNode, begin_node, work_node};
 use nfs_values::Moment;
@@ -23,11 +23,11 @@ use parcel_sets::Parcel;
 use parcels::Files;
 use service::{Outcome, Run, Service};
 
-/// A message at a stage.
-pub(crate) fn place_of(message: &Message, stage: Stage) -> Place {
+/// The call of a record at a stage.
+pub(crate) fn place_of(origin: Origin, stage: Stage) -> Place {
     Place {
-        connection: message.origin.connection,
-        xid: message.origin.xid,
+        connection: origin.connection,
+        xid: origin.xid,
         stage,
     }
 }
@@ -52,16 +52,16 @@ pub(crate) fn run_on<N: TaskNode<Parcel<Files>, ParcelKinds>, G: Gate>(
     ensures ran { let L = layout_in filer.now in
         HasRunFrom L envelope.now moment (node_lent L grant.old) result (node_lent L grant.new) }
 {
-    let message = envelope.message();
+    let (call, credential) = envelope.asked();
     let run = Run {
         alloc: filer.alloc,
-        call: &message.call,
-        credential: message.credential,
+        call,
+        credential,
         moment,
     };
     let layout = filer.depot.layout();
     let outcome = work_node::<Parcel<Files>, ParcelKinds, N, Run>(layout, grant, run);
-    gate.pass(place_of(message, Stage::Run));
+    gate.pass(place_of(envelope.origin(), Stage::Run));
     outcome
 }
 
@@ -106,8 +106,7 @@ pub(crate) fn begin_on<N: TaskNode<Parcel<Files>, ParcelKinds>, G: Gate>(
     ensures refused { IfErr result (λ refusal. IsRefused (layout_in filer.now)
         (view seat.old) envelope.now.affinity refusal (view seat.new)) }
 {
-    let message = envelope.message();
-    let grant = begin_node::<Service, N>(&filer.depot, seat, message.affinity)?;
-    gate.pass(place_of(message, Stage::Begun));
+    let grant = begin_node::<Service, N>(&filer.depot, seat, envelope.affinity())?;
+    gate.pass(place_of(envelope.origin(), Stage::Begun));
     Ok(grant)
 }

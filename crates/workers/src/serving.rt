@@ -33,7 +33,7 @@ use parcel_sets::{
 };
 use parcels::Files;
 use rpc_msg::{replies_fit, servers_are_roomy};
-use service::{Outcome, Service};
+use service::{JobReply, Outcome, Service};
 
 /// Ends a message's call by its entry, and answers it.
 fn answer<N: Node<Parcel<Files>>>(
@@ -60,9 +60,12 @@ fn answer<N: Node<Parcel<Files>>>(
     ensures answer { result ≡ addressed message.origin.connection.0
         (replies.message message.origin.xid (reply_of reply)) }
 {
-    let entry = enter(message, moment, reply, starved);
-    finish_node::<Service, N>(&filer.depot, seat, grant, &entry.job, &entry.told);
-    answered(entry)
+    let entry = enter(message, moment, starved);
+    let mut told = JobReply::Replied(reply);
+    finish_node::<Service, N>(&filer.depot, seat, grant, &entry.job, &told);
+    let answer = answered(entry, &mut told);
+    drop(told);
+    answer
 }
 
 /// Begins the call of a message on what it tries, a node of this kind, runs it, and ends it.
@@ -88,7 +91,7 @@ fn serve_on<N: TaskNode<Parcel<Files>, ParcelKinds>, G: Gate>(
     servers_are_roomy();
     has_eight(filer.verifier.0);
     let mut message = message;
-    let place = place_of(message.message(), Stage::Ended);
+    let place = place_of(message.origin(), Stage::Ended);
     let Ran { grant, outcome } = match run::<N, G>(filer, seat, &message, moment, gate) {
         Ok(ran) => ran,
         Err(refusal) => return Served::Refused(message, refusal),
@@ -131,7 +134,7 @@ pub(crate) fn serve<G: Gate>(
     ensures served { HasServed (layout_in filer.now)
         (view seat.old) message moment result (view seat.new) }
 {
-    match message.message().affinity.kind() {
+    match message.affinity().kind() {
         Kind::Range => serve_on::<RangeNode, G>(filer, seat, message, moment, gate),
         Kind::VolumeVbn => serve_on::<VbnNode, G>(filer, seat, message, moment, gate),
         Kind::Stripe => serve_on::<StripeNode, G>(filer, seat, message, moment, gate),
