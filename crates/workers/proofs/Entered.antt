@@ -12,45 +12,59 @@ use Rattle.desk.specs.laws.Backing.{CanFinish}
 use Rattle.outboxes.specs.Boxes.{Addressed, addressed}
 use Rattle.outboxes.specs.Messages as replies
 use Rattle.outboxes.specs.Messages.{record_of}
+use Rattle.service.specs.declared.job.Asked.{Asked}
+use Rattle.service.specs.declared.job.Asked.TheVariants as asks
 use Rattle.service.specs.declared.job.Job.{Job}
+use Rattle.service.specs.declared.job.Job.TheVariants.{Serve}
 use Rattle.service.specs.declared.job.JobReply.{JobReply}
 use Rattle.service.specs.declared.job.JobReply.TheVariants.{Replied}
+use Rattle.service.specs.declared.job.ServedCall.{ServedCall}
 use Rattle.workers.specs.declared.message.Message.{Message}
 use Rattle.workers.specs.declared.entering.Entry.{Entry}
 use Rattle.workers.specs.Balance.{FilerView}
 use Rattle.workers.specs.Links.{HasRoom, IsEntryFor}
+use Rattle.workers.specs.Messages.{call_in, credential_in, message_of_call, IsCall}
 use Rattle.workers.specs.Runs.{FilerLent}
 use Rattle.workers.specs.Turns.{filer_behaviour, job_of_message}
 
-pub one-reply : (r s : Reply) (told : JobReply) → told ≡ Replied r → Replied s ≡ told → r ≡ s
-one-reply r s told one two = let e : Replied r ≡ Replied s = sym one ∙ sym two in cc
+pub one-reply : (r s : Reply) (told : JobReply) → told ≡ Replied r → told ≡ Replied s → r ≡ s
+one-reply r s told one two = let e : Replied r ≡ Replied s = sym one ∙ two in cc
 
-pub entry-for : (m m' : Message) (moment : Moment) (reply : Reply) (starved : Bool) (e : Entry) → m' ≡ m
-    → IsEntryFor m' moment reply starved e → IsEntryFor m moment reply starved e
-entry-for m m' moment reply starved e same is = subst (λ (x : Message). IsEntryFor x moment reply starved e) same is
+-- what asks for a call asks for the one that its message has
+asks-for : (a : Asked) → IsCall a → a ≡ asks.Call (call_in a) (credential_in a)
+asks-for (asks.Call call credential) is = refl
+asks-for (asks.Refused refusal) is = absurd is
+asks-for asks.Undecoded is = absurd is
 
-module _ (m : Message) (moment : Moment) (reply : Reply) (starved : Bool) (e : Entry) (is : IsEntryFor m moment reply starved e) where
+-- the entry of a call, stamped
+pub stamped : (s : ServedCall) (moment : Moment) (starved : Bool) (room : ℕ) → IsCall s.asked
+    → Serve (record s { moment = moment; starved = starved }) ≡ job_of_message (message_of_call s room) moment starved
+stamped s moment starved room is =
+    ap (λ (a : Asked). Serve (record s { asked = a; moment = moment; starved = starved })) (asks-for s.asked is)
+
+module _ (m : Message) (moment : Moment) (reply : Reply) (starved : Bool) (e : Entry) (is : IsEntryFor m moment starved e)
+    (told : JobReply) (says : told ≡ Replied reply) where
   pub entry-can : (layout : Layout) (w : FilerView) (l : FilerLent)
       → CanFinish kind_in filer_behaviour layout w l (job_of_message m moment starved) (Replied reply)
-      → CanFinish kind_in filer_behaviour layout w l e.job e.told
+      → CanFinish kind_in filer_behaviour layout w l e.job.value told
   entry-can layout w l can =
-      subst (λ (j : Job). CanFinish kind_in filer_behaviour layout w l j e.told) (sym is.job)
-      (subst (λ (t : JobReply). CanFinish kind_in filer_behaviour layout w l (job_of_message m moment starved) t) (sym is.told) can)
+      subst (λ (j : Job). CanFinish kind_in filer_behaviour layout w l j told) (sym is.job)
+      (subst (λ (t : JobReply). CanFinish kind_in filer_behaviour layout w l (job_of_message m moment starved) t) (sym says) can)
 
   pub entry-finished : (layout : Layout) (w : FilerView) (l : FilerLent) (u : FilerView)
-      → IsFinished filer_behaviour w (number_of layout l.affinity) (entry_of layout l.affinity l.parcels e.job e.told) u
+      → IsFinished filer_behaviour w (number_of layout l.affinity) (entry_of layout l.affinity l.parcels e.job.value told) u
       → IsFinished filer_behaviour w (number_of layout l.affinity)
       (entry_of layout l.affinity l.parcels (job_of_message m moment starved) (Replied reply)) u
   entry-finished layout w l u finished =
       subst (λ (t : JobReply). IsFinished filer_behaviour w (number_of layout l.affinity)
-      (entry_of layout l.affinity l.parcels (job_of_message m moment starved) t) u) is.told
-      (subst (λ (j : Job). IsFinished filer_behaviour w (number_of layout l.affinity) (entry_of layout l.affinity l.parcels j e.told) u) is.job
+      (entry_of layout l.affinity l.parcels (job_of_message m moment starved) t) u) says
+      (subst (λ (j : Job). IsFinished filer_behaviour w (number_of layout l.affinity) (entry_of layout l.affinity l.parcels j told) u) is.job
       finished)
 
-  pub entry-room : length (record_of (replies.message m.origin.xid (reply_of reply))) ≤ m.room → HasRoom e
+  pub entry-room : length (record_of (replies.message m.origin.xid (reply_of reply))) ≤ m.room → HasRoom e told
   entry-room fits = (
     reply,
-    is.told,
+    says,
     subst (λ (o : Origin). length (record_of (replies.message o.xid (reply_of reply))) ≤ e.room) (sym is.origin)
         (subst (λ (n : ℕ). length (record_of (replies.message m.origin.xid (reply_of reply))) ≤ n) (sym is.room) fits),
   )

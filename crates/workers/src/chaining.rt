@@ -12,12 +12,12 @@ ghost use Rattle.workers.specs.Turns.{HasShareOf, Standing};
 ghost use Rattle.workers.specs.Words.{layout_in, layout_known, verifier_in, IsReady};
 
 use crate::chained::{AnswerSink, Chained, Hint};
-use crate::entering::told_starved;
 use crate::envelope::Envelope;
 use crate::granted::begin_on;
 use crate::linking::{Link, Tried, end_on, has_eight, link_on, try_on};
 use crate::shared::Filer;
 use crate::shared_waiting::{Pass, SharedWaiting};
+use crate::telling::{forget, starved};
 use crate::turned::Gate;
 use affinity_tree::{Kind, Layout};
 use depot::{Refusal, Seat};
@@ -151,14 +151,14 @@ fn serve_all_on<N: TaskNode<Parcel<Files>, ParcelKinds>, R: Wait, G: Gate, H: Hi
             };
         }
     };
-    let mut told = told_starved();
+    let mut told = starved();
     let tried = chain::<N, R, G, H, S>(
         filer, seat, queue, rt, pass, &mut grant, message, moment, gate, hint, most, &mut told,
         sink,
     );
     let chained = ended_by(&tried);
     let kept = end_on::<N, G, S>(filer, seat, grant, tried, gate, &mut told, sink);
-    drop(told);
+    forget(told);
     ServedAll { kept, chained }
 }
 

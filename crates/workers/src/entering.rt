@@ -2,16 +2,15 @@
 
 ghost use Rattle.std.specs.Prelude.{◌≡◌};
 ghost use Rattle.nfs_values.specs.Reply.{reply_of};
-ghost use Rattle.nfs_values.specs.declared.reply.Refusal.TheVariants.{SystemError};
-ghost use Rattle.nfs_values.specs.declared.reply.Reply.TheVariants.{Refused};
 ghost use Rattle.outboxes.specs.Boxes.{addressed};
 ghost use Rattle.outboxes.specs.Messages as replies;
 ghost use Rattle.service.specs.declared.job.JobReply.TheVariants.{Replied};
 ghost use Rattle.workers.specs.Links.{HasRoom, IsEntryFor};
 
 use crate::envelope::Envelope;
+use crate::telling::let_go;
 use affinity_tree::scheduler::Origin;
-use nfs_values::{Moment, Refusal, Reply};
+use nfs_values::Moment;
 use outboxes::{Answer, Room};
 use service::{Job, JobReply};
 
@@ -20,13 +19,6 @@ pub(crate) struct Entry {
     pub(crate) origin: Origin,
     pub(crate) job: Box<Job>,
     pub(crate) room: Room,
-}
-
-/// What is told where memory ran out.
-pub(crate) fn told_starved() -> JobReply
-    ensures { result ≡ Replied (Refused SystemError) }
-{
-    JobReply::Replied(Reply::Refused(Refusal::SystemError))
 }
 
 /// When an entry's call ran, and whether memory ran out.
@@ -58,7 +50,7 @@ pub(crate) fn answered(entry: Entry, told: &mut JobReply) -> Answer
         (replies.message entry.origin.xid (reply_of reply)) }
 {
     let Entry { origin, job, room } = entry;
-    drop(job);
+    let_go(job);
     match told {
         JobReply::Replied(reply) => Answer::new(origin.connection, origin.xid, reply, room),
         JobReply::Took(_took) => unreachable!(),

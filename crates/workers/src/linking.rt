@@ -17,9 +17,9 @@ ghost use Rattle.workers.specs.Turns.{filer_behaviour, HasShareOf, Standing};
 ghost use Rattle.workers.specs.Words.{layout_in, layout_known, verifier_in};
 
 use crate::chained::{AnswerSink, Hint};
-use crate::entering::{Entry, answered, enter, told_starved};
+use crate::entering::{Entry, answered, enter};
 use crate::envelope::Envelope;
-use crate::granted::{place_of, run_on};
+use crate::granted::{Ended, place_of, run_on};
 use crate::shared::Filer;
 use crate::shared_waiting::{Pass, SharedWaiting};
 use crate::turned::{Gate, Stage};
@@ -30,7 +30,7 @@ use nfs_values::Moment;
 use parcel_sets::{Node, Parcel};
 use parcels::Files;
 use rpc_msg::{replies_fit, servers_are_roomy};
-use service::{JobReply, Outcome, Service};
+use service::{JobReply, Service};
 use std::sync::Wait;
 
 /// What came of a message under a grant that is still open.
@@ -64,16 +64,10 @@ pub(crate) fn try_on<N: TaskNode<Parcel<Files>, ParcelKinds>, G: Gate>(
         HasRunSo L message moment (node_lent L grant.old) result told.new
         (node_lent L grant.new) }
 {
-    match run_on::<N, G>(filer, grant, &message, moment, gate) {
-        Outcome::Replied(reply) => {
-            *told = JobReply::Replied(reply);
-            Tried::Entered(enter(message, moment, false), None)
-        }
-        Outcome::Starved => {
-            *told = told_starved();
-            Tried::Entered(enter(message, moment, true), None)
-        }
-        Outcome::Moved(affinity) => Tried::Moved(message, affinity),
+    match run_on::<N, G>(filer, grant, &message, moment, gate, told) {
+        Ended::Replied => Tried::Entered(enter(message, moment, false), None),
+        Ended::Starved => Tried::Entered(enter(message, moment, true), None),
+        Ended::Moved(affinity) => Tried::Moved(message, affinity),
     }
 }
 

@@ -18,6 +18,7 @@ returns-in-Replied g c = record {
       is = c.in-Replied.is;
       ran = c.run_on.ensures.ran;
       entry = c.enter.ensures;
+      told = refl;
     },
   );
 }
@@ -33,6 +34,7 @@ returns-in-Starved g c = record {
       is = (c.in-Starved.is, refl);
       ran = c.run_on.ensures.ran;
       entry = c.enter-in-Starved.ensures;
+      told = c.told_starved.ensures;
     },
   );
 }
