@@ -42,33 +42,27 @@ pub stamped : (s : ServedCall) (moment : Moment) (starved : Bool) (room : ℕ) �
 stamped s moment starved room is =
     ap (λ (a : Asked). Serve (record s { asked = a; moment = moment; starved = starved })) (asks-for s.asked is)
 
-module _ (m : Message) (moment : Moment) (reply : Reply) (starved : Bool) (e : Entry) (is : IsEntryFor m moment starved e)
-    (told : JobReply) (says : told ≡ Replied reply) where
-  pub entry-can : (layout : Layout) (w : FilerView) (l : FilerLent)
-      → CanFinish kind_in filer_behaviour layout w l (job_of_message m moment starved) (Replied reply)
+module _ (m : Message) (moment : Moment) (starved : Bool) (e : Entry) (is : IsEntryFor m moment starved e) where
+  pub entry-can : (told : JobReply) (layout : Layout) (w : FilerView) (l : FilerLent)
+      → CanFinish kind_in filer_behaviour layout w l (job_of_message m moment starved) told
       → CanFinish kind_in filer_behaviour layout w l e.job.value told
-  entry-can layout w l can =
-      subst (λ (j : Job). CanFinish kind_in filer_behaviour layout w l j told) (sym is.job)
-      (subst (λ (t : JobReply). CanFinish kind_in filer_behaviour layout w l (job_of_message m moment starved) t) (sym says) can)
+  entry-can told layout w l can = subst (λ (j : Job). CanFinish kind_in filer_behaviour layout w l j told) (sym is.job) can
 
-  pub entry-finished : (layout : Layout) (w : FilerView) (l : FilerLent) (u : FilerView)
+  pub entry-finished : (told : JobReply) (layout : Layout) (w : FilerView) (l : FilerLent) (u : FilerView)
       → IsFinished filer_behaviour w (number_of layout l.affinity) (entry_of layout l.affinity l.parcels e.job.value told) u
-      → IsFinished filer_behaviour w (number_of layout l.affinity)
-      (entry_of layout l.affinity l.parcels (job_of_message m moment starved) (Replied reply)) u
-  entry-finished layout w l u finished =
-      subst (λ (t : JobReply). IsFinished filer_behaviour w (number_of layout l.affinity)
-      (entry_of layout l.affinity l.parcels (job_of_message m moment starved) t) u) says
-      (subst (λ (j : Job). IsFinished filer_behaviour w (number_of layout l.affinity) (entry_of layout l.affinity l.parcels j told) u) is.job
-      finished)
+      → IsFinished filer_behaviour w (number_of layout l.affinity) (entry_of layout l.affinity l.parcels (job_of_message m moment starved) told) u
+  entry-finished told layout w l u finished =
+      subst (λ (j : Job). IsFinished filer_behaviour w (number_of layout l.affinity) (entry_of layout l.affinity l.parcels j told) u) is.job finished
 
-  pub entry-room : length (record_of (replies.message m.origin.xid (reply_of reply))) ≤ m.room → HasRoom e told
-  entry-room fits = (
+  pub entry-room : (told : JobReply) (reply : Reply) → told ≡ Replied reply
+      → length (record_of (replies.message m.origin.xid (reply_of reply))) ≤ m.room → HasRoom e told
+  entry-room told reply says fits = (
     reply,
     says,
     subst (λ (o : Origin). length (record_of (replies.message o.xid (reply_of reply))) ≤ e.room) (sym is.origin)
         (subst (λ (n : ℕ). length (record_of (replies.message m.origin.xid (reply_of reply))) ≤ n) (sym is.room) fits),
   )
 
-  pub entry-answer : (a : Addressed) → a ≡ addressed e.origin.connection.0 (replies.message e.origin.xid (reply_of reply))
+  pub entry-answer : (reply : Reply) (a : Addressed) → a ≡ addressed e.origin.connection.0 (replies.message e.origin.xid (reply_of reply))
       → a ≡ addressed m.origin.connection.0 (replies.message m.origin.xid (reply_of reply))
-  entry-answer a same = same ∙ ap (λ (o : Origin). addressed o.connection.0 (replies.message o.xid (reply_of reply))) is.origin
+  entry-answer reply a same = same ∙ ap (λ (o : Origin). addressed o.connection.0 (replies.message o.xid (reply_of reply))) is.origin

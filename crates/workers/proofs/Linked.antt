@@ -34,6 +34,7 @@ use Rattle.workers.specs.Turns.{filer_behaviour, job_of_message, HasFinished, St
 use Rattle.workers.specs.Words.{IsReady}
 use Rattle.workers.proofs.Entered.{entry-answer, entry-can, entry-finished, entry-room}
 use Rattle.workers.proofs.Replayed.{RoomyBegins, RoomyStays, RepliesFit}
+use Rattle.workers.proofs.Runs.{can-as, finished-as}
 use Rattle.workers.proofs.Served.{may-finish, may-starve, entered, entered-ready, fits, starved-room}
 
 -- ---- reads
@@ -82,7 +83,9 @@ module _ (layout : Layout) (lawful : fault_of layout ≡ None) (verifier : List 
     run = ran-on enters.outcome l' enters.ran
 
     pub may-enter : CanFinish kind_in filer_behaviour layout w l' e.job.value told
-    may-enter = entry-can m moment enters.reply enters.starved e enters.entry told enters.told layout w l' (by enters.starved enters.is)
+    may-enter =
+        entry-can m moment enters.starved e enters.entry told layout w l'
+        (can-as layout w l' (job_of_message m moment enters.starved) told (Replied enters.reply) enters.told (by enters.starved enters.is))
       where
         by : (starved : Bool) → IsEntered enters.outcome enters.reply starved
             → CanFinish kind_in filer_behaviour layout w l' (job_of_message m moment starved) (Replied enters.reply)
@@ -90,7 +93,7 @@ module _ (layout : Layout) (lawful : fault_of layout ≡ None) (verifier : List 
         by true is = may-starve layout lawful m placed moment b.view w stands.tree holding-tree enters.outcome l' run enters.reply is.1 is.0
 
     pub has-room : length verifier ≡ 8 → RoomyBegins → RoomyStays → RepliesFit → HasRoom e told
-    has-room eight begins stays fit = entry-room m moment enters.reply enters.starved e enters.entry told enters.told (by enters.starved enters.is)
+    has-room eight begins stays fit = entry-room m moment enters.starved e enters.entry told enters.reply enters.told (by enters.starved enters.is)
       where
         by : (starved : Bool) → IsEntered enters.outcome enters.reply starved
             → length (record_of (replies.message m.origin.xid (reply_of enters.reply))) ≤ m.room
@@ -105,7 +108,9 @@ module _ (layout : Layout) (lawful : fault_of layout ≡ None) (verifier : List 
         (finished : IsFinished filer_behaviour w (number_of layout l'.affinity) (entry_of layout l'.affinity l'.parcels e.job.value told) u) where
       ends : IsFinished filer_behaviour w (number_of layout l'.affinity)
           (entry_of layout l'.affinity l'.parcels (job_of_message m moment enters.starved) (Replied enters.reply)) u
-      ends = entry-finished m moment enters.reply enters.starved e enters.entry told enters.told layout w l' u finished
+      ends =
+          finished-as layout w l' (job_of_message m moment enters.starved) u told (Replied enters.reply) enters.told
+          (entry-finished m moment enters.starved e enters.entry told layout w l' u finished)
 
       pub is-ready : IsReady layout verifier u
       is-ready =
@@ -116,7 +121,7 @@ module _ (layout : Layout) (lawful : fault_of layout ≡ None) (verifier : List 
         pub is-finished : HasFinished b.view m moment a u
         is-finished =
             entered layout lawful m placed moment b.view w stands.tree holding-tree enters.outcome l' run u enters.reply enters.starved ends a
-            (entry-answer m moment enters.reply enters.starved e enters.entry told enters.told a is)
+            (entry-answer m moment enters.starved e enters.entry enters.reply a is)
 
         pub is-done : HasDoneFrom b moment a (left_standing u pass None)
         is-done = record { message = m; next = stands.picked.next; put = stands.picked.put; kept = refl; finished = is-finished }

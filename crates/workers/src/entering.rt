@@ -1,11 +1,13 @@
 //! Entries that are to be made, and the answers that follow.
 
-ghost use Rattle.std.specs.Prelude.{◌≡◌};
+ghost use Rattle.std.specs.Prelude.{◌≡◌, ℕ};
 ghost use Rattle.nfs_values.specs.Reply.{reply_of};
 ghost use Rattle.outboxes.specs.Boxes.{addressed};
 ghost use Rattle.outboxes.specs.Messages as replies;
 ghost use Rattle.service.specs.declared.job.JobReply.TheVariants.{Replied};
 ghost use Rattle.workers.specs.Links.{HasRoom, IsEntryFor};
+ghost use Rattle.workers.specs.Messages.{message_in, IsOfCall};
+ghost use Rattle.workers.specs.Turns.{job_of_message};
 
 use crate::envelope::Envelope;
 use crate::telling::let_go;
@@ -22,7 +24,10 @@ pub(crate) struct Entry {
 }
 
 /// When an entry's call ran, and whether memory ran out.
-fn stamp(job: &mut Job, moment: Moment, starved: bool) {
+fn stamp(job: &mut Job, moment: Moment, starved: bool)
+    requires { IsOfCall job.old }
+    ensures { (room : ℕ) → job.new ≡ job_of_message (message_in job.old room) moment starved }
+{
     match job {
         Job::Serve(served) => {
             served.moment = moment;

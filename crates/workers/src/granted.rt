@@ -67,6 +67,7 @@ pub(crate) fn run_on<N: TaskNode<Parcel<Files>, ParcelKinds>, G: Gate>(
         HasRunTo L envelope.now moment (node_lent L grant.old) result told.new
         (node_lent L grant.new) }
 {
+    let place = place_of(envelope.origin(), Stage::Run);
     let (call, credential) = envelope.asked();
     let run = Run {
         alloc: filer.alloc,
@@ -75,19 +76,22 @@ pub(crate) fn run_on<N: TaskNode<Parcel<Files>, ParcelKinds>, G: Gate>(
         moment,
     };
     let layout = filer.depot.layout();
-    let ended = match work_node::<Parcel<Files>, ParcelKinds, N, Run>(layout, grant, run) {
+    match work_node::<Parcel<Files>, ParcelKinds, N, Run>(layout, grant, run) {
         Outcome::Replied(reply) => {
             tell(told, reply);
+            gate.pass(place);
             Ended::Replied
         }
         Outcome::Starved => {
             tell_starved(told);
+            gate.pass(place);
             Ended::Starved
         }
-        Outcome::Moved(affinity) => Ended::Moved(affinity),
-    };
-    gate.pass(place_of(envelope.origin(), Stage::Run));
-    ended
+        Outcome::Moved(affinity) => {
+            gate.pass(place);
+            Ended::Moved(affinity)
+        }
+    }
 }
 
 /// Begins the call of a message on what it tries, a node of this kind, and runs it there.
