@@ -61,7 +61,7 @@ BringsRecord at bytes (Err fault) at' = Brings at bytes [] (Some fault)
 -- so many of the bytes came to this
 abbrev pub Comes : Option State → List ℕ → ℕ → Next → Option State → Type 0
 Comes at bytes taken nexts.More at' = (taken ≡ length bytes) × Adds at (take taken bytes) [] at'
-Comes at bytes taken (nexts.Record record) at' = (0 < taken) × BringsRecord at (take taken bytes) (heard record.items) at'
+Comes at bytes taken (nexts.Record made) at' = (0 < taken) × BringsRecord at (take taken bytes) (heard made.items) at'
 Comes at bytes taken (nexts.Stopped (stops.Fault fault)) at' = Brings at (take taken bytes) [] (Some (fault_number fault))
 Comes at bytes taken (nexts.Stopped stops.NoMemory) at' = BringsFirst at (take taken bytes) []
 Comes at bytes taken (nexts.Stopped stops.NumbersUsed) at' = ⊥
