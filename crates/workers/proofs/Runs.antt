@@ -33,9 +33,9 @@ pub ran-from : (layout x : Layout) → x ≡ layout → (m : Message) (call : Ca
     → (moment : Moment) (outcome : Outcome) (before after : Layout → FilerLent)
     → IsDone (HasRun call (credential_of credential) (moment_of moment)) x (before x) outcome (after x) → IsWhole kind_in x (after x)
     → HasRunFrom layout m moment (before layout) outcome (after layout)
-ran-from layout x same m call credential is as moment outcome before after done whole = record {
+ran-from layout x same m call credential is whom moment outcome before after done whole = record {
   done = subst (λ (y : Layout). IsDone (HasRun m.call (credential_of m.credential) (moment_of moment)) y (before y) outcome (after y)) same
-      (subst (λ (k : Credential). IsDone (HasRun m.call (credential_of k) (moment_of moment)) x (before x) outcome (after x)) as
+      (subst (λ (k : Credential). IsDone (HasRun m.call (credential_of k) (moment_of moment)) x (before x) outcome (after x)) whom
       (subst (λ (k : Call). IsDone (HasRun k (credential_of credential) (moment_of moment)) x (before x) outcome (after x)) is done));
   whole = subst (λ (y : Layout). IsWhole kind_in y (after y)) same whole;
 }

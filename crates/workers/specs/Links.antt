@@ -52,14 +52,14 @@ IsEntered outcome reply false = outcome ≡ outcomes.Replied reply
 IsEntered outcome reply true = (outcome ≡ outcomes.Starved) × (reply_of reply ≡ SystemError)
 
 -- a message's call was run on what is lent, its entry is this, and this was told of it
-pub record IsToEnter (layout : Layout) (m : Message) (moment : Moment) (l : FilerLent) (e : Entry) (told : JobReply) (l' : FilerLent) : Type 0 where
+pub record IsToEnter (layout : Layout) (m : Message) (moment : Moment) (l : FilerLent) (e : Entry) (said : JobReply) (l' : FilerLent) : Type 0 where
   pub outcome : Outcome
   pub reply : Reply
   pub starved : Bool
   pub is : IsEntered outcome reply starved
   pub ran : HasRunFrom layout m moment l outcome l'
   pub entry : IsEntryFor m moment starved e
-  pub told : told ≡ Replied reply
+  pub told : said ≡ Replied reply
 
 -- a message's call was run on what is lent, and this came of it
 abbrev pub HasRunSo : Layout → Message → Moment → FilerLent → Tried → JobReply → FilerLent → Type 0

@@ -2,6 +2,7 @@
 
 ghost use Rattle.std.specs.Prelude.{◌≡◌, ℕ};
 ghost use Rattle.nfs_values.specs.Reply.{reply_of};
+ghost use Rattle.nfs_values.specs.declared.reply.Reply.{Reply};
 ghost use Rattle.outboxes.specs.Boxes.{addressed};
 ghost use Rattle.outboxes.specs.Messages as replies;
 ghost use Rattle.service.specs.declared.job.JobReply.TheVariants.{Replied};
@@ -43,7 +44,7 @@ pub(crate) fn enter(message: Envelope, moment: Moment, starved: bool) -> Entry
 {
     let origin = message.origin();
     let Envelope { mut job, room } = message;
-    stamp(&mut job, moment, starved);
+    stamp(&mut *job, moment, starved);
     Entry { origin, job, room }
 }
 

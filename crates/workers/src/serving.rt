@@ -3,6 +3,7 @@
 ghost use Rattle.std.specs.Prelude.{◌≡◌, ◌≤◌, length};
 ghost use Rattle.affinity_tree.specs.Numbers.{number_of};
 ghost use Rattle.nfs_values.specs.Reply.{reply_of};
+ghost use Rattle.nfs_values.specs.declared.reply.Reply.{Reply};
 ghost use Rattle.parcel_sets.specs.Exact.{kind_in};
 ghost use Rattle.depot.specs.Grants.{entry_of, IsFinished};
 ghost use Rattle.depot.specs.Words.{view, splits_left, IsNodeOf, IsSeatHere};
