@@ -12,35 +12,25 @@ use Rattle.desk.specs.laws.Backing.{CanFinish}
 use Rattle.outboxes.specs.Boxes.{Addressed, addressed}
 use Rattle.outboxes.specs.Messages as replies
 use Rattle.outboxes.specs.Messages.{record_of}
-use Rattle.service.specs.declared.job.Asked.{Asked}
-use Rattle.service.specs.declared.job.Asked.TheVariants as asks
 use Rattle.service.specs.declared.job.Job.{Job}
-use Rattle.service.specs.declared.job.Job.TheVariants.{Serve}
+use Rattle.service.specs.declared.job.Job.TheVariants.{Serve, Inner}
 use Rattle.service.specs.declared.job.JobReply.{JobReply}
 use Rattle.service.specs.declared.job.JobReply.TheVariants.{Replied}
-use Rattle.service.specs.declared.job.ServedCall.{ServedCall}
 use Rattle.workers.specs.declared.message.Message.{Message}
 use Rattle.workers.specs.declared.entering.Entry.{Entry}
 use Rattle.workers.specs.Balance.{FilerView}
 use Rattle.workers.specs.Links.{HasRoom, IsEntryFor}
-use Rattle.workers.specs.Messages.{call_in, credential_in, message_of_call, IsCall}
+use Rattle.workers.specs.Messages.{message_in}
 use Rattle.workers.specs.Runs.{FilerLent}
 use Rattle.workers.specs.Turns.{filer_behaviour, job_of_message}
 
 pub one-reply : (r s : Reply) (told : JobReply) → told ≡ Replied r → told ≡ Replied s → r ≡ s
 one-reply r s told one two = let e : Replied r ≡ Replied s = sym one ∙ two in cc
 
--- what asks for a call asks for the one that its message has
-asks-for : (a : Asked) → IsCall a → a ≡ asks.Call (call_in a) (credential_in a)
-asks-for (asks.Call call credential) is = refl
-asks-for (asks.Refused refusal) is = absurd is
-asks-for asks.Undecoded is = absurd is
-
--- the entry of a call, stamped
-pub stamped : (s : ServedCall) (moment : Moment) (starved : Bool) (room : ℕ) → IsCall s.asked
-    → Serve (record s { moment = moment; starved = starved }) ≡ job_of_message (message_of_call s room) moment starved
-stamped s moment starved room is =
-    ap (λ (a : Asked). Serve (record s { asked = a; moment = moment; starved = starved })) (asks-for s.asked is)
+-- the message of an entry has the room that it is given
+pub room-of : (job : Job) (room : ℕ) → (message_in job room).room ≡ room
+room-of (Serve s) room = refl
+room-of (Inner call) room = refl
 
 module _ (m : Message) (moment : Moment) (starved : Bool) (e : Entry) (is : IsEntryFor m moment starved e) where
   pub entry-can : (told : JobReply) (layout : Layout) (w : FilerView) (l : FilerLent)

@@ -1,5 +1,18 @@
-use Rattle.std.proofs.Common.{rules, refl}
+use Rattle.std.proofs.Common.{◌∙◌, ap, sym}
+use Rattle.service.specs.declared.job.Job.{Job}
+use Rattle.workers.specs.declared.message.Message.{Message}
+use Rattle.workers.specs.Messages.{message_in}
+use Rattle.workers.specs.Turns.{job_of_message}
+use Rattle.workers.proofs.Entered.{room-of}
 use Rattle.workers.proofs.entering.enter.Goals as goal
 
 pub returns : goal.returns
-returns c = record { job = ?; origin = c.origin-origin.ensures; room = ? }
+returns c =
+    let in_ = c.message.inside in
+    record {
+      job = c.stamp.ensures in_.room
+          ∙ ap (λ (j : Job). job_of_message (message_in j in_.room) c.args.moment c.args.starved) c.deref_mut.ensures.value
+          ∙ ap (λ (m : Message). job_of_message m c.args.moment c.args.starved) c.message.view_is;
+      origin = c.origin-origin.ensures;
+      room = sym (room-of in_.job.value in_.room) ∙ ap (λ (m : Message). m.room) c.message.view_is;
+    }

@@ -29,9 +29,9 @@ work_node-requires-clause-asks g c =
     let lent = c.requires.lent in
     let l = node_lent L c.args.grant.now in
     let here = lent.granted.affinity in
-    subst (λ (x : Layout). AsksFor c.asked-call.result.0.now x (node_lent x c.args.grant.now).affinity (node_lent x c.args.grant.now).parcels)
+    subst (λ (x : Layout). AsksFor c.asked.result.0.now x (node_lent x c.args.grant.now).affinity (node_lent x c.args.grant.now).parcels)
     (sym c.layout-layout.ensures)
-    (subst (λ (k : Call). AsksFor k L l.affinity l.parcels) (sym c.asked-call.ensures.call) (
+    (subst (λ (k : Call). AsksFor k L l.affinity l.parcels) (sym c.asked.ensures.call) (
       subst (λ a. IsRunAt L m.call a) (sym here) c.requires.placed.run,
       granted L l.affinity (subst (λ a. IsNode L a) (sym here) c.requires.placed.node) lent.before lent.tree l.parcels lent.granted.after,
     ))
@@ -41,8 +41,8 @@ returns-in-Replied g c = record {
   ran = record {
     outcome = c.work_node.result;
     says = (c.in-Replied.reply, c.in-Replied.is, c.tell.ensures);
-    ran = ran-from (layout_in c.args.filer.now) _ c.layout-layout.ensures c.args.envelope.now c.asked-call.result.0.now c.asked-call.result.1
-        c.asked-call.ensures.call c.asked-call.ensures.credential c.args.moment c.work_node.result (λ (x : Layout). node_lent x c.args.grant.now)
+    ran = ran-from (layout_in c.args.filer.now) _ c.layout-layout.ensures c.args.envelope.now c.asked.result.0.now c.asked.result.1
+        c.asked.ensures.call c.asked.ensures.credential c.args.moment c.work_node.result (λ (x : Layout). node_lent x c.args.grant.now)
         (λ (x : Layout). node_lent x c.work_node.new.node) c.work_node.ensures.done c.work_node.ensures.whole;
   };
 }
@@ -52,8 +52,8 @@ returns-in-Starved g c = record {
   ran = record {
     outcome = c.work_node.result;
     says = (c.in-Starved.is, c.tell_starved.ensures);
-    ran = ran-from (layout_in c.args.filer.now) _ c.layout-layout.ensures c.args.envelope.now c.asked-call.result.0.now c.asked-call.result.1
-        c.asked-call.ensures.call c.asked-call.ensures.credential c.args.moment c.work_node.result (λ (x : Layout). node_lent x c.args.grant.now)
+    ran = ran-from (layout_in c.args.filer.now) _ c.layout-layout.ensures c.args.envelope.now c.asked.result.0.now c.asked.result.1
+        c.asked.ensures.call c.asked.ensures.credential c.args.moment c.work_node.result (λ (x : Layout). node_lent x c.args.grant.now)
         (λ (x : Layout). node_lent x c.work_node.new.node) c.work_node.ensures.done c.work_node.ensures.whole;
   };
 }
@@ -63,8 +63,8 @@ returns-in-Moved g c = record {
   ran = record {
     outcome = c.work_node.result;
     says = c.in-Moved.is;
-    ran = ran-from (layout_in c.args.filer.now) _ c.layout-layout.ensures c.args.envelope.now c.asked-call.result.0.now c.asked-call.result.1
-        c.asked-call.ensures.call c.asked-call.ensures.credential c.args.moment c.work_node.result (λ (x : Layout). node_lent x c.args.grant.now)
+    ran = ran-from (layout_in c.args.filer.now) _ c.layout-layout.ensures c.args.envelope.now c.asked.result.0.now c.asked.result.1
+        c.asked.ensures.call c.asked.ensures.credential c.args.moment c.work_node.result (λ (x : Layout). node_lent x c.args.grant.now)
         (λ (x : Layout). node_lent x c.work_node.new.node) c.work_node.ensures.done c.work_node.ensures.whole;
   };
 }

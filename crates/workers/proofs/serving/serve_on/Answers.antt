@@ -164,8 +164,8 @@ returns-in-Starved-clause-served g c =
     (node_lent L c.in-Ok.ran.grant) r.ran u (Refused SystemError) true finished c.answer-answer-in-Starved.result
     (c.answer-answer-in-Starved.ensures.answer (Refused SystemError) says.1)
 
-pub returns-in-Moved-clause-ready : goal.returns-in-Moved-clause-ready
-returns-in-Moved-clause-ready g c =
+pub returns-clause-ready : goal.returns-clause-ready
+returns-clause-ready g c =
     let L = layout_in c.args.filer.now in
     let v = view c.args.seat.now in
     let w = view c.run.new.seat in
@@ -177,8 +177,8 @@ returns-in-Moved-clause-ready g c =
     c.requires.seat.1.0 c.run.ensures.seat.1.0 r.outcome
     (node_lent L c.in-Ok.ran.grant) r.ran c.in-Moved.affinity to u c.put_back_node.ensures.ended (verifier_in c.args.filer.now) c.requires.ready
 
-pub returns-in-Moved-clause-served : goal.returns-in-Moved-clause-served
-returns-in-Moved-clause-served g c =
+pub returns-clause-served : goal.returns-clause-served
+returns-clause-served g c =
     let L = layout_in c.args.filer.now in
     let v = view c.args.seat.now in
     let w = view c.run.new.seat in
