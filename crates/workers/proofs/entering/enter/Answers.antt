@@ -8,11 +8,11 @@ use Rattle.workers.proofs.entering.enter.Goals as goal
 
 pub returns : goal.returns
 returns c =
-    let in_ = c.message.inside in
+    let fields = c.message.inside in
     record {
-      job = c.stamp.ensures in_.room
-          ∙ ap (λ (j : Job). job_of_message (message_in j in_.room) c.args.moment c.args.starved) c.deref_mut.ensures.value
+      job = c.stamp.ensures fields.room
+          ∙ ap (λ (j : Job). job_of_message (message_in j fields.room) c.args.moment c.args.starved) c.deref_mut.ensures.value
           ∙ ap (λ (m : Message). job_of_message m c.args.moment c.args.starved) c.message.view_is;
       origin = c.origin-origin.ensures;
-      room = sym (room-of in_.job.value in_.room) ∙ ap (λ (m : Message). m.room) c.message.view_is;
+      room = sym (room-of fields.job.value fields.room) ∙ ap (λ (m : Message). m.room) c.message.view_is;
     }
