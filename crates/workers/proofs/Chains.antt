@@ -234,7 +234,8 @@ module _ {S : Type 0} (took : S → List Addressed → S → Type 0)
       end-ready (tries.Entered e next) h ended =
           let o = h.over in
           let ready = is-ready layout lawful verifier h.between o.message o.placed moment o.pass o.before o.holding o.stands e said l' o.ran
-          (record u { looked = o.holding.looked }) (unread o.holding w' u (number_of layout l'.affinity) (entry_of layout l'.affinity l'.parcels e.job.value said) o.stayed ended.0) in
+          (record u { looked = o.holding.looked }) (unread o.holding w' u (number_of layout l'.affinity)
+          (entry_of layout l'.affinity l'.parcels e.job.value said) o.stayed ended.0) in
           record { opened = ready.opened; none_open = ready.none_open }
 
       pub end-placed : (tried : Tried) → HasChained took layout verifier s moment sink tried said pass' l' w' sink1

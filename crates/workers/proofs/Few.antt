@@ -62,7 +62,8 @@ module _ {S : Type 0} (took : S → List Addressed → S → Type 0) (layout : L
 -- ---- the end
 
 pub ended-size : {S : Type 0} (took : S → List Addressed → S → Type 0) (layout : Layout) (w u : FilerView) (l : FilerLent) (kept : Option Message)
-    (sink sink' : S) (tried : Tried) (said : JobReply) → HasEnded took layout w l tried said sink u kept sink' → length (entries_of u) ≤ length (entries_of w) + 1
+    (sink sink' : S) (tried : Tried) (said : JobReply) → HasEnded took layout w l tried said sink u kept sink'
+    → length (entries_of u) ≤ length (entries_of w) + 1
 ended-size took layout w u l kept sink sink' (tries.Moved m to) said ended =
     let same = as-many (entries_of w) (entries_of u) (ended-entries w u (number_of layout l.affinity) ended.0) in omega (arith, same)
 ended-size took layout w u l kept sink sink' (tries.Entered e next) said ended =

@@ -1,5 +1,5 @@
 -- Messages to workers.
-use Rattle.std.specs.Prelude.{◌≤◌, ℕ, false, length}
+use Rattle.std.specs.Prelude.{◌≤◌, ℕ, length}
 use Rattle.nfs_model.specs.Tree as trees
 use Rattle.nfs_values.specs.Call.{call_of}
 use Rattle.nfs_values.specs.declared.call.Call.{Call}

@@ -60,7 +60,8 @@ fn answer<N: Node<Parcel<Files>>>(
         IsFinished filer_behaviour (view seat.old) (number_of L l.affinity)
         (entry_of L l.affinity l.parcels
         (job_of_message message moment starved) told.old) (view seat.new) }
-    ensures answer { (reply : Reply) → told.old ≡ Replied reply → result ≡ addressed message.origin.connection.0
+    ensures answer { (reply : Reply) → told.old ≡ Replied reply
+        → result ≡ addressed message.origin.connection.0
         (replies.message message.origin.xid (reply_of reply)) }
 {
     let entry = enter(message, moment, starved);

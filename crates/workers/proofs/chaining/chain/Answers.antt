@@ -51,8 +51,10 @@ loop-link-preserved g c =
       share = share-from (known c.args.pass.now) pass pass' c.loop-link.invariant.share c.link_on.ensures.share;
       few =
           let gone = c.loop-link.invariant.gone c.requires.stands.0 c.requires.stands.1 in
-          let one = on-size took L ver gone.between m c.args.moment pass pass' l l' w w' c.loop-link.sink c.link_on.new.sink c.link_on.new.told gone.stands c.in-On.next
-          (subst (λ (x : Link). HasLinked took L ver gone.between m c.args.moment pass l w c.loop-link.sink x c.link_on.new.told pass' l' w' c.link_on.new.sink) c.in-On.is
+          let one = on-size took L ver gone.between m c.args.moment pass pass' l l' w w' c.loop-link.sink c.link_on.new.sink c.link_on.new.told gone.stands
+          c.in-On.next
+          (subst (λ (x : Link). HasLinked took L ver gone.between m c.args.moment pass l w c.loop-link.sink x c.link_on.new.told pass' l' w'
+          c.link_on.new.sink) c.in-On.is
           (c.link_on.ensures.linked gone.between gone.stands)) in
           let few = c.loop-link.invariant.few in
           omega (arith, one, few);
@@ -62,7 +64,8 @@ loop-link-preserved g c =
           let gone = c.loop-link.invariant.gone s stands in
           goes-on took g.met.S.AnswerSink.took_more L ver s c.args.moment c.args.sink.now c.loop-link.sink c.link_on.new.sink m pass pass' l l' w w'
           gone c.in-On.next c.link_on.new.told
-          (subst (λ (x : Link). HasLinked took L ver gone.between m c.args.moment pass l w c.loop-link.sink x c.link_on.new.told pass' l' w' c.link_on.new.sink) c.in-On.is
+          (subst (λ (x : Link). HasLinked took L ver gone.between m c.args.moment pass l w c.loop-link.sink x c.link_on.new.told pass' l' w'
+          c.link_on.new.sink) c.in-On.is
           (c.link_on.ensures.linked gone.between gone.stands));
     }
 
@@ -86,8 +89,10 @@ returns-in-Over-clause-few g c =
     let w = view c.loop-link.seat in
     let w' = view c.link_on.new.seat in
     let gone = c.loop-link.invariant.gone c.requires.stands.0 c.requires.stands.1 in
-    let same = over-size took L ver gone.between m c.args.moment pass pass' l l' w w' c.loop-link.sink c.link_on.new.sink c.link_on.new.told gone.stands c.in-Over.tried
-    (subst (λ (x : Link). HasLinked took L ver gone.between m c.args.moment pass l w c.loop-link.sink x c.link_on.new.told pass' l' w' c.link_on.new.sink) c.in-Over.is
+    let same = over-size took L ver gone.between m c.args.moment pass pass' l l' w w' c.loop-link.sink c.link_on.new.sink c.link_on.new.told gone.stands
+    c.in-Over.tried
+    (subst (λ (x : Link). HasLinked took L ver gone.between m c.args.moment pass l w c.loop-link.sink x c.link_on.new.told pass' l' w'
+    c.link_on.new.sink) c.in-Over.is
     (c.link_on.ensures.linked gone.between gone.stands)) in
     let few = c.loop-link.invariant.few in
     let less = c.loop-link-test.true in
@@ -111,7 +116,8 @@ returns-in-Over-clause-chained g c s stands =
     let gone = c.loop-link.invariant.gone s stands in
     stops took g.met.S.AnswerSink.took_more L ver s c.args.moment c.args.sink.now c.loop-link.sink c.link_on.new.sink m pass pass' l l' w w'
     gone c.in-Over.tried c.link_on.new.told
-    (subst (λ (x : Link). HasLinked took L ver gone.between m c.args.moment pass l w c.loop-link.sink x c.link_on.new.told pass' l' w' c.link_on.new.sink) c.in-Over.is
+    (subst (λ (x : Link). HasLinked took L ver gone.between m c.args.moment pass l w c.loop-link.sink x c.link_on.new.told pass' l' w'
+    c.link_on.new.sink) c.in-Over.is
     (c.link_on.ensures.linked gone.between gone.stands))
 
 pub try_on-requires-clause-lent : goal.try_on-requires-clause-lent

@@ -1,7 +1,6 @@
-use Rattle.std.proofs.Common.{◌≡◌, refl, sym, subst}
+use Rattle.std.proofs.Common.{sym, subst}
 use Rattle.nfs_model.specs.Tree.{Layout}
 use Rattle.nfs_values.specs.declared.call.Call.{Call}
-use Rattle.affinity_tree.specs.Affinity.{affinity_of}
 use Rattle.affinity_tree.specs.Tree.{IsNode}
 use Rattle.parcel_sets.specs.Exact.{kind_in}
 use Rattle.desk.specs.Any.{node_lent}

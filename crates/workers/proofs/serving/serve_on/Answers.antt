@@ -47,8 +47,7 @@ answer-answer-requires-clause-room g c =
     let w = view c.run.new.seat in
     let m = c.args.message in
     let r = c.in-Ok.ensures.ran in
-    let says = replied-so r.outcome c.in-Ok.ran.outcome c.run.new.told r.says c.in-Replied.is in
-    (
+    let says = replied-so r.outcome c.in-Ok.ran.outcome c.run.new.told r.says c.in-Replied.is in (
       says.0,
       says.2,
       fits L c.args.filer.now.depot.layout.lawful m c.requires.placed c.args.moment v w
@@ -79,8 +78,7 @@ answer-answer-requires-in-Starved-clause-room g c =
     let w = view c.run.new.seat in
     let m = c.args.message in
     let r = c.in-Ok.ensures.ran in
-    let says = starved-so r.outcome c.in-Ok.ran.outcome c.run.new.told r.says c.in-Starved.is in
-    (
+    let says = starved-so r.outcome c.in-Ok.ran.outcome c.run.new.told r.says c.in-Starved.is in (
       Refused SystemError,
       says.1,
       starved-room L c.args.filer.now.depot.layout.lawful m c.requires.placed c.args.moment v w
@@ -185,8 +183,7 @@ returns-clause-served g c =
     let m = c.args.message in
     let r = c.in-Ok.ensures.ran in
     let to = moved-so r.outcome c.in-Ok.ran.outcome c.run.new.told r.says c.in-Moved.affinity c.in-Moved.is in
-    let u = view c.put_back_node.new.seat in
-    (
+    let u = view c.put_back_node.new.seat in (
       moves-on L c.args.filer.now.depot.layout.lawful m c.requires.placed c.args.moment v w
           c.requires.seat.1.0 c.run.ensures.seat.1.0 r.outcome
           (node_lent L c.in-Ok.ran.grant) r.ran c.in-Moved.affinity to u c.put_back_node.ensures.ended c.readdress.new.self c.readdress.ensures,
