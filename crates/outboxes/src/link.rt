@@ -11,13 +11,17 @@ use crate::said::Said;
 use nfs_values::{Refusal, Reply};
 use rpc_msg::{move_reply_record, write_reply_record};
 use std::alloc::{AllocError, Global};
+use std::mem;
 
 /// A blank record with room for so many bytes.
 pub(crate) fn blank(alloc: Global, bytes: usize) -> Result<Box<Link>, AllocError>
     ensures { IfOk result (λ link. IsBlank bytes link.value) }
 {
     let bytes = Vec::with_capacity(alloc, bytes)?;
-    let said = Said::new(0, &Reply::Refused(Refusal::SystemError));
+    let nothing = Reply::Refused(Refusal::SystemError);
+    let said = Said::new(0, &nothing);
+    // It has no memory of its own, and so it isn't moved to be dropped.
+    mem::forget(nothing);
     let rest = Chain::new();
     Ok(Box::new(alloc, Link { bytes, said, rest })?)
 }

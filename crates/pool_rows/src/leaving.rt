@@ -442,7 +442,7 @@ fn leave_full<R: Wait>(rt: &R, alloc: Global, full: Full) -> Option<Ended>
 fn have_xids(rt: &impl Abort, messages: &[Envelope], first: u32) {
     let mut next = first;
     for message in messages {
-        assert_eq!(rt; message.message().origin.xid, next);
+        assert_eq!(rt; message.origin().xid, next);
         next = next.wrapping_add(1);
     }
 }

@@ -21,6 +21,7 @@ use Rattle.outboxes.specs.Messages as replies
 use Rattle.parcels.specs.state.Jobs as jobs
 use Rattle.parcels.specs.state.Jobs.{takes, gives}
 use Rattle.service.specs.Jobs.{job_of, job_takes, job_gives}
+use Rattle.service.specs.declared.job.JobReply.{JobReply}
 use Rattle.service.specs.declared.outcome.Outcome.TheVariants as outcomes
 use Rattle.workers.specs.declared.message.Message.{Message}
 use Rattle.workers.specs.declared.chained.Chained.{Chained}
@@ -136,10 +137,10 @@ module _ {S : Type 0} (took : S → List Addressed → S → Type 0)
     (layout : Layout) (verifier : List ℕ) (s : Standing) (moment : Moment) where
   module _ (sink sink1 sink2 : S) (m : Message) (pass pass' : Passed) (l l' : FilerLent) (w w' : FilerView)
       (gone : HasGoneSo took layout verifier s moment sink m pass l w sink1) where
-    pub goes-on : (next : Message)
-        → HasLinked took layout verifier gone.between m moment pass l w sink1 (links.On next) pass' l' w' sink2
+    pub goes-on : (next : Message) (said : JobReply)
+        → HasLinked took layout verifier gone.between m moment pass l w sink1 (links.On next) said pass' l' w' sink2
         → HasGoneSo took layout verifier s moment sink next pass' l' w' sink2
-    goes-on next h = record {
+    goes-on next said h = record {
       answers = gone.answers ++ h.0 ∷ [];
       between = h.1;
       did = did-snoc moment s gone.between h.1 gone.answers h.0 gone.did h.2;
@@ -147,10 +148,10 @@ module _ {S : Type 0} (took : S → List Addressed → S → Type 0)
       stands = h.4;
     }
 
-    pub stops : (tried : Tried)
-        → HasLinked took layout verifier gone.between m moment pass l w sink1 (links.Over tried) pass' l' w' sink2
-        → HasChained took layout verifier s moment sink tried pass' l' w' sink2
-    stops tried h = record {
+    pub stops : (tried : Tried) (said : JobReply)
+        → HasLinked took layout verifier gone.between m moment pass l w sink1 (links.Over tried) said pass' l' w' sink2
+        → HasChained took layout verifier s moment sink tried said pass' l' w' sink2
+    stops tried said h = record {
       answers = gone.answers;
       between = gone.between;
       did = gone.did;
@@ -160,9 +161,9 @@ module _ {S : Type 0} (took : S → List Addressed → S → Type 0)
 
   -- the last one is run
   pub lasts : (sink sink1 : S) (m : Message) (placed : IsPlaced layout m) (pass : Passed) (l l' : FilerLent) (w : FilerView)
-      (gone : HasGoneSo took layout verifier s moment sink m pass l w sink1) (tried : Tried) → HasRunSo layout m moment l tried l'
-      → HasChained took layout verifier s moment sink tried pass l' w sink1
-  lasts sink sink1 m placed pass l l' w gone (tries.Moved back to) ran = record {
+      (gone : HasGoneSo took layout verifier s moment sink m pass l w sink1) (tried : Tried) (said : JobReply)
+      → HasRunSo layout m moment l tried said l' → HasChained took layout verifier s moment sink tried said pass l' w sink1
+  lasts sink sink1 m placed pass l l' w gone (tries.Moved back to) said ran = record {
     answers = gone.answers;
     between = gone.between;
     did = gone.did;
@@ -179,7 +180,7 @@ module _ {S : Type 0} (took : S → List Addressed → S → Type 0)
       ahead = refl;
     };
   }
-  lasts sink sink1 m placed pass l l' w gone (tries.Entered e next) ran = record {
+  lasts sink sink1 m placed pass l l' w gone (tries.Entered e next) said ran = record {
     answers = gone.answers;
     between = gone.between;
     did = gone.did;
@@ -197,15 +198,17 @@ module _ {S : Type 0} (took : S → List Addressed → S → Type 0)
     };
   }
 
-  pub last-placed : (m : Message) (l l' : FilerLent) (tried : Tried) → HasRunSo layout m moment l tried l' → IfSome (kept_of tried) (IsPlaced layout)
-  last-placed m l l' (tries.Moved back to) ran = tt
-  last-placed m l l' (tries.Entered e next) ran = subst (λ (k : Option Message). IfSome k (IsPlaced layout)) (sym ran.0) tt
+  pub last-placed : (m : Message) (l l' : FilerLent) (tried : Tried) (said : JobReply) → HasRunSo layout m moment l tried said l'
+      → IfSome (kept_of tried) (IsPlaced layout)
+  last-placed m l l' (tries.Moved back to) said ran = tt
+  last-placed m l l' (tries.Entered e next) said ran = subst (λ (k : Option Message). IfSome k (IsPlaced layout)) (sym ran.0) tt
 
   -- ---- the end of the grant
 
-  module _ (lawful : fault_of layout ≡ None) (sink sink1 sink2 : S) (pass' : Passed) (l' : FilerLent) (w' : FilerView) where
+  module _ (lawful : fault_of layout ≡ None) (sink sink1 sink2 : S) (said : JobReply) (pass' : Passed) (l' : FilerLent)
+      (w' : FilerView) where
     pub can-end : (tried : Tried) → length verifier ≡ 8 → RoomyBegins → RoomyStays → RepliesFit
-        → HasChained took layout verifier s moment sink tried pass' l' w' sink1 → CanEnd layout w' l' tried
+        → HasChained took layout verifier s moment sink tried said pass' l' w' sink1 → CanEnd layout w' l' tried said
     can-end (tries.Moved back to) eight begins stays fit h =
         let o = h.over in
         let tree = holding-tree layout lawful verifier h.between o.message o.placed moment o.pass o.before o.holding o.stands in
@@ -214,14 +217,14 @@ module _ {S : Type 0} (took : S → List Addressed → S → Type 0)
         (may-go-back layout lawful o.message o.placed moment h.between.view o.holding o.stands.tree tree (outcomes.Moved to) l' run to refl)
     can-end (tries.Entered e next) eight begins stays fit h =
         let o = h.over in (
-          can-read layout o.holding w' l' e.job e.told o.stayed
-              (may-enter layout lawful verifier h.between o.message o.placed moment o.pass o.before o.holding o.stands e l' o.ran),
-          has-room layout lawful verifier h.between o.message o.placed moment o.pass o.before o.holding o.stands e l' o.ran eight begins stays fit,
+          can-read layout o.holding w' l' e.job.value said o.stayed
+              (may-enter layout lawful verifier h.between o.message o.placed moment o.pass o.before o.holding o.stands e said l' o.ran),
+          has-room layout lawful verifier h.between o.message o.placed moment o.pass o.before o.holding o.stands e said l' o.ran eight begins stays fit,
         )
 
     module _ (u : FilerView) (kept : Option Message) where
-      pub end-ready : (tried : Tried) → HasChained took layout verifier s moment sink tried pass' l' w' sink1
-          → HasEnded took layout w' l' tried sink1 u kept sink2 → IsReady layout verifier u
+      pub end-ready : (tried : Tried) → HasChained took layout verifier s moment sink tried said pass' l' w' sink1
+          → HasEnded took layout w' l' tried said sink1 u kept sink2 → IsReady layout verifier u
       end-ready (tries.Moved back to) h ended =
           let o = h.over in
           let tree = holding-tree layout lawful verifier h.between o.message o.placed moment o.pass o.before o.holding o.stands in
@@ -230,12 +233,13 @@ module _ {S : Type 0} (took : S → List Addressed → S → Type 0)
           (subst (λ (x : FilerView). IsEnded x (number_of layout l'.affinity) u) o.stayed ended.0) verifier o.stands.ready
       end-ready (tries.Entered e next) h ended =
           let o = h.over in
-          let ready = is-ready layout lawful verifier h.between o.message o.placed moment o.pass o.before o.holding o.stands e l' o.ran
-          (record u { looked = o.holding.looked }) (unread o.holding w' u (number_of layout l'.affinity) (entry_of layout l'.affinity l'.parcels e.job e.told) o.stayed ended.0) in
+          let ready = is-ready layout lawful verifier h.between o.message o.placed moment o.pass o.before o.holding o.stands e said l' o.ran
+          (record u { looked = o.holding.looked }) (unread o.holding w' u (number_of layout l'.affinity)
+          (entry_of layout l'.affinity l'.parcels e.job.value said) o.stayed ended.0) in
           record { opened = ready.opened; none_open = ready.none_open }
 
-      pub end-placed : (tried : Tried) → HasChained took layout verifier s moment sink tried pass' l' w' sink1
-          → HasEnded took layout w' l' tried sink1 u kept sink2 → IfSome (kept_of tried) (IsPlaced layout) → IfSome kept (IsPlaced layout)
+      pub end-placed : (tried : Tried) → HasChained took layout verifier s moment sink tried said pass' l' w' sink1
+          → HasEnded took layout w' l' tried said sink1 u kept sink2 → IfSome (kept_of tried) (IsPlaced layout) → IfSome kept (IsPlaced layout)
       end-placed (tries.Moved back to) h ended placed =
           let o = h.over in
           let tree = holding-tree layout lawful verifier h.between o.message o.placed moment o.pass o.before o.holding o.stands in
@@ -246,8 +250,8 @@ module _ {S : Type 0} (took : S → List Addressed → S → Type 0)
       end-placed (tries.Entered e next) h ended placed =
           subst (λ (k : Option Message). IfSome k (IsPlaced layout)) (sym ended.1) placed
 
-      pub end-served : (tried : Tried) → HasChained took layout verifier s moment sink tried pass' l' w' sink1
-          → HasEnded took layout w' l' tried sink1 u kept sink2
+      pub end-served : (tried : Tried) → HasChained took layout verifier s moment sink tried said pass' l' w' sink1
+          → HasEnded took layout w' l' tried said sink1 u kept sink2
           → HasServedOn took layout s moment sink (chained_so tried) sink2 (left_standing u pass' kept)
       end-served (tries.Moved back to) h ended =
           let o = h.over in
@@ -275,8 +279,8 @@ module _ {S : Type 0} (took : S → List Addressed → S → Type 0)
           let o = h.over in
           let a = addressed e.origin.connection.0 (replies.message e.origin.xid (reply_of o.ran.reply)) in
           let u0 : FilerView = record u { looked = o.holding.looked } in
-          let done = is-done layout lawful verifier h.between o.message o.placed moment o.pass o.before o.holding o.stands e l' o.ran u0
-          (unread o.holding w' u (number_of layout l'.affinity) (entry_of layout l'.affinity l'.parcels e.job e.told) o.stayed ended.0) a refl in
+          let done = is-done layout lawful verifier h.between o.message o.placed moment o.pass o.before o.holding o.stands e said l' o.ran u0
+          (unread o.holding w' u (number_of layout l'.affinity) (entry_of layout l'.affinity l'.parcels e.job.value said) o.stayed ended.0) a refl in
           let did : HasDoneFrom h.between moment a (left_standing u o.pass None) = record {
             message = done.message;
             next = done.next;
@@ -297,7 +301,7 @@ module _ {S : Type 0} (took : S → List Addressed → S → Type 0)
             answers = h.answers ++ a ∷ [];
             between = left_standing u o.pass None;
             did = did-snoc moment s h.between (left_standing u o.pass None) h.answers a h.did did;
-            told = took_more sink sink1 sink2 h.answers (a ∷ []) h.told (ended.2 o.ran.reply o.ran.entry.told);
+            told = took_more sink sink1 sink2 h.answers (a ∷ []) h.told (ended.2 o.ran.reply o.ran.told);
             left = (refl, refl, subst (λ (k : Option Message). IsAhead o.pass pass' k) (sym ended.1) o.ahead);
             suits = some-answer h.answers a;
           }

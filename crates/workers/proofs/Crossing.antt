@@ -1,42 +1,31 @@
 -- What the threads of a filer share, and what a worker takes with it, may cross threads.
 use denote.Param.Send.{IsSend, IsSync, sendable, view_send}
-use denote.Param.SendFields.{as_row_send, declared_send, declared_sync}
+use denote.Param.SendFields.{declared_send, declared_sync}
 use Rattle.std.proofs.Crossing.{crosses, Box-send}
 use Rattle.depot.proofs.depot.Depot.TheSendSync as depot
 use Rattle.depot.proofs.seats.Seat.TheSendSync as seat
 use Rattle.nfs_values.proofs.verifier.Verifier.TheSendSync as verifier
-use Rattle.nfs_values.proofs.call.Call.TheSendSync as call
-use Rattle.nfs_values.proofs.credential.Credential.TheSendSync as credential
-use Rattle.affinity_tree.proofs.affinity.Affinity.TheSendSync as affinity
-use Rattle.outboxes.specs.contracts.room.Room as Room
 use Rattle.parcel_sets.proofs.family.Parcel.TheSendSync as parcel
 use Rattle.parcels.proofs.range.RangeParcel.TheSendSync as range
 use Rattle.parcels.proofs.stripe.StripeParcel.TheSendSync as stripe
-use Rattle.affinity_tree.proofs.scheduler.message.Origin.TheSendSync as origin
-use Rattle.affinity_tree.specs.contracts.scheduler.message.Origin as Origin
 use Rattle.service.proofs.batch.BatchInHand.TheSendSync as batch
+use Rattle.service.proofs.job.Job.TheSendSync as job
+use Rattle.service.specs.contracts.job.Job as Job
 use Rattle.workers.proofs.shared_waiting.pass.Pass.TheSendSync as pass
 use Rattle.workers.proofs.shared_waiting.pass.SharedWaiting.TheSendSync as waiting
 use Rattle.workers.specs.contracts.envelope.Envelope as Envelope
 use Rattle.workers.specs.contracts.envelope.Envelope.TheInside as EnvelopeInside
-use Rattle.workers.specs.contracts.message.Message as Message
 use Rattle.workers.specs.contracts.shared.Filer as Filer
 use Rattle.workers.specs.contracts.worker.Worker as Worker
 use Rattle.workers.proofs.crossings.Structs.{struct-send}
 use Rattle.workers.proofs.crossings.Outboxes.{room-send, outboxes-send}
 use Rattle.workers.proofs.crossings.Parcels.{logical-parcel-send}
 
-pub message-send : IsSend Message.the_row
-message-send = declared_send Message.the_type (
-  as_row_send Origin.the_field origin.the_field_send,
-  (
-    search (call.the_send, sendable) depth 20,
-    (search (credential.the_send, sendable) depth 20, (search (affinity.the_send, sendable) depth 20, (as_row_send Room.the_field room-send, tt))),
-  ),
-)
+job-send : IsSend Job.the_row
+job-send = search (job.the_send, sendable) depth 20
 
 envelope-inside-send : IsSend EnvelopeInside.the_row
-envelope-inside-send = struct-send EnvelopeInside.the_type (Box-send Message.the_row message-send, tt)
+envelope-inside-send = struct-send EnvelopeInside.the_type (Box-send Job.the_row job-send, (room-send, tt))
 
 pub envelope-send : IsSend Envelope.the_row
 envelope-send = view_send EnvelopeInside.the_row _ _ _ _ envelope-inside-send

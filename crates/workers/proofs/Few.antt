@@ -10,6 +10,7 @@ use Rattle.depot.specs.lemmas.Seats.{begun-entries, ended-entries, finished-entr
 use Rattle.depot.specs.Grants.{entry_of}
 use Rattle.desk.specs.laws.Backing.{IsGranted}
 use Rattle.outboxes.specs.Boxes.{Addressed}
+use Rattle.service.specs.declared.job.JobReply.{JobReply}
 use Rattle.workers.specs.declared.message.Message.{Message}
 use Rattle.workers.specs.declared.linking.Tried.{Tried}
 use Rattle.workers.specs.declared.linking.Tried.TheVariants as tries
@@ -38,9 +39,9 @@ stayed-size (tries.Entered e next) w w' stayed = ap (λ (v : FilerView). length 
 -- ---- a link
 
 module _ {S : Type 0} (took : S → List Addressed → S → Type 0) (layout : Layout) (verifier : List ℕ) (b : Standing) (m : Message) (moment : Moment)
-    (pass pass' : Passed) (l l' : FilerLent) (w w' : FilerView) (sink sink' : S) (stands : Stands layout verifier b m pass l w) where
+    (pass pass' : Passed) (l l' : FilerLent) (w w' : FilerView) (sink sink' : S) (said : JobReply) (stands : Stands layout verifier b m pass l w) where
   -- one call more is finished
-  pub on-size : (next : Message) → HasLinked took layout verifier b m moment pass l w sink (links.On next) pass' l' w' sink'
+  pub on-size : (next : Message) → HasLinked took layout verifier b m moment pass l w sink (links.On next) said pass' l' w' sink'
       → length (entries_of w') ≡ length (entries_of w) + 1
   on-size next h =
       let here = granted-size layout b.view w (affinity_of m.affinity) l stands.granted in
@@ -49,7 +50,7 @@ module _ {S : Type 0} (took : S → List Addressed → S → Type 0) (layout : L
       omega (arith, here, one, there)
 
   -- or none
-  pub over-size : (tried : Tried) → HasLinked took layout verifier b m moment pass l w sink (links.Over tried) pass' l' w' sink'
+  pub over-size : (tried : Tried) → HasLinked took layout verifier b m moment pass l w sink (links.Over tried) said pass' l' w' sink'
       → length (entries_of w') ≡ length (entries_of w)
   over-size tried h =
       let o = h.1 in
@@ -61,10 +62,11 @@ module _ {S : Type 0} (took : S → List Addressed → S → Type 0) (layout : L
 -- ---- the end
 
 pub ended-size : {S : Type 0} (took : S → List Addressed → S → Type 0) (layout : Layout) (w u : FilerView) (l : FilerLent) (kept : Option Message)
-    (sink sink' : S) (tried : Tried) → HasEnded took layout w l tried sink u kept sink' → length (entries_of u) ≤ length (entries_of w) + 1
-ended-size took layout w u l kept sink sink' (tries.Moved m to) ended =
+    (sink sink' : S) (tried : Tried) (said : JobReply) → HasEnded took layout w l tried said sink u kept sink'
+    → length (entries_of u) ≤ length (entries_of w) + 1
+ended-size took layout w u l kept sink sink' (tries.Moved m to) said ended =
     let same = as-many (entries_of w) (entries_of u) (ended-entries w u (number_of layout l.affinity) ended.0) in omega (arith, same)
-ended-size took layout w u l kept sink sink' (tries.Entered e next) ended =
-    let entry : FilerEntry = entry_of layout l.affinity l.parcels e.job e.told in
+ended-size took layout w u l kept sink sink' (tries.Entered e next) said ended =
+    let entry : FilerEntry = entry_of layout l.affinity l.parcels e.job.value said in
     let one = one-more (entries_of w) (entries_of u) entry (finished-entries filer_behaviour w u (number_of layout l.affinity) entry ended.0) in
     omega (arith, one)

@@ -1,6 +1,7 @@
 mod Called
 mod Replayed
 mod Grants
+mod Runs
 mod Served
 mod Entered
 mod Linked

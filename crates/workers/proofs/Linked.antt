@@ -1,5 +1,6 @@
 -- A message under a grant that stays open, and the one after it.
-use Rattle.std.proofs.Common.{◌≡◌, ℕ, ◌≤◌, Bool, true, false, List, [], ◌∷◌, ◌++◌, length, set, Option, Some, None, inr, refl, sym, ap, ◌∙◌, subst, append_assoc}
+use Rattle.std.proofs.Common.{◌≡◌, ℕ, ◌≤◌, Bool, true, false, List, [], ◌∷◌, ◌++◌, length, set, Option, Some, None}
+use Rattle.std.proofs.Common.{inr, refl, sym, ap, ◌∙◌, subst, append_assoc}
 use Rattle.nfs_model.specs.Tree.{Layout}
 use Rattle.nfs_values.specs.Reply.{reply_of}
 use Rattle.nfs_values.specs.declared.moment.Moment.{Moment}
@@ -34,6 +35,7 @@ use Rattle.workers.specs.Turns.{filer_behaviour, job_of_message, HasFinished, St
 use Rattle.workers.specs.Words.{IsReady}
 use Rattle.workers.proofs.Entered.{entry-answer, entry-can, entry-finished, entry-room}
 use Rattle.workers.proofs.Replayed.{RoomyBegins, RoomyStays, RepliesFit}
+use Rattle.workers.proofs.Runs.{can-as, finished-as}
 use Rattle.workers.proofs.Served.{may-finish, may-starve, entered, entered-ready, fits, starved-room}
 
 -- ---- reads
@@ -77,20 +79,22 @@ module _ (layout : Layout) (lawful : fault_of layout ≡ None) (verifier : List 
   pub ran-on : (outcome : Outcome) (l' : FilerLent) → HasRunFrom layout m moment l outcome l' → HasRunOn layout b.view m moment outcome l' w
   ran-on outcome l' ran = record { before = l; granted = stands.granted; done = ran.done; whole = ran.whole }
 
-  module _ (e : Entry) (l' : FilerLent) (enters : IsToEnter layout m moment l e l') where
+  module _ (e : Entry) (told : JobReply) (l' : FilerLent) (enters : IsToEnter layout m moment l e told l') where
     run : HasRunOn layout b.view m moment enters.outcome l' w
     run = ran-on enters.outcome l' enters.ran
 
-    pub may-enter : CanFinish kind_in filer_behaviour layout w l' e.job e.told
-    may-enter = entry-can m moment enters.reply enters.starved e enters.entry layout w l' (by enters.starved enters.is)
+    pub may-enter : CanFinish kind_in filer_behaviour layout w l' e.job.value told
+    may-enter =
+        entry-can m moment enters.starved e enters.entry told layout w l'
+        (can-as layout w l' (job_of_message m moment enters.starved) told (Replied enters.reply) enters.told (by enters.starved enters.is))
       where
         by : (starved : Bool) → IsEntered enters.outcome enters.reply starved
             → CanFinish kind_in filer_behaviour layout w l' (job_of_message m moment starved) (Replied enters.reply)
         by false is = may-finish layout lawful m placed moment b.view w stands.tree holding-tree enters.outcome l' run enters.reply is
         by true is = may-starve layout lawful m placed moment b.view w stands.tree holding-tree enters.outcome l' run enters.reply is.1 is.0
 
-    pub has-room : length verifier ≡ 8 → RoomyBegins → RoomyStays → RepliesFit → HasRoom e
-    has-room eight begins stays fit = entry-room m moment enters.reply enters.starved e enters.entry (by enters.starved enters.is)
+    pub has-room : length verifier ≡ 8 → RoomyBegins → RoomyStays → RepliesFit → HasRoom e told
+    has-room eight begins stays fit = entry-room m moment enters.starved e enters.entry told enters.reply enters.told (by enters.starved enters.is)
       where
         by : (starved : Bool) → IsEntered enters.outcome enters.reply starved
             → length (record_of (replies.message m.origin.xid (reply_of enters.reply))) ≤ m.room
@@ -102,10 +106,12 @@ module _ (layout : Layout) (lawful : fault_of layout ≡ None) (verifier : List 
     -- ---- it was entered
 
     module _ (u : FilerView)
-        (finished : IsFinished filer_behaviour w (number_of layout l'.affinity) (entry_of layout l'.affinity l'.parcels e.job e.told) u) where
+        (finished : IsFinished filer_behaviour w (number_of layout l'.affinity) (entry_of layout l'.affinity l'.parcels e.job.value told) u) where
       ends : IsFinished filer_behaviour w (number_of layout l'.affinity)
           (entry_of layout l'.affinity l'.parcels (job_of_message m moment enters.starved) (Replied enters.reply)) u
-      ends = entry-finished m moment enters.reply enters.starved e enters.entry layout w l' u finished
+      ends =
+          finished-as layout w l' (job_of_message m moment enters.starved) u told (Replied enters.reply) enters.told
+          (entry-finished m moment enters.starved e enters.entry told layout w l' u finished)
 
       pub is-ready : IsReady layout verifier u
       is-ready =
@@ -116,7 +122,7 @@ module _ (layout : Layout) (lawful : fault_of layout ≡ None) (verifier : List 
         pub is-finished : HasFinished b.view m moment a u
         is-finished =
             entered layout lawful m placed moment b.view w stands.tree holding-tree enters.outcome l' run u enters.reply enters.starved ends a
-            (entry-answer m moment enters.reply enters.starved e enters.entry a is)
+            (entry-answer m moment enters.starved e enters.entry enters.reply a is)
 
         pub is-done : HasDoneFrom b moment a (left_standing u pass None)
         is-done = record { message = m; next = stands.picked.next; put = stands.picked.put; kept = refl; finished = is-finished }
@@ -135,14 +141,15 @@ module _ (layout : Layout) (lawful : fault_of layout ≡ None) (verifier : List 
 
 -- ---- what came of a run
 
-pub entered-so : (layout : Layout) (m : Message) (moment : Moment) (l l' : FilerLent) (tried : Tried) (e : Entry) (next : Option Message)
-    → tried ≡ tries.Entered e next → HasRunSo layout m moment l tried l' → IsToEnter layout m moment l e l'
-entered-so layout m moment l l' tried e next is ran = (subst (λ (t : Tried). HasRunSo layout m moment l t l') is ran).1
+pub entered-so : (layout : Layout) (m : Message) (moment : Moment) (l l' : FilerLent) (tried : Tried) (told : JobReply) (e : Entry)
+    (next : Option Message) → tried ≡ tries.Entered e next → HasRunSo layout m moment l tried told l' → IsToEnter layout m moment l e told l'
+entered-so layout m moment l l' tried told e next is ran = (subst (λ (t : Tried). HasRunSo layout m moment l t told l') is ran).1
 
 module _ (layout : Layout) (lawful : fault_of layout ≡ None) (verifier : List ℕ) (b : Standing) (m : Message) (placed : IsPlaced layout m)
-    (moment : Moment) (pass : Passed) (l : FilerLent) (w : FilerView) (stands : Stands layout verifier b m pass l w) (l' : FilerLent) where
-  pub link-moved : (tried : Tried) (back : Message) (to : codes.Affinity) → tried ≡ tries.Moved back to → HasRunSo layout m moment l tried l'
-      → IsOver layout verifier moment b (tries.Moved back to) pass l' w
+    (moment : Moment) (pass : Passed) (l : FilerLent) (w : FilerView) (stands : Stands layout verifier b m pass l w) (said : JobReply)
+    (l' : FilerLent) where
+  pub link-moved : (tried : Tried) (back : Message) (to : codes.Affinity) → tried ≡ tries.Moved back to → HasRunSo layout m moment l tried said l'
+      → IsOver layout verifier moment b (tries.Moved back to) said pass l' w
   link-moved tried back to is ran = record {
     message = m;
     placed = placed;
@@ -150,14 +157,14 @@ module _ (layout : Layout) (lawful : fault_of layout ≡ None) (verifier : List 
     before = l;
     holding = w;
     stands = stands;
-    ran = subst (λ (t : Tried). HasRunSo layout m moment l t l') is ran;
+    ran = subst (λ (t : Tried). HasRunSo layout m moment l t said l') is ran;
     stayed = refl;
     ahead = refl;
   }
 
-  module _ (e : Entry) (enters : IsToEnter layout m moment l e l') (pass' : Passed) (w' : FilerView) where
+  module _ (e : Entry) (enters : IsToEnter layout m moment l e said l') (pass' : Passed) (w' : FilerView) where
     pub link-over : (next : Option Message) → IsAhead pass pass' next → HasOnlyRead w w'
-        → IsOver layout verifier moment b (tries.Entered e next) pass' l' w'
+        → IsOver layout verifier moment b (tries.Entered e next) said pass' l' w'
     link-over next ahead read = record {
       message = m;
       placed = placed;
@@ -170,20 +177,20 @@ module _ (layout : Layout) (lawful : fault_of layout ≡ None) (verifier : List 
       ahead = ahead;
     }
 
-    pub link-on : {S : Type 0} (took : S → List Addressed → S → Type 0) (sink sink' : S) (next : Message) → next.affinity ≡ m.affinity
+    pub link-on : {S : Type 0} (took : S → List Addressed → S → Type 0) (sink sink' : S) (next : Message) (after : JobReply) → next.affinity ≡ m.affinity
         → IsAhead pass pass' (Some next) → (mid : FilerView)
-        → IsFinished filer_behaviour w (number_of layout l'.affinity) (entry_of layout l'.affinity l'.parcels e.job e.told) mid
+        → IsFinished filer_behaviour w (number_of layout l'.affinity) (entry_of layout l'.affinity l'.parcels e.job.value said) mid
         → IsGranted kind_in filer_behaviour layout mid l'.affinity l' w'
-        → (a : Addressed) → ((reply : Reply) → e.told ≡ Replied reply
+        → (a : Addressed) → ((reply : Reply) → said ≡ Replied reply
         → a ≡ addressed e.origin.connection.0 (replies.message e.origin.xid (reply_of reply)))
         → took sink (a ∷ []) sink'
-        → HasLinked took layout verifier b m moment pass l w sink (links.On next) pass' l' w' sink'
-    link-on took sink sink' next same ahead mid finished granted a is told = (
+        → HasLinked took layout verifier b m moment pass l w sink (links.On next) after pass' l' w' sink'
+    link-on took sink sink' next after same ahead mid finished granted a is told = (
       a,
       left_standing mid pass None,
-      is-done layout lawful verifier b m placed moment pass l w stands e l' enters mid finished a (is enters.reply enters.entry.told),
+      is-done layout lawful verifier b m placed moment pass l w stands e said l' enters mid finished a (is enters.reply enters.told),
       told,
-      stands-on layout lawful verifier b m placed moment pass l w stands e l' enters mid finished next pass' w' same ahead granted,
+      stands-on layout lawful verifier b m placed moment pass l w stands e said l' enters mid finished next pass' w' same ahead granted,
     )
 
 pub none-read : (w : FilerView) → HasOnlyRead w w

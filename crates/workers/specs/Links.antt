@@ -18,6 +18,7 @@ use Rattle.service.specs.declared.job.JobReply.TheVariants.{Replied}
 use Rattle.service.specs.declared.outcome.Outcome.{Outcome}
 use Rattle.service.specs.declared.outcome.Outcome.TheVariants as outcomes
 use Rattle.workers.specs.declared.message.Message.{Message}
+use Rattle.service.specs.declared.job.JobReply.{JobReply}
 use Rattle.workers.specs.declared.entering.Entry.{Entry}
 use Rattle.workers.specs.declared.chained.Chained.{Chained}
 use Rattle.workers.specs.declared.chained.Chained.TheVariants as chains
@@ -34,16 +35,15 @@ use Rattle.workers.specs.Words.{IsReady}
 
 -- ---- entries
 
--- the entry is of a message's call, and of this reply to it
-pub record IsEntryFor (m : Message) (moment : Moment) (reply : Reply) (starved : Bool) (e : Entry) : Type 0 where
-  pub job : e.job ≡ job_of_message m moment starved
-  pub told : e.told ≡ Replied reply
+-- the entry is of a message's call
+pub record IsEntryFor (m : Message) (moment : Moment) (starved : Bool) (e : Entry) : Type 0 where
+  pub job : e.job.value ≡ job_of_message m moment starved
   pub origin : e.origin ≡ m.origin
   pub room : e.room ≡ m.room
 
--- its reply fits its room
-abbrev pub HasRoom : Entry → Type 0
-HasRoom e = (reply : Reply) × (e.told ≡ Replied reply)
+-- what was told of it is a reply, which fits its room
+abbrev pub HasRoom : Entry → JobReply → Type 0
+HasRoom e told = (reply : Reply) × (told ≡ Replied reply)
     × (length (record_of (replies.message e.origin.xid (reply_of reply))) ≤ e.room)
 
 -- what is entered of a run
@@ -51,19 +51,20 @@ abbrev pub IsEntered : Outcome → Reply → Bool → Type 0
 IsEntered outcome reply false = outcome ≡ outcomes.Replied reply
 IsEntered outcome reply true = (outcome ≡ outcomes.Starved) × (reply_of reply ≡ SystemError)
 
--- a message's call was run on what is lent, and its entry is this
-pub record IsToEnter (layout : Layout) (m : Message) (moment : Moment) (l : FilerLent) (e : Entry) (l' : FilerLent) : Type 0 where
+-- a message's call was run on what is lent, its entry is this, and this was told of it
+pub record IsToEnter (layout : Layout) (m : Message) (moment : Moment) (l : FilerLent) (e : Entry) (said : JobReply) (l' : FilerLent) : Type 0 where
   pub outcome : Outcome
   pub reply : Reply
   pub starved : Bool
   pub is : IsEntered outcome reply starved
   pub ran : HasRunFrom layout m moment l outcome l'
-  pub entry : IsEntryFor m moment reply starved e
+  pub entry : IsEntryFor m moment starved e
+  pub told : said ≡ Replied reply
 
 -- a message's call was run on what is lent, and this came of it
-abbrev pub HasRunSo : Layout → Message → Moment → FilerLent → Tried → FilerLent → Type 0
-HasRunSo layout m moment l (tries.Moved back to) l' = (back ≡ m) × HasRunFrom layout m moment l (outcomes.Moved to) l'
-HasRunSo layout m moment l (tries.Entered e next) l' = (next ≡ None) × IsToEnter layout m moment l e l'
+abbrev pub HasRunSo : Layout → Message → Moment → FilerLent → Tried → JobReply → FilerLent → Type 0
+HasRunSo layout m moment l (tries.Moved back to) told l' = (back ≡ m) × HasRunFrom layout m moment l (outcomes.Moved to) l'
+HasRunSo layout m moment l (tries.Entered e next) told l' = (next ≡ None) × IsToEnter layout m moment l e told l'
 
 -- ---- links
 
@@ -94,31 +95,31 @@ HasStayed (tries.Moved m to) w w' = w' ≡ w
 HasStayed (tries.Entered e next) w w' = HasOnlyRead w w'
 
 -- so was it run
-abbrev pub RanSo : Layout → Message → Moment → FilerLent → Tried → FilerLent → Type 0
-RanSo layout m moment l (tries.Moved back to) l' = HasRunSo layout m moment l (tries.Moved back to) l'
-RanSo layout m moment l (tries.Entered e next) l' = IsToEnter layout m moment l e l'
+abbrev pub RanSo : Layout → Message → Moment → FilerLent → Tried → JobReply → FilerLent → Type 0
+RanSo layout m moment l (tries.Moved back to) told l' = HasRunSo layout m moment l (tries.Moved back to) told l'
+RanSo layout m moment l (tries.Entered e next) told l' = IsToEnter layout m moment l e told l'
 
 -- A message was picked by who stood so and run on a grant of what it tries, which is still open.
-pub record IsOver (layout : Layout) (verifier : List ℕ) (moment : Moment) (b : Standing) (tried : Tried) (pass' : Passed)
-    (l' : FilerLent) (w' : FilerView) : Type 0 where
+pub record IsOver (layout : Layout) (verifier : List ℕ) (moment : Moment) (b : Standing) (tried : Tried) (told : JobReply)
+    (pass' : Passed) (l' : FilerLent) (w' : FilerView) : Type 0 where
   pub message : Message
   pub placed : IsPlaced layout message
   pub pass : Passed
   pub before : FilerLent
   pub holding : FilerView
   pub stands : Stands layout verifier b message pass before holding
-  pub ran : RanSo layout message moment before tried l'
+  pub ran : RanSo layout message moment before tried told l'
   pub stayed : HasStayed tried holding w'
   pub ahead : IsAhead pass pass' (kept_of tried)
 
 -- one call was finished, and the next has its grant; or the grant is still open
 abbrev pub HasLinked : {S : Type 0} → (S → List Addressed → S → Type 0) → Layout → List ℕ → Standing → Message → Moment → Passed → FilerLent
-    → FilerView → S → Link → Passed → FilerLent → FilerView → S → Type 0
-HasLinked took layout verifier b m moment pass l w sink (links.On next) pass' l' w' sink' =
+    → FilerView → S → Link → JobReply → Passed → FilerLent → FilerView → S → Type 0
+HasLinked took layout verifier b m moment pass l w sink (links.On next) told pass' l' w' sink' =
     (a : Addressed) × (mid : Standing) × HasDoneFrom b moment a mid × took sink (a ∷ []) sink'
     × Stands layout verifier mid next pass' l' w'
-HasLinked took layout verifier b m moment pass l w sink (links.Over tried) pass' l' w' sink' =
-    (sink' ≡ sink) × IsOver layout verifier moment b tried pass' l' w'
+HasLinked took layout verifier b m moment pass l w sink (links.Over tried) told pass' l' w' sink' =
+    (sink' ≡ sink) × IsOver layout verifier moment b tried told pass' l' w'
 
 -- what was picked is placed
 abbrev pub IsNextPlaced : Layout → Link → Type 0
@@ -127,12 +128,12 @@ IsNextPlaced layout (links.Over tried) = IfSome (kept_of tried) (IsPlaced layout
 
 -- some calls were finished under one grant, which is still open
 pub record HasChained {S : Type 0} (took : S → List Addressed → S → Type 0) (layout : Layout) (verifier : List ℕ) (s : Standing)
-    (moment : Moment) (sink : S) (tried : Tried) (pass' : Passed) (l' : FilerLent) (w' : FilerView) (sink' : S) : Type 0 where
+    (moment : Moment) (sink : S) (tried : Tried) (said : JobReply) (pass' : Passed) (l' : FilerLent) (w' : FilerView) (sink' : S) : Type 0 where
   pub answers : List Addressed
   pub between : Standing
   pub did : DidAll moment s answers between
   pub told : took sink answers sink'
-  pub over : IsOver layout verifier moment between tried pass' l' w'
+  pub over : IsOver layout verifier moment between tried said pass' l' w'
 
 -- some calls were finished under one grant, which the next message has
 pub record HasGoneSo {S : Type 0} (took : S → List Addressed → S → Type 0) (layout : Layout) (verifier : List ℕ) (s : Standing)
@@ -145,16 +146,16 @@ pub record HasGoneSo {S : Type 0} (took : S → List Addressed → S → Type 0)
 
 -- ---- the end of a grant
 
-abbrev pub CanEnd : Layout → FilerView → FilerLent → Tried → Type 0
-CanEnd layout w l (tries.Moved m to) = CanPutBack layout w l
-CanEnd layout w l (tries.Entered e next) = CanFinish kind_in filer_behaviour layout w l e.job e.told × HasRoom e
+abbrev pub CanEnd : Layout → FilerView → FilerLent → Tried → JobReply → Type 0
+CanEnd layout w l (tries.Moved m to) told = CanPutBack layout w l
+CanEnd layout w l (tries.Entered e next) told = CanFinish kind_in filer_behaviour layout w l e.job.value told × HasRoom e told
 
 -- the grant was put back; or the call was finished, and its answer went into the sink
-abbrev pub HasEnded : {S : Type 0} → (S → List Addressed → S → Type 0) → Layout → FilerView → FilerLent → Tried → S → FilerView
-    → Option Message → S → Type 0
-HasEnded took layout w l (tries.Moved m to) sink u kept sink' =
+abbrev pub HasEnded : {S : Type 0} → (S → List Addressed → S → Type 0) → Layout → FilerView → FilerLent → Tried → JobReply → S
+    → FilerView → Option Message → S → Type 0
+HasEnded took layout w l (tries.Moved m to) told sink u kept sink' =
     IsEnded w (number_of layout l.affinity) u × (kept ≡ Some (readdressed to m)) × (sink' ≡ sink)
-HasEnded took layout w l (tries.Entered e next) sink u kept sink' =
-    IsFinished filer_behaviour w (number_of layout l.affinity) (entry_of layout l.affinity l.parcels e.job e.told) u × (kept ≡ next)
-    × ((reply : Reply) → e.told ≡ Replied reply
+HasEnded took layout w l (tries.Entered e next) told sink u kept sink' =
+    IsFinished filer_behaviour w (number_of layout l.affinity) (entry_of layout l.affinity l.parcels e.job.value told) u × (kept ≡ next)
+    × ((reply : Reply) → told ≡ Replied reply
     → took sink (addressed e.origin.connection.0 (replies.message e.origin.xid (reply_of reply)) ∷ []) sink')

@@ -17,6 +17,7 @@ use crate::granted::begin_on;
 use crate::linking::{Link, Tried, end_on, has_eight, link_on, try_on};
 use crate::shared::Filer;
 use crate::shared_waiting::{Pass, SharedWaiting};
+use crate::telling::{forget, starved};
 use crate::turned::Gate;
 use affinity_tree::{Kind, Layout};
 use depot::{Refusal, Seat};
@@ -27,7 +28,7 @@ use parcel_sets::{
 };
 use parcels::Files;
 use rpc_msg::{replies_fit, servers_are_roomy};
-use service::Service;
+use service::{JobReply, Service};
 use std::sync::Wait;
 
 /// What is kept of messages that were tried one after the other, and what came of them.
@@ -60,6 +61,7 @@ fn chain<N: TaskNode<Parcel<Files>, ParcelKinds>, R: Wait, G: Gate, H: Hint, S: 
     gate: &G,
     hint: &H,
     most: usize,
+    told: &mut JobReply,
     sink: &mut S,
 ) -> Tried
     requires seat { IsSeatHere filer.now.depot seat.old }
@@ -78,23 +80,23 @@ fn chain<N: TaskNode<Parcel<Files>, ParcelKinds>, R: Wait, G: Gate, H: Hint, S: 
     ensures chained { let L = layout_in filer.now in (s : Standing)
         → Stands L (verifier_in filer.now) s message (known pass.old) (node_lent L grant.old)
         (view seat.old)
-        → HasChained S.took L (verifier_in filer.now) s moment sink.old result (known pass.new)
-        (node_lent L grant.new) (view seat.new) sink.new }
+        → HasChained S.took L (verifier_in filer.now) s moment sink.old result told.new
+        (known pass.new) (node_lent L grant.new) (view seat.new) sink.new }
 {
     let mut message = message;
     for _link in 1..most {
         match link_on::<N, R, G, H, S>(
-            filer, seat, queue, rt, pass, grant, message, moment, gate, hint, sink,
+            filer, seat, queue, rt, pass, grant, message, moment, gate, hint, told, sink,
         ) {
             Link::On(next) => message = next,
             Link::Over(tried) => return tried,
         }
     }
-    try_on::<N, G>(filer, grant, message, moment, gate)
+    try_on::<N, G>(filer, grant, message, moment, gate, told)
 }
 
 /// Whether the last of some messages is finished.
-fn told(tried: &Tried) -> Chained
+fn ended_by(tried: &Tried) -> Chained
     ensures { result ≡ chained_so tried.now }
 {
     match tried {
@@ -149,11 +151,14 @@ fn serve_all_on<N: TaskNode<Parcel<Files>, ParcelKinds>, R: Wait, G: Gate, H: Hi
             };
         }
     };
+    let mut told = starved();
     let tried = chain::<N, R, G, H, S>(
-        filer, seat, queue, rt, pass, &mut grant, message, moment, gate, hint, most, sink,
+        filer, seat, queue, rt, pass, &mut grant, message, moment, gate, hint, most, &mut told,
+        sink,
     );
-    let chained = told(&tried);
-    let kept = end_on::<N, G, S>(filer, seat, grant, tried, gate, sink);
+    let chained = ended_by(&tried);
+    let kept = end_on::<N, G, S>(filer, seat, grant, tried, gate, &mut told, sink);
+    forget(told);
     ServedAll { kept, chained }
 }
 
@@ -189,7 +194,7 @@ pub(crate) fn serve_all<R: Wait, G: Gate, H: Hint, S: AnswerSink>(
         → HasServedOn S.took (layout_in filer.now) s moment sink.old result.chained sink.new
         (left_standing (view seat.new) (known pass.new) result.kept) }
 {
-    match message.message().affinity.kind() {
+    match message.affinity().kind() {
         Kind::Range => serve_all_on::<RangeNode, R, G, H, S>(
             filer, seat, queue, rt, pass, message, moment, gate, hint, most, sink,
         ),

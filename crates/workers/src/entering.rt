@@ -1,84 +1,66 @@
 //! Entries that are to be made, and the answers that follow.
 
-ghost use Rattle.std.specs.Prelude.{◌≡◌};
+ghost use Rattle.std.specs.Prelude.{◌≡◌, ℕ};
 ghost use Rattle.nfs_values.specs.Reply.{reply_of};
+ghost use Rattle.nfs_values.specs.declared.reply.Reply.{Reply};
 ghost use Rattle.outboxes.specs.Boxes.{addressed};
 ghost use Rattle.outboxes.specs.Messages as replies;
 ghost use Rattle.service.specs.declared.job.JobReply.TheVariants.{Replied};
 ghost use Rattle.workers.specs.Links.{HasRoom, IsEntryFor};
+ghost use Rattle.workers.specs.Messages.{message_in, IsOfCall};
+ghost use Rattle.workers.specs.Turns.{job_of_message};
 
 use crate::envelope::Envelope;
-use crate::message::Message;
+use crate::telling::let_go;
 use affinity_tree::scheduler::Origin;
-use nfs_values::{Moment, Reply};
+use nfs_values::Moment;
 use outboxes::{Answer, Room};
-use service::{Asked, Job, JobReply, ServedCall};
+use service::{Job, JobReply};
 
-/// An entry of a message's call, and what its answer needs.
+/// The call of an entry, and what its answer needs.
 pub(crate) struct Entry {
     pub(crate) origin: Origin,
+    pub(crate) job: Box<Job>,
     pub(crate) room: Room,
-    pub(crate) job: Job,
-    pub(crate) told: JobReply,
 }
 
-/// The entry of a message's call.
-pub(crate) fn enter(message: Envelope, moment: Moment, reply: Reply, starved: bool) -> Entry
-    ensures { IsEntryFor message moment reply starved result }
+/// When an entry's call ran, and whether memory ran out.
+fn stamp(job: &mut Job, moment: Moment, starved: bool)
+    requires { IsOfCall job.old }
+    ensures { (room : ℕ) → job.new ≡ job_of_message (message_in job.old room) moment starved }
 {
-    let Message {
-        origin,
-        call,
-        credential,
-        affinity,
-        room,
-    } = message.into_message();
-    let job = Job::Serve(ServedCall {
-        connection: origin.connection,
-        number: origin.number,
-        xid: origin.xid,
-        asked: Asked::Call { call, credential },
-        affinity,
-        moment,
-        starved,
-    });
-    Entry {
-        origin,
-        room,
-        job,
-        told: JobReply::Replied(reply),
+    match job {
+        Job::Serve(served) => {
+            served.moment = moment;
+            served.starved = starved;
+        }
+        Job::Inner(_call) => unreachable!(),
     }
 }
 
-/// The reply of an entry to a record.
-fn into_reply(told: JobReply) -> Reply
-    requires { (reply : _) × (told ≡ Replied reply) }
-    ensures { Replied result ≡ told }
+/// The entry of a message's call.
+pub(crate) fn enter(message: Envelope, moment: Moment, starved: bool) -> Entry
+    ensures { IsEntryFor message moment starved result }
 {
+    let origin = message.origin();
+    let Envelope { mut job, room } = message;
+    stamp(&mut *job, moment, starved);
+    Entry { origin, job, room }
+}
+
+/// The answer of an entry, of which this was told.
+pub(crate) fn answered(entry: Entry, told: &mut JobReply) -> Answer
+    requires { HasRoom entry told.old }
+    ensures { (reply : Reply) → told.old ≡ Replied reply
+        → result ≡ addressed entry.origin.connection.0
+        (replies.message entry.origin.xid (reply_of reply)) }
+{
+    let Entry { origin, job, room } = entry;
+    let_go(job);
     match told {
-        JobReply::Replied(reply) => reply,
+        JobReply::Replied(reply) => Answer::new(origin.connection, origin.xid, reply, room),
         JobReply::Took(_took) => unreachable!(),
         JobReply::Gave(_gave) => unreachable!(),
         JobReply::Surveyed(_counts) => unreachable!(),
     }
-}
-
-/// The answer of an entry.
-pub(crate) fn answered(entry: Entry) -> Answer
-    requires { HasRoom entry }
-    ensures { (reply : Reply) → entry.told ≡ Replied reply
-        → result ≡ addressed entry.origin.connection.0
-        (replies.message entry.origin.xid (reply_of reply)) }
-{
-    let Entry {
-        origin,
-        room,
-        job,
-        told,
-    } = entry;
-    drop(job);
-    let mut reply = into_reply(told);
-    let answer = Answer::new(origin.connection, origin.xid, &mut reply, room);
-    drop(reply);
-    answer
 }

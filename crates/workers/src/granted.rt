@@ -8,26 +8,28 @@ ghost use Rattle.desk.specs.laws.Backing.{IsGranted};
 ghost use Rattle.parcel_sets.specs.Exact.{kind_in};
 ghost use Rattle.affinity_tree.specs.Affinity.{affinity_of};
 ghost use Rattle.workers.specs.Messages.{IsPlaced};
-ghost use Rattle.workers.specs.Runs.{HasRunFrom, HasRunOn, IsLentFor};
+ghost use Rattle.workers.specs.Runs.{HasRunTo, HasRunInto, IsLentFor};
 ghost use Rattle.workers.specs.Turns.{filer_behaviour};
 ghost use Rattle.workers.specs.Words.{layout_in};
 
 use crate::envelope::Envelope;
-use crate::message::Message;
 use crate::shared::Filer;
+use crate::telling::{tell, tell_starved};
 use crate::turned::{Gate, Place, Stage};
+use affinity_tree::Affinity;
+use affinity_tree::scheduler::Origin;
 use depot::{Refusal, Seat};
 use desk::{NodeGrant, ParcelKinds, TaskNode, begin_node, work_node};
 use nfs_values::Moment;
 use parcel_sets::Parcel;
 use parcels::Files;
-use service::{Outcome, Run, Service};
+use service::{JobReply, Outcome, Run, Service};
 
-/// A message at a stage.
-pub(crate) fn place_of(message: &Message, stage: Stage) -> Place {
+/// The call of a record at a stage.
+pub(crate) fn place_of(origin: Origin, stage: Stage) -> Place {
     Place {
-        connection: message.origin.connection,
-        xid: message.origin.xid,
+        connection: origin.connection,
+        xid: origin.xid,
         stage,
     }
 }
@@ -38,31 +40,58 @@ pub(crate) struct Ran<G, O> {
     pub(crate) outcome: O,
 }
 
-/// Runs the call of a message on what was granted of what it tries.
+/// What a call came to that ran: an `Outcome` whose reply was put elsewhere.
+#[derive(Clone, Copy)]
+pub(crate) enum Ended {
+    /// Its reply was told.
+    Replied,
+    /// Memory ran out, and that was told.
+    Starved,
+    /// It has to run on this node.
+    Moved(Affinity),
+}
+
+/// Runs the call of a message on what was granted of what it tries, and tells its reply.
 pub(crate) fn run_on<N: TaskNode<Parcel<Files>, ParcelKinds>, G: Gate>(
     filer: &Filer,
     grant: &mut NodeGrant<Parcel<Files>, N>,
     envelope: &Envelope,
     moment: Moment,
     gate: &G,
-) -> Outcome
+    told: &mut JobReply,
+) -> Ended
     requires placed { IsPlaced (layout_in filer.now) envelope.now }
     requires lent { let L = layout_in filer.now in
         IsLentFor L envelope.now (node_lent L grant.old) }
     ensures ran { let L = layout_in filer.now in
-        HasRunFrom L envelope.now moment (node_lent L grant.old) result (node_lent L grant.new) }
+        HasRunTo L envelope.now moment (node_lent L grant.old) result told.new
+        (node_lent L grant.new) }
 {
-    let message = envelope.message();
+    let place = place_of(envelope.origin(), Stage::Run);
+    let (call, credential) = envelope.asked();
     let run = Run {
         alloc: filer.alloc,
-        call: &message.call,
-        credential: message.credential,
+        call,
+        credential,
         moment,
     };
     let layout = filer.depot.layout();
-    let outcome = work_node::<Parcel<Files>, ParcelKinds, N, Run>(layout, grant, run);
-    gate.pass(place_of(message, Stage::Run));
-    outcome
+    match work_node::<Parcel<Files>, ParcelKinds, N, Run>(layout, grant, run) {
+        Outcome::Replied(reply) => {
+            tell(told, reply);
+            gate.pass(place);
+            Ended::Replied
+        }
+        Outcome::Starved => {
+            tell_starved(told);
+            gate.pass(place);
+            Ended::Starved
+        }
+        Outcome::Moved(affinity) => {
+            gate.pass(place);
+            Ended::Moved(affinity)
+        }
+    }
 }
 
 /// Begins the call of a message on what it tries, a node of this kind, and runs it there.
@@ -72,20 +101,21 @@ pub(crate) fn run<N: TaskNode<Parcel<Files>, ParcelKinds>, G: Gate>(
     envelope: &Envelope,
     moment: Moment,
     gate: &G,
-) -> Result<Ran<NodeGrant<Parcel<Files>, N>, Outcome>, Refusal>
+    told: &mut JobReply,
+) -> Result<Ran<NodeGrant<Parcel<Files>, N>, Ended>, Refusal>
     requires seat { IsSeatHere filer.now.depot seat.old }
     requires placed { IsPlaced (layout_in filer.now) envelope.now }
     requires kind { IsNodeOf (layout_in filer.now) N.KIND envelope.now.affinity }
     ensures seat { IsSeatHere filer.now.depot seat.new }
     ensures splits { splits_left seat.new ≡ splits_left seat.old }
     ensures ran { let L = layout_in filer.now in IfOk result (λ ran.
-        HasRunOn L (view seat.old) envelope.now moment ran.outcome (node_lent L ran.grant)
-        (view seat.new)) }
+        HasRunInto L (view seat.old) envelope.now moment ran.outcome told.new
+        (node_lent L ran.grant) (view seat.new)) }
     ensures refused { IfErr result (λ refusal. IsRefused (layout_in filer.now)
         (view seat.old) envelope.now.affinity refusal (view seat.new)) }
 {
     let mut grant = begin_on::<N, G>(filer, seat, envelope, gate)?;
-    let outcome = run_on::<N, G>(filer, &mut grant, envelope, moment, gate);
+    let outcome = run_on::<N, G>(filer, &mut grant, envelope, moment, gate, told);
     Ok(Ran { grant, outcome })
 }
 
@@ -106,8 +136,7 @@ pub(crate) fn begin_on<N: TaskNode<Parcel<Files>, ParcelKinds>, G: Gate>(
     ensures refused { IfErr result (λ refusal. IsRefused (layout_in filer.now)
         (view seat.old) envelope.now.affinity refusal (view seat.new)) }
 {
-    let message = envelope.message();
-    let grant = begin_node::<Service, N>(&filer.depot, seat, message.affinity)?;
-    gate.pass(place_of(message, Stage::Begun));
+    let grant = begin_node::<Service, N>(&filer.depot, seat, envelope.affinity())?;
+    gate.pass(place_of(envelope.origin(), Stage::Begun));
     Ok(grant)
 }

@@ -19,6 +19,7 @@ mod serving;
 mod shared;
 pub mod shared_waiting;
 mod starting;
+mod telling;
 mod tend;
 mod tending;
 mod turn;

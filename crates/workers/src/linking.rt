@@ -19,18 +19,18 @@ ghost use Rattle.workers.specs.Words.{layout_in, layout_known, verifier_in};
 use crate::chained::{AnswerSink, Hint};
 use crate::entering::{Entry, answered, enter};
 use crate::envelope::Envelope;
-use crate::granted::{place_of, run_on};
+use crate::granted::{Ended, place_of, run_on};
 use crate::shared::Filer;
 use crate::shared_waiting::{Pass, SharedWaiting};
-use crate::turned::{Gate, Place, Stage};
+use crate::turned::{Gate, Stage};
 use affinity_tree::{Affinity, Layout};
 use depot::Seat;
 use desk::{NodeGrant, ParcelKinds, TaskNode, finish_node, go_on_node, put_back_node};
-use nfs_values::{Moment, Refusal, Reply};
+use nfs_values::Moment;
 use parcel_sets::{Node, Parcel};
 use parcels::Files;
 use rpc_msg::{replies_fit, servers_are_roomy};
-use service::{Outcome, Service};
+use service::{JobReply, Service};
 use std::sync::Wait;
 
 /// What came of a message under a grant that is still open.
@@ -56,19 +56,18 @@ pub(crate) fn try_on<N: TaskNode<Parcel<Files>, ParcelKinds>, G: Gate>(
     message: Envelope,
     moment: Moment,
     gate: &G,
+    told: &mut JobReply,
 ) -> Tried
     requires placed { IsPlaced (layout_in filer.now) message }
     requires lent { let L = layout_in filer.now in IsLentFor L message (node_lent L grant.old) }
     ensures ran { let L = layout_in filer.now in
-        HasRunSo L message moment (node_lent L grant.old) result (node_lent L grant.new) }
+        HasRunSo L message moment (node_lent L grant.old) result told.new
+        (node_lent L grant.new) }
 {
-    match run_on::<N, G>(filer, grant, &message, moment, gate) {
-        Outcome::Replied(reply) => Tried::Entered(enter(message, moment, reply, false), None),
-        Outcome::Starved => {
-            let reply = Reply::Refused(Refusal::SystemError);
-            Tried::Entered(enter(message, moment, reply, true), None)
-        }
-        Outcome::Moved(affinity) => Tried::Moved(message, affinity),
+    match run_on::<N, G>(filer, grant, &message, moment, gate, told) {
+        Ended::Replied => Tried::Entered(enter(message, moment, false), None),
+        Ended::Starved => Tried::Entered(enter(message, moment, true), None),
+        Ended::Moved(affinity) => Tried::Moved(message, affinity),
     }
 }
 
@@ -100,19 +99,20 @@ fn go_on_by<N: Node<Parcel<Files>>>(
     seat: &mut Seat<Service>,
     grant: &NodeGrant<Parcel<Files>, N>,
     entry: &Entry,
+    told: &JobReply,
 ) -> bool
     requires seat { IsSeatHere filer.now.depot seat.old }
     requires can { let L = layout_in filer.now in
         CanFinish kind_in filer_behaviour L (view seat.old) (node_lent L grant.now)
-        entry.now.job entry.now.told }
+        entry.now.job.value told.now }
     ensures seat { IsSeatHere filer.now.depot seat.new }
     ensures splits { splits_left seat.new ≡ splits_left seat.old }
     ensures went { result ≡ true → let L = layout_in filer.now in
         HasGoneOn kind_in filer_behaviour L (view seat.old) (node_lent L grant.now)
-        entry.now.job entry.now.told (view seat.new) }
+        entry.now.job.value told.now (view seat.new) }
     ensures stayed { result ≡ false → IsLast (view seat.old) (view seat.new) }
 {
-    match go_on_node::<Service, N>(&filer.depot, seat, grant, &entry.job, &entry.told) {
+    match go_on_node::<Service, N>(&filer.depot, seat, grant, &entry.job, told) {
         Ok(()) => true,
         Err(_worn) => false,
     }
@@ -149,6 +149,7 @@ pub(crate) fn link_on<
     moment: Moment,
     gate: &G,
     hint: &H,
+    told: &mut JobReply,
     sink: &mut S,
 ) -> Link
     requires seat { IsSeatHere filer.now.depot seat.old }
@@ -167,15 +168,15 @@ pub(crate) fn link_on<
         → Stands L (verifier_in filer.now) b message (known pass.old) (node_lent L grant.old)
         (view seat.old)
         → HasLinked S.took L (verifier_in filer.now) b message moment (known pass.old)
-        (node_lent L grant.old) (view seat.old) sink.old result (known pass.new)
+        (node_lent L grant.old) (view seat.old) sink.old result told.new (known pass.new)
         (node_lent L grant.new) (view seat.new) sink.new }
 {
     replies_fit();
     servers_are_roomy();
     has_eight(filer.verifier.0);
-    let place = place_of(message.message(), Stage::Ended);
-    let node = message.message().affinity;
-    let entry = match try_on::<N, G>(filer, grant, message, moment, gate) {
+    let place = place_of(message.origin(), Stage::Ended);
+    let node = message.affinity();
+    let entry = match try_on::<N, G>(filer, grant, message, moment, gate, told) {
         Tried::Entered(entry, _none) => entry,
         Tried::Moved(message, affinity) => return Link::Over(Tried::Moved(message, affinity)),
     };
@@ -183,15 +184,15 @@ pub(crate) fn link_on<
         Some(next) => next,
         None => return Link::Over(Tried::Entered(entry, None)),
     };
-    if !is_same(next.message().affinity, node) {
+    if !is_same(next.affinity(), node) {
         return Link::Over(Tried::Entered(entry, Some(next)));
     }
-    if !go_on_by::<N>(filer, seat, grant, &entry) {
+    if !go_on_by::<N>(filer, seat, grant, &entry, told) {
         return Link::Over(Tried::Entered(entry, Some(next)));
     }
     gate.pass(place);
-    gate.pass(place_of(next.message(), Stage::Begun));
-    sink.take_answer(answered(entry));
+    gate.pass(place_of(next.origin(), Stage::Begun));
+    sink.take_answer(answered(entry, told));
     Link::On(next)
 }
 
@@ -203,33 +204,29 @@ pub(crate) fn end_on<N: Node<Parcel<Files>>, G: Gate, S: AnswerSink>(
     grant: NodeGrant<Parcel<Files>, N>,
     tried: Tried,
     gate: &G,
+    told: &mut JobReply,
     sink: &mut S,
 ) -> Option<Envelope>
     requires seat { IsSeatHere filer.now.depot seat.old }
     requires can { let L = layout_in filer.now in
-        CanEnd L (view seat.old) (node_lent L grant) tried }
+        CanEnd L (view seat.old) (node_lent L grant) tried told.old }
     ensures seat { IsSeatHere filer.now.depot seat.new }
     ensures splits { splits_left seat.new ≡ splits_left seat.old }
     ensures ended { let L = layout_in filer.now in HasEnded S.took L (view seat.old)
-        (node_lent L grant) tried sink.old (view seat.new) result sink.new }
+        (node_lent L grant) tried told.old sink.old (view seat.new) result sink.new }
 {
     match tried {
         Tried::Moved(message, affinity) => {
             put_back_node::<Service, N>(&filer.depot, seat, grant);
-            gate.pass(place_of(message.message(), Stage::Ended));
+            gate.pass(place_of(message.origin(), Stage::Ended));
             let mut message = message;
             message.readdress(affinity);
             Some(message)
         }
         Tried::Entered(entry, next) => {
-            finish_node::<Service, N>(&filer.depot, seat, grant, &entry.job, &entry.told);
-            let place = Place {
-                connection: entry.origin.connection,
-                xid: entry.origin.xid,
-                stage: Stage::Ended,
-            };
-            gate.pass(place);
-            sink.take_answer(answered(entry));
+            finish_node::<Service, N>(&filer.depot, seat, grant, &entry.job, told);
+            gate.pass(place_of(entry.origin, Stage::Ended));
+            sink.take_answer(answered(entry, told));
             next
         }
     }

@@ -3,6 +3,7 @@
 ghost use Rattle.std.specs.Prelude.{◌≡◌, ◌≤◌, length};
 ghost use Rattle.affinity_tree.specs.Numbers.{number_of};
 ghost use Rattle.nfs_values.specs.Reply.{reply_of};
+ghost use Rattle.nfs_values.specs.declared.reply.Reply.{Reply};
 ghost use Rattle.parcel_sets.specs.Exact.{kind_in};
 ghost use Rattle.depot.specs.Grants.{entry_of, IsFinished};
 ghost use Rattle.depot.specs.Words.{view, splits_left, IsNodeOf, IsSeatHere};
@@ -18,14 +19,15 @@ ghost use Rattle.workers.specs.Words.{layout_in, verifier_in, IsReady};
 
 use crate::entering::{answered, enter};
 use crate::envelope::Envelope;
-use crate::granted::{Ran, place_of, run};
+use crate::granted::{Ended, Ran, place_of, run};
 use crate::linking::has_eight;
 use crate::shared::Filer;
+use crate::telling::starved;
 use crate::turned::{Gate, Served, Stage};
 use affinity_tree::Kind;
 use depot::Seat;
 use desk::{NodeGrant, ParcelKinds, TaskNode, finish_node, put_back_node};
-use nfs_values::{Moment, Refusal, Reply};
+use nfs_values::Moment;
 use outboxes::Answer;
 use parcel_sets::{
     AggregateNode, LogicalNode, Node, Parcel, RangeNode, SerialNode, StripeNode, VbnNode,
@@ -33,7 +35,7 @@ use parcel_sets::{
 };
 use parcels::Files;
 use rpc_msg::{replies_fit, servers_are_roomy};
-use service::{Outcome, Service};
+use service::{JobReply, Service};
 
 /// Ends a message's call by its entry, and answers it.
 fn answer<N: Node<Parcel<Files>>>(
@@ -42,27 +44,29 @@ fn answer<N: Node<Parcel<Files>>>(
     grant: NodeGrant<Parcel<Files>, N>,
     message: Envelope,
     moment: Moment,
-    reply: Reply,
+    told: &mut JobReply,
     starved: bool,
 ) -> Answer
     requires seat { IsSeatHere filer.now.depot seat.old }
     requires can { let L = layout_in filer.now in
         CanFinish kind_in filer_behaviour L (view seat.old) (node_lent L grant)
-        (job_of_message message moment starved) (Replied reply) }
-    requires room { length (record_of (replies.message message.origin.xid (reply_of reply)))
-        ≤ message.room }
+        (job_of_message message moment starved) told.old }
+    requires room { (reply : Reply) × (told.old ≡ Replied reply)
+        × (length (record_of (replies.message message.origin.xid (reply_of reply)))
+        ≤ message.room) }
     ensures seat { IsSeatHere filer.now.depot seat.new }
     ensures splits { splits_left seat.new ≡ splits_left seat.old }
     ensures finished { let L = layout_in filer.now in let l = node_lent L grant in
         IsFinished filer_behaviour (view seat.old) (number_of L l.affinity)
         (entry_of L l.affinity l.parcels
-        (job_of_message message moment starved) (Replied reply)) (view seat.new) }
-    ensures answer { result ≡ addressed message.origin.connection.0
+        (job_of_message message moment starved) told.old) (view seat.new) }
+    ensures answer { (reply : Reply) → told.old ≡ Replied reply
+        → result ≡ addressed message.origin.connection.0
         (replies.message message.origin.xid (reply_of reply)) }
 {
-    let entry = enter(message, moment, reply, starved);
-    finish_node::<Service, N>(&filer.depot, seat, grant, &entry.job, &entry.told);
-    answered(entry)
+    let entry = enter(message, moment, starved);
+    finish_node::<Service, N>(&filer.depot, seat, grant, &entry.job, told);
+    answered(entry, told)
 }
 
 /// Begins the call of a message on what it tries, a node of this kind, runs it, and ends it.
@@ -88,24 +92,24 @@ fn serve_on<N: TaskNode<Parcel<Files>, ParcelKinds>, G: Gate>(
     servers_are_roomy();
     has_eight(filer.verifier.0);
     let mut message = message;
-    let place = place_of(message.message(), Stage::Ended);
-    let Ran { grant, outcome } = match run::<N, G>(filer, seat, &message, moment, gate) {
+    let place = place_of(message.origin(), Stage::Ended);
+    let mut told = starved();
+    let Ran { grant, outcome } = match run::<N, G>(filer, seat, &message, moment, gate, &mut told) {
         Ok(ran) => ran,
         Err(refusal) => return Served::Refused(message, refusal),
     };
     match outcome {
-        Outcome::Replied(reply) => {
-            let answer = answer(filer, seat, grant, message, moment, reply, false);
+        Ended::Replied => {
+            let answer = answer(filer, seat, grant, message, moment, &mut told, false);
             gate.pass(place);
             Served::Done(answer)
         }
-        Outcome::Starved => {
-            let reply = Reply::Refused(Refusal::SystemError);
-            let answer = answer(filer, seat, grant, message, moment, reply, true);
+        Ended::Starved => {
+            let answer = answer(filer, seat, grant, message, moment, &mut told, true);
             gate.pass(place);
             Served::Done(answer)
         }
-        Outcome::Moved(affinity) => {
+        Ended::Moved(affinity) => {
             put_back_node::<Service, N>(&filer.depot, seat, grant);
             gate.pass(place);
             message.readdress(affinity);
@@ -131,7 +135,7 @@ pub(crate) fn serve<G: Gate>(
     ensures served { HasServed (layout_in filer.now)
         (view seat.old) message moment result (view seat.new) }
 {
-    match message.message().affinity.kind() {
+    match message.affinity().kind() {
         Kind::Range => serve_on::<RangeNode, G>(filer, seat, message, moment, gate),
         Kind::VolumeVbn => serve_on::<VbnNode, G>(filer, seat, message, moment, gate),
         Kind::Stripe => serve_on::<StripeNode, G>(filer, seat, message, moment, gate),

@@ -1,16 +1,12 @@
 -- Bytes one after another, and the records that they bring.
-use Rattle.std.proofs.Common.{◌≡◌, ℕ, ◌<◌, List, [], ◌∷◌, ◌++◌, take, Option, Some, None, Result, Ok, sym, ap, ◌∙◌, append_assoc}
+use Rattle.std.proofs.Common.{◌≡◌, ℕ, List, [], ◌∷◌, ◌++◌, Option, Some, None, Result, Ok, Err, sym, ap, ◌∙◌, append_assoc}
 use Rattle.std.proofs.lemmas.List.{append-nil}
 use Rattle.rpc_record.specs.Machine.{State, start}
 use Rattle.rpc_record.specs.Stream.{read_stream}
 use Rattle.nfs_model.specs.World.{Heard, Scanned}
 use Rattle.engine_feed.specs.Codec.{heard}
-use Rattle.engine_feed.specs.Seen.{heard_of}
 use Rattle.engine_feed.specs.Streams.{fault_at, served_of, scan_stream}
-use Rattle.connections.specs.declared.tcp_front.next_record.Next.{Next}
-use Rattle.connections.specs.declared.tcp_front.next_record.Next.TheVariants as nexts
-use Rattle.connections.specs.declared.tcp_front.stream.Stopped.TheVariants as stops
-use Rattle.connections.specs.tcp_front.Steps.{After, Brings, BringsFirst, Adds, Comes, IsNext}
+use Rattle.connections.specs.tcp_front.Steps.{After, Brings, BringsFirst, BringsRecord, Adds}
 use Rattle.connections.proofs.tcp_front.Scanned.{joined, scan-grows, scan-stays, scan-first}
 
 -- what feeding a reassembler says of each stream that stands there
@@ -24,30 +20,19 @@ Reads at bytes made at' =
 abbrev with_served : List Heard → Result Heard ℕ → Option State → Scanned
 with_served hs r at = joined hs (served_of (r ∷ []) (fault_at at))
 
-pub comes-next : (at at' : Option State) (bytes : List ℕ) (taken : ℕ) (made : List ℕ) (next : Next) → 0 < taken
-    → Reads at (take taken bytes) (made ∷ []) at'
-    → at' ≡ Some start → IsNext next (heard made) → Comes at bytes taken next at'
-comes-next at at' bytes taken made nexts.More some reads begins is = absurd is
-comes-next at at' bytes taken made (nexts.Heard h) some reads begins is = (
-  some,
-  record {
-    brings = λ fed e sound.
-        let hs = (scan_stream fed).served in
-        scan-grows fed (take taken bytes) (made ∷ []) at' sound (reads fed e)
-        ∙ ap (λ (r : Result Heard ℕ). with_served hs r at') is
-        ∙ ap (λ (a : Option State). with_served hs (Ok (heard_of h)) a) begins;
-    leads = λ fed e sound. ap (λ r. r.at) (reads fed e);
-  },
-)
-comes-next at at' bytes taken made (nexts.Stopped (stops.Fault fault)) some reads begins is = λ fed e sound.
-    scan-grows fed (take taken bytes) (made ∷ []) at' sound (reads fed e)
+pub comes-record : (at at' : Option State) (bytes : List ℕ) (made : List ℕ) → Reads at bytes (made ∷ []) at' → at' ≡ Some start
+    → (r : Result Heard ℕ) → heard made ≡ r → BringsRecord at bytes r at'
+comes-record at at' bytes made reads begins (Ok h) is = record {
+  brings = λ fed e sound.
+      let hs = (scan_stream fed).served in
+      scan-grows fed bytes (made ∷ []) at' sound (reads fed e)
+      ∙ ap (λ (r : Result Heard ℕ). with_served hs r at') is
+      ∙ ap (λ (a : Option State). with_served hs (Ok h) a) begins;
+  leads = λ fed e sound. ap (λ r. r.at) (reads fed e);
+}
+comes-record at at' bytes made reads begins (Err fault) is = λ fed e sound.
+    scan-grows fed bytes (made ∷ []) at' sound (reads fed e)
     ∙ ap (λ (r : Result Heard ℕ). with_served (scan_stream fed).served r at') is
-comes-next at at' bytes taken made (nexts.Stopped stops.NoMemory) some reads begins is = λ fed e sound. (
-  (is.0 ∷ []),
-  ap (λ (s : Scanned). s.served) (scan-grows fed (take taken bytes) (made ∷ []) at' sound (reads fed e)
-      ∙ ap (λ (r : Result Heard ℕ). with_served (scan_stream fed).served r at') is.1),
-)
-comes-next at at' bytes taken made (nexts.Stopped stops.NumbersUsed) some reads begins is = absurd is
 
 pub comes-fault : (at at' : Option State) (bytes : List ℕ) → Reads at bytes [] at' → at' ≡ None → Brings at bytes [] (Some 11)
 comes-fault at at' bytes reads ends fed e sound =

@@ -1,6 +1,6 @@
 -- Records that are given on, part after part.
 use Rattle.std.proofs.Common.{◌≡◌, ◌<◌, ◌+◌, ◌-◌, ℕ, List, [], ◌∷◌, ◌++◌, length, length-append, length-drop, take, drop}
-use Rattle.std.proofs.Common.{Option, Some, None, refl, sym, ap, subst, ◌∙◌, take-append-drop, arith}
+use Rattle.std.proofs.Common.{Option, Some, None, Result, Ok, Err, refl, sym, ap, subst, ◌∙◌, take-append-drop, arith}
 use Rattle.std.proofs.lemmas.List.{take_all}
 use Rattle.std.proofs.Math.Seq.{take-add}
 use Rattle.rpc_record.specs.Machine.{State}
@@ -10,7 +10,7 @@ use Rattle.connections.specs.declared.tcp_front.stream.Stream.{Stream}
 use Rattle.connections.specs.declared.tcp_front.stream.Stopped.{Stopped}
 use Rattle.connections.specs.declared.tcp_front.stream.Stopped.TheVariants as stops
 use Rattle.connections.specs.tcp_front.Arrivals.{Arrival, arrivals, arrival_of, most_records}
-use Rattle.connections.specs.tcp_front.Steps.{Adds, HasGiven, HasTaken, StopsAs}
+use Rattle.connections.specs.tcp_front.Steps.{Adds, Brings, BringsRecord, HasGiven, HasGivenRecord, HasTaken, StopsAs}
 use Rattle.connections.proofs.tcp_front.Adding.{adds-more, adds-nothing, brings-first, brings-longer, brings-more, first-longer, first-more}
 
 -- ---- what records come to, one after another
@@ -133,6 +133,24 @@ module _ {S : Type 0} (came : S → List Arrival → S → Type 0) (layout : Lay
         same = ap (λ (x : Stream). x.connection) g.1 ∙ c;
         stops = (brings-first s.reassembler t.reassembler bytes (h ∷ []) [] a, omega (arith, count, all));
       }
+
+  -- a whole record
+  pub taken-whole : (s t s' : Stream) (sink sink' : S) (bytes : List ℕ) (r : Result Heard ℕ) (stopped : Option Stopped)
+      → BringsRecord s.reassembler bytes r t.reassembler → t.connection ≡ s.connection → t.records ≡ s.records
+      → HasGivenRecord came layout t sink r stopped s' sink' → HasTaken came layout s sink bytes stopped s' sink'
+  taken-whole s t s' sink sink' bytes (Ok h) stopped brings c r g = taken-record s t s' sink sink' bytes h stopped brings c r g
+  taken-whole s t s' sink sink' bytes (Err n) None brings c r g = absurd g.0
+  taken-whole s t s' sink sink' bytes (Err n) (Some (stops.Fault fault)) brings c r g =
+      let count = ap (λ (x : Stream). x.records) g.2 in
+      record {
+        heard = [];
+        given = g.1;
+        count = omega (arith, count, r);
+        same = ap (λ (x : Stream). x.connection) g.2 ∙ c;
+        stops = subst (λ (k : ℕ). Brings s.reassembler bytes [] (Some k)) (sym g.0) brings;
+      }
+  taken-whole s t s' sink sink' bytes (Err n) (Some stops.NoMemory) brings c r g = absurd g.0
+  taken-whole s t s' sink sink' bytes (Err n) (Some stops.NumbersUsed) brings c r g = absurd g.0
 
 -- ---- bytes of a slice
 

@@ -9,7 +9,7 @@ use Rattle.nfs_model.specs.Tree.{Layout}
 use Rattle.nfs_model.specs.World.{Heard}
 use Rattle.affinity_tree.specs.declared.scheduler.message.Origin.{Origin}
 use Rattle.engine_feed.specs.Numbers.{fault_number}
-use Rattle.engine_feed.specs.Seen.{heard_of}
+use Rattle.engine_feed.specs.Codec.{heard}
 use Rattle.engine_feed.specs.Streams.{scan_stream}
 use Rattle.connections.specs.declared.tcp_front.stream.Stream.{Stream}
 use Rattle.connections.specs.declared.tcp_front.stream.Stopped.{Stopped}
@@ -53,18 +53,15 @@ pub record Adds (at : Option State) (bytes : List ℕ) (heard : List Heard) (at'
 
 -- ---- one record
 
--- what a whole record is
-abbrev pub IsNext : Next → Result Heard ℕ → Type 0
-IsNext nexts.More r = ⊥
-IsNext (nexts.Heard h) r = r ≡ Ok (heard_of h)
-IsNext (nexts.Stopped (stops.Fault fault)) r = r ≡ Err (fault_number fault)
-IsNext (nexts.Stopped stops.NoMemory) r = (h : Heard) × (r ≡ Ok h)
-IsNext (nexts.Stopped stops.NumbersUsed) r = ⊥
+-- bytes bring this record more and no fault, or this fault, and it stands here then
+abbrev pub BringsRecord : Option State → List ℕ → Result Heard ℕ → Option State → Type 0
+BringsRecord at bytes (Ok h) at' = Adds at bytes (h ∷ []) at'
+BringsRecord at bytes (Err fault) at' = Brings at bytes [] (Some fault)
 
 -- so many of the bytes came to this
 abbrev pub Comes : Option State → List ℕ → ℕ → Next → Option State → Type 0
 Comes at bytes taken nexts.More at' = (taken ≡ length bytes) × Adds at (take taken bytes) [] at'
-Comes at bytes taken (nexts.Heard h) at' = (0 < taken) × Adds at (take taken bytes) (heard_of h ∷ []) at'
+Comes at bytes taken (nexts.Record made) at' = (0 < taken) × BringsRecord at (take taken bytes) (heard made.items) at'
 Comes at bytes taken (nexts.Stopped (stops.Fault fault)) at' = Brings at (take taken bytes) [] (Some (fault_number fault))
 Comes at bytes taken (nexts.Stopped stops.NoMemory) at' = BringsFirst at (take taken bytes) []
 Comes at bytes taken (nexts.Stopped stops.NumbersUsed) at' = ⊥
@@ -80,6 +77,19 @@ HasGiven came layout s sink h (Some stops.NoMemory) s' sink' = came sink [] sink
 HasGiven came layout s sink h (Some stops.NumbersUsed) s' sink' =
     came sink (arrival_of layout s.connection.0 s.records h ∷ []) sink' × (s' ≡ record s { records = s.records + 1 })
     × (s.records + 1 ≡ most_records)
+
+-- nothing was given on, since the record is this fault
+abbrev pub IsFaultOf : ℕ → Option Stopped → Type 0
+IsFaultOf n None = ⊥
+IsFaultOf n (Some (stops.Fault fault)) = fault_number fault ≡ n
+IsFaultOf n (Some stops.NoMemory) = ⊥
+IsFaultOf n (Some stops.NumbersUsed) = ⊥
+
+-- so was what a whole record is
+abbrev pub HasGivenRecord : {S : Type 0} → (S → List Arrival → S → Type 0) → Layout → Stream → S → Result Heard ℕ → Option Stopped
+    → Stream → S → Type 0
+HasGivenRecord came layout s sink (Ok h) stopped s' sink' = HasGiven came layout s sink h stopped s' sink'
+HasGivenRecord came layout s sink (Err n) stopped s' sink' = IsFaultOf n stopped × came sink [] sink' × (s' ≡ s)
 
 -- ---- many records
 

@@ -1,13 +1,14 @@
 //! Records that are given on: calls to be run, and replies that need no worker.
 
-ghost use Rattle.std.specs.Prelude.{◌≡◌, [], ◌∷◌, OnOk, OnErr};
+ghost use Rattle.std.specs.Prelude.{◌≡◌, ◌≤◌, [], ◌∷◌, length, OnOk, OnErr};
+ghost use Rattle.nfs_model.specs.Serial.AtOnce.{answer_without_home};
 ghost use Rattle.nfs_model.specs.Types as types;
 ghost use Rattle.nfs_values.specs.Call.{call_of};
 ghost use Rattle.nfs_values.specs.Credential.{credential_of};
 ghost use Rattle.affinity_tree.specs.Layout.{layout_of};
 ghost use Rattle.nfs_values.specs.Reply.{refusal_of};
-ghost use Rattle.outboxes.specs.Boxes.{addressed};
-ghost use Rattle.outboxes.specs.Messages.{message};
+ghost use Rattle.outboxes.specs.Boxes.{addressed, most_bytes};
+ghost use Rattle.outboxes.specs.Messages.{message, record_of};
 ghost use Rattle.engine_feed.specs.Seen.{asked_of};
 ghost use Rattle.connections.specs.tcp_front.Arrivals.{Answered};
 ghost use Rattle.connections.specs.tcp_front.Steps.{given_of};
@@ -20,6 +21,29 @@ use engine_feed::{OfferedCall, Request, answer_at_once};
 use nfs_values::{Credential, Refusal, Reply};
 use rpc_msg::{refusals_fit, replies_fit, room_of_reply};
 use std::alloc::{AllocError, Global};
+
+/// Answers a call that has no home. It stands apart, so that others have no room for its reply.
+#[inline(never)]
+fn answer_now<S: RecordSink>(
+    alloc: Global,
+    sink: &mut S,
+    layout: &Layout,
+    origin: Origin,
+    call: &OfferedCall,
+) -> Result<(), AllocError>
+    requires { length (record_of (message origin.xid
+        (types.Success (answer_without_home (layout_of layout.now) (call_of call.now)))))
+        ≤ most_bytes }
+    ensures ok { OnOk result (S.came sink.old (Answered (addressed origin.connection.0
+        (message origin.xid
+        (types.Success (answer_without_home (layout_of layout.now) (call_of call.now))))) ∷ [])
+        sink.new) }
+    ensures err { OnErr result (S.came sink.old [] sink.new) }
+    ensures layout { S.layout sink.new ≡ S.layout sink.old }
+{
+    let reply = Reply::Success(answer_at_once(alloc, call, layout));
+    sink.answer(origin.connection, origin.xid, &reply)
+}
 
 /// Gives on a call: to be run where it has a home, and else answered.
 fn give_call<S: RecordSink>(
@@ -47,8 +71,7 @@ fn give_call<S: RecordSink>(
         }),
         None => {
             replies_fit();
-            let reply = Reply::Success(answer_at_once(alloc, &call, layout));
-            sink.answer(origin.connection, origin.xid, &reply)
+            answer_now(alloc, sink, layout, origin, &call)
         }
     }
 }

@@ -3,8 +3,9 @@
 ghost use Rattle.std.specs.Prelude.{◌≡◌, ◌<◌, ◌≤◌, None, false, length, take};
 ghost use Rattle.affinity_tree.specs.Layout.{layout_of};
 ghost use Rattle.connections.specs.tcp_front.Arrivals.{most_records};
+ghost use Rattle.engine_feed.specs.Codec.{heard};
 ghost use Rattle.engine_feed.specs.Seen.{heard_of};
-ghost use Rattle.connections.specs.tcp_front.Steps.{HasGiven, HasTaken};
+ghost use Rattle.connections.specs.tcp_front.Steps.{HasGiven, HasGivenRecord, HasTaken};
 
 use crate::tcp_front::giving::give;
 use crate::tcp_front::next_record::{Next, next_record};
@@ -12,7 +13,7 @@ use crate::tcp_front::sink::RecordSink;
 use crate::tcp_front::stream::{MOST_RECORDS, Stopped, Stream};
 use affinity_tree::Layout;
 use affinity_tree::scheduler::Origin;
-use engine_feed::Heard;
+use engine_feed::{Heard, RecordRead, read_record};
 
 /// Gives on a record under the next number.
 fn give_next<S: RecordSink>(
@@ -45,6 +46,26 @@ fn give_next<S: RecordSink>(
     }
 }
 
+/// Reads a whole record, and gives it on under the next number.
+fn give_record<S: RecordSink>(
+    stream: &mut Stream,
+    sink: &mut S,
+    layout: &Layout,
+    record: Vec<u8>,
+) -> Option<Stopped>
+    requires few { stream.old.records < most_records }
+    requires layout { S.layout sink.old ≡ layout_of layout.now }
+    ensures given { HasGivenRecord S.came (layout_of layout.now) stream.old sink.old
+        (heard record.items) result stream.new sink.new }
+    ensures layout { S.layout sink.new ≡ S.layout sink.old }
+{
+    match read_record(stream.alloc, record) {
+        RecordRead::Heard(heard) => give_next(stream, sink, layout, heard),
+        RecordRead::Undecoded(_xid) => Some(Stopped::NoMemory),
+        RecordRead::Fault(fault) => Some(Stopped::Fault(fault)),
+    }
+}
+
 /// Takes bytes up to the end of at most one record, which is given on.
 fn take_record<S: RecordSink>(
     stream: &mut Stream,
@@ -60,10 +81,10 @@ fn take_record<S: RecordSink>(
         (take result.0 bytes.now) result.1 stream.new sink.new }
     ensures layout { S.layout sink.new ≡ S.layout sink.old }
 {
-    let (taken, next) = next_record(stream.alloc, &mut stream.reassembler, bytes);
+    let (taken, next) = next_record(&mut stream.reassembler, bytes);
     match next {
         Next::More => (taken, None),
-        Next::Heard(heard) => (taken, give_next(stream, sink, layout, heard)),
+        Next::Record(record) => (taken, give_record(stream, sink, layout, record)),
         Next::Stopped(stopped) => (taken, Some(stopped)),
     }
 }

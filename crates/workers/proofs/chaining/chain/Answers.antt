@@ -51,8 +51,10 @@ loop-link-preserved g c =
       share = share-from (known c.args.pass.now) pass pass' c.loop-link.invariant.share c.link_on.ensures.share;
       few =
           let gone = c.loop-link.invariant.gone c.requires.stands.0 c.requires.stands.1 in
-          let one = on-size took L ver gone.between m c.args.moment pass pass' l l' w w' c.loop-link.sink c.link_on.new.sink gone.stands c.in-On.next
-          (subst (λ (x : Link). HasLinked took L ver gone.between m c.args.moment pass l w c.loop-link.sink x pass' l' w' c.link_on.new.sink) c.in-On.is
+          let one = on-size took L ver gone.between m c.args.moment pass pass' l l' w w' c.loop-link.sink c.link_on.new.sink c.link_on.new.told gone.stands
+          c.in-On.next
+          (subst (λ (x : Link). HasLinked took L ver gone.between m c.args.moment pass l w c.loop-link.sink x c.link_on.new.told pass' l' w'
+          c.link_on.new.sink) c.in-On.is
           (c.link_on.ensures.linked gone.between gone.stands)) in
           let few = c.loop-link.invariant.few in
           omega (arith, one, few);
@@ -61,8 +63,9 @@ loop-link-preserved g c =
       gone = λ s stands.
           let gone = c.loop-link.invariant.gone s stands in
           goes-on took g.met.S.AnswerSink.took_more L ver s c.args.moment c.args.sink.now c.loop-link.sink c.link_on.new.sink m pass pass' l l' w w'
-          gone c.in-On.next
-          (subst (λ (x : Link). HasLinked took L ver gone.between m c.args.moment pass l w c.loop-link.sink x pass' l' w' c.link_on.new.sink) c.in-On.is
+          gone c.in-On.next c.link_on.new.told
+          (subst (λ (x : Link). HasLinked took L ver gone.between m c.args.moment pass l w c.loop-link.sink x c.link_on.new.told pass' l' w'
+          c.link_on.new.sink) c.in-On.is
           (c.link_on.ensures.linked gone.between gone.stands));
     }
 
@@ -86,8 +89,10 @@ returns-in-Over-clause-few g c =
     let w = view c.loop-link.seat in
     let w' = view c.link_on.new.seat in
     let gone = c.loop-link.invariant.gone c.requires.stands.0 c.requires.stands.1 in
-    let same = over-size took L ver gone.between m c.args.moment pass pass' l l' w w' c.loop-link.sink c.link_on.new.sink gone.stands c.in-Over.tried
-    (subst (λ (x : Link). HasLinked took L ver gone.between m c.args.moment pass l w c.loop-link.sink x pass' l' w' c.link_on.new.sink) c.in-Over.is
+    let same = over-size took L ver gone.between m c.args.moment pass pass' l l' w w' c.loop-link.sink c.link_on.new.sink c.link_on.new.told gone.stands
+    c.in-Over.tried
+    (subst (λ (x : Link). HasLinked took L ver gone.between m c.args.moment pass l w c.loop-link.sink x c.link_on.new.told pass' l' w'
+    c.link_on.new.sink) c.in-Over.is
     (c.link_on.ensures.linked gone.between gone.stands)) in
     let few = c.loop-link.invariant.few in
     let less = c.loop-link-test.true in
@@ -110,8 +115,9 @@ returns-in-Over-clause-chained g c s stands =
     let w' = view c.link_on.new.seat in
     let gone = c.loop-link.invariant.gone s stands in
     stops took g.met.S.AnswerSink.took_more L ver s c.args.moment c.args.sink.now c.loop-link.sink c.link_on.new.sink m pass pass' l l' w w'
-    gone c.in-Over.tried
-    (subst (λ (x : Link). HasLinked took L ver gone.between m c.args.moment pass l w c.loop-link.sink x pass' l' w' c.link_on.new.sink) c.in-Over.is
+    gone c.in-Over.tried c.link_on.new.told
+    (subst (λ (x : Link). HasLinked took L ver gone.between m c.args.moment pass l w c.loop-link.sink x c.link_on.new.told pass' l' w'
+    c.link_on.new.sink) c.in-Over.is
     (c.link_on.ensures.linked gone.between gone.stands))
 
 pub try_on-requires-clause-lent : goal.try_on-requires-clause-lent
@@ -131,11 +137,11 @@ pub returns-clause-placed : goal.returns-clause-placed
 returns-clause-placed g c =
     let L = layout_in c.args.filer.now in
     last-placed g.S.AnswerSink.took g.met.S.AnswerSink.took_more L (verifier_in c.args.filer.now) c.requires.stands.0 c.args.moment c.loop-link.message
-    (node_lent L c.loop-link.grant) (node_lent L c.try_on.new.grant) c.try_on.result c.try_on.ensures.ran
+    (node_lent L c.loop-link.grant) (node_lent L c.try_on.new.grant) c.try_on.result c.try_on.new.told c.try_on.ensures.ran
 
 pub returns-clause-chained : goal.returns-clause-chained
 returns-clause-chained g c s stands =
     let L = layout_in c.args.filer.now in
     lasts g.S.AnswerSink.took g.met.S.AnswerSink.took_more L (verifier_in c.args.filer.now) s c.args.moment c.args.sink.now c.loop-link.sink
     c.loop-link.message c.loop-link.invariant.placed (known c.loop-link.pass) (node_lent L c.loop-link.grant) (node_lent L c.try_on.new.grant)
-    (view c.loop-link.seat) (c.loop-link.invariant.gone s stands) c.try_on.result c.try_on.ensures.ran
+    (view c.loop-link.seat) (c.loop-link.invariant.gone s stands) c.try_on.result c.try_on.new.told c.try_on.ensures.ran

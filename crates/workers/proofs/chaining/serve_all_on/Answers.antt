@@ -60,8 +60,8 @@ end_on-kept-requires-clause-can g c =
     let stands = stands-first L ver s c.args.message v pass (picked-kept v pass (Some c.args.message) c.args.message refl)
     c.requires.ready (node_lent L c.in-Ok.grant) (view c.begin_on.new.seat) c.requires.seat.1.0 c.in-Ok.ensures.granted in
     can-end g.S.AnswerSink.took g.met.S.AnswerSink.took_more L ver s c.args.moment c.args.filer.now.depot.layout.lawful c.args.sink.now
-    c.chain-tried.new.sink c.chain-tried.new.sink (known c.chain-tried.new.pass) (node_lent L c.chain-tried.new.grant) (view c.chain-tried.new.seat)
-    c.chain-tried.result c.has_eight.ensures c.servers_are_roomy.ensures.begins c.servers_are_roomy.ensures.stays c.replies_fit.ensures.offered
+    c.chain-tried.new.sink c.chain-tried.new.sink c.chain-tried.new.told (known c.chain-tried.new.pass) (node_lent L c.chain-tried.new.grant)
+    (view c.chain-tried.new.seat) c.chain-tried.result c.has_eight.ensures c.servers_are_roomy.ensures.begins c.servers_are_roomy.ensures.stays c.replies_fit.ensures.offered
     (c.chain-tried.ensures.chained s stands)
 
 pub returns-clause-ready : goal.returns-clause-ready
@@ -74,8 +74,8 @@ returns-clause-ready g c =
     let stands = stands-first L ver s c.args.message v pass (picked-kept v pass (Some c.args.message) c.args.message refl)
     c.requires.ready (node_lent L c.in-Ok.grant) (view c.begin_on.new.seat) c.requires.seat.1.0 c.in-Ok.ensures.granted in
     end-ready g.S.AnswerSink.took g.met.S.AnswerSink.took_more L ver s c.args.moment c.args.filer.now.depot.layout.lawful c.args.sink.now
-    c.chain-tried.new.sink c.end_on-kept.new.sink (known c.chain-tried.new.pass) (node_lent L c.chain-tried.new.grant) (view c.chain-tried.new.seat)
-    (view c.end_on-kept.new.seat) c.end_on-kept.result c.chain-tried.result (c.chain-tried.ensures.chained s stands) c.end_on-kept.ensures.ended
+    c.chain-tried.new.sink c.end_on-kept.new.sink c.chain-tried.new.told (known c.chain-tried.new.pass) (node_lent L c.chain-tried.new.grant)
+    (view c.chain-tried.new.seat) (view c.end_on-kept.new.seat) c.end_on-kept.result c.chain-tried.result (c.chain-tried.ensures.chained s stands) c.end_on-kept.ensures.ended
 
 pub returns-clause-few : goal.returns-clause-few
 returns-clause-few g c =
@@ -84,7 +84,7 @@ returns-clause-few g c =
     c.in-Ok.ensures.granted in
     let few = c.chain-tried.ensures.few in
     let ended = ended-size g.S.AnswerSink.took L (view c.chain-tried.new.seat) (view c.end_on-kept.new.seat) (node_lent L c.chain-tried.new.grant)
-    c.end_on-kept.result c.chain-tried.new.sink c.end_on-kept.new.sink c.chain-tried.result c.end_on-kept.ensures.ended in
+    c.end_on-kept.result c.chain-tried.new.sink c.end_on-kept.new.sink c.chain-tried.result c.chain-tried.new.told c.end_on-kept.ensures.ended in
     omega (arith, begun, few, ended)
 
 pub returns-clause-placed : goal.returns-clause-placed
@@ -97,8 +97,8 @@ returns-clause-placed g c =
     let stands = stands-first L ver s c.args.message v pass (picked-kept v pass (Some c.args.message) c.args.message refl)
     c.requires.ready (node_lent L c.in-Ok.grant) (view c.begin_on.new.seat) c.requires.seat.1.0 c.in-Ok.ensures.granted in
     end-placed g.S.AnswerSink.took g.met.S.AnswerSink.took_more L ver s c.args.moment c.args.filer.now.depot.layout.lawful c.args.sink.now
-    c.chain-tried.new.sink c.end_on-kept.new.sink (known c.chain-tried.new.pass) (node_lent L c.chain-tried.new.grant) (view c.chain-tried.new.seat)
-    (view c.end_on-kept.new.seat) c.end_on-kept.result c.chain-tried.result (c.chain-tried.ensures.chained s stands) c.end_on-kept.ensures.ended
+    c.chain-tried.new.sink c.end_on-kept.new.sink c.chain-tried.new.told (known c.chain-tried.new.pass) (node_lent L c.chain-tried.new.grant)
+    (view c.chain-tried.new.seat) (view c.end_on-kept.new.seat) c.end_on-kept.result c.chain-tried.result (c.chain-tried.ensures.chained s stands) c.end_on-kept.ensures.ended
     c.chain-tried.ensures.placed
 
 pub returns-clause-served : goal.returns-clause-served
@@ -109,7 +109,7 @@ returns-clause-served g c s picked =
     let stands = stands-first L ver s c.args.message (view c.args.seat.now) (known c.args.pass.now) picked c.requires.ready
     (node_lent L c.in-Ok.grant) (view c.begin_on.new.seat) c.requires.seat.1.0 c.in-Ok.ensures.granted in
     subst (λ (x : Chained). HasServedOn took L s c.args.moment c.args.sink.now x c.end_on-kept.new.sink
-    (left_standing (view c.end_on-kept.new.seat) (known c.chain-tried.new.pass) c.end_on-kept.result)) (sym c.told-chained.ensures)
+    (left_standing (view c.end_on-kept.new.seat) (known c.chain-tried.new.pass) c.end_on-kept.result)) (sym c.ended_by-chained.ensures)
     (end-served took g.met.S.AnswerSink.took_more L ver s c.args.moment c.args.filer.now.depot.layout.lawful c.args.sink.now
-    c.chain-tried.new.sink c.end_on-kept.new.sink (known c.chain-tried.new.pass) (node_lent L c.chain-tried.new.grant) (view c.chain-tried.new.seat)
-    (view c.end_on-kept.new.seat) c.end_on-kept.result c.chain-tried.result (c.chain-tried.ensures.chained s stands) c.end_on-kept.ensures.ended)
+    c.chain-tried.new.sink c.end_on-kept.new.sink c.chain-tried.new.told (known c.chain-tried.new.pass) (node_lent L c.chain-tried.new.grant)
+    (view c.chain-tried.new.seat) (view c.end_on-kept.new.seat) c.end_on-kept.result c.chain-tried.result (c.chain-tried.ensures.chained s stands) c.end_on-kept.ensures.ended)

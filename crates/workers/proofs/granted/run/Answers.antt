@@ -13,8 +13,12 @@ run_on-outcome-requires-clause-lent g c = record {
 
 pub returns-clause-ran : goal.returns-clause-ran
 returns-clause-ran g c = record {
-  before = node_lent (layout_in c.args.filer.now) c.in_ok-grant.grant;
-  granted = c.in_ok-grant.ensures.granted;
-  done = c.run_on-outcome.ensures.ran.done;
-  whole = c.run_on-outcome.ensures.ran.whole;
+  outcome = c.run_on-outcome.ensures.ran.outcome;
+  says = c.run_on-outcome.ensures.ran.says;
+  ran = record {
+    before = node_lent (layout_in c.args.filer.now) c.in_ok-grant.grant;
+    granted = c.in_ok-grant.ensures.granted;
+    done = c.run_on-outcome.ensures.ran.ran.done;
+    whole = c.run_on-outcome.ensures.ran.ran.whole;
+  };
 }

@@ -22,8 +22,8 @@ go_on_by-requires-clause-can g c =
     let l = node_lent L c.args.grant.now in
     let l' = node_lent L c.try_on.new.grant in
     may-enter L c.args.filer.now.depot.layout.lawful (verifier_in c.args.filer.now) c.requires.stands.0 c.args.message c.requires.placed c.args.moment
-    (known c.args.pass.now) l (view c.args.seat.now) c.requires.stands.1 c.in-Entered.entry l'
-    (entered-so L c.args.message c.args.moment l l' c.try_on.result c.in-Entered.entry _ c.in-Entered.is c.try_on.ensures.ran)
+    (known c.args.pass.now) l (view c.args.seat.now) c.requires.stands.1 c.in-Entered.entry c.try_on.new.told l'
+    (entered-so L c.args.message c.args.moment l l' c.try_on.result c.try_on.new.told c.in-Entered.entry _ c.in-Entered.is c.try_on.ensures.ran)
 
 pub answered-requires : goal.answered-requires
 answered-requires g c =
@@ -31,8 +31,8 @@ answered-requires g c =
     let l = node_lent L c.args.grant.now in
     let l' = node_lent L c.try_on.new.grant in
     has-room L c.args.filer.now.depot.layout.lawful (verifier_in c.args.filer.now) c.requires.stands.0 c.args.message c.requires.placed c.args.moment
-    (known c.args.pass.now) l (view c.args.seat.now) c.requires.stands.1 c.in-Entered.entry l'
-    (entered-so L c.args.message c.args.moment l l' c.try_on.result c.in-Entered.entry _ c.in-Entered.is c.try_on.ensures.ran)
+    (known c.args.pass.now) l (view c.args.seat.now) c.requires.stands.1 c.in-Entered.entry c.try_on.new.told l'
+    (entered-so L c.args.message c.args.moment l l' c.try_on.result c.try_on.new.told c.in-Entered.entry _ c.in-Entered.is c.try_on.ensures.ran)
     c.has_eight.ensures c.servers_are_roomy.ensures.begins c.servers_are_roomy.ensures.stays c.replies_fit.ensures.offered
 
 pub returns-in-Moved-clause-linked : goal.returns-in-Moved-clause-linked
@@ -40,7 +40,7 @@ returns-in-Moved-clause-linked g c b stands =
     let L = layout_in c.args.filer.now in (
       refl,
       link-moved L c.args.filer.now.depot.layout.lawful (verifier_in c.args.filer.now) b c.args.message c.requires.placed c.args.moment
-          (known c.args.pass.now) (node_lent L c.args.grant.now) (view c.args.seat.now) stands (node_lent L c.try_on.new.grant)
+          (known c.args.pass.now) (node_lent L c.args.grant.now) (view c.args.seat.now) stands c.try_on.new.told (node_lent L c.try_on.new.grant)
           c.try_on.result c.in-Moved.message c.in-Moved.affinity c.in-Moved.is c.try_on.ensures.ran,
     )
 
@@ -51,8 +51,8 @@ returns-in-None-clause-linked g c b stands =
     let l' = node_lent L c.try_on.new.grant in (
       refl,
       link-over L c.args.filer.now.depot.layout.lawful (verifier_in c.args.filer.now) b c.args.message c.requires.placed c.args.moment
-          (known c.args.pass.now) l (view c.args.seat.now) stands l' c.in-Entered.entry
-          (entered-so L c.args.message c.args.moment l l' c.try_on.result c.in-Entered.entry _ c.in-Entered.is c.try_on.ensures.ran)
+          (known c.args.pass.now) l (view c.args.seat.now) stands c.try_on.new.told l' c.in-Entered.entry
+          (entered-so L c.args.message c.args.moment l l' c.try_on.result c.try_on.new.told c.in-Entered.entry _ c.in-Entered.is c.try_on.ensures.ran)
           (known c.pick_ahead.new.pass) (view c.args.seat.now) None
           (subst (λ (k : Option Message). IsAhead (known c.args.pass.now) (known c.pick_ahead.new.pass) k) c.in-None.is c.pick_ahead.ensures.ahead)
           (none-read (view c.args.seat.now)),
@@ -70,8 +70,8 @@ returns-then-not-is_same-clause-linked g c b stands =
     let l' = node_lent L c.try_on.new.grant in (
       refl,
       link-over L c.args.filer.now.depot.layout.lawful (verifier_in c.args.filer.now) b c.args.message c.requires.placed c.args.moment
-          (known c.args.pass.now) l (view c.args.seat.now) stands l' c.in-Entered.entry
-          (entered-so L c.args.message c.args.moment l l' c.try_on.result c.in-Entered.entry _ c.in-Entered.is c.try_on.ensures.ran)
+          (known c.args.pass.now) l (view c.args.seat.now) stands c.try_on.new.told l' c.in-Entered.entry
+          (entered-so L c.args.message c.args.moment l l' c.try_on.result c.try_on.new.told c.in-Entered.entry _ c.in-Entered.is c.try_on.ensures.ran)
           (known c.pick_ahead.new.pass) (view c.args.seat.now) (Some c.in-Some.next)
           (subst (λ (k : Option Message). IsAhead (known c.args.pass.now) (known c.pick_ahead.new.pass) k) c.in-Some.is c.pick_ahead.ensures.ahead)
           (none-read (view c.args.seat.now)),
@@ -91,8 +91,8 @@ returns-then-not-go_on_by-clause-linked g c b stands =
     let last = c.go_on_by.ensures.stayed stayed in (
       refl,
       link-over L c.args.filer.now.depot.layout.lawful (verifier_in c.args.filer.now) b c.args.message c.requires.placed c.args.moment
-          (known c.args.pass.now) l (view c.args.seat.now) stands l' c.in-Entered.entry
-          (entered-so L c.args.message c.args.moment l l' c.try_on.result c.in-Entered.entry _ c.in-Entered.is c.try_on.ensures.ran)
+          (known c.args.pass.now) l (view c.args.seat.now) stands c.try_on.new.told l' c.in-Entered.entry
+          (entered-so L c.args.message c.args.moment l l' c.try_on.result c.try_on.new.told c.in-Entered.entry _ c.in-Entered.is c.try_on.ensures.ran)
           (known c.pick_ahead.new.pass) (view c.go_on_by.new.seat) (Some c.in-Some.next)
           (subst (λ (k : Option Message). IsAhead (known c.args.pass.now) (known c.pick_ahead.new.pass) k) c.in-Some.is c.pick_ahead.ensures.ahead)
           (last.0, last.1, last.2),
@@ -112,8 +112,8 @@ returns-clause-linked g c b stands =
     let gone = c.go_on_by.ensures.went went in
     let same : c.in-Some.next.affinity ≡ c.args.message.affinity = search rules in
     link-on L c.args.filer.now.depot.layout.lawful (verifier_in c.args.filer.now) b c.args.message c.requires.placed c.args.moment
-    (known c.args.pass.now) l (view c.args.seat.now) stands l' c.in-Entered.entry
-    (entered-so L c.args.message c.args.moment l l' c.try_on.result c.in-Entered.entry _ c.in-Entered.is c.try_on.ensures.ran)
-    (known c.pick_ahead.new.pass) (view c.go_on_by.new.seat) g.S.AnswerSink.took c.args.sink.now c.take_answer.new.self c.in-Some.next same
+    (known c.args.pass.now) l (view c.args.seat.now) stands c.try_on.new.told l' c.in-Entered.entry
+    (entered-so L c.args.message c.args.moment l l' c.try_on.result c.try_on.new.told c.in-Entered.entry _ c.in-Entered.is c.try_on.ensures.ran)
+    (known c.pick_ahead.new.pass) (view c.go_on_by.new.seat) g.S.AnswerSink.took c.args.sink.now c.take_answer.new.self c.in-Some.next c.answered.new.told same
     (subst (λ (k : Option Message). IsAhead (known c.args.pass.now) (known c.pick_ahead.new.pass) k) c.in-Some.is c.pick_ahead.ensures.ahead)
     gone.0 gone.1 gone.2 c.answered.result c.answered.ensures c.take_answer.ensures

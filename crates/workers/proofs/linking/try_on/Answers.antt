@@ -5,44 +5,52 @@ use Rattle.desk.specs.Any.{node_lent}
 use Rattle.service.specs.declared.outcome.Outcome.{Outcome}
 use Rattle.workers.specs.Runs.{HasRunFrom}
 use Rattle.workers.specs.Words.{layout_in}
+use Rattle.workers.proofs.Runs.{moved-so, replied-so, starved-so}
 use Rattle.workers.proofs.linking.try_on.Goals as goal
 
 pub returns-in-Replied : goal.returns-in-Replied
-returns-in-Replied g c = record {
-  ran = (
-    refl,
-    record {
-      outcome = c.run_on.result;
-      reply = c.in-Replied.reply;
-      starved = false;
-      is = c.in-Replied.is;
-      ran = c.run_on.ensures.ran;
-      entry = c.enter.ensures;
-    },
-  );
-}
+returns-in-Replied g c =
+    let to = c.run_on.ensures.ran in
+    let says = replied-so to.outcome c.run_on.result c.run_on.new.told to.says c.in-Replied.is in record {
+      ran = (
+        refl,
+        record {
+          outcome = to.outcome;
+          reply = says.0;
+          starved = false;
+          is = says.1;
+          ran = to.ran;
+          entry = c.enter.ensures;
+          told = says.2;
+        },
+      );
+    }
 
 pub returns-in-Starved : goal.returns-in-Starved
-returns-in-Starved g c = record {
-  ran = (
-    refl,
-    record {
-      outcome = c.run_on.result;
-      reply = Refused SystemError;
-      starved = true;
-      is = (c.in-Starved.is, refl);
-      ran = c.run_on.ensures.ran;
-      entry = c.enter-in-Starved.ensures;
-    },
-  );
-}
+returns-in-Starved g c =
+    let to = c.run_on.ensures.ran in
+    let says = starved-so to.outcome c.run_on.result c.run_on.new.told to.says c.in-Starved.is in record {
+      ran = (
+        refl,
+        record {
+          outcome = to.outcome;
+          reply = Refused SystemError;
+          starved = true;
+          is = (says.0, refl);
+          ran = to.ran;
+          entry = c.enter-in-Starved.ensures;
+          told = says.1;
+        },
+      );
+    }
 
 pub returns-in-Moved : goal.returns-in-Moved
 returns-in-Moved g c =
-    let L = layout_in c.args.filer.now in record {
+    let L = layout_in c.args.filer.now in
+    let to = c.run_on.ensures.ran in
+    let says = moved-so to.outcome c.run_on.result c.run_on.new.told to.says c.in-Moved.affinity c.in-Moved.is in record {
       ran = (
         refl,
-        subst (λ (o : Outcome). HasRunFrom L c.args.message c.args.moment (node_lent L c.args.grant.now) o (node_lent L c.run_on.new.grant))
-            c.in-Moved.is c.run_on.ensures.ran,
+        subst (λ (o : Outcome). HasRunFrom L c.args.message c.args.moment (node_lent L c.args.grant.now) o (node_lent L c.run_on.new.grant)) says to.ran,
       );
     }

@@ -1,7 +1,8 @@
-use Rattle.std.proofs.Common.{take, subst}
+use Rattle.std.proofs.Common.{take, refl, subst}
 use Rattle.rpc_record.specs.declared.reassembler.Step.{Step}
 use Rattle.rpc_record.specs.Feeds.{Feeds, given}
-use Rattle.connections.proofs.tcp_front.Adding.{Reads, comes-next, comes-fault}
+use Rattle.engine_feed.specs.Codec.{heard}
+use Rattle.connections.proofs.tcp_front.Adding.{Reads, comes-record, comes-fault}
 use Rattle.connections.proofs.tcp_front.next_record.next_record.Goals as goal
 
 pub returns-in-Record-clause-comes : goal.returns-in-Record-clause-comes
@@ -12,7 +13,7 @@ returns-in-Record-clause-comes c =
     let at' = c.feed-taken.new.self in
     let fed = subst (λ (s : Step). Feeds at bytes taken s at') c.in-Record.is c.feed-taken.ensures.feeds in
     let reads = subst (λ (s : Step). Reads at (take taken bytes) (given s) at') c.in-Record.is c.feed-taken.ensures.reads in
-    comes-next at at' bytes taken c.in-Record.record.items c.next_of.result fed.0 reads fed.3 c.next_of.ensures
+    (fed.0, comes-record at at' (take taken bytes) c.in-Record.record.items reads fed.3 (heard c.in-Record.record.items) refl)
 
 pub returns-in-Fault-clause-comes : goal.returns-in-Fault-clause-comes
 returns-in-Fault-clause-comes c =
