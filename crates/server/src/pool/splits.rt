@@ -2,7 +2,9 @@
 
 ghost use Rattle.std.specs.Prelude.{◌≡◌, ◌<◌, ◌≤◌, ◌+◌, ℕ, [], All, vec_len, vec_capacity};
 ghost use Rattle.depot.specs.rule.Sums.{total};
-ghost use Rattle.server.specs.pool.Shares.{share_of};
+ghost use Rattle.server.specs.pool.Shares.{entries_by, picks_by, puts_by, share_of};
+ghost use Rattle.workers.specs.declared.message.Message as messages;
+ghost use Rattle.workers.specs.Balance.{FilerEntry};
 ghost use Rattle.workers.specs.Words.{passed, seats_in, IsIn};
 
 use workers::{Filer, Worker};
@@ -25,6 +27,12 @@ pub(crate) fn split_workers(
     ensures seats { total seats_in result.items ≡ seats_in worker }
     ensures share { (k : ℕ) → (passed worker).halvings + count ≤ k
         → total (share_of k) result.items ≡ share_of k worker }
+    ensures entries { (weigh : FilerEntry → ℕ)
+        → total (entries_by weigh) result.items ≡ entries_by weigh worker }
+    ensures put { (weigh : messages.Message → ℕ)
+        → total (puts_by weigh) result.items ≡ puts_by weigh worker }
+    ensures picked { (weigh : messages.Message → ℕ)
+        → total (picks_by weigh) result.items ≡ picks_by weigh worker }
 {
     for _ in 1..count {
         let (first, second) = worker.split(filer);
