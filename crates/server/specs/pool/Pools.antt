@@ -26,9 +26,9 @@ pub record HasBetween (splits : ℕ) (entries : List FilerEntry) (pass : FilerPa
   pub count : length (threads_of pool) ≡ count
   pub seats : total seats_with (threads_of pool) ≡ splits + 1
   pub share : (k : ℕ) → (known pass).halvings + count ≤ k → total (share_with k) (threads_of pool) ≡ part k (known pass)
-  pub entries : (weigh : FilerEntry → ℕ) → total (λ t. entries_by weigh (started_with t)) (threads_of pool) ≡ total weigh entries
-  pub put : (weigh : Message → ℕ) → total (λ t. puts_by weigh (started_with t)) (threads_of pool) ≡ total weigh (known pass).put
-  pub picked : (weigh : Message → ℕ) → total (λ t. picks_by weigh (started_with t)) (threads_of pool) ≡ total weigh (known pass).picked
+  pub entries : (weigh : FilerEntry → ℕ) → total (λ (t : Thread). entries_by weigh (started_with t)) (threads_of pool) ≡ total weigh entries
+  pub put : (weigh : Message → ℕ) → total (λ (t : Thread). puts_by weigh (started_with t)) (threads_of pool) ≡ total weigh (known pass).put
+  pub picked : (weigh : Message → ℕ) → total (λ (t : Thread). picks_by weigh (started_with t)) (threads_of pool) ≡ total weigh (known pass).picked
 
 -- no pass is missing: the shares with which the workers were started, and those of these passes, are the whole
 abbrev pub HasAllWith : Pool → List FilerPass → Type 0
