@@ -153,7 +153,15 @@ where
     let mut running = start(rt, alloc, opened, &latch, 2)?;
     let filer = &running.filer;
     let (one, other) = (connect(&rt, filer)?, connect(&rt, filer)?);
-    let came = meet(&rt, alloc, filer, &mut running.first, &latch.seen, one, other);
+    let came = meet(
+        &rt,
+        alloc,
+        filer,
+        &mut running.first,
+        &latch.seen,
+        one,
+        other,
+    );
     let Ok(stopped) = stop(&rt, alloc, running) else {
         return None;
     };

@@ -9,6 +9,7 @@ ghost use Rattle.workers.specs.Balance.{IsEven};
 
 use crate::envelope::Envelope;
 use crate::inner::carry;
+use crate::one_turn::told;
 use crate::parts::WorkerParts;
 use crate::queueing::{next, next_beside, put_kept};
 use crate::serving::serve;
@@ -16,7 +17,6 @@ use crate::shared::Filer;
 use crate::shared_waiting::{Pass, SharedWaiting};
 use crate::tend::{TendRefusal, Tended};
 use crate::tending::answer;
-use crate::turning::told;
 use crate::turned::{Gate, Turn};
 use affinity_tree::Layout;
 use depot::Seat;

@@ -18,11 +18,7 @@ pub(crate) struct Started<'a> {
 }
 
 /// Two workers of one, and who puts messages for them.
-pub(crate) fn start_workers<'a>(
-    filer: &'a Filer,
-    worker: Worker,
-    pass: FilerPass,
-) -> Started<'a>
+pub(crate) fn start_workers<'a>(filer: &'a Filer, worker: Worker, pass: FilerPass) -> Started<'a>
     requires inside { IsIn filer.now worker }
     requires some { 1 < seats_in worker }
     requires reader { IsReaderOf filer.now pass }

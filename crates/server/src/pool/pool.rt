@@ -10,7 +10,7 @@ use crate::pool::everything::gather;
 use crate::pool::left::Left;
 use crate::pool::refusal::StartRefusal;
 use crate::pool::room::Room;
-use crate::pool::splits::split_workers;
+use crate::pool::splits::{first_worker, split_workers};
 use crate::pool::starting::start_all;
 use crate::pool::stop_word::StopWord;
 use crate::pool::task::Thread;
@@ -133,7 +133,8 @@ impl Pool {
             workers,
             room,
         } = supplies;
-        let mut workers = split_workers(filer, Worker::new(seat, pass), count, workers);
+        let worker = first_worker(filer, seat, pass);
+        let mut workers = split_workers(filer, worker, count, workers);
         match start_all(rt, filer, &stop, gate, &mut workers, &mut threads) {
             None => Ok(Pool {
                 filer: shared,

@@ -16,15 +16,15 @@ const NAP: u64 = 1;
 
 /// What a thread keeps between its rounds.
 #[derive(Clone, Copy)]
-pub(crate) struct Pace {
+pub(crate) struct RoundState {
     tending: Tending,
     patience: Patience,
 }
 
-impl Pace {
+impl RoundState {
     /// Before the first round.
-    pub(crate) fn new() -> Pace {
-        Pace {
+    pub(crate) fn new() -> RoundState {
+        RoundState {
             tending: Tending::new(),
             patience: Patience::new(),
         }
@@ -39,7 +39,7 @@ impl Pace {
 }
 
 /// Puts down what is in the worker's hand, if anything is.
-fn put_down(filer: &Filer, worker: Worker, pace: &mut Pace) -> Worker
+fn put_down(filer: &Filer, worker: Worker, state: &mut RoundState) -> Worker
     requires { IsIn filer.now worker }
     ensures inside { IsIn filer.now result }
     ensures heir { IsHeir worker result }
@@ -47,17 +47,17 @@ fn put_down(filer: &Filer, worker: Worker, pace: &mut Pace) -> Worker
     if worker.has_empty_hand() {
         return worker;
     }
-    let (worker, _found) = tend(filer, worker, &mut pace.tending);
+    let (worker, _found) = tend(filer, worker, &mut state.tending);
     worker
 }
 
 /// One tend, where no message was there, and a nap, where that moved nothing.
-fn rest<R: Clock>(rt: &R, filer: &Filer, worker: Worker, pace: &mut Pace) -> Worker
+fn rest<R: Clock>(rt: &R, filer: &Filer, worker: Worker, state: &mut RoundState) -> Worker
     requires { IsIn filer.now worker }
     ensures inside { IsIn filer.now result }
     ensures heir { IsHeir worker result }
 {
-    let (worker, found) = tend(filer, worker, &mut pace.tending);
+    let (worker, found) = tend(filer, worker, &mut state.tending);
     match found {
         Found::Blocks => {}
         Found::Nothing => rt.sleep(Duration::from_millis(NAP)),
@@ -74,7 +74,7 @@ pub(crate) fn round<R: Wait + Clock, G: Gate>(
     gate: &G,
     worker: Worker,
     moment: Moment,
-    pace: &mut Pace,
+    state: &mut RoundState,
 ) -> Worker
     requires { IsIn filer.now worker }
     ensures inside { IsIn filer.now result }
@@ -83,18 +83,18 @@ pub(crate) fn round<R: Wait + Clock, G: Gate>(
     let (worker, worked) = worker.worker_turn(filer, rt, gate, moment);
     match worked {
         Worked::Done(_connection) => {
-            pace.patience = Patience::new();
+            state.patience = Patience::new();
             worker
         }
-        Worked::Moved => put_down(filer, worker, pace),
+        Worked::Moved => put_down(filer, worker, state),
         Worked::Busy { node: _, word: _ } => {
-            pace.wait(rt);
+            state.wait(rt);
             worker
         }
         Worked::Worn => {
-            pace.wait(rt);
+            state.wait(rt);
             worker
         }
-        Worked::Idle => rest(rt, filer, worker, pace),
+        Worked::Idle => rest(rt, filer, worker, state),
     }
 }

@@ -4,7 +4,7 @@ ghost use Rattle.server.specs.pool.Heirs.{IsHeir};
 ghost use Rattle.workers.specs.Words.{IsIn};
 
 use crate::pool::moments::time_now;
-use crate::pool::round::{Pace, round};
+use crate::pool::round::{RoundState, round};
 use crate::pool::stop_word::StopWord;
 use nfs_values::Moment;
 use std::rt::Clock;
@@ -24,14 +24,14 @@ pub(crate) fn serve<R: Wait + Clock, G: Gate>(
     ensures heir { IsHeir worker result }
 {
     let mut worker = worker;
-    let mut pace = Pace::new();
+    let mut state = RoundState::new();
     let mut moment = Moment::START;
     for _ in rt.forever() {
         if stop.is_set() {
             break;
         }
         moment = time_now(rt, moment);
-        worker = round(rt, filer, gate, worker, moment, &mut pace);
+        worker = round(rt, filer, gate, worker, moment, &mut state);
     }
     worker
 }
