@@ -22,11 +22,11 @@ filer_of pool = arc_value pool.filer
 -- Each of so many threads was started with a worker. Between them these had all the seats of one seat and all the share of one pass in
 -- the right to know the queue, and what the seat had finished, and the pass had put and picked, each once: so their seats and passes
 -- are this seat and this pass, or split from them, and none is left over.
-pub record HasBetween (splits : ℕ) (entries : List FilerEntry) (pass : FilerPass) (count : ℕ) (pool : Pool) : Type 0 where
-  pub count : length (threads_of pool) ≡ count
+pub record HasBetween (splits : ℕ) (finished : List FilerEntry) (pass : FilerPass) (many : ℕ) (pool : Pool) : Type 0 where
+  pub count : length (threads_of pool) ≡ many
   pub seats : total seats_with (threads_of pool) ≡ splits + 1
-  pub share : (k : ℕ) → (known pass).halvings + count ≤ k → total (share_with k) (threads_of pool) ≡ part k (known pass)
-  pub entries : (weigh : FilerEntry → ℕ) → total (λ (t : Thread). entries_by weigh (started_with t)) (threads_of pool) ≡ total weigh entries
+  pub share : (k : ℕ) → (known pass).halvings + many ≤ k → total (share_with k) (threads_of pool) ≡ part k (known pass)
+  pub entries : (weigh : FilerEntry → ℕ) → total (λ (t : Thread). entries_by weigh (started_with t)) (threads_of pool) ≡ total weigh finished
   pub put : (weigh : Message → ℕ) → total (λ (t : Thread). puts_by weigh (started_with t)) (threads_of pool) ≡ total weigh (known pass).put
   pub picked : (weigh : Message → ℕ) → total (λ (t : Thread). picks_by weigh (started_with t)) (threads_of pool) ≡ total weigh (known pass).picked
 

@@ -5,7 +5,7 @@ ghost use Rattle.std.specs.Prelude.{vec_len, vec_capacity};
 ghost use Rattle.std.specs.Arc.{arc_value};
 ghost use Rattle.depot.specs.rule.Sums.{total};
 ghost use Rattle.server.specs.pool.Threads.{started_with, ServesIn};
-ghost use Rattle.workers.specs.declared.worker.Worker as workers;
+ghost use Rattle.workers.specs.declared.worker.Worker.{Worker};
 ghost use Rattle.workers.specs.Words.{IsIn};
 
 use crate::pool::refusal::StartRefusal;
@@ -79,7 +79,7 @@ where
     ensures none { result ≡ None → workers.new.items ≡ [] }
     ensures all { result ≡ None
         → vec_len threads.new ≡ vec_len threads.old + vec_len workers.old }
-    ensures each { result ≡ None → (f : workers.Worker → ℕ)
+    ensures each { result ≡ None → (f : Worker → ℕ)
         → total (λ thread. f (started_with thread)) threads.new.items
         ≡ total (λ thread. f (started_with thread)) threads.old.items + total f workers.old.items }
 {
