@@ -6,4 +6,3 @@ pub mod Popped
 pub mod Tables
 pub mod Numbers
 pub mod lemmas
-pub mod bells

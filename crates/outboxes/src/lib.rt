@@ -1,9 +1,7 @@
-//! What waits to be written to connections: reply records, in order, for each one that is open;
-//! and the bells by which threads wake each other.
+//! What waits to be written to connections: reply records, in order, for each one that is open.
 #![tactic(auto)]
 
 mod answer;
-pub mod bells;
 mod chain;
 mod lanes;
 mod link;

@@ -10,8 +10,6 @@ use denote.Struct.Tuple.{TupleAt, type_at}
 use Rattle.std.proofs.Crossing as std
 use Rattle.std.specs.contracts.alloc.Global as Global
 use Rattle.affinity_tree.specs.contracts.layout.Layout as Layout
-use Rattle.outboxes.specs.contracts.bells.bells.Bells as Bells
-use Rattle.workers.proofs.crossings.Bells.{bells-sync}
 use Rattle.nfs_values.proofs.number.ConnectionNumber.TheSendSync as number
 use Rattle.nfs_values.specs.contracts.number.ConnectionNumber as ConnectionNumber
 use Rattle.workers.proofs.shared_waiting.pass.Pass.TheSendSync as pass
@@ -32,13 +30,31 @@ number-send = search (number.the_send, sendable) depth 20
 shared-send : (ℓ : NamedLft) (R : RattleType) → IsSync R → IsSend (ShrRef ℓ.mir ℓ.lft R)
 shared-send ℓ R sync = shr_send ℓ.mir ℓ.lft R sync
 
-pub closure-send : (name : Sym) (ℓ ℓ' ℓ'' : NamedLft) (R : RattleType) → IsSync R
-    → IsSend (TupleAt name (ShrRef ℓ.mir ℓ.lft R ∷ Global.the_row ∷ ShrRef ℓ'.mir ℓ'.lft Filer.the_row ∷ ShrRef ℓ''.mir ℓ''.lft Bells.the_row
-    ∷ FilerPass ∷ ConnectionNumber.the_row ∷ []))
-closure-send name ℓ ℓ' ℓ'' R sync =
+-- a closure that puts messages
+pub closure-send : (name : Sym) (ℓ ℓ' : NamedLft) (R : RattleType) → IsSync R
+    → IsSend (TupleAt name (ShrRef ℓ.mir ℓ.lft R ∷ Global.the_row ∷ ShrRef ℓ'.mir ℓ'.lft Filer.the_row ∷ FilerPass ∷ ConnectionNumber.the_row ∷ []))
+closure-send name ℓ ℓ' R sync =
     let A = ShrRef ℓ.mir ℓ.lft R in
     let B = ShrRef ℓ'.mir ℓ'.lft Filer.the_row in
-    let C = ShrRef ℓ''.mir ℓ''.lft Bells.the_row in
+    declared_send (type_at name (A ∷ Global.the_row ∷ B ∷ FilerPass ∷ ConnectionNumber.the_row ∷ [])) (
+      as_row_send (row_field A) (shared-send ℓ R sync),
+      (
+        as_row_send (row_field Global.the_row) std.send,
+        (
+          as_row_send (row_field B) (shared-send ℓ' Filer.the_row filer-sync),
+          (as_row_send (row_field FilerPass) pass-send, (as_row_send (row_field ConnectionNumber.the_row) number-send, tt)),
+        ),
+      ),
+    )
+
+-- and one that tells of it by something that is shared
+pub telling-send : (name : Sym) (ℓ ℓ' ℓ'' : NamedLft) (R T : RattleType) → IsSync R → IsSync T
+    → IsSend (TupleAt name (ShrRef ℓ.mir ℓ.lft R ∷ Global.the_row ∷ ShrRef ℓ'.mir ℓ'.lft Filer.the_row ∷ ShrRef ℓ''.mir ℓ''.lft T
+    ∷ FilerPass ∷ ConnectionNumber.the_row ∷ []))
+telling-send name ℓ ℓ' ℓ'' R T sync shared =
+    let A = ShrRef ℓ.mir ℓ.lft R in
+    let B = ShrRef ℓ'.mir ℓ'.lft Filer.the_row in
+    let C = ShrRef ℓ''.mir ℓ''.lft T in
     declared_send (type_at name (A ∷ Global.the_row ∷ B ∷ C ∷ FilerPass ∷ ConnectionNumber.the_row ∷ [])) (
       as_row_send (row_field A) (shared-send ℓ R sync),
       (
@@ -46,11 +62,8 @@ closure-send name ℓ ℓ' ℓ'' R sync =
         (
           as_row_send (row_field B) (shared-send ℓ' Filer.the_row filer-sync),
           (
-            as_row_send (row_field C) (shared-send ℓ'' Bells.the_row bells-sync),
-            (
-              as_row_send (row_field FilerPass) pass-send,
-              (as_row_send (row_field ConnectionNumber.the_row) number-send, tt),
-            ),
+            as_row_send (row_field C) (shared-send ℓ'' T shared),
+            (as_row_send (row_field FilerPass) pass-send, (as_row_send (row_field ConnectionNumber.the_row) number-send, tt)),
           ),
         ),
       ),

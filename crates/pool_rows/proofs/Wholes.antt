@@ -2,22 +2,23 @@
 use Rattle.std.proofs.Common.{◌≡◌, ◌≤◌, ◌∙◌, ℕ, zero, suc, ◌+◌, ◌*◌, ◌-◌, ◌^◌, List, [], ◌∷◌, All, refl, ap, sym, subst, arith}
 use Rattle.std.proofs.lemmas.List.Elements.{All-cons, All-nil}
 use Rattle.std.proofs.lemmas.Nat.{pow-add}
-use Rattle.std.specs.Prelude.{Option, Some, option_map}
+use Rattle.std.specs.Prelude.{Option, None, Some, option_map}
 use Rattle.affinity_tree.specs.declared.layout.Layout.{Layout}
 use Rattle.affinity_tree.specs.Layout.{layout_of}
 use Rattle.depot.specs.rule.Sums.{total}
-use Rattle.server.specs.pool.Shares.{share_of, share_in, FilerPass}
-use Rattle.server.specs.pool.Pools.{threads_of}
-use Rattle.server.specs.pool.Threads.{seats_with, share_with, ServesIn}
+use Rattle.depot.specs.rule.History.{entries_of, AreHands}
+use Rattle.server.specs.pool.Shares.{share_of, share_in, picked_by, FilerPass}
+use Rattle.server.specs.pool.Pools.{filer_of, threads_of, HasAllWith, HasBetween}
 use Rattle.server.specs.declared.pool.pool.Pool.{Pool}
 use Rattle.workers.specs.shared_waiting.Balance.{left, right, part, IsWhole}
 use Rattle.workers.specs.shared_waiting.Passes.{known, IsOf}
-use Rattle.workers.specs.Balance.{Passed}
+use Rattle.workers.specs.Balance.{FilerEntry, FilerView, Passed, Weight, by_entry, by_key, IsEven}
+use Rattle.workers.specs.Jobs.{job_takes, job_gives}
 use Rattle.workers.specs.Turns.{HasShareOf}
-use Rattle.workers.specs.Words.{layout_in, layout_known, passed, seats_in, IsIn}
+use Rattle.workers.specs.Words.{layout_in, layout_known, verifier_in, passed, seats_in, HasDoneNothing, IsIn, IsReady}
 use Rattle.workers.specs.declared.shared.Filer.{Filer}
 use Rattle.workers.specs.declared.worker.Worker.{Worker}
-use Rattle.pool_rows.specs.Threads.{AreAlone, AreSplitOf, HasPut, IsOpened, IsReaderOf, IsRunning, IsStill}
+use Rattle.pool_rows.specs.Threads.{AreAlone, AreSplitOf, HasPut, IsOpened, IsReaderOf, IsRunning, IsStill, IsUnstarted}
 
 -- ---- a pass is cut in two
 
@@ -49,13 +50,22 @@ reads filer v w pass layout is of key picked =
     let same : (known pass).key ≡ v.key = key ∙ ap (λ (x : Passed). x.key) is in
     record { of = of; layout = ap (λ (k : Option Layout). option_map layout_of k) same ∙ layout; picked = picked }
 
-pub opened : (filer : Filer) (worker : Worker) (first second : FilerPass) (v : Passed) (rest : FilerPass) → IsIn filer worker → seats_in worker ≡ 64
-    → layout_known v ≡ Some (layout_in filer) → IsOf filer.waiting first → IsOf filer.waiting second → IsWhole v → passed worker ≡ left v
-    → known rest ≡ right v → known first ≡ left (known rest) → known second ≡ right (known rest) → IsOpened filer worker first second
-opened filer worker first second v rest inside seats layout of of' whole l r rl rr =
+pub unstarted : (filer : Filer) (view : FilerView) (splits : ℕ) (pass first second : FilerPass) (v : Passed) (rest : FilerPass)
+    → IsReady (layout_in filer) (verifier_in filer) view → splits ≡ 63 → HasDoneNothing view v → IsOf filer.waiting pass
+    → layout_known v ≡ Some (layout_in filer) → IsOf filer.waiting first → IsOf filer.waiting second → IsWhole v → known pass ≡ left v
+    → known rest ≡ right v → known first ≡ left (known rest) → known second ≡ right (known rest) → IsUnstarted filer view splits pass first second
+unstarted filer view splits pass first second v rest ready only nothing of'' layout of of' whole l r rl rr =
     record {
-      inside = inside;
-      seats = seats;
+      ready = ready;
+      only = only;
+      of = of'';
+      layout = ap layout_known l ∙ layout;
+      nothing = record {
+        entries = nothing.entries;
+        seen = nothing.seen;
+        put = ap (λ (w : Passed). w.put) l ∙ nothing.put;
+        picked = ap (λ (w : Passed). w.picked) l ∙ nothing.picked;
+      };
       one = reads filer v (known rest) first layout r of (ap (λ (w : Passed). w.key) rl)
           (ap (λ (w : Passed). w.picked) rl ∙ ap (λ (w : Passed). w.picked) r);
       other = reads filer v (known rest) second layout r of' (ap (λ (w : Passed). w.key) rr) (ap (λ (w : Passed). w.picked) rr);
@@ -63,7 +73,7 @@ opened filer worker first second v rest inside seats layout of of' whole l r rl 
         v.halvings + 2,
         λ k le.
             let n : (known rest).halvings ≡ v.halvings + 1 = ap (λ (w : Passed). w.halvings) r in
-            let a : share_of k worker ≡ part k (left v) = ap (λ (w : Passed). part k w) l in
+            let a : share_in k pass ≡ part k (left v) = ap (λ (w : Passed). part k w) l in
             let b : part k (known rest) ≡ part k (right v) = ap (λ (w : Passed). part k w) r in
             let c : share_in k first ≡ part k (left (known rest)) = ap (λ (w : Passed). part k w) rl in
             let d : share_in k second ≡ part k (right (known rest)) = ap (λ (w : Passed). part k w) rr in
@@ -74,26 +84,78 @@ opened filer worker first second v rest inside seats layout of of' whole l r rl 
       );
     }
 
--- ---- running
-
-pub running : (filer : Filer) (worker : Worker) (pool : Pool) (first second : FilerPass) (count : ℕ) → IsOpened filer worker first second
-    → All (ServesIn filer) (threads_of pool) → total seats_with (threads_of pool) ≡ seats_in worker
-    → ((k : ℕ) → (passed worker).halvings + count ≤ k → total (share_with k) (threads_of pool) ≡ share_of k worker)
-    → IsRunning filer pool first second
-running filer worker pool first second count o serve seats share =
+-- the only worker of a filer
+pub opened : (filer : Filer) (view : FilerView) (splits : ℕ) (pass first second : FilerPass) (worker : Worker)
+    → IsUnstarted filer view splits pass first second → IsIn filer worker → seats_in worker ≡ splits + 1 → passed worker ≡ known pass
+    → IsOpened filer worker first second
+opened filer view splits pass first second worker o inside seats same =
     record {
-      serve = serve;
-      seats = seats ∙ o.seats;
+      inside = inside;
+      seats = let s = o.only in omega (arith, seats, s);
       one = o.one;
       other = o.other;
       whole = (
-        o.whole.0 + ((passed worker).halvings + count),
+        o.whole.0,
         λ k le.
-            let a = share k (omega (arith, le)) in
+            let a : share_of k worker ≡ share_in k pass = ap (λ (w : Passed). part k w) same in
+            let b = o.whole.1 k le in
+            omega (arith, a, b),
+      );
+    }
+
+-- ---- running
+
+-- a seat and a pass that have done nothing are in balance
+pub even : (v : FilerView) (pass : Passed) → HasDoneNothing v pass → IsEven pass (entries_of v) None
+even v pass n h =
+    let a = ap (total (by_key h)) n.put in
+    let b = ap (total (by_key h)) n.picked in
+    let e = ap (total (by_entry h)) n.entries in
+    omega (arith, a, b, e)
+
+-- and carry nothing
+pub no-hands : (v : FilerView) (pass : Passed) → HasDoneNothing v pass → AreHands job_takes job_gives (entries_of v) []
+no-hands v pass n = subst (λ (es : List FilerEntry). AreHands job_takes job_gives es []) (sym n.entries) (λ weigh. refl)
+
+pub running : (filer : Filer) (view : FilerView) (splits : ℕ) (pass first second : FilerPass) (pool : Pool) (entries : List FilerEntry) (count : ℕ)
+    → IsUnstarted filer view splits pass first second → filer_of pool ≡ filer → HasBetween splits entries pass count pool
+    → IsRunning filer pool first second
+running filer view splits pass first second pool entries count o same between =
+    record {
+      same = same;
+      one = o.one;
+      other = o.other;
+      whole = (
+        o.whole.0 + ((known pass).halvings + count),
+        λ k le.
+            let a = between.share k (omega (arith, le)) in
             let b = o.whole.1 k (omega (arith, le)) in
             omega (arith, a, b),
       );
     }
+
+-- the passes that are handed in at the stop
+module _ (filer : Filer) (pool : Pool) (first second : FilerPass) (r : IsRunning filer pool first second) where
+  pub passes-of : (ps : List FilerPass) → ps ≡ first ∷ second ∷ [] → All (IsOf (filer_of pool).waiting) ps
+  passes-of ps is = subst (λ (f : Filer). All (IsOf f.waiting) ps) (sym r.same)
+      (subst (All (IsOf filer.waiting)) (sym is) (All-cons (IsOf filer.waiting) first (second ∷ []) r.one.of
+      (All-cons (IsOf filer.waiting) second [] r.other.of (All-nil (IsOf filer.waiting)))))
+
+  pub passes-whole : (ps : List FilerPass) → ps ≡ first ∷ second ∷ [] → HasAllWith pool ps
+  passes-whole ps is = (
+    r.whole.0,
+    λ k le.
+        let a = ap (total (share_in k)) is in
+        let b = r.whole.1 k le in
+        omega (arith, a, b),
+  )
+
+  pub passes-read : (ps : List FilerPass) → ps ≡ first ∷ second ∷ [] → (weight : Weight) → total (picked_by weight) ps ≡ 0
+  passes-read ps is weight =
+      let a = ap (total (picked_by weight)) is in
+      let b = ap (total (by_key weight)) r.one.picked in
+      let c = ap (total (by_key weight)) r.other.picked in
+      omega (arith, a, b, c)
 
 -- ---- without threads
 

@@ -11,7 +11,6 @@ use crate::putting::{FilerPass, put, record_of};
 use crate::replies::{connect, replies};
 use crate::running::{Running, start};
 use nfs_values::ConnectionNumber;
-use outboxes::bells::Bells;
 use std::alloc::Global;
 use std::rt::Clock;
 use std::sync::Wait;
@@ -27,7 +26,6 @@ fn put_one<R: Wait>(
     rt: &R,
     alloc: Global,
     filer: &Filer,
-    bells: &Bells,
     pass: &mut FilerPass,
     connection: ConnectionNumber,
     number: u32,
@@ -38,7 +36,7 @@ fn put_one<R: Wait>(
     match call(alloc, number) {
         Ok(call) => {
             let origin = record_of(connection, number);
-            put(rt, alloc, filer, bells, pass, origin, call)
+            put(rt, alloc, filer, pass, origin, call)
         }
         Err(_refused) => false,
     }
@@ -49,7 +47,6 @@ fn put_all<R: Wait>(
     rt: &R,
     alloc: Global,
     filer: &Filer,
-    bells: &Bells,
     mut pass: FilerPass,
     connection: ConnectionNumber,
 ) -> (FilerPass, u32)
@@ -58,7 +55,7 @@ fn put_all<R: Wait>(
     ensures most { result.1 ≤ EACH }
 {
     for number in 0..EACH {
-        if !put_one(rt, alloc, filer, bells, &mut pass, connection, number) {
+        if !put_one(rt, alloc, filer, &mut pass, connection, number) {
             return (pass, number);
         }
     }
@@ -70,7 +67,6 @@ fn put_beside<R: Threads + Wait + Sync>(
     rt: &R,
     alloc: Global,
     filer: &Filer,
-    bells: &Bells,
     first: (FilerPass, ConnectionNumber),
     second: (FilerPass, ConnectionNumber),
 ) -> ((FilerPass, u32), (FilerPass, u32))
@@ -87,12 +83,12 @@ fn put_beside<R: Threads + Wait + Sync>(
             requires { IsReaderOf filer.now first }
             ensures put { HasPut filer.entry.now first result.0 }
             ensures most { result.1 ≤ EACH }
-        { put_all(rt, alloc, filer, bells, first, one) },
+        { put_all(rt, alloc, filer, first, one) },
         move || -> (FilerPass, u32)
             requires { IsReaderOf filer.now second }
             ensures put { HasPut filer.entry.now second result.0 }
             ensures most { result.1 ≤ EACH }
-        { put_all(rt, alloc, filer, bells, second, other) },
+        { put_all(rt, alloc, filer, second, other) },
     )
 }
 
@@ -110,15 +106,13 @@ fn put_both<R: Threads + Wait + Sync>(
 {
     let Running {
         filer,
-        bells,
         pool,
         first,
         second,
     } = running;
-    let (first, second) = put_beside(rt, alloc, &filer, &bells, (first, one), (second, other));
+    let (first, second) = put_beside(rt, alloc, &filer, (first, one), (second, other));
     let running = Running {
         filer,
-        bells,
         pool,
         first: first.0,
         second: second.0,
@@ -144,7 +138,7 @@ where
     let Ok(opened) = open(alloc, Volumes::Mixed) else {
         return None;
     };
-    let running = start(rt, opened, &Unwatched, threads)?;
+    let running = start(rt, alloc, opened, &Unwatched, threads)?;
     let one = connect(&rt, &running.filer)?;
     let other = connect(&rt, &running.filer)?;
     let (running, put) = put_both(&rt, alloc, running, one, other);

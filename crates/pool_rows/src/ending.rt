@@ -6,7 +6,7 @@ ghost use Rattle.server.specs.pool.Gathered.{IsLeftOf};
 ghost use Rattle.pool_rows.specs.Threads.{IsRunning};
 
 use crate::running::Running;
-use server::pool::{Ended, Left, Room, close, gather};
+use server::pool::{Ended, Left, close};
 use std::alloc::{AllocError, Global};
 use std::sync::{Arc, Wait};
 use std::thread::Threads;
@@ -30,14 +30,12 @@ pub(crate) fn stop<R: Threads + Wait>(
 {
     let Running {
         filer,
-        bells: _,
         pool,
         first,
         second,
     } = running;
-    let workers = pool.stop(rt);
     let passes = vec![in alloc; first, second]?;
-    let left = gather(&filer, rt, workers, passes, Room::new(alloc)?);
+    let left = pool.stop(rt, passes);
     Ok(Stopped { filer, left })
 }
 

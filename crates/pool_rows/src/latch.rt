@@ -3,13 +3,13 @@
 ghost use Rattle.pool_rows.specs.Threads.{HasPut, IsReaderOf};
 
 use crate::calls::{ROOT, create, handle};
+use crate::ending::{end, stop};
 use crate::opening::{Volumes, open};
 use crate::putting::{FilerPass, put, record_of};
 use crate::replies::{LOOKS, awaited, connect, is_ok};
-use crate::running::{Running, start};
+use crate::running::start;
 use nfs_values::{Call, ConnectionNumber};
 use outboxes::Record;
-use outboxes::bells::Bells;
 use std::alloc::{AllocError, Global};
 use std::rt::Clock;
 use std::sync::atomic::{AtomicBool, Ordering};
@@ -93,7 +93,6 @@ fn make_file<R: Wait>(
     rt: &R,
     alloc: Global,
     filer: &Filer,
-    bells: &Bells,
     pass: &mut FilerPass,
     connection: ConnectionNumber,
 ) -> Option<Record>
@@ -104,8 +103,7 @@ fn make_file<R: Wait>(
         Ok(call) => call,
         Err(_refused) => return None,
     };
-    let origin = record_of(connection, MADE);
-    put(rt, alloc, filer, bells, pass, origin, call);
+    put(rt, alloc, filer, pass, record_of(connection, MADE), call);
     awaited(rt, filer, connection)
 }
 
@@ -114,27 +112,26 @@ fn meet<R: Wait>(
     rt: &R,
     alloc: Global,
     filer: &Filer,
-    bells: &Bells,
-    mut pass: FilerPass,
+    pass: &mut FilerPass,
     seen: &Seen,
+    one: ConnectionNumber,
+    other: ConnectionNumber,
 ) -> Option<Came>
-    requires { IsReaderOf filer.now pass }
+    requires { IsReaderOf filer.now pass.old }
+    ensures { HasPut filer.now pass.old pass.new }
 {
-    let (one, other) = (connect(rt, filer)?, connect(rt, filer)?);
-    make_file(rt, alloc, filer, bells, &mut pass, one)?;
+    make_file(rt, alloc, filer, pass, one)?;
     let read = Call::Read {
         handle: handle(0, 2),
         offset: 0,
         count: 4096,
     };
-    let origin = record_of(one, HELD);
-    put(rt, alloc, filer, bells, &mut pass, origin, read);
+    put(rt, alloc, filer, pass, record_of(one, HELD), read);
     comes(&seen.held_begun);
     let get = Call::GetAttributes {
         handle: handle(1, ROOT),
     };
-    let origin = record_of(other, BESIDE);
-    put(rt, alloc, filer, bells, &mut pass, origin, get);
+    put(rt, alloc, filer, pass, record_of(other, BESIDE), get);
     let got = awaited(rt, filer, other)?;
     let read = awaited(rt, filer, one)?;
     Some(Came {
@@ -144,8 +141,8 @@ fn meet<R: Wait>(
     })
 }
 
-/// Runs it with two workers.
-fn run<R>(rt: R, alloc: Global) -> Option<Came>
+/// Runs it with two workers, and how many messages were left.
+fn run<R>(rt: R, alloc: Global) -> Option<(Came, usize)>
 where
     R: Threads + Wait + Clock + Copy + Drop + Send + 'static,
 {
@@ -153,16 +150,23 @@ where
     let Ok(opened) = open(alloc, Volumes::Alike) else {
         return None;
     };
-    let Running {
+    let mut running = start(rt, alloc, opened, &latch, 2)?;
+    let filer = &running.filer;
+    let (one, other) = (connect(&rt, filer)?, connect(&rt, filer)?);
+    let came = meet(
+        &rt,
+        alloc,
         filer,
-        bells,
-        pool,
-        first,
-        second: _,
-    } = start(rt, opened, &latch, 2)?;
-    let came = meet(&rt, alloc, &filer, &bells, first, &latch.seen);
-    let _workers = pool.stop(&rt);
-    came
+        &mut running.first,
+        &latch.seen,
+        one,
+        other,
+    );
+    let Ok(stopped) = stop(&rt, alloc, running) else {
+        return None;
+    };
+    let ended = end(stopped)?;
+    Some((came?, ended.kept.len() + ended.waiting.len()))
 }
 
 #[test]
@@ -172,5 +176,5 @@ fn a_call_ends_in_the_midst_of_another(rt: HostRuntime) {
         read: true,
         got: true,
     };
-    assert_eq!(rt; run(rt, rt.alloc()), Some(wanted));
+    assert_eq!(rt; run(rt, rt.alloc()), Some((wanted, 0)));
 }

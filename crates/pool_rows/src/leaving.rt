@@ -17,12 +17,12 @@ use crate::replies::{LOOKS, connect};
 use crate::turns::came::Came;
 use crate::turns::turning::put_answer;
 use nfs_values::{BlockNumber, BytesToWrite, Call, ConnectionNumber, Moment, VolumeNumber};
-use outboxes::bells::Bells;
 use parcel_sets::{Hand, SerialHeld};
 use parcels::Files;
 use server::pool::{Ended, Room, gather};
 use std::alloc::{AllocError, Global};
 use std::process::Abort;
+use std::sync::atomic::{AtomicBool, Ordering};
 use std::sync::{Arc, Wait};
 use std::thread;
 use std::thread::Threads;
@@ -167,12 +167,11 @@ fn call_of(alloc: Global, xid: u32) -> Result<Call, AllocError>
     }
 }
 
-/// Puts the message of an xid. Where the queue is full it waits for a place.
+/// Puts the message of an xid. Where the queue is full it tries until there is a place.
 fn put_one<R: Wait>(
     rt: &R,
     alloc: Global,
     filer: &Filer,
-    bells: &Bells,
     pass: &mut FilerPass,
     connection: ConnectionNumber,
     xid: u32,
@@ -183,7 +182,7 @@ fn put_one<R: Wait>(
     match call_of(alloc, xid) {
         Ok(call) => {
             let origin = record_of(connection, xid);
-            put(rt, alloc, filer, bells, pass, origin, call)
+            put(rt, alloc, filer, pass, origin, call)
         }
         Err(_refused) => false,
     }
@@ -194,7 +193,6 @@ fn fill<R: Wait>(
     rt: &R,
     alloc: Global,
     filer: &Filer,
-    bells: &Bells,
     pass: &mut FilerPass,
     connection: ConnectionNumber,
 ) -> bool
@@ -202,11 +200,17 @@ fn fill<R: Wait>(
     ensures { HasPut filer.now pass.old pass.new }
 {
     for xid in 1..PLACES + 1 {
-        if !put_one(rt, alloc, filer, bells, pass, connection, xid) {
+        if !put_one(rt, alloc, filer, pass, connection, xid) {
             return false;
         }
     }
     true
+}
+
+/// Whether the message that comes late was put.
+#[derive(Drop)]
+struct Late {
+    is_put: AtomicBool,
 }
 
 /// Puts the message that comes late.
@@ -214,23 +218,22 @@ fn put_late<R: Wait>(
     rt: &R,
     alloc: Global,
     filer: &Filer,
-    bells: &Bells,
+    late: &Late,
     mut pass: FilerPass,
     connection: ConnectionNumber,
 ) -> (FilerPass, bool)
     requires { IsReaderOf filer.now pass }
     ensures { HasPut filer.now pass result.0 }
 {
-    let was_put = put_one(rt, alloc, filer, bells, &mut pass, connection, LATE);
+    let was_put = put_one(rt, alloc, filer, &mut pass, connection, LATE);
+    late.is_put.store(true, Ordering::SeqCst);
     (pass, was_put)
 }
 
 /// Lets another put a message once a call has begun, and goes on when it has.
-#[derive(Drop)]
+#[derive(Clone, Copy)]
 struct Letting<'a> {
-    bells: &'a Bells,
-    // How often the bell was rung that tells of a message.
-    rings: u64,
+    late: &'a Late,
 }
 
 impl Gate for Letting<'_> {
@@ -238,9 +241,8 @@ impl Gate for Letting<'_> {
         if place.stage != Stage::Begun {
             return;
         }
-        self.bells.room.ring();
         for _ in 0..LOOKS {
-            if self.bells.work.rings() != self.rings {
+            if self.late.is_put.load(Ordering::SeqCst) {
                 return;
             }
             thread::yield_now();
@@ -257,8 +259,8 @@ fn take_turn<R: Wait, G: Gate>(rt: &R, filer: &Filer, worker: Worker, gate: &G) 
         seconds: 2,
         nanoseconds: 0,
     };
-    let (worker, turned) = worker.turn(filer, rt, gate, moment);
-    (worker, put_answer(rt, filer, turned))
+    let (worker, turn) = worker.turn(filer, rt, gate, moment);
+    (worker, put_answer(rt, filer, turn))
 }
 
 /// A turn in whose midst another puts a message into the place that is free then.
@@ -266,7 +268,6 @@ fn take_turn_beside<R: Threads + Wait + Sync>(
     rt: &R,
     alloc: Global,
     filer: &Filer,
-    bells: &Bells,
     worker: Worker,
     pass: FilerPass,
     connection: ConnectionNumber,
@@ -276,17 +277,19 @@ fn take_turn_beside<R: Threads + Wait + Sync>(
     ensures put { HasPut filer.now pass result.0.0 }
     ensures still { IsStill filer.now worker result.1.0 }
 {
-    let rings = bells.work.rings();
+    let late = &Late {
+        is_put: AtomicBool::new(false),
+    };
     thread::join(
         rt,
         move || -> (FilerPass, bool)
             requires { IsReaderOf filer.now pass }
             ensures { HasPut filer.entry.now pass result.0 }
-        { put_late(rt, alloc, filer, bells, pass, connection) },
+        { put_late(rt, alloc, filer, late, pass, connection) },
         move || -> (Worker, Came)
             requires { IsIn filer.now worker }
             ensures { IsStill filer.entry.now worker result.0 }
-        { take_turn(rt, filer, worker, &Letting { bells, rings }) },
+        { take_turn(rt, filer, worker, &Letting { late }) },
     )
 }
 
@@ -294,7 +297,6 @@ fn take_turn_beside<R: Threads + Wait + Sync>(
 #[derive(Drop)]
 struct Full {
     filer: Arc<Filer>,
-    bells: Bells,
     worker: Worker,
     first: FilerPass,
     second: FilerPass,
@@ -306,7 +308,6 @@ fn fill_up<R: Wait>(
     rt: &R,
     alloc: Global,
     filer: &Filer,
-    bells: &Bells,
     worker: Worker,
     mut pass: FilerPass,
     connection: ConnectionNumber,
@@ -316,9 +317,9 @@ fn fill_up<R: Wait>(
     ensures still { IsStill filer.now worker result.0 }
     ensures put { HasPut filer.now pass result.1 }
 {
-    let was_put = put_one(rt, alloc, filer, bells, &mut pass, connection, 0);
+    let was_put = put_one(rt, alloc, filer, &mut pass, connection, 0);
     let (worker, came) = take_turn(rt, filer, worker, &Unwatched);
-    let is_full = fill(rt, alloc, filer, bells, &mut pass, connection);
+    let is_full = fill(rt, alloc, filer, &mut pass, connection);
     let is_made = was_put && came == Came::Done(connection, 0);
     (worker, pass, is_made && is_full)
 }
@@ -331,17 +332,13 @@ fn make_full<R: Wait>(rt: &R, alloc: Global) -> Option<Full>
     let Ok((filer, worker, first, second)) = open_filer(alloc, Volumes::Alike) else {
         return None;
     };
-    let Ok(bells) = Bells::new(alloc) else {
-        return None;
-    };
     let connection = connect(rt, &filer)?;
-    let (worker, first, is_full) = fill_up(rt, alloc, &filer, &bells, worker, first, connection);
+    let (worker, first, is_full) = fill_up(rt, alloc, &filer, worker, first, connection);
     if !is_full {
         return None;
     }
     Some(Full {
         filer,
-        bells,
         worker,
         first,
         second,
@@ -357,18 +354,16 @@ fn turn_beside<R: Threads + Wait + Sync>(rt: &R, alloc: Global, full: Full) -> (
 {
     let Full {
         filer,
-        bells,
         worker,
         first,
         second,
         connection,
     } = full;
     let ((first, was_put), (worker, came)) = take_turn_beside(
-        rt, alloc, &filer, &bells, worker, first, connection,
+        rt, alloc, &filer, worker, first, connection,
     );
     let full = Full {
         filer,
-        bells,
         worker,
         first,
         second,
@@ -384,7 +379,6 @@ fn turn<R: Wait>(rt: &R, full: Full) -> (Full, Came)
 {
     let Full {
         filer,
-        bells,
         worker,
         first,
         second,
@@ -393,7 +387,6 @@ fn turn<R: Wait>(rt: &R, full: Full) -> (Full, Came)
     let (worker, came) = take_turn(rt, &filer, worker, &Unwatched);
     let full = Full {
         filer,
-        bells,
         worker,
         first,
         second,
@@ -426,7 +419,6 @@ fn leave_full<R: Wait>(rt: &R, alloc: Global, full: Full) -> Option<Ended>
 {
     let Full {
         filer,
-        bells: _,
         worker,
         first,
         second,

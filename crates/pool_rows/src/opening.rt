@@ -2,24 +2,23 @@
 
 ghost use Rattle.std.specs.Prelude.{IfOk};
 ghost use Rattle.std.specs.Arc.{arc_value};
-ghost use Rattle.server.specs.pool.Pools.{IsVacant};
-ghost use Rattle.pool_rows.specs.Threads.{IsOpened};
+ghost use Rattle.depot.specs.Words.{view, splits_left, IsSeatHere};
+ghost use Rattle.pool_rows.specs.Threads.{IsOpened, IsUnstarted};
 
 use crate::putting::FilerPass;
 use affinity_tree::{AggregateSpec, Layout, VolumeSpec};
-use outboxes::bells::Bells;
-use server::pool::Pool;
+use depot::Seat;
 use std::alloc::{AllocError, Global};
 use std::sync::Arc;
-use workers::{Filer, Worker};
+use workers::{Filer, Service, Worker};
 
-/// A filer with its only worker and the passes of two who put messages, before its threads run.
+/// A filer with its only seat and a pass, before any worker runs, and the passes of two who put
+/// messages.
 #[derive(Drop)]
 pub(crate) struct Opened {
     pub(crate) filer: Arc<Filer>,
-    pub(crate) bells: Arc<Bells>,
-    pub(crate) pool: Pool,
-    pub(crate) worker: Worker,
+    pub(crate) seat: Seat<Service>,
+    pub(crate) pass: FilerPass,
     pub(crate) first: FilerPass,
     pub(crate) second: FilerPass,
 }
@@ -52,35 +51,38 @@ fn layout(alloc: Global, volumes: Volumes) -> Result<Layout, AllocError> {
     }
 }
 
-/// A filer with its only worker, and the passes of two who put messages. Its write verifier is
-/// eight nines.
+/// A filer before any worker runs. Its write verifier is eight nines.
+pub(crate) fn open(alloc: Global, volumes: Volumes) -> Result<Opened, AllocError>
+    ensures seat { IfOk result (λ o. IsSeatHere (arc_value o.filer).depot o.seat) }
+    ensures opened { IfOk result (λ o. IsUnstarted (arc_value o.filer) (view o.seat)
+        (splits_left o.seat) o.pass o.first o.second) }
+{
+    let (filer, seat, pass) = Filer::new(alloc, layout(alloc, volumes)?, [9; 8])?;
+    let (pass, rest) = filer.waiting().split_pass(pass);
+    let (first, second) = filer.waiting().split_pass(rest);
+    Ok(Opened {
+        filer: Arc::new(alloc, filer)?,
+        seat,
+        pass,
+        first,
+        second,
+    })
+}
+
+/// A filer with its only worker, and the passes of two who put messages.
 pub(crate) fn open_filer(
     alloc: Global,
     volumes: Volumes,
 ) -> Result<(Arc<Filer>, Worker, FilerPass, FilerPass), AllocError>
     ensures { IfOk result (λ made. IsOpened (arc_value made.0) made.1 made.2 made.3) }
 {
-    let (filer, seat, pass) = Filer::new(alloc, layout(alloc, volumes)?, [9; 8])?;
-    let (pass, rest) = filer.waiting().split_pass(pass);
-    let (first, second) = filer.waiting().split_pass(rest);
-    let worker = Worker::first(&filer, seat, pass);
-    Ok((Arc::new(alloc, filer)?, worker, first, second))
-}
-
-/// A filer of two volumes, before its threads run.
-pub(crate) fn open(alloc: Global, volumes: Volumes) -> Result<Opened, AllocError>
-    ensures opened { IfOk result (λ o. IsOpened (arc_value o.filer) o.worker o.first o.second) }
-    ensures vacant { IfOk result (λ o. IsVacant o.pool) }
-{
-    let bells = Arc::new(alloc, Bells::new(alloc)?)?;
-    let pool = Pool::new(alloc, Arc::try_clone(&bells)?)?;
-    let (filer, worker, first, second) = open_filer(alloc, volumes)?;
-    Ok(Opened {
+    let Opened {
         filer,
-        bells,
-        pool,
-        worker,
+        seat,
+        pass,
         first,
         second,
-    })
+    } = open(alloc, volumes)?;
+    let worker = Worker::first(&filer, seat, pass);
+    Ok((filer, worker, first, second))
 }

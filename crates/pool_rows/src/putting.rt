@@ -13,10 +13,10 @@ use affinity_tree::homes::home_of;
 use affinity_tree::scheduler::Origin;
 use nfs_values::{Call, ConnectionNumber, Credential};
 use outboxes::Room;
-use outboxes::bells::Bells;
 use rpc_msg::room_of_reply;
 use std::alloc::Global;
 use std::sync::Wait;
+use std::thread;
 use workers::shared_waiting::Pass;
 use workers::{Envelope, Filer, Message};
 
@@ -59,8 +59,8 @@ fn envelope_of(alloc: Global, filer: &Filer, origin: Origin, call: Call) -> Opti
     Envelope::new(alloc, message).ok()
 }
 
-/// Puts a message. Where the queue is full it waits for a place.
-fn admit<R: Wait>(rt: &R, filer: &Filer, bells: &Bells, pass: &mut FilerPass, message: Envelope)
+/// Puts a message. Where the queue is full it tries again until there is a place.
+fn admit<R: Wait>(rt: &R, filer: &Filer, pass: &mut FilerPass, message: Envelope)
     requires of { IsOf filer.now.waiting pass.old }
     requires fits { FitsIn Fits (known pass.old).key message }
     ensures of { IsOf filer.now.waiting pass.new }
@@ -68,21 +68,19 @@ fn admit<R: Wait>(rt: &R, filer: &Filer, bells: &Bells, pass: &mut FilerPass, me
 {
     let mut next = message;
     for _ in rt.forever() {
-        let seen = bells.room.rings();
         match filer.waiting().admit(rt, pass, next) {
             Ok(()) => return,
             Err(back) => next = back,
         }
-        bells.room.wait_past(rt, seen);
+        thread::yield_now();
     }
 }
 
-/// Puts a message of a call, and wakes a worker. Whether it was put.
+/// Puts a message of a call. Whether it was put.
 pub(crate) fn put<R: Wait>(
     rt: &R,
     alloc: Global,
     filer: &Filer,
-    bells: &Bells,
     pass: &mut FilerPass,
     origin: Origin,
     call: Call,
@@ -95,7 +93,6 @@ pub(crate) fn put<R: Wait>(
         Some(message) => message,
         None => return false,
     };
-    admit(rt, filer, bells, pass, message);
-    bells.work.ring();
+    admit(rt, filer, pass, message);
     true
 }

@@ -1,6 +1,6 @@
 //! Connections that have ended, counted.
 
-use outboxes::bells::Bell;
+use crate::bell::Bell;
 use std::sync::Wait;
 use std::sync::atomic::{AtomicU64, Ordering};
 
@@ -29,7 +29,7 @@ impl Ends {
     /// A connection has ended.
     pub(crate) fn add(&self) {
         self.count.fetch_add(1, Ordering::SeqCst);
-        self.ended.ring_all();
+        self.ended.ring();
     }
 
     /// Sleeps until of so many connections that were opened fewer than these are open.

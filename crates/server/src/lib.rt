@@ -3,6 +3,7 @@
 #![tactic(auto)]
 
 mod accepting;
+mod bell;
 mod common;
 mod crew;
 mod ending;

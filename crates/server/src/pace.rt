@@ -3,9 +3,8 @@
 ghost use Rattle.std.specs.Prelude.{◌<◌};
 
 use crate::patience::Patience;
-use crate::pool::Tending;
+use crate::pool::{Tending, time_now};
 use nfs_values::Moment;
-use outboxes::bells::time_now;
 use std::rt::Clock;
 
 /// How often in a row a call may move before the lane waits as for what another has.

@@ -25,8 +25,8 @@ use Rattle.workers.specs.Turns.{HasFinished, HasMoved, HasServed, IsTold, HasTri
 use Rattle.workers.specs.Words.{layout_known, seat_view, passed, entries_in}
 use Rattle.workers.specs.declared.turned.Served.{Served}
 use Rattle.workers.specs.declared.turned.Served.TheVariants as serves
-use Rattle.workers.specs.declared.turned.Turned.{Turned}
-use Rattle.workers.specs.declared.turned.Turned.TheVariants as turns
+use Rattle.workers.specs.declared.turned.Turn.{Turn}
+use Rattle.workers.specs.declared.turned.Turn.TheVariants as turns
 use Rattle.workers.specs.declared.worker.Worker.{Worker}
 use Rattle.depot.specs.Grants.{IsRefused}
 use Rattle.depot.specs.declared.grants.Refusal.TheVariants as refusals
@@ -145,7 +145,7 @@ hand-stays es es' e hand none none' more own = subst (λ (ds : List FilerEntry).
 
 module _ (layout : trees.Layout) (v w : FilerView) (m : Message) (moment : Moment) where
   -- it is finished, or kept
-  pub tried-even : (served : Served) (kept : Option Message) (turned : Turned) (pass : Passed) → HasServed layout v m moment served w
+  pub tried-even : (served : Served) (kept : Option Message) (turned : Turn) (pass : Passed) → HasServed layout v m moment served w
       → IsTold served kept turned → IsEven pass (entries_of v) (Some m) → IsEven pass (entries_of w) kept
   tried-even (serves.Done a) kept turned pass did told even =
       subst (λ (k : Option Message). IsEven pass (entries_of w) k) (sym told.0)
@@ -165,7 +165,7 @@ module _ (layout : trees.Layout) (v w : FilerView) (m : Message) (moment : Momen
   tried-hand (serves.Moved m') hand did own = subst (λ (es : List FilerEntry). AreHands job_takes job_gives es hand) (sym did.1) own
   tried-hand (serves.Refused back refusal) hand did own = subst (λ (es : List FilerEntry). AreHands job_takes job_gives es hand) (sym did.1) own
 
-  pub tried-placed : (served : Served) (kept : Option Message) (turned : Turned) → HasServed layout v m moment served w → IsTold served kept turned
+  pub tried-placed : (served : Served) (kept : Option Message) (turned : Turn) → HasServed layout v m moment served w → IsTold served kept turned
       → IsPlaced layout m → IfSome kept (IsPlaced layout)
   tried-placed (serves.Done a) kept turned did told placed = subst (λ (k : Option Message). IfSome k (IsPlaced layout)) (sym told.0) tt
   tried-placed (serves.Moved m') kept turned did told placed = subst (λ (k : Option Message). IfSome k (IsPlaced layout)) (sym told.0) did.0.placed
@@ -173,17 +173,17 @@ module _ (layout : trees.Layout) (v w : FilerView) (m : Message) (moment : Momen
       subst (λ (k : Option Message). IfSome k (IsPlaced layout)) (sym told.0) (subst (λ (x : Message). IsPlaced layout x) (sym did.0) placed)
 
 -- what a turn answers of it
-pub has-tried : (layout : trees.Layout) (before after : Worker) (m : Message) (moment : Moment) (served : Served) (turned : Turned)
+pub has-tried : (layout : trees.Layout) (before after : Worker) (m : Message) (moment : Moment) (served : Served) (turned : Turn)
     → before.kept ≡ Some m → HasServed layout (seat_view before) m moment served (seat_view after) → IsTold served after.kept turned
     → HasTried layout before moment turned after
 has-tried layout before after m moment (serves.Done a) turned was did told =
-    subst (λ (t : Turned). HasTried layout before moment t after) (sym told.1) (m, was, told.0, did)
+    subst (λ (t : Turn). HasTried layout before moment t after) (sym told.1) (m, was, told.0, did)
 has-tried layout before after m moment (serves.Moved m') turned was did told =
-    subst (λ (t : Turned). HasTried layout before moment t after) (sym told.1) (m, m', was, told.0, did.0, did.1)
+    subst (λ (t : Turn). HasTried layout before moment t after) (sym told.1) (m, m', was, told.0, did.0, did.1)
 has-tried layout before after m moment (serves.Refused back (refusals.Busy at word)) turned was did told =
-    subst (λ (t : Turned). HasTried layout before moment t after) (sym told.1) (m, was, told.0 ∙ ap Some did.0, did.1, did.2)
+    subst (λ (t : Turn). HasTried layout before moment t after) (sym told.1) (m, was, told.0 ∙ ap Some did.0, did.1, did.2)
 has-tried layout before after m moment (serves.Refused back refusals.Worn) turned was did told =
-    subst (λ (t : Turned). HasTried layout before moment t after) (sym told.1) (m, was, told.0 ∙ ap Some did.0, did.1, did.2)
+    subst (λ (t : Turn). HasTried layout before moment t after) (sym told.1) (m, was, told.0 ∙ ap Some did.0, did.1, did.2)
 
 -- ---- a turn
 
@@ -223,7 +223,7 @@ module _ (layout : trees.Layout) (before picked tried after : Worker) (moment : 
   returned : (m m' : Message) → picked.kept ≡ Some m → tried.kept ≡ Some m' → entries_in tried ≡ entries_in picked → HasReturned before m m' after
   returned m m' kept left stay = record { next = next-is m kept; again = waits-again m' left; entries = entries-after stay }
 
-  pub turn-did : (turned : Turned) → HasTried layout picked moment turned tried → Did layout before moment turned after
+  pub turn-did : (turned : Turn) → HasTried layout picked moment turned tried → Did layout before moment turned after
   turn-did (turns.Done a) did =
       let none = nothing-put did.2 in
       record {
@@ -271,6 +271,6 @@ pub known-still : (layout : trees.Layout) (v w : Passed) → HasShareOf v w → 
 known-still layout v w share known = ap (λ (k : Option Layout). option_map layout_of k) share.2 ∙ known
 
 -- a turn that found no message was made by a worker that keeps none
-pub idle-kept : (layout : trees.Layout) (before : Worker) (moment : Moment) (turned : Turned) (after : Worker)
+pub idle-kept : (layout : trees.Layout) (before : Worker) (moment : Moment) (turned : Turn) (after : Worker)
     → HasTried layout before moment turned after → turned ≡ turns.Idle → before.kept ≡ None
-idle-kept layout before moment turned after h e = (subst (λ (t : Turned). HasTried layout before moment t after) e h).0
+idle-kept layout before moment turned after h e = (subst (λ (t : Turn). HasTried layout before moment t after) e h).0

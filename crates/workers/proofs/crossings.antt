@@ -3,4 +3,3 @@ pub mod Sequences
 pub mod Directories
 pub mod Parcels
 pub mod Outboxes
-pub mod Bells

@@ -8,7 +8,7 @@ use Rattle.depot.specs.declared.grants.Refusal.{Refusal}
 use Rattle.depot.specs.declared.grants.Refusal.TheVariants as refusals
 use Rattle.outboxes.specs.Boxes.{Addressed, Boxes, put}
 use Rattle.workers.specs.declared.message.Message.{Message}
-use Rattle.workers.specs.declared.turned.Turned.TheVariants as turns
+use Rattle.workers.specs.declared.turned.Turn.TheVariants as turns
 use Rattle.workers.specs.declared.chained.Chained.{Chained}
 use Rattle.workers.specs.declared.chained.Chained.TheVariants as chains
 use Rattle.workers.specs.Balance.{Passed, FilerView}

@@ -29,8 +29,8 @@ use Rattle.service.specs.declared.job.Job.TheVariants.{Serve}
 use Rattle.service.specs.declared.job.JobReply.{JobReply}
 use Rattle.workers.specs.shared_waiting.Balance.{Leaves}
 use Rattle.workers.specs.declared.message.Message.{Message}
-use Rattle.workers.specs.declared.turned.Turned.{Turned}
-use Rattle.workers.specs.declared.turned.Turned.TheVariants as turns
+use Rattle.workers.specs.declared.turned.Turn.{Turn}
+use Rattle.workers.specs.declared.turned.Turn.TheVariants as turns
 use Rattle.workers.specs.declared.turned.Served.{Served}
 use Rattle.workers.specs.declared.turned.Served.TheVariants as served
 use Rattle.workers.specs.declared.worker.Worker.{Worker}
@@ -124,18 +124,18 @@ HasServed layout v m moment (served.Refused back refusal) w = (back ≡ m) × (e
 -- ---- parts of a turn
 
 -- what a refusal of the depot answers
-abbrev pub turned_by : Refusal → Turned
+abbrev pub turned_by : Refusal → Turn
 turned_by (refusals.Busy at word) = turns.Busy at word
 turned_by refusals.Worn = turns.Worn
 
 -- what is kept of a message that was tried, and what its turn answers
-abbrev pub IsTold : Served → Option Message → Turned → Type 0
+abbrev pub IsTold : Served → Option Message → Turn → Type 0
 IsTold (served.Done a) kept turned = (kept ≡ None) × (turned ≡ turns.Done a)
 IsTold (served.Moved m) kept turned = (kept ≡ Some m) × (turned ≡ turns.Moved)
 IsTold (served.Refused m refusal) kept turned = (kept ≡ Some m) × (turned ≡ turned_by refusal)
 
 -- a worker tried the message that it keeps, if it keeps one
-abbrev pub HasTried : Layout → Worker → Moment → Turned → Worker → Type 0
+abbrev pub HasTried : Layout → Worker → Moment → Turn → Worker → Type 0
 HasTried layout before moment (turns.Done a) after =
     (m : Message) × (before.kept ≡ Some m) × (after.kept ≡ None) × HasFinished (seat_view before) m moment a (seat_view after)
 HasTried layout before moment turns.Moved after =
@@ -183,7 +183,7 @@ pub record WasIdleFrom (before after : Standing) : Type 0 where
   pub view : after.view ≡ before.view
 
 -- what a turn at a moment did, by its answer
-abbrev pub DidFrom : Layout → Standing → Moment → Turned → Standing → Type 0
+abbrev pub DidFrom : Layout → Standing → Moment → Turn → Standing → Type 0
 DidFrom layout before moment (turns.Done a) after = HasDoneFrom before moment a after
 DidFrom layout before moment turns.Moved after =
     (m m' : Message) × HasMoved layout before.view m moment m' after.view × HasReturnedFrom before m m' after
@@ -204,5 +204,5 @@ HasDone before moment a after = HasDoneFrom (standing_of before) moment a (stand
 abbrev pub WasIdle : Worker → Worker → Type 0
 WasIdle before after = WasIdleFrom (standing_of before) (standing_of after)
 
-abbrev pub Did : Layout → Worker → Moment → Turned → Worker → Type 0
+abbrev pub Did : Layout → Worker → Moment → Turn → Worker → Type 0
 Did layout before moment turned after = DidFrom layout (standing_of before) moment turned (standing_of after)

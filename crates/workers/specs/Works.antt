@@ -3,15 +3,15 @@ use Rattle.std.specs.Prelude.{◌≡◌}
 use Rattle.nfs_model.specs.Tree.{Layout}
 use Rattle.nfs_values.specs.declared.moment.Moment.{Moment}
 use Rattle.outboxes.specs.Boxes.{Addressed}
-use Rattle.workers.specs.declared.turned.Turned.{Turned}
-use Rattle.workers.specs.declared.turned.Turned.TheVariants as turns
+use Rattle.workers.specs.declared.turned.Turn.{Turn}
+use Rattle.workers.specs.declared.turned.Turn.TheVariants as turns
 use Rattle.workers.specs.declared.worked.Worked.{Worked}
 use Rattle.workers.specs.declared.worked.Worked.TheVariants as works
 use Rattle.workers.specs.declared.worker.Worker.{Worker}
 use Rattle.workers.specs.Turns.{Did, HasDone}
 
 -- what is told of a turn whose answer was put: of an answer its connection alone
-abbrev pub IsToldAs : Turned → Worked → Type 0
+abbrev pub IsToldAs : Turn → Worked → Type 0
 IsToldAs (turns.Done a) worked = (number : _) × (number.0 ≡ a.connection) × (worked ≡ works.Done number)
 IsToldAs turns.Moved worked = worked ≡ works.Moved
 IsToldAs (turns.Busy at word) worked = worked ≡ works.Busy at word

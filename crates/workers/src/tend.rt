@@ -23,16 +23,16 @@ pub enum Tend {
 #[derive(Clone, Copy)]
 pub enum Tended {
     /// So many blocks came into the hand.
-    InHand { count: usize },
+    InHand { count: u32 },
     /// So many blocks were put down.
-    PutDown { count: usize },
+    PutDown { count: u32 },
 }
 
 impl Tended {
     ghost use Rattle.workers.specs.Tends.{blocks_moved};
 
     /// How many blocks went anywhere: 0 where there was none to fetch or to cull.
-    pub fn count(self) -> usize
+    pub fn count(self) -> u32
         ensures { result ≡ blocks_moved self }
     {
         match self {

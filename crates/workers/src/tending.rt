@@ -3,6 +3,7 @@
 ghost use Rattle.std.specs.Prelude.{◌≡◌, length, nat_lt, Ok, Err, MatchResult};
 ghost use Rattle.affinity_tree.specs.Layout.{layout_of};
 ghost use Rattle.nfs_model.specs.Events.Refusals.{is_empty_hand};
+ghost use Rattle.nfs_model.specs.Parts.{batch_in};
 ghost use Rattle.service.specs.Jobs.{inner_of, job_reply_of};
 ghost use Rattle.workers.specs.Carries.{hand_after, HasMovedBatch, IsToldAs, IsToldOf, NamesBatch};
 ghost use Rattle.workers.specs.Tends.{call_of, call_to_put};
@@ -94,6 +95,17 @@ fn call_of(layout: &Layout, hand: &BatchInHand, tend: Tend) -> Result<InnerCall,
     }
 }
 
+/// How many blocks are in a hand: at most 64.
+fn blocks_in(hand: &BatchInHand) -> u32
+    ensures { result ≡ length (batch_in hand.now) }
+{
+    match hand.hand() {
+        Hand::Empty => 0,
+        Hand::Fresh { volume: _, batch } => batch.len() as u32,
+        Hand::Dead { volume: _, batch } => batch.len() as u32,
+    }
+}
+
 /// What is in the hand after an inner call with this reply, and what is told of it.
 fn told(reply: JobReply) -> (BatchInHand, Tended)
     requires { NamesBatch (job_reply_of reply) }
@@ -102,11 +114,11 @@ fn told(reply: JobReply) -> (BatchInHand, Tended)
 {
     match reply {
         JobReply::Took(hand) => {
-            let count = hand.count();
+            let count = blocks_in(&hand);
             (hand, Tended::InHand { count })
         }
         JobReply::Gave(hand) => {
-            let count = hand.count();
+            let count = blocks_in(&hand);
             (BatchInHand::new(Hand::Empty), Tended::PutDown { count })
         }
         JobReply::Replied(_reply) => unreachable!(),
@@ -130,7 +142,7 @@ pub(crate) fn answer(carried: Carried) -> (BatchInHand, Result<Tended, TendRefus
 
 impl Worker {
     ghost use Rattle.std.specs.Option.{is_some};
-    ghost use Rattle.workers.specs.Tends.{hand_in, kept_in, IsNextTend, Tends};
+    ghost use Rattle.workers.specs.Tends.{hand_in, kept_in, IsNextTend, Tends, TendsTo};
     ghost use Rattle.workers.specs.Words.{layout_in, passed, seats_in, IsAt, IsIn};
 
     /// What is in the worker's hand.
@@ -194,17 +206,20 @@ impl Worker {
         }
     }
 
-    /// A tend of a worker of the filer's own queue.
-    pub fn tend_turn(self, filer: &Filer, tend: Tend) -> (Worker, Result<Tended, TendRefusal>)
+    /// A tend of a worker of the filer's own queue. Answers how many blocks are in the hand then, or
+    /// were put down.
+    pub fn tend_turn(self, filer: &Filer, tend: Tend) -> (Worker, Result<u32, TendRefusal>)
         requires { IsIn filer.now self }
         ensures inside { IsIn filer.now result.0 }
-        ensures tends { Tends (layout_in filer.now) self tend result.1 result.0 }
+        ensures tends { TendsTo (layout_in filer.now) self tend result.1 result.0 }
         ensures pass { passed result.0 ≡ passed self }
         ensures kept { kept_in result.0 ≡ kept_in self }
         ensures seats { seats_in result.0 ≡ seats_in self }
     {
         let mut worker = self;
-        let answer = worker.tend_in(filer, &filer.waiting, tend);
-        (worker, answer)
+        match worker.tend_in(filer, &filer.waiting, tend) {
+            Ok(tended) => (worker, Ok(tended.count())),
+            Err(refusal) => (worker, Err(refusal)),
+        }
     }
 }

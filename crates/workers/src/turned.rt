@@ -7,7 +7,7 @@ use nfs_values::ConnectionNumber;
 use outboxes::Answer;
 
 /// What came of a turn.
-pub enum Turned {
+pub enum Turn {
     /// A call is finished; its answer has to be put.
     Done(Answer),
     /// A call has to run elsewhere. Its message waits again, or is kept.

@@ -9,6 +9,7 @@ ghost use Rattle.workers.specs.Balance.{IsEven};
 
 use crate::envelope::Envelope;
 use crate::inner::carry;
+use crate::one_turn::told;
 use crate::parts::WorkerParts;
 use crate::queueing::{next, next_beside, put_kept};
 use crate::serving::serve;
@@ -16,8 +17,7 @@ use crate::shared::Filer;
 use crate::shared_waiting::{Pass, SharedWaiting};
 use crate::tend::{TendRefusal, Tended};
 use crate::tending::answer;
-use crate::turn::told;
-use crate::turned::{Gate, Turned};
+use crate::turned::{Gate, Turn};
 use affinity_tree::Layout;
 use depot::Seat;
 use nfs_laws::laws::batches_are_of_one_range;
@@ -119,7 +119,7 @@ impl Worker {
         queue: &SharedWaiting<Envelope, Layout>,
         gate: &G,
         moment: Moment,
-    ) -> Turned
+    ) -> Turn
         requires { IsAt filer.now queue.now self.old }
         ensures inside { IsAt filer.now queue.now self.new }
         ensures tried { HasTried (layout_in filer.now) self.old moment result self.new }
@@ -129,7 +129,7 @@ impl Worker {
     {
         let message = match self.kept.take() {
             Some(message) => message,
-            None => return Turned::Idle,
+            None => return Turn::Idle,
         };
         let (kept, turned) = told(serve(filer, &mut self.seat, message, moment, gate));
         self.kept = kept;

@@ -1,35 +1,40 @@
 //! A worker's turn, to the outboxes.
 
+ghost use Rattle.std.specs.Prelude.{◌≡◌};
+ghost use Rattle.outboxes.specs.Boxes.{put};
 ghost use Rattle.workers.specs.Works.{IsToldAs};
 
 use crate::shared::Filer;
-use crate::turned::{Gate, Turned};
+use crate::turned::{Gate, Turn};
 use crate::worked::Worked;
 use crate::worker::Worker;
-use nfs_values::Moment;
-use outboxes::Answer;
+use nfs_values::{ConnectionNumber, Moment};
+use outboxes::{Answer, Outboxes};
 use std::sync::Wait;
 
-/// Puts an answer behind what waits for its connection.
-fn deliver<R: Wait>(filer: &Filer, rt: &R, answer: Answer) {
-    let mut outboxes = filer.outboxes.lock(rt);
+/// Puts an answer behind what waits for its connection. Answers which that is.
+fn deliver(outboxes: &mut Outboxes, answer: Answer) -> ConnectionNumber
+    ensures connection { result.0 ≡ answer.connection }
+    ensures put { outboxes.new ≡ put answer outboxes.old }
+{
+    let connection = answer.connection();
     outboxes.put(answer);
+    connection
 }
 
 /// What is told of a turn, whose answer is put if there is one.
-fn put_answer<R: Wait>(filer: &Filer, rt: &R, turned: Turned) -> Worked
-    ensures { IsToldAs turned result }
+fn put_answer<R: Wait>(filer: &Filer, rt: &R, turn: Turn) -> Worked
+    ensures { IsToldAs turn result }
 {
-    match turned {
-        Turned::Done(answer) => {
-            let connection = answer.connection();
-            deliver(filer, rt, answer);
-            Worked::Done(connection)
+    match turn {
+        Turn::Done(answer) => {
+            let mut outboxes = filer.outboxes.lock(rt);
+            Worked::Done(deliver(&mut outboxes, answer))
         }
-        Turned::Moved => Worked::Moved,
-        Turned::Busy { node, word } => Worked::Busy { node, word },
-        Turned::Worn => Worked::Worn,
-        Turned::Idle => Worked::Idle,
+        Turn::Moved => Worked::Moved,
+        Turn::Busy { node, word } => Worked::Busy { node, word },
+        Turn::Worn => Worked::Worn,
+        Turn::Idle => Worked::Idle,
     }
 }
 
@@ -39,9 +44,8 @@ impl Worker {
     ghost use Rattle.workers.specs.Words.{layout_in, passed, seats_in, IsIn};
     ghost use Rattle.workers.specs.Works.{HasWorked};
 
-    /// A turn whose answer, if there is one, is put behind what waits for its connection. What lies
-    /// under the outboxes' lock no clause can tell; an `Answer` can't be dropped, and putting it is
-    /// all that is done with it.
+    /// A turn whose answer, if there is one, is put behind what waits for its connection in the
+    /// filer's outboxes. What lies under their lock no clause can tell, once it is given back.
     pub fn worker_turn<R: Wait, G: Gate>(
         self,
         filer: &Filer,
@@ -56,7 +60,7 @@ impl Worker {
         ensures seats { seats_in result.0 ≡ seats_in self }
         ensures hand { result.0.hand ≡ self.hand }
     {
-        let (worker, turned) = self.turn(filer, rt, gate, moment);
-        (worker, put_answer(filer, rt, turned))
+        let (worker, turn) = self.turn(filer, rt, gate, moment);
+        (worker, put_answer(filer, rt, turn))
     }
 }

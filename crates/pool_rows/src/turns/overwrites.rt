@@ -12,7 +12,6 @@ use crate::turns::starting::{Started, start_workers};
 use crate::turns::texts::{ACCEPTED, mark};
 use affinity_tree::Affinity;
 use nfs_values::{BytesToWrite, Call, ConnectionNumber};
-use outboxes::bells::Bells;
 use std::mem;
 use std::process::Abort;
 use std::sync::{Mutex, Wait};
@@ -188,12 +187,11 @@ fn shown<'a, R: Abort + AllocGlobal + Wait>(
 fn overwrites<R: Abort + AllocGlobal + Wait>(rt: &R, writes: [Write; 2]) {
     let opened = open_filer(rt.alloc(), Volumes::Alike);
     let (filer, worker, pass, _other) = opened.expect(rt, "no memory");
-    let bells = Bells::new(rt.alloc()).expect(rt, "no memory");
     let Started {
         first,
         second,
         mut reader,
-    } = start_workers(&filer, &bells, worker, pass);
+    } = start_workers(&filer, worker, pass);
     let connection = open(rt, &filer);
     let first = created(rt, first, &mut reader, connection);
     let first = filled(rt, first, &mut reader, connection);

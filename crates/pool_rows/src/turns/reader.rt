@@ -3,14 +3,12 @@
 ghost use Rattle.pool_rows.specs.Threads.{IsReaderOf};
 
 use crate::putting::FilerPass;
-use outboxes::bells::Bells;
 use workers::Filer;
 
 /// A pass that puts messages into the queue of a filer.
 #[derive(Drop)]
 pub(crate) struct Reader<'a> {
     pub(crate) filer: &'a Filer,
-    pub(crate) bells: &'a Bells,
     pub(crate) pass: FilerPass,
     pub(crate) ghost of: { IsReaderOf filer.now pass },
 }

@@ -17,7 +17,6 @@ use nfs_values::{
     BytesToWrite, Call, ConnectionNumber, CreateMode, Moment, Name, SetAttributes, Target,
     VolumeNumber,
 };
-use outboxes::bells::Bells;
 use std::fmt::Debug;
 use std::mem;
 use std::process::Abort;
@@ -89,12 +88,11 @@ fn finished_call(rt: HostRuntime) {
         &rt,
         "no memory",
     );
-    let bells = Bells::new(rt.alloc()).expect(&rt, "no memory");
     let Started {
         first,
         second,
         mut reader,
-    } = start_workers(&filer, &bells, worker, pass);
+    } = start_workers(&filer, worker, pass);
     let connection = open(&rt, &filer);
     let origin = record_of(connection, 7);
     let call = Call::GetAttributes {
@@ -165,12 +163,11 @@ fn moved_message(rt: HostRuntime) {
         &rt,
         "no memory",
     );
-    let bells = Bells::new(rt.alloc()).expect(&rt, "no memory");
     let Started {
         first,
         second,
         mut reader,
-    } = start_workers(&filer, &bells, worker, pass);
+    } = start_workers(&filer, worker, pass);
     let connection = open(&rt, &filer);
     let first = created(&rt, first, &mut reader, connection);
     let first = written(&rt, first, &mut reader, connection, 2);
@@ -186,12 +183,11 @@ fn two_workers(rt: HostRuntime) {
         &rt,
         "no memory",
     );
-    let bells = Bells::new(rt.alloc()).expect(&rt, "no memory");
     let Started {
         first,
         second,
         mut reader,
-    } = start_workers(&filer, &bells, worker, pass);
+    } = start_workers(&filer, worker, pass);
     let connection = open(&rt, &filer);
     for xid in 1..3 {
         let call = Call::GetAttributes {
@@ -230,13 +226,13 @@ fn two_workers(rt: HostRuntime) {
 fn tended<'a>(
     rt: &impl Abort,
     worker: FilerWorker<'a>,
-    rows: &[(Tend, Result<usize, u32>)],
+    rows: &[(Tend, Result<u32, u32>)],
 ) -> FilerWorker<'a> {
     let mut worker = worker;
     for (tend, wanted) in rows {
         let (next, answer) = worker.tend(*tend);
         let found = match answer {
-            Ok(tended) => Ok(tended.count()),
+            Ok(count) => Ok(count),
             Err(refusal) => Err(refusal.number()),
         };
         same(rt, &found, wanted);
@@ -268,12 +264,11 @@ fn tends(rt: HostRuntime) {
         &rt,
         "no memory",
     );
-    let bells = Bells::new(rt.alloc()).expect(&rt, "no memory");
     let Started {
         first,
         second,
         mut reader,
-    } = start_workers(&filer, &bells, worker, pass);
+    } = start_workers(&filer, worker, pass);
     let connection = open(&rt, &filer);
     let fetching = [
         (fetch(0, 0), Ok(64)),
@@ -363,12 +358,11 @@ fn modes_of_roots(rt: HostRuntime) {
         &rt,
         "no memory",
     );
-    let bells = Bells::new(rt.alloc()).expect(&rt, "no memory");
     let Started {
         first,
         second,
         mut reader,
-    } = start_workers(&filer, &bells, worker, pass);
+    } = start_workers(&filer, worker, pass);
     let connection = open(&rt, &filer);
     let mut worker = first;
     for volume in 0..2 {

@@ -7,7 +7,6 @@ ghost use Rattle.workers.specs.Words.{seats_in, IsIn};
 use crate::putting::FilerPass;
 use crate::turns::filer_worker::FilerWorker;
 use crate::turns::reader::Reader;
-use outboxes::bells::Bells;
 use workers::{Filer, Worker};
 
 /// Two workers, and who puts messages for them.
@@ -19,12 +18,7 @@ pub(crate) struct Started<'a> {
 }
 
 /// Two workers of one, and who puts messages for them.
-pub(crate) fn start_workers<'a>(
-    filer: &'a Filer,
-    bells: &'a Bells,
-    worker: Worker,
-    pass: FilerPass,
-) -> Started<'a>
+pub(crate) fn start_workers<'a>(filer: &'a Filer, worker: Worker, pass: FilerPass) -> Started<'a>
     requires inside { IsIn filer.now worker }
     requires some { 1 < seats_in worker }
     requires reader { IsReaderOf filer.now pass }
@@ -39,6 +33,6 @@ pub(crate) fn start_workers<'a>(
             filer,
             worker: second,
         },
-        reader: Reader { filer, bells, pass },
+        reader: Reader { filer, pass },
     }
 }

@@ -10,20 +10,20 @@ use affinity_tree::scheduler::Origin;
 use nfs_values::{Call, Moment};
 use std::alloc::Global;
 use std::sync::Wait;
-use workers::{Filer, Gate, Tend, TendRefusal, Tended, Turned};
+use workers::{Filer, Gate, Tend, TendRefusal, Turn};
 
 /// Puts the answer of a turn.
-pub(crate) fn put_answer<R: Wait>(rt: &R, filer: &Filer, turned: Turned) -> Came {
-    match turned {
-        Turned::Done(answer) => {
+pub(crate) fn put_answer<R: Wait>(rt: &R, filer: &Filer, turn: Turn) -> Came {
+    match turn {
+        Turn::Done(answer) => {
             let came = Came::Done(answer.connection(), answer.xid());
             filer.outboxes().lock(rt).put(answer);
             came
         }
-        Turned::Moved => Came::Moved,
-        Turned::Busy { node, word } => Came::Busy(node, word),
-        Turned::Worn => Came::Worn,
-        Turned::Idle => Came::Idle,
+        Turn::Moved => Came::Moved,
+        Turn::Busy { node, word } => Came::Busy(node, word),
+        Turn::Worn => Came::Worn,
+        Turn::Idle => Came::Idle,
     }
 }
 
@@ -32,15 +32,7 @@ impl Reader<'_> {
     pub(crate) fn ask<R: Wait>(&mut self, rt: &R, alloc: Global, origin: Origin, call: Call) -> bool
         requires { IsRun call }
     {
-        put(
-            rt,
-            alloc,
-            self.filer,
-            self.bells,
-            &mut self.pass,
-            origin,
-            call,
-        )
+        put(rt, alloc, self.filer, &mut self.pass, origin, call)
     }
 }
 
@@ -53,13 +45,13 @@ impl<'a> FilerWorker<'a> {
         moment: Moment,
     ) -> (FilerWorker<'a>, Came) {
         let FilerWorker { filer, worker } = self;
-        let (worker, turned) = worker.turn(filer, rt, gate, moment);
-        let came = put_answer(rt, filer, turned);
+        let (worker, turn) = worker.turn(filer, rt, gate, moment);
+        let came = put_answer(rt, filer, turn);
         (FilerWorker { filer, worker }, came)
     }
 
     /// A tend.
-    pub(crate) fn tend(self, tend: Tend) -> (FilerWorker<'a>, Result<Tended, TendRefusal>) {
+    pub(crate) fn tend(self, tend: Tend) -> (FilerWorker<'a>, Result<u32, TendRefusal>) {
         let FilerWorker { filer, worker } = self;
         let (worker, answer) = worker.tend_turn(filer, tend);
         (FilerWorker { filer, worker }, answer)

@@ -2,12 +2,12 @@
 use denote.Param.Send.{IsSend, sendable}
 use denote.Param.SendFields.{declared_send}
 use Rattle.std.proofs.Crossing.{crosses}
-use Rattle.workers.proofs.crossings.Bells.{bells-send, bells-sync}
+use Rattle.server.proofs.pool.stop_word.StopWord.TheSendSync as stop
 use Rattle.workers.proofs.Crossing.{worker-send, filer-send, filer-sync}
 use Rattle.server.specs.contracts.pool.task.Task as Task
 
 pub task-send : IsSend Task.the_row
 task-send = declared_send Task.the_type (
   search (filer-send, filer-sync, crosses, sendable) depth 20,
-  (search (bells-send, bells-sync, crosses, sendable) depth 20, (search (worker-send, sendable) depth 20, tt)),
+  (search (stop.the_send, stop.the_sync, crosses, sendable) depth 20, (search (worker-send, sendable) depth 20, tt)),
 )

@@ -1,23 +1,36 @@
 -- What a pool has.
-use Rattle.std.specs.Prelude.{◌≡◌, ◌≤◌, ◌+◌, ℕ, List, [], All, vec_capacity}
+use Rattle.std.specs.Prelude.{◌≡◌, ◌≤◌, ◌+◌, ◌^◌, ℕ, List, length}
+use Rattle.std.specs.Arc.{arc_value}
 use Rattle.depot.specs.rule.Sums.{total}
 use Rattle.server.specs.declared.pool.pool.Pool.{Pool}
-use Rattle.server.specs.pool.Shares.{share_of}
-use Rattle.server.specs.pool.Threads.{Thread}
+use Rattle.server.specs.pool.Shares.{FilerPass, entries_by, picks_by, puts_by, share_in}
+use Rattle.server.specs.pool.Threads.{Thread, seats_with, share_with, started_with}
+use Rattle.workers.specs.shared_waiting.Balance.{part}
+use Rattle.workers.specs.shared_waiting.Passes.{known}
+use Rattle.workers.specs.Balance.{FilerEntry}
+use Rattle.workers.specs.declared.message.Message.{Message}
 use Rattle.workers.specs.declared.shared.Filer.{Filer}
-use Rattle.workers.specs.declared.worker.Worker.{Worker}
-use Rattle.workers.specs.Words.{passed, seats_in, IsIn}
 
 -- its threads
 abbrev pub threads_of : Pool → List Thread
 threads_of pool = pool.threads.items
 
--- it has no thread, and room for 64
-abbrev pub IsVacant : Pool → Type 0
-IsVacant pool = (threads_of pool ≡ []) × (64 ≤ vec_capacity pool.threads) × (64 ≤ vec_capacity pool.workers)
+-- the filer whose calls they run
+abbrev pub filer_of : Pool → Filer
+filer_of pool = arc_value pool.filer
 
--- workers of a filer that together have the seats of the worker from which they were split, and its share
-pub record AreSplitFrom (filer : Filer) (worker : Worker) (count : ℕ) (workers : List Worker) : Type 0 where
-  pub inside : All (IsIn filer) workers
-  pub seats : total seats_in workers ≡ seats_in worker
-  pub share : (k : ℕ) → (passed worker).halvings + count ≤ k → total (share_of k) workers ≡ share_of k worker
+-- Each of so many threads was started with a worker. Between them these had all the seats of one seat and all the share of one pass in
+-- the right to know the queue, and what the seat had finished, and the pass had put and picked, each once: so their seats and passes
+-- are this seat and this pass, or split from them, and none is left over.
+pub record HasBetween (splits : ℕ) (finished : List FilerEntry) (pass : FilerPass) (many : ℕ) (pool : Pool) : Type 0 where
+  pub count : length (threads_of pool) ≡ many
+  pub seats : total seats_with (threads_of pool) ≡ splits + 1
+  pub share : (k : ℕ) → (known pass).halvings + many ≤ k → total (share_with k) (threads_of pool) ≡ part k (known pass)
+  pub entries : (weigh : FilerEntry → ℕ) → total (λ (t : Thread). entries_by weigh (started_with t)) (threads_of pool) ≡ total weigh finished
+  pub put : (weigh : Message → ℕ) → total (λ (t : Thread). puts_by weigh (started_with t)) (threads_of pool) ≡ total weigh (known pass).put
+  pub picked : (weigh : Message → ℕ) → total (λ (t : Thread). picks_by weigh (started_with t)) (threads_of pool) ≡ total weigh (known pass).picked
+
+-- no pass is missing: the shares with which the workers were started, and those of these passes, are the whole
+abbrev pub HasAllWith : Pool → List FilerPass → Type 0
+HasAllWith pool passes = (level : ℕ)
+    × ((k : ℕ) → level ≤ k → total (share_with k) (threads_of pool) + total (share_in k) passes ≡ 2 ^ k)

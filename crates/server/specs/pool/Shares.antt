@@ -9,8 +9,8 @@ use Rattle.workers.specs.shared_waiting.Passes.{known}
 use Rattle.workers.specs.declared.shared_waiting.pass.Pass.{Pass}
 use Rattle.workers.specs.declared.message.Message.{Message}
 use Rattle.workers.specs.declared.worker.Worker.{Worker}
-use Rattle.workers.specs.Balance.{Passed, Weight, by_key, by_kept}
-use Rattle.workers.specs.Words.{passed}
+use Rattle.workers.specs.Balance.{FilerEntry, Passed, Weight, by_key, by_kept}
+use Rattle.workers.specs.Words.{entries_in, passed}
 
 -- a pass of a filer's queue
 abbrev pub FilerPass : Type 0
@@ -47,3 +47,17 @@ kept_by weight w = by_kept weight w.kept
 
 abbrev pub carried_by : (Hand → ℕ) → Worker → ℕ
 carried_by weigh w = total weigh (batches_in w.hand)
+
+-- ---- what workers have done, weighed
+
+-- the calls that a worker's seat finished
+abbrev pub entries_by : (FilerEntry → ℕ) → Worker → ℕ
+entries_by weigh w = total weigh (entries_in w)
+
+-- the messages that its pass put
+abbrev pub puts_by : (Message → ℕ) → Worker → ℕ
+puts_by weigh w = total weigh (passed w).put
+
+-- the messages that its pass picked
+abbrev pub picks_by : (Message → ℕ) → Worker → ℕ
+picks_by weigh w = total weigh (passed w).picked

@@ -2,8 +2,6 @@
 
 ghost use Rattle.std.specs.Prelude.{◌≡◌};
 
-use workers::Worker;
-
 /// Why a pool didn't start.
 #[derive(Clone, Copy)]
 pub enum StartRefusal {
@@ -25,11 +23,4 @@ impl StartRefusal {
             StartRefusal::NoMemory => 90,
         }
     }
-}
-
-/// A pool that didn't start: why, and its workers. Its threads have ended.
-#[derive(Drop)]
-pub struct NotStarted {
-    pub refusal: StartRefusal,
-    pub workers: Vec<Worker>,
 }

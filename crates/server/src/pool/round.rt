@@ -1,20 +1,45 @@
 //! A round of a worker's thread.
 
-ghost use Rattle.outboxes.specs.bells.Told.{HasTold};
 ghost use Rattle.server.specs.pool.Heirs.{IsHeir};
 ghost use Rattle.workers.specs.Words.{IsIn};
 
-use crate::pool::sleeping::{Seen, sleep};
-use crate::pool::tending::{Found, tend};
-use crate::pool::watch::Watch;
-use outboxes::bells::{Bells, Patience};
-use std::hint::spin_loop;
+use crate::patience::Patience;
+use crate::pool::tending::{Found, Tending, tend};
+use nfs_values::Moment;
 use std::rt::Clock;
 use std::sync::Wait;
+use std::time::Duration;
 use workers::{Filer, Gate, Worked, Worker};
 
+/// How long a thread naps that found nothing to do, in milliseconds.
+const NAP: u64 = 1;
+
+/// What a thread keeps between its rounds.
+#[derive(Clone, Copy)]
+pub(crate) struct RoundState {
+    tending: Tending,
+    patience: Patience,
+}
+
+impl RoundState {
+    /// Before the first round.
+    pub(crate) fn new() -> RoundState {
+        RoundState {
+            tending: Tending::new(),
+            patience: Patience::new(),
+        }
+    }
+
+    /// Waits for what another has.
+    fn wait<R: Clock>(&mut self, rt: &R) {
+        if !self.patience.pause() {
+            self.patience.give_way(rt);
+        }
+    }
+}
+
 /// Puts down what is in the worker's hand, if anything is.
-fn put_down(filer: &Filer, bells: &Bells, worker: Worker, watch: &mut Watch) -> Worker
+fn put_down(filer: &Filer, worker: Worker, state: &mut RoundState) -> Worker
     requires { IsIn filer.now worker }
     ensures inside { IsIn filer.now result }
     ensures heir { IsHeir worker result }
@@ -22,39 +47,22 @@ fn put_down(filer: &Filer, bells: &Bells, worker: Worker, watch: &mut Watch) -> 
     if worker.has_empty_hand() {
         return worker;
     }
-    let (worker, found) = tend(filer, worker, &mut watch.tending);
-    match found {
-        Found::Blocks => bells.work.ring(),
-        Found::Nothing => {}
-        Found::NoMemory => {}
-        Found::Busy => {}
-    }
+    let (worker, _found) = tend(filer, worker, &mut state.tending);
     worker
 }
 
-/// One tend, where no message was there. Then the thread sleeps, if it may.
-fn rest<R: Wait + Clock>(
-    rt: &R,
-    filer: &Filer,
-    bells: &Bells,
-    seen: Seen,
-    worker: Worker,
-    watch: &mut Watch,
-) -> Worker
-    requires inside { IsIn filer.now worker }
-    requires told { HasTold watch.old.untold }
+/// One tend, where no message was there, and a nap, where that moved nothing.
+fn rest<R: Clock>(rt: &R, filer: &Filer, worker: Worker, state: &mut RoundState) -> Worker
+    requires { IsIn filer.now worker }
     ensures inside { IsIn filer.now result }
     ensures heir { IsHeir worker result }
 {
-    let (worker, found) = tend(filer, worker, &mut watch.tending);
+    let (worker, found) = tend(filer, worker, &mut state.tending);
     match found {
-        Found::Blocks => bells.work.ring(),
-        Found::Busy => watch.patience.wait(rt),
-        Found::Nothing => watch.patience = Patience::new(),
-        Found::NoMemory => watch.patience = Patience::new(),
-    }
-    if watch.tending.may_sleep(filer, &worker) {
-        sleep(rt, filer, bells, seen, &worker, watch);
+        Found::Blocks => {}
+        Found::Nothing => rt.sleep(Duration::from_millis(NAP)),
+        Found::NoMemory => rt.sleep(Duration::from_millis(NAP)),
+        Found::Busy => rt.sleep(Duration::from_millis(NAP)),
     }
     worker
 }
@@ -63,48 +71,30 @@ fn rest<R: Wait + Clock>(
 pub(crate) fn round<R: Wait + Clock, G: Gate>(
     rt: &R,
     filer: &Filer,
-    bells: &Bells,
     gate: &G,
     worker: Worker,
-    watch: &mut Watch,
+    moment: Moment,
+    state: &mut RoundState,
 ) -> Worker
     requires { IsIn filer.now worker }
     ensures inside { IsIn filer.now result }
     ensures heir { IsHeir worker result }
 {
-    let seen = Seen::now(bells);
-    let moment = watch.time(rt);
     let (worker, worked) = worker.worker_turn(filer, rt, gate, moment);
     match worked {
-        Worked::Done(connection) => {
-            watch.finish(bells, connection);
-            bells.room.ring();
+        Worked::Done(_connection) => {
+            state.patience = Patience::new();
             worker
         }
-        Worked::Moved => {
-            watch.tell(bells);
-            bells.work.ring();
-            watch.patience = Patience::new();
-            put_down(filer, bells, worker, watch)
-        }
+        Worked::Moved => put_down(filer, worker, state),
         Worked::Busy { node: _, word: _ } => {
-            watch.tell(bells);
-            watch.patience.wait(rt);
+            state.wait(rt);
             worker
         }
         Worked::Worn => {
-            watch.tell(bells);
-            watch.patience.wait(rt);
+            state.wait(rt);
             worker
         }
-        Worked::Idle => {
-            watch.tell(bells);
-            if watch.looks_again() {
-                spin_loop();
-                return worker;
-            }
-            watch.begin_if_due();
-            rest(rt, filer, bells, seen, worker, watch)
-        }
+        Worked::Idle => rest(rt, filer, worker, state),
     }
 }

@@ -3,19 +3,19 @@
 ghost use Rattle.server.specs.pool.Heirs.{IsHeir};
 ghost use Rattle.workers.specs.Words.{IsIn};
 
-use crate::pool::round::round;
-use crate::pool::watch::Watch;
-use outboxes::bells::Bells;
+use crate::pool::moments::time_now;
+use crate::pool::round::{RoundState, round};
+use crate::pool::stop_word::StopWord;
+use nfs_values::Moment;
 use std::rt::Clock;
 use std::sync::Wait;
 use workers::{Filer, Gate, Worker};
 
-/// Runs a worker, round for round, until the workers' bell is stopped. While its thread is awake it
-/// has one of the places at which calls are run, from its start on.
+/// Runs a worker, round for round, until its thread is told to stop.
 pub(crate) fn serve<R: Wait + Clock, G: Gate>(
     rt: &R,
     filer: &Filer,
-    bells: &Bells,
+    stop: &StopWord,
     gate: &G,
     worker: Worker,
 ) -> Worker
@@ -24,13 +24,14 @@ pub(crate) fn serve<R: Wait + Clock, G: Gate>(
     ensures heir { IsHeir worker result }
 {
     let mut worker = worker;
-    let mut watch = Watch::new();
+    let mut state = RoundState::new();
+    let mut moment = Moment::START;
     for _ in rt.forever() {
-        if bells.work.is_stopped() {
+        if stop.is_set() {
             break;
         }
-        worker = round(rt, filer, bells, gate, worker, &mut watch);
+        moment = time_now(rt, moment);
+        worker = round(rt, filer, gate, worker, moment, &mut state);
     }
-    watch.end(bells);
     worker
 }

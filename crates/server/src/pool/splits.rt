@@ -1,11 +1,44 @@
-//! Many workers of one.
+//! Many workers of one seat and one pass.
 
-ghost use Rattle.std.specs.Prelude.{◌≡◌, ◌<◌, ◌≤◌, ◌+◌, ℕ, [], All, vec_len, vec_capacity};
+ghost use Rattle.std.specs.Prelude.{◌≡◌, ◌<◌, ◌≤◌, ◌+◌, ℕ, [], None, Some, All};
+ghost use Rattle.std.specs.Prelude.{vec_len, vec_capacity};
 ghost use Rattle.depot.specs.rule.Sums.{total};
-ghost use Rattle.server.specs.pool.Shares.{share_of};
-ghost use Rattle.workers.specs.Words.{passed, seats_in, IsIn};
+ghost use Rattle.server.specs.pool.Shares.{entries_by, picks_by, puts_by, share_of};
+ghost use Rattle.workers.specs.declared.message.Message as messages;
+ghost use Rattle.workers.specs.Balance.{FilerEntry};
+ghost use Rattle.depot.specs.Words.{view, splits_left, HasNoGrant, IsSeatHere};
+ghost use Rattle.depot.specs.rule.History.{entries_of, AreHands};
+ghost use Rattle.workers.specs.Balance.{IsEven};
+ghost use Rattle.workers.specs.Jobs.{job_takes, job_gives};
+ghost use Rattle.workers.specs.Words.{entries_in, layout_in, layout_known, passed, seats_in};
+ghost use Rattle.workers.specs.Words.{verifier_in, HasOpened, IsIn};
+ghost use Rattle.workers.specs.shared_waiting.Passes.{known, IsOf};
 
-use workers::{Filer, Worker};
+use affinity_tree::Layout;
+use depot::Seat;
+use workers::shared_waiting::Pass;
+use workers::{Envelope, Filer, Service, Worker};
+
+/// The worker of a filer's only seat and a pass of its queue.
+pub(crate) fn first_worker(
+    filer: &Filer,
+    seat: Seat<Service>,
+    pass: Pass<Envelope, Layout>,
+) -> Worker
+    requires seat { IsSeatHere filer.now.depot seat }
+    requires opened { HasOpened (layout_in filer.now) (verifier_in filer.now) (view seat) }
+    requires pass { IsOf filer.now.waiting pass }
+    requires layout { layout_known (known pass) ≡ Some (layout_in filer.now) }
+    requires balance { IsEven (known pass) (entries_of (view seat)) None }
+    requires in_hand { AreHands job_takes job_gives (entries_of (view seat)) [] }
+    requires none_open { HasNoGrant seat }
+    ensures inside { IsIn filer.now result }
+    ensures seats { seats_in result ≡ splits_left seat + 1 }
+    ensures entries { entries_in result ≡ entries_of (view seat) }
+    ensures pass { passed result ≡ known pass }
+{
+    Worker::new(seat, pass)
+}
 
 /// So many workers of one, with all its seats and all its share of the right to know the queue.
 pub(crate) fn split_workers(
@@ -25,6 +58,12 @@ pub(crate) fn split_workers(
     ensures seats { total seats_in result.items ≡ seats_in worker }
     ensures share { (k : ℕ) → (passed worker).halvings + count ≤ k
         → total (share_of k) result.items ≡ share_of k worker }
+    ensures entries { (weigh : FilerEntry → ℕ)
+        → total (entries_by weigh) result.items ≡ entries_by weigh worker }
+    ensures put { (weigh : messages.Message → ℕ)
+        → total (puts_by weigh) result.items ≡ puts_by weigh worker }
+    ensures picked { (weigh : messages.Message → ℕ)
+        → total (picks_by weigh) result.items ≡ picks_by weigh worker }
 {
     for _ in 1..count {
         let (first, second) = worker.split(filer);

@@ -1,12 +1,13 @@
 //! A thread of a worker.
 
-ghost use Rattle.std.specs.Prelude.{◌≡◌, MatchResult};
+ghost use Rattle.std.specs.Prelude.{◌≡◌, IfOk};
 ghost use Rattle.std.specs.Arc.{arc_value};
 ghost use Rattle.server.specs.pool.Heirs.{IsHeir};
 ghost use Rattle.workers.specs.Words.{IsIn};
 
+use crate::pool::refusal::StartRefusal;
 use crate::pool::serving::serve;
-use outboxes::bells::Bells;
+use crate::pool::stop_word::StopWord;
 use std::rt::Clock;
 use std::snapshot::Snapshot;
 use std::sync::{Arc, Wait};
@@ -18,7 +19,7 @@ use workers::{Filer, Gate, Worker};
 #[derive(Drop)]
 pub(crate) struct Task {
     pub(crate) filer: Arc<Filer>,
-    pub(crate) bells: Arc<Bells>,
+    pub(crate) stop: Arc<StopWord>,
     pub(crate) worker: Worker,
 }
 
@@ -41,30 +42,27 @@ impl Promise<Worker> for Serves {
 /// A thread that runs a worker, and gives it back.
 pub(crate) type Thread = PromisedHandle<Worker, Serves>;
 
-/// Runs the worker until the workers' bell is stopped.
+/// Runs the worker until its thread is told to stop.
 fn run<R: Wait + Clock, G: Gate>(rt: &R, gate: &G, task: Task) -> Worker
     requires { IsIn (arc_value task.filer) task.worker }
     ensures { IsIn (arc_value task.filer) result × IsHeir task.worker result }
 {
     let Task {
         filer,
-        bells,
+        stop,
         worker,
     } = task;
-    serve(rt, &filer, &bells, gate, worker)
+    serve(rt, &filer, &stop, gate, worker)
 }
 
-/// Starts a thread for a worker. Where none can be made, the bell is stopped, and the worker comes
-/// back.
-pub(crate) fn start_one<R, G>(rt: R, bells: &Bells, gate: G, task: Task) -> Result<Thread, Worker>
+/// Starts a thread for a worker, where one can be made.
+pub(crate) fn start_one<R, G>(rt: R, gate: G, task: Task) -> Result<Thread, StartRefusal>
 where
     R: Threads + Wait + Clock + Copy + Drop + Send + 'static,
     G: Gate + Drop + Send + 'static,
     requires { IsIn (arc_value task.filer) task.worker }
-    ensures { MatchResult result
-        (λ thread. (thread.promise.filer.value ≡ task.filer)
-        × (thread.promise.worker.value ≡ task.worker))
-        (λ worker. IsIn (arc_value task.filer) worker × IsHeir task.worker worker) }
+    ensures { IfOk result (λ thread. (thread.promise.filer.value ≡ task.filer)
+        × (thread.promise.worker.value ≡ task.worker)) }
 {
     let promise = Serves {
         filer: Snapshot::of(&task.filer),
@@ -81,11 +79,5 @@ where
             run(&rt, &gate, task)
         },
     );
-    match started {
-        Ok(thread) => Ok(thread),
-        Err(refused) => {
-            bells.work.stop();
-            Err((refused.value)())
-        }
-    }
+    started.map_err(|_refused| StartRefusal::NoThread)
 }

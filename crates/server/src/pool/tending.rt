@@ -123,10 +123,10 @@ pub(crate) fn tend(filer: &Filer, worker: Worker, tending: &mut Tending) -> (Wor
     ensures tended { HasTended (layout_in filer.now)
         worker tending.old result.1 result.0 tending.new }
 {
+    let mut worker = worker;
     let empty = worker.has_empty_hand();
     let next = worker.next_tend(filer, tending.made);
-    let (worker, answer) = worker.tend_turn(filer, next);
-    let found = found_by(answer);
+    let found = found_by(worker.tend_in(filer, filer.waiting(), next));
     tending.count(empty, found);
     (worker, found)
 }

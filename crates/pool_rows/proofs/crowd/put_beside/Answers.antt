@@ -5,7 +5,7 @@ use Rattle.pool_rows.proofs.crowd.put_beside.Goals as goal
 use Rattle.pool_rows.proofs.crowd.put_beside.Lts as lts
 
 pub join-requires-send-F : goal.join-requires-send-F
-join-requires-send-F g c κs within = param_send 1 _ (arg_send _ no _ (closure-send _ _ _ _ _ c.type_bounds.sync-R))
+join-requires-send-F g c κs within = param_send 1 _ (arg_send _ no _ (closure-send _ _ _ _ c.type_bounds.sync-R))
 
 pub join-requires-send-A : goal.join-requires-send-A
 join-requires-send-A g c κs within =

@@ -1,7 +1,8 @@
 use Rattle.std.proofs.Common.{rules, ap, arith}
 use Rattle.workers.specs.Balance.{Passed}
 use Rattle.workers.specs.Words.{passed, seats_in, IsIn}
-use Rattle.server.specs.pool.Shares.{share_of}
+use Rattle.depot.specs.rule.Sums.{total}
+use Rattle.server.specs.pool.Shares.{entries_by, picks_by, puts_by, share_of}
 use Rattle.server.proofs.pool.Lists.{all-pushed, total-last}
 use Rattle.server.proofs.pool.Sharing.{halved}
 use Rattle.server.proofs.pool.splits.split_workers.Goals as goal
@@ -34,6 +35,24 @@ loop-preserved c =
           (omega (arith, j, le, n)) in
           let b = i.share k (omega (arith, le, n)) in
           omega (arith, a, b);
+      entries = λ weigh.
+          let a = total-last (entries_by weigh) more ws s.result.1 pushed in
+          let p = ap (total weigh) s.ensures.entries.0 in
+          let q = ap (total weigh) s.ensures.entries.1 in
+          let d = i.entries weigh in
+          omega (arith, a, p, q, d);
+      put = λ weigh.
+          let a = total-last (puts_by weigh) more ws s.result.1 pushed in
+          let p = ap (λ (v : Passed). total weigh v.put) s.ensures.passes.0 in
+          let q = ap (λ (v : Passed). total weigh v.put) s.ensures.passes.1 in
+          let d = i.put weigh in
+          omega (arith, a, p, q, d);
+      picked = λ weigh.
+          let a = total-last (picks_by weigh) more ws s.result.1 pushed in
+          let p = ap (λ (v : Passed). total weigh v.picked) s.ensures.passes.0 in
+          let q = ap (λ (v : Passed). total weigh v.picked) s.ensures.passes.1 in
+          let d = i.picked weigh in
+          omega (arith, a, p, q, d);
     }
 
 pub returns-clause-inside : goal.returns-clause-inside
@@ -54,3 +73,21 @@ returns-clause-share c k le =
     let a = total-last (share_of k) c.push_reserved-2.new.self.items c.loop.into.items c.loop.worker c.push_reserved-2.ensures.items in
     let b = i.share k (search rules) in
     omega (arith, a, b)
+
+pub returns-clause-entries : goal.returns-clause-entries
+returns-clause-entries c weigh =
+    let a = total-last (entries_by weigh) c.push_reserved-2.new.self.items c.loop.into.items c.loop.worker c.push_reserved-2.ensures.items in
+    let d = c.loop.invariant.entries weigh in
+    omega (arith, a, d)
+
+pub returns-clause-put : goal.returns-clause-put
+returns-clause-put c weigh =
+    let a = total-last (puts_by weigh) c.push_reserved-2.new.self.items c.loop.into.items c.loop.worker c.push_reserved-2.ensures.items in
+    let d = c.loop.invariant.put weigh in
+    omega (arith, a, d)
+
+pub returns-clause-picked : goal.returns-clause-picked
+returns-clause-picked c weigh =
+    let a = total-last (picks_by weigh) c.push_reserved-2.new.self.items c.loop.into.items c.loop.worker c.push_reserved-2.ensures.items in
+    let d = c.loop.invariant.picked weigh in
+    omega (arith, a, d)

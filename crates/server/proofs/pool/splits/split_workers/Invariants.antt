@@ -1,7 +1,9 @@
 use Rattle.std.proofs.Common.{◌≡◌, ◌≤◌, ◌+◌, ℕ, All, vec_len, vec_capacity}
 use Rattle.depot.specs.rule.Sums.{total}
 use Rattle.workers.specs.Words.{passed, seats_in, IsIn}
-use Rattle.server.specs.pool.Shares.{share_of}
+use Rattle.server.specs.pool.Shares.{entries_by, picks_by, puts_by, share_of}
+use Rattle.workers.specs.Balance.{FilerEntry}
+use Rattle.workers.specs.declared.message.Message.{Message}
 use Rattle.server.proofs.pool.splits.split_workers.Given as goal
 
 abbrev pub invariant-loop : goal.invariant-loop
@@ -15,4 +17,7 @@ invariant-loop l = record {
   halvings : (passed l.worker).halvings ≡ (passed l.fn.worker).halvings + vec_len l.into;
   share : (k : ℕ) → (passed l.fn.worker).halvings + vec_len l.into ≤ k
       → share_of k l.worker + total (share_of k) l.into.items ≡ share_of k l.fn.worker;
+  entries : (weigh : FilerEntry → ℕ) → entries_by weigh l.worker + total (entries_by weigh) l.into.items ≡ entries_by weigh l.fn.worker;
+  put : (weigh : Message → ℕ) → puts_by weigh l.worker + total (puts_by weigh) l.into.items ≡ puts_by weigh l.fn.worker;
+  picked : (weigh : Message → ℕ) → picks_by weigh l.worker + total (picks_by weigh) l.into.items ≡ picks_by weigh l.fn.worker;
 }

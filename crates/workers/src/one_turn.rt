@@ -6,7 +6,7 @@ ghost use Rattle.workers.specs.Turns.{turned_by, IsTold};
 use crate::envelope::Envelope;
 use crate::shared::Filer;
 use crate::shared_waiting::SharedWaiting;
-use crate::turned::{Gate, Served, Turned};
+use crate::turned::{Gate, Served, Turn};
 use crate::worker::Worker;
 use affinity_tree::Layout;
 use depot::Refusal;
@@ -14,22 +14,22 @@ use nfs_values::Moment;
 use std::sync::Wait;
 
 /// What a turn answers where the depot refused.
-fn refused(refusal: Refusal) -> Turned
+fn refused(refusal: Refusal) -> Turn
     ensures { result ≡ turned_by refusal }
 {
     match refusal {
-        Refusal::Busy { node, word } => Turned::Busy { node, word },
-        Refusal::Worn => Turned::Worn,
+        Refusal::Busy { node, word } => Turn::Busy { node, word },
+        Refusal::Worn => Turn::Worn,
     }
 }
 
 /// What is kept of a message that was tried, and what its turn answers.
-pub(crate) fn told(served: Served) -> (Option<Envelope>, Turned)
+pub(crate) fn told(served: Served) -> (Option<Envelope>, Turn)
     ensures { IsTold served result.0 result.1 }
 {
     match served {
-        Served::Done(answer) => (None, Turned::Done(answer)),
-        Served::Moved(message) => (Some(message), Turned::Moved),
+        Served::Done(answer) => (None, Turn::Done(answer)),
+        Served::Moved(message) => (Some(message), Turn::Moved),
         Served::Refused(message, refusal) => (Some(message), refused(refusal)),
     }
 }
@@ -47,7 +47,7 @@ impl Worker {
         rt: &R,
         gate: &G,
         moment: Moment,
-    ) -> Turned
+    ) -> Turn
         requires { IsAt filer.now queue.now self.old }
         ensures inside { IsAt filer.now queue.now self.new }
         ensures did { Did (layout_in filer.now) self.old moment result self.new }
@@ -68,7 +68,7 @@ impl Worker {
         rt: &R,
         gate: &G,
         moment: Moment,
-    ) -> (Worker, Turned)
+    ) -> (Worker, Turn)
         requires { IsIn filer.now self }
         ensures inside { IsIn filer.now result.0 }
         ensures did { Did (layout_in filer.now) self moment result.1 result.0 }
