@@ -29,7 +29,10 @@ mod task;
 mod tends;
 mod visits;
 
+pub use ending::{FilerEnd, end};
 pub use fault::ServerFault;
+pub use opening::open_lanes;
 pub use options::Options;
+pub use room::Room;
 pub use running::serve;
 pub use socket::Socket;

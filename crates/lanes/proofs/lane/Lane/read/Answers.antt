@@ -18,6 +18,6 @@ invariant_of-self g c =
       inside = subst (λ (q : SharedWaiting Message Layout). ∥ IsAt (arc_value l.filer) q l.worker ∥₁) (sym k.1) l.inside;
       both = both-kept l.intake.pass c.read_under.new.intake.pass l.worker l.worker k.3 (share-same l.worker) l.both;
       picked = k.2 ∙ l.picked;
-      story = reads-told _ _ (layout_in (arc_value l.filer)) (entries_in l.worker) _ l.connections c.read_under.new.connections c.args.key l.intake
+      story = reads-told _ _ (layout_in (arc_value l.filer)) l.index l.count (entries_in l.worker) _ l.connections c.read_under.new.connections c.args.key l.intake
           c.read_under.new.intake _ c.read_under.result (search rules) c.read_under.ensures l.story;
     }
