@@ -1,6 +1,7 @@
 -- The story of a lane, call by call.
 use Rattle.std.proofs.Common.{◌≡◌, ◌≢◌, ◌==◌, ◌<◌, ◌≤◌, ℕ, ◌+◌, ◌*◌, Bool, true, false, if◌then◌else◌, List, [], ◌∷◌, ◌++◌, map, length, Option, Some, None, refl, sym, ap, subst, ◌∙◌, append_assoc, append-nil, cond, ne_eqb, arith}
 use Rattle.std.specs.FinMap.{get}
+use Rattle.std.proofs.Math.Arith.{lt_of_le-ne}
 use Rattle.std.proofs.lemmas.Bool.{eqb-false}
 use Rattle.std.proofs.lemmas.Map.Views.{exact_unsigned_eq}
 use Rattle.depot.specs.rule.Sums.{total}
@@ -24,7 +25,7 @@ use Rattle.lanes.specs.Writing.{Writes}
 use Rattle.lanes.specs.lemmas.Coming.{calls-append, answered-append}
 use Rattle.lanes.proofs.Lists.{of-append, of-own, of-other, arrivals-append, served-append, at-once-append, entries-append}
 use Rattle.lanes.proofs.Numbers.{numbers-differ, number-next}
-use Rattle.lanes.proofs.Quiet.{total-served, unheard}
+use Rattle.lanes.proofs.Quiet.{total-seen, total-served, unheard, weigh_seen}
 use Rattle.lanes.proofs.Served.{lived-put, lived-at-once, lived-beside}
 
 -- ---- lists of replies at once
@@ -46,13 +47,6 @@ put-step [] b = refl
 put-step (x ∷ xs) b = put-step xs (put x b)
 
 -- ---- messages that are seen as the same
-
-weigh_seen : Weight → worlds.Message → ℕ
-weigh_seen h m = h m.connection m.number m.xid m.asked
-
-total-seen : (h : Weight) (ms : List Message) → total (weigh_seen h) (map seen_of ms) ≡ total (by_key h) ms
-total-seen h [] = refl
-total-seen h (m ∷ ms) = let rest = total-seen h ms in omega (arith, rest)
 
 -- more messages weigh more
 more-weigh : (h : Weight) (ms ms' : List Message) (xs : List worlds.Message) → map seen_of ms' ≡ map seen_of ms ++ xs
@@ -92,8 +86,9 @@ module _ {D : Type 0} where
   changed-there : (lives : ℕ → Life D) (at : ℕ) (life : Life D) (k : ℕ) → k ≢ at → changed lives at life k ≡ lives k
   changed-there lives at life k d = ap (λ (b : Bool). if b then life else lives k) (ne_eqb k at d)
 
-  same-key : (k l : ℕ) → Open {D} k ≡ Open l → k ≡ l
-  same-key k l e = cc
+  key_of : Life D → ℕ
+  key_of (Open key) = key
+  key_of (Closed last waiting ended) = 0
 
 module _ {D : Type 0} (unread written : D → Option (List ℕ)) (layout : Layout) (lane lanes : ℕ) where
   abbrev Slots : Type 0
@@ -201,7 +196,7 @@ module _ {D : Type 0} (unread written : D → Option (List ℕ)) (layout : Layou
       next = ap (λ n. n + boxes.step) s.next ∙ ap (λ n. number_at lane lanes s.opened + n) s.step ∙ number-next lane lanes s.opened;
       each = λ k few. either k s.opened (HasLived unread written layout s.came s.endings (opened boxes) slots' (number_at lane lanes k) (lives' k))
           (λ e. subst (λ j. HasLived unread written layout s.came s.endings (opened boxes) slots' (number_at lane lanes j) (lives' j)) (sym e) here)
-          (λ d. there k (omega (arith, few, d)) d);
+          (λ d. there k (lt_of_le-ne (omega (arith, few)) d) d);
       known = λ other d at. either other key ((k : ℕ) × (k < s.opened + 1) × (lives' k ≡ Open other))
           (λ e. (s.opened, omega arith, changed-here s.lives s.opened (Open key) ∙ ap Open (sym e)))
           (λ n. let f = s.known other d (sym (sets.1 other n) ∙ at) in
@@ -449,7 +444,7 @@ module _ {D : Type 0} (unread written : D → Option (List ℕ)) (layout : Layou
           (λ e. absurd (none-is d (sym sets.0 ∙ ap slots' (sym e) ∙ is)))
           (λ n. let f = s.known other d (sym (sets.1 other n) ∙ is) in
           (f.0, f.1, changed-there s.lives at closed f.0
-          (λ e. n (same-key other key (sym f.2 ∙ ap s.lives e ∙ is-open key c was))) ∙ f.2));
+          (λ e. n (ap key_of (sym f.2 ∙ ap s.lives e ∙ is-open key c was))) ∙ f.2));
       only = s.only;
     }
       where

@@ -18,10 +18,6 @@ use Rattle.lanes.specs.Story.{of_connection, Ending, Served, AtOnce, answer_to, 
 
 -- ---- entries that answer calls weigh as much as all
 
-with-weighs : (h : Weight) (e : FilerEntry) (job : Job) (es : List FilerEntry) → total (by_entry h) (with_served e job es) ≡ by_job h job + total (by_entry h) es
-    → by_job h e.call ≡ by_job h job → total (by_entry h) (with_served e job es) ≡ by_entry h e + total (by_entry h) es
-with-weighs h e job es is same = omega (arith, is, same)
-
 served-weigh : (h : Weight) (e : FilerEntry) (job : Job) (es : List FilerEntry) → by_entry h e ≡ by_job h job
     → total (by_entry h) (with_served e job es) ≡ by_job h job + total (by_entry h) es
 served-weigh h e (Serve call) es same = omega (arith, same)
@@ -42,13 +38,13 @@ one_if b = if b then 1 else 0
 abbrev pub of_number : ℕ → Weight
 of_number n connection number xid asked = one_if (connection == n)
 
-abbrev weigh_seen : Weight → worlds.Message → ℕ
+abbrev pub weigh_seen : Weight → worlds.Message → ℕ
 weigh_seen h m = h m.connection m.number m.xid m.asked
 
 abbrev weigh_reply : ℕ → Addressed → ℕ
 weigh_reply n a = one_if (a.connection == n)
 
-total-seen : (h : Weight) (ms : List Message) → total (weigh_seen h) (map seen_of ms) ≡ total (by_key h) ms
+pub total-seen : (h : Weight) (ms : List Message) → total (weigh_seen h) (map seen_of ms) ≡ total (by_key h) ms
 total-seen h [] = refl
 total-seen h (m ∷ ms) = let rest = total-seen h ms in omega (arith, rest)
 

@@ -17,6 +17,10 @@ use Rattle.lanes.specs.declared.intake.Intake.{Intake}
 use Rattle.lanes.specs.declared.lane.Lane.{Lane}
 use Rattle.lanes.specs.Story.{Story}
 
+-- a place among so many lanes, and a queue
+abbrev pub Identity : Type 0
+Identity = (ℕ × ℕ) × SharedWaiting Message Layout
+
 module _ {D R : Type 0} {G : devices.Ghosts D} where
   -- the filer whose calls it runs
   abbrev pub filer_in : Lane D R G → Filer
@@ -43,6 +47,11 @@ module _ {D R : Type 0} {G : devices.Ghosts D} where
 
   abbrev pub queue_in : Lane D R G → SharedWaiting Message Layout
   queue_in lane = lane.intake.queue
+
+  -- which lane it is: its place and its queue, which no call changes. Both passes of that queue are the lane's, and tell what was ever
+  -- put into it and picked.
+  abbrev pub identity_in : Lane D R G → Identity
+  identity_in lane = (place_in lane, queue_in lane)
 
   -- the pass by which it admits
   abbrev pub pass_in : Lane D R G → Pass Message Layout

@@ -6,7 +6,7 @@ use Rattle.server.specs.Lanes.{Stays}
 
 module _ {D R : Type 0} {G : devices.Ghosts D} where
   pub stays-same : (l : Lane D R G) → Stays l l
-  stays-same l = record { filer = refl; place = refl; seats = refl }
+  stays-same l = record { filer = refl; identity = refl; seats = refl }
 
   pub stays-more : (l l' l'' : Lane D R G) → Stays l l' → Stays l' l'' → Stays l l''
-  stays-more l l' l'' f g = record { filer = g.filer ∙ f.filer; place = g.place ∙ f.place; seats = g.seats ∙ f.seats }
+  stays-more l l' l'' f g = record { filer = g.filer ∙ f.filer; identity = g.identity ∙ f.identity; seats = g.seats ∙ f.seats }

@@ -1,7 +1,7 @@
 -- Lanes of a filer, over any devices.
 use Rattle.std.specs.Prelude.{◌≡◌, ℕ, true, List, [], ◌∷◌, length, All}
 use Rattle.depot.specs.rule.Sums.{total}
-use Rattle.lanes.specs.Words.{filer_in, place_in, put_in, waiting_in, worker_in}
+use Rattle.lanes.specs.Words.{filer_in, identity_in, place_in, put_in, waiting_in, worker_in, Identity}
 use Rattle.lanes.specs.declared.device.Device as devices
 use Rattle.lanes.specs.declared.lane.Lane.{Lane}
 use Rattle.nfs_model.specs.Events.Refusals.{is_empty_hand}
@@ -25,7 +25,11 @@ module _ {D R : Type 0} {G : devices.Ghosts D} where
   abbrev pub seats_of : Lane D R G → ℕ
   seats_of lane = seats_in (worker_in lane)
 
-  -- its place, weighed
+  -- which lane it is, weighed
+  abbrev pub by_identity : (Identity → ℕ) → Lane D R G → ℕ
+  by_identity weigh lane = weigh (identity_in lane)
+
+  -- its place alone
   abbrev pub by_place : (ℕ × ℕ → ℕ) → Lane D R G → ℕ
   by_place weigh lane = weigh (place_in lane)
 
@@ -41,10 +45,11 @@ module _ {D R : Type 0} {G : devices.Ghosts D} where
   abbrev pub IsLaneOf : Filer → Lane D R G → Type 0
   IsLaneOf filer lane = filer_in lane ≡ filer
 
-  -- it is of the same filer as before, the same of as many lanes, with the same seats
+  -- It is of the same filer as before, the same of as many lanes, with the same queue and the same seats. So it has all that it ever
+  -- admitted: nobody else has a pass of its queue.
   pub record Stays (before after : Lane D R G) : Type 0 where
     pub filer : filer_in after ≡ filer_in before
-    pub place : place_in after ≡ place_in before
+    pub identity : identity_in after ≡ identity_in before
     pub seats : seats_of after ≡ seats_of before
 
   -- it has no message, tends over all volumes and ranges in a row moved nothing, and nothing is in its hand

@@ -8,8 +8,8 @@ use Rattle.server.specs.declared.socket.Socket.{Socket}
 use Rattle.server.specs.declared.task.Serves.{Serves}
 use Rattle.server.specs.declared.task.Task.{Task}
 use Rattle.workers.specs.declared.shared.Filer.{Filer}
-use Rattle.lanes.specs.Words.{filer_in}
-use Rattle.server.specs.Lanes.{by_place, places, seats_of}
+use Rattle.lanes.specs.Words.{filer_in, Identity}
+use Rattle.server.specs.Lanes.{by_identity, places, seats_of}
 
 -- the thread of a lane
 abbrev pub Thread : (R : Type 0) → devices.Ghosts Socket → Type 0
@@ -28,15 +28,20 @@ module _ {R : Type 0} {G : devices.Ghosts Socket} where
   abbrev pub seats_with : Thread R G → ℕ
   seats_with thread = seats_of (started_with thread)
 
-  -- the place of that lane, weighed
-  abbrev pub place_with : (ℕ × ℕ → ℕ) → Thread R G → ℕ
-  place_with weigh thread = by_place weigh (started_with thread)
+  -- which lane that is, weighed
+  abbrev pub identity_with : (Identity → ℕ) → Thread R G → ℕ
+  identity_with weigh thread = by_identity weigh (started_with thread)
 
   -- the threads run all lanes of a filer
   pub record AreThreadsOf (filer : Filer) (threads : List (Thread R G)) : Type 0 where
     pub of : All (ServesFor filer) threads
     pub seats : total seats_with threads ≡ 64
-    pub each : (weigh : ℕ × ℕ → ℕ) → total (place_with weigh) threads ≡ total weigh (places (length threads))
+    pub each : (weigh : ℕ × ℕ → ℕ) → total (identity_with (λ i. weigh i.0)) threads ≡ total weigh (places (length threads))
+
+  -- These lanes are those that the threads were started with, gone on: of each its place among as many, and its queue with all that
+  -- was ever put into it, as often.
+  abbrev pub AreOfThreads : List (Thread R G) → List (Lane Socket R G) → Type 0
+  AreOfThreads threads lanes = (weigh : Identity → ℕ) → total (by_identity weigh) lanes ≡ total (identity_with weigh) threads
 
 -- ---- lanes whose threads aren't started yet
 
@@ -47,5 +52,5 @@ module _ {R : Type 0} where
   abbrev pub seats_for : Task R → ℕ
   seats_for task = seats_of task.lane
 
-  abbrev pub place_for : (ℕ × ℕ → ℕ) → Task R → ℕ
-  place_for weigh task = by_place weigh task.lane
+  abbrev pub identity_for : (Identity → ℕ) → Task R → ℕ
+  identity_for weigh task = by_identity weigh task.lane

@@ -2,7 +2,7 @@
 
 ghost use Rattle.std.specs.Prelude.{◌≡◌, ◌≤◌, ◌<◌, [], IfOk, vec_len, vec_capacity};
 ghost use Rattle.std.specs.Arc.{arc_value};
-ghost use Rattle.lanes.specs.Words.{place_in, worker_in};
+ghost use Rattle.lanes.specs.Words.{identity_in, worker_in};
 ghost use Rattle.server.specs.Lanes.{AreLanesOf, IsLaneOf};
 ghost use Rattle.server.specs.Queues.{IsNewQueue, IsReadyLane};
 
@@ -86,7 +86,7 @@ where
     requires ready { IsReadyLane (arc_value filer.now) queue admits worker }
     ensures of { IfOk result (λ opened. IsLaneOf (arc_value filer.now) opened) }
     ensures worker { IfOk result (λ opened. worker_in opened ≡ worker) }
-    ensures place { IfOk result (λ opened. place_in opened ≡ (lane, lanes)) }
+    ensures identity { IfOk result (λ opened. identity_in opened ≡ ((lane, lanes), queue)) }
 {
     let filer = Arc::try_clone(filer)?;
     Ok(Lane::new(rt, alloc, filer, queue, admits, worker, lane, lanes))

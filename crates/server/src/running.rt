@@ -6,8 +6,10 @@ ghost use Rattle.std.specs.Arc.{arc_value};
 ghost use Rattle.depot.specs.rule.Sums.{total};
 ghost use Rattle.lanes.specs.declared.lane.Lane as laned;
 ghost use Rattle.server.specs.Ends.{IsEndOf};
-ghost use Rattle.server.specs.Lanes.{by_place, seats_of, IsLaneOf};
-ghost use Rattle.server.specs.Threads.{place_for, seats_for, AreThreadsOf, IsTaskFor};
+ghost use Rattle.lanes.specs.Words.{Identity};
+ghost use Rattle.server.specs.Lanes.{by_identity, seats_of, IsLaneOf};
+ghost use Rattle.server.specs.Threads.{identity_for, seats_for, AreOfThreads};
+ghost use Rattle.server.specs.Threads.{AreThreadsOf, IsTaskFor};
 ghost use Rattle.server.specs.declared.socket.Socket as sockets;
 ghost use Rattle.workers.specs.declared.shared.Filer as filers;
 
@@ -63,8 +65,9 @@ fn man_all<R: Net + Drop>(
         → All (IsTaskFor filer) tasks.old.items → All (IsTaskFor filer) tasks.new.items }
     ensures seats { OnOk result (total seats_for tasks.new.items
         ≡ total seats_for tasks.old.items + total seats_of lanes.old.items) }
-    ensures places { OnOk result ((weigh : ℕ × ℕ → ℕ) → total (place_for weigh) tasks.new.items
-        ≡ total (place_for weigh) tasks.old.items + total (by_place weigh) lanes.old.items) }
+    ensures each { OnOk result ((weigh : Identity → ℕ)
+        → total (identity_for weigh) tasks.new.items
+        ≡ total (identity_for weigh) tasks.old.items + total (by_identity weigh) lanes.old.items) }
 {
     while let Some(lane) = lanes.pop() {
         let common = Arc::try_clone(common)?;
@@ -139,7 +142,7 @@ fn accept<R: Wait, W: Write>(
 
 /// Serves so many connections of a listener to their ends, and stops the lanes. Where one can't be
 /// accepted no more are, and those that are open are closed. What comes back is what is left of a
-/// filer that was served to its end: that of all its lanes, of which each thread ran one.
+/// filer that was served to its end, by the lanes that its threads were started with.
 fn run<R, W>(
     rt: &R,
     listener: &TcpListener,
@@ -153,7 +156,7 @@ where
     requires { AreThreadsOf (arc_value running.filer) running.threads.items }
     ensures { IfOk result (λ left. (lanes : List (laned.Lane sockets.Socket R
         ⟦<Socket as Device>⟧))
-        × (length lanes ≡ length running.threads.items)
+        × AreOfThreads running.threads.items lanes
         × IsEndOf (arc_value running.filer) lanes left) }
 {
     let Running {

@@ -40,8 +40,8 @@ fn close_under<D>(
 
 impl<D: Device, R> Lane<D, R> {
     ghost use Rattle.workers.specs.shared_waiting.Passes.{known};
-    ghost use Rattle.lanes.specs.Words.{boxes_in, connections_in, filer_in, intake_in, pass_in};
-    ghost use Rattle.lanes.specs.Words.{place_in, waiting_in, worker_in};
+    ghost use Rattle.lanes.specs.Words.{boxes_in, connections_in, filer_in, identity_in};
+    ghost use Rattle.lanes.specs.Words.{intake_in, pass_in, waiting_in, worker_in};
 
     /// The connection of a key.
     pub fn connection(&self, key: usize) -> Option<&Connection<D>>
@@ -71,7 +71,7 @@ impl<D: Device, R> Lane<D, R> {
         ensures intake { intake_in self.new ≡ intake_in self.old }
         ensures worker { worker_in self.new ≡ worker_in self.old }
         ensures filer { filer_in self.new ≡ filer_in self.old }
-        ensures place { place_in self.new ≡ place_in self.old }
+        ensures identity { identity_in self.new ≡ identity_in self.old }
     {
         flag_under(&mut self.connections, key, flags);
     }
@@ -85,7 +85,7 @@ impl<D: Device, R> Lane<D, R> {
         ensures pass { known (pass_in self.new) ≡ known (pass_in self.old) }
         ensures worker { worker_in self.new ≡ worker_in self.old }
         ensures filer { filer_in self.new ≡ filer_in self.old }
-        ensures place { place_in self.new ≡ place_in self.old }
+        ensures identity { identity_in self.new ≡ identity_in self.old }
     {
         close_under(&mut self.connections, key, &mut self.intake.outboxes)
     }

@@ -26,7 +26,7 @@ impl<D: Device, R> Lane<D, R> {
     ghost use Rattle.workers.specs.Words.{entries_in, layout_in, layout_known, IsAt};
     ghost use Rattle.lanes.specs.Connections.{now_of};
     ghost use Rattle.lanes.specs.Lanes.{HasBoth, Opens};
-    ghost use Rattle.lanes.specs.Words.{boxes_in, connections_in, filer_in, pass_in, place_in};
+    ghost use Rattle.lanes.specs.Words.{boxes_in, connections_in, filer_in, identity_in, pass_in};
     ghost use Rattle.lanes.specs.Words.{worker_in};
 
     /// One of so many lanes of a filer, with a queue of its own: a pass that will only admit, and
@@ -51,7 +51,7 @@ impl<D: Device, R> Lane<D, R> {
             × (entries_in worker ≡ []) }
         ensures filer { filer_in result ≡ arc_value filer }
         ensures worker { worker_in result ≡ worker }
-        ensures place { place_in result ≡ (lane, lanes) }
+        ensures identity { identity_in result ≡ ((lane, lanes), queue) }
         ensures numbers { AreOfLane lane lanes (boxes_in result) }
     {
         Lane {
@@ -89,7 +89,7 @@ impl<D: Device, R> Lane<D, R> {
         ensures pass { known (pass_in self.new) ≡ known (pass_in self.old) }
         ensures worker { worker_in self.new ≡ worker_in self.old }
         ensures filer { filer_in self.new ≡ filer_in self.old }
-        ensures place { place_in self.new ≡ place_in self.old }
+        ensures identity { identity_in self.new ≡ identity_in self.old }
     {
         if self.connections.reserve(1).is_err() {
             return Err(device);

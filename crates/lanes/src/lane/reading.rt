@@ -53,7 +53,8 @@ fn read_under<D: Device, R: Wait>(
 }
 
 impl<D: Device, R: Wait> Lane<D, R> {
-    ghost use Rattle.lanes.specs.Words.{connections_in, filer_in, intake_in, place_in, worker_in};
+    ghost use Rattle.lanes.specs.Words.{connections_in, filer_in, identity_in, intake_in};
+    ghost use Rattle.lanes.specs.Words.{worker_in};
 
     /// Goes on reading the connection of a key (`Connection::read`): what its records come to is
     /// admitted or answered. Where there is none, nothing is done, as where its reading stopped.
@@ -64,7 +65,7 @@ impl<D: Device, R: Wait> Lane<D, R> {
             (length block.old) result (connections_in self.new) (intake_in self.new) }
         ensures worker { worker_in self.new ≡ worker_in self.old }
         ensures filer { filer_in self.new ≡ filer_in self.old }
-        ensures place { place_in self.new ≡ place_in self.old }
+        ensures identity { identity_in self.new ≡ identity_in self.old }
     {
         let layout = self.filer.depot().layout();
         read_under(&mut self.connections, key, &mut self.intake, layout, block)

@@ -7,8 +7,8 @@ use crate::lane::Lane;
 use workers::{Tend, TendRefusal, Tended};
 
 impl<D: Device, R> Lane<D, R> {
-    ghost use Rattle.lanes.specs.Words.{boxes_in, connections_in, filer_in, pass_in, worker_in};
-    ghost use Rattle.lanes.specs.Words.{place_in};
+    ghost use Rattle.lanes.specs.Words.{boxes_in, connections_in, filer_in, identity_in};
+    ghost use Rattle.lanes.specs.Words.{pass_in, worker_in};
     ghost use Rattle.workers.specs.shared_waiting.Passes.{known};
     ghost use Rattle.workers.specs.Tends.{kept_in, Tends};
     ghost use Rattle.workers.specs.Words.{layout_in, passed, seats_in};
@@ -24,7 +24,7 @@ impl<D: Device, R> Lane<D, R> {
         ensures kept { kept_in (worker_in self.new) ≡ kept_in (worker_in self.old) }
         ensures seats { seats_in (worker_in self.new) ≡ seats_in (worker_in self.old) }
         ensures filer { filer_in self.new ≡ filer_in self.old }
-        ensures place { place_in self.new ≡ place_in self.old }
+        ensures identity { identity_in self.new ≡ identity_in self.old }
     {
         self.worker.tend_in(&self.filer, &self.intake.queue, tend)
     }

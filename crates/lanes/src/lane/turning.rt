@@ -15,8 +15,8 @@ impl<D: Device, R: Wait> Lane<D, R> {
     ghost use Rattle.workers.specs.Turns.{standing_of};
     ghost use Rattle.workers.specs.Words.{layout_in, seat_view, seats_in};
     ghost use Rattle.lanes.specs.Lanes.{HasNoneLeft};
-    ghost use Rattle.lanes.specs.Words.{boxes_in, connections_in, filer_in, pass_in, worker_in};
-    ghost use Rattle.lanes.specs.Words.{place_in};
+    ghost use Rattle.lanes.specs.Words.{boxes_in, connections_in, filer_in, identity_in};
+    ghost use Rattle.lanes.specs.Words.{pass_in, worker_in};
 
     /// Tries the call of the message that its worker keeps, or else of the one that waits longest,
     /// and then, under the same grant, those of the messages after it that try the same node, at
@@ -39,7 +39,7 @@ impl<D: Device, R: Wait> Lane<D, R> {
         ensures connections { connections_in self.new ≡ connections_in self.old }
         ensures seats { seats_in (worker_in self.new) ≡ seats_in (worker_in self.old) }
         ensures filer { filer_in self.new ≡ filer_in self.old }
-        ensures place { place_in self.new ≡ place_in self.old }
+        ensures identity { identity_in self.new ≡ identity_in self.old }
     {
         let filer = &*self.filer;
         let chained = self.worker.turns_beside(

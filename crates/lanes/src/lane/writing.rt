@@ -29,8 +29,8 @@ fn write_under<D: Device>(
 
 impl<D: Device, R> Lane<D, R> {
     ghost use Rattle.workers.specs.shared_waiting.Passes.{known};
-    ghost use Rattle.lanes.specs.Words.{boxes_in, connections_in, filer_in, pass_in, worker_in};
-    ghost use Rattle.lanes.specs.Words.{place_in};
+    ghost use Rattle.lanes.specs.Words.{boxes_in, connections_in, filer_in, identity_in};
+    ghost use Rattle.lanes.specs.Words.{pass_in, worker_in};
 
     /// Goes on writing the connection of a key (`Connection::write`), with a buffer for what goes
     /// out at once. Where there is none, nothing is done, as where its device failed.
@@ -41,7 +41,7 @@ impl<D: Device, R> Lane<D, R> {
         ensures worker { worker_in self.new ≡ worker_in self.old }
         ensures pass { known (pass_in self.new) ≡ known (pass_in self.old) }
         ensures filer { filer_in self.new ≡ filer_in self.old }
-        ensures place { place_in self.new ≡ place_in self.old }
+        ensures identity { identity_in self.new ≡ identity_in self.old }
     {
         write_under(
             &mut self.connections,

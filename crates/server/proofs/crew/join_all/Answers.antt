@@ -1,7 +1,7 @@
 use Rattle.std.proofs.Common.{◌∙◌, ap, arith}
 use Rattle.depot.specs.rule.Sums.{total}
-use Rattle.server.specs.Lanes.{by_place, seats_of, IsLaneOf}
-use Rattle.server.specs.Threads.{place_with, seats_with, ServesFor}
+use Rattle.server.specs.Lanes.{by_identity, seats_of, IsLaneOf}
+use Rattle.server.specs.Threads.{identity_with, seats_with, ServesFor}
 use Rattle.server.proofs.pool.Lists.{none-left}
 use Rattle.server.proofs.pool.Handed.{handed, all-pushed, all-popped}
 use Rattle.server.proofs.crew.join_all.Goals as goal
@@ -31,7 +31,7 @@ loop-thread-preserved g c =
           (popped.0, all-pushed (IsLaneOf filer) xs ys w is both.1 (heir.filer ∙ popped.1));
       len = omega (arith, a, l, n);
       seats = handed seats_of seats_with xs ys all rest w t is was heir.seats ∙ i.seats;
-      places = λ weigh. handed (by_place weigh) (place_with weigh) xs ys all rest w t is was (ap weigh heir.place) ∙ i.places weigh;
+      each = λ weigh. handed (by_identity weigh) (identity_with weigh) xs ys all rest w t is was (ap weigh heir.identity) ∙ i.each weigh;
     }
 
 pub returns-clause-of : goal.returns-clause-of
@@ -44,9 +44,9 @@ returns-clause-seats g c =
     let s = c.loop-thread.invariant.seats in
     omega (arith, none, s)
 
-pub returns-clause-places : goal.returns-clause-places
-returns-clause-places g c weigh =
-    let none = ap (total (place_with weigh)) (none-left c.loop-thread.threads.items (let z = c.in_default.ensures.cases.0 in let o = c.loop-thread.threads.ok.0 in
+pub returns-clause-each : goal.returns-clause-each
+returns-clause-each g c weigh =
+    let none = ap (total (identity_with weigh)) (none-left c.loop-thread.threads.items (let z = c.in_default.ensures.cases.0 in let o = c.loop-thread.threads.ok.0 in
     omega (arith, z, o))) in
-    let s = c.loop-thread.invariant.places weigh in
+    let s = c.loop-thread.invariant.each weigh in
     omega (arith, none, s)

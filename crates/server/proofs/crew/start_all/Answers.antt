@@ -1,8 +1,8 @@
 use Rattle.std.proofs.Common.{◌∙◌, ap, arith}
 use Rattle.depot.specs.rule.Sums.{total}
 use Rattle.lanes.specs.Words.{filer_in}
-use Rattle.server.specs.Lanes.{by_place, seats_of}
-use Rattle.server.specs.Threads.{place_for, place_with, seats_for, seats_with, IsTaskFor, ServesFor}
+use Rattle.server.specs.Lanes.{by_identity, seats_of}
+use Rattle.server.specs.Threads.{identity_for, identity_with, seats_for, seats_with, IsTaskFor, ServesFor}
 use Rattle.server.proofs.pool.Lists.{none-left}
 use Rattle.server.proofs.pool.Handed.{handed, all-pushed, all-popped}
 use Rattle.server.proofs.crew.start_all.Goals as goal
@@ -32,7 +32,7 @@ loop-task-preserved g c =
           (popped.0, all-pushed (ServesFor filer) ts us t is both.1 (ap filer_in same ∙ popped.1));
       len = omega (arith, a, l, n);
       seats = handed seats_with seats_for ts us all rest t x is was (ap seats_of same) ∙ i.seats;
-      places = λ weigh. handed (place_with weigh) (place_for weigh) ts us all rest t x is was (ap (by_place weigh) same) ∙ i.places weigh;
+      each = λ weigh. handed (identity_with weigh) (identity_for weigh) ts us all rest t x is was (ap (by_identity weigh) same) ∙ i.each weigh;
     }
 
 pub returns-in-Err-clause-serve : goal.returns-in-Err-clause-serve
@@ -48,9 +48,9 @@ returns-clause-seats g c all =
     let s = c.loop-task.invariant.seats in
     omega (arith, none, s)
 
-pub returns-clause-places : goal.returns-clause-places
-returns-clause-places g c all weigh =
-    let none = ap (total (place_for weigh)) (none-left c.loop-task.tasks.items (let z = c.in_default.ensures.cases.0 in let o = c.loop-task.tasks.ok.0 in
+pub returns-clause-each : goal.returns-clause-each
+returns-clause-each g c all weigh =
+    let none = ap (total (identity_for weigh)) (none-left c.loop-task.tasks.items (let z = c.in_default.ensures.cases.0 in let o = c.loop-task.tasks.ok.0 in
     omega (arith, z, o))) in
-    let s = c.loop-task.invariant.places weigh in
+    let s = c.loop-task.invariant.each weigh in
     omega (arith, none, s)

@@ -7,6 +7,7 @@ use Rattle.workers.specs.shared_waiting.Balance.{both, IsWhole}
 use Rattle.workers.specs.shared_waiting.Passes.{known}
 use Rattle.workers.specs.Balance.{Passed}
 use Rattle.workers.specs.Words.{seats_in, IsAt}
+use Rattle.lanes.specs.Words.{Identity}
 use Rattle.server.specs.Lanes.{by_place, places, places_below, seats_of, IsLaneOf}
 use Rattle.depot.specs.rule.Sums.{total}
 use Rattle.server.specs.Queues.{IsNewQueue}
@@ -72,7 +73,7 @@ loop-index-preserved g c =
           omega (arith, a, b, d, e, k);
       each = λ weigh.
           let a = total-last (by_place weigh) ys xs x is in
-          let p = ap weigh c.in_ok-lane.ensures.place in
+          let p = ap (λ (i : Identity). weigh i.0) c.in_ok-lane.ensures.identity in
           let e = i.each weigh in
           let m = one-place weigh c.args.count c.loop-index.index in
           omega (arith, a, p, e, m);
@@ -94,7 +95,7 @@ returns-clause-lanes g c =
           omega (arith, a, e, k);
       each = λ weigh.
           let a = total-last (by_place weigh) ys xs x is in
-          let p = ap weigh c.in_ok-lane-2.ensures.place in
+          let p = ap (λ (i : Identity). weigh i.0) c.in_ok-lane-2.ensures.identity in
           let e = i.each weigh in
           let n = c.push_reserved-2.ensures.len in
           let l = i.len in
