@@ -86,7 +86,7 @@ module _ {D : Type 0} where
   changed-there : (lives : ℕ → Life D) (at : ℕ) (life : Life D) (k : ℕ) → k ≢ at → changed lives at life k ≡ lives k
   changed-there lives at life k d = ap (λ (b : Bool). if b then life else lives k) (ne_eqb k at d)
 
-  key_of : Life D → ℕ
+  abbrev key_of : Life D → ℕ
   key_of (Open key) = key
   key_of (Closed last waiting ended) = 0
 
@@ -249,7 +249,7 @@ module _ {D : Type 0} (unread written : D → Option (List ℕ)) (layout : Layou
 
     -- an open one, by its key
     module _ (key : ℕ) (c : Connection D) (was : slots key ≡ Some c) where
-      place : ℕ
+      abbrev place : ℕ
       place = (s.known key c was).0
 
       placed : place < s.opened
@@ -267,7 +267,7 @@ module _ {D : Type 0} (unread written : D → Option (List ℕ)) (layout : Layou
       own-number : number_of c ≡ number_at lane lanes place
       own-number = ap (λ (x : Connection D). number_of x) (sym own-same) ∙ own-life.3
 
-      own-waiting : List ReplyMessage
+      abbrev own-waiting : List ReplyMessage
       own-waiting = own-life.1
 
       own-box : get boxes.waiting (number_of c) ≡ Some own-waiting
