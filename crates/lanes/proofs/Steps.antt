@@ -73,7 +73,7 @@ same-share p p' e = (ap (λ (v : Passed). v.share) e, ap (λ (v : Passed). v.hal
 pub share-same : (w : Worker) → HasShareOf (passed w) (passed w)
 share-same w = (refl, refl, refl)
 
-get-of : Boxes → ℕ → Option (List ReplyMessage)
+abbrev get-of : Boxes → ℕ → Option (List ReplyMessage)
 get-of boxes n = maps.get boxes.waiting n
 
 -- ---- slabs

@@ -3,12 +3,13 @@ use Rattle.std.specs.Arc.{arc_value}
 use Rattle.crossbeam_queue.specs.Fifo.{Held}
 use Rattle.depot.specs.rule.History.{entries_of}
 use Rattle.workers.specs.Balance.{Passed}
-use Rattle.workers.specs.Chains.{HasDoneFew, HasPutAll, HasTurnedOn}
+use Rattle.workers.specs.Chains.{turns_at_most, HasDoneFew, HasPutAll, HasTurnedOn}
 use Rattle.workers.specs.Turns.{HasShareOf, Standing, standing_of}
 use Rattle.workers.specs.Words.{entries_in, layout_in, passed, seat_view, IsAt}
 use Rattle.workers.specs.shared_waiting.Balance.{both, Leaves}
 use Rattle.workers.specs.shared_waiting.Passes.{known}
 use Rattle.workers.specs.declared.shared.Filer.{Filer}
+use Rattle.slab.specs.Slab.{get}
 use Rattle.lanes.specs.Story.{Story}
 use Rattle.lanes.proofs.Inside.{at-inside}
 use Rattle.lanes.proofs.Idle.{finished-once, idle-same, none-left}
@@ -46,8 +47,8 @@ invariant_of-self-4 g c =
       picked = ap (λ v. v.picked) kept ∙ l.picked;
       story = put-kept _ _ (layout_in (arc_value l.filer)) l.index l.count (entries_in counted) c.turns_beside-chained.new.sink _
           l.intake.pass c.count_beside-queued.new.other kept
-          (subst (λ (x : Standing). ∥ Story _ _ (layout_in (arc_value l.filer)) l.index l.count (entries_of x.view) (known l.intake.pass).put
-          c.turns_beside-chained.new.sink _ ∥₁) (sym stands)
+          (subst (λ (x : Standing). ∥ Story g.D.Device.unread g.D.Device.written (layout_in (arc_value l.filer)) l.index l.count
+          (entries_of x.view) (known l.intake.pass).put c.turns_beside-chained.new.sink (get l.connections) ∥₁) (sym stands)
           (turns-told _ _ (layout_in (arc_value l.filer)) l.index l.count (known l.intake.pass).put _ c.args.moment (standing_of l.worker)
           l.intake.outboxes c.turns_beside-chained.new.sink c.turns_beside-chained.result (standing_of turned)
           (subst (λ (f : Filer). HasTurnedOn HasPutAll (layout_in f) (standing_of l.worker) c.args.moment l.intake.outboxes
@@ -70,7 +71,7 @@ returns-clause-turned g c =
 
 pub returns-clause-few : goal.returns-clause-few
 returns-clause-few g c =
-    subst (λ (x : Standing). HasDoneFew _ (seat_view c.args.self.now.worker) x.view) (sym c.count_beside-queued.ensures.stands)
+    subst (λ (x : Standing). HasDoneFew (turns_at_most c.args.most) (seat_view c.args.self.now.worker) x.view) (sym c.count_beside-queued.ensures.stands)
     c.turns_beside-chained.ensures.few
 
 pub returns-clause-idle : goal.returns-clause-idle
