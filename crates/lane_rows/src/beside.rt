@@ -103,9 +103,7 @@ fn run<R>(rt: R)
 where
     R: Abort + AllocGlobal + Threads + Wait + Copy + Drop + Send + Sync,
 {
-    let layout = layout(&rt, 1);
-    let opened = open_lanes(rt, rt.alloc(), layout).ok();
-    let (mut first, mut second) = opened.expect(&rt, "no memory");
+    let (mut first, mut second) = open_lanes(rt, layout(&rt, 1));
     for key in 0..2 {
         let one = maker(&rt, key);
         let _key = open(&rt, &mut first, one);

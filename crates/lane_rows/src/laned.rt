@@ -1,5 +1,7 @@
 //! A lane that serves connections to their ends, call by call in one thread.
 
+ghost use Rattle.server.specs.Lanes.{Stays};
+
 use crate::memory::Memory;
 use crate::opening::{MemoryLane, open_lanes};
 use crate::rows::{MANY, bytes_of, device, layout};
@@ -16,9 +18,7 @@ use workers::{Chained, Gate, Tend, TendRefusal, Tended, Unwatched, Wanted};
 
 /// The first of two lanes. The other is dropped.
 pub(crate) fn lane<R: Abort + AllocGlobal + Wait + Copy + Drop>(rt: R) -> MemoryLane<R> {
-    let layout = layout(&rt, 1);
-    let opened = open_lanes(rt, rt.alloc(), layout).ok();
-    let (lane, _other) = opened.expect(&rt, "no memory");
+    let (lane, _other) = open_lanes(rt, layout(&rt, 1));
     lane
 }
 
@@ -91,7 +91,9 @@ pub(crate) fn close<R: Wait>(
     lane: &mut MemoryLane<R>,
     key: usize,
     wanted: &[&[u32]],
-) {
+)
+    ensures { Stays lane.old lane.new }
+{
     let device = lane.close(key).expect(rt, "an open connection");
     let wanted = bytes_of(rt, wanted);
     assert!(rt; device.taken.as_slice() == wanted.as_slice());

@@ -72,8 +72,7 @@ where
         beside_ended: AtomicBool::new(false),
         was_beside: AtomicBool::new(false),
     };
-    let opened = open_lanes(rt, rt.alloc(), layout(&rt, 2)).ok();
-    let (mut first, mut second) = opened.expect(&rt, "no memory");
+    let (mut first, mut second) = open_lanes(rt, layout(&rt, 2));
     take(
         &rt,
         &mut first,

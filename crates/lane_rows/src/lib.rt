@@ -7,6 +7,8 @@ mod beside;
 #[cfg(test)]
 mod chained;
 #[cfg(test)]
+mod closing;
+#[cfg(test)]
 mod gathered;
 #[cfg(test)]
 mod laned;

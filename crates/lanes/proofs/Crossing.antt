@@ -82,9 +82,15 @@ intake-send R r = declared_send (Intake.the_type R) (
 
 pub lane-send : (D R : RattleType) (G : devices.Ghosts D.Denot) → IsSend D → IsSend R → IsSend (Lane.the_row D R G)
 lane-send D R G d r = declared_send (Lane.the_type D R G) (
-  search (filer-send, filer-sync, crosses, sendable) depth 20,
+  search sendable depth 20,
   (
-    search (intake-send, r, sendable) depth 20,
-    (search (worker-send, sendable) depth 20, (slab.the_send _ _ _ (connection-send D d) send frees, tt)),
+    search sendable depth 20,
+    (
+      search (filer-send, filer-sync, crosses, sendable) depth 20,
+      (
+        search (intake-send, r, sendable) depth 20,
+        (search (worker-send, sendable) depth 20, (slab.the_send _ _ _ (connection-send D d) send frees, tt)),
+      ),
+    ),
   ),
 )

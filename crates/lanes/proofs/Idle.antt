@@ -1,5 +1,5 @@
 -- A queue in which nothing is left.
-use Rattle.std.proofs.Common.{◌≡◌, ℕ, ◌+◌, ◌^◌, List, [], ◌∷◌, ◌++◌, length, refl, sym, ap, subst, ◌∙◌, arith}
+use Rattle.std.proofs.Common.{◌≡◌, ◌≤◌, ℕ, ◌+◌, ◌^◌, List, [], ◌∷◌, ◌++◌, length, refl, sym, ap, subst, ◌∙◌, arith}
 use Rattle.crossbeam_queue.specs.Fifo.{Held}
 use Rattle.affinity_tree.specs.declared.layout.Layout as layouts
 use Rattle.depot.specs.rule.Sums.{total}
@@ -7,12 +7,12 @@ use Rattle.depot.specs.rule.lemmas.Sums.{total-append}
 use Rattle.nfs_model.specs.Tree.{Layout}
 use Rattle.nfs_values.specs.declared.moment.Moment.{Moment}
 use Rattle.outboxes.specs.Boxes.{Addressed}
-use Rattle.workers.specs.Balance.{Passed}
+use Rattle.workers.specs.Balance.{Passed, Weight, by_entry, by_key, IsEven}
 use Rattle.workers.specs.Chains.{DidAll, HasTurnedOn}
 use Rattle.workers.specs.Turns.{Standing}
 use Rattle.workers.specs.declared.chained.Chained.{Chained}
 use Rattle.workers.specs.declared.chained.Chained.TheVariants as chains
-use Rattle.workers.specs.Words.{passed}
+use Rattle.workers.specs.Words.{entries_in, passed}
 use Rattle.workers.specs.declared.message.Message.{Message}
 use Rattle.workers.specs.declared.shared_waiting.pass.Pass.{Pass}
 use Rattle.workers.specs.declared.worker.Worker.{Worker}
@@ -55,3 +55,16 @@ idle-same took layout s moment sink chained sink' t h is =
     let i = subst (λ (c : Chained). HasTurnedOn took layout s moment sink c sink' t) is h in
     let same : i.between ≡ s = subst (λ (l : List Addressed). DidAll moment s l i.between) i.suits.0 i.did in
     i.ends.pass ∙ ap (λ (x : Standing). x.pass) same
+
+-- what a worker finished was put, each call as often at least, where what is there is known by both passes
+pub finished-once : (pass : Pass Message layouts.Layout) (worker : Worker) (n : ℕ) → HasBoth pass worker → (known pass).picked ≡ []
+    → Held n (Leaves (both (passed worker) (known pass))) → IsEven (passed worker) (entries_in worker) worker.kept
+    → (h : Weight) → total (by_entry h) (entries_in worker) ≤ total (by_key h) (known pass).put
+finished-once pass worker n whole none (items, count, leaves) even h =
+    let v = known pass in
+    let w = passed worker in
+    let a = leaves (turned-round _ _ v.halvings w.halvings whole.0) (by_key h) in
+    let b = total-append (by_key h) w.put v.put in
+    let c = total-append (by_key h) w.picked v.picked in
+    let d = ap (total (by_key h)) none in
+    let e = even h in omega (arith, a, b, c, d, e)

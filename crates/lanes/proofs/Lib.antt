@@ -1,4 +1,6 @@
 pub mod Lists
+mod Numbers
+mod Quiet
 pub mod Served
 pub mod Lived
 mod Cut

@@ -1,14 +1,18 @@
 -- The story of a lane, call by call.
-use Rattle.std.proofs.Common.{◌≡◌, ◌≢◌, ◌==◌, ◌<◌, ◌≤◌, ℕ, ◌+◌, Bool, true, false, List, [], ◌∷◌, ◌++◌, map, length, Option, Some, None, refl, sym, ap, subst, ◌∙◌, append_assoc, append-nil, cond, ne_eqb, arith}
+use Rattle.std.proofs.Common.{◌≡◌, ◌≢◌, ◌==◌, ◌<◌, ◌≤◌, ℕ, ◌+◌, ◌*◌, Bool, true, false, if◌then◌else◌, List, [], ◌∷◌, ◌++◌, map, length, Option, Some, None, refl, sym, ap, subst, ◌∙◌, append_assoc, append-nil, cond, ne_eqb, arith}
 use Rattle.std.specs.FinMap.{get}
+use Rattle.std.proofs.Math.Arith.{lt_of_le-ne}
 use Rattle.std.proofs.lemmas.Bool.{eqb-false}
 use Rattle.std.proofs.lemmas.Map.Views.{exact_unsigned_eq}
+use Rattle.depot.specs.rule.Sums.{total}
+use Rattle.depot.specs.rule.lemmas.Sums.{total-append}
 use Rattle.nfs_model.specs.Tree.{Layout}
+use Rattle.nfs_model.specs.World as worlds
 use Rattle.nfs_model.specs.World.{Heard}
-use Rattle.nfs_model.specs.volume.lemmas.Numbered.{itself, get-insert_at, get-remove_at}
+use Rattle.nfs_model.specs.volume.lemmas.Numbered.{itself, get-insert_at}
 use Rattle.outboxes.specs.Boxes.{Addressed, Boxes, opened, put, shut}
 use Rattle.outboxes.specs.Messages.{ReplyMessage}
-use Rattle.workers.specs.Balance.{FilerEntry}
+use Rattle.workers.specs.Balance.{FilerEntry, Weight, by_entry, by_key}
 use Rattle.workers.specs.declared.message.Message.{Message}
 use Rattle.connections.specs.Admitted.{calls_of, seen_of}
 use Rattle.connections.specs.tcp_front.Arrivals.{Arrival, arrivals}
@@ -16,11 +20,13 @@ use Rattle.lanes.specs.declared.connection.Connection.{Connection}
 use Rattle.lanes.specs.Connections.{number_of}
 use Rattle.lanes.specs.Intakes.{all_put, answered_of}
 use Rattle.lanes.specs.Reading.{Reads}
-use Rattle.lanes.specs.Story.{of_connection, Ending, Served, AtOnce, said_by, replies_to, served_of, at_once_of, served_in, IsServed, Story}
+use Rattle.lanes.specs.Story.{of_connection, Ending, Served, AtOnce, said_by, replies_to, served_of, at_once_of, served_in, number_at, IsServed, Life, Open, Closed, HasLived, Story}
 use Rattle.lanes.specs.Writing.{Writes}
 use Rattle.lanes.specs.lemmas.Coming.{calls-append, answered-append}
 use Rattle.lanes.proofs.Lists.{of-append, of-own, of-other, arrivals-append, served-append, at-once-append, entries-append}
-use Rattle.lanes.proofs.Served.{served-put, served-at-once, served-beside, served-within}
+use Rattle.lanes.proofs.Numbers.{numbers-differ, number-next}
+use Rattle.lanes.proofs.Quiet.{total-seen, total-served, unheard, weigh_seen}
+use Rattle.lanes.proofs.Served.{lived-put, lived-at-once, lived-beside}
 
 -- ---- lists of replies at once
 
@@ -35,6 +41,21 @@ all-at-once (x ∷ xs) = ap (λ (l : List Addressed). x ∷ l) (all-at-once xs)
 put-next : (xs : List Addressed) (b : Boxes) → (all_put xs b).next ≡ b.next
 put-next [] b = refl
 put-next (x ∷ xs) b = put-next xs (put x b)
+
+put-step : (xs : List Addressed) (b : Boxes) → (all_put xs b).step ≡ b.step
+put-step [] b = refl
+put-step (x ∷ xs) b = put-step xs (put x b)
+
+-- ---- messages that are seen as the same
+
+-- more messages weigh more
+more-weigh : (h : Weight) (ms ms' : List Message) (xs : List worlds.Message) → map seen_of ms' ≡ map seen_of ms ++ xs
+    → total (by_key h) ms ≤ total (by_key h) ms'
+more-weigh h ms ms' xs e =
+    let a = total-seen h ms in
+    let b = total-seen h ms' in
+    let c : total (weigh_seen h) (map seen_of ms') ≡ total (weigh_seen h) (map seen_of ms ++ xs) = ap (total (weigh_seen h)) e in
+    let d = total-append (weigh_seen h) (map seen_of ms) xs in omega (arith, a, b, c, d)
 
 -- ---- one key
 
@@ -52,7 +73,24 @@ module _ {X : Type 0} where
   none-is : (x : X) → None ≡ Some x → ⊥
   none-is x e = cc
 
-module _ {D : Type 0} (unread written : D → Option (List ℕ)) (layout : Layout) where
+-- ---- one life changes
+
+module _ {D : Type 0} where
+  -- the lives with another at one place
+  abbrev changed : (ℕ → Life D) → ℕ → Life D → ℕ → Life D
+  changed lives at life k = if k == at then life else lives k
+
+  changed-here : (lives : ℕ → Life D) (at : ℕ) (life : Life D) → changed lives at life at ≡ life
+  changed-here lives at life = ap (λ (b : Bool). if b then life else lives at) (itself at)
+
+  changed-there : (lives : ℕ → Life D) (at : ℕ) (life : Life D) (k : ℕ) → k ≢ at → changed lives at life k ≡ lives k
+  changed-there lives at life k d = ap (λ (b : Bool). if b then life else lives k) (ne_eqb k at d)
+
+  abbrev key_of : Life D → ℕ
+  key_of (Open key) = key
+  key_of (Closed last waiting ended) = 0
+
+module _ {D : Type 0} (unread written : D → Option (List ℕ)) (layout : Layout) (lane lanes : ℕ) where
   abbrev Slots : Type 0
   Slots = ℕ → Option (Connection D)
 
@@ -60,131 +98,228 @@ module _ {D : Type 0} (unread written : D → Option (List ℕ)) (layout : Layou
   abbrev pub Sets : Slots → ℕ → Option (Connection D) → Slots → Type 0
   Sets slots key slot slots' = (slots' key ≡ slot) × ((other : ℕ) → other ≢ key → slots' other ≡ slots other)
 
-  -- each of the connections after, by what it was
-  by-slot : (slots slots' : Slots) (key : ℕ) (c' : Connection D) → Sets slots key (Some c') slots' → (P : Connection D → Type 0) → P c'
-      → ((other : ℕ) (d : Connection D) → other ≢ key → slots other ≡ Some d → P d) → (other : ℕ) (d : Connection D) → slots' other ≡ Some d → P d
-  by-slot slots slots' key c' sets P here there other d is =
-      either other key (P d)
-      (λ e. subst P (some-is c' d (sym sets.0 ∙ ap slots' (sym e) ∙ is)) here)
-      (λ n. there other d n (sym (sets.1 other n) ∙ is))
-
-  apart-set : (slots slots' : Slots) (key : ℕ) (c' : Connection D) → Sets slots key (Some c') slots'
-      → ((other : ℕ) (d : Connection D) → other ≢ key → slots other ≡ Some d → number_of d ≢ number_of c')
-      → ((k l : ℕ) (c d : Connection D) → slots k ≡ Some c → slots l ≡ Some d → number_of c ≡ number_of d → k ≡ l)
-      → (k l : ℕ) (c d : Connection D) → slots' k ≡ Some c → slots' l ≡ Some d → number_of c ≡ number_of d → k ≡ l
-  apart-set slots slots' key c' sets differs apart k l c d at at' same =
-      either k key (k ≡ l)
-      (λ e. either l key (k ≡ l) (λ f. e ∙ sym f)
-      (λ n. absurd (differs l d n (sym (sets.1 l n) ∙ at')
-      (sym same ∙ ap (λ (x : Connection D). number_of x) (sym (some-is c' c (sym sets.0 ∙ ap slots' (sym e) ∙ at)))))))
-      (λ m. either l key (k ≡ l)
-      (λ f. absurd (differs k c m (sym (sets.1 k m) ∙ at)
-      (same ∙ ap (λ (x : Connection D). number_of x) (sym (some-is c' d (sym sets.0 ∙ ap slots' (sym f) ∙ at'))))))
-      (λ n. apart k l c d (sym (sets.1 k m) ∙ at) (sym (sets.1 l n) ∙ at') same))
-
   -- ---- the beginning
 
   pub story-begins : (entries : List FilerEntry) (messages : List Message) (boxes : Boxes) (slots : Slots) → entries ≡ [] → messages ≡ []
-      → ((key : ℕ) → slots key ≡ None) → Story unread written layout entries messages boxes slots
-  story-begins entries messages boxes slots none no_message vacant = record {
+      → lane < lanes → boxes.step ≡ lanes → boxes.next ≡ lane
+      → ((key : ℕ) → slots key ≡ None) → Story unread written layout lane lanes entries messages boxes slots
+  story-begins entries messages boxes slots none no_message within step next vacant = record {
     came = [];
     endings = [];
     admitted = ap (map seen_of) no_message;
     finished = sym (ap served_in none);
     at_once = refl;
-    in_order = λ n. ([], refl);
-    new_numbers = λ n h. refl;
-    each = λ key c is. absurd (none-is c (sym (vacant key) ∙ is));
-    apart = λ k l c d is at e. absurd (none-is c (sym (vacant k) ∙ is));
+    once = λ h. let e = ap (total (by_entry h)) none in omega (arith, e);
+    opened = 0;
+    lives = λ k. Open 0;
+    within = within;
+    step = step;
+    next = omega (arith, next);
+    each = λ k few. absurd (omega (arith, few));
+    known = λ key c is. absurd (none-is c (sym (vacant key) ∙ is));
+    only = λ n h. refl;
   }
 
   module _ (entries : List FilerEntry) (messages : List Message) (boxes : Boxes) (slots : Slots)
-      (s : Story unread written layout entries messages boxes slots) where
+      (s : Story unread written layout lane lanes entries messages boxes slots) where
     -- ---- no connection changes
 
-    -- entries that answer no call, and other messages that are seen as the same
-    pub story-turns : (entries' : List FilerEntry) → served_in entries' ≡ served_in entries → Story unread written layout entries' messages boxes slots
+    -- entries that answer no call
+    pub story-turns : (entries' : List FilerEntry) → served_in entries' ≡ served_in entries
+        → Story unread written layout lane lanes entries' messages boxes slots
     story-turns entries' same = record {
       came = s.came;
       endings = s.endings;
       admitted = s.admitted;
       finished = s.finished ∙ sym same;
       at_once = s.at_once;
-      in_order = s.in_order;
-      new_numbers = s.new_numbers;
+      once = λ h.
+          let a = total-served h entries in
+          let b = total-served h entries' in
+          let c = ap (total (by_entry h)) same in
+          let d = s.once h in omega (arith, a, b, c, d);
+      opened = s.opened;
+      lives = s.lives;
+      within = s.within;
+      step = s.step;
+      next = s.next;
       each = s.each;
-      apart = s.apart;
+      known = s.known;
+      only = s.only;
     }
 
     -- one call ended, and its reply was put
     pub story-ends : (e : FilerEntry) (a : Addressed) → said_by (Served e) ≡ Some a → served_in (e ∷ []) ≡ e ∷ []
-        → Story unread written layout (entries ++ e ∷ []) messages (put a boxes) slots
-    story-ends e a said is = record {
+        → ((h : Weight) → total (by_entry h) (entries ++ e ∷ []) ≤ total (by_key h) messages)
+        → Story unread written layout lane lanes (entries ++ e ∷ []) messages (put a boxes) slots
+    story-ends e a said is once = record {
       came = s.came;
       endings = s.endings ++ Served e ∷ [];
       admitted = s.admitted;
       finished = served-append s.endings (Served e ∷ []) ∙ ap (λ (l : List FilerEntry). l ++ e ∷ []) s.finished
           ∙ ap (λ (l : List FilerEntry). served_in entries ++ l) (sym is) ∙ sym (entries-append entries (e ∷ []));
       at_once = at-once-append s.endings (Served e ∷ []) ∙ append-nil (at_once_of s.endings) ∙ s.at_once;
-      in_order = s.in_order;
-      new_numbers = s.new_numbers;
-      each = λ key c at. served-put unread written layout boxes s.came s.endings c (Served e) a said (s.each key c at);
-      apart = s.apart;
+      once = once;
+      opened = s.opened;
+      lives = s.lives;
+      within = s.within;
+      step = s.step;
+      next = s.next;
+      each = λ k few. lived-put unread written layout boxes slots s.came s.endings (Served e) a said (number_at lane lanes k) (s.lives k) (s.each k few);
+      known = s.known;
+      only = s.only;
     }
 
     -- ---- a connection more
 
-    pub story-opens : (slots' : Slots) (key : ℕ) (c : Connection D) → Sets slots key (Some c) slots' → number_of c ≡ boxes.next
-        → boxes.next < (opened boxes).next → Reads unread c.opened.value c [] → Writes written c.opened.value c [] []
-        → Story unread written layout entries messages (opened boxes) slots'
-    story-opens slots' key c sets number rises reads writes = record {
+    -- the next number isn't given
+    next-new : (k : ℕ) → k < s.opened → number_at lane lanes s.opened ≢ number_at lane lanes k
+    next-new k few = numbers-differ lane lanes s.opened k s.within (λ e. absurd (omega (arith, few, e)))
+
+    next-quiet : of_connection (number_at lane lanes s.opened) s.came ≡ []
+    next-quiet = s.only (number_at lane lanes s.opened) next-new
+
+    pub story-opens : (slots' : Slots) (key : ℕ) (c : Connection D) → slots key ≡ None → Sets slots key (Some c) slots' → number_of c ≡ boxes.next
+        → Reads unread c.opened.value c [] → Writes written c.opened.value c [] []
+        → Story unread written layout lane lanes entries messages (opened boxes) slots'
+    story-opens slots' key c vacant sets number reads writes = record {
       came = s.came;
       endings = s.endings;
       admitted = s.admitted;
       finished = s.finished;
       at_once = s.at_once;
-      in_order = s.in_order;
-      new_numbers = λ n h. s.new_numbers n (omega (arith, h, rises));
-      each = by-slot slots slots' key c sets (λ d. IsServed unread written layout (opened boxes) s.came s.endings d) here
-          (λ other d n at. served-within unread written layout boxes (opened boxes) s.came s.endings d (omega (arith, rises))
-          (get-insert_at boxes.waiting boxes.next [] (number_of d)
-          ∙ ap (λ b. cond b (Some []) (get boxes.waiting (number_of d)))
-          (ne_eqb (number_of d) boxes.next (λ e. let g = (s.each other d at).given_number in absurd (omega (arith, g, e)))))
-          (s.each other d at));
-      apart = apart-set slots slots' key c sets
-          (λ other d n at e. let g = (s.each other d at).given_number in absurd (omega (arith, g, e, number))) s.apart;
+      once = s.once;
+      opened = s.opened + 1;
+      lives = lives';
+      within = s.within;
+      step = s.step;
+      next = ap (λ n. n + boxes.step) s.next ∙ ap (λ n. number_at lane lanes s.opened + n) s.step ∙ number-next lane lanes s.opened;
+      each = λ k few. either k s.opened (HasLived unread written layout s.came s.endings (opened boxes) slots' (number_at lane lanes k) (lives' k))
+          (λ e. subst (λ j. HasLived unread written layout s.came s.endings (opened boxes) slots' (number_at lane lanes j) (lives' j)) (sym e) here)
+          (λ d. there k (lt_of_le-ne (omega (arith, few)) d) d);
+      known = λ other d at. either other key ((k : ℕ) × (k < s.opened + 1) × (lives' k ≡ Open other))
+          (λ e. (s.opened, omega arith, changed-here s.lives s.opened (Open key) ∙ ap Open (sym e)))
+          (λ n. let f = s.known other d (sym (sets.1 other n) ∙ at) in
+          (f.0, (let few = f.1 in omega (arith, few)), changed-there s.lives s.opened (Open key) f.0 (λ e. let few = f.1 in absurd (omega (arith, few, e))) ∙ f.2));
+      only = λ n h. s.only n (λ k few. h k (omega (arith, few)));
     }
       where
-        here : IsServed unread written layout (opened boxes) s.came s.endings c
-        here = record {
-          given_number = omega (arith, number, rises);
-          heard = [];
-          arrived = s.new_numbers (number_of c) (omega (arith, number));
-          reads = reads;
-          before = s.endings;
-          since = [];
-          ended = sym (append-nil s.endings);
-          waiting = [];
-          box = get-insert_at boxes.waiting boxes.next [] (number_of c)
-              ∙ ap (λ b. cond b (Some []) (get boxes.waiting (number_of c))) (ap (λ m. m == boxes.next) number ∙ itself boxes.next);
-          writes = writes;
-        }
+        lives' : ℕ → Life D
+        lives' = changed s.lives s.opened (Open key)
+
+        own : number_of c ≡ number_at lane lanes s.opened
+        own = number ∙ s.next
+
+        box : (n : ℕ) → get (opened boxes).waiting n ≡ cond (n == boxes.next) (Some []) (get boxes.waiting n)
+        box n = get-insert_at boxes.waiting boxes.next [] n
+
+        here : HasLived unread written layout s.came s.endings (opened boxes) slots' (number_at lane lanes s.opened) (lives' s.opened)
+        here = subst (λ (x : Life D). HasLived unread written layout s.came s.endings (opened boxes) slots' (number_at lane lanes s.opened) x)
+            (sym (changed-here s.lives s.opened (Open key)))
+            (
+              c,
+              [],
+              sets.0,
+              own,
+              box (number_at lane lanes s.opened)
+                  ∙ ap (λ b. cond b (Some []) (get boxes.waiting (number_at lane lanes s.opened)))
+                  (ap (λ m. m == boxes.next) (sym s.next) ∙ itself boxes.next),
+              record {
+                heard = [];
+                arrived = ap (λ n. of_connection n s.came) own ∙ next-quiet;
+                reads = reads;
+                writes = subst (λ (l : List ReplyMessage). Writes written c.opened.value c [] l)
+                    (sym (ap (λ n. replies_to n s.endings) own
+                    ∙ unheard (number_at lane lanes s.opened) s.came s.endings entries messages s.admitted s.finished s.at_once s.once next-quiet))
+                    writes;
+              },
+            )
+
+        there : (k : ℕ) → k < s.opened → k ≢ s.opened
+            → HasLived unread written layout s.came s.endings (opened boxes) slots' (number_at lane lanes k) (lives' k)
+        there k few d =
+            subst (λ (x : Life D). HasLived unread written layout s.came s.endings (opened boxes) slots' (number_at lane lanes k) x)
+            (sym (changed-there s.lives s.opened (Open key) k d))
+            (lived-beside unread written layout s.came s.came s.endings boxes (opened boxes) slots slots' (number_at lane lanes k) (s.lives k) refl
+            (box (number_at lane lanes k) ∙ ap (λ b. cond b (Some []) (get boxes.waiting (number_at lane lanes k)))
+            (ne_eqb (number_at lane lanes k) boxes.next (λ e. next-new k few (sym s.next ∙ sym e))))
+            (λ other d at is. sets.1 other (λ e. none-is d (sym vacant ∙ ap slots (sym e) ∙ at)) ∙ at) (s.each k few))
+
+    -- ---- one connection
+
+    -- an open one, by its key
+    module _ (key : ℕ) (c : Connection D) (was : slots key ≡ Some c) where
+      abbrev place : ℕ
+      place = (s.known key c was).0
+
+      placed : place < s.opened
+      placed = (s.known key c was).1
+
+      is-open : s.lives place ≡ Open key
+      is-open = (s.known key c was).2
+
+      own-life : HasLived unread written layout s.came s.endings boxes slots (number_at lane lanes place) (Open key)
+      own-life = subst (λ (x : Life D). HasLived unread written layout s.came s.endings boxes slots (number_at lane lanes place) x) is-open (s.each place placed)
+
+      own-same : own-life.0 ≡ c
+      own-same = some-is own-life.0 c (sym own-life.2 ∙ was)
+
+      own-number : number_of c ≡ number_at lane lanes place
+      own-number = ap (λ (x : Connection D). number_of x) (sym own-same) ∙ own-life.3
+
+      abbrev own-waiting : List ReplyMessage
+      own-waiting = own-life.1
+
+      own-box : get boxes.waiting (number_of c) ≡ Some own-waiting
+      own-box = ap (λ n. get boxes.waiting n) own-number ∙ own-life.4
+
+      own-served : IsServed unread written layout s.came s.endings own-waiting c
+      own-served = subst (λ (x : Connection D). IsServed unread written layout s.came s.endings own-waiting x) own-same own-life.5
+
+      -- others have other numbers
+      others-differ : (k : ℕ) → k ≢ place → number_at lane lanes k ≢ number_of c
+      others-differ k d e = numbers-differ lane lanes k place s.within d (e ∙ own-number)
+
+      -- who has another number stands under another key
+      other-key : (k other : ℕ) (d : Connection D) → k ≢ place → slots other ≡ Some d → number_of d ≡ number_at lane lanes k → other ≢ key
+      other-key k other d n at is e =
+          others-differ k n (sym is ∙ ap (λ (x : Connection D). number_of x) (some-is d c (sym at ∙ ap slots e ∙ was)))
 
     -- ---- a connection goes on
 
     module _ (slots' : Slots) (key : ℕ) (c c' : Connection D) (was : slots key ≡ Some c) (sets : Sets slots key (Some c') slots')
         (number : number_of c' ≡ number_of c) (same_opened : c'.opened.value ≡ c.opened.value) where
-      others-differ : (other : ℕ) (d : Connection D) → other ≢ key → slots other ≡ Some d → number_of d ≢ number_of c'
-      others-differ other d n at e = n (s.apart other key d c at was (e ∙ number))
+      old : IsServed unread written layout s.came s.endings (own-waiting key c was) c
+      old = own-served key c was
+
+      known-still : (other : ℕ) (d : Connection D) → slots' other ≡ Some d → (k : ℕ) × (k < s.opened) × (s.lives k ≡ Open other)
+      known-still other d at = either other key ((k : ℕ) × (k < s.opened) × (s.lives k ≡ Open other))
+          (λ e. (place key c was, placed key c was, is-open key c was ∙ ap Open (sym e)))
+          (λ n. s.known other d (sym (sets.1 other n) ∙ at))
+
+      -- each connection that the lane had, by this one and the others
+      each-by : (came' : List Arrival) (boxes' : Boxes)
+          → HasLived unread written layout came' s.endings boxes' slots' (number_at lane lanes (place key c was)) (Open key)
+          → ((n : ℕ) → n ≢ number_of c → of_connection n came' ≡ of_connection n s.came)
+          → ((n : ℕ) → n ≢ number_of c → get boxes'.waiting n ≡ get boxes.waiting n)
+          → (k : ℕ) → k < s.opened → HasLived unread written layout came' s.endings boxes' slots' (number_at lane lanes k) (s.lives k)
+      each-by came' boxes' here quiet waits k few =
+          either k (place key c was) (HasLived unread written layout came' s.endings boxes' slots' (number_at lane lanes k) (s.lives k))
+          (λ e. subst (λ j. HasLived unread written layout came' s.endings boxes' slots' (number_at lane lanes j) (s.lives j)) (sym e)
+          (subst (λ (x : Life D). HasLived unread written layout came' s.endings boxes' slots' (number_at lane lanes (place key c was)) x)
+          (sym (is-open key c was)) here))
+          (λ n. lived-beside unread written layout s.came came' s.endings boxes boxes' slots slots' (number_at lane lanes k) (s.lives k)
+          (quiet (number_at lane lanes k) (others-differ key c was k n)) (waits (number_at lane lanes k) (others-differ key c was k n))
+          (λ other d at is. sets.1 other (other-key key c was k other d n at is) ∙ at) (s.each k few))
 
       pub story-reads : (messages' : List Message) (heard : List Heard) (boxes' : Boxes)
           → map seen_of messages' ≡ map seen_of messages ++ calls_of (arrivals layout (number_of c) c.stream.records heard)
           → boxes' ≡ all_put (answered_of (arrivals layout (number_of c) c.stream.records heard)) boxes
           → ((before : List Heard) → Reads unread c.opened.value c before → Reads unread c.opened.value c' (before ++ heard))
           → ((waiting replies : List ReplyMessage) → Writes written c.opened.value c waiting replies → Writes written c.opened.value c' waiting replies)
-          → Story unread written layout entries messages' boxes' slots'
+          → Story unread written layout lane lanes entries messages' boxes' slots'
       story-reads messages' heard boxes' admitted put reads writes =
-          subst (λ (b : Boxes). Story unread written layout entries messages' b slots') (sym put) all
+          subst (λ (b : Boxes). Story unread written layout lane lanes entries messages' b slots') (sym put) all
         where
           xs : List Arrival
           xs = arrivals layout (number_of c) c.stream.records heard
@@ -192,12 +327,13 @@ module _ {D : Type 0} (unread written : D → Option (List ℕ)) (layout : Layou
           answers : List Addressed
           answers = answered_of xs
 
-          old : IsServed unread written layout boxes s.came s.endings c
-          old = s.each key c was
+          quiet : (n : ℕ) → n ≢ number_of c → of_connection n (s.came ++ xs) ≡ of_connection n s.came
+          quiet n d = of-append n s.came xs
+              ∙ ap (λ (l : List Arrival). of_connection n s.came ++ l) (of-other layout n (number_of c) c.stream.records heard (λ e. d (sym e)))
+              ∙ append-nil (of_connection n s.came)
 
-          here : IsServed unread written layout boxes (s.came ++ xs) s.endings c'
-          here = record {
-            given_number = let g = old.given_number in omega (arith, g, number);
+          served : IsServed unread written layout (s.came ++ xs) s.endings (own-waiting key c was) c'
+          served = record {
             heard = old.heard ++ heard;
             arrived = ap (λ n. of_connection n (s.came ++ xs)) number ∙ of-append (number_of c) s.came xs
                 ∙ ap (λ (l : List Arrival). l ++ of_connection (number_of c) xs) old.arrived
@@ -205,23 +341,22 @@ module _ {D : Type 0} (unread written : D → Option (List ℕ)) (layout : Layou
                 ∙ sym (arrivals-append layout (number_of c) 0 old.heard heard c.stream.records (let n = old.reads.count in omega (arith, n)))
                 ∙ ap (λ n. arrivals layout n 0 (old.heard ++ heard)) (sym number);
             reads = subst (λ x. Reads unread x c' (old.heard ++ heard)) (sym same_opened) (reads old.heard old.reads);
-            before = old.before;
-            since = old.since;
-            ended = old.ended;
-            waiting = old.waiting;
-            box = ap (λ n. get boxes.waiting n) number ∙ old.box;
-            writes = subst (λ x. Writes written x c' old.waiting (replies_to (number_of c') old.since)) (sym same_opened)
-                (subst (λ n. Writes written c.opened.value c' old.waiting (replies_to n old.since)) (sym number)
-                (writes old.waiting (replies_to (number_of c) old.since) old.writes));
+            writes = subst (λ x. Writes written x c' (own-waiting key c was) (replies_to (number_of c') s.endings)) (sym same_opened)
+                (subst (λ n. Writes written c.opened.value c' (own-waiting key c was) (replies_to n s.endings)) (sym number)
+                (writes (own-waiting key c was) (replies_to (number_of c) s.endings) old.writes));
           }
 
-          there : (other : ℕ) (d : Connection D) → other ≢ key → slots other ≡ Some d → IsServed unread written layout boxes (s.came ++ xs) s.endings d
-          there other d n at =
-              served-beside unread written layout boxes s.came xs s.endings d
-              (of-other layout (number_of d) (number_of c) c.stream.records heard (λ e. n (s.apart other key d c at was (sym e))))
-              (s.each other d at)
+          here : HasLived unread written layout (s.came ++ xs) s.endings boxes slots' (number_at lane lanes (place key c was)) (Open key)
+          here = (
+            c',
+            own-waiting key c was,
+            sets.0,
+            number ∙ own-number key c was,
+            ap (λ n. get boxes.waiting n) (sym (own-number key c was)) ∙ own-box key c was,
+            served,
+          )
 
-          all : Story unread written layout entries messages' (all_put answers boxes) slots'
+          all : Story unread written layout lane lanes entries messages' (all_put answers boxes) slots'
           all = record {
             came = s.came ++ xs;
             endings = s.endings ++ map AtOnce answers;
@@ -230,88 +365,110 @@ module _ {D : Type 0} (unread written : D → Option (List ℕ)) (layout : Layou
                 ∙ append-nil (served_of s.endings) ∙ s.finished;
             at_once = at-once-append s.endings (map AtOnce answers) ∙ ap (λ (l : List Addressed). at_once_of s.endings ++ l) (all-at-once answers)
                 ∙ ap (λ (l : List Addressed). l ++ answers) s.at_once ∙ sym (answered-append s.came xs);
-            in_order = λ n. either n (number_of c') ((hs : List Heard) × (of_connection n (s.came ++ xs) ≡ arrivals layout n 0 hs))
-                (λ e. (here.heard, ap (λ m. of_connection m (s.came ++ xs)) e ∙ here.arrived ∙ ap (λ m. arrivals layout m 0 here.heard) (sym e)))
-                (λ e.
-                let was_so = s.in_order n in
-                let none = of-other layout n (number_of c) c.stream.records heard (λ is. e (sym is ∙ sym number)) in (
-                  was_so.0,
-                  of-append n s.came xs ∙ ap (λ (l : List Arrival). l ++ of_connection n xs) was_so.1
-                      ∙ ap (λ (l : List Arrival). arrivals layout n 0 was_so.0 ++ l) none ∙ append-nil (arrivals layout n 0 was_so.0),
-                ));
-            new_numbers = λ n h.
-                let low : boxes.next ≤ n = let e = put-next answers boxes in omega (arith, h, e) in
-                of-append n s.came xs ∙ ap (λ (l : List Arrival). l ++ of_connection n xs) (s.new_numbers n low)
-                ∙ of-other layout n (number_of c) c.stream.records heard (λ e. let g = old.given_number in absurd (omega (arith, g, low, e)));
-            each = by-slot slots slots' key c' sets (λ d. IsServed unread written layout (all_put answers boxes) (s.came ++ xs) (s.endings ++ map AtOnce answers) d)
-                (served-at-once unread written layout answers boxes (s.came ++ xs) s.endings c' here)
-                (λ other d n at. served-at-once unread written layout answers boxes (s.came ++ xs) s.endings d (there other d n at));
-            apart = apart-set slots slots' key c' sets others-differ s.apart;
+            once = λ h. let a = s.once h in let b = more-weigh h messages messages' (calls_of xs) admitted in omega (arith, a, b);
+            opened = s.opened;
+            lives = s.lives;
+            within = s.within;
+            step = put-step answers boxes ∙ s.step;
+            next = put-next answers boxes ∙ s.next;
+            each = λ k few. lived-at-once unread written layout answers boxes slots' (s.came ++ xs) s.endings (number_at lane lanes k) (s.lives k)
+                (each-by (s.came ++ xs) boxes here quiet (λ n d. refl) k few);
+            known = known-still;
+            only = λ n h. quiet n (λ e. h (place key c was) (placed key c was) (e ∙ own-number key c was)) ∙ s.only n h;
           }
 
-      pub story-writes : (boxes' : Boxes) → boxes'.next ≡ boxes.next
+      pub story-writes : (boxes' : Boxes) → boxes'.next ≡ boxes.next → boxes'.step ≡ boxes.step
           → ((other : ℕ) → other ≢ number_of c → get boxes'.waiting other ≡ get boxes.waiting other)
           → ((heard : List Heard) → Reads unread c.opened.value c heard → Reads unread c.opened.value c' heard)
           → ((waiting replies : List ReplyMessage) → get boxes.waiting (number_of c) ≡ Some waiting → Writes written c.opened.value c waiting replies
           → (waiting' : List ReplyMessage) × (get boxes'.waiting (number_of c) ≡ Some waiting') × Writes written c.opened.value c' waiting' replies)
-          → Story unread written layout entries messages boxes' slots'
-      story-writes boxes' next others reads writes = record {
+          → Story unread written layout lane lanes entries messages boxes' slots'
+      story-writes boxes' next step others reads writes = record {
         came = s.came;
         endings = s.endings;
         admitted = s.admitted;
         finished = s.finished;
         at_once = s.at_once;
-        in_order = s.in_order;
-        new_numbers = λ n h. s.new_numbers n (omega (arith, h, next));
-        each = by-slot slots slots' key c' sets (λ d. IsServed unread written layout boxes' s.came s.endings d) here
-            (λ other d n at. served-within unread written layout boxes boxes' s.came s.endings d (omega (arith, next))
-            (others (number_of d) (λ e. n (s.apart other key d c at was e))) (s.each other d at));
-        apart = apart-set slots slots' key c' sets others-differ s.apart;
+        once = s.once;
+        opened = s.opened;
+        lives = s.lives;
+        within = s.within;
+        step = step ∙ s.step;
+        next = next ∙ s.next;
+        each = each-by s.came boxes' here (λ n d. refl) others;
+        known = known-still;
+        only = s.only;
       }
         where
-          old : IsServed unread written layout boxes s.came s.endings c
-          old = s.each key c was
-
           left : (waiting' : List ReplyMessage) × (get boxes'.waiting (number_of c) ≡ Some waiting')
-              × Writes written c.opened.value c' waiting' (replies_to (number_of c) old.since)
-          left = writes old.waiting (replies_to (number_of c) old.since) old.box old.writes
+              × Writes written c.opened.value c' waiting' (replies_to (number_of c) s.endings)
+          left = writes (own-waiting key c was) (replies_to (number_of c) s.endings) (own-box key c was) old.writes
 
-          here : IsServed unread written layout boxes' s.came s.endings c'
-          here = record {
-            given_number = let g = old.given_number in omega (arith, g, number, next);
-            heard = old.heard;
-            arrived = ap (λ n. of_connection n s.came) number ∙ old.arrived ∙ ap (λ n. arrivals layout n 0 old.heard) (sym number);
-            reads = subst (λ x. Reads unread x c' old.heard) (sym same_opened) (reads old.heard old.reads);
-            before = old.before;
-            since = old.since;
-            ended = old.ended;
-            waiting = left.0;
-            box = ap (λ n. get boxes'.waiting n) number ∙ left.1;
-            writes = subst (λ x. Writes written x c' left.0 (replies_to (number_of c') old.since)) (sym same_opened)
-                (subst (λ n. Writes written c.opened.value c' left.0 (replies_to n old.since)) (sym number) left.2);
-          }
+          here : HasLived unread written layout s.came s.endings boxes' slots' (number_at lane lanes (place key c was)) (Open key)
+          here = (
+            c',
+            left.0,
+            sets.0,
+            number ∙ own-number key c was,
+            ap (λ n. get boxes'.waiting n) (sym (own-number key c was)) ∙ left.1,
+            record {
+              heard = old.heard;
+              arrived = ap (λ n. of_connection n s.came) number ∙ old.arrived ∙ ap (λ n. arrivals layout n 0 old.heard) (sym number);
+              reads = subst (λ x. Reads unread x c' old.heard) (sym same_opened) (reads old.heard old.reads);
+              writes = subst (λ x. Writes written x c' left.0 (replies_to (number_of c') s.endings)) (sym same_opened)
+                  (subst (λ n. Writes written c.opened.value c' left.0 (replies_to n s.endings)) (sym number) left.2);
+            },
+          )
 
     -- ---- a connection less
 
     pub story-shuts : (slots' : Slots) (key : ℕ) (c : Connection D) → slots key ≡ Some c → Sets slots key None slots'
-        → Story unread written layout entries messages (shut (number_of c) boxes) slots'
-    story-shuts slots' key c was sets = record {
+        → ((n : ℕ) → n ≢ number_of c → get (shut (number_of c) boxes).waiting n ≡ get boxes.waiting n)
+        → Story unread written layout lane lanes entries messages (shut (number_of c) boxes) slots'
+    story-shuts slots' key c was sets others = record {
       came = s.came;
       endings = s.endings;
       admitted = s.admitted;
       finished = s.finished;
       at_once = s.at_once;
-      in_order = s.in_order;
-      new_numbers = s.new_numbers;
-      each = λ other d at. either other key (IsServed unread written layout (shut (number_of c) boxes) s.came s.endings d)
-          (λ e. absurd (none-is d (sym sets.0 ∙ ap slots' (sym e) ∙ at)))
-          (λ n. served-within unread written layout boxes (shut (number_of c) boxes) s.came s.endings d (omega arith)
-          (get-remove_at boxes.waiting (number_of c) (number_of d)
-          ∙ ap (λ b. cond b None (get boxes.waiting (number_of d)))
-          (ne_eqb (number_of d) (number_of c) (λ e. n (s.apart other key d c (sym (sets.1 other n) ∙ at) was e))))
-          (s.each other d (sym (sets.1 other n) ∙ at)));
-      apart = λ k l d f at at' e.
-          either k key (k ≡ l) (λ same. absurd (none-is d (sym sets.0 ∙ ap slots' (sym same) ∙ at)))
-          (λ m. either l key (k ≡ l) (λ same. absurd (none-is f (sym sets.0 ∙ ap slots' (sym same) ∙ at')))
-          (λ n. s.apart k l d f (sym (sets.1 k m) ∙ at) (sym (sets.1 l n) ∙ at') e));
+      once = s.once;
+      opened = s.opened;
+      lives = lives';
+      within = s.within;
+      step = s.step;
+      next = s.next;
+      each = λ k few. either k at (HasLived unread written layout s.came s.endings boxes' slots' (number_at lane lanes k) (lives' k))
+          (λ e. subst (λ j. HasLived unread written layout s.came s.endings boxes' slots' (number_at lane lanes j) (lives' j)) (sym e) here)
+          (λ n. there k few n);
+      known = λ other d is. either other key ((k : ℕ) × (k < s.opened) × (lives' k ≡ Open other))
+          (λ e. absurd (none-is d (sym sets.0 ∙ ap slots' (sym e) ∙ is)))
+          (λ n. let f = s.known other d (sym (sets.1 other n) ∙ is) in
+          (f.0, f.1, changed-there s.lives at closed f.0
+          (λ e. n (ap key_of (sym f.2 ∙ ap s.lives e ∙ is-open key c was))) ∙ f.2));
+      only = s.only;
     }
+      where
+        at : ℕ
+        at = place key c was
+
+        boxes' : Boxes
+        boxes' = shut (number_of c) boxes
+
+        closed : Life D
+        closed = Closed c (own-waiting key c was) s.endings
+
+        lives' : ℕ → Life D
+        lives' = changed s.lives at closed
+
+        here : HasLived unread written layout s.came s.endings boxes' slots' (number_at lane lanes at) (lives' at)
+        here = subst (λ (x : Life D). HasLived unread written layout s.came s.endings boxes' slots' (number_at lane lanes at) x)
+            (sym (changed-here s.lives at closed))
+            ([], sym (append-nil s.endings), own-number key c was, own-served key c was)
+
+        there : (k : ℕ) → k < s.opened → k ≢ at → HasLived unread written layout s.came s.endings boxes' slots' (number_at lane lanes k) (lives' k)
+        there k few n =
+            subst (λ (x : Life D). HasLived unread written layout s.came s.endings boxes' slots' (number_at lane lanes k) x)
+            (sym (changed-there s.lives at closed k n))
+            (lived-beside unread written layout s.came s.came s.endings boxes boxes' slots slots' (number_at lane lanes k) (s.lives k) refl
+            (others (number_at lane lanes k) (others-differ key c was k n))
+            (λ other d on is. sets.1 other (other-key key c was k other d n on is) ∙ on) (s.each k few))

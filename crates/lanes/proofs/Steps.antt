@@ -1,15 +1,18 @@
 -- What each call of a lane leaves: its story, and both passes.
-use Rattle.std.proofs.Common.{◌≡◌, ◌≢◌, ◌<◌, ◌≤◌, ℕ, ◌+◌, ◌*◌, ◌^◌, List, [], ◌∷◌, ◌++◌, map, Option, Some, None, Result, Ok, Err, refl, sym, ap, subst, ◌∙◌, append-nil, arith}
+use Rattle.std.proofs.Common.{◌≡◌, ◌≢◌, ◌<◌, ◌≤◌, ℕ, ◌+◌, ◌*◌, ◌^◌, List, [], ◌∷◌, ◌++◌, map, Option, Some, None, Result, Ok, Err, refl, sym, ap, subst, ◌∙◌, append-nil, cond, ne_eqb, arith}
 use Rattle.std.specs.Prelude.{IsSome}
 use Rattle.std.specs.FinMap as maps
 use Rattle.std.proofs.Math.Logic.{∥∥₁_map}
 use Rattle.nfs_model.specs.Tree.{Layout}
 use Rattle.nfs_model.specs.World.{Heard}
 use Rattle.affinity_tree.specs.declared.layout.Layout as layouts
+use Rattle.nfs_model.specs.volume.lemmas.Numbered.{get-remove_at}
 use Rattle.nfs_values.specs.declared.moment.Moment.{Moment}
 use Rattle.nfs_values.specs.Credential.{credential_of}
 use Rattle.parcels.specs.state.Jobs as jobs
 use Rattle.depot.specs.rule.History.{entries_of}
+use Rattle.depot.specs.rule.Sums.{total}
+use Rattle.depot.specs.rule.lemmas.Sums.{total-append}
 use Rattle.slab.specs.Slab.{Slab, get, ContainsKey, Updates, with_value}
 use Rattle.slab.proofs.SlabLemmas.{Updates-with_value}
 use Rattle.outboxes.specs.Boxes.{Addressed, addressed, Boxes, put, shut, opened}
@@ -21,7 +24,7 @@ use Rattle.workers.specs.Tends.{Answers, Tends, call_of, hand_in}
 use Rattle.workers.specs.declared.tend.Tend.{Tend}
 use Rattle.workers.specs.declared.tend.Tended.{Tended}
 use Rattle.workers.specs.declared.tend.TendRefusal.{TendRefusal}
-use Rattle.workers.specs.Balance.{FilerEntry, Passed}
+use Rattle.workers.specs.Balance.{FilerEntry, Passed, Weight, by_entry, by_key}
 use Rattle.workers.specs.Chains.{puts, DidAll, EndsBy, HasPutAll, HasTurnedOn}
 use Rattle.workers.specs.Turns.{HasDoneFrom, HasFinished, IsEntryOf, Standing, HasShareOf, job_of_message}
 use Rattle.workers.specs.Words.{entries_in, passed}
@@ -70,6 +73,9 @@ same-share p p' e = (ap (λ (v : Passed). v.share) e, ap (λ (v : Passed). v.hal
 pub share-same : (w : Worker) → HasShareOf (passed w) (passed w)
 share-same w = (refl, refl, refl)
 
+abbrev get-of : Boxes → ℕ → Option (List ReplyMessage)
+get-of boxes n = maps.get boxes.waiting n
+
 -- ---- slabs
 
 module _ {D : Type 0} where
@@ -80,10 +86,10 @@ module _ {D : Type 0} where
       (Updates-with_value slab key c' (subst (λ (o : Option (Connection D)). IsSome o) (sym was) refl)) in
       (u.changed, u.others)
 
-module _ {D : Type 0} (unread written : D → Option (List ℕ)) (layout : Layout) (entries : List FilerEntry) where
+module _ {D : Type 0} (unread written : D → Option (List ℕ)) (layout : Layout) (lane lanes : ℕ) (entries : List FilerEntry) where
   -- what a lane's type keeps
   abbrev pub Told : List Message → Boxes → Slab (Connection D) → Type 0
-  Told messages boxes slab = ∥ Story unread written layout entries messages boxes (get slab) ∥₁
+  Told messages boxes slab = ∥ Story unread written layout lane lanes entries messages boxes (get slab) ∥₁
 
   -- ---- reading
 
@@ -103,7 +109,7 @@ module _ {D : Type 0} (unread written : D → Option (List ℕ)) (layout : Layou
       let h = on.read in
       let number : number_of after ≡ number_of c = ap (λ (x : Connection D). number_of x) on.is ∙ read-number c sink sink' size result on.between h in
       let same : after.opened.value ≡ c.opened.value = ap (λ (x : Connection D). x.opened.value) on.is ∙ ap (λ x. x.value) h.same.2 in
-      story-reads unread written layout entries (known sink.pass).put sink.outboxes (get slab) s (get slab') key c after is
+      story-reads unread written layout lane lanes entries (known sink.pass).put sink.outboxes (get slab) s (get slab') key c after is
       (sets-at slab slab' key c after is now) number same (known sink'.pass).put h.heard sink'.outboxes h.given.put h.given.boxes_are
       (λ before r. subst (λ (x : Connection D). Reads unread c.opened.value x (before ++ h.heard)) (sym on.is)
       (reads-on unread written HasTakenIn has_room_in layout c (owing_in c.owed sink) size result on.between sink' h c.opened.value before r))
@@ -129,9 +135,9 @@ module _ {D : Type 0} (unread written : D → Option (List ℕ)) (layout : Layou
       ∥∥₁_map t (λ s.
       let kept = written-same unread written c boxes result after boxes' h in
       let takes = written-takes unread written c boxes result after boxes' h in
-      story-writes unread written layout entries messages boxes (get slab) s (get slab') key c after is (sets-at slab slab' key c after is now)
+      story-writes unread written layout lane lanes entries messages boxes (get slab) s (get slab') key c after is (sets-at slab slab' key c after is now)
       (ap (λ (x : Stream). x.connection.0) kept.0) (ap (λ x. x.value) kept.3)
-      boxes' takes.1.next takes.1.others (reads-kept unread written c boxes result after boxes' h c.opened.value)
+      boxes' takes.1.next takes.1.step takes.1.others (reads-kept unread written c boxes result after boxes' h c.opened.value)
       (λ waiting replies e r. let w = writes-on unread written c boxes result after boxes' h c.opened.value waiting replies e r in (w.0, w.1.0, w.1.1)))
 
   pub writes-told : (slab slab' : Slab (Connection D)) (key : ℕ) (messages : List Message) (boxes boxes' : Boxes) (result : Sent)
@@ -145,8 +151,8 @@ module _ {D : Type 0} (unread written : D → Option (List ℕ)) (layout : Layou
   flag-told slab slab' key None is messages boxes flags same t = subst (λ (s : Slab (Connection D)). Told messages boxes s) (sym same) t
   flag-told slab slab' key (Some c) is messages boxes flags now t =
       ∥∥₁_map t (λ s.
-      story-writes unread written layout entries messages boxes (get slab) s (get slab') key c (flagged flags c) is
-      (sets-at slab slab' key c (flagged flags c) is now) refl refl boxes refl (λ other n. refl) (λ heard r. r)
+      story-writes unread written layout lane lanes entries messages boxes (get slab) s (get slab') key c (flagged flags c) is
+      (sets-at slab slab' key c (flagged flags c) is now) refl refl boxes refl refl (λ other n. refl) (λ heard r. r)
       (λ waiting replies e r. (waiting, e, r)))
 
   pub flags-told : (slab slab' : Slab (Connection D)) (key : ℕ) (messages : List Message) (boxes : Boxes) (flags : Flags)
@@ -156,19 +162,20 @@ module _ {D : Type 0} (unread written : D → Option (List ℕ)) (layout : Layou
   -- ---- opening and closing
 
   pub opens-told : (slab between slab' : Slab (Connection D)) (key : ℕ) (c : Connection D) (messages : List Message) (boxes boxes' : Boxes)
-      → between ≡ record slab { capacity = between.capacity } → Updates between slab' key (Some c) → boxes' ≡ opened boxes
-      → number_of c ≡ boxes.next → boxes.next < (opened boxes).next → Reads unread c.opened.value c [] → Writes written c.opened.value c [] []
+      → between ≡ record slab { capacity = between.capacity } → get between key ≡ None → Updates between slab' key (Some c)
+      → boxes' ≡ opened boxes → number_of c ≡ boxes.next → Reads unread c.opened.value c [] → Writes written c.opened.value c [] []
       → Told messages boxes slab → Told messages boxes' slab'
-  opens-told slab between slab' key c messages boxes boxes' reserved updates is number rises reads writes t =
+  opens-told slab between slab' key c messages boxes boxes' reserved vacant updates is number reads writes t =
       subst (λ (b : Boxes). Told messages b slab') (sym is)
-      (∥∥₁_map t (λ s. story-opens unread written layout entries messages boxes (get slab) s (get slab') key c
-      (updates.changed, (λ other n. updates.others other n ∙ ap (λ (x : Slab (Connection D)). get x other) reserved)) number rises reads writes))
+      (∥∥₁_map t (λ s. story-opens unread written layout lane lanes entries messages boxes (get slab) s (get slab') key c
+      (sym (ap (λ (x : Slab (Connection D)). get x key) reserved) ∙ vacant)
+      (updates.changed, (λ other n. updates.others other n ∙ ap (λ (x : Slab (Connection D)). get x other) reserved)) number reads writes))
 
   pub reserved-told : (slab slab' : Slab (Connection D)) (messages : List Message) (boxes boxes' : Boxes)
       → slab' ≡ record slab { capacity = slab'.capacity } → boxes' ≡ boxes → Told messages boxes slab → Told messages boxes' slab'
   reserved-told slab slab' messages boxes boxes' reserved is t =
       subst (λ (b : Boxes). Told messages b slab') (sym is)
-      (subst (λ (s : ℕ → Option (Connection D)). ∥ Story unread written layout entries messages boxes s ∥₁)
+      (subst (λ (s : ℕ → Option (Connection D)). ∥ Story unread written layout lane lanes entries messages boxes s ∥₁)
       (sym (ap (λ (x : Slab (Connection D)). get x) reserved)) t)
 
   pub closes-told : (slab slab' : Slab (Connection D)) (key : ℕ) (c : Connection D) (messages : List Message) (boxes boxes' : Boxes)
@@ -176,33 +183,45 @@ module _ {D : Type 0} (unread written : D → Option (List ℕ)) (layout : Layou
       → Told messages boxes slab → Told messages boxes' slab'
   closes-told slab slab' key c messages boxes boxes' was updates is t =
       subst (λ (b : Boxes). Told messages b slab') (sym is)
-      (∥∥₁_map t (λ s. story-shuts unread written layout entries messages boxes (get slab) s (get slab') key c was (updates.changed, updates.others)))
+      (∥∥₁_map t (λ s. story-shuts unread written layout lane lanes entries messages boxes (get slab) s (get slab') key c was (updates.changed, updates.others)
+      (λ n d. get-remove_at boxes.waiting (number_of c) n ∙ ap (λ b. cond b None (get-of boxes n)) (ne_eqb n (number_of c) d))))
 
-module _ {D : Type 0} (unread written : D → Option (List ℕ)) (layout : Layout) (entries : List FilerEntry) where
+module _ {D : Type 0} (unread written : D → Option (List ℕ)) (layout : Layout) (lane lanes : ℕ) (entries : List FilerEntry) where
   close-told : (slab slab' : Slab (Connection D)) (key : ℕ) (o : Option (Connection D)) → get slab key ≡ o → (messages : List Message)
       (boxes boxes' : Boxes) (device : Option D) → Closes slab key boxes o device slab' boxes'
-      → ∥ Story unread written layout entries messages boxes (get slab) ∥₁ → ∥ Story unread written layout entries messages boxes' (get slab') ∥₁
+      → ∥ Story unread written layout lane lanes entries messages boxes (get slab) ∥₁ → ∥ Story unread written layout lane lanes entries messages boxes' (get slab') ∥₁
   close-told slab slab' key None is messages boxes boxes' device (_, same, boxes_same) t =
-      subst (λ (s : Slab (Connection D)). ∥ Story unread written layout entries messages boxes' (get s) ∥₁) (sym same)
-      (subst (λ (b : Boxes). ∥ Story unread written layout entries messages b (get slab) ∥₁) (sym boxes_same) t)
+      subst (λ (s : Slab (Connection D)). ∥ Story unread written layout lane lanes entries messages boxes' (get s) ∥₁) (sym same)
+      (subst (λ (b : Boxes). ∥ Story unread written layout lane lanes entries messages b (get slab) ∥₁) (sym boxes_same) t)
   close-told slab slab' key (Some c) is messages boxes boxes' device (_, updates, boxes_is) t =
-      closes-told unread written layout entries slab slab' key c messages boxes boxes' is updates boxes_is t
+      closes-told unread written layout lane lanes entries slab slab' key c messages boxes boxes' is updates boxes_is t
 
   pub closed-told : (slab slab' : Slab (Connection D)) (key : ℕ) (messages : List Message) (boxes boxes' : Boxes) (device : Option D)
       → Closes slab key boxes (get slab key) device slab' boxes'
-      → ∥ Story unread written layout entries messages boxes (get slab) ∥₁ → ∥ Story unread written layout entries messages boxes' (get slab') ∥₁
+      → ∥ Story unread written layout lane lanes entries messages boxes (get slab) ∥₁ → ∥ Story unread written layout lane lanes entries messages boxes' (get slab') ∥₁
   closed-told slab slab' key messages boxes boxes' device h t = close-told slab slab' key (get slab key) refl messages boxes boxes' device h t
 
 -- ---- turns
 
 -- a pass by which nothing was put
-pub put-kept : {D : Type 0} (unread written : D → Option (List ℕ)) (layout : Layout) (entries : List FilerEntry) (boxes : Boxes)
+pub put-kept : {D : Type 0} (unread written : D → Option (List ℕ)) (layout : Layout) (lane lanes : ℕ) (entries : List FilerEntry) (boxes : Boxes)
     (slots : ℕ → Option (Connection D)) (p p' : Pass Message layouts.Layout) → known p' ≡ known p
-    → ∥ Story unread written layout entries (known p).put boxes slots ∥₁ → ∥ Story unread written layout entries (known p').put boxes slots ∥₁
-put-kept unread written layout entries boxes slots p p' e t =
-    subst (λ (v : Passed). ∥ Story unread written layout entries v.put boxes slots ∥₁) (sym e) t
+    → ∥ Story unread written layout lane lanes entries (known p).put boxes slots ∥₁ → ∥ Story unread written layout lane lanes entries (known p').put boxes slots ∥₁
+put-kept unread written layout lane lanes entries boxes slots p p' e t =
+    subst (λ (v : Passed). ∥ Story unread written layout lane lanes entries v.put boxes slots ∥₁) (sym e) t
 
-module _ {D : Type 0} (unread written : D → Option (List ℕ)) (layout : Layout) where
+-- how often a call is finished, at most as often as it was put
+abbrev Once : List Message → List FilerEntry → Type 0
+Once messages entries = (h : Weight) → total (by_entry h) entries ≤ total (by_key h) messages
+
+once-before : (messages : List Message) (entries more : List FilerEntry) → Once messages (entries ++ more) → Once messages entries
+once-before messages entries more once h =
+    let a = once h in let b = total-append (by_entry h) entries more in omega (arith, a, b)
+
+once-same : (messages : List Message) (entries entries' : List FilerEntry) → entries' ≡ entries → Once messages entries' → Once messages entries
+once-same messages entries entries' e once = subst (Once messages) e once
+
+module _ {D : Type 0} (unread written : D → Option (List ℕ)) (layout : Layout) (lane lanes : ℕ) where
   replied : (m : Message) (moment : Moment) (a : Addressed) (e : FilerEntry) → IsEntryOf m moment a e → said_by (Served e) ≡ Some a
   replied m moment a e i =
       ap (λ (j : Job). answer_to j (job_reply_of e.reply)) i.call ∙ ap (λ r. answer_to (job_of_message m moment i.starved) r) i.reply
@@ -214,23 +233,33 @@ module _ {D : Type 0} (unread written : D → Option (List ℕ)) (layout : Layou
 
   module _ (messages : List Message) (slots : ℕ → Option (Connection D)) (moment : Moment) where
     abbrev Known : Standing → Boxes → Type 0
-    Known s boxes = ∥ Story unread written layout (entries_of s.view) messages boxes slots ∥₁
+    Known s boxes = ∥ Story unread written layout lane lanes (entries_of s.view) messages boxes slots ∥₁
 
     same-told : (s t : Standing) (boxes : Boxes) → entries_of t.view ≡ entries_of s.view → Known s boxes → Known t boxes
     same-told s t boxes e k =
-        subst (λ (es : List FilerEntry). ∥ Story unread written layout es messages boxes slots ∥₁) (sym e) k
+        subst (λ (es : List FilerEntry). ∥ Story unread written layout lane lanes es messages boxes slots ∥₁) (sym e) k
 
-    done-told : (s t : Standing) (boxes : Boxes) (a : Addressed) → HasDoneFrom s moment a t → Known s boxes → Known t (put a boxes)
-    done-told s t boxes a d k =
+    done-told : (s t : Standing) (boxes : Boxes) (a : Addressed) → HasDoneFrom s moment a t → Once messages (entries_of t.view)
+        → Known s boxes → Known t (put a boxes)
+    done-told s t boxes a d once k =
         let f = d.finished in
-        subst (λ (es : List FilerEntry). ∥ Story unread written layout es messages (put a boxes) slots ∥₁) (sym f.entries)
-        (∥∥₁_map k (λ y. story-ends unread written layout (entries_of s.view) messages boxes slots y f.entry a
-        (replied d.message moment a f.entry f.is) (served-one d.message moment a f.entry f.is)))
+        subst (λ (es : List FilerEntry). ∥ Story unread written layout lane lanes es messages (put a boxes) slots ∥₁) (sym f.entries)
+        (∥∥₁_map k (λ y. story-ends unread written layout lane lanes (entries_of s.view) messages boxes slots y f.entry a
+        (replied d.message moment a f.entry f.is) (served-one d.message moment a f.entry f.is) (subst (Once messages) f.entries once)))
 
-    all-told : (s : Standing) (answers : List Addressed) (t : Standing) (boxes : Boxes) → DidAll moment s answers t → Known s boxes
-        → Known t (puts answers boxes)
-    all-told s [] t boxes same k = subst (λ (x : Standing). Known x boxes) (sym same) k
-    all-told s (a ∷ rest) t boxes (mid, done, more) k = all-told mid rest t (put a boxes) more (done-told s mid boxes a done k)
+    -- what was finished before is among what is finished
+    once-all : (s : Standing) (answers : List Addressed) (t : Standing) → DidAll moment s answers t → Once messages (entries_of t.view)
+        → Once messages (entries_of s.view)
+    once-all s [] t same once = subst (λ (x : Standing). Once messages (entries_of x.view)) same once
+    once-all s (a ∷ rest) t (mid, done, more) once =
+        let f = done.finished in
+        once-before messages (entries_of s.view) (f.entry ∷ []) (subst (Once messages) f.entries (once-all mid rest t more once))
+
+    all-told : (s : Standing) (answers : List Addressed) (t : Standing) (boxes : Boxes) → DidAll moment s answers t
+        → Once messages (entries_of t.view) → Known s boxes → Known t (puts answers boxes)
+    all-told s [] t boxes same once k = subst (λ (x : Standing). Known x boxes) (sym same) k
+    all-told s (a ∷ rest) t boxes (mid, done, more) once k =
+        all-told mid rest t (put a boxes) more once (done-told s mid boxes a done (once-all mid rest t more once) k)
 
     ends-same : (between : Standing) (chained : Chained) (after : Standing) → EndsBy layout between moment chained after
         → entries_of after.view ≡ entries_of between.view
@@ -241,11 +270,12 @@ module _ {D : Type 0} (unread written : D → Option (List ℕ)) (layout : Layou
     ends-same between chains.Idle after d = ap entries_of d.view
 
     pub turns-told : (s : Standing) (boxes boxes' : Boxes) (chained : Chained) (t : Standing)
-        → HasTurnedOn HasPutAll layout s moment boxes chained boxes' t → Known s boxes → Known t boxes'
-    turns-told s boxes boxes' chained t h k =
+        → HasTurnedOn HasPutAll layout s moment boxes chained boxes' t → Once messages (entries_of t.view) → Known s boxes → Known t boxes'
+    turns-told s boxes boxes' chained t h once k =
+        let same = ends-same h.between chained t h.ends in
         subst (λ (b : Boxes). Known t b) (sym h.told)
-        (same-told h.between t (puts h.answers boxes) (ends-same h.between chained t h.ends)
-        (all-told s h.answers h.between boxes h.did k))
+        (same-told h.between t (puts h.answers boxes) same
+        (all-told s h.answers h.between boxes h.did (subst (Once messages) same once) k))
 
 -- ---- tends
 
@@ -253,11 +283,11 @@ inner-none : (e : FilerEntry) (job : Job) (call : jobs.InnerCall) → job_of job
 inner-none e (Serve served) call h = let no : ⊥ = cc in absurd no
 inner-none e (Inner inner) call h = refl
 
-module _ {D : Type 0} (unread written : D → Option (List ℕ)) (layout : Layout) (messages : List Message) (boxes : Boxes)
+module _ {D : Type 0} (unread written : D → Option (List ℕ)) (layout : Layout) (lane lanes : ℕ) (messages : List Message) (boxes : Boxes)
     (slots : ℕ → Option (Connection D)) (before after : Worker) where
   tended-told : (entries entries' : List FilerEntry) → served_in entries' ≡ served_in entries
-      → ∥ Story unread written layout entries messages boxes slots ∥₁ → ∥ Story unread written layout entries' messages boxes slots ∥₁
-  tended-told entries entries' e t = ∥∥₁_map t (λ s. story-turns unread written layout entries messages boxes slots s entries' e)
+      → ∥ Story unread written layout lane lanes entries messages boxes slots ∥₁ → ∥ Story unread written layout lane lanes entries' messages boxes slots ∥₁
+  tended-told entries entries' e t = ∥∥₁_map t (λ s. story-turns unread written layout lane lanes entries messages boxes slots s entries' e)
 
   answers-told : (inner : Result jobs.InnerCall TendRefusal) (answer : Result Tended TendRefusal) → Answers layout before inner answer after
       → served_in (entries_in after) ≡ served_in (entries_in before)
@@ -270,7 +300,7 @@ module _ {D : Type 0} (unread written : D → Option (List ℕ)) (layout : Layou
   answers-told (Err why) answer h = ap (λ v. served_in (entries_of v)) h.1
 
   pub tends-told : (tend : Tend) (answer : Result Tended TendRefusal) → Tends layout before tend answer after
-      → ∥ Story unread written layout (entries_in before) messages boxes slots ∥₁ → ∥ Story unread written layout (entries_in after) messages boxes slots ∥₁
+      → ∥ Story unread written layout lane lanes (entries_in before) messages boxes slots ∥₁ → ∥ Story unread written layout lane lanes (entries_in after) messages boxes slots ∥₁
   tends-told tend answer h t =
       tended-told (entries_in before) (entries_in after) (answers-told (call_of layout tend (hand_in before)) answer h) t
 

@@ -9,5 +9,5 @@ pub mod Writing
 pub mod Intakes
 pub mod Story
 pub mod Lanes
-pub mod Parting
+pub mod Words
 pub mod lemmas

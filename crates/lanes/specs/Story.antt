@@ -1,6 +1,7 @@
--- The whole life of a lane: what came, what ended, and what is known of each of its connections.
-use Rattle.std.specs.Prelude.{◌≡◌, ◌==◌, ℕ, ◌<◌, ◌≤◌, Bool, List, [], ◌∷◌, ◌++◌, map, Option, Some, None, if◌then◌else◌}
+-- The whole life of a lane: what came, what ended, and what is known of each connection that it ever had.
+use Rattle.std.specs.Prelude.{◌≡◌, ◌≢◌, ◌==◌, ℕ, ◌<◌, ◌≤◌, ◌+◌, ◌*◌, Bool, List, [], ◌∷◌, ◌++◌, map, Option, Some, None, if◌then◌else◌}
 use Rattle.std.specs.FinMap.{get}
+use Rattle.depot.specs.rule.Sums.{total}
 use Rattle.nfs_model.specs.Tree.{Layout}
 use Rattle.nfs_model.specs.World.{Heard, Message}
 use Rattle.outboxes.specs.Boxes.{Addressed, addressed, Boxes}
@@ -9,7 +10,7 @@ use Rattle.parcels.specs.state.Jobs as jobs
 use Rattle.service.specs.declared.job.Job.{Job}
 use Rattle.service.specs.declared.job.Job.TheVariants.{Serve, Inner}
 use Rattle.workers.specs.Jobs.{job_reply_of}
-use Rattle.workers.specs.Balance.{FilerEntry}
+use Rattle.workers.specs.Balance.{FilerEntry, Weight, by_entry, by_key}
 use Rattle.workers.specs.declared.message.Message as workers
 use Rattle.connections.specs.Admitted.{calls_of, seen_of}
 use Rattle.connections.specs.tcp_front.Arrivals.{Arrival, Waits, Answered, arrivals}
@@ -75,40 +76,57 @@ abbrev pub served_in : List FilerEntry → List FilerEntry
 served_in [] = []
 served_in (e ∷ es) = with_served e e.call (served_in es)
 
--- ---- what is known
+-- ---- connections
 
--- Of an open connection: the records of the bytes that were read of it, from its opening on, are just what came of it; and
--- the bytes that were given to its device are a beginning of the records of the replies to it among what ended since its
--- opening, in that order. The others wait.
-pub record IsServed {D : Type 0} (unread written : D → Option (List ℕ)) (layout : Layout) (boxes : Boxes)
-    (came : List Arrival) (endings : List Ending) (c : Connection D) : Type 0 where
-  pub given_number : number_of c < boxes.next
+-- A connection, as it is or as it was when it was closed: the records of the bytes that were read of it, from its opening on, are
+-- just what came of it, all in all; and the bytes that were given to its device are a beginning of the records of all replies to it
+-- among what had ended, in that order. The others waited.
+pub record IsServed {D : Type 0} (unread written : D → Option (List ℕ)) (layout : Layout) (came : List Arrival)
+    (ended : List Ending) (waiting : List ReplyMessage) (c : Connection D) : Type 0 where
   pub heard : List Heard
   pub arrived : of_connection (number_of c) came ≡ arrivals layout (number_of c) 0 heard
   pub reads : Reads unread c.opened.value c heard
-  pub before : List Ending
-  pub since : List Ending
-  pub ended : endings ≡ before ++ since
-  pub waiting : List ReplyMessage
-  pub box : get boxes.waiting (number_of c) ≡ Some waiting
-  pub writes : Writes written c.opened.value c waiting (replies_to (number_of c) since)
+  pub writes : Writes written c.opened.value c waiting (replies_to (number_of c) ended)
 
--- Of each connection, also of one that is closed, the records that came bear the numbers from 0 on, in order and each once.
-abbrev pub ComesInOrder : Layout → List Arrival → Type 0
-ComesInOrder layout came = (number : ℕ) → (heard : List Heard) × (of_connection number came ≡ arrivals layout number 0 heard)
+-- What became of a connection: it is open under a key; or it was closed, when it was so, this waited for it, and this had ended.
+pub data Life (D : Type 0) : Type 0 where
+  Open : (key : ℕ) → Life D
+  Closed : (last : Connection D) → (waiting : List ReplyMessage) → (ended : List Ending) → Life D
 
--- What came to a lane, of all its connections in one order, and what ended, in one order: the calls that came were admitted,
--- in order and each once; the lane's entries are just those that ended, and so are the replies at once that came; nothing
--- came under a number that isn't given yet; each open connection is served by these, and no two have one number.
-pub record Story {D : Type 0} (unread written : D → Option (List ℕ)) (layout : Layout) (entries : List FilerEntry)
+-- The connection of a number is served by what came and what ended, those that had ended when it was closed.
+abbrev pub HasLived : {D : Type 0} → (D → Option (List ℕ)) → (D → Option (List ℕ)) → Layout → List Arrival → List Ending → Boxes
+    → (ℕ → Option (Connection D)) → ℕ → Life D → Type 0
+HasLived {D} unread written layout came endings boxes slots number (Open key) =
+    (c : Connection D) × (waiting : List ReplyMessage) × (slots key ≡ Some c) × (number_of c ≡ number)
+    × (get boxes.waiting number ≡ Some waiting) × IsServed unread written layout came endings waiting c
+HasLived unread written layout came endings boxes slots number (Closed last waiting ended) =
+    (later : List Ending) × (endings ≡ ended ++ later) × (number_of last ≡ number)
+    × IsServed unread written layout came ended waiting last
+
+-- the number of a lane's connection, of which there were so many before: the lane's own at first, and each larger by the count of lanes
+abbrev pub number_at : ℕ → ℕ → ℕ → ℕ
+number_at lane lanes before = lane + before * lanes
+
+-- ---- the lane
+
+-- What came to one of so many lanes, of all its connections in one order, and what ended, in one order: the calls that came were
+-- admitted, in order and each once; the lane's entries are just those that ended, and so are the replies at once that came; no call
+-- was finished more often than it was admitted, each by its connection, its number there, its xid, and what it asks. So many
+-- connections were opened, each under a number of its own, and it is known what became of each; those that are open are among
+-- them, and nothing came under another number.
+pub record Story {D : Type 0} (unread written : D → Option (List ℕ)) (layout : Layout) (lane lanes : ℕ) (entries : List FilerEntry)
     (put : List workers.Message) (boxes : Boxes) (slots : ℕ → Option (Connection D)) : Type 0 where
   pub came : List Arrival
   pub endings : List Ending
   pub admitted : map seen_of put ≡ calls_of came
   pub finished : served_of endings ≡ served_in entries
   pub at_once : at_once_of endings ≡ answered_of came
-  pub in_order : ComesInOrder layout came
-  pub new_numbers : (number : ℕ) → boxes.next ≤ number → of_connection number came ≡ []
-  pub each : (key : ℕ) (c : Connection D) → slots key ≡ Some c → IsServed unread written layout boxes came endings c
-  pub apart : (key other : ℕ) (c d : Connection D) → slots key ≡ Some c → slots other ≡ Some d → number_of c ≡ number_of d
-      → key ≡ other
+  pub once : (weight : Weight) → total (by_entry weight) entries ≤ total (by_key weight) put
+  pub opened : ℕ
+  pub lives : ℕ → Life D
+  pub within : lane < lanes
+  pub step : boxes.step ≡ lanes
+  pub next : boxes.next ≡ number_at lane lanes opened
+  pub each : (k : ℕ) → k < opened → HasLived unread written layout came endings boxes slots (number_at lane lanes k) (lives k)
+  pub known : (key : ℕ) (c : Connection D) → slots key ≡ Some c → (k : ℕ) × (k < opened) × (lives k ≡ Open key)
+  pub only : (number : ℕ) → ((k : ℕ) → k < opened → number ≢ number_at lane lanes k) → of_connection number came ≡ []

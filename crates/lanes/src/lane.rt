@@ -26,10 +26,13 @@ use std::sync::Arc;
 use workers::{Filer, Worker};
 
 /// One thread's connections, with the queue of their calls, the worker that runs these, and the
-/// outboxes of the replies. Its type says what it has done in its whole life: what came of each
-/// connection's bytes, what ended, and which bytes went out.
+/// outboxes of the replies. Its type says what it has done in its whole life: what came of the
+/// bytes of each connection that it ever had, what ended, and which bytes went out.
 #[derive(Drop)]
 pub struct Lane<D: Device, R> {
+    /// Which of the filer's lanes it is, from 0, and how many there are.
+    pub(crate) index: usize,
+    pub(crate) count: usize,
     pub(crate) filer: Arc<Filer>,
     pub(crate) intake: Intake<R>,
     pub(crate) worker: Worker,
@@ -38,6 +41,6 @@ pub struct Lane<D: Device, R> {
     pub ghost inside: { ∥ IsAt (arc_value filer) intake.queue worker ∥₁ },
     pub ghost both: { HasBoth intake.pass worker },
     pub ghost picked: { (known intake.pass).picked ≡ [] },
-    pub ghost story: { ∥ Story D.unread D.written (layout_in (arc_value filer)) (entries_in worker)
-        (known intake.pass).put intake.outboxes (get connections) ∥₁ },
+    pub ghost story: { ∥ Story D.unread D.written (layout_in (arc_value filer)) index count
+        (entries_in worker) (known intake.pass).put intake.outboxes (get connections) ∥₁ },
 }

@@ -12,7 +12,6 @@ use Rattle.workers.specs.Words.{layout_in, verifier_in}
 use Rattle.workers.specs.declared.shared.Filer.{Filer}
 use Rattle.server.specs.declared.pool.ended.Ended.{Ended}
 use Rattle.server.specs.declared.pool.left.Left.{Left}
-use Rattle.server.specs.declared.socket.Socket.{Socket}
 use Rattle.server.specs.Ends.{HaveStopped, HasClosed}
 use Rattle.server.specs.Lanes.{admitted_by, finished_by}
 use Rattle.server.specs.pool.Ends.{HasEnded}
@@ -26,7 +25,7 @@ Closes left ended filer = (admitted : Weight → ℕ) (finished : (FilerEntry �
     → HasEnded (layout_in filer) (verifier_in filer) (serial_parcels (layout_in filer) trees.Serial ended.parcels) ended.hands.items
     ended.kept.items ended.waiting.items admitted finished
 
-module _ {R : Type 0} {G : devices.Ghosts Socket} (filer there : Filer) (same : there ≡ filer) (lanes : List (Lane Socket R G)) (left : Left)
+module _ {D R : Type 0} {G : devices.Ghosts D} (filer there : Filer) (same : there ≡ filer) (lanes : List (Lane D R G)) (left : Left)
     (stopped : HaveStopped filer lanes left) where
   pub left-there : IsLeftOf there left
   left-there = subst (λ (f : Filer). IsLeftOf f left) (sym same) stopped.leaves

@@ -11,7 +11,6 @@ use Rattle.server.specs.declared.ending.FilerEnd.{FilerEnd}
 use Rattle.server.specs.declared.ending.FilerEnd.TheVariants.{Closed, Shared}
 use Rattle.server.specs.declared.pool.ended.Ended.{Ended}
 use Rattle.server.specs.declared.pool.left.Left.{Left}
-use Rattle.server.specs.declared.socket.Socket.{Socket}
 use Rattle.server.specs.Lanes.{admitted_by, finished_by, AreLanesOf}
 use Rattle.server.specs.pool.Ends.{HasEnded}
 use Rattle.server.specs.pool.Gathered.{calls_by, IsLeftOf}
@@ -19,25 +18,27 @@ use Rattle.workers.specs.Balance.{FilerEntry, Weight}
 use Rattle.workers.specs.Words.{layout_in, verifier_in}
 use Rattle.workers.specs.declared.shared.Filer.{Filer}
 
-module _ {R : Type 0} {G : devices.Ghosts Socket} where
-  -- All lanes of a filer have ended: what is left is the filer's. What they admitted is, as often, finished, kept, or waits; and the
-  -- calls that the only seat finished are, as often, those that theirs did.
-  pub record HaveStopped (filer : Filer) (lanes : List (Lane Socket R G)) (left : Left) : Type 0 where
+module _ {D R : Type 0} {G : devices.Ghosts D} where
+  -- All lanes of a filer have ended: what is left is the filer's. What they admitted is, as often, finished, kept, or waits, each call by
+  -- its connection, its number there, its xid, and what it asks; and the calls that the only seat finished are, as often, those that
+  -- theirs did.
+  pub record HaveStopped (filer : Filer) (lanes : List (Lane D R G)) (left : Left) : Type 0 where
     pub leaves : IsLeftOf filer left
     pub lanes_are : AreLanesOf filer lanes
     pub calls : (weight : Weight) → total (admitted_by weight) lanes ≡ calls_by weight left
     pub entries : (weight : FilerEntry → ℕ) → total (finished_by weight) lanes ≡ total weight (entries_of (view left.seat))
 
   -- From the opening parcels there is one legal history, whose replies a serial run gives, and which left the parcels as they are. The calls
-  -- that the lanes finished are, as often, those of the history; and each call that a lane admitted is in it, was kept, or waits. Which calls
-  -- these are, by the bytes of its connections, each lane's type says.
-  pub record HasClosed (filer : Filer) (lanes : List (Lane Socket R G)) (ended : Ended) : Type 0 where
+  -- that the lanes finished are, as often, those of the history; and each call that a lane admitted is in it, was kept, or waits, with
+  -- its connection, its number there, its xid, and what it asks. Which calls these are, by the bytes of all connections that it ever
+  -- had, each lane's type says; and no two lanes have a connection's number in common.
+  pub record HasClosed (filer : Filer) (lanes : List (Lane D R G)) (ended : Ended) : Type 0 where
     pub lanes_are : AreLanesOf filer lanes
     pub closes : HasEnded (layout_in filer) (verifier_in filer) (serial_parcels (layout_in filer) trees.Serial ended.parcels) ended.hands.items
         ended.kept.items ended.waiting.items (λ weight. total (admitted_by weight) lanes) (λ weight. total (finished_by weight) lanes)
 
   -- what is left of the filer of these lanes: it is closed, or all that they leave
-  abbrev pub IsEndOf : Filer → List (Lane Socket R G) → FilerEnd → Type 0
+  abbrev pub IsEndOf : Filer → List (Lane D R G) → FilerEnd → Type 0
   IsEndOf filer lanes (Closed ended) = HasClosed filer lanes ended
   IsEndOf filer lanes (Shared left) = HaveStopped filer lanes left
 

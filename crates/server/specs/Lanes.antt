@@ -1,52 +1,66 @@
--- Lanes of a filer.
-use Rattle.std.specs.Prelude.{◌≡◌, ℕ, true, List, All}
-use Rattle.std.specs.Arc.{arc_value}
+-- Lanes of a filer, over any devices.
+use Rattle.std.specs.Prelude.{◌≡◌, ℕ, zero, suc, true, List, [], ◌∷◌, length, All}
 use Rattle.depot.specs.rule.Sums.{total}
+use Rattle.lanes.specs.Words.{filer_in, identity_in, place_in, put_in, waiting_in, worker_in, Identity}
 use Rattle.lanes.specs.declared.device.Device as devices
 use Rattle.lanes.specs.declared.lane.Lane.{Lane}
 use Rattle.nfs_model.specs.Events.Refusals.{is_empty_hand}
 use Rattle.server.specs.declared.pool.tending.Tending.{Tending}
-use Rattle.server.specs.declared.socket.Socket.{Socket}
 use Rattle.server.specs.pool.Rests.{may_sleep}
 use Rattle.workers.specs.Tends.{hand_in}
 use Rattle.workers.specs.declared.shared.Filer.{Filer}
 use Rattle.workers.specs.Balance.{FilerEntry, Weight, by_key}
 use Rattle.workers.specs.Words.{entries_in, layout_in, seats_in}
-use Rattle.workers.specs.shared_waiting.Passes.{known}
 
-module _ {R : Type 0} {G : devices.Ghosts Socket} where
-  -- the filer whose calls it runs
-  abbrev pub filer_of : Lane Socket R G → Filer
-  filer_of lane = arc_value lane.filer
+-- the places of so many lanes: of each which it is, from 0, and how many there are
+abbrev pub places_below : ℕ → ℕ → List (ℕ × ℕ)
+places_below count zero = []
+places_below count (suc n) = (n, count) ∷ places_below count n
 
+abbrev pub places : ℕ → List (ℕ × ℕ)
+places count = places_below count count
+
+module _ {D R : Type 0} {G : devices.Ghosts D} where
   -- the seats of its worker
-  abbrev pub seats_of : Lane Socket R G → ℕ
-  seats_of lane = seats_in lane.worker
+  abbrev pub seats_of : Lane D R G → ℕ
+  seats_of lane = seats_in (worker_in lane)
+
+  -- which lane it is, weighed
+  abbrev pub by_identity : (Identity → ℕ) → Lane D R G → ℕ
+  by_identity weigh lane = weigh (identity_in lane)
+
+  -- its place alone
+  abbrev pub by_place : (ℕ × ℕ → ℕ) → Lane D R G → ℕ
+  by_place weigh lane = weigh (place_in lane)
 
   -- the calls that it admitted, weighed
-  abbrev pub admitted_by : Weight → Lane Socket R G → ℕ
-  admitted_by weight lane = total (by_key weight) (known lane.intake.pass).put
+  abbrev pub admitted_by : Weight → Lane D R G → ℕ
+  admitted_by weight lane = total (by_key weight) (put_in lane)
 
   -- the calls that its worker finished, weighed
-  abbrev pub finished_by : (FilerEntry → ℕ) → Lane Socket R G → ℕ
-  finished_by weight lane = total weight (entries_in lane.worker)
+  abbrev pub finished_by : (FilerEntry → ℕ) → Lane D R G → ℕ
+  finished_by weight lane = total weight (entries_in (worker_in lane))
 
   -- the lane is of this filer
-  abbrev pub IsLaneOf : Filer → Lane Socket R G → Type 0
-  IsLaneOf filer lane = filer_of lane ≡ filer
+  abbrev pub IsLaneOf : Filer → Lane D R G → Type 0
+  IsLaneOf filer lane = filer_in lane ≡ filer
 
-  -- it is of the same filer as before, with the same seats
-  pub record Stays (before after : Lane Socket R G) : Type 0 where
-    pub filer : filer_of after ≡ filer_of before
+  -- It is of the same filer as before, the same of as many lanes, with the same queue and the same seats. So it has all that it ever
+  -- admitted: nobody else has a pass of its queue.
+  pub record Stays (before after : Lane D R G) : Type 0 where
+    pub filer : filer_in after ≡ filer_in before
+    pub identity : identity_in after ≡ identity_in before
     pub seats : seats_of after ≡ seats_of before
 
   -- it has no message, tends over all volumes and ranges in a row moved nothing, and nothing is in its hand
-  pub record IsAtRest (lane : Lane Socket R G) (tending : Tending) : Type 0 where
-    pub none : lane.intake.waiting ≡ 0
-    pub tended : may_sleep (layout_in (filer_of lane)) lane.worker tending ≡ true
-    pub empty : is_empty_hand (hand_in lane.worker) ≡ true
+  pub record IsAtRest (lane : Lane D R G) (tending : Tending) : Type 0 where
+    pub none : waiting_in lane ≡ 0
+    pub tended : may_sleep (layout_in (filer_in lane)) (worker_in lane) tending ≡ true
+    pub empty : is_empty_hand (hand_in (worker_in lane)) ≡ true
 
-  -- lanes of a filer that have all its 64 seats between them
-  pub record AreLanesOf (filer : Filer) (lanes : List (Lane Socket R G)) : Type 0 where
+  -- All lanes of a filer: they have all its 64 seats between them, and each of their places is taken once, so that no two have a
+  -- connection's number in common.
+  pub record AreLanesOf (filer : Filer) (lanes : List (Lane D R G)) : Type 0 where
     pub of : All (IsLaneOf filer) lanes
     pub seats : total seats_of lanes ≡ 64
+    pub each : (weigh : ℕ × ℕ → ℕ) → total (by_place weigh) lanes ≡ total weigh (places (length lanes))

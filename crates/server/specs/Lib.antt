@@ -2,6 +2,7 @@ pub mod Faults
 pub mod Lanes
 pub mod Queues
 pub mod Remains
+pub mod Rooms
 pub mod Threads
 pub mod Ends
 pub mod Asked

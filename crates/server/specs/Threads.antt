@@ -1,5 +1,5 @@
 -- The threads of a filer's lanes.
-use Rattle.std.specs.Prelude.{◌≡◌, ℕ, List, All}
+use Rattle.std.specs.Prelude.{◌≡◌, ℕ, List, length, All}
 use Rattle.std.specs.declared.thread.PromisedHandle.{PromisedHandle}
 use Rattle.depot.specs.rule.Sums.{total}
 use Rattle.lanes.specs.declared.device.Device as devices
@@ -8,7 +8,8 @@ use Rattle.server.specs.declared.socket.Socket.{Socket}
 use Rattle.server.specs.declared.task.Serves.{Serves}
 use Rattle.server.specs.declared.task.Task.{Task}
 use Rattle.workers.specs.declared.shared.Filer.{Filer}
-use Rattle.server.specs.Lanes.{filer_of, seats_of}
+use Rattle.lanes.specs.Words.{filer_in, Identity}
+use Rattle.server.specs.Lanes.{by_identity, places, seats_of}
 
 -- the thread of a lane
 abbrev pub Thread : (R : Type 0) → devices.Ghosts Socket → Type 0
@@ -21,22 +22,35 @@ module _ {R : Type 0} {G : devices.Ghosts Socket} where
 
   -- the thread runs a lane of this filer
   abbrev pub ServesFor : Filer → Thread R G → Type 0
-  ServesFor filer thread = filer_of (started_with thread) ≡ filer
+  ServesFor filer thread = filer_in (started_with thread) ≡ filer
 
   -- the seats of that lane
   abbrev pub seats_with : Thread R G → ℕ
   seats_with thread = seats_of (started_with thread)
 
-  -- the threads run lanes of a filer that have all its 64 seats between them
+  -- which lane that is, weighed
+  abbrev pub identity_with : (Identity → ℕ) → Thread R G → ℕ
+  identity_with weigh thread = by_identity weigh (started_with thread)
+
+  -- the threads run all lanes of a filer
   pub record AreThreadsOf (filer : Filer) (threads : List (Thread R G)) : Type 0 where
     pub of : All (ServesFor filer) threads
     pub seats : total seats_with threads ≡ 64
+    pub each : (weigh : ℕ × ℕ → ℕ) → total (identity_with (λ i. weigh i.0)) threads ≡ total weigh (places (length threads))
+
+  -- These lanes are those that the threads were started with, gone on: of each its place among as many, and its queue with all that
+  -- was ever put into it, as often.
+  abbrev pub AreOfThreads : List (Thread R G) → List (Lane Socket R G) → Type 0
+  AreOfThreads threads lanes = (weigh : Identity → ℕ) → total (by_identity weigh) lanes ≡ total (identity_with weigh) threads
 
 -- ---- lanes whose threads aren't started yet
 
 module _ {R : Type 0} where
   abbrev pub IsTaskFor : Filer → Task R → Type 0
-  IsTaskFor filer task = filer_of task.lane ≡ filer
+  IsTaskFor filer task = filer_in task.lane ≡ filer
 
   abbrev pub seats_for : Task R → ℕ
   seats_for task = seats_of task.lane
+
+  abbrev pub identity_for : (Identity → ℕ) → Task R → ℕ
+  identity_for weigh task = by_identity weigh task.lane

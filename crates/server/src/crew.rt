@@ -1,9 +1,11 @@
 //! The threads of a filer's lanes.
 
-ghost use Rattle.std.specs.Prelude.{◌≡◌, ◌≤◌, ◌+◌, All, true, vec_len, vec_capacity};
+ghost use Rattle.std.specs.Prelude.{◌≡◌, ◌≤◌, ◌+◌, ℕ, All, true, vec_len, vec_capacity};
 ghost use Rattle.depot.specs.rule.Sums.{total};
-ghost use Rattle.server.specs.Lanes.{seats_of, IsLaneOf};
-ghost use Rattle.server.specs.Threads.{seats_for, seats_with, IsTaskFor, ServesFor};
+ghost use Rattle.lanes.specs.Words.{Identity};
+ghost use Rattle.server.specs.Lanes.{by_identity, seats_of, IsLaneOf};
+ghost use Rattle.server.specs.Threads.{identity_for, identity_with, seats_for, seats_with};
+ghost use Rattle.server.specs.Threads.{IsTaskFor, ServesFor};
 ghost use Rattle.workers.specs.declared.shared.Filer.{Filer};
 
 use crate::common::Common;
@@ -40,6 +42,10 @@ where
         → All (ServesFor filer) threads.old.items → All (ServesFor filer) threads.new.items }
     ensures seats { result ≡ true → total seats_with threads.new.items
         ≡ total seats_with threads.old.items + total seats_for tasks.old.items }
+    ensures each { result ≡ true → (weigh : Identity → ℕ)
+        → total (identity_with weigh) threads.new.items
+        ≡ total (identity_with weigh) threads.old.items
+        + total (identity_for weigh) tasks.old.items }
     ensures len { vec_len threads.new ≤ vec_len threads.old + vec_len tasks.old }
 {
     while let Some(task) = tasks.pop() {
@@ -63,6 +69,8 @@ pub(crate) fn join_all<R: Threads + Drop>(
     ensures len { vec_len result ≡ vec_len lanes + vec_len threads }
     ensures seats { total seats_of result.items
         ≡ total seats_of lanes.items + total seats_with threads.items }
+    ensures each { (weigh : Identity → ℕ) → total (by_identity weigh) result.items
+        ≡ total (by_identity weigh) lanes.items + total (identity_with weigh) threads.items }
 {
     while let Some(thread) = threads.pop() {
         lanes.push_reserved(thread.join(rt));

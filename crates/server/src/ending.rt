@@ -4,18 +4,18 @@ ghost use Rattle.std.specs.Prelude.{◌≡◌, ◌≤◌, vec_len};
 ghost use Rattle.std.specs.Arc.{arc_value};
 ghost use Rattle.server.specs.Ends.{unfinished_in, IsEndOf};
 ghost use Rattle.server.specs.Lanes.{AreLanesOf};
+ghost use Rattle.server.specs.Rooms.{lanes_for};
 
 use crate::gathering::gather_lanes;
 use crate::pool::{Ended, Left, close};
 use crate::room::Room;
-use crate::socket::Socket;
-use lanes::Lane;
+use lanes::{Device, Lane};
 use std::sync::{Arc, Wait};
 use workers::Filer;
 
 /// What is left of a filer whose lanes have ended.
 #[derive(Drop)]
-pub(crate) enum FilerEnd {
+pub enum FilerEnd {
     /// It is closed.
     Closed(Ended),
     /// Someone else has it still, so that it can't be closed.
@@ -24,7 +24,7 @@ pub(crate) enum FilerEnd {
 
 impl FilerEnd {
     /// How many messages weren't finished.
-    pub(crate) fn unfinished(&self) -> usize
+    pub fn unfinished(&self) -> usize
         ensures { result ≡ unfinished_in self.now }
     {
         match self {
@@ -34,16 +34,16 @@ impl FilerEnd {
     }
 }
 
-/// Puts all lanes of a filer together, whose threads have ended, and closes it, where none else has
-/// it. It takes no memory.
-pub(crate) fn end<R: Wait + Drop>(
+/// Puts all lanes of a filer together, whose threads have ended, and closes it, where nobody else
+/// has it. It takes no memory.
+pub fn end<D: Device + Drop, R: Wait + Drop>(
     rt: &R,
     filer: Arc<Filer>,
-    lanes: Vec<Lane<Socket, R>>,
+    lanes: Vec<Lane<D, R>>,
     room: Room,
 ) -> FilerEnd
     requires lanes { AreLanesOf (arc_value filer) lanes.items }
-    requires room { vec_len lanes ≤ room.lanes }
+    requires room { vec_len lanes ≤ lanes_for room }
     ensures { IsEndOf (arc_value filer) lanes.items result }
 {
     let left = gather_lanes(&filer, rt, lanes, room);

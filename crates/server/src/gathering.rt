@@ -14,13 +14,17 @@ ghost use Rattle.workers.specs.Balance.{FilerEntry, Weight};
 use crate::pool::{Left, drain_behind, push_batch, push_kept};
 use crate::remains::Remains;
 use crate::room::Room;
-use crate::socket::Socket;
-use lanes::{Lane, LaneParts};
+use lanes::{Device, Lane, LaneParts};
 use std::sync::Wait;
 use workers::{Filer, WorkerParts};
 
 /// What is left of one lane, as the first that is put together.
-fn begin<R: Wait + Drop>(filer: &Filer, rt: &R, lane: Lane<Socket, R>, room: Room) -> Remains
+fn begin<D: Device + Drop, R: Wait + Drop>(
+    filer: &Filer,
+    rt: &R,
+    lane: Lane<D, R>,
+    room: Room,
+) -> Remains
     requires of { IsLaneOf filer.now lane }
     requires some { 0 < room.lanes }
     ensures inside { AreRemainsIn filer.now result }
@@ -63,7 +67,12 @@ fn begin<R: Wait + Drop>(filer: &Filer, rt: &R, lane: Lane<Socket, R>, room: Roo
 }
 
 /// What is left of one lane more, put to what is left of others.
-fn join<R: Wait + Drop>(filer: &Filer, rt: &R, remains: Remains, lane: Lane<Socket, R>) -> Remains
+fn join<D: Device + Drop, R: Wait + Drop>(
+    filer: &Filer,
+    rt: &R,
+    remains: Remains,
+    lane: Lane<D, R>,
+) -> Remains
     requires inside { AreRemainsIn filer.now remains }
     requires of { IsLaneOf filer.now lane }
     requires room { (vec_len remains.hands + 1 ≤ vec_capacity remains.hands)
@@ -112,11 +121,11 @@ fn join<R: Wait + Drop>(filer: &Filer, rt: &R, remains: Remains, lane: Lane<Sock
 }
 
 /// What is left of lanes, put to what is left of others.
-fn join_all<R: Wait + Drop>(
+fn join_all<D: Device + Drop, R: Wait + Drop>(
     filer: &Filer,
     rt: &R,
     mut remains: Remains,
-    mut lanes: Vec<Lane<Socket, R>>,
+    mut lanes: Vec<Lane<D, R>>,
 ) -> Remains
     requires inside { AreRemainsIn filer.now remains }
     requires of { All (IsLaneOf filer.now) lanes.items }
@@ -140,10 +149,10 @@ fn join_all<R: Wait + Drop>(
 
 /// Puts all lanes of a filer together, whose connections are closed with that. The seats are all 64
 /// of the depot. What the lanes admitted is, as often, finished, kept or there. It takes no memory.
-pub(crate) fn gather_lanes<R: Wait + Drop>(
+pub(crate) fn gather_lanes<D: Device + Drop, R: Wait + Drop>(
     filer: &Filer,
     rt: &R,
-    mut lanes: Vec<Lane<Socket, R>>,
+    mut lanes: Vec<Lane<D, R>>,
     room: Room,
 ) -> Left
     requires lanes { AreLanesOf filer.now lanes.items }

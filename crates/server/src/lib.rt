@@ -31,7 +31,10 @@ mod tends;
 mod untended;
 mod visits;
 
+pub use ending::{FilerEnd, end};
 pub use fault::ServerFault;
+pub use opening::open_lanes;
 pub use options::Options;
+pub use room::Room;
 pub use running::serve;
 pub use socket::Socket;

@@ -2,14 +2,14 @@
 
 ghost use Rattle.std.specs.Prelude.{◌≡◌, ◌≤◌, ◌<◌, [], IfOk, vec_len, vec_capacity};
 ghost use Rattle.std.specs.Arc.{arc_value};
+ghost use Rattle.lanes.specs.Words.{identity_in, worker_in};
 ghost use Rattle.server.specs.Lanes.{AreLanesOf, IsLaneOf};
 ghost use Rattle.server.specs.Queues.{IsNewQueue, IsReadyLane};
 
 use crate::fault::ServerFault;
 use crate::options::MOST_VOLUMES;
-use crate::socket::Socket;
 use affinity_tree::{AggregateSpec, Layout, VolumeSpec};
-use lanes::Lane;
+use lanes::{Device, Lane};
 use std::alloc::{AllocError, Global};
 use std::rt::Clock;
 use std::sync::Arc;
@@ -67,8 +67,8 @@ fn open_queue(alloc: Global, filer: &Filer) -> Result<Queue, AllocError>
     })
 }
 
-/// A lane of a worker, the first of so many lanes or another.
-fn open_lane<R>(
+/// A lane of a worker, this one of so many.
+fn open_lane<D, R>(
     rt: R,
     alloc: Global,
     filer: &Arc<Filer>,
@@ -77,29 +77,32 @@ fn open_lane<R>(
     worker: Worker,
     lane: usize,
     lanes: usize,
-) -> Result<Lane<Socket, R>, AllocError>
+) -> Result<Lane<D, R>, AllocError>
 where
+    D: Device + Drop,
     R: Drop,
     requires lane { lane < lanes }
     requires few { lanes ≤ 64 }
     requires ready { IsReadyLane (arc_value filer.now) queue admits worker }
     ensures of { IfOk result (λ opened. IsLaneOf (arc_value filer.now) opened) }
-    ensures worker { IfOk result (λ opened. opened.worker ≡ worker) }
+    ensures worker { IfOk result (λ opened. worker_in opened ≡ worker) }
+    ensures identity { IfOk result (λ opened. identity_in opened ≡ ((lane, lanes), queue)) }
 {
     let filer = Arc::try_clone(filer)?;
     Ok(Lane::new(rt, alloc, filer, queue, admits, worker, lane, lanes))
 }
 
-/// So many lanes of a filer, which have all its seats between them.
-pub(crate) fn open_lanes<R>(
+/// All lanes of a filer, so many, with their connections over devices of one type.
+pub fn open_lanes<D, R>(
     rt: R,
     alloc: Global,
     layout: Layout,
     verifier: [u8; 8],
     count: usize,
-    mut lanes: Vec<Lane<Socket, R>>,
-) -> Result<(Arc<Filer>, Vec<Lane<Socket, R>>), AllocError>
+    mut lanes: Vec<Lane<D, R>>,
+) -> Result<(Arc<Filer>, Vec<Lane<D, R>>), AllocError>
 where
+    D: Device + Drop,
     R: Copy + Drop,
     requires count { (0 < count) × (count ≤ 64) }
     requires none { lanes.items ≡ [] }

@@ -11,7 +11,7 @@ const MOST_WAITING: usize = 1024;
 /// Room for all that so many lanes can leave: a batch and a message of each, and the messages that
 /// wait. Who has it puts the lanes together without memory.
 #[derive(Drop)]
-pub(crate) struct Room {
+pub struct Room {
     pub(crate) lanes: usize,
     pub(crate) hands: Vec<BatchInHand>,
     pub(crate) kept: Vec<Envelope>,
@@ -22,10 +22,12 @@ pub(crate) struct Room {
 }
 
 impl Room {
+    ghost use Rattle.server.specs.Rooms.{lanes_for};
+
     /// Room for 1 to 64 lanes.
-    pub(crate) fn new(alloc: Global, lanes: usize) -> Result<Room, AllocError>
+    pub fn new(alloc: Global, lanes: usize) -> Result<Room, AllocError>
         requires { lanes ≤ 64 }
-        ensures { IfOk result (λ room. room.lanes ≡ lanes) }
+        ensures { IfOk result (λ room. lanes_for room ≡ lanes) }
     {
         Ok(Room {
             lanes,

@@ -1,13 +1,15 @@
 //! A server, from its start to what is left.
 
-ghost use Rattle.std.specs.Prelude.{◌≡◌, ◌<◌, ◌≤◌, ◌+◌, [], List, All, IfOk, OnOk, IfSome};
+ghost use Rattle.std.specs.Prelude.{◌≡◌, ◌<◌, ◌≤◌, ◌+◌, ℕ, [], List, length, All, IfOk, OnOk, IfSome};
 ghost use Rattle.std.specs.Prelude.{vec_len, vec_capacity};
 ghost use Rattle.std.specs.Arc.{arc_value};
 ghost use Rattle.depot.specs.rule.Sums.{total};
 ghost use Rattle.lanes.specs.declared.lane.Lane as laned;
 ghost use Rattle.server.specs.Ends.{IsEndOf};
-ghost use Rattle.server.specs.Lanes.{seats_of, IsLaneOf};
-ghost use Rattle.server.specs.Threads.{seats_for, AreThreadsOf, IsTaskFor};
+ghost use Rattle.lanes.specs.Words.{Identity};
+ghost use Rattle.server.specs.Lanes.{by_identity, seats_of, IsLaneOf};
+ghost use Rattle.server.specs.Threads.{identity_for, seats_for, AreOfThreads};
+ghost use Rattle.server.specs.Threads.{AreThreadsOf, IsTaskFor};
 ghost use Rattle.server.specs.declared.socket.Socket as sockets;
 ghost use Rattle.workers.specs.declared.shared.Filer as filers;
 
@@ -63,6 +65,9 @@ fn man_all<R: Net + Drop>(
         → All (IsTaskFor filer) tasks.old.items → All (IsTaskFor filer) tasks.new.items }
     ensures seats { OnOk result (total seats_for tasks.new.items
         ≡ total seats_for tasks.old.items + total seats_of lanes.old.items) }
+    ensures each { OnOk result ((weigh : Identity → ℕ)
+        → total (identity_for weigh) tasks.new.items
+        ≡ total (identity_for weigh) tasks.old.items + total (by_identity weigh) lanes.old.items) }
 {
     while let Some(lane) = lanes.pop() {
         let common = Arc::try_clone(common)?;
@@ -82,7 +87,8 @@ fn start<R>(rt: R, alloc: Global, layout: Layout, workers: usize) -> Result<Runn
 where
     R: Threads + Wait + Clock + Net + Copy + Drop + Send + 'static,
     requires { (0 < workers) × (workers ≤ 64) }
-    ensures { IfOk result (λ r. AreThreadsOf (arc_value r.filer) r.threads.items) }
+    ensures threads { IfOk result (λ r. AreThreadsOf (arc_value r.filer) r.threads.items) }
+    ensures count { IfOk result (λ r. length r.threads.items ≡ workers) }
 {
     let lanes = Vec::with_capacity(alloc, workers)?;
     let mut threads = Vec::with_capacity(alloc, workers)?;
@@ -135,8 +141,8 @@ fn accept<R: Wait, W: Write>(
 }
 
 /// Serves so many connections of a listener to their ends, and stops the lanes. Where one can't be
-/// accepted no more are, and those that are open are closed. What is left of a filer that was
-/// served to its end comes back.
+/// accepted no more are, and those that are open are closed. What comes back is what is left of a
+/// filer that was served to its end, by the lanes that its threads were started with.
 fn run<R, W>(
     rt: &R,
     listener: &TcpListener,
@@ -150,6 +156,7 @@ where
     requires { AreThreadsOf (arc_value running.filer) running.threads.items }
     ensures { IfOk result (λ left. (lanes : List (laned.Lane sockets.Socket R
         ⟦<Socket as Device>⟧))
+        × AreOfThreads running.threads.items lanes
         × IsEndOf (arc_value running.filer) lanes left) }
 {
     let Running {

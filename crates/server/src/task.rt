@@ -21,7 +21,8 @@ pub(crate) struct Task<R> {
     pub(crate) station: Station,
 }
 
-/// The lane that comes back is of the same filer, and has the seats that this one has.
+/// The lane that comes back is of the same filer and the same of its lanes, with the queue and the
+/// seats that this one has.
 #[derive(Drop)]
 pub struct Serves<L> {
     pub lane: Snapshot<L>,

@@ -1,7 +1,8 @@
 //! What a lane does without a message.
 
 ghost use Rattle.std.specs.Prelude.{◌≡◌};
-ghost use Rattle.server.specs.Lanes.{filer_of, Stays};
+ghost use Rattle.lanes.specs.Words.{filer_in, worker_in};
+ghost use Rattle.server.specs.Lanes.{Stays};
 ghost use Rattle.server.specs.declared.pool.tending.Found as found;
 ghost use Rattle.server.specs.pool.Rests.{may_sleep, HasTended};
 ghost use Rattle.workers.specs.Words.{layout_in};
@@ -14,8 +15,8 @@ use lanes::Lane;
 /// Makes the next tend of a lane, and counts it.
 pub(crate) fn tend<R>(lane: &mut Lane<Socket, R>, pace: &mut Pace)
     ensures stays { Stays lane.old lane.new }
-    ensures tended { (what : found.Found) × HasTended (layout_in (filer_of lane.old))
-        lane.old.worker pace.old.tending what lane.new.worker pace.new.tending }
+    ensures tended { (what : found.Found) × HasTended (layout_in (filer_in lane.old))
+        (worker_in lane.old) pace.old.tending what (worker_in lane.new) pace.new.tending }
 {
     let empty = lane.worker().has_empty_hand();
     let next = lane.worker().next_tend(lane.filer(), pace.tending.made);
@@ -34,7 +35,8 @@ pub(crate) fn put_down<R>(lane: &mut Lane<Socket, R>, pace: &mut Pace)
 
 /// Whether tends over all volumes and ranges moved nothing, so that a lane makes none.
 pub(crate) fn may_rest<R>(lane: &Lane<Socket, R>, pace: &Pace) -> bool
-    ensures { result ≡ may_sleep (layout_in (filer_of lane.now)) lane.now.worker pace.now.tending }
+    ensures { result ≡ may_sleep (layout_in (filer_in lane.now)) (worker_in lane.now)
+        pace.now.tending }
 {
     pace.tending.may_sleep(lane.filer(), lane.worker())
 }

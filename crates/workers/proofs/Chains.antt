@@ -29,7 +29,7 @@ use Rattle.workers.specs.declared.chained.Chained.TheVariants as chains
 use Rattle.workers.specs.declared.linking.Tried.{Tried}
 use Rattle.workers.specs.declared.linking.Tried.TheVariants as tries
 use Rattle.workers.specs.declared.linking.Link.TheVariants as links
-use Rattle.workers.specs.Balance.{Passed, FilerView, FilerEntry, IsEven}
+use Rattle.workers.specs.Balance.{Passed, FilerView, FilerEntry, Weight, by_key, IsEven}
 use Rattle.workers.specs.Messages.{IsPlaced, readdressed}
 use Rattle.workers.specs.Chains.{DidAll, IsAhead, HasTurnedOn, IsPicked, IsLeft, HasServedOn, HasTriedAll, left_standing}
 use Rattle.workers.specs.Chains.{chained_by, each_done}
@@ -85,11 +85,11 @@ all-hand hand moment s t [] did own = subst (HasHand hand) (sym did) own
 all-hand hand moment s t (a ∷ rest) did own = all-hand hand moment did.0 t rest did.2 (done-hand hand s did.0 moment a did.1 own)
 
 -- a message of the record that was picked is kept
-tried-even : (b t : Standing) (m m' : Message) → IsPicked b b.view t.pass m → t.kept ≡ Some m' → m'.origin ≡ m.origin
+tried-even : (b t : Standing) (m m' : Message) → IsPicked b b.view t.pass m → t.kept ≡ Some m' → ((h : Weight) → by_key h m' ≡ by_key h m)
     → entries_of t.view ≡ entries_of b.view → Even b → Even t
-tried-even b t m m' picked kept origin same even =
+tried-even b t m m' picked kept weighs same even =
     subst (λ (k : Option Message). IsEven t.pass (entries_of t.view) k) (sym kept)
-    (keeps t.pass m m' (entries_of b.view) (entries_of t.view) origin same
+    (keeps t.pass m m' (entries_of b.view) (entries_of t.view) weighs same
     (picks b.pass t.pass b.kept (Some m) (entries_of b.view) even picked.next picked.put))
 
 ahead-even : (b t : Standing) (kept : Option Message) → t.kept ≡ kept → b.kept ≡ None → t.view ≡ b.view → IsAhead b.pass t.pass kept → Even b → Even t
@@ -107,9 +107,9 @@ module _ (layout : Layout) (b t : Standing) (moment : Moment) where
   left-even : (chained : Chained) → IsLeft layout b moment chained t → Even b → Even t
   left-even chains.Done left even = ahead-even b t t.kept refl left.0 left.1 left.2 even
   left-even chains.Moved left even =
-      tried-even b t left.0 left.1 left.2 left.3 (ap (λ (x : Message). x.origin) left.4.message) left.5 even
-  left-even (chains.Busy at word) left even = tried-even b t left.0 left.0 left.1 left.2 refl left.4 even
-  left-even chains.Worn left even = tried-even b t left.0 left.0 left.1 left.2 refl left.4 even
+      tried-even b t left.0 left.1 left.2 left.3 (λ h. ap (by_key h) left.4.message) left.5 even
+  left-even (chains.Busy at word) left even = tried-even b t left.0 left.0 left.1 left.2 (λ h. refl) left.4 even
+  left-even chains.Worn left even = tried-even b t left.0 left.0 left.1 left.2 (λ h. refl) left.4 even
   left-even chains.Idle left even = absurd left
 
   left-entries : (chained : Chained) → IsLeft layout b moment chained t → entries_of t.view ≡ entries_of b.view

@@ -105,13 +105,13 @@ module _ {P : Type 0} where
       let q = ap (total (by_key h)) picked in
       omega (arith, e, a, q)
 
-  -- a message of the same record is kept
-  pub keeps : (v : Passed) (m m' : Message) (done done' : List (Entry P Job JobReply)) → m'.origin ≡ m.origin → done' ≡ done
-      → IsEven v done (Some m) → IsEven v done' (Some m')
-  keeps v m m' done done' origin same even h =
+  -- a message of the same record and with the same call is kept, whatever it tries
+  pub keeps : (v : Passed) (m m' : Message) (done done' : List (Entry P Job JobReply)) → ((h : Weight) → by_key h m' ≡ by_key h m)
+      → done' ≡ done → IsEven v done (Some m) → IsEven v done' (Some m')
+  keeps v m m' done done' weighs same even h =
       let e = even h in
       let d = ap (total (by_entry h)) same in
-      let k : by_key h m' ≡ by_key h m = ap (λ o. h o.connection.0 o.number) origin in
+      let k = weighs h in
       omega (arith, e, d, k)
 
 -- what is kept is finished
@@ -152,10 +152,10 @@ module _ (layout : trees.Layout) (v w : FilerView) (m : Message) (moment : Momen
       (finishes pass m moment a did.entry (entries_of v) (entries_of w) even did.entries did.is)
   tried-even (serves.Moved m') kept turned pass did told even =
       subst (λ (k : Option Message). IsEven pass (entries_of w) k) (sym told.0)
-      (keeps pass m m' (entries_of v) (entries_of w) (ap (λ (x : Message). x.origin) did.0.message) did.1 even)
+      (keeps pass m m' (entries_of v) (entries_of w) (λ h. ap (by_key h) did.0.message) did.1 even)
   tried-even (serves.Refused back refusal) kept turned pass did told even =
       subst (λ (k : Option Message). IsEven pass (entries_of w) k) (sym told.0)
-      (keeps pass m back (entries_of v) (entries_of w) (ap (λ (x : Message). x.origin) did.0) did.1 even)
+      (keeps pass m back (entries_of v) (entries_of w) (λ h. ap (by_key h) did.0) did.1 even)
 
   pub tried-hand : (served : Served) (hand : List Hand) → HasServed layout v m moment served w
       → AreHands job_takes job_gives (entries_of v) hand → AreHands job_takes job_gives (entries_of w) hand

@@ -4,8 +4,12 @@ use Rattle.affinity_tree.specs.declared.layout.Layout.{Layout}
 use Rattle.depot.specs.declared.rule.view.View as seats
 use Rattle.depot.specs.declared.rule.view.Entry.{Entry}
 use Rattle.depot.specs.rule.Sums.{total}
+use Rattle.nfs_model.specs.Types.{Asked, Ask}
+use Rattle.nfs_values.specs.Call.{call_of}
+use Rattle.nfs_values.specs.Credential.{credential_of}
 use Rattle.parcels.specs.state.Parcels.{FilerParcel}
 use Rattle.parcels.specs.declared.files.Files.{Files}
+use Rattle.service.specs.Jobs.{asked_of}
 use Rattle.service.specs.declared.job.Job.{Job}
 use Rattle.service.specs.declared.job.Job.TheVariants.{Serve, Inner}
 use Rattle.service.specs.declared.job.JobReply.{JobReply}
@@ -24,20 +28,20 @@ FilerView = seats.View (FilerParcel Files) FilerEntry
 abbrev pub Passed : Type 0
 Passed = queues.View Message Layout
 
--- ---- messages and entries, weighed by their connection and the number of their record there
+-- ---- messages and entries, weighed by their connection, the number of their record there, its xid, and what it asks
 
 abbrev pub Weight : Type 0
-Weight = ℕ → ℕ → ℕ
+Weight = ℕ → ℕ → ℕ → Asked → ℕ
 
 abbrev pub by_key : Weight → Message → ℕ
-by_key weight m = weight m.origin.connection.0 m.origin.number
+by_key weight m = weight m.origin.connection.0 m.origin.number m.origin.xid (Ask (call_of m.call) (credential_of m.credential))
 
 abbrev pub by_kept : Weight → Option Message → ℕ
 by_kept weight None = 0
 by_kept weight (Some m) = by_key weight m
 
 abbrev pub by_job : Weight → Job → ℕ
-by_job weight (Serve call) = weight call.connection.0 call.number
+by_job weight (Serve call) = weight call.connection.0 call.number call.xid (asked_of call.asked)
 by_job weight (Inner call) = 0
 
 module _ {P : Type 0} where

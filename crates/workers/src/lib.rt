@@ -4,6 +4,7 @@
 
 mod chained;
 mod chaining;
+mod counting;
 pub mod crossings;
 mod entering;
 mod envelope;

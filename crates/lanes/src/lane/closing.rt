@@ -39,37 +39,39 @@ fn close_under<D>(
 }
 
 impl<D: Device, R> Lane<D, R> {
-    ghost use Rattle.std.specs.Arc.{arc_value};
     ghost use Rattle.workers.specs.shared_waiting.Passes.{known};
+    ghost use Rattle.lanes.specs.Words.{boxes_in, connections_in, filer_in, identity_in};
+    ghost use Rattle.lanes.specs.Words.{intake_in, pass_in, waiting_in, worker_in};
 
     /// The connection of a key.
     pub fn connection(&self, key: usize) -> Option<&Connection<D>>
-        ensures { option_copied result ≡ get self.now.connections key }
+        ensures { option_copied result ≡ get (connections_in self.now) key }
     {
         self.connections.get(key)
     }
 
     /// How many connections are open.
     pub fn open_count(&self) -> usize
-        ensures { result ≡ slab_len self.now.connections }
+        ensures { result ≡ slab_len (connections_in self.now) }
     {
         self.connections.len()
     }
 
     /// How many messages were admitted and not finished.
     pub fn waiting(&self) -> usize
-        ensures { result ≡ self.now.intake.waiting }
+        ensures { result ≡ waiting_in self.now }
     {
         self.intake.waiting
     }
 
     /// Keeps what a thread keeps of the connection of a key, if there is one.
     pub fn set_flags(&mut self, key: usize, flags: Flags)
-        ensures flags { Flagged self.old.connections key (get self.old.connections key) flags
-            self.new.connections }
-        ensures intake { self.new.intake ≡ self.old.intake }
-        ensures worker { self.new.worker ≡ self.old.worker }
-        ensures filer { arc_value self.new.filer ≡ arc_value self.old.filer }
+        ensures flags { Flagged (connections_in self.old) key (get (connections_in self.old) key)
+            flags (connections_in self.new) }
+        ensures intake { intake_in self.new ≡ intake_in self.old }
+        ensures worker { worker_in self.new ≡ worker_in self.old }
+        ensures filer { filer_in self.new ≡ filer_in self.old }
+        ensures identity { identity_in self.new ≡ identity_in self.old }
     {
         flag_under(&mut self.connections, key, flags);
     }
@@ -77,11 +79,13 @@ impl<D: Device, R> Lane<D, R> {
     /// Closes the connection of a key, and gives its device back. What waits for it is lost; its
     /// calls still run.
     pub fn close(&mut self, key: usize) -> Option<D>
-        ensures closes { Closes self.old.connections key self.old.intake.outboxes
-            (get self.old.connections key) result self.new.connections self.new.intake.outboxes }
-        ensures pass { known self.new.intake.pass ≡ known self.old.intake.pass }
-        ensures worker { self.new.worker ≡ self.old.worker }
-        ensures filer { arc_value self.new.filer ≡ arc_value self.old.filer }
+        ensures closes { Closes (connections_in self.old) key (boxes_in self.old)
+            (get (connections_in self.old) key) result (connections_in self.new)
+            (boxes_in self.new) }
+        ensures pass { known (pass_in self.new) ≡ known (pass_in self.old) }
+        ensures worker { worker_in self.new ≡ worker_in self.old }
+        ensures filer { filer_in self.new ≡ filer_in self.old }
+        ensures identity { identity_in self.new ≡ identity_in self.old }
     {
         close_under(&mut self.connections, key, &mut self.intake.outboxes)
     }

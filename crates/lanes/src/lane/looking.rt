@@ -7,18 +7,32 @@ use workers::{Filer, Worker};
 
 impl<D: Device, R> Lane<D, R> {
     ghost use Rattle.std.specs.Prelude.{◌≡◌};
-    ghost use Rattle.std.specs.Arc.{arc_value};
+    ghost use Rattle.lanes.specs.Words.{count_in, filer_in, index_in, worker_in};
+
+    /// Which of its filer's lanes it is, from 0.
+    pub fn index(&self) -> usize
+        ensures { result ≡ index_in self.now }
+    {
+        self.index
+    }
+
+    /// How many lanes its filer has.
+    pub fn count(&self) -> usize
+        ensures { result ≡ count_in self.now }
+    {
+        self.count
+    }
 
     /// Its filer.
     pub fn filer(&self) -> &Filer
-        ensures { result.now ≡ arc_value self.now.filer }
+        ensures { result.now ≡ filer_in self.now }
     {
         &self.filer
     }
 
     /// Its worker.
     pub fn worker(&self) -> &Worker
-        ensures { result.now ≡ self.now.worker }
+        ensures { result.now ≡ worker_in self.now }
     {
         &self.worker
     }

@@ -26,6 +26,8 @@ impl<D: Device, R> Lane<D, R> {
     ghost use Rattle.workers.specs.Words.{entries_in, layout_in, layout_known, IsAt};
     ghost use Rattle.lanes.specs.Connections.{now_of};
     ghost use Rattle.lanes.specs.Lanes.{HasBoth, Opens};
+    ghost use Rattle.lanes.specs.Words.{boxes_in, connections_in, filer_in, identity_in, pass_in};
+    ghost use Rattle.lanes.specs.Words.{worker_in};
 
     /// One of so many lanes of a filer, with a queue of its own: a pass that will only admit, and
     /// a worker with the other pass. Neither has done anything.
@@ -47,11 +49,14 @@ impl<D: Device, R> Lane<D, R> {
         requires both { HasBoth pass worker }
         requires nothing { ((known pass).put ≡ []) × ((known pass).picked ≡ [])
             × (entries_in worker ≡ []) }
-        ensures filer { arc_value result.filer ≡ arc_value filer }
-        ensures worker { result.worker ≡ worker }
-        ensures numbers { AreOfLane lane lanes result.intake.outboxes }
+        ensures filer { filer_in result ≡ arc_value filer }
+        ensures worker { worker_in result ≡ worker }
+        ensures identity { identity_in result ≡ ((lane, lanes), queue) }
+        ensures numbers { AreOfLane lane lanes (boxes_in result) }
     {
         Lane {
+            index: lane,
+            count: lanes,
             intake: Intake {
                 rt,
                 alloc,
@@ -72,7 +77,7 @@ impl<D: Device, R> Lane<D, R> {
 
     /// The key that the next connection gets.
     pub fn next_key(&self) -> usize
-        ensures { result ≡ self.now.connections.vacant_key }
+        ensures { result ≡ (connections_in self.now).vacant_key }
     {
         self.connections.vacant_key()
     }
@@ -80,11 +85,12 @@ impl<D: Device, R> Lane<D, R> {
     /// Opens a connection over a device, under the next key. The device comes back where there is
     /// no memory, or where 64 connections are open.
     pub fn open(&mut self, device: D) -> Result<usize, D>
-        ensures opens { Opens self.old.connections self.old.intake.outboxes device result
-            self.new.connections self.new.intake.outboxes }
-        ensures pass { known self.new.intake.pass ≡ known self.old.intake.pass }
-        ensures worker { self.new.worker ≡ self.old.worker }
-        ensures filer { arc_value self.new.filer ≡ arc_value self.old.filer }
+        ensures opens { Opens (connections_in self.old) (boxes_in self.old) device result
+            (connections_in self.new) (boxes_in self.new) }
+        ensures pass { known (pass_in self.new) ≡ known (pass_in self.old) }
+        ensures worker { worker_in self.new ≡ worker_in self.old }
+        ensures filer { filer_in self.new ≡ filer_in self.old }
+        ensures identity { identity_in self.new ≡ identity_in self.old }
     {
         if self.connections.reserve(1).is_err() {
             return Err(device);

@@ -16,25 +16,25 @@ pub struct LaneParts {
 
 impl<D: Device + Drop, R: Drop> Lane<D, R> {
     ghost use Rattle.std.specs.Prelude.{◌≡◌, []};
-    ghost use Rattle.std.specs.Arc.{arc_value};
     ghost use Rattle.workers.specs.shared_waiting.Passes.{known, IsOf};
-    ghost use Rattle.workers.specs.Words.{entries_in, layout_in, IsAt};
+    ghost use Rattle.workers.specs.Words.{IsAt};
     ghost use Rattle.lanes.specs.Lanes.{HasBoth};
-    ghost use Rattle.lanes.specs.Parting.{IsLeft};
+    ghost use Rattle.lanes.specs.Words.{filer_in, pass_in, queue_in, worker_in, HasStory};
 
-    /// What is left of a lane, whose connections are closed.
+    /// What is left of a lane, whose connections are closed with that. Its life stays known.
     pub fn into_parts(self) -> LaneParts
-        ensures worker { result.worker ≡ self.worker }
-        ensures queue { result.queue ≡ self.intake.queue }
-        ensures pass { result.pass ≡ self.intake.pass }
+        ensures worker { result.worker ≡ worker_in self }
+        ensures queue { result.queue ≡ queue_in self }
+        ensures pass { result.pass ≡ pass_in self }
         ensures of { IsOf result.queue result.pass }
-        ensures inside { IsAt (arc_value self.filer) result.queue result.worker }
+        ensures inside { IsAt (filer_in self) result.queue result.worker }
         ensures both { HasBoth result.pass result.worker }
         ensures picked { (known result.pass).picked ≡ [] }
-        ensures told { ∥ IsLeft (layout_in (arc_value self.filer)) (known result.pass).put
-            (entries_in result.worker) ∥₁ }
+        ensures told { ∥ HasStory D.unread D.written self ∥₁ }
     {
         let Lane {
+            index: _,
+            count: _,
             filer: _,
             intake,
             worker,

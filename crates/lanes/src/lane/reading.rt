@@ -53,17 +53,19 @@ fn read_under<D: Device, R: Wait>(
 }
 
 impl<D: Device, R: Wait> Lane<D, R> {
-    ghost use Rattle.std.specs.Arc.{arc_value};
+    ghost use Rattle.lanes.specs.Words.{connections_in, filer_in, identity_in, intake_in};
+    ghost use Rattle.lanes.specs.Words.{worker_in};
 
     /// Goes on reading the connection of a key (`Connection::read`): what its records come to is
     /// admitted or answered. Where there is none, nothing is done, as where its reading stopped.
     pub fn read(&mut self, key: usize, block: &mut [u8]) -> Came
         requires { 0 < length block.old }
-        ensures read { ReadsUnder D.unread D.written (layout_in (arc_value self.old.filer))
-            self.old.connections key (get self.old.connections key) self.old.intake
-            (length block.old) result self.new.connections self.new.intake }
-        ensures worker { self.new.worker ≡ self.old.worker }
-        ensures filer { arc_value self.new.filer ≡ arc_value self.old.filer }
+        ensures read { ReadsUnder D.unread D.written (layout_in (filer_in self.old))
+            (connections_in self.old) key (get (connections_in self.old) key) (intake_in self.old)
+            (length block.old) result (connections_in self.new) (intake_in self.new) }
+        ensures worker { worker_in self.new ≡ worker_in self.old }
+        ensures filer { filer_in self.new ≡ filer_in self.old }
+        ensures identity { identity_in self.new ≡ identity_in self.old }
     {
         let layout = self.filer.depot().layout();
         read_under(&mut self.connections, key, &mut self.intake, layout, block)

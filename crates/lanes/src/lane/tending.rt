@@ -7,22 +7,24 @@ use crate::lane::Lane;
 use workers::{Tend, TendRefusal, Tended};
 
 impl<D: Device, R> Lane<D, R> {
-    ghost use Rattle.std.specs.Arc.{arc_value};
+    ghost use Rattle.lanes.specs.Words.{boxes_in, connections_in, filer_in, identity_in};
+    ghost use Rattle.lanes.specs.Words.{pass_in, worker_in};
     ghost use Rattle.workers.specs.shared_waiting.Passes.{known};
     ghost use Rattle.workers.specs.Tends.{kept_in, Tends};
     ghost use Rattle.workers.specs.Words.{layout_in, passed, seats_in};
 
     /// Does something with the batch of block numbers in its worker's hand (`Worker::tend_in`).
     pub fn tend(&mut self, tend: Tend) -> Result<Tended, TendRefusal>
-        ensures tends { Tends (layout_in (arc_value self.old.filer)) self.old.worker tend result
-            self.new.worker }
-        ensures pass { known self.new.intake.pass ≡ known self.old.intake.pass }
-        ensures outboxes { self.new.intake.outboxes ≡ self.old.intake.outboxes }
-        ensures connections { self.new.connections ≡ self.old.connections }
-        ensures picks { passed self.new.worker ≡ passed self.old.worker }
-        ensures kept { kept_in self.new.worker ≡ kept_in self.old.worker }
-        ensures seats { seats_in self.new.worker ≡ seats_in self.old.worker }
-        ensures filer { arc_value self.new.filer ≡ arc_value self.old.filer }
+        ensures tends { Tends (layout_in (filer_in self.old)) (worker_in self.old) tend result
+            (worker_in self.new) }
+        ensures pass { known (pass_in self.new) ≡ known (pass_in self.old) }
+        ensures outboxes { boxes_in self.new ≡ boxes_in self.old }
+        ensures connections { connections_in self.new ≡ connections_in self.old }
+        ensures picks { passed (worker_in self.new) ≡ passed (worker_in self.old) }
+        ensures kept { kept_in (worker_in self.new) ≡ kept_in (worker_in self.old) }
+        ensures seats { seats_in (worker_in self.new) ≡ seats_in (worker_in self.old) }
+        ensures filer { filer_in self.new ≡ filer_in self.old }
+        ensures identity { identity_in self.new ≡ identity_in self.old }
     {
         self.worker.tend_in(&self.filer, &self.intake.queue, tend)
     }

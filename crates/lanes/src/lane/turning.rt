@@ -9,13 +9,14 @@ use std::sync::Wait;
 use workers::{Chained, Gate, Hint};
 
 impl<D: Device, R: Wait> Lane<D, R> {
-    ghost use Rattle.std.specs.Arc.{arc_value};
     ghost use Rattle.workers.specs.declared.chained.Chained.TheVariants.{Idle};
     ghost use Rattle.workers.specs.shared_waiting.Passes.{known};
     ghost use Rattle.workers.specs.Chains.{turns_at_most, HasDoneFew, HasPutAll, HasTurnedOn};
     ghost use Rattle.workers.specs.Turns.{standing_of};
     ghost use Rattle.workers.specs.Words.{layout_in, seat_view, seats_in};
     ghost use Rattle.lanes.specs.Lanes.{HasNoneLeft};
+    ghost use Rattle.lanes.specs.Words.{boxes_in, connections_in, filer_in, identity_in};
+    ghost use Rattle.lanes.specs.Words.{pass_in, worker_in};
 
     /// Tries the call of the message that its worker keeps, or else of the one that waits longest,
     /// and then, under the same grant, those of the messages after it that try the same node, at
@@ -28,20 +29,21 @@ impl<D: Device, R: Wait> Lane<D, R> {
         moment: Moment,
         most: usize,
     ) -> Chained
-        ensures turned { HasTurnedOn HasPutAll (layout_in (arc_value self.old.filer))
-            (standing_of self.old.worker) moment self.old.intake.outboxes result
-            self.new.intake.outboxes (standing_of self.new.worker) }
-        ensures few { HasDoneFew (turns_at_most most) (seat_view self.old.worker)
-            (seat_view self.new.worker) }
-        ensures idle { result ≡ Idle
-            → HasNoneLeft self.new.intake.pass self.new.worker }
-        ensures pass { known self.new.intake.pass ≡ known self.old.intake.pass }
-        ensures connections { self.new.connections ≡ self.old.connections }
-        ensures seats { seats_in self.new.worker ≡ seats_in self.old.worker }
-        ensures filer { arc_value self.new.filer ≡ arc_value self.old.filer }
+        ensures turned { HasTurnedOn HasPutAll (layout_in (filer_in self.old))
+            (standing_of (worker_in self.old)) moment (boxes_in self.old) result
+            (boxes_in self.new) (standing_of (worker_in self.new)) }
+        ensures few { HasDoneFew (turns_at_most most) (seat_view (worker_in self.old))
+            (seat_view (worker_in self.new)) }
+        ensures idle { result ≡ Idle → HasNoneLeft (pass_in self.new) (worker_in self.new) }
+        ensures pass { known (pass_in self.new) ≡ known (pass_in self.old) }
+        ensures connections { connections_in self.new ≡ connections_in self.old }
+        ensures seats { seats_in (worker_in self.new) ≡ seats_in (worker_in self.old) }
+        ensures filer { filer_in self.new ≡ filer_in self.old }
+        ensures identity { identity_in self.new ≡ identity_in self.old }
     {
+        let filer = &*self.filer;
         let chained = self.worker.turns_beside(
-            &self.filer,
+            filer,
             &self.intake.queue,
             &mut self.intake.pass,
             &self.intake.rt,
@@ -51,10 +53,12 @@ impl<D: Device, R: Wait> Lane<D, R> {
             most,
             &mut self.intake.outboxes,
         );
-        let queued = self
-            .intake
-            .queue
-            .count(&self.intake.rt, &mut self.intake.pass);
+        let queued = self.worker.count_beside(
+            filer,
+            &self.intake.queue,
+            &mut self.intake.pass,
+            &self.intake.rt,
+        );
         let waiting = queued + usize::from(self.worker.keeps_message());
         self.intake.waiting = waiting;
         self.intake.may_leave_blocks = self.intake.may_leave_blocks && waiting > 0;

@@ -28,18 +28,20 @@ fn write_under<D: Device>(
 }
 
 impl<D: Device, R> Lane<D, R> {
-    ghost use Rattle.std.specs.Arc.{arc_value};
     ghost use Rattle.workers.specs.shared_waiting.Passes.{known};
+    ghost use Rattle.lanes.specs.Words.{boxes_in, connections_in, filer_in, identity_in};
+    ghost use Rattle.lanes.specs.Words.{pass_in, worker_in};
 
     /// Goes on writing the connection of a key (`Connection::write`), with a buffer for what goes
     /// out at once. Where there is none, nothing is done, as where its device failed.
     pub fn write(&mut self, key: usize, buffer: &mut Vec<u8>) -> Sent
-        ensures write { WritesUnder D.unread D.written self.old.connections key
-            (get self.old.connections key) self.old.intake.outboxes result self.new.connections
-            self.new.intake.outboxes }
-        ensures worker { self.new.worker ≡ self.old.worker }
-        ensures pass { known self.new.intake.pass ≡ known self.old.intake.pass }
-        ensures filer { arc_value self.new.filer ≡ arc_value self.old.filer }
+        ensures write { WritesUnder D.unread D.written (connections_in self.old) key
+            (get (connections_in self.old) key) (boxes_in self.old) result
+            (connections_in self.new) (boxes_in self.new) }
+        ensures worker { worker_in self.new ≡ worker_in self.old }
+        ensures pass { known (pass_in self.new) ≡ known (pass_in self.old) }
+        ensures filer { filer_in self.new ≡ filer_in self.old }
+        ensures identity { identity_in self.new ≡ identity_in self.old }
     {
         write_under(
             &mut self.connections,

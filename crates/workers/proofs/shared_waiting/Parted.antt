@@ -12,7 +12,7 @@ module _ {T K : Type 0} where
   pub both-live : (own other : View T K) → 0 < own.share → 0 < (both own other).share
   both-live own other some = let half : 0 < own.share * 2 ^ other.halvings = mul-pos some (pow_pos other.halvings) in omega (arith, half)
 
-  as-both : (own other v : View T K) → v ≡ both own other → HasGrown own other v
+  pub as-both : (own other v : View T K) → v ≡ both own other → HasGrown own other v
   as-both own other v is = subst (λ (x : View T K). HasGrown own other x) (sym is) (record {
     share = refl;
     halvings = refl;
@@ -53,7 +53,7 @@ module _ {T K : Type 0} where
     picked = seam own.picked other.picked picked v.picked is_picked j;
   }
 
-  was-both : (own other v : View T K) → v ≡ both own other → grown own other v ≡ own
+  pub was-both : (own other v : View T K) → v ≡ both own other → grown own other v ≡ own
   was-both own other v is =
       left-by own other v [] [] (ap (λ (x : View T K). x.put) is ∙ sym (append-nil (own.put ++ other.put)))
       (ap (λ (x : View T K). x.picked) is ∙ sym (append-nil (own.picked ++ other.picked)))

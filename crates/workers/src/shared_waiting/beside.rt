@@ -1,6 +1,6 @@
 //! Calls of who has two passes of a queue. For the call the first has what both have.
 
-ghost use Rattle.std.specs.Prelude.{◌≡◌, ◌<◌, [], MatchOption, MatchResult};
+ghost use Rattle.std.specs.Prelude.{◌≡◌, ◌<◌, ◌≤◌, [], MatchOption, MatchResult};
 ghost use Rattle.crossbeam_queue.specs.Fifo.{Held};
 ghost use Rattle.crossbeam_queue.specs.Passes.{view, ruled_capacity, IsPassOf};
 ghost use Rattle.workers.specs.shared_waiting.Balance.{added, taken, both, spent, grown};
@@ -96,4 +96,28 @@ pub(crate) fn admit_by<T: Fitting<K>, K, R: Wait, J: Pair<View<T, K>>>(
     let put = queue.push_as::<Puts, R>(rt, seat, message);
     give_back::<T, K, J>(queue, seat, other);
     put
+}
+
+/// How many messages there were by both passes at one moment of the call.
+pub(crate) fn count_by<T: Fitting<K>, K, R: Wait, J: Pair<View<T, K>>>(
+    queue: &RuledArrayQueue<T, View<T, K>, Fair>,
+    rt: &R,
+    seat: &mut crossbeam_queue::Pass<T, View<T, K>>,
+    other: &mut crossbeam_queue::Pass<T, View<T, K>>,
+) -> usize
+    requires of { IsPassOf queue.now seat.old × IsPassOf queue.now other.old }
+    requires live { (0 < J.own.share) × (0 < J.other.share) }
+    requires key { J.other.key ≡ J.own.key }
+    requires pair { (view seat.old ≡ J.own) × (view other.old ≡ J.other) }
+    ensures of { IsPassOf queue.now seat.new × IsPassOf queue.now other.new }
+    ensures live { 0 < (view seat.new).share }
+    ensures own { view seat.new ≡ J.own }
+    ensures other { view other.new ≡ J.other }
+    ensures most { result ≤ ruled_capacity queue.now }
+    ensures held { Held result (Leaves (both J.own J.other)) }
+{
+    take_in::<T, K>(queue, seat, other);
+    let count = queue.len_as::<Picks, R>(rt, seat);
+    give_back::<T, K, J>(queue, seat, other);
+    count
 }

@@ -7,7 +7,7 @@ ghost use Rattle.workers.specs.shared_waiting.Balance.{both};
 ghost use Rattle.workers.specs.shared_waiting.Balance.{Leaves, FitsIn};
 ghost use Rattle.workers.specs.shared_waiting.Passes.{known, IsOf};
 
-use crate::shared_waiting::beside::{admit_by, pick_by};
+use crate::shared_waiting::beside::{admit_by, count_by, pick_by};
 use crate::shared_waiting::naming::name_as;
 use crate::shared_waiting::pass::{PLACES, Pass, SharedWaiting};
 use crate::shared_waiting::view::{Cut, Fitting, Glue, Picks, Puts};
@@ -128,6 +128,23 @@ impl<T: Fitting<K> + Drop, K: Drop> SharedWaiting<T, K> {
         ensures held { Held result (Leaves (known pass.old)) }
     {
         self.queue.len_as::<Picks, R>(rt, &mut pass.seat)
+    }
+
+    /// `count` for who has two passes: how many there were by both, if these are all that there are.
+    pub fn count_beside<R: Wait>(
+        &self,
+        rt: &R,
+        pass: &mut Pass<T, K>,
+        other: &mut Pass<T, K>,
+    ) -> usize
+        requires of { IsOf self.now pass.old × IsOf self.now other.old }
+        requires key { (known other.old).key ≡ (known pass.old).key }
+        ensures same { (IsOf self.now pass.new × (known pass.new ≡ known pass.old))
+            × (IsOf self.now other.new × (known other.new ≡ known other.old)) }
+        ensures most { result ≤ 1024 }
+        ensures held { Held result (Leaves (both (known pass.old) (known other.old))) }
+    {
+        count_by::<T, K, R, Brand>(&self.queue, rt, &mut pass.seat, &mut other.seat)
     }
 
     /// What the rule tells at one moment of the call.

@@ -1,7 +1,7 @@
 use Rattle.std.proofs.Common.{◌∙◌, ap, arith}
 use Rattle.depot.specs.rule.Sums.{total}
-use Rattle.server.specs.Lanes.{seats_of, IsLaneOf}
-use Rattle.server.specs.Threads.{seats_with, ServesFor}
+use Rattle.server.specs.Lanes.{by_identity, seats_of, IsLaneOf}
+use Rattle.server.specs.Threads.{identity_with, seats_with, ServesFor}
 use Rattle.server.proofs.pool.Lists.{none-left}
 use Rattle.server.proofs.pool.Handed.{handed, all-pushed, all-popped}
 use Rattle.server.proofs.crew.join_all.Goals as goal
@@ -31,6 +31,7 @@ loop-thread-preserved g c =
           (popped.0, all-pushed (IsLaneOf filer) xs ys w is both.1 (heir.filer ∙ popped.1));
       len = omega (arith, a, l, n);
       seats = handed seats_of seats_with xs ys all rest w t is was heir.seats ∙ i.seats;
+      each = λ weigh. handed (by_identity weigh) (identity_with weigh) xs ys all rest w t is was (ap weigh heir.identity) ∙ i.each weigh;
     }
 
 pub returns-clause-of : goal.returns-clause-of
@@ -41,4 +42,11 @@ returns-clause-seats g c =
     let none = ap (total seats_with) (none-left c.loop-thread.threads.items (let z = c.in_default.ensures.cases.0 in let o = c.loop-thread.threads.ok.0 in
     omega (arith, z, o))) in
     let s = c.loop-thread.invariant.seats in
+    omega (arith, none, s)
+
+pub returns-clause-each : goal.returns-clause-each
+returns-clause-each g c weigh =
+    let none = ap (total (identity_with weigh)) (none-left c.loop-thread.threads.items (let z = c.in_default.ensures.cases.0 in let o = c.loop-thread.threads.ok.0 in
+    omega (arith, z, o))) in
+    let s = c.loop-thread.invariant.each weigh in
     omega (arith, none, s)

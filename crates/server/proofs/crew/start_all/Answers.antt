@@ -1,7 +1,8 @@
 use Rattle.std.proofs.Common.{◌∙◌, ap, arith}
 use Rattle.depot.specs.rule.Sums.{total}
-use Rattle.server.specs.Lanes.{filer_of, seats_of}
-use Rattle.server.specs.Threads.{seats_for, seats_with, IsTaskFor, ServesFor}
+use Rattle.lanes.specs.Words.{filer_in}
+use Rattle.server.specs.Lanes.{by_identity, seats_of}
+use Rattle.server.specs.Threads.{identity_for, identity_with, seats_for, seats_with, IsTaskFor, ServesFor}
 use Rattle.server.proofs.pool.Lists.{none-left}
 use Rattle.server.proofs.pool.Handed.{handed, all-pushed, all-popped}
 use Rattle.server.proofs.crew.start_all.Goals as goal
@@ -28,9 +29,10 @@ loop-task-preserved g c =
       serve = λ filer tasks serves.
           let both = i.serve filer tasks serves in
           let popped = all-popped (IsTaskFor filer) all rest x was both.0 in
-          (popped.0, all-pushed (ServesFor filer) ts us t is both.1 (ap filer_of same ∙ popped.1));
+          (popped.0, all-pushed (ServesFor filer) ts us t is both.1 (ap filer_in same ∙ popped.1));
       len = omega (arith, a, l, n);
       seats = handed seats_with seats_for ts us all rest t x is was (ap seats_of same) ∙ i.seats;
+      each = λ weigh. handed (identity_with weigh) (identity_for weigh) ts us all rest t x is was (ap (by_identity weigh) same) ∙ i.each weigh;
     }
 
 pub returns-in-Err-clause-serve : goal.returns-in-Err-clause-serve
@@ -44,4 +46,11 @@ returns-clause-seats g c all =
     let none = ap (total seats_for) (none-left c.loop-task.tasks.items (let z = c.in_default.ensures.cases.0 in let o = c.loop-task.tasks.ok.0 in
     omega (arith, z, o))) in
     let s = c.loop-task.invariant.seats in
+    omega (arith, none, s)
+
+pub returns-clause-each : goal.returns-clause-each
+returns-clause-each g c all weigh =
+    let none = ap (total (identity_for weigh)) (none-left c.loop-task.tasks.items (let z = c.in_default.ensures.cases.0 in let o = c.loop-task.tasks.ok.0 in
+    omega (arith, z, o))) in
+    let s = c.loop-task.invariant.each weigh in
     omega (arith, none, s)

@@ -1,4 +1,4 @@
-use Rattle.std.proofs.Common.{◌≡◌, ◌∙◌, ap, arith, subst, sym}
+use Rattle.std.proofs.Common.{◌≡◌, ◌∙◌, ℕ, ◌+◌, length, ap, arith, refl, subst, sym}
 use Rattle.std.specs.Arc.{arc_value}
 use Rattle.depot.specs.Words.{IsSeatHere}
 use Rattle.workers.specs.declared.shared.Filer.{Filer}
@@ -7,11 +7,16 @@ use Rattle.workers.specs.shared_waiting.Balance.{both, IsWhole}
 use Rattle.workers.specs.shared_waiting.Passes.{known}
 use Rattle.workers.specs.Balance.{Passed}
 use Rattle.workers.specs.Words.{seats_in, IsAt}
-use Rattle.server.specs.Lanes.{seats_of, IsLaneOf}
+use Rattle.lanes.specs.Words.{Identity}
+use Rattle.server.specs.Lanes.{by_place, places, places_below, seats_of, IsLaneOf}
+use Rattle.depot.specs.rule.Sums.{total}
 use Rattle.server.specs.Queues.{IsNewQueue}
 use Rattle.server.proofs.pool.Handed.{all-pushed}
 use Rattle.server.proofs.pool.Lists.{total-last}
 use Rattle.server.proofs.opening.open_lanes.Goals as goal
+
+one-place : (weigh : ℕ × ℕ → ℕ) (count n : ℕ) → total weigh (places_below count (n + 1)) ≡ weigh (n, count) + total weigh (places_below count n)
+one-place weigh count n = refl
 
 pub start-worker-requires-clause-seat : goal.start-worker-requires-clause-seat
 start-worker-requires-clause-seat g c =
@@ -66,6 +71,12 @@ loop-index-preserved g c =
           let e = ap (λ (w : Worker). seats_in w) c.in_ok-lane.ensures.worker in
           let k = i.seats in
           omega (arith, a, b, d, e, k);
+      each = λ weigh.
+          let a = total-last (by_place weigh) ys xs x is in
+          let p = ap (λ (i : Identity). weigh i.0) c.in_ok-lane.ensures.identity in
+          let e = i.each weigh in
+          let m = one-place weigh c.args.count c.loop-index.index in
+          omega (arith, a, p, e, m);
     }
 
 pub returns-clause-lanes : goal.returns-clause-lanes
@@ -82,6 +93,20 @@ returns-clause-lanes g c =
           let e = ap (λ (w : Worker). seats_in w) c.in_ok-lane-2.ensures.worker in
           let k = i.seats in
           omega (arith, a, e, k);
+      each = λ weigh.
+          let a = total-last (by_place weigh) ys xs x is in
+          let p = ap (λ (i : Identity). weigh i.0) c.in_ok-lane-2.ensures.identity in
+          let e = i.each weigh in
+          let n = c.push_reserved-2.ensures.len in
+          let l = i.len in
+          let t = c.loop-index-test.false in
+          let o = c.push_reserved-2.new.self.ok.0 in
+          let q = c.requires.count.0 in
+          let last : c.loop-index.index ≡ c.args.count = omega (arith, t, q) in
+          let m : length ys ≡ c.args.count = omega (arith, n, l, last, o) in
+          let u : total weigh (places_below c.args.count c.loop-index.index) ≡ total weigh (places (length ys)) =
+          ap (λ k. total weigh (places_below c.args.count k)) last ∙ ap (λ k. total weigh (places k)) (sym m) in
+          omega (arith, a, p, e, u);
     }
 
 pub returns-clause-count : goal.returns-clause-count

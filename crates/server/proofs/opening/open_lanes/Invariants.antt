@@ -3,7 +3,7 @@ use Rattle.std.specs.Arc.{arc_value}
 use Rattle.depot.specs.rule.Sums.{total}
 use Rattle.lanes.specs.Lanes.{HasBoth}
 use Rattle.workers.specs.Words.{entries_in, seats_in, IsAt}
-use Rattle.server.specs.Lanes.{seats_of, IsLaneOf}
+use Rattle.server.specs.Lanes.{by_place, places_below, seats_of, IsLaneOf}
 use Rattle.server.proofs.opening.open_lanes.Given as goal
 
 abbrev pub invariant-loop-index : goal.invariant-loop-index
@@ -16,4 +16,5 @@ invariant-loop-index g l = record {
   room : vec_capacity l.lanes ≡ vec_capacity l.fn.lanes;
   left : seats_in l.worker + vec_len l.lanes ≡ 64;
   seats : seats_in l.worker + total seats_of l.lanes.items ≡ 64;
+  each : (weigh : ℕ × ℕ → ℕ) → weigh (0, l.fn.count) + total (by_place weigh) l.lanes.items ≡ total weigh (places_below l.fn.count l.index);
 }

@@ -1,7 +1,7 @@
 use Rattle.std.proofs.Common.{rules, ap, ◌∙◌, refl, arith}
 use Rattle.depot.specs.rule.Sums.{total}
-use Rattle.server.specs.Lanes.{seats_of, IsLaneOf}
-use Rattle.server.specs.Threads.{seats_for, IsTaskFor}
+use Rattle.server.specs.Lanes.{by_identity, seats_of, IsLaneOf}
+use Rattle.server.specs.Threads.{identity_for, seats_for, IsTaskFor}
 use Rattle.server.proofs.pool.Handed.{handed, all-pushed, all-popped}
 use Rattle.server.proofs.pool.Lists.{none-left}
 use Rattle.server.proofs.running.man_all.Goals as goal
@@ -35,6 +35,7 @@ loop-lane-preserved g c =
           let popped = all-popped (IsLaneOf filer) all rest x was both.0 in
           (popped.0, all-pushed (IsTaskFor filer) ts us _ is both.1 popped.1);
       seats = handed seats_for seats_of ts us all rest _ x is was refl ∙ i.seats;
+      each = λ weigh. handed (identity_for weigh) (by_identity weigh) ts us all rest _ x is was refl ∙ i.each weigh;
     }
 
 pub returns-in_err-common-clause-of : goal.returns-in_err-common-clause-of
@@ -53,4 +54,10 @@ pub returns-clause-seats : goal.returns-clause-seats
 returns-clause-seats g c =
     let none = ap (total seats_of) (none-left c.loop-lane.lanes.items (let z = c.in_default.ensures.cases.0 in let o = c.loop-lane.lanes.ok.0 in omega (arith, z, o))) in
     let s = c.loop-lane.invariant.seats in
+    omega (arith, none, s)
+
+pub returns-clause-each : goal.returns-clause-each
+returns-clause-each g c weigh =
+    let none = ap (total (by_identity weigh)) (none-left c.loop-lane.lanes.items (let z = c.in_default.ensures.cases.0 in let o = c.loop-lane.lanes.ok.0 in omega (arith, z, o))) in
+    let s = c.loop-lane.invariant.each weigh in
     omega (arith, none, s)

@@ -1,8 +1,9 @@
 use Rattle.std.proofs.Common.{◌≡◌, ◌≤◌, ◌+◌, ℕ, All, vec_len, vec_capacity}
 use Rattle.depot.specs.rule.Sums.{total}
 use Rattle.workers.specs.declared.shared.Filer.{Filer}
-use Rattle.server.specs.Lanes.{seats_of, IsLaneOf}
-use Rattle.server.specs.Threads.{seats_for, IsTaskFor}
+use Rattle.lanes.specs.Words.{Identity}
+use Rattle.server.specs.Lanes.{by_identity, seats_of, IsLaneOf}
+use Rattle.server.specs.Threads.{identity_for, seats_for, IsTaskFor}
 use Rattle.server.proofs.running.man_all.Given as goal
 
 abbrev pub invariant-loop-lane : goal.invariant-loop-lane
@@ -15,6 +16,8 @@ invariant-loop-lane g l = record {
       → All (IsLaneOf filer) l.lanes.items × All (IsTaskFor filer) l.tasks.items;
   seats : total seats_for l.tasks.items + total seats_of l.lanes.items
       ≡ total seats_for l.fn.tasks.items + total seats_of l.fn.lanes.items;
+  each : (weigh : Identity → ℕ) → total (identity_for weigh) l.tasks.items + total (by_identity weigh) l.lanes.items
+      ≡ total (identity_for weigh) l.fn.tasks.items + total (by_identity weigh) l.fn.lanes.items;
 }
 
 abbrev pub decreases-loop-lane : goal.decreases-loop-lane

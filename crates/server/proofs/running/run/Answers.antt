@@ -1,6 +1,6 @@
 use Rattle.std.proofs.Common.{ap, arith, length}
 use Rattle.std.specs.Arc.{arc_value}
-use Rattle.server.proofs.Started.{lanes-back}
+use Rattle.server.proofs.Started.{all-back, lanes-back}
 use Rattle.server.proofs.running.run.Goals as goal
 
 pub join_all-lanes-requires : goal.join_all-lanes-requires
@@ -14,7 +14,12 @@ pub end-requires-clause-lanes : goal.end-requires-clause-lanes
 end-requires-clause-lanes g c =
     let filer = arc_value c.args.running.filer in
     lanes-back filer c.args.running.threads.items c.args.running.lanes.items c.join_all-lanes.result.items c.requires c.args.running.none_back
-    (c.join_all-lanes.ensures.of filer) c.join_all-lanes.ensures.seats
+    (c.join_all-lanes.ensures.of filer) c.join_all-lanes.ensures.seats c.join_all-lanes.ensures.each
+    (let none = ap (λ xs. length xs) c.args.running.none_back in
+    let n = c.args.running.lanes.ok.0 in
+    let t = c.args.running.threads.ok.0 in
+    let m = c.join_all-lanes.result.ok.0 in
+    let l = c.join_all-lanes.ensures.len in omega (arith, none, n, t, m, l))
 
 pub end-requires-clause-room : goal.end-requires-clause-room
 end-requires-clause-room g c =
@@ -25,4 +30,9 @@ end-requires-clause-room g c =
     omega (arith, none, n, l, w)
 
 pub returns-in-Ok : goal.returns-in-Ok
-returns-in-Ok g c = (c.join_all-lanes.result.items, c.end.ensures)
+returns-in-Ok g c = (
+  c.join_all-lanes.result.items,
+  all-back (arc_value c.args.running.filer) c.args.running.threads.items c.args.running.lanes.items c.join_all-lanes.result.items c.args.running.none_back
+      c.join_all-lanes.ensures.each,
+  c.end.ensures,
+)

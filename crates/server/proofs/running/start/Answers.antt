@@ -1,11 +1,21 @@
-use Rattle.std.proofs.Common.{refl}
+use Rattle.std.proofs.Common.{refl, arith}
 use Rattle.std.specs.Arc.{arc_value}
-use Rattle.server.proofs.Started.{threads-of}
+use Rattle.server.proofs.Started.{as-many, threads-of}
 use Rattle.server.proofs.running.start.Goals as goal
 
-pub returns : goal.returns
-returns g c =
+pub returns-clause-threads : goal.returns-clause-threads
+returns-clause-threads g c =
     let filer = arc_value c.in_ok-filer.filer in
     threads-of filer c.in_ok-filer.lanes.items c.in_ok-tasks.tasks.items c.man_all.new.tasks.items c.in_ok-threads.threads.items
-    c.start_all.new.threads.items c.in_ok-filer.ensures.lanes c.in_ok-tasks.ensures.items c.in_ok-threads.ensures.items
+    c.start_all.new.threads.items c.in_ok-tasks.ensures.items c.in_ok-threads.ensures.items c.in_ok-man_all.ensures.each
+    (c.if-not-start_all.ensures.each refl) c.in_ok-filer.ensures.lanes
     (c.in_ok-man_all.ensures.of filer) (c.start_all.ensures.serve filer) c.in_ok-man_all.ensures.seats (c.if-not-start_all.ensures.seats refl)
+
+pub returns-clause-count : goal.returns-clause-count
+returns-clause-count g c =
+    let filer = arc_value c.in_ok-filer.filer in
+    let a = as-many filer c.in_ok-filer.lanes.items c.in_ok-tasks.tasks.items c.man_all.new.tasks.items c.in_ok-threads.threads.items
+    c.start_all.new.threads.items c.in_ok-tasks.ensures.items c.in_ok-threads.ensures.items c.in_ok-man_all.ensures.each
+    (c.if-not-start_all.ensures.each refl) in
+    let b = c.in_ok-filer.ensures.count in
+    let d = c.in_ok-filer.lanes.ok.0 in omega (arith, a, b, d)

@@ -7,4 +7,4 @@ pub returns-in-All : goal.returns-in-All
 returns-in-All g c =
     let i = c.loop.invariant in
     let e = c.write.ensures in
-    record { filer = e.filer ∙ i.filer; seats = ap (λ (w : Worker). seats_in w) e.worker ∙ i.seats }
+    record { filer = e.filer ∙ i.filer; identity = e.identity ∙ i.identity; seats = ap (λ (w : Worker). seats_in w) e.worker ∙ i.seats }

@@ -1,4 +1,3 @@
-use Rattle.std.proofs.Math.Logic.{∥∥₁_map}
 use Rattle.std.specs.Arc.{arc_value}
 use Rattle.lanes.proofs.Inside.{at-inside}
 use Rattle.lanes.proofs.lane.Lane.into_parts.Goals as goal
@@ -9,5 +8,4 @@ returns-clause-inside g c =
     at-inside (arc_value l.filer) l.intake.queue l.worker l.inside
 
 pub returns-clause-told : goal.returns-clause-told
-returns-clause-told g c =
-    ∥∥₁_map c.args.self.story (λ s. record { came = s.came; in_order = s.in_order; endings = s.endings; admitted = s.admitted; finished = s.finished; at_once = s.at_once })
+returns-clause-told g c = c.args.self.story

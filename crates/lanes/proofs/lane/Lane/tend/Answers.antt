@@ -27,6 +27,6 @@ invariant_of-self-2 g c =
       both = both-kept l.intake.pass l.intake.pass l.worker c.tend_in.new.self (refl, refl, refl)
           (ap (λ v. v.share) c.tend_in.ensures.pass, ap (λ v. v.halvings) c.tend_in.ensures.pass, ap (λ v. v.key) c.tend_in.ensures.pass) l.both;
       picked = l.picked;
-      story = tends-told _ _ (layout_in (arc_value l.filer)) (known l.intake.pass).put l.intake.outboxes _ l.worker c.tend_in.new.self c.args.tend
+      story = tends-told _ _ (layout_in (arc_value l.filer)) l.index l.count (known l.intake.pass).put l.intake.outboxes _ l.worker c.tend_in.new.self c.args.tend
           c.tend_in.result (subst (λ (f : Filer). Tends (layout_in f) l.worker c.args.tend c.tend_in.result c.tend_in.new.self) same c.tend_in.ensures.tends) l.story;
     }
