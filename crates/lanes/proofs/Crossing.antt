@@ -72,7 +72,7 @@ intake-send R r = declared_send (Intake.the_type R) (
           search (pass.the_send, envelope-send, sendable) depth 20,
           (
             search (outboxes-send, sendable) depth 20,
-            (search sendable depth 20, (search sendable depth 20, (search (due.the_send, sendable) depth 20, tt))),
+            (search sendable depth 20, (search sendable depth 20, (search (due.the_send, sendable) depth 20, (search sendable depth 20, tt)))),
           ),
         ),
       ),

@@ -37,8 +37,8 @@ pub struct Intake<R> {
     pub(crate) most: usize,
     /// What is owed to the connection that is read.
     pub(crate) owed: Due,
-    /// Whether one that may leave blocks to tend was admitted since none waited.
-    pub(crate) may_leave_blocks: bool,
+    /// How many calls that may leave blocks to tend were admitted, wrapping at 2^64.
+    pub(crate) leaving: u64,
     pub ghost of: { IsOf queue pass },
     pub ghost layout: { layout_known (known pass) ≡ Some (layout_in filer.value) },
 }
@@ -87,13 +87,13 @@ impl<R: Wait> RecordSink for Intake<R> {
 
     fn admit(&mut self, message: Message<OfferedCall>) -> Result<(), AllocError> {
         let room = message.room;
-        let may_leave_blocks = may_leave_blocks(&message);
+        let leaving = u64::from(may_leave_blocks(&message));
         let message = in_room(self.alloc, message)?;
         match self.queue.admit(&self.rt, &mut self.pass, message) {
             Ok(()) => {
                 self.waiting = self.waiting.saturating_add(1);
                 self.owed.add(room);
-                self.may_leave_blocks = self.may_leave_blocks || may_leave_blocks;
+                self.leaving = self.leaving.wrapping_add(leaving);
                 Ok(())
             }
             Err(message) => {

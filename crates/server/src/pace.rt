@@ -16,6 +16,8 @@ pub(crate) struct Pace {
     pub(crate) patience: Patience,
     /// How many turns in a row came to a move.
     moves: u32,
+    /// How many calls that may leave blocks were admitted when no message waited last.
+    pub(crate) left: u64,
     /// When the round began.
     last: Moment,
     ghost last_is: { last.nanoseconds < 1000000000 },
@@ -28,6 +30,7 @@ impl Drop for Pace {
             tending: _,
             patience: _,
             moves: _,
+            left: _,
             last: _,
         } = self;
     }
@@ -40,6 +43,7 @@ impl Pace {
             tending: Tending::new(),
             patience: Patience::new(),
             moves: 0,
+            left: 0,
             last: Moment::START,
         }
     }

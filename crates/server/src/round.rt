@@ -101,7 +101,7 @@ fn run_calls<R: Wait>(
     let mut left = MOST_TURNS;
     for _ in 0..MOST_TURNS {
         let before = lane.waiting();
-        let may_leave_blocks = lane.may_leave_blocks();
+        let leaving = lane.leaving_calls();
         if left == 0 || before == 0 && may_rest(lane, pace) {
             return false;
         }
@@ -111,8 +111,11 @@ fn run_calls<R: Wait>(
         if finished > 0 {
             pace.finish();
         }
-        if finished > 0 && may_leave_blocks {
+        if finished > 0 && leaving != pace.left {
             common.untended.leave();
+        }
+        if lane.waiting() == 0 {
+            pace.left = leaving;
         }
         let goes_on = match chained {
             Chained::Done => true,

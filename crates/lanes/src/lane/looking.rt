@@ -37,9 +37,9 @@ impl<D: Device, R> Lane<D, R> {
         &self.worker
     }
 
-    /// Whether a call that may leave blocks to tend was admitted since no message waited.
-    pub fn may_leave_blocks(&self) -> bool {
-        self.intake.may_leave_blocks
+    /// How many calls that may leave blocks to tend were admitted, wrapping at 2^64.
+    pub fn leaving_calls(&self) -> u64 {
+        self.intake.leaving
     }
 
     /// Whether so much may be owed to a connection that is read further.

@@ -67,7 +67,7 @@ impl<D: Device, R> Lane<D, R> {
                 waiting: 0,
                 most: PLACES / lanes,
                 owed: Due::nothing(),
-                may_leave_blocks: false,
+                leaving: 0,
             },
             filer,
             worker,

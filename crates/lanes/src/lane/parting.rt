@@ -50,7 +50,7 @@ impl<D: Device + Drop, R: Drop> Lane<D, R> {
             waiting: _,
             most: _,
             owed: _,
-            may_leave_blocks: _,
+            leaving: _,
         } = intake;
         LaneParts {
             worker,

@@ -59,9 +59,7 @@ impl<D: Device, R: Wait> Lane<D, R> {
             &mut self.intake.pass,
             &self.intake.rt,
         );
-        let waiting = queued + usize::from(self.worker.keeps_message());
-        self.intake.waiting = waiting;
-        self.intake.may_leave_blocks = self.intake.may_leave_blocks && waiting > 0;
+        self.intake.waiting = queued + usize::from(self.worker.keeps_message());
         chained
     }
 }
