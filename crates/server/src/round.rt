@@ -89,6 +89,18 @@ fn take_mail<R: Wait>(rt: &R, lane: &mut Lane<Socket, R>, station: &mut Station)
     }
 }
 
+/// Tells all lanes that calls may have left blocks, where some that may were admitted since no
+/// message waited last.
+fn tell_left<R>(lane: &Lane<Socket, R>, pace: &mut Pace, common: &Common) {
+    let leaving = lane.leaving_calls();
+    if leaving != pace.left {
+        common.untended.leave();
+    }
+    if lane.waiting() == 0 {
+        pace.left = leaving;
+    }
+}
+
 /// Makes turns until no message waits, or 64. Answers whether the last found none.
 fn run_calls<R: Wait>(
     lane: &mut Lane<Socket, R>,
@@ -101,7 +113,6 @@ fn run_calls<R: Wait>(
     let mut left = MOST_TURNS;
     for _ in 0..MOST_TURNS {
         let before = lane.waiting();
-        let leaving = lane.leaving_calls();
         if left == 0 || before == 0 && may_rest(lane, pace) {
             return false;
         }
@@ -110,12 +121,7 @@ fn run_calls<R: Wait>(
         left = left.saturating_sub(finished.max(1));
         if finished > 0 {
             pace.finish();
-        }
-        if finished > 0 && leaving != pace.left {
-            common.untended.leave();
-        }
-        if lane.waiting() == 0 {
-            pace.left = leaving;
+            tell_left(lane, pace, common);
         }
         let goes_on = match chained {
             Chained::Done => true,
