@@ -1,4 +1,4 @@
-use Rattle.std.proofs.Common.{◌≡◌, ◌∙◌, ℕ, ◌+◌, length, ap, arith, refl, subst, sym}
+use Rattle.std.proofs.Common.{◌≡◌, ◌∙◌, ℕ, suc, ◌+◌, length, ap, arith, subst, sym}
 use Rattle.std.specs.Arc.{arc_value}
 use Rattle.depot.specs.Words.{IsSeatHere}
 use Rattle.workers.specs.declared.shared.Filer.{Filer}
@@ -16,7 +16,7 @@ use Rattle.server.proofs.pool.Lists.{total-last}
 use Rattle.server.proofs.opening.open_lanes.Goals as goal
 
 one-place : (weigh : ℕ × ℕ → ℕ) (count n : ℕ) → total weigh (places_below count (n + 1)) ≡ weigh (n, count) + total weigh (places_below count n)
-one-place weigh count n = refl
+one-place weigh count n = let e : n + 1 ≡ suc n = omega arith in ap (λ m. total weigh (places_below count m)) e
 
 pub start-worker-requires-clause-seat : goal.start-worker-requires-clause-seat
 start-worker-requires-clause-seat g c =
