@@ -4,6 +4,9 @@ use Rattle.depot.specs.rule.History.{entries_of}
 use Rattle.depot.specs.rule.Sums.{total}
 use Rattle.parcels.specs.state.Jobs.{batches_in}
 use Rattle.workers.specs.Balance.{by_key}
+use Rattle.workers.specs.Words.{entries_in, layout_in, verifier_in, HasOpened, IsAt}
+use Rattle.workers.specs.declared.shared.Filer.{Filer}
+use Rattle.workers.specs.declared.worker.Worker.{Worker}
 use Rattle.workers.specs.shared_waiting.Passes.{known}
 use Rattle.server.specs.Remains.{calls_in}
 use Rattle.server.proofs.Remaining.{calls-both}
@@ -13,6 +16,28 @@ use Rattle.server.proofs.gathering.join.Goals as goal
 pub join_seat-requires-clause-first : goal.join_seat-requires-clause-first
 join_seat-requires-clause-first g c =
     subst (λ d. IsSeatHere d c.args.remains.seat) (sym c.depot.ensures) c.requires.inside.seat
+
+pub join_seat-requires-clause-second : goal.join_seat-requires-clause-second
+join_seat-requires-clause-second g c =
+    let p = c.into_parts-worker.result in
+    let at = subst (λ (f : Filer). IsAt f p.queue p.worker) c.requires.of c.into_parts-worker.ensures.inside in
+    subst (λ d. IsSeatHere d c.into_parts-other.result.seat) (sym c.depot.ensures)
+    (subst (λ s. IsSeatHere c.args.filer.now.depot s) (sym c.into_parts-other.ensures.of.seat) at.seat)
+
+pub returns-clause-inside : goal.returns-clause-inside
+returns-clause-inside g c =
+    let filer = c.args.filer.now in
+    record {
+      seat = subst (λ d. IsSeatHere d c.join_seat.result) c.depot.ensures c.join_seat.ensures.seat;
+      opened = subst (λ v. HasOpened (layout_in filer) (verifier_in filer) v) (sym c.join_seat.ensures.joined) c.requires.inside.opened;
+    }
+
+pub returns-clause-entries : goal.returns-clause-entries
+returns-clause-entries g c weight =
+    c.join_seat.ensures.entries weight
+    ∙ ap (λ n. total weight (entries_of (view c.args.remains.seat)) + n)
+    (ap (λ s. total weight (entries_of (view s))) c.into_parts-other.ensures.of.seat
+    ∙ ap (λ (w : Worker). total weight (entries_in w)) c.into_parts-worker.ensures.worker)
 
 pub invariant_of-result : goal.invariant_of-result
 invariant_of-result g c =
