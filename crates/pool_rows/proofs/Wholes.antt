@@ -85,21 +85,28 @@ unstarted filer view splits pass first second v rest ready only nothing of'' lay
     }
 
 -- the only worker of a filer
-pub opened : (filer : Filer) (view : FilerView) (splits : ℕ) (pass first second : FilerPass) (worker : Worker)
-    → IsUnstarted filer view splits pass first second → IsIn filer worker → seats_in worker ≡ splits + 1 → passed worker ≡ known pass
-    → IsOpened filer worker first second
-opened filer view splits pass first second worker o inside seats same =
+pub opened : (filer : Filer) (worker : Worker) (first second : FilerPass) (v : Passed) (rest : FilerPass) → IsIn filer worker → seats_in worker ≡ 64
+    → layout_known v ≡ Some (layout_in filer) → IsOf filer.waiting first → IsOf filer.waiting second → IsWhole v → passed worker ≡ left v
+    → known rest ≡ right v → known first ≡ left (known rest) → known second ≡ right (known rest) → IsOpened filer worker first second
+opened filer worker first second v rest inside seats layout of of' whole l r rl rr =
     record {
       inside = inside;
-      seats = let s = o.only in omega (arith, seats, s);
-      one = o.one;
-      other = o.other;
+      seats = seats;
+      one = reads filer v (known rest) first layout r of (ap (λ (w : Passed). w.key) rl)
+          (ap (λ (w : Passed). w.picked) rl ∙ ap (λ (w : Passed). w.picked) r);
+      other = reads filer v (known rest) second layout r of' (ap (λ (w : Passed). w.key) rr) (ap (λ (w : Passed). w.picked) rr);
       whole = (
-        o.whole.0,
+        v.halvings + 2,
         λ k le.
-            let a : share_of k worker ≡ share_in k pass = ap (λ (w : Passed). part k w) same in
-            let b = o.whole.1 k le in
-            omega (arith, a, b),
+            let n : (known rest).halvings ≡ v.halvings + 1 = ap (λ (w : Passed). w.halvings) r in
+            let a : share_of k worker ≡ part k (left v) = ap (λ (w : Passed). part k w) l in
+            let b : part k (known rest) ≡ part k (right v) = ap (λ (w : Passed). part k w) r in
+            let c : share_in k first ≡ part k (left (known rest)) = ap (λ (w : Passed). part k w) rl in
+            let d : share_in k second ≡ part k (right (known rest)) = ap (λ (w : Passed). part k w) rr in
+            let e = halves k (known rest) (omega (arith, n, le)) in
+            let f = halves k v (omega (arith, le)) in
+            let g = all-parts k v (omega (arith, le)) whole in
+            omega (arith, a, b, c, d, e, f, g),
       );
     }
 

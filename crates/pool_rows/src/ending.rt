@@ -1,10 +1,11 @@
 //! The end of a filer.
 
-ghost use Rattle.std.specs.Prelude.{IfOk};
+ghost use Rattle.std.specs.Prelude.{◌≡◌, [], ◌∷◌, IfOk};
 ghost use Rattle.std.specs.Arc.{arc_value};
 ghost use Rattle.server.specs.pool.Gathered.{IsLeftOf};
 ghost use Rattle.pool_rows.specs.Threads.{IsRunning};
 
+use crate::putting::FilerPass;
 use crate::running::Running;
 use server::pool::{Ended, Left, close};
 use std::alloc::{AllocError, Global};
@@ -17,6 +18,18 @@ use workers::Filer;
 pub(crate) struct Stopped {
     pub(crate) filer: Arc<Filer>,
     pub(crate) left: Left,
+}
+
+/// A list of two passes.
+fn list_passes(
+    alloc: Global,
+    first: FilerPass,
+    second: FilerPass,
+) -> Result<Vec<FilerPass>, AllocError>
+    ensures { IfOk result (λ passes. passes.items ≡ first ∷ second ∷ []) }
+{
+    let passes = vec![in alloc; first, second]?;
+    Ok(passes)
 }
 
 /// Stops the workers, and gathers what is left.
@@ -34,9 +47,13 @@ pub(crate) fn stop<R: Threads + Wait>(
         first,
         second,
     } = running;
-    let passes = vec![in alloc; first, second]?;
-    let left = pool.stop(rt, passes);
-    Ok(Stopped { filer, left })
+    match list_passes(alloc, first, second) {
+        Ok(passes) => {
+            let left = pool.stop(rt, passes);
+            Ok(Stopped { filer, left })
+        }
+        Err(refused) => Err(refused),
+    }
 }
 
 /// Closes a filer, where none else has it.

@@ -12,6 +12,9 @@ use std::alloc::{AllocError, Global};
 use std::sync::Arc;
 use workers::{Filer, Service, Worker};
 
+/// The write verifier of each filer.
+const VERIFIER: [u8; 8] = [9; 8];
+
 /// A filer with its only seat and a pass, before any worker runs, and the passes of two who put
 /// messages.
 #[derive(Drop)]
@@ -51,13 +54,13 @@ fn layout(alloc: Global, volumes: Volumes) -> Result<Layout, AllocError> {
     }
 }
 
-/// A filer before any worker runs. Its write verifier is eight nines.
+/// A filer before any worker runs.
 pub(crate) fn open(alloc: Global, volumes: Volumes) -> Result<Opened, AllocError>
     ensures seat { IfOk result (λ o. IsSeatHere (arc_value o.filer).depot o.seat) }
     ensures opened { IfOk result (λ o. IsUnstarted (arc_value o.filer) (view o.seat)
         (splits_left o.seat) o.pass o.first o.second) }
 {
-    let (filer, seat, pass) = Filer::new(alloc, layout(alloc, volumes)?, [9; 8])?;
+    let (filer, seat, pass) = Filer::new(alloc, layout(alloc, volumes)?, VERIFIER)?;
     let (pass, rest) = filer.waiting().split_pass(pass);
     let (first, second) = filer.waiting().split_pass(rest);
     Ok(Opened {
@@ -76,13 +79,9 @@ pub(crate) fn open_filer(
 ) -> Result<(Arc<Filer>, Worker, FilerPass, FilerPass), AllocError>
     ensures { IfOk result (λ made. IsOpened (arc_value made.0) made.1 made.2 made.3) }
 {
-    let Opened {
-        filer,
-        seat,
-        pass,
-        first,
-        second,
-    } = open(alloc, volumes)?;
+    let (filer, seat, pass) = Filer::new(alloc, layout(alloc, volumes)?, VERIFIER)?;
+    let (pass, rest) = filer.waiting().split_pass(pass);
+    let (first, second) = filer.waiting().split_pass(rest);
     let worker = Worker::first(&filer, seat, pass);
-    Ok((filer, worker, first, second))
+    Ok((Arc::new(alloc, filer)?, worker, first, second))
 }

@@ -1,16 +1,12 @@
 -- Workers and threads, handed from one list to another.
-use Rattle.std.proofs.Common.{◌≡◌, ℕ, ◌+◌, ◌-◌, ◌*◌, ◌^◌, List, [], ◌∷◌, ◌++◌, Option, Some, None, option_to_list, IfSome, All, ap, arith, sym, subst, ◌∙◌}
+use Rattle.std.proofs.Common.{◌≡◌, ℕ, ◌+◌, ◌-◌, ◌*◌, ◌^◌, List, [], ◌∷◌, ◌++◌, Some, All, ap, arith, sym, subst, ◌∙◌}
 use Rattle.std.proofs.lemmas.List.Elements.{All-push, All-pop}
-use Rattle.std.specs.Arc.{arc_value}
 use Rattle.depot.specs.rule.Sums.{total}
 use Rattle.depot.specs.rule.lemmas.Sums.{total-append}
-use Rattle.workers.specs.shared_waiting.Balance.{part}
 use Rattle.server.specs.pool.Heirs.{IsHeir}
 use Rattle.server.specs.pool.Shares.{share_of}
-use Rattle.server.specs.pool.Threads.{Thread, ServesIn}
-use Rattle.workers.specs.declared.shared.Filer.{Filer}
 use Rattle.workers.specs.declared.worker.Worker.{Worker}
-use Rattle.workers.specs.Words.{passed, seats_in, IsIn}
+use Rattle.workers.specs.Words.{passed}
 
 -- the last of one list becomes the last of another
 pub handed : {X Y : Type 0} → (f : X → ℕ) (g : Y → ℕ) (xs ys : List X) (hs rest : List Y) (y : X) (h : Y)
@@ -32,12 +28,3 @@ all-popped P xs rest x is all = All-pop P xs rest (Some x) is all
 pub same-share : (k : ℕ) (before after : Worker) → IsHeir before after → share_of k after ≡ share_of k before
 same-share k before after heir =
     ap (λ n. n * 2 ^ (k - (passed after).halvings)) heir.0.0 ∙ ap (λ n. (passed before).share * 2 ^ (k - n)) heir.0.1
-
--- another in the place of the last
-pub replaced : {X : Type 0} → (f : X → ℕ) (all rest ys : List X) (x y : X) → all ≡ rest ++ x ∷ [] → ys ≡ rest ++ y ∷ [] → f y ≡ f x → total f ys ≡ total f all
-replaced f all rest ys x y was is same =
-    let a = ap (total f) is in
-    let b = total-append f rest (y ∷ []) in
-    let c = ap (total f) was in
-    let d = total-append f rest (x ∷ []) in
-    omega (arith, a, b, c, d, same)

@@ -1,4 +1,4 @@
-use Rattle.std.proofs.Common.{◌≡◌, ◌+◌, ℕ, ◌∙◌, All, arith, subst}
+use Rattle.std.proofs.Common.{◌∙◌, arith, subst}
 use Rattle.server.specs.pool.Shares.{share_of}
 use Rattle.server.specs.pool.Threads.{seats_with, share_with, started_with, ServesIn}
 use Rattle.server.proofs.pool.Handed.{handed, all-pushed, all-popped, same-share}

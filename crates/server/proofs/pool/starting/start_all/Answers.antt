@@ -1,9 +1,7 @@
-use Rattle.std.proofs.Common.{◌≡◌, ◌+◌, ℕ, ◌∙◌, All, ap, arith}
+use Rattle.std.proofs.Common.{◌∙◌, ap, arith}
 use Rattle.std.specs.Arc.{arc_value}
-use Rattle.depot.specs.rule.Sums.{total}
 use Rattle.server.specs.pool.Threads.{started_with, ServesIn}
 use Rattle.server.proofs.pool.Handed.{handed, all-pushed, all-popped}
-use Rattle.server.proofs.pool.Lists.{none-left}
 use Rattle.workers.specs.Words.{IsIn}
 use Rattle.server.proofs.pool.starting.start_all.Goals as goal
 
