@@ -1,2 +1,0 @@
-mod Crossing
-mod Wholes
