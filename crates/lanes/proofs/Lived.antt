@@ -215,8 +215,7 @@ module _ {D : Type 0} (unread written : D → Option (List ℕ)) (layout : Layou
 
         here : HasLived unread written layout s.came s.endings (opened boxes) slots' (number_at lane lanes s.opened) (lives' s.opened)
         here = subst (λ (x : Life D). HasLived unread written layout s.came s.endings (opened boxes) slots' (number_at lane lanes s.opened) x)
-            (sym (changed-here s.lives s.opened (Open key)))
-            (
+            (sym (changed-here s.lives s.opened (Open key))) (
               c,
               [],
               sets.0,
@@ -442,9 +441,12 @@ module _ {D : Type 0} (unread written : D → Option (List ℕ)) (layout : Layou
           (λ n. there k few n);
       known = λ other d is. either other key ((k : ℕ) × (k < s.opened) × (lives' k ≡ Open other))
           (λ e. absurd (none-is d (sym sets.0 ∙ ap slots' (sym e) ∙ is)))
-          (λ n. let f = s.known other d (sym (sets.1 other n) ∙ is) in
-          (f.0, f.1, changed-there s.lives at closed f.0
-          (λ e. n (ap key_of (sym f.2 ∙ ap s.lives e ∙ is-open key c was))) ∙ f.2));
+          (λ n. let f = s.known other d (sym (sets.1 other n) ∙ is) in (
+            f.0,
+            f.1,
+            changed-there s.lives at closed f.0
+                (λ e. n (ap key_of (sym f.2 ∙ ap s.lives e ∙ is-open key c was))) ∙ f.2,
+          ));
       only = s.only;
     }
       where

@@ -4,6 +4,7 @@ use nfs_values::Moment;
 use std::sync::atomic::{AtomicBool, AtomicU64, Ordering};
 
 const NANOSECONDS_OF_A_MILLISECOND: u32 = 1_000_000;
+
 const MILLISECONDS_OF_A_SECOND: u64 = 1_000;
 
 /// Whether calls may have left blocks to tend, and when a lane last began to. One lane tends for
