@@ -3,11 +3,11 @@ use Rattle.std.proofs.Common.{◌≡◌, ◌≢◌, ℕ, List, [], ◌∷◌, re
 use mathlib.Core.Option.{some}
 use lib.ListN.{get_elem?}
 use Rattle.atomic_table.proofs.Lists.{at_set}
-use Rattle.depot.specs.declared.rule.view.View.{View}
-use Rattle.affinity_tree.specs.Ancestors.{Excludes}
-use Rattle.depot.specs.rule.Seats.{both_held}
-use Rattle.depot.specs.rule.lemmas.Trees.{excludes-back}
-use Rattle.depot.proofs.rule.Joining.{none-held, held-of}
+use Rattle.depot_rule.specs.declared.view.View.{View}
+use Rattle.affinity.specs.Ancestors.{Excludes}
+use Rattle.depot_rule.specs.Seats.{both_held}
+use Rattle.depot_rule.specs.lemmas.Trees.{excludes-back}
+use Rattle.depot_rule.proofs.Joining.{none-held, held-of}
 use Rattle.depot.specs.Calls.{known}
 use Rattle.depot.specs.Holds.{IsApart}
 

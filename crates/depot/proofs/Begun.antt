@@ -7,31 +7,31 @@ use native.Mathlib.Decide.{ℕ_discrete}
 use lib.ListN.{get_elem?}
 use Rattle.atomic_table.proofs.Lists.{at_set, set_here, at_longer}
 use Rattle.nfs_model.specs.Tree.{Layout, Affinity}
-use Rattle.affinity_tree.specs.declared.affinity.Kind.{Kind}
-use Rattle.affinity_tree.specs.Affinity.{kind_of}
-use Rattle.affinity_tree.specs.Fault.{fault_of}
-use Rattle.affinity_tree.specs.Tree.{IsNode}
-use Rattle.affinity_tree.specs.Under.{IsUnder}
-use Rattle.affinity_tree.specs.Numbers.{number_of, node_count, parents}
-use Rattle.affinity_tree.specs.lemmas.Smaller.{length-parents}
-use Rattle.parcel_sets.specs.Exact.{HasExactly}
-use Rattle.parcel_sets.specs.Moved as moving
-use Rattle.depot.specs.declared.rule.view.View.{View}
-use Rattle.depot.specs.declared.rule.view.Read.{Read}
-use Rattle.affinity_tree.specs.Ancestors.{tally, IsTree, ancestors, Covers}
-use Rattle.depot.specs.rule.Shares.{worn, Has, made, grant_shares}
-use Rattle.depot.specs.rule.Seats.{OnOne, view_of}
-use Rattle.depot.specs.rule.Plays.{IsOnly, Counts}
-use Rattle.depot.proofs.rule.Grants.{at-length}
-use Rattle.depot.proofs.rule.Places.{one-view, of-one}
-use Rattle.depot.specs.rule.lemmas.Trees.{cover-excludes, above-smaller}
+use Rattle.affinity.specs.declared.affinity.Kind.{Kind}
+use Rattle.affinity.specs.Affinity.{kind_of}
+use Rattle.affinity.specs.Fault.{fault_of}
+use Rattle.affinity.specs.Tree.{IsNode}
+use Rattle.affinity.specs.Under.{IsUnder}
+use Rattle.affinity.specs.Numbers.{number_of, node_count, parents}
+use Rattle.affinity.specs.lemmas.Smaller.{length-parents}
+use Rattle.parcels.specs.Exact.{HasExactly}
+use Rattle.parcels.specs.Moved as moving
+use Rattle.depot_rule.specs.declared.view.View.{View}
+use Rattle.depot_rule.specs.declared.view.Read.{Read}
+use Rattle.affinity.specs.Ancestors.{tally, IsTree, ancestors, Covers}
+use Rattle.depot_rule.specs.Shares.{worn, Has, made, grant_shares}
+use Rattle.depot_rule.specs.Seats.{OnOne, view_of}
+use Rattle.depot_rule.specs.Plays.{IsOnly, Counts}
+use Rattle.depot_rule.proofs.Grants.{at-length}
+use Rattle.depot_rule.proofs.Places.{one-view, of-one}
+use Rattle.depot_rule.specs.lemmas.Trees.{cover-excludes, above-smaller}
 use Rattle.depot.specs.Calls.{IsAmong, IsRead, Refuses, IsExcluded, IsGranted, WasRefused, own_views, known}
 use Rattle.depot.specs.Holds.{untaken, Handled, IsGathered, IsApart}
 use Rattle.depot.proofs.Apart.{more-apart}
 use Rattle.depot.specs.Grants.{IsSeatOf, ListsAs, IsBegun, IsBusy, IsWorn}
 use Rattle.depot.proofs.Moves.{among-later, placed-one}
 use Rattle.depot.proofs.Holding.{is-untaken}
-use Rattle.affinity_tree.specs.lemmas.Standing.{parents-tree, number-place, under-place, covers-under, under-covers}
+use Rattle.affinity.specs.lemmas.Standing.{parents-tree, number-place, under-place, covers-under, under-covers}
 
 -- what a taking took was there, and isn't any more
 pub moved-some : {T : Type 0} (before taken after : Option T) (p : T) → taken ≡ Some p → moving.Moved before taken after → (before ≡ Some p) × (after ≡ None)

@@ -1,6 +1,6 @@
 -- A seat between two calls: what has to hold of its views.
 use Rattle.std.proofs.Common.{◌≡◌, ℕ, ◌+◌, List, [], ◌∷◌, length, ap, ◌∙◌}
-use Rattle.depot.specs.declared.rule.view.View.{View}
+use Rattle.depot_rule.specs.declared.view.View.{View}
 use Rattle.depot.specs.Calls.{own_views, known}
 use Rattle.depot.specs.Holds.{IsGathered, IsApart}
 use Rattle.depot.proofs.Apart.{apart-of}

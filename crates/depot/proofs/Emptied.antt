@@ -8,18 +8,18 @@ use mathlib.Core.Option.{some, some-injective, some-ne-none}
 use lib.ListN.{get_elem?}
 use Rattle.atomic_table.proofs.Lists.{at_set, set_here, set_else}
 use Rattle.nfs_model.specs.Tree.{Layout, Affinity, Serial, Aggregate, Volume, Logical, Stripe, Vbn, Range}
-use Rattle.affinity_tree.specs.declared.affinity.Kind.{Kind}
-use Rattle.affinity_tree.specs.Numbers.{number_of, parents}
-use Rattle.affinity_tree.specs.Tree.{IsNode}
-use Rattle.affinity_tree.specs.Under.{IsUnder}
-use Rattle.parcel_sets.specs.Exact.{Under, HasExactly, IsPlaced}
-use Rattle.parcel_sets.specs.Moved.{Moved}
+use Rattle.affinity.specs.declared.affinity.Kind.{Kind}
+use Rattle.affinity.specs.Numbers.{number_of, parents}
+use Rattle.affinity.specs.Tree.{IsNode}
+use Rattle.affinity.specs.Under.{IsUnder}
+use Rattle.parcels.specs.Exact.{Under, HasExactly, IsPlaced}
+use Rattle.parcels.specs.Moved.{Moved}
 use Rattle.depot.specs.Closed.{value_of, if_filled, left_at}
 use Rattle.depot.specs.Kinds.{AreOfKind}
-use Rattle.affinity_tree.specs.lemmas.Standing.{place-node, under-place}
-use Rattle.depot.specs.declared.rule.view.View.{View}
-use Rattle.depot.specs.declared.rule.view.Entry.{Entry}
-use Rattle.depot.specs.rule.History.{Behaviour, listed, after}
+use Rattle.affinity.specs.lemmas.Standing.{place-node, under-place}
+use Rattle.depot_rule.specs.declared.view.View.{View}
+use Rattle.depot_rule.specs.declared.view.Entry.{Entry}
+use Rattle.depot_rule.specs.History.{Behaviour, listed, after}
 use Rattle.depot.proofs.Opened.{Whole}
 
 within-there : {A : Type 0} (xs : List A) (k : ℕ) → k < length xs → get_elem? xs k ≢ maybe.none

@@ -7,30 +7,30 @@ use native.Mathlib.Decide.{dec_lt}
 use lib.ListN.{get_elem?}
 use Rattle.atomic_table.proofs.Lists.{at_set, set_here}
 use Rattle.nfs_model.specs.Tree.{Layout, Affinity}
-use Rattle.affinity_tree.specs.declared.affinity.Kind.{Kind}
-use Rattle.affinity_tree.specs.Fault.{fault_of}
-use Rattle.affinity_tree.specs.Tree.{IsNode}
-use Rattle.affinity_tree.specs.Under.{IsUnder}
-use Rattle.affinity_tree.specs.Numbers.{number_of, node_count, parents}
-use Rattle.affinity_tree.specs.lemmas.Smaller.{length-parents}
-use Rattle.parcel_sets.specs.Exact.{Under, HasExactly}
-use Rattle.depot.specs.declared.rule.view.View.{View}
-use Rattle.depot.specs.declared.rule.view.Read.{Read}
-use Rattle.affinity_tree.specs.Ancestors.{tally, IsTree, Covers, Excludes}
-use Rattle.depot.specs.rule.Shares.{Has}
-use Rattle.depot.specs.declared.rule.view.Entry.{Entry}
-use Rattle.depot.specs.rule.History.{Behaviour, by_number, covers}
-use Rattle.depot.specs.rule.Seats.{view_of}
-use Rattle.depot.proofs.rule.Places.{one-view}
-use Rattle.depot.proofs.rule.Grants.{at-length}
-use Rattle.depot.specs.rule.lemmas.Trees.{cover-excludes}
+use Rattle.affinity.specs.declared.affinity.Kind.{Kind}
+use Rattle.affinity.specs.Fault.{fault_of}
+use Rattle.affinity.specs.Tree.{IsNode}
+use Rattle.affinity.specs.Under.{IsUnder}
+use Rattle.affinity.specs.Numbers.{number_of, node_count, parents}
+use Rattle.affinity.specs.lemmas.Smaller.{length-parents}
+use Rattle.parcels.specs.Exact.{Under, HasExactly}
+use Rattle.depot_rule.specs.declared.view.View.{View}
+use Rattle.depot_rule.specs.declared.view.Read.{Read}
+use Rattle.affinity.specs.Ancestors.{tally, IsTree, Covers, Excludes}
+use Rattle.depot_rule.specs.Shares.{Has}
+use Rattle.depot_rule.specs.declared.view.Entry.{Entry}
+use Rattle.depot_rule.specs.History.{Behaviour, by_number, covers}
+use Rattle.depot_rule.specs.Seats.{view_of}
+use Rattle.depot_rule.proofs.Places.{one-view}
+use Rattle.depot_rule.proofs.Grants.{at-length}
+use Rattle.depot_rule.specs.lemmas.Trees.{cover-excludes}
 use Rattle.depot.specs.Calls.{known}
 use Rattle.depot.proofs.Moves.{no-path}
 use Rattle.depot.specs.Holds.{Lists, IsGathered}
 use Rattle.depot.specs.Grants.{entry_of, IsSeatOf, HasWith, IsStep, HasInHand, IsStamped, IsEnded, IsFinished}
-use Rattle.depot.specs.rule.lemmas.Covering.{covers-true, true-covers}
-use Rattle.depot.specs.rule.lemmas.Listed.{by-number-at}
-use Rattle.affinity_tree.specs.lemmas.Standing.{under-place, covers-under, under-covers}
+use Rattle.depot_rule.specs.lemmas.Covering.{covers-true, true-covers}
+use Rattle.depot_rule.specs.lemmas.Listed.{by-number-at}
+use Rattle.affinity.specs.lemmas.Standing.{under-place, covers-under, under-covers}
 
 some-same : {T : Type 0} (x y : T) → Some x ≡ Some y → x ≡ y
 some-same x y e = cc

@@ -7,15 +7,15 @@ use mathlib.Core.Option.{some, some-injective, some-ne-none}
 use mathlib.Core.Logic.{dite}
 use native.Mathlib.Decide.{ℕ_discrete}
 use lib.ListN.{get_elem?}
-use Rattle.depot.specs.declared.rule.view.View.{View}
-use Rattle.depot.specs.declared.rule.view.Read.{Read}
-use Rattle.affinity_tree.specs.Ancestors.{tally, Covers}
-use Rattle.depot.specs.rule.Sums.{without}
-use Rattle.depot.specs.rule.Shares.{Has}
-use Rattle.depot.specs.rule.History.{covers}
-use Rattle.depot.specs.rule.Seats.{view_of}
-use Rattle.depot.specs.rule.lemmas.Covering.{covers-true, true-covers}
-use Rattle.depot.specs.rule.lemmas.Sums.{one-same, one-other, tally-without}
+use Rattle.depot_rule.specs.declared.view.View.{View}
+use Rattle.depot_rule.specs.declared.view.Read.{Read}
+use Rattle.affinity.specs.Ancestors.{tally, Covers}
+use Rattle.depot_rule.specs.Sums.{without}
+use Rattle.depot_rule.specs.Shares.{Has}
+use Rattle.depot_rule.specs.History.{covers}
+use Rattle.depot_rule.specs.Seats.{view_of}
+use Rattle.depot_rule.specs.lemmas.Covering.{covers-true, true-covers}
+use Rattle.depot_rule.specs.lemmas.Sums.{one-same, one-other, tally-without}
 use Rattle.depot.specs.Holds.{listed_by, is_untaken, untaken, Lists}
 
 -- ---- small cases

@@ -2,14 +2,14 @@
 use Rattle.std.proofs.Common.{◌≡◌, ℕ, ◌<◌, List, [], ◌∷◌, ◌++◌, length, set, slice_index_or, refl, sym, ap, ◌∙◌, subst, arith, append_assoc, Option, Some, None}
 use mathlib.Core.Option.{some, some-injective}
 use lib.ListN.{get_elem?}
-use Rattle.parcel_sets.specs.Moved.{Moved}
-use Rattle.depot.specs.declared.rule.view.View.{View}
-use Rattle.depot.specs.declared.rule.view.Read.{Read}
-use Rattle.affinity_tree.specs.Ancestors.{tally, Covers, Excludes}
-use Rattle.depot.specs.rule.Shares.{Has}
-use Rattle.depot.specs.rule.Parcels.{has_out}
-use Rattle.depot.specs.rule.Seats.{view_of}
-use Rattle.depot.specs.rule.lemmas.Sums.{one-other}
+use Rattle.parcels.specs.Moved.{Moved}
+use Rattle.depot_rule.specs.declared.view.View.{View}
+use Rattle.depot_rule.specs.declared.view.Read.{Read}
+use Rattle.affinity.specs.Ancestors.{tally, Covers, Excludes}
+use Rattle.depot_rule.specs.Shares.{Has}
+use Rattle.depot_rule.specs.Parcels.{has_out}
+use Rattle.depot_rule.specs.Seats.{view_of}
+use Rattle.depot_rule.specs.lemmas.Sums.{one-other}
 use Rattle.depot.specs.Holds.{untaken, Handled}
 use Rattle.depot.specs.Grants.{HasWith, IsEnded}
 use Rattle.depot.proofs.Holding.{untaken-is}

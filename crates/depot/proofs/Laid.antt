@@ -4,16 +4,16 @@ use Rattle.std.proofs.Common.{Some, None, IfSome, ⊎_elim}
 use Rattle.std.proofs.lemmas.List.{ext_get_or, length-replicate}
 use Rattle.std.proofs.lemmas.Bool.{cases_lt}
 use Rattle.nfs_model.specs.Tree.{Layout, Serial}
-use Rattle.affinity_tree.specs.declared.affinity.Kind.{Kind}
-use Rattle.affinity_tree.specs.Numbers.{number_of, parents}
-use Rattle.parcel_sets.specs.Exact.{Under, HasExactly, IsPlaced}
-use Rattle.parcel_sets.specs.Moved.{Moved}
-use Rattle.depot.specs.declared.rule.view.View.{View}
-use Rattle.depot.specs.rule.Shares.{opening_view}
-use Rattle.depot.specs.rule.History.{by_number}
-use Rattle.depot.specs.rule.lemmas.Listed.{by-number-length, by-number-at}
+use Rattle.affinity.specs.declared.affinity.Kind.{Kind}
+use Rattle.affinity.specs.Numbers.{number_of, parents}
+use Rattle.parcels.specs.Exact.{Under, HasExactly, IsPlaced}
+use Rattle.parcels.specs.Moved.{Moved}
+use Rattle.depot_rule.specs.declared.view.View.{View}
+use Rattle.depot_rule.specs.Shares.{opening_view}
+use Rattle.depot_rule.specs.History.{by_number}
+use Rattle.depot_rule.specs.lemmas.Listed.{by-number-length, by-number-at}
 use Rattle.depot.specs.Kinds.{AreOfKind}
-use Rattle.affinity_tree.specs.lemmas.Standing.{place-node, under-place}
+use Rattle.affinity.specs.lemmas.Standing.{place-node, under-place}
 use Rattle.depot.proofs.Emptied.{under-serial}
 
 pub nothing-at : {P : Type 0} (n k : ℕ) → get_or {A = Option P} (replicate n None) k None ≡ None

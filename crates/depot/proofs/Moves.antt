@@ -2,17 +2,17 @@
 use Rattle.std.proofs.Common.{◌≡◌, ◌≢◌, ℕ, ◌<◌, ◌≤◌, ◌+◌, suc, List, [], ◌∷◌, ◌++◌, length, set, eqb, slice_index, sym, refl, ap, ◌∙◌}
 use Rattle.std.proofs.Common.{subst, arith, append_assoc, inr, Option, Some, None, IfSome}
 use mathlib.Core.Option.{some}
-use Rattle.depot.specs.declared.rule.view.View.{View}
-use Rattle.depot.specs.declared.rule.view.Read.{Read}
-use Rattle.affinity_tree.specs.Ancestors.{tally, one_if, IsTree, ancestors, Excludes}
-use Rattle.depot.specs.rule.Shares.{exclusive, shares, grant_shares, Has}
-use Rattle.depot.specs.rule.Seats.{OnOne, view_of}
-use Rattle.depot.specs.rule.Plays.{IsOnly}
-use Rattle.depot.specs.rule.lemmas.Sums.{one-same, one-other}
-use Rattle.depot.specs.rule.lemmas.Trees.{ancestors-parent, not-above}
-use Rattle.depot.proofs.rule.Places.{one-view, of-one}
+use Rattle.depot_rule.specs.declared.view.View.{View}
+use Rattle.depot_rule.specs.declared.view.Read.{Read}
+use Rattle.affinity.specs.Ancestors.{tally, one_if, IsTree, ancestors, Excludes}
+use Rattle.depot_rule.specs.Shares.{exclusive, shares, grant_shares, Has}
+use Rattle.depot_rule.specs.Seats.{OnOne, view_of}
+use Rattle.depot_rule.specs.Plays.{IsOnly}
+use Rattle.depot_rule.specs.lemmas.Sums.{one-same, one-other}
+use Rattle.depot_rule.specs.lemmas.Trees.{ancestors-parent, not-above}
+use Rattle.depot_rule.proofs.Places.{one-view, of-one}
 use Rattle.depot.specs.Calls.{IsAmong, read_of, Moved, MovedTo, IsExcluded, FoundClaimed, WasRefused, IsGranted, own_views, known}
-use Rattle.affinity_tree.specs.declared.affinity.Kind.{Kind}
+use Rattle.affinity.specs.declared.affinity.Kind.{Kind}
 
 pub among-later : {A : Type 0} (x : A) (ys xs : List A) → IsAmong x xs → IsAmong x (ys ++ xs)
 among-later x [] xs a = a

@@ -3,20 +3,20 @@ use Rattle.std.proofs.Common.{◌≡◌, ℕ, ◌<◌, ◌≤◌, ltb, List, [],
 use mathlib.Core.Option.{some}
 use lib.ListN.{get_elem?}
 use Rattle.atomic_table.specs.Table.{opening, Final, Seen}
-use Rattle.depot.specs.declared.rule.view.View.{View}
-use Rattle.affinity_tree.specs.Ancestors.{IsTree, one_if, tally}
-use Rattle.depot.specs.rule.Shares.{Has, opening_view}
-use Rattle.depot.specs.rule.Rule.{Rule}
-use Rattle.depot.specs.declared.rule.view.Entry.{Entry}
-use Rattle.depot.specs.rule.Sums.{total}
-use Rattle.depot.specs.rule.History.{Behaviour, Legal, SoundThroughout, AreHands, listed, after, entries_of}
-use Rattle.depot.specs.rule.Parcels.{IsParcel}
-use Rattle.depot.specs.rule.Seats.{view_of}
-use Rattle.depot.proofs.rule.Opening.{opens-whole, closes, closes-history, closes-parcels}
-use Rattle.depot.proofs.rule.Places.{one-view}
-use Rattle.depot.proofs.rule.Views.{only-view}
-use Rattle.depot.proofs.rule.Whole.{only-log}
-use Rattle.affinity_tree.specs.declared.affinity.Kind.{Kind}
+use Rattle.depot_rule.specs.declared.view.View.{View}
+use Rattle.affinity.specs.Ancestors.{IsTree, one_if, tally}
+use Rattle.depot_rule.specs.Shares.{Has, opening_view}
+use Rattle.depot_rule.specs.Rule.{Rule}
+use Rattle.depot_rule.specs.declared.view.Entry.{Entry}
+use Rattle.depot_rule.specs.Sums.{total}
+use Rattle.depot_rule.specs.History.{Behaviour, Legal, SoundThroughout, AreHands, listed, after, entries_of}
+use Rattle.depot_rule.specs.Parcels.{IsParcel}
+use Rattle.depot_rule.specs.Seats.{view_of}
+use Rattle.depot_rule.proofs.Opening.{opens-whole, closes, closes-history, closes-parcels}
+use Rattle.depot_rule.proofs.Places.{one-view}
+use Rattle.depot_rule.proofs.Views.{only-view}
+use Rattle.depot_rule.proofs.Whole.{only-log}
+use Rattle.affinity.specs.declared.affinity.Kind.{Kind}
 use Rattle.depot.specs.Calls.{own_views, known}
 use Rattle.depot.proofs.Moves.{placed-one}
 

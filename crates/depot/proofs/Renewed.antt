@@ -7,22 +7,22 @@ use native.Mathlib.Decide.{dec_lt}
 use lib.ListN.{get_elem?}
 use Rattle.atomic_table.proofs.Lists.{at_set, set_here}
 use Rattle.nfs_model.specs.Tree.{Layout, Affinity}
-use Rattle.affinity_tree.specs.declared.affinity.Kind.{Kind}
-use Rattle.affinity_tree.specs.Fault.{fault_of}
-use Rattle.affinity_tree.specs.Tree.{IsNode}
-use Rattle.affinity_tree.specs.Numbers.{number_of, node_count}
-use Rattle.parcel_sets.specs.Exact.{HasExactly}
-use Rattle.depot.specs.declared.rule.view.View.{View}
-use Rattle.depot.specs.declared.rule.view.Read.{Read}
-use Rattle.depot.specs.declared.rule.view.Entry.{Entry}
-use Rattle.depot.specs.rule.Shares.{worn, made, Has}
-use Rattle.depot.specs.rule.History.{Behaviour, by_number}
-use Rattle.depot.specs.rule.Seats.{view_of}
-use Rattle.depot.specs.rule.Plays.{IsOnly, Counts, with_entry}
+use Rattle.affinity.specs.declared.affinity.Kind.{Kind}
+use Rattle.affinity.specs.Fault.{fault_of}
+use Rattle.affinity.specs.Tree.{IsNode}
+use Rattle.affinity.specs.Numbers.{number_of, node_count}
+use Rattle.parcels.specs.Exact.{HasExactly}
+use Rattle.depot_rule.specs.declared.view.View.{View}
+use Rattle.depot_rule.specs.declared.view.Read.{Read}
+use Rattle.depot_rule.specs.declared.view.Entry.{Entry}
+use Rattle.depot_rule.specs.Shares.{worn, made, Has}
+use Rattle.depot_rule.specs.History.{Behaviour, by_number}
+use Rattle.depot_rule.specs.Seats.{view_of}
+use Rattle.depot_rule.specs.Plays.{IsOnly, Counts, with_entry}
 use Rattle.depot.specs.Calls.{IsExcluded, known}
 use Rattle.depot.specs.Holds.{IsGathered, IsApart}
 use Rattle.depot.specs.Grants.{entry_of, IsSeatOf, HasWith, ListsAs, IsLow, IsLast, IsBegun, IsAfter, IsStamped, IsFinished, IsRenewed, HasGoneOn}
-use Rattle.depot.proofs.rule.Grants.{at-length}
+use Rattle.depot_rule.proofs.Grants.{at-length}
 use Rattle.depot.proofs.Apart.{again-apart}
 use Rattle.depot.proofs.Begun.{HasLookedAt, IsAsIdle}
 use Rattle.depot.proofs.Ended.{set-again, left-at, stamped-gathered}

@@ -3,14 +3,14 @@ use Rattle.std.proofs.Common.{◌≡◌, ℕ, ◌+◌, ◌≤◌, ◌<◌, Bool,
 use Rattle.std.proofs.Common.{Some, ⊎_elim}
 use mathlib.Core.Option.{some}
 use lib.ListN.{get_elem?}
-use Rattle.depot.specs.declared.rule.view.View.{View}
-use Rattle.depot.specs.declared.rule.view.Read.{Read}
-use Rattle.affinity_tree.specs.Ancestors.{tally, Covers}
-use Rattle.depot.specs.rule.Seats.{if_less, longer, fresh, merge, merged, having_seen, view_of}
-use Rattle.depot.specs.rule.lemmas.Sums.{tally-append}
-use Rattle.depot.proofs.rule.Joining.{none-held, held-of}
-use Rattle.depot.proofs.rule.Places.{one-view}
-use Rattle.depot.specs.rule.Plays.{AreApart, HaveSeenOne, KeepEntries}
+use Rattle.depot_rule.specs.declared.view.View.{View}
+use Rattle.depot_rule.specs.declared.view.Read.{Read}
+use Rattle.affinity.specs.Ancestors.{tally, Covers}
+use Rattle.depot_rule.specs.Seats.{if_less, longer, fresh, merge, merged, having_seen, view_of}
+use Rattle.depot_rule.specs.lemmas.Sums.{tally-append}
+use Rattle.depot_rule.proofs.Joining.{none-held, held-of}
+use Rattle.depot_rule.proofs.Places.{one-view}
+use Rattle.depot_rule.specs.Plays.{AreApart, HaveSeenOne, KeepEntries}
 use Rattle.depot.specs.Calls.{own_views, known}
 use Rattle.depot.proofs.Moves.{placed-one}
 use Rattle.depot.specs.Holds.{IsGathered}

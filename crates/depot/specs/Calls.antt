@@ -2,14 +2,14 @@
 use Rattle.std.specs.Prelude.{◌≡◌, ◌≢◌, ◌⊎◌, ℕ, ◌<◌, ◌≤◌, List, [], ◌∷◌, ◌++◌, length, slice_set, slice_index_or, Option, Some, None}
 use mathlib.Core.Option.{some}
 use lib.ListN.{get_elem?}
-use Rattle.depot.specs.declared.rule.view.View.{View}
-use Rattle.depot.specs.declared.rule.view.Read.{Read}
-use Rattle.affinity_tree.specs.Ancestors.{tally, ancestors, Covers, Excludes}
-use Rattle.depot.specs.rule.Shares.{exclusive, grant_shares, shares, Has}
-use Rattle.depot.specs.rule.Parcels.{has_out, IsParcel}
-use Rattle.depot.specs.rule.Seats.{view_of}
-use Rattle.depot.specs.rule.Plays.{IsOnly}
-use Rattle.affinity_tree.specs.declared.affinity.Kind.{Kind}
+use Rattle.depot_rule.specs.declared.view.View.{View}
+use Rattle.depot_rule.specs.declared.view.Read.{Read}
+use Rattle.affinity.specs.Ancestors.{tally, ancestors, Covers, Excludes}
+use Rattle.depot_rule.specs.Shares.{exclusive, grant_shares, shares, Has}
+use Rattle.depot_rule.specs.Parcels.{has_out, IsParcel}
+use Rattle.depot_rule.specs.Seats.{view_of}
+use Rattle.depot_rule.specs.Plays.{IsOnly}
+use Rattle.affinity.specs.declared.affinity.Kind.{Kind}
 
 abbrev pub IsAmong : {A : Type 0} → A → List A → Type 0
 IsAmong x xs = (i : ℕ) × (get_elem? xs i ≡ some x)

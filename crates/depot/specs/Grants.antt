@@ -3,19 +3,19 @@ use Rattle.std.specs.Prelude.{◌≡◌, ℕ, ◌+◌, ◌<◌, ◌≤◌, nat_l
 use mathlib.Core.Option.{some}
 use lib.ListN.{get_elem?}
 use Rattle.nfs_model.specs.Tree.{Layout, Affinity}
-use Rattle.affinity_tree.specs.declared.affinity.Affinity as codes
-use Rattle.affinity_tree.specs.Affinity.{affinity_of}
-use Rattle.affinity_tree.specs.declared.affinity.Kind.{Kind}
-use Rattle.affinity_tree.specs.Numbers.{number_of, node_count, parents}
-use Rattle.affinity_tree.specs.Tree.{IsNode}
-use Rattle.depot.specs.declared.rule.view.View.{View}
-use Rattle.depot.specs.declared.rule.view.Read.{Read}
-use Rattle.depot.specs.declared.rule.view.Entry.{Entry}
-use Rattle.affinity_tree.specs.Ancestors.{one_if, tally, Covers}
-use Rattle.depot.specs.rule.Sums.{total}
-use Rattle.depot.specs.rule.History.{Behaviour, by_number, Legal, SoundThroughout, IsHistory, AreHands, entries_of, listed, after}
-use Rattle.depot.specs.rule.Shares.{worn, too_many, made, Has}
-use Rattle.depot.specs.rule.Plays.{IsOnly, Counts, with_entry, HasAdded}
+use Rattle.affinity.specs.declared.affinity.Affinity as codes
+use Rattle.affinity.specs.Affinity.{affinity_of}
+use Rattle.affinity.specs.declared.affinity.Kind.{Kind}
+use Rattle.affinity.specs.Numbers.{number_of, node_count, parents}
+use Rattle.affinity.specs.Tree.{IsNode}
+use Rattle.depot_rule.specs.declared.view.View.{View}
+use Rattle.depot_rule.specs.declared.view.Read.{Read}
+use Rattle.depot_rule.specs.declared.view.Entry.{Entry}
+use Rattle.affinity.specs.Ancestors.{one_if, tally, Covers}
+use Rattle.depot_rule.specs.Sums.{total}
+use Rattle.depot_rule.specs.History.{Behaviour, by_number, Legal, SoundThroughout, IsHistory, AreHands, entries_of, listed, after}
+use Rattle.depot_rule.specs.Shares.{worn, too_many, made, Has}
+use Rattle.depot_rule.specs.Plays.{IsOnly, Counts, with_entry, HasAdded}
 use Rattle.depot.specs.Kinds.{AreOfKind}
 use Rattle.depot.specs.Calls.{IsAmong, IsRead, Refuses, IsExcluded}
 use Rattle.depot.specs.declared.grants.Refusal.{Refusal}

@@ -1,7 +1,7 @@
 -- Lemmas alone, which no reader has to believe. What holds of takings and givings: the laws of a shelf whose parcels are a grant's.
 use Rattle.std.proofs.Common.{◌≡◌, ℕ, List, [], ◌∷◌, ◌++◌, length, sym, refl, ap, ◌∙◌, subst, arith, append_assoc}
-use Rattle.depot.specs.declared.rule.view.View.{View}
-use Rattle.depot.specs.rule.Seats.{view_of}
+use Rattle.depot_rule.specs.declared.view.View.{View}
+use Rattle.depot_rule.specs.Seats.{view_of}
 use Rattle.depot.specs.Holds.{Lists, Handled}
 
 module _ {P E : Type 0} where

@@ -1,11 +1,11 @@
 -- What a running call of a seat has at hand: the parcels of one of its grants that it hasn't taken.
 use Rattle.std.specs.Prelude.{◌≡◌, ℕ, ◌<◌, ◌==◌, nat_lt, Bool, ◌&&◌, List, [], ◌∷◌, ◌++◌, length, slice_index_or, Option, Some, None, if◌then◌else◌}
-use Rattle.depot.specs.declared.rule.view.View.{View}
-use Rattle.depot.specs.declared.rule.view.Read.{Read}
-use Rattle.affinity_tree.specs.Ancestors.{tally, Covers, Excludes}
-use Rattle.depot.specs.rule.Shares.{Has}
-use Rattle.depot.specs.rule.History.{covers}
-use Rattle.depot.specs.rule.Seats.{view_of}
+use Rattle.depot_rule.specs.declared.view.View.{View}
+use Rattle.depot_rule.specs.declared.view.Read.{Read}
+use Rattle.affinity.specs.Ancestors.{tally, Covers, Excludes}
+use Rattle.depot_rule.specs.Shares.{Has}
+use Rattle.depot_rule.specs.History.{covers}
+use Rattle.depot_rule.specs.Seats.{view_of}
 
 abbrev pub listed_by : {P : Type 0} → Option (List (Option P)) → ℕ → Option P
 listed_by None k = None

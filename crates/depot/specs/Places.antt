@@ -3,10 +3,10 @@ use Rattle.std.specs.Prelude.{◌≡◌, ℕ, ◌<◌, List, length, slice_index
 use Rattle.atomic_table.specs.Seated.{TableId}
 use Rattle.atomic_table.specs.declared.shared.Seat.{Seat}
 use Rattle.std.specs.declared.snapshot.Snapshot.{Snapshot}
-use Rattle.depot.specs.declared.rule.view.View.{View}
-use Rattle.affinity_tree.specs.Ancestors.{IsTree, Covers, Excludes}
-use Rattle.depot.specs.rule.Shares.{Has}
-use Rattle.depot.specs.rule.Parcels.{has_out}
+use Rattle.depot_rule.specs.declared.view.View.{View}
+use Rattle.affinity.specs.Ancestors.{IsTree, Covers, Excludes}
+use Rattle.depot_rule.specs.Shares.{Has}
+use Rattle.depot_rule.specs.Parcels.{has_out}
 use Rattle.depot.specs.declared.table.Opening.{Opening}
 
 -- the parents of a table that was opened so

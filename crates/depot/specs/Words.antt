@@ -1,20 +1,20 @@
 -- The words in which the clauses of the calls speak: of a depot, a seat, a grant and a refusal.
 use Rattle.std.specs.Prelude.{◌≡◌, ℕ, ◌+◌, Option}
 use Rattle.nfs_model.specs.Tree as trees
-use Rattle.affinity_tree.specs.declared.affinity.Affinity.{Affinity}
-use Rattle.affinity_tree.specs.declared.affinity.Kind.{Kind}
-use Rattle.affinity_tree.specs.Affinity.{affinity_of, kind_of}
-use Rattle.affinity_tree.specs.Layout.{layout_of}
-use Rattle.affinity_tree.specs.Numbers.{number_of, node_count, parents}
-use Rattle.affinity_tree.specs.Tree.{IsNode}
-use Rattle.parcel_sets.specs.Exact.{HasExactly}
-use Rattle.depot.specs.declared.rule.machine.Machine as machines
-use Rattle.affinity_tree.specs.declared.affinity.HasKind as kinds
-use Rattle.depot.specs.declared.rule.view.View.{View}
-use Rattle.depot.specs.declared.rule.view.Entry.{Entry}
-use Rattle.depot.specs.rule.Shares.{opening_view, Has}
-use Rattle.depot.specs.rule.Seats.{longer, having_seen}
-use Rattle.depot.specs.rule.History.{Behaviour, behaviour, by_number}
+use Rattle.affinity.specs.declared.affinity.Affinity.{Affinity}
+use Rattle.affinity.specs.declared.affinity.Kind.{Kind}
+use Rattle.affinity.specs.Affinity.{affinity_of, kind_of}
+use Rattle.affinity.specs.Layout.{layout_of}
+use Rattle.affinity.specs.Numbers.{number_of, node_count, parents}
+use Rattle.affinity.specs.Tree.{IsNode}
+use Rattle.parcels.specs.Exact.{HasExactly}
+use Rattle.depot_rule.specs.declared.machine.Machine as machines
+use Rattle.affinity.specs.declared.affinity.HasKind as kinds
+use Rattle.depot_rule.specs.declared.view.View.{View}
+use Rattle.depot_rule.specs.declared.view.Entry.{Entry}
+use Rattle.depot_rule.specs.Shares.{opening_view, Has}
+use Rattle.depot_rule.specs.Seats.{longer, having_seen}
+use Rattle.depot_rule.specs.History.{Behaviour, behaviour, by_number}
 use Rattle.depot.specs.declared.depot.Depot.{Depot}
 use Rattle.depot.specs.declared.seats.Seat.{Seat}
 use Rattle.depot.specs.declared.grants.Grant.{Grant}

@@ -8,13 +8,13 @@ use crate::grants::{Grant, Refusal};
 use crate::hold::Hold;
 use crate::homing::{give_home, stamp_call};
 use crate::plays::Look;
-use crate::rule::machine::Machine;
 use crate::seats::Seat;
 use crate::stamps::renew;
 use crate::table::Place;
-use affinity_tree::Affinity;
+use affinity::Affinity;
 use atomic_table::Badge;
-use parcel_sets::Node;
+use depot_rule::machine::Machine;
+use parcels::Node;
 use std::marker::Brand;
 use std::mem;
 
@@ -23,8 +23,8 @@ const WORN: u64 = 1 << 62;
 
 impl<M: Machine> Depot<M> {
     ghost use Rattle.std.specs.Prelude.{IfOk, OnOk, IfErr};
-    ghost use Rattle.affinity_tree.specs.Affinity.{affinity_of};
-    ghost use Rattle.affinity_tree.specs.Tree.{IsNode};
+    ghost use Rattle.affinity.specs.Affinity.{affinity_of};
+    ghost use Rattle.affinity.specs.Tree.{IsNode};
     ghost use Rattle.depot.specs.Grants.{HasWith, IsBegun, IsAfter, IsStep, HasInHand};
     ghost use Rattle.depot.specs.Grants.{IsEnded, IsFinished, IsRefused, IsLast, HasGoneOn};
     ghost use Rattle.depot.specs.declared.grants.Refusal.TheVariants.{Worn};

@@ -2,18 +2,18 @@
 
 ghost use Rattle.std.specs.Prelude.{◌≡◌, ◌<◌, ◌∷◌, ◌++◌, List, [], length, slice_set, None};
 ghost use Rattle.std.specs.Prelude.{OnOk, IfErr};
-ghost use Rattle.depot.specs.declared.rule.view.Read.{Read};
-ghost use Rattle.depot.specs.rule.Shares.{Has};
-ghost use Rattle.depot.specs.rule.History.{behaviour, listed};
-ghost use Rattle.depot.specs.rule.Seats.{view_of};
+ghost use Rattle.depot_rule.specs.declared.view.Read.{Read};
+ghost use Rattle.depot_rule.specs.Shares.{Has};
+ghost use Rattle.depot_rule.specs.History.{behaviour, listed};
+ghost use Rattle.depot_rule.specs.Seats.{view_of};
 ghost use Rattle.depot.specs.Calls.{IsGranted, IsExcluded, WasRefused};
 ghost use Rattle.depot.specs.Grants.{IsAfter};
 ghost use Rattle.depot.specs.Places.{tree_of, IsOn, IsTreeOf, IsStill, AreHome, IsAlone};
 
 use crate::path::{Busy, climb, leave_all};
-use crate::rule::machine::Machine;
 use crate::steps::{claim, release};
 use crate::table::{Board, Place};
+use depot_rule::machine::Machine;
 
 /// Claims a node: enters the words above it, and then takes its own. Either there is a grant, or
 /// the seat has no share more than before.

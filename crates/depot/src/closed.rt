@@ -8,7 +8,7 @@ ghost use Rattle.std.specs.Mem.Slots.{slots_items, slots_filled, slots_len};
 ghost use Rattle.depot.specs.Closed.{left_at};
 
 use atomic_table::Closed;
-use parcel_sets::Shelf;
+use parcels::Shelf;
 use std::alloc::Global;
 
 /// The slots of a table that no seat shares any more.

@@ -1,17 +1,17 @@
 //! The depot, made and shared.
 
 ghost use Rattle.std.specs.Prelude.{◌≡◌, ℕ, None, length, replicate, IfOk};
-ghost use Rattle.affinity_tree.specs.Layout.{layout_of};
-ghost use Rattle.affinity_tree.specs.Numbers as numbers;
+ghost use Rattle.affinity.specs.Layout.{layout_of};
+ghost use Rattle.affinity.specs.Numbers as numbers;
 
 use crate::closed::ClosedTable;
 use crate::meeting::{join_seat, meet, split_seat};
-use crate::rule::machine::Machine;
 use crate::seats::{Seat, TooManySeats};
 use crate::table::{DepotRule, Key, Opening, Place, ViewsOf};
-use affinity_tree::{Affinity, Layout};
+use affinity::{Affinity, Layout};
 use atomic_table::Table;
-use parcel_sets::{Node, VecShelf};
+use depot_rule::machine::Machine;
+use parcels::{Node, VecShelf};
 use std::alloc::{AllocError, Global};
 use std::snapshot::Snapshot;
 
@@ -63,13 +63,13 @@ fn room_for<T: Drop>(
 impl<M: Machine> Depot<M> {
     ghost use Rattle.std.specs.Prelude.{◌⊎◌, ◌<◌, ◌+◌, [], IfErr};
     ghost use Rattle.nfs_model.specs.Tree as trees;
-    ghost use Rattle.affinity_tree.specs.declared.affinity.Kind.TheVariants as kinds;
-    ghost use Rattle.parcel_sets.specs.Exact.{HasExactly};
-    ghost use Rattle.depot.specs.rule.Sums.{total};
-    ghost use Rattle.depot.specs.rule.Shares.{Has};
-    ghost use Rattle.depot.specs.rule.Seats.{fresh, merge};
-    ghost use Rattle.depot.specs.rule.Plays.{AreApart, HaveSeenOne};
-    ghost use Rattle.depot.specs.rule.History.{entries_of};
+    ghost use Rattle.affinity.specs.declared.affinity.Kind.TheVariants as kinds;
+    ghost use Rattle.parcels.specs.Exact.{HasExactly};
+    ghost use Rattle.depot_rule.specs.Sums.{total};
+    ghost use Rattle.depot_rule.specs.Shares.{Has};
+    ghost use Rattle.depot_rule.specs.Seats.{fresh, merge};
+    ghost use Rattle.depot_rule.specs.Plays.{AreApart, HaveSeenOne};
+    ghost use Rattle.depot_rule.specs.History.{entries_of};
     ghost use Rattle.depot.specs.Grants.{IsClosed};
     ghost use Rattle.depot.specs.Words.{machine_of, layout_in, view, splits_left, IsSeatHere};
     ghost use Rattle.depot.specs.Words.{HasTold, all_parcels, first_view, HasGrants, HasNoGrant};

@@ -2,8 +2,8 @@
 
 ghost use Rattle.std.specs.Prelude.{◌≡◌};
 
-use affinity_tree::{Affinity, HasKind};
-use parcel_sets::Node;
+use affinity::{Affinity, HasKind};
+use parcels::Node;
 
 /// The parcels of a node and of all nodes below it. A grant that is dropped gives nothing home.
 #[derive(Drop)]

@@ -1,16 +1,16 @@
 //! A grant's parcels as a shelf, from which sets are put together.
 
 ghost use Rattle.std.specs.Prelude.{◌≡◌, length};
-ghost use Rattle.depot.specs.rule.Seats.{view_of};
+ghost use Rattle.depot_rule.specs.Seats.{view_of};
 ghost use Rattle.std.proofs.Common.{refl, sym, ◌∙◌, subst};
 ghost use Rattle.depot.specs.Places.{tree_of};
 ghost use Rattle.depot.specs.Holds.{untaken, Lists, Handled};
 ghost use Rattle.depot.specs.Handling.{handled-itself, handled-on, lists-still};
 
-use crate::rule::machine::Machine;
 use crate::slots::{give_parcel, take_parcel};
 use crate::table::{Board, Place};
-use parcel_sets::Shelf;
+use depot_rule::machine::Machine;
+use parcels::Shelf;
 
 /// A call that runs, and the node of the grant whose parcels it takes or gives.
 pub struct Hold<'a, M: Machine> {

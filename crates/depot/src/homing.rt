@@ -1,12 +1,12 @@
 //! The end of a call: its entry is stamped, and its parcels are given home.
 
 ghost use Rattle.std.specs.Prelude.{◌≡◌, ◌<◌, ℕ, [], length, Some, None};
-ghost use Rattle.affinity_tree.specs.Layout.{layout_of};
-ghost use Rattle.affinity_tree.specs.Fault.{fault_of};
-ghost use Rattle.affinity_tree.specs.Numbers as numbers;
-ghost use Rattle.affinity_tree.specs.Ancestors.{tally, Covers};
-ghost use Rattle.depot.specs.rule.Seats.{view_of};
-ghost use Rattle.depot.specs.rule.History.{behaviour};
+ghost use Rattle.affinity.specs.Layout.{layout_of};
+ghost use Rattle.affinity.specs.Fault.{fault_of};
+ghost use Rattle.affinity.specs.Numbers as numbers;
+ghost use Rattle.affinity.specs.Ancestors.{tally, Covers};
+ghost use Rattle.depot_rule.specs.Seats.{view_of};
+ghost use Rattle.depot_rule.specs.History.{behaviour};
 ghost use Rattle.depot.specs.Grants.{HasWith, IsStep, HasInHand, IsStamped, IsEnded};
 ghost use Rattle.depot.specs.Places.{tree_of, IsStill, IsAlone, AreOut, Fits};
 ghost use Rattle.depot.specs.Words.{IsNodeOf, node_of, number_in, parcels_in, entry_with};
@@ -14,11 +14,11 @@ ghost use Rattle.depot.specs.Words.{IsNodeOf, node_of, number_in, parcels_in, en
 use crate::claiming::give_up;
 use crate::grants::Grant;
 use crate::hold::Hold;
-use crate::rule::machine::Machine;
 use crate::stamps::{Said, stamp_as};
 use crate::table::{Board, EntryOf, Place};
-use affinity_tree::Layout;
-use parcel_sets::Node;
+use affinity::Layout;
+use depot_rule::machine::Machine;
+use parcels::Node;
 
 /// Stamps the entry of a call, with the parcels of its grant as they are. What the entry says is
 /// told to the proof alone.

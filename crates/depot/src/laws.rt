@@ -2,12 +2,12 @@
 //! theorems.
 
 ghost use Rattle.std.specs.Prelude.{◌≡◌, ◌<◌, ℕ};
-ghost use Rattle.depot.specs.rule.Shares.{shares, grant_shares};
+ghost use Rattle.depot_rule.specs.Shares.{shares, grant_shares};
 ghost use Rattle.depot.specs.Holds.{IsApart};
 ghost use Rattle.depot.specs.Words.{view};
 
-use crate::rule::machine::Machine;
 use crate::seats::Seat;
+use depot_rule::machine::Machine;
 
 /// Between calls a seat has in each node's word what its open grants have added to it, and no more.
 pub fn seats_share_by_grants<M: Machine>(seat: &Seat<M>)

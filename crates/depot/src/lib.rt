@@ -17,7 +17,6 @@ pub mod laws;
 mod meeting;
 mod path;
 mod plays;
-pub mod rule;
 mod seats;
 mod slots;
 mod stamps;

@@ -1,18 +1,18 @@
 //! Seats split, joined, met.
 
 ghost use Rattle.std.specs.Prelude.{◌≡◌, ◌⊎◌, ◌<◌, ◌≤◌, ◌+◌, ℕ, IfOk, IfErr};
-ghost use Rattle.depot.specs.rule.Shares.{Has};
-ghost use Rattle.depot.specs.rule.Seats.{fresh, merge};
-ghost use Rattle.depot.specs.rule.Plays.{AreApart, HaveSeenOne, KeepEntries};
-ghost use Rattle.depot.specs.rule.Sums.{total};
-ghost use Rattle.depot.specs.rule.History.{entries_of};
+ghost use Rattle.depot_rule.specs.Shares.{Has};
+ghost use Rattle.depot_rule.specs.Seats.{fresh, merge};
+ghost use Rattle.depot_rule.specs.Plays.{AreApart, HaveSeenOne, KeepEntries};
+ghost use Rattle.depot_rule.specs.Sums.{total};
+ghost use Rattle.depot_rule.specs.History.{entries_of};
 ghost use Rattle.depot.specs.Words.{view, splits_left, HasTold, HasGrants};
 
 use crate::plays::{Alike, Meet, Merge, PartAgain, SplitOff};
-use crate::rule::machine::Machine;
 use crate::seats::Seat;
 use crate::table::{Board, Place};
 use atomic_table::Badge;
+use depot_rule::machine::Machine;
 use std::mem;
 
 /// Splits a second seat off, which has seen the same and has nothing open. A seat with no split

@@ -1,14 +1,14 @@
 //! The words above a node: entered from the top down, left from the bottom up.
 
 ghost use Rattle.std.specs.Prelude.{◌≡◌, ◌<◌, [], length, OnOk, IfErr};
-ghost use Rattle.affinity_tree.specs.Ancestors.{ancestors};
-ghost use Rattle.depot.specs.rule.Seats.{view_of};
+ghost use Rattle.affinity.specs.Ancestors.{ancestors};
+ghost use Rattle.depot_rule.specs.Seats.{view_of};
 ghost use Rattle.depot.specs.Calls.{MovedTo, FoundClaimed};
 ghost use Rattle.depot.specs.Places.{tree_of, IsOn, IsTreeOf, IsStill};
 
-use crate::rule::machine::Machine;
 use crate::steps::{enter, leave};
 use crate::table::{Board, Place};
+use depot_rule::machine::Machine;
 
 /// The word that refused a claim, and its node.
 #[derive(Clone, Copy)]

@@ -1,16 +1,16 @@
 //! The kinds of step, each by what it tells its seat.
 
-use crate::rule::machine::Machine;
-use crate::rule::view::Views;
 use crate::table::ViewsOf;
 use atomic_table::{Join, Play, Split};
+use depot_rule::machine::Machine;
+use depot_rule::view::Views;
 use std::marker::PhantomData;
 
 /// A share in the word of a node above the one that is wanted.
 pub struct Enter;
 
 impl<P, E> Play<Option<P>, Views<P, E>> for Enter {
-    ghost use Rattle.depot.specs.rule.Plays.{EnterSays};
+    ghost use Rattle.depot_rule.specs.Plays.{EnterSays};
 
     ghost then = { EnterSays };
 }
@@ -19,7 +19,7 @@ impl<P, E> Play<Option<P>, Views<P, E>> for Enter {
 pub struct BackOut;
 
 impl<P, E> Play<Option<P>, Views<P, E>> for BackOut {
-    ghost use Rattle.depot.specs.rule.Plays.{BackOutSays};
+    ghost use Rattle.depot_rule.specs.Plays.{BackOutSays};
 
     ghost then = { BackOutSays };
 }
@@ -28,7 +28,7 @@ impl<P, E> Play<Option<P>, Views<P, E>> for BackOut {
 pub struct Leave;
 
 impl<P, E> Play<Option<P>, Views<P, E>> for Leave {
-    ghost use Rattle.depot.specs.rule.Plays.{LeaveSays};
+    ghost use Rattle.depot_rule.specs.Plays.{LeaveSays};
 
     ghost then = { LeaveSays };
 }
@@ -39,8 +39,8 @@ pub struct Claim<M> {
 }
 
 impl<M: Machine> Play<Option<M::Parcel>, ViewsOf<M>> for Claim<M> {
-    ghost use Rattle.depot.specs.rule.History.{behaviour};
-    ghost use Rattle.depot.specs.rule.Plays.{ClaimSays};
+    ghost use Rattle.depot_rule.specs.History.{behaviour};
+    ghost use Rattle.depot_rule.specs.Plays.{ClaimSays};
 
     ghost then = { ClaimSays M.Parcel.kind (behaviour M.steps M.takes M.gives M.invariant) };
 }
@@ -49,7 +49,7 @@ impl<M: Machine> Play<Option<M::Parcel>, ViewsOf<M>> for Claim<M> {
 pub struct Release;
 
 impl<P, E> Play<Option<P>, Views<P, E>> for Release {
-    ghost use Rattle.depot.specs.rule.Plays.{ReleaseSays};
+    ghost use Rattle.depot_rule.specs.Plays.{ReleaseSays};
 
     ghost then = { ReleaseSays };
 }
@@ -58,7 +58,7 @@ impl<P, E> Play<Option<P>, Views<P, E>> for Release {
 pub struct Fetch;
 
 impl<P, E> Play<Option<P>, Views<P, E>> for Fetch {
-    ghost use Rattle.depot.specs.rule.Plays.{FetchSays};
+    ghost use Rattle.depot_rule.specs.Plays.{FetchSays};
 
     ghost then = { FetchSays };
 }
@@ -67,7 +67,7 @@ impl<P, E> Play<Option<P>, Views<P, E>> for Fetch {
 pub struct Empty;
 
 impl<P, E> Play<Option<P>, Views<P, E>> for Empty {
-    ghost use Rattle.depot.specs.rule.Plays.{EmptySays};
+    ghost use Rattle.depot_rule.specs.Plays.{EmptySays};
 
     ghost then = { EmptySays };
 }
@@ -76,7 +76,7 @@ impl<P, E> Play<Option<P>, Views<P, E>> for Empty {
 pub struct Reach;
 
 impl<P, E> Play<Option<P>, Views<P, E>> for Reach {
-    ghost use Rattle.depot.specs.rule.Plays.{ReachSays};
+    ghost use Rattle.depot_rule.specs.Plays.{ReachSays};
 
     ghost then = { ReachSays };
 }
@@ -85,7 +85,7 @@ impl<P, E> Play<Option<P>, Views<P, E>> for Reach {
 pub struct Fill;
 
 impl<P, E> Play<Option<P>, Views<P, E>> for Fill {
-    ghost use Rattle.depot.specs.rule.Plays.{FillSays};
+    ghost use Rattle.depot_rule.specs.Plays.{FillSays};
 
     ghost then = { FillSays };
 }
@@ -94,7 +94,7 @@ impl<P, E> Play<Option<P>, Views<P, E>> for Fill {
 pub struct Look;
 
 impl<P, E> Play<Option<P>, Views<P, E>> for Look {
-    ghost use Rattle.depot.specs.rule.Plays.{LookSays};
+    ghost use Rattle.depot_rule.specs.Plays.{LookSays};
 
     ghost then = { LookSays };
 }
@@ -105,8 +105,8 @@ pub struct Renew<M> {
 }
 
 impl<M: Machine> Play<Option<M::Parcel>, ViewsOf<M>> for Renew<M> {
-    ghost use Rattle.depot.specs.rule.History.{behaviour};
-    ghost use Rattle.depot.specs.rule.Plays.{RenewSays};
+    ghost use Rattle.depot_rule.specs.History.{behaviour};
+    ghost use Rattle.depot_rule.specs.Plays.{RenewSays};
 
     ghost then = { RenewSays (behaviour M.steps M.takes M.gives M.invariant) };
 }
@@ -115,7 +115,7 @@ impl<M: Machine> Play<Option<M::Parcel>, ViewsOf<M>> for Renew<M> {
 pub struct Alike;
 
 impl<P, E> Play<Option<P>, Views<P, E>> for Alike {
-    ghost use Rattle.depot.specs.rule.Plays.{AlikeSays};
+    ghost use Rattle.depot_rule.specs.Plays.{AlikeSays};
 
     ghost then = { AlikeSays };
 }
@@ -124,7 +124,7 @@ impl<P, E> Play<Option<P>, Views<P, E>> for Alike {
 pub struct SplitOff;
 
 impl<P, E> Split<Views<P, E>> for SplitOff {
-    ghost use Rattle.depot.specs.rule.Seats.{parted, fresh_of};
+    ghost use Rattle.depot_rule.specs.Seats.{parted, fresh_of};
 
     ghost left = { parted };
 
@@ -136,7 +136,7 @@ pub struct Merge;
 
 impl<P, E> Join<Views<P, E>> for Merge {
     ghost use Rattle.std.specs.Prelude.{[]};
-    ghost use Rattle.depot.specs.rule.Seats.{merged};
+    ghost use Rattle.depot_rule.specs.Seats.{merged};
 
     ghost both = { merged };
 
@@ -158,7 +158,7 @@ impl<P, E> Join<Views<P, E>> for Meet {
 pub struct PartAgain;
 
 impl<P, E> Split<Views<P, E>> for PartAgain {
-    ghost use Rattle.depot.specs.rule.Seats.{first_of, others_of};
+    ghost use Rattle.depot_rule.specs.Seats.{first_of, others_of};
 
     ghost left = { first_of };
 

@@ -4,9 +4,9 @@ ghost use Rattle.std.specs.Prelude.{◌≡◌, ◌+◌, length};
 ghost use Rattle.depot.specs.Calls.{own_views, known};
 ghost use Rattle.depot.specs.Holds.{IsGathered, IsApart};
 
-use crate::rule::machine::Machine;
 use crate::table::ViewsOf;
 use atomic_table::Badge;
+use depot_rule::machine::Machine;
 
 /// The right to make calls on a depot, and what came of them. It runs no call, so it has entered
 /// no word but for its grants, and no slot is out with it.

@@ -2,16 +2,16 @@
 
 ghost use Rattle.std.specs.Prelude.{◌≡◌, ◌<◌, ◌∷◌, ◌++◌, ℕ, List, [], length, slice_index_or};
 ghost use Rattle.std.specs.Prelude.{Option, Some, None};
-ghost use Rattle.depot.specs.declared.rule.view.Read.{Read};
-ghost use Rattle.affinity_tree.specs.Ancestors.{tally, Covers};
-ghost use Rattle.depot.specs.rule.Sums.{without};
-ghost use Rattle.depot.specs.rule.Shares.{Has};
-ghost use Rattle.depot.specs.rule.Seats.{view_of};
+ghost use Rattle.depot_rule.specs.declared.view.Read.{Read};
+ghost use Rattle.affinity.specs.Ancestors.{tally, Covers};
+ghost use Rattle.depot_rule.specs.Sums.{without};
+ghost use Rattle.depot_rule.specs.Shares.{Has};
+ghost use Rattle.depot_rule.specs.Seats.{view_of};
 ghost use Rattle.depot.specs.Places.{tree_of, IsOn};
 
 use crate::plays::{Empty, Fetch, Fill, Reach};
-use crate::rule::machine::Machine;
 use crate::table::{Board, Place};
+use depot_rule::machine::Machine;
 
 /// Takes the parcel of a node that a grant of the seat covers. Its slot stays at home, empty.
 pub fn take_parcel<M: Machine>(board: &Board<M>, place: &mut Place<M>, node: usize) -> M::Parcel

@@ -1,17 +1,17 @@
 //! The stamp: a call takes effect.
 
 ghost use Rattle.std.specs.Prelude.{◌≡◌, ◌<◌, ℕ, length, slice_index_or, Option, Some, None};
-ghost use Rattle.affinity_tree.specs.Ancestors.{Covers};
-ghost use Rattle.depot.specs.rule.Shares.{Has};
-ghost use Rattle.depot.specs.rule.Seats.{view_of};
-ghost use Rattle.depot.specs.rule.History.{behaviour};
+ghost use Rattle.affinity.specs.Ancestors.{Covers};
+ghost use Rattle.depot_rule.specs.Shares.{Has};
+ghost use Rattle.depot_rule.specs.Seats.{view_of};
+ghost use Rattle.depot_rule.specs.History.{behaviour};
 ghost use Rattle.depot.specs.Grants.{IsStep, HasInHand, IsStamped, IsRenewed};
 ghost use Rattle.depot.specs.Places.{tree_of, IsStill, AreOut, Fits};
 
 use crate::plays::Renew;
-use crate::rule::machine::Machine;
 use crate::table::{Board, EntryOf, Place, ViewsOf};
 use atomic_table::Play;
+use depot_rule::machine::Machine;
 use std::marker::{Brand, PhantomData};
 
 /// What a step is about, which each call of it picks.
@@ -30,7 +30,7 @@ pub struct Stamp<M, J> {
 }
 
 impl<M: Machine, J: Said<EntryOf<M>>> Play<Option<M::Parcel>, ViewsOf<M>> for Stamp<M, J> {
-    ghost use Rattle.depot.specs.rule.Plays.{StampSays};
+    ghost use Rattle.depot_rule.specs.Plays.{StampSays};
 
     ghost then = { StampSays (behaviour M.steps M.takes M.gives M.invariant) J.item };
 }

@@ -2,18 +2,18 @@
 
 ghost use Rattle.std.specs.Prelude.{◌≡◌, ◌<◌, ◌≤◌, ◌≢◌, ◌∷◌, ℕ, List, [], length};
 ghost use Rattle.std.specs.Prelude.{slice_set, Option, Some, None, IfNone, IfSome};
-ghost use Rattle.affinity_tree.specs.Ancestors.{tally, ancestors};
-ghost use Rattle.depot.specs.rule.Shares.{exclusive, Has};
-ghost use Rattle.depot.specs.rule.Seats.{view_of};
-ghost use Rattle.depot.specs.rule.Plays.{IsOnly};
-ghost use Rattle.depot.specs.rule.History.{behaviour, listed};
+ghost use Rattle.affinity.specs.Ancestors.{tally, ancestors};
+ghost use Rattle.depot_rule.specs.Shares.{exclusive, Has};
+ghost use Rattle.depot_rule.specs.Seats.{view_of};
+ghost use Rattle.depot_rule.specs.Plays.{IsOnly};
+ghost use Rattle.depot_rule.specs.History.{behaviour, listed};
 ghost use Rattle.depot.specs.Calls.{read_of, Moved, IsGranted, IsExcluded};
 ghost use Rattle.depot.specs.Grants.{IsAfter};
 ghost use Rattle.depot.specs.Places.{tree_of, IsOn, IsStill, AreHome, IsAlone};
 
 use crate::plays::{BackOut, Claim, Enter, Leave, Release};
-use crate::rule::machine::Machine;
 use crate::table::{Board, Place};
+use depot_rule::machine::Machine;
 
 /// The part of a word that says that its node is claimed.
 pub const EXCLUSIVE: u64 = 1 << 32;

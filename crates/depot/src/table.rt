@@ -1,8 +1,8 @@
 //! The table that all seats share: a word and a slot for each node, and the ticket.
 
-use crate::rule::machine::Machine;
-use crate::rule::view::{Entry, Views};
 use atomic_table::{Seat, Shared, TableRule};
+use depot_rule::machine::Machine;
+use depot_rule::view::{Entry, Views};
 use std::marker::PhantomData;
 use std::snapshot::Snapshot;
 
@@ -27,9 +27,9 @@ pub struct DepotRule<M> {
 
 impl<M: Machine> TableRule<Option<M::Parcel>, ViewsOf<M>, Key<M>> for DepotRule<M> {
     ghost use Rattle.std.specs.Prelude.{[], ◌∷◌};
-    ghost use Rattle.depot.specs.rule.History.{behaviour};
-    ghost use Rattle.depot.specs.rule.Rule.{Rule};
-    ghost use Rattle.depot.specs.rule.Shares.{opening_view};
+    ghost use Rattle.depot_rule.specs.History.{behaviour};
+    ghost use Rattle.depot_rule.specs.Rule.{Rule};
+    ghost use Rattle.depot_rule.specs.Shares.{opening_view};
 
     ghost holds = { λ key s. Rule M.Parcel.kind (behaviour M.steps M.takes M.gives M.invariant)
         key.value.parents.items key.value.parcels.items s };

@@ -3,30 +3,30 @@ use Rattle.std.proofs.Common.{◌≡◌, ◌≢◌, ℕ, ◌+◌, ◌%◌, ◌==
 use Rattle.std.proofs.lemmas.List.{map-append}
 use Rattle.nfs_model.specs.Tree as trees
 use Rattle.nfs_model.specs.Tree.{Layout, Affinity, stripes_of, aggregate_of}
-use Rattle.affinity_tree.specs.declared.affinity.Affinity as codes
-use Rattle.affinity_tree.specs.Numbers.{number_of, parents}
-use Rattle.parcel_sets.specs.declared.family.Parcel.{Parcel}
-use Rattle.parcel_sets.specs.Exact.{kind_in}
-use Rattle.parcel_sets.specs.Filled.{volume_alike, aggregate_alike, serial_alike}
-use Rattle.parcel_sets.specs.NumberIn.{number_in}
-use Rattle.parcel_sets.specs.Places.{alone, or_else, in_places}
-use Rattle.parcel_sets.specs.Sets.{volume_around, aggregate_number}
-use Rattle.parcel_sets.specs.Sets.{range_parcels, vbn_parcels, stripe_parcels, logical_parcels, volume_parcels, aggregate_parcels, serial_parcels}
-use Rattle.parcel_sets.specs.declared.family.Parcel.TheVariants.{Range, Vbn, Stripe, Logical, Volume, Aggregate, Serial}
-use Rattle.parcel_sets.specs.declared.sets.RangeHeld.{RangeHeld}
-use Rattle.parcel_sets.specs.declared.sets.VbnHeld.{VbnHeld}
-use Rattle.parcel_sets.specs.declared.sets.StripeHeld.{StripeHeld}
-use Rattle.parcel_sets.specs.declared.sets.LogicalHeld.{LogicalHeld}
-use Rattle.parcel_sets.specs.declared.sets.VolumeHeld.{VolumeHeld}
-use Rattle.parcel_sets.specs.declared.sets.AggrHeld.{AggrHeld}
-use Rattle.parcel_sets.specs.declared.sets.SerialHeld.{SerialHeld}
-use Rattle.depot.specs.declared.rule.view.View.{View}
-use Rattle.depot.specs.declared.rule.view.Entry.{Entry}
+use Rattle.affinity.specs.declared.affinity.Affinity as codes
+use Rattle.affinity.specs.Numbers.{number_of, parents}
+use Rattle.parcels.specs.declared.family.Parcel.{Parcel}
+use Rattle.parcels.specs.Exact.{kind_in}
+use Rattle.parcels.specs.Filled.{volume_alike, aggregate_alike, serial_alike}
+use Rattle.parcels.specs.NumberIn.{number_in}
+use Rattle.parcels.specs.Places.{alone, or_else, in_places}
+use Rattle.parcels.specs.Sets.{volume_around, aggregate_number}
+use Rattle.parcels.specs.Sets.{range_parcels, vbn_parcels, stripe_parcels, logical_parcels, volume_parcels, aggregate_parcels, serial_parcels}
+use Rattle.parcels.specs.declared.family.Parcel.TheVariants.{Range, Vbn, Stripe, Logical, Volume, Aggregate, Serial}
+use Rattle.parcels.specs.declared.sets.RangeHeld.{RangeHeld}
+use Rattle.parcels.specs.declared.sets.VbnHeld.{VbnHeld}
+use Rattle.parcels.specs.declared.sets.StripeHeld.{StripeHeld}
+use Rattle.parcels.specs.declared.sets.LogicalHeld.{LogicalHeld}
+use Rattle.parcels.specs.declared.sets.VolumeHeld.{VolumeHeld}
+use Rattle.parcels.specs.declared.sets.AggrHeld.{AggrHeld}
+use Rattle.parcels.specs.declared.sets.SerialHeld.{SerialHeld}
+use Rattle.depot_rule.specs.declared.view.View.{View}
+use Rattle.depot_rule.specs.declared.view.Entry.{Entry}
 use Rattle.depot.specs.declared.grants.Refusal.{Refusal}
 use Rattle.depot.specs.declared.grants.Refusal.TheVariants.{Busy, Worn}
 use Rattle.depot.specs.declared.trial.adding.Change.{Change}
 use Rattle.depot.specs.declared.trial.adding.Change.TheVariants.{Add}
-use Rattle.depot.specs.rule.History.{Behaviour, entries_of}
+use Rattle.depot_rule.specs.History.{Behaviour, entries_of}
 use Rattle.depot.specs.Grants.{IsBegun, IsFinished, IsRefused}
 use Rattle.depot.specs.lemmas.Seats.{begun-entries, finished-entries}
 use Rattle.depot.specs.trial.Adding.{Changes}

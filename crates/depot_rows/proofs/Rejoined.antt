@@ -2,10 +2,10 @@
 use Rattle.std.proofs.Common.{◌≡◌, ℕ, List, length, ap, ◌∙◌, subst, ⊎_elim, Option, Some}
 use mathlib.Core.Option.{some}
 use lib.ListN.{get_elem?}
-use Rattle.depot.specs.declared.rule.view.View.{View}
-use Rattle.depot.specs.rule.Shares.{Has, opening_view}
-use Rattle.depot.specs.rule.Seats.{fresh, merge}
-use Rattle.depot.proofs.rule.Joining.{none-held, held-of}
+use Rattle.depot_rule.specs.declared.view.View.{View}
+use Rattle.depot_rule.specs.Shares.{Has, opening_view}
+use Rattle.depot_rule.specs.Seats.{fresh, merge}
+use Rattle.depot_rule.proofs.Joining.{none-held, held-of}
 
 module _ {P E : Type 0} where
   pub rejoined-none : (ps : List ℕ) (first : List (Option P)) (n : ℕ) (v a b j : View P E) → v ≡ opening_view ps first → a ≡ record v { parts = n }

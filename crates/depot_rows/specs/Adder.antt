@@ -1,8 +1,8 @@
 -- What the task of a call that adds does.
 use Rattle.std.specs.Prelude.{◌≡◌, ℕ, Option, Some, None}
 use Rattle.nfs_model.specs.Tree.{Layout, Affinity}
-use Rattle.affinity_tree.specs.Numbers.{number_of, parents}
-use Rattle.parcel_sets.specs.declared.family.Parcel.{Parcel}
+use Rattle.affinity.specs.Numbers.{number_of, parents}
+use Rattle.parcels.specs.declared.family.Parcel.{Parcel}
 use Rattle.depot.specs.trial.Adding.{Changes}
 use Rattle.depot.specs.declared.trial.adding.Change.TheVariants.{Add}
 

@@ -1,15 +1,15 @@
 -- Calls that count by one, and what a seat's entries tell of them.
 use Rattle.std.specs.Prelude.{◌≡◌, ℕ, List, map, Option}
 use Rattle.nfs_model.specs.Tree.{Layout, Affinity}
-use Rattle.affinity_tree.specs.Numbers.{number_of, parents}
-use Rattle.affinity_tree.specs.declared.affinity.HasKind as kinds
-use Rattle.parcel_sets.specs.declared.family.Parcel.{Parcel}
-use Rattle.depot.specs.declared.rule.machine.Machine as machines
-use Rattle.depot.specs.declared.rule.view.Entry.{Entry}
+use Rattle.affinity.specs.Numbers.{number_of, parents}
+use Rattle.affinity.specs.declared.affinity.HasKind as kinds
+use Rattle.parcels.specs.declared.family.Parcel.{Parcel}
+use Rattle.depot_rule.specs.declared.machine.Machine as machines
+use Rattle.depot_rule.specs.declared.view.Entry.{Entry}
 use Rattle.depot.specs.declared.seats.Seat.{Seat}
 use Rattle.depot.specs.declared.trial.adding.Change.{Change}
 use Rattle.depot.specs.declared.trial.adding.Change.TheVariants.{Touch, Read, Add}
-use Rattle.depot.specs.rule.History.{entries_of}
+use Rattle.depot_rule.specs.History.{entries_of}
 use Rattle.depot.specs.trial.Adding.{Changes}
 use Rattle.depot.specs.Words.{view}
 

@@ -2,9 +2,9 @@
 
 ghost use Rattle.depot_rows.specs.Adder.{Adds};
 
-use affinity_tree::{Affinity, Layout};
+use affinity::{Affinity, Layout};
 use desk::{ParcelKinds, Task};
-use parcel_sets::{
+use parcels::{
     AggrHeld, LogicalHeld, Numbers, Parcel, RangeHeld, SerialHeld, StripeHeld, VbnHeld, VolumeHeld,
 };
 

@@ -6,10 +6,10 @@ ghost use Rattle.depot_rows.specs.Counting.{made_by};
 
 use crate::counters::{Made, attempt_any};
 use crate::trial::same;
-use affinity_tree::Affinity;
+use affinity::Affinity;
 use depot::trial::adding::{Adding, all_of, volumes};
 use depot::{Depot, Seat};
-use parcel_sets::SerialNode;
+use parcels::SerialNode;
 use std::alloc::{AllocError, Global};
 use std::process::Abort;
 use std::sync::atomic::{AtomicU64, Ordering};

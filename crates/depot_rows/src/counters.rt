@@ -2,14 +2,14 @@
 
 ghost use Rattle.std.specs.Prelude.{◌≡◌, ◌++◌, [], ◌∷◌, None, IfSome};
 ghost use Rattle.nfs_model.specs.Tree as trees;
-ghost use Rattle.parcel_sets.specs.Exact.{HasExactly, kind_in};
+ghost use Rattle.parcels.specs.Exact.{HasExactly, kind_in};
 ghost use Rattle.depot.specs.Words.{IsSeatHere};
 ghost use Rattle.depot_rows.specs.Counting.{AddsOne, HasSeenAsMuch, made_by};
 
-use affinity_tree::{Affinity, Kind};
+use affinity::{Affinity, Kind};
 use depot::trial::adding::{Adding, Change};
 use depot::{Depot, Seat};
-use parcel_sets::{
+use parcels::{
     AggrHeld, AggregateNode, LogicalHeld, LogicalNode, Node, Numbers, Parcel, RangeHeld, RangeNode,
     SerialHeld, SerialNode, StripeHeld, StripeNode, VbnHeld, VbnNode, VolumeHeld, VolumeNode,
 };

@@ -1,8 +1,8 @@
 //! Calls on nodes of each kind, and what other calls find in their midst.
 
 use crate::turns::{Turn, close, open, take_turn};
-use affinity_tree::Affinity;
-use parcel_sets::{Numbers, SerialHeld};
+use affinity::Affinity;
+use parcels::{Numbers, SerialHeld};
 use std::mem;
 
 const STRIPE: Affinity = Affinity::Stripe {

@@ -6,12 +6,12 @@ ghost use Rattle.depot.specs.Words.{IsSeatHere};
 use crate::trial::{
     Found, claim_all, claim_any, close_joined, holds_beside, look, opened, same, splits, two_seats,
 };
-use affinity_tree::Affinity;
+use affinity::Affinity;
 use depot::trial::adding::{Adding, add, read, touch_on, touches};
 use depot::trial::lending;
 use depot::trial::lending::{give, take};
 use depot::{Depot, Seat};
-use parcel_sets::StripeNode;
+use parcels::StripeNode;
 use std::process::Abort;
 use std::sync::atomic::AtomicBool;
 use std::test::Fail;

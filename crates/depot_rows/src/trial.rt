@@ -2,10 +2,10 @@
 
 ghost use Rattle.depot.specs.Words.{IsSeatHere};
 
-use affinity_tree::{Affinity, Kind};
+use affinity::{Affinity, Kind};
 use depot::trial::adding::{Adding, all_of, open, split, volumes};
 use depot::{Depot, Refusal, Seat};
-use parcel_sets::{
+use parcels::{
     LogicalNode, Node, Numbers, Parcel, RangeNode, SerialNode, StripeNode, VbnNode, VolumeNode,
 };
 use std::alloc::Global;

@@ -1,18 +1,18 @@
 //! Calls on a desk of numbers, from begin to end.
 
 ghost use Rattle.std.specs.Prelude.{◌≡◌, ◌≢◌, ◌↔◌, ℕ, true, IfSome};
-ghost use Rattle.affinity_tree.specs.Affinity.{affinity_of};
-ghost use Rattle.affinity_tree.specs.Tree.{IsNode};
+ghost use Rattle.affinity.specs.Affinity.{affinity_of};
+ghost use Rattle.affinity.specs.Tree.{IsNode};
 ghost use Rattle.desk.specs.laws.Books.{IsIdle};
 ghost use Rattle.desk.specs.laws.Calls.{AreIdle, MayPutBack};
 ghost use Rattle.desk.specs.Words.{books, IsKept};
 
 use crate::adder::Adder;
-use affinity_tree::Affinity;
-use depot::rule::machine::Machine;
+use affinity::Affinity;
 use depot::trial::adding::{Adding, Change, all_of, volumes};
+use depot_rule::machine::Machine;
 use desk::{Desk, NodeKinds, ParcelKinds};
-use parcel_sets::Node;
+use parcels::Node;
 use std::process::Abort;
 
 /// A desk of numbers that calls add to.

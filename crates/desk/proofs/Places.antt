@@ -7,8 +7,8 @@ use Rattle.std.proofs.lemmas.List.{set-get_or, map-set, map-append, replicate_mo
 use mathlib.Core.Option.{some}
 use lib.ListN.{get_elem?}
 use Rattle.nfs_model.specs.Tree.{Layout}
-use Rattle.depot.specs.declared.rule.view.View.{View}
-use Rattle.depot.specs.declared.rule.view.Entry.{Entry}
+use Rattle.depot_rule.specs.declared.view.View.{View}
+use Rattle.depot_rule.specs.declared.view.Entry.{Entry}
 use Rattle.desk.specs.laws.Books.{Lent, IsIdle, HasLent}
 use Rattle.desk.specs.laws.Backing.{Shows, books_of}
 use Rattle.desk.specs.laws.lemmas.Ends.{found-at, none-lent}

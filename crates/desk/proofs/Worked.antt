@@ -1,11 +1,11 @@
 -- A node's set, where a task finds it and where it leaves it.
 use Rattle.std.proofs.Common.{◌≡◌, ℕ, Option, refl, sym, subst}
 use Rattle.nfs_model.specs.Tree as trees
-use Rattle.affinity_tree.specs.declared.affinity.HasKind as kinds
-use Rattle.affinity_tree.specs.declared.affinity.Affinity.{Affinity}
-use Rattle.affinity_tree.specs.Affinity.{affinity_of}
-use Rattle.parcel_sets.specs.declared.node.Node as nodes
-use Rattle.parcel_sets.specs.Exact.{HasExactly}
+use Rattle.affinity.specs.declared.affinity.HasKind as kinds
+use Rattle.affinity.specs.declared.affinity.Affinity.{Affinity}
+use Rattle.affinity.specs.Affinity.{affinity_of}
+use Rattle.parcels.specs.declared.node.Node as nodes
+use Rattle.parcels.specs.Exact.{HasExactly}
 use Rattle.depot.specs.Words.{node_of, held_in}
 use Rattle.desk.specs.laws.Books.{Lent}
 use Rattle.desk.specs.laws.Backing.{IsDone}

@@ -1,8 +1,8 @@
 -- What a grant of any kind of node lends.
 use Rattle.nfs_model.specs.Tree.{Layout}
-use Rattle.affinity_tree.specs.declared.affinity.HasKind as kinds
-use Rattle.affinity_tree.specs.Affinity.{affinity_of}
-use Rattle.parcel_sets.specs.declared.node.Node as nodes
+use Rattle.affinity.specs.declared.affinity.HasKind as kinds
+use Rattle.affinity.specs.Affinity.{affinity_of}
+use Rattle.parcels.specs.declared.node.Node as nodes
 use Rattle.depot.specs.Words.{node_of, parcels_in}
 use Rattle.desk.specs.laws.Books.{Lent}
 use Rattle.desk.specs.declared.grant.NodeGrant.{NodeGrant}

@@ -1,8 +1,8 @@
 -- What lies in a worker's place.
 use Rattle.std.specs.Prelude.{List, map, Option, Some, None, option_map}
 use Rattle.nfs_model.specs.Tree.{Layout}
-use Rattle.affinity_tree.specs.declared.affinity.HasKind as kinds
-use Rattle.parcel_sets.specs.declared.node.Node as nodes
+use Rattle.affinity.specs.declared.affinity.HasKind as kinds
+use Rattle.parcels.specs.declared.node.Node as nodes
 use Rattle.desk.specs.laws.Books.{Lent}
 use Rattle.desk.specs.laws.Backing.{Shows}
 use Rattle.desk.specs.declared.place.Place.{Place}

@@ -1,8 +1,8 @@
 -- The words in which the clauses of the calls speak.
-use Rattle.affinity_tree.specs.declared.affinity.HasKind as kinds
-use Rattle.parcel_sets.specs.declared.node.Node as nodes
-use Rattle.depot.specs.declared.rule.machine.Machine as machines
-use Rattle.depot.specs.rule.History.{Behaviour}
+use Rattle.affinity.specs.declared.affinity.HasKind as kinds
+use Rattle.parcels.specs.declared.node.Node as nodes
+use Rattle.depot_rule.specs.declared.machine.Machine as machines
+use Rattle.depot_rule.specs.History.{Behaviour}
 use Rattle.depot.specs.Words.{served_by, layout_in, view}
 use Rattle.desk.specs.laws.Books.{Books}
 use Rattle.desk.specs.laws.Backing.{books_of, IsBook}

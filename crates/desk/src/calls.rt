@@ -9,14 +9,14 @@ use crate::refusal::Refusal;
 use crate::taken::is_taken;
 use crate::task::Task;
 use crate::working::work_in;
-use affinity_tree::Affinity;
+use affinity::Affinity;
 use depot::Refusal as Refused;
-use depot::rule::machine::Machine;
+use depot_rule::machine::Machine;
 
 impl<M: Machine, K: NodeKinds<M::Parcel>> Desk<M, K> {
     ghost use Rattle.std.specs.Prelude.{OnOk, IfErr};
-    ghost use Rattle.affinity_tree.specs.Affinity.{affinity_of};
-    ghost use Rattle.affinity_tree.specs.Tree.{IsNode};
+    ghost use Rattle.affinity.specs.Affinity.{affinity_of};
+    ghost use Rattle.affinity.specs.Tree.{IsNode};
     ghost use Rattle.desk.specs.laws.Books.{IsIdle};
     ghost use Rattle.desk.specs.laws.Calls.{HasBegun, MayWork, HasWorked};
     ghost use Rattle.desk.specs.laws.Calls.{MayFinish, HasFinished, MayPutBack, HasPutBack};

@@ -2,12 +2,12 @@
 
 use crate::desk::Desk;
 use crate::kinds::NodeKinds;
-use depot::rule::machine::Machine;
-use parcel_sets::Node;
+use depot_rule::machine::Machine;
+use parcels::Node;
 
 impl<M: Machine, K: NodeKinds<M::Parcel>> Desk<M, K> {
     ghost use Rattle.nfs_model.specs.Tree as trees;
-    ghost use Rattle.parcel_sets.specs.Exact.{HasExactly};
+    ghost use Rattle.parcels.specs.Exact.{HasExactly};
     ghost use Rattle.depot.specs.Words.{all_parcels};
     ghost use Rattle.desk.specs.laws.Calls.{AreIdle, AreSettled};
     ghost use Rattle.desk.specs.Words.{books, IsKept};

@@ -5,8 +5,8 @@ ghost use Rattle.depot.specs.Words.{splits_left, IsSeatHere};
 
 use crate::kinds::NodeKinds;
 use crate::place::Place;
-use depot::rule::machine::Machine;
 use depot::{Depot, Seat};
+use depot_rule::machine::Machine;
 
 /// A depot with its only seat, whose grants are lent to workers.
 #[derive(Drop)]

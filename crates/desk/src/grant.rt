@@ -1,13 +1,13 @@
 //! Grants of nodes of any kind.
 
 ghost use Rattle.std.specs.Prelude.{◌≡◌};
-ghost use Rattle.affinity_tree.specs.Affinity.{affinity_of, kind_of};
+ghost use Rattle.affinity.specs.Affinity.{affinity_of, kind_of};
 ghost use Rattle.depot.specs.Words.{node_of};
 
 use crate::kinds::NodeKinds;
-use affinity_tree::{Affinity, HasKind};
+use affinity::{Affinity, HasKind};
 use depot::Grant;
-use parcel_sets::Node;
+use parcels::Node;
 
 /// A grant of a node of one kind.
 #[derive(Drop)]

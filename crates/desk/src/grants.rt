@@ -1,9 +1,9 @@
 //! Grants of nodes of any kind, begun and ended in a worker's place.
 
 ghost use Rattle.std.specs.Prelude.{◌≡◌, Some, None, OnOk, IfErr, IsSomeAnd};
-ghost use Rattle.affinity_tree.specs.Affinity.{affinity_of};
-ghost use Rattle.affinity_tree.specs.Numbers.{number_of};
-ghost use Rattle.affinity_tree.specs.Tree.{IsNode};
+ghost use Rattle.affinity.specs.Affinity.{affinity_of};
+ghost use Rattle.affinity.specs.Numbers.{number_of};
+ghost use Rattle.affinity.specs.Tree.{IsNode};
 ghost use Rattle.depot.specs.Grants.{entry_of, IsEnded, IsFinished, IsRefused};
 ghost use Rattle.depot.specs.Words.{machine_of, layout_in, view, splits_left};
 ghost use Rattle.depot.specs.Words.{IsSeatHere, IsNodeOf};
@@ -16,9 +16,9 @@ use crate::kinds::NodeKinds;
 use crate::nodes::{begin_node, finish_node, put_back_node};
 use crate::place::Place;
 use crate::putting::{put_large, put_small};
-use affinity_tree::{Affinity, Kind};
-use depot::rule::machine::Machine;
+use affinity::{Affinity, Kind};
 use depot::{Depot, Refusal, Seat};
+use depot_rule::machine::Machine;
 
 /// Begins a call on an aggregate. It isn't inlined: else each begin would fill the room of such a
 /// grant.

@@ -2,10 +2,10 @@
 
 ghost use Rattle.std.specs.Prelude.{◌≡◌};
 ghost use Rattle.std.proofs.Common.{refl};
-ghost use Rattle.affinity_tree.specs.declared.affinity.Kind.TheVariants as kinds;
+ghost use Rattle.affinity.specs.declared.affinity.Kind.TheVariants as kinds;
 
-use affinity_tree::HasKind;
-use parcel_sets::{
+use affinity::HasKind;
+use parcels::{
     AggregateNode, Family, LogicalNode, Node, Parcel, RangeNode, SerialNode, StripeNode, VbnNode,
     VolumeNode,
 };

@@ -1,17 +1,17 @@
 //! Work on what was lent, of one kind of node.
 
-ghost use Rattle.affinity_tree.specs.Affinity.{affinity_of};
-ghost use Rattle.affinity_tree.specs.Layout.{layout_of};
-ghost use Rattle.affinity_tree.specs.Tree.{IsNode};
-ghost use Rattle.parcel_sets.specs.Exact.{HasExactly};
+ghost use Rattle.affinity.specs.Affinity.{affinity_of};
+ghost use Rattle.affinity.specs.Layout.{layout_of};
+ghost use Rattle.affinity.specs.Tree.{IsNode};
+ghost use Rattle.parcels.specs.Exact.{HasExactly};
 ghost use Rattle.desk.specs.laws.Backing.{IsWhole, IsDone};
 ghost use Rattle.desk.specs.Any.{node_lent};
 
 use crate::grant::NodeGrant;
 use crate::kinds::{NodeKinds, ParcelKinds};
 use crate::task::Task;
-use affinity_tree::{Affinity, HasKind, Layout};
-use parcel_sets::{
+use affinity::{Affinity, HasKind, Layout};
+use parcels::{
     AggrHeld, AggregateNode, Family, LogicalHeld, LogicalNode, Node, Parcel, RangeHeld, RangeNode,
     SerialHeld, SerialNode, StripeHeld, StripeNode, VbnHeld, VbnNode, VolumeHeld, VolumeNode,
 };

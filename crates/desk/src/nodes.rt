@@ -1,8 +1,8 @@
 //! Grants of nodes of one kind, begun and ended.
 
 ghost use Rattle.std.specs.Prelude.{◌≡◌, IfOk, OnOk, IfErr};
-ghost use Rattle.affinity_tree.specs.Affinity.{affinity_of};
-ghost use Rattle.affinity_tree.specs.Numbers.{number_of};
+ghost use Rattle.affinity.specs.Affinity.{affinity_of};
+ghost use Rattle.affinity.specs.Numbers.{number_of};
 ghost use Rattle.depot.specs.Grants.{entry_of, IsEnded, IsFinished, IsRefused, IsLast};
 ghost use Rattle.depot.specs.declared.grants.Refusal.TheVariants.{Worn};
 ghost use Rattle.depot.specs.Words.{machine_of, layout_in, view, splits_left, IsSeatHere, IsNodeOf};
@@ -10,10 +10,10 @@ ghost use Rattle.desk.specs.laws.Backing.{IsGranted, CanFinish, CanPutBack, HasG
 ghost use Rattle.desk.specs.Any.{node_lent};
 
 use crate::grant::NodeGrant;
-use affinity_tree::Affinity;
-use depot::rule::machine::Machine;
+use affinity::Affinity;
 use depot::{Depot, Refusal, Seat};
-use parcel_sets::Node;
+use depot_rule::machine::Machine;
+use parcels::Node;
 
 /// Begins a call on a node of one kind.
 #[inline(never)]

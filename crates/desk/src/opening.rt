@@ -7,10 +7,10 @@ use crate::desk::Desk;
 use crate::kinds::NodeKinds;
 use crate::place::Place;
 use crate::putting::idle_place;
-use affinity_tree::{HasKind, Layout};
+use affinity::{HasKind, Layout};
 use depot::Depot;
-use depot::rule::machine::Machine;
-use parcel_sets::Node;
+use depot_rule::machine::Machine;
+use parcels::Node;
 use std::alloc::{AllocError, Global};
 
 /// The places of so many idle workers.
@@ -30,9 +30,9 @@ fn idle_places<T: HasKind, K: NodeKinds<T>>(
 impl<M: Machine, K: NodeKinds<M::Parcel>> Desk<M, K> {
     ghost use Rattle.std.specs.Prelude.{[]};
     ghost use Rattle.nfs_model.specs.Tree as trees;
-    ghost use Rattle.affinity_tree.specs.Layout.{layout_of};
-    ghost use Rattle.affinity_tree.specs.Numbers.{parents};
-    ghost use Rattle.parcel_sets.specs.Exact.{HasExactly};
+    ghost use Rattle.affinity.specs.Layout.{layout_of};
+    ghost use Rattle.affinity.specs.Numbers.{parents};
+    ghost use Rattle.parcels.specs.Exact.{HasExactly};
     ghost use Rattle.depot.specs.Words.{all_parcels};
     ghost use Rattle.desk.specs.laws.Books.{opening_books};
     ghost use Rattle.desk.specs.Words.{books, IsKept};

@@ -4,7 +4,7 @@ ghost use Rattle.std.specs.Prelude.{◌≡◌, ◌&&◌, false, is_some};
 
 use crate::grant::{LargeGrant, SmallGrant};
 use crate::kinds::NodeKinds;
-use affinity_tree::HasKind;
+use affinity::HasKind;
 
 /// A worker's place. An `Option` is filled and moved whole, whatever lies in it: so a large grant,
 /// which is rare, has a field of its own.

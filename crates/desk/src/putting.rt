@@ -7,7 +7,7 @@ ghost use Rattle.desk.specs.Places.{granted};
 use crate::grant::{LargeGrant, SmallGrant};
 use crate::kinds::NodeKinds;
 use crate::place::Place;
-use affinity_tree::HasKind;
+use affinity::HasKind;
 use std::mem;
 
 /// The place of an idle worker.

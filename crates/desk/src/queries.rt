@@ -6,12 +6,12 @@ use crate::desk::Desk;
 use crate::kinds::NodeKinds;
 use crate::putting::is_idle_place;
 use crate::taken::is_taken;
-use affinity_tree::{Affinity, Layout};
-use depot::rule::machine::Machine;
+use affinity::{Affinity, Layout};
+use depot_rule::machine::Machine;
 
 impl<M: Machine, K: NodeKinds<M::Parcel>> Desk<M, K> {
-    ghost use Rattle.affinity_tree.specs.Affinity.{affinity_of};
-    ghost use Rattle.affinity_tree.specs.Layout.{layout_of};
+    ghost use Rattle.affinity.specs.Affinity.{affinity_of};
+    ghost use Rattle.affinity.specs.Layout.{layout_of};
     ghost use Rattle.desk.specs.laws.Books.{IsIdle, IsTaken};
     ghost use Rattle.desk.specs.Words.{books};
 

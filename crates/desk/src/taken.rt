@@ -1,8 +1,8 @@
 //! What the open grants exclude.
 
 ghost use Rattle.std.specs.Prelude.{◌≡◌, ◌↔◌, true, option_map};
-ghost use Rattle.affinity_tree.specs.Affinity.{affinity_of};
-ghost use Rattle.affinity_tree.specs.Layout.{layout_of};
+ghost use Rattle.affinity.specs.Affinity.{affinity_of};
+ghost use Rattle.affinity.specs.Layout.{layout_of};
 ghost use Rattle.desk.specs.laws.Backing.{excludes_lent, IsTakenIn};
 ghost use Rattle.desk.specs.Any.{small_lent, large_lent};
 ghost use Rattle.desk.specs.Places.{granted, all_granted, shown};
@@ -10,7 +10,7 @@ ghost use Rattle.desk.specs.Places.{granted, all_granted, shown};
 use crate::grant::{LargeGrant, SmallGrant};
 use crate::kinds::NodeKinds;
 use crate::place::Place;
-use affinity_tree::{Affinity, HasKind, Layout};
+use affinity::{Affinity, HasKind, Layout};
 
 /// What was granted of a volume or below one.
 fn affinity_in_small<T: HasKind, K: NodeKinds<T>>(

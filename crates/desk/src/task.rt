@@ -1,14 +1,14 @@
 //! Work on what was lent, of whichever kind.
 
-ghost use Rattle.affinity_tree.specs.Affinity.{affinity_of};
-ghost use Rattle.affinity_tree.specs.Layout.{layout_of};
-ghost use Rattle.affinity_tree.specs.Tree.{IsNode};
-ghost use Rattle.parcel_sets.specs.Exact.{HasExactly};
+ghost use Rattle.affinity.specs.Affinity.{affinity_of};
+ghost use Rattle.affinity.specs.Layout.{layout_of};
+ghost use Rattle.affinity.specs.Tree.{IsNode};
+ghost use Rattle.parcels.specs.Exact.{HasExactly};
 ghost use Rattle.desk.specs.laws.Calls.{Asks, Does};
 
 use crate::kinds::NodeKinds;
-use affinity_tree::{Affinity, HasKind, Layout};
-use parcel_sets::Node;
+use affinity::{Affinity, HasKind, Layout};
+use parcels::Node;
 
 /// Work on the parcels under an affinity. It changes them and takes away none.
 pub trait Task<T: HasKind, K: NodeKinds<T>> {

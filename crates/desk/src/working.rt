@@ -1,8 +1,8 @@
 //! Tasks on what was granted.
 
 ghost use Rattle.std.specs.Prelude.{◌≡◌, Some, IsSomeAnd};
-ghost use Rattle.affinity_tree.specs.Layout.{layout_of};
-ghost use Rattle.affinity_tree.specs.Tree.{IsNode};
+ghost use Rattle.affinity.specs.Layout.{layout_of};
+ghost use Rattle.affinity.specs.Tree.{IsNode};
 ghost use Rattle.nfs_model.specs.Tree as trees;
 ghost use Rattle.desk.specs.laws.Books.{Lent};
 ghost use Rattle.desk.specs.laws.Backing.{IsWhole, IsDone};
@@ -13,7 +13,7 @@ use crate::grant::{LargeGrant, SmallGrant};
 use crate::kinds::NodeKinds;
 use crate::place::Place;
 use crate::task::Task;
-use affinity_tree::{HasKind, Layout};
+use affinity::{HasKind, Layout};
 
 /// Does a task on what was granted of a volume or below one.
 fn work_small<T: HasKind, K: NodeKinds<T>, W: Task<T, K>>(

@@ -15,13 +15,13 @@ use Rattle.nfs_model.specs.Events.Refusals.{Begin, is_idle, is_bad_moment, refus
 use Rattle.nfs_model.specs.Tree.{Affinity}
 use Rattle.nfs_values.specs.Moment.{moment_of}
 use Rattle.nfs_values.specs.declared.call.Call.{Call}
-use Rattle.affinity_tree.specs.declared.affinity.Affinity as codes
-use Rattle.affinity_tree.specs.declared.scheduler.message.Message.{Message}
-use Rattle.parcels.specs.state.Contents.{filer_contents}
-use Rattle.parcels.specs.state.Tree.{server_of}
-use Rattle.parcels.specs.state.Partition.{all_parts}
-use Rattle.parcels.specs.state.Parcels.{FilerParcel}
-use Rattle.parcels.specs.state.Jobs.{Job, JobReply}
+use Rattle.affinity.specs.declared.affinity.Affinity as codes
+use Rattle.scheduler.specs.declared.message.Message.{Message}
+use Rattle.filer_state.specs.state.Contents.{filer_contents}
+use Rattle.filer_state.specs.state.Tree.{server_of}
+use Rattle.filer_state.specs.state.Partition.{all_parts}
+use Rattle.filer_state.specs.state.Parcels.{FilerParcel}
+use Rattle.filer_state.specs.state.Jobs.{Job, JobReply}
 use Rattle.desk.specs.laws.Books.{Lent, IsIdle, now, stamps}
 use Rattle.desk.specs.laws.Calls as desks
 use Rattle.engine.specs.laws.Store.{FilerBooks, RunsOn, StandsFor}

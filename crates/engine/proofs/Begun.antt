@@ -9,13 +9,13 @@ use Rattle.nfs_model.specs.Events.Step.{begun}
 use Rattle.nfs_values.specs.declared.call.Call.{Call}
 use Rattle.nfs_values.specs.declared.moment.Moment.{Moment}
 use Rattle.nfs_values.specs.Moment.{moment_of}
-use Rattle.affinity_tree.specs.declared.affinity.Affinity.{Affinity}
-use Rattle.affinity_tree.specs.Affinity.{affinity_of}
-use Rattle.affinity_tree.specs.declared.scheduler.message.Message.{Message}
-use Rattle.depot.specs.rule.Sums.{total}
-use Rattle.parcels.specs.state.Contents.{filer_contents}
-use Rattle.parcels.specs.state.Tree.{server_of}
-use Rattle.parcels.specs.state.Partition.{all_parts}
+use Rattle.affinity.specs.declared.affinity.Affinity.{Affinity}
+use Rattle.affinity.specs.Affinity.{affinity_of}
+use Rattle.scheduler.specs.declared.message.Message.{Message}
+use Rattle.depot_rule.specs.Sums.{total}
+use Rattle.filer_state.specs.state.Contents.{filer_contents}
+use Rattle.filer_state.specs.state.Tree.{server_of}
+use Rattle.filer_state.specs.state.Partition.{all_parts}
 use Rattle.desk.specs.laws.Books.{IsTaken, now, stamps}
 use Rattle.desk.specs.laws.Calls as desks
 use Rattle.engine.specs.laws.Store.{StandsFor}

@@ -11,8 +11,8 @@ use Rattle.nfs_model.specs.Events.Refusals as events
 use Rattle.nfs_model.specs.Events.Refusals.{Event, Fetch, Cull, PutDown, Survey, excluded, refusal, is_idle, has_empty_hand, is_range_in_use, or_not_in_use}
 use Rattle.nfs_model.specs.Events.Refusals.{may_lack_memory, put_refusal, hand_of, fetch_refusal}
 use Rattle.nfs_model.specs.Events.Step.{Events, Happens, stamp_added}
-use Rattle.parcels.specs.state.Jobs as jobs
-use Rattle.parcels.specs.state.Jobs.{InnerCall, JobReply, Took, Gave, Surveyed, Replied, batches_in, inner_node, inner_volume, InnerMoves, without_hand}
+use Rattle.filer_state.specs.state.Jobs as jobs
+use Rattle.filer_state.specs.state.Jobs.{InnerCall, JobReply, Took, Gave, Surveyed, Replied, batches_in, inner_node, inner_volume, InnerMoves, without_hand}
 use Rattle.engine.specs.laws.Inner.{HasMoved}
 use Rattle.engine.specs.Inner as tending
 use Rattle.engine.specs.Inner.{Refuses, told_as}

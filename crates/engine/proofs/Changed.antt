@@ -5,12 +5,12 @@ use Rattle.std.specs.List.{AllByRecursion}
 use Rattle.std.proofs.lemmas.List.{length-set}
 use Rattle.nfs_model.specs.World.{World}
 use Rattle.nfs_values.specs.declared.call.Call.{Call}
-use Rattle.affinity_tree.specs.declared.scheduler.message.Message.{Message}
-use Rattle.depot.specs.rule.Sums.{total}
-use Rattle.parcels.specs.state.Contents.{filer_contents}
-use Rattle.parcels.specs.state.Partition.{all_parts}
-use Rattle.parcels.specs.state.Tree.{server_of}
-use Rattle.parcels.specs.declared.files.Files.{Files}
+use Rattle.scheduler.specs.declared.message.Message.{Message}
+use Rattle.depot_rule.specs.Sums.{total}
+use Rattle.filer_state.specs.state.Contents.{filer_contents}
+use Rattle.filer_state.specs.state.Partition.{all_parts}
+use Rattle.filer_state.specs.state.Tree.{server_of}
+use Rattle.filer_state.specs.declared.files.Files.{Files}
 use Rattle.desk.specs.laws.Books.{now, stamps}
 use Rattle.desk.specs.Words.{books, IsKept}
 use Rattle.engine.specs.laws.Store.{FilerBooks, StandsFor}

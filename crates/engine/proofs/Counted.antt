@@ -13,19 +13,19 @@ use Rattle.nfs_model.specs.Server.{Server}
 use Rattle.nfs_model.specs.World.{Setup, World, hands_blocks, counts_of}
 use Rattle.nfs_model.specs.Parts.{hand_blocks}
 use Rattle.nfs_values.specs.declared.call.Call.{Call}
-use Rattle.affinity_tree.specs.declared.affinity.Kind.TheVariants as kinds
-use Rattle.affinity_tree.specs.Numbers.{number_of, parents}
-use Rattle.depot.specs.rule.History.{patched}
+use Rattle.affinity.specs.declared.affinity.Kind.TheVariants as kinds
+use Rattle.affinity.specs.Numbers.{number_of, parents}
+use Rattle.depot_rule.specs.History.{patched}
 use Rattle.desk.specs.laws.Books.{Lent, now, HasLent}
 use Rattle.desk.specs.laws.Calls.{Does, MayWork, HasWorked}
 use Rattle.desk.specs.Words.{books}
-use Rattle.parcels.specs.state.Parcels.{FilerParcel}
-use Rattle.parcels.specs.state.Contents.{contents_of, filer_contents}
-use Rattle.parcels.specs.state.Tree.{volume_of}
-use Rattle.parcels.specs.state.Partition.{parts_of}
-use Rattle.parcels.specs.state.Jobs.{Job, JobReply}
-use Rattle.parcels.specs.laws.Laws.{PartsPartition}
-use Rattle.parcels.specs.laws.lemmas.Each.{each-length}
+use Rattle.filer_state.specs.state.Parcels.{FilerParcel}
+use Rattle.filer_state.specs.state.Contents.{contents_of, filer_contents}
+use Rattle.filer_state.specs.state.Tree.{volume_of}
+use Rattle.filer_state.specs.state.Partition.{parts_of}
+use Rattle.filer_state.specs.state.Jobs.{Job, JobReply}
+use Rattle.filer_state.specs.laws.Laws.{PartsPartition}
+use Rattle.filer_state.specs.laws.lemmas.Each.{each-length}
 use Rattle.engine.specs.laws.Store.{FilerBooks, StandsFor, batches_carried}
 use Rattle.engine.specs.laws.lemmas.Agreeing.{agreed, now-served}
 use Rattle.service.specs.Running.{IsRunAt, AsksFor}

@@ -14,7 +14,7 @@ use Rattle.nfs_model.specs.Events.Refusals.{open_count}
 use Rattle.nfs_model.specs.Events.Step.{finished_by, stamp_added, without_call}
 use Rattle.nfs_values.specs.declared.call.Call.{Call}
 use Rattle.nfs_values.specs.Moment.{moment_of}
-use Rattle.affinity_tree.specs.declared.scheduler.message.Message.{Message}
+use Rattle.scheduler.specs.declared.message.Message.{Message}
 use Rattle.engine_feed.specs.declared.state.CallsState.{CallsState}
 use Rattle.engine_feed.specs.declared.state.ConnectionState.{ConnectionState}
 use Rattle.engine_feed.specs.Seen.{owed_by, message_of, waiting_of, finished_of, finished_message}

@@ -17,12 +17,12 @@ use Rattle.nfs_values.specs.declared.reply.Reply.{Reply}
 use Rattle.nfs_values.specs.declared.reply.Reply.TheVariants.{Refused}
 use Rattle.nfs_values.specs.declared.reply.Refusal.TheVariants.{SystemError}
 use Rattle.nfs_values.specs.Reply.{reply_of}
-use Rattle.affinity_tree.specs.declared.scheduler.message.Message.{Message}
-use Rattle.parcels.specs.state.Contents.{filer_contents}
-use Rattle.parcels.specs.state.Tree.{server_of}
-use Rattle.parcels.specs.state.Partition.{all_parts}
-use Rattle.parcels.specs.state.Parcels.{FilerParcel}
-use Rattle.parcels.specs.state.Jobs.{Job, JobReply}
+use Rattle.scheduler.specs.declared.message.Message.{Message}
+use Rattle.filer_state.specs.state.Contents.{filer_contents}
+use Rattle.filer_state.specs.state.Tree.{server_of}
+use Rattle.filer_state.specs.state.Partition.{all_parts}
+use Rattle.filer_state.specs.state.Parcels.{FilerParcel}
+use Rattle.filer_state.specs.state.Jobs.{Job, JobReply}
 use Rattle.desk.specs.laws.Books.{Lent, HasLent, IsSame, now}
 use Rattle.engine.specs.laws.lemmas.Beginning.{same-now}
 use Rattle.engine.specs.laws.Store.{FilerBooks, IsServed, HasOutcome, RunsOn, StandsFor}

@@ -8,10 +8,10 @@ use Rattle.std.proofs.lemmas.List.{length-map}
 use Rattle.nfs_model.specs.Tree.{Layout}
 use Rattle.nfs_model.specs.Parts.{Hand, Empty, Fresh, Dead, range_of}
 use Rattle.nfs_model.specs.Events.Refusals.{is_idle, has_empty_hand, hand_of}
-use Rattle.parcels.specs.state.Contents.{filer_contents}
-use Rattle.parcels.specs.state.Tree.{volume_of}
-use Rattle.parcels.specs.state.Jobs.{InnerCall, Fetch, Deliver, Cull, Free, Survey}
-use Rattle.parcels.specs.laws.lemmas.Steps.{laid-out}
+use Rattle.filer_state.specs.state.Contents.{filer_contents}
+use Rattle.filer_state.specs.state.Tree.{volume_of}
+use Rattle.filer_state.specs.state.Jobs.{InnerCall, Fetch, Deliver, Cull, Free, Survey}
+use Rattle.filer_state.specs.laws.lemmas.Steps.{laid-out}
 use Rattle.desk.specs.laws.Books.{now}
 use Rattle.desk.specs.Words.{books}
 use Rattle.engine_feed.specs.Seen.{layout_in}

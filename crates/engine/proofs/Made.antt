@@ -1,13 +1,13 @@
 -- An inner call made on the engine's desk: what it needs at each step, and what it comes to.
 use Rattle.std.proofs.Common.{◌≡◌, ℕ, ◌<◌, ◌++◌, length, Some, refl, sym, ◌∙◌, subst}
 use Rattle.nfs_model.specs.Parts.{Hand, Empty}
-use Rattle.affinity_tree.specs.Tree.{IsNode}
-use Rattle.parcels.specs.state.Parcels.{FilerParcel}
-use Rattle.parcels.specs.state.Jobs as jobs
-use Rattle.parcels.specs.state.Jobs.{InnerCall, Inner, batches_in, inner_node, inner_volume}
-use Rattle.parcels.specs.state.Contents.{VolumeContents, volume_at, contents_of, filer_contents}
-use Rattle.parcels.specs.state.Running.{IsRefusedIn, IsRefusedOn}
-use Rattle.parcels.specs.laws.lemmas.Each.{each-get}
+use Rattle.affinity.specs.Tree.{IsNode}
+use Rattle.filer_state.specs.state.Parcels.{FilerParcel}
+use Rattle.filer_state.specs.state.Jobs as jobs
+use Rattle.filer_state.specs.state.Jobs.{InnerCall, Inner, batches_in, inner_node, inner_volume}
+use Rattle.filer_state.specs.state.Contents.{VolumeContents, volume_at, contents_of, filer_contents}
+use Rattle.filer_state.specs.state.Running.{IsRefusedIn, IsRefusedOn}
+use Rattle.filer_state.specs.laws.lemmas.Each.{each-get}
 use Rattle.desk.specs.laws.Books.{Lent, settled, stamps}
 use Rattle.desk.specs.laws.Calls.{HasBegun, MayWork, HasWorked, MayFinish, HasFinished, MayPutBack, HasPutBack}
 use Rattle.engine.specs.laws.Store.{FilerBooks, filer, IsApart}

@@ -11,14 +11,14 @@ use Rattle.nfs_model.specs.Replay.{FinishedCall}
 use Rattle.nfs_model.specs.Events.Refusals.{open_count}
 use Rattle.nfs_model.specs.Headline.{opening_world}
 use Rattle.nfs_values.specs.declared.call.Call.{Call}
-use Rattle.affinity_tree.specs.Fault.{fault_of}
-use Rattle.affinity_tree.specs.declared.scheduler.message.Message as scheduled
-use Rattle.parcels.specs.state.Parcels.{FilerParcel}
-use Rattle.parcels.specs.state.Contents.{filer_contents}
-use Rattle.parcels.specs.state.Tree.{server_of}
-use Rattle.parcels.specs.state.Partition.{all_parts}
-use Rattle.parcels.specs.state.Opening.{AreOpening}
-use Rattle.parcels.specs.laws.Laws.{OpensSound, OpensAsServer, OpensFree}
+use Rattle.affinity.specs.Fault.{fault_of}
+use Rattle.scheduler.specs.declared.message.Message as scheduled
+use Rattle.filer_state.specs.state.Parcels.{FilerParcel}
+use Rattle.filer_state.specs.state.Contents.{filer_contents}
+use Rattle.filer_state.specs.state.Tree.{server_of}
+use Rattle.filer_state.specs.state.Partition.{all_parts}
+use Rattle.filer_state.specs.state.Opening.{AreOpening}
+use Rattle.filer_state.specs.laws.Laws.{OpensSound, OpensAsServer, OpensFree}
 use Rattle.desk.specs.laws.Books.{now, stamps, opening_books}
 use Rattle.engine.specs.laws.Store.{FilerBooks, StandsFor}
 use Rattle.engine.specs.laws.lemmas.Opening.{opening-stands}

@@ -16,13 +16,13 @@ use Rattle.nfs_model.specs.Events.Refusals.{open_count, takes_input}
 use Rattle.nfs_values.specs.declared.call.Call.{Call}
 use Rattle.nfs_values.specs.declared.call.Call.TheVariants as calls
 use Rattle.nfs_values.specs.Call.{call_of}
-use Rattle.affinity_tree.specs.Affinity.{affinity_of}
-use Rattle.affinity_tree.specs.declared.scheduler.message.Message.{Message}
-use Rattle.depot.specs.rule.Sums.{total}
-use Rattle.depot.specs.rule.lemmas.Sums.{total-append}
-use Rattle.parcels.specs.state.Contents.{filer_contents}
-use Rattle.parcels.specs.state.Tree.{volume_of}
-use Rattle.parcels.specs.laws.lemmas.Steps.{laid-out}
+use Rattle.affinity.specs.Affinity.{affinity_of}
+use Rattle.scheduler.specs.declared.message.Message.{Message}
+use Rattle.depot_rule.specs.Sums.{total}
+use Rattle.depot_rule.specs.lemmas.Sums.{total-append}
+use Rattle.filer_state.specs.state.Contents.{filer_contents}
+use Rattle.filer_state.specs.state.Tree.{volume_of}
+use Rattle.filer_state.specs.laws.lemmas.Steps.{laid-out}
 use Rattle.desk.specs.laws.Books.{now, stamps}
 use Rattle.engine.specs.laws.Store.{StandsFor}
 use Rattle.engine.specs.laws.lemmas.Feeding.{WithoutHomeStays, all-append, fed-stands, feed-adds}

@@ -11,7 +11,7 @@ use Rattle.nfs_model.specs.Events.Refusals as events
 use Rattle.nfs_model.specs.Events.Refusals.{open_count}
 use Rattle.nfs_model.specs.Events.Step.{new_connection}
 use Rattle.nfs_values.specs.declared.call.Call.{Call}
-use Rattle.affinity_tree.specs.declared.scheduler.message.Message.{Message}
+use Rattle.scheduler.specs.declared.message.Message.{Message}
 use Rattle.engine.specs.laws.lemmas.Feeding.{stands-alike}
 use Rattle.desk.specs.Words.{books}
 use Rattle.service.specs.Jobs.{job_of, job_reply_of}

@@ -7,15 +7,15 @@ use Rattle.nfs_model.specs.Tree.{Layout}
 use Rattle.nfs_model.specs.Parts.{Parts, Hand, Empty}
 use Rattle.nfs_model.specs.World.{Setup, World}
 use Rattle.nfs_values.specs.declared.call.Call.{Call}
-use Rattle.affinity_tree.specs.Tree.{IsNode}
-use Rattle.affinity_tree.specs.declared.scheduler.message.Message.{Message}
-use Rattle.depot.specs.rule.Sums.{total}
-use Rattle.parcels.specs.state.Contents.{filer_contents}
-use Rattle.parcels.specs.state.Tree.{server_of}
-use Rattle.parcels.specs.state.Partition.{all_parts}
-use Rattle.parcels.specs.state.Jobs as jobs
-use Rattle.parcels.specs.state.Jobs.{InnerCall, Fetch, Deliver, Cull, Free, Survey, Took, Gave, Surveyed, Replied, inner_node, InnerMoves}
-use Rattle.parcels.specs.declared.files.Files.{Files}
+use Rattle.affinity.specs.Tree.{IsNode}
+use Rattle.scheduler.specs.declared.message.Message.{Message}
+use Rattle.depot_rule.specs.Sums.{total}
+use Rattle.filer_state.specs.state.Contents.{filer_contents}
+use Rattle.filer_state.specs.state.Tree.{server_of}
+use Rattle.filer_state.specs.state.Partition.{all_parts}
+use Rattle.filer_state.specs.state.Jobs as jobs
+use Rattle.filer_state.specs.state.Jobs.{InnerCall, Fetch, Deliver, Cull, Free, Survey, Took, Gave, Surveyed, Replied, inner_node, InnerMoves}
+use Rattle.filer_state.specs.declared.files.Files.{Files}
 use Rattle.desk.specs.laws.Books.{now, stamps}
 use Rattle.desk.specs.Words.{books, IsKept}
 use Rattle.engine.specs.laws.Store.{FilerBooks, StandsFor}

@@ -21,16 +21,16 @@ use Rattle.nfs_values.specs.declared.call.Call.{Call}
 use Rattle.nfs_values.specs.Call.{call_of}
 use Rattle.nfs_values.specs.Credential.{credential_of}
 use Rattle.nfs_values.specs.Reply.{reply_of}
-use Rattle.affinity_tree.specs.Affinity.{affinity_of}
-use Rattle.affinity_tree.specs.declared.scheduler.message.Message.{Message}
-use Rattle.depot.specs.rule.Shares.{too_many}
-use Rattle.parcels.specs.state.Parcels.{FilerParcel}
-use Rattle.parcels.specs.state.Contents.{filer_contents}
-use Rattle.parcels.specs.state.Tree.{server_of}
-use Rattle.parcels.specs.state.Partition.{all_parts}
-use Rattle.parcels.specs.state.Deeds.{stored_all}
-use Rattle.parcels.specs.state.Running.{HasFiler, Runs}
-use Rattle.parcels.specs.state.Jobs as jobs
+use Rattle.affinity.specs.Affinity.{affinity_of}
+use Rattle.scheduler.specs.declared.message.Message.{Message}
+use Rattle.depot_rule.specs.Shares.{too_many}
+use Rattle.filer_state.specs.state.Parcels.{FilerParcel}
+use Rattle.filer_state.specs.state.Contents.{filer_contents}
+use Rattle.filer_state.specs.state.Tree.{server_of}
+use Rattle.filer_state.specs.state.Partition.{all_parts}
+use Rattle.filer_state.specs.state.Deeds.{stored_all}
+use Rattle.filer_state.specs.state.Running.{HasFiler, Runs}
+use Rattle.filer_state.specs.state.Jobs as jobs
 use Rattle.desk.specs.laws.Books.{Lent, settled, now, stamps, HasLent, IsUnchanged}
 use Rattle.desk.specs.laws.Calls.{MayWork, HasWorked}
 use Rattle.engine.specs.laws.Store.{FilerBooks, HasOutcome, RunsOn, StandsFor, batches_carried}

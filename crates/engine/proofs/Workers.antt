@@ -9,9 +9,9 @@ use Rattle.nfs_model.specs.Parts.{Hand, Empty, Fresh, Dead}
 use Rattle.nfs_model.specs.World.{Setup, World, changed_at, with_running, with_hand, with_held, all_running}
 use Rattle.nfs_model.specs.Events.Refusals.{Work, Finish, is_idle, is_empty_hand, refusal}
 use Rattle.nfs_values.specs.declared.call.Call.{Call}
-use Rattle.affinity_tree.specs.declared.scheduler.message.Message.{Message}
-use Rattle.depot.specs.rule.Sums.{total}
-use Rattle.depot.specs.rule.lemmas.Sums.{total-append}
+use Rattle.scheduler.specs.declared.message.Message.{Message}
+use Rattle.depot_rule.specs.Sums.{total}
+use Rattle.depot_rule.specs.lemmas.Sums.{total-append}
 use Rattle.service.specs.declared.outcome.Outcome.{Outcome}
 use Rattle.engine.specs.declared.worker.Running.{Running}
 use Rattle.engine.specs.declared.worker.Worker.{Worker}

@@ -1,9 +1,9 @@
 -- The counts of block numbers that an engine keeps by volume, taken anew.
 use Rattle.std.specs.Prelude.{◌≡◌, ℕ, List, Option}
-use Rattle.affinity_tree.specs.Numbers.{number_of, parents}
-use Rattle.depot.specs.rule.History.{patched}
+use Rattle.affinity.specs.Numbers.{number_of, parents}
+use Rattle.depot_rule.specs.History.{patched}
 use Rattle.desk.specs.laws.Books.{Lent, HasLent}
-use Rattle.parcels.specs.state.Parcels.{FilerParcel}
+use Rattle.filer_state.specs.state.Parcels.{FilerParcel}
 use Rattle.engine.specs.laws.Store.{FilerBooks}
 use Rattle.engine.specs.declared.counts.counts.VolumeCounts.{VolumeCounts}
 use Rattle.engine.specs.counts.Counts.{IsCounted, world_counts}

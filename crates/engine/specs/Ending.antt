@@ -7,9 +7,9 @@ use Rattle.nfs_values.specs.declared.call.Call.{Call}
 use Rattle.nfs_values.specs.declared.reply.Reply.{Reply}
 use Rattle.nfs_values.specs.declared.moment.Moment.{Moment}
 use Rattle.nfs_values.specs.Moment.{moment_of}
-use Rattle.affinity_tree.specs.declared.affinity.Affinity.{Affinity}
-use Rattle.affinity_tree.specs.declared.scheduler.message.Origin.{Origin}
-use Rattle.affinity_tree.specs.declared.scheduler.message.Message.{Message}
+use Rattle.affinity.specs.declared.affinity.Affinity.{Affinity}
+use Rattle.scheduler.specs.declared.message.Origin.{Origin}
+use Rattle.scheduler.specs.declared.message.Message.{Message}
 use Rattle.service.specs.declared.job.Job.{Job}
 use Rattle.service.specs.declared.job.Job.TheVariants.{Serve}
 use Rattle.service.specs.declared.job.Asked.{Asked}

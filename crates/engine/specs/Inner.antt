@@ -4,14 +4,14 @@ use Rattle.nfs_model.specs.Parts.{Hand, Empty, Fresh, Dead, batch_in, range_of}
 use Rattle.nfs_model.specs.World.{Setup, World}
 use Rattle.nfs_model.specs.Events.Refusals as events
 use Rattle.nfs_model.specs.Events.Refusals.{excluded, is_range_in_use}
-use Rattle.affinity_tree.specs.Fault.{fault_of}
-use Rattle.affinity_tree.specs.Tree.{IsNode}
-use Rattle.depot.specs.rule.Shares.{too_many}
+use Rattle.affinity.specs.Fault.{fault_of}
+use Rattle.affinity.specs.Tree.{IsNode}
+use Rattle.depot_rule.specs.Shares.{too_many}
 use Rattle.desk.specs.laws.Books.{settled, stamps, IsIdle, IsTaken, HasHands, IsSettled}
 use Rattle.desk.specs.laws.Calls.{IsWorn}
-use Rattle.parcels.specs.state.Jobs as jobs
-use Rattle.parcels.specs.state.Jobs.{InnerCall, Fetch, Deliver, Cull, Free, Survey, batches_in, inner_node, inner_volume}
-use Rattle.parcels.specs.state.Running.{IsRefusedIn}
+use Rattle.filer_state.specs.state.Jobs as jobs
+use Rattle.filer_state.specs.state.Jobs.{InnerCall, Fetch, Deliver, Cull, Free, Survey, batches_in, inner_node, inner_volume}
+use Rattle.filer_state.specs.state.Running.{IsRefusedIn}
 use Rattle.engine.specs.laws.Store.{FilerBooks, filer}
 use Rattle.engine.specs.laws.Inner as laws
 use Rattle.engine.specs.laws.Inner.{IsFree, HasMade, HasMoved}

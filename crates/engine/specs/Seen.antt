@@ -5,12 +5,12 @@ use Rattle.nfs_model.specs.Work as tasks
 use Rattle.nfs_model.specs.World as worlds
 use Rattle.nfs_model.specs.Events.Refusals as events
 use Rattle.nfs_values.specs.Moment.{moment_of}
-use Rattle.affinity_tree.specs.Affinity.{affinity_of}
+use Rattle.affinity.specs.Affinity.{affinity_of}
 use Rattle.desk.specs.laws.Books.{now, stamps}
 use Rattle.desk.specs.Words.{books}
-use Rattle.parcels.specs.state.Contents.{filer_contents}
-use Rattle.parcels.specs.state.Tree.{server_of}
-use Rattle.parcels.specs.state.Partition.{all_parts}
+use Rattle.filer_state.specs.state.Contents.{filer_contents}
+use Rattle.filer_state.specs.state.Tree.{server_of}
+use Rattle.filer_state.specs.state.Partition.{all_parts}
 use Rattle.service.specs.declared.outcome.Outcome.{Outcome}
 use Rattle.service.specs.declared.outcome.Outcome.TheVariants as outcomes
 use Rattle.service.specs.Running.{outcome_of}

@@ -9,7 +9,7 @@ use Rattle.nfs_model.specs.Events.Refusals as events
 use Rattle.nfs_model.specs.Events.Step.{Events, Runs}
 use Rattle.depot.specs.Words.{view}
 use Rattle.desk.specs.Words.{books}
-use Rattle.parcels.specs.declared.files.Files.{Files}
+use Rattle.filer_state.specs.declared.files.Files.{Files}
 use Rattle.service.specs.Jobs.{job_of, job_reply_of}
 use Rattle.engine_feed.specs.Seen.{layout_in}
 use Rattle.engine.specs.declared.event.Event.{Event}

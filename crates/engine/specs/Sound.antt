@@ -8,10 +8,10 @@ use Rattle.nfs_model.specs.Parts.{Hand, Empty, Fresh, Dead, range_of, most_range
 use Rattle.nfs_model.specs.Events.Refusals.{open_count}
 use Rattle.nfs_values.specs.declared.call.Call.{Call}
 use Rattle.nfs_values.specs.Reply.{reply_of}
-use Rattle.affinity_tree.specs.Affinity.{affinity_of}
-use Rattle.affinity_tree.specs.Tree.{IsNode}
-use Rattle.depot.specs.rule.Sums.{total}
-use Rattle.affinity_tree.specs.declared.scheduler.message.Message.{Message}
+use Rattle.affinity.specs.Affinity.{affinity_of}
+use Rattle.affinity.specs.Tree.{IsNode}
+use Rattle.depot_rule.specs.Sums.{total}
+use Rattle.scheduler.specs.declared.message.Message.{Message}
 use Rattle.desk.specs.laws.Books.{stamps}
 use Rattle.desk.specs.Words.{books, IsKept}
 use Rattle.service.specs.Jobs.{job_of, job_reply_of}

@@ -1,6 +1,6 @@
 -- A message that is worked: what the run of its call may come to.
 use Rattle.desk.specs.laws.Calls.{Does}
-use Rattle.parcels.specs.state.Parcels.{FilerParcel}
+use Rattle.filer_state.specs.state.Parcels.{FilerParcel}
 use Rattle.nfs_values.specs.Credential.{credential_of}
 use Rattle.nfs_values.specs.Moment.{moment_of}
 use Rattle.service.specs.declared.outcome.Outcome.{Outcome}

@@ -15,7 +15,7 @@ use crate::state::{RANGES, State};
 use crate::worker::{Worker, has_empty_hand, is_idle};
 use engine_feed::Calls;
 use nfs_values::VolumeNumber;
-use parcel_sets::Hand;
+use parcels::Hand;
 use service::{BatchInHand, InnerCall};
 
 /// Whether a worker is there, runs nothing and carries nothing.

@@ -15,7 +15,7 @@ use crate::counts::{Tally, VolumeCounts, count_culled, count_put};
 use crate::event::{Done, Refusal};
 use crate::worker::Worker;
 use desk::{Desk, ParcelKinds};
-use parcel_sets::Hand;
+use parcels::Hand;
 use service::{BatchInHand, Service};
 use std::alloc::Global;
 use std::mem;

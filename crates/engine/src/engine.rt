@@ -4,7 +4,7 @@ ghost use Rattle.std.specs.Prelude.{◌≡◌, ◌≤◌, List, ℕ, [], ◌∷�
 ghost use Rattle.std.specs.Prelude.{slice_get, IfOk};
 ghost use Rattle.nfs_model.specs.World.{counts_of};
 ghost use Rattle.nfs_model.specs.Headline.{opening_world};
-ghost use Rattle.affinity_tree.specs.Layout.{layout_of};
+ghost use Rattle.affinity.specs.Layout.{layout_of};
 ghost use Rattle.engine_feed.specs.Seen.{entry_of};
 ghost use Rattle.engine.specs.counts.Counts.{parts_told, world_counts};
 ghost use Rattle.engine.specs.Engine.{output_in, stream_in};
@@ -28,12 +28,12 @@ use crate::opening::open;
 use crate::state::State;
 use crate::worker::Worker;
 use crate::working::work;
-use affinity_tree::Layout;
+use affinity::Layout;
 use engine_feed::FinishedCall;
 use engine_feed::laws::{codec_is_scan, streams_are_served};
+use filer_state::laws::parts_partition;
 use nfs_laws::laws::{events_keep_headline, opening_meets_headline};
 use nfs_values::VolumeNumber;
-use parcels::laws::parts_partition;
 use std::alloc::{AllocError, Global};
 use std::marker::Model;
 

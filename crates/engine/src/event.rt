@@ -2,7 +2,7 @@
 
 ghost use Rattle.std.specs.Prelude.{◌≡◌};
 
-use affinity_tree::Affinity;
+use affinity::Affinity;
 use engine_feed::Stop;
 use nfs_values::{ConnectionNumber, Moment, VolumeNumber, WorkerNumber};
 

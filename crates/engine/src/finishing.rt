@@ -24,11 +24,11 @@ use crate::event::{Done, Refusal};
 use crate::lending::{enter, take_back};
 use crate::state::State;
 use crate::worker::{Running, WorkerRun, run_at, take_run};
-use affinity_tree::Affinity;
-use affinity_tree::scheduler::{Message, Origin};
+use affinity::Affinity;
 use desk::{Desk, ParcelKinds};
 use engine_feed::{Calls, OfferedCall, OpenConnection};
 use nfs_values::{Moment, Reply};
+use scheduler::{Message, Origin};
 use service::{Asked, Job, JobReply, Outcome, ServedCall, Service};
 use slab::Slab;
 

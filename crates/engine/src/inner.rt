@@ -1,8 +1,8 @@
 //! Inner calls, which workers make with their hands: each begins, runs and ends at once.
 
 ghost use Rattle.std.specs.Prelude.{◌≡◌, IfOk, IfErr};
-ghost use Rattle.affinity_tree.specs.Affinity.{affinity_of};
-ghost use Rattle.parcels.specs.state.Jobs.{inner_node};
+ghost use Rattle.affinity.specs.Affinity.{affinity_of};
+ghost use Rattle.filer_state.specs.state.Jobs.{inner_node};
 ghost use Rattle.desk.specs.Words.{books, IsKept};
 ghost use Rattle.service.specs.Jobs.{inner_of, job_reply_of};
 ghost use Rattle.engine.specs.Inner.{MayMake, IsMade, IsRefusedFor, IsOfHand, hand_after};
@@ -15,10 +15,10 @@ use crate::event::{Done, Refusal};
 use crate::lending::{enter, lend, take_back};
 use crate::state::State;
 use crate::worker::{set_hand, take_hand};
-use affinity_tree::Affinity;
+use affinity::Affinity;
 use desk::{Desk, ParcelKinds, Refusal as Refused};
 use nfs_laws::laws::batches_are_of_one_range;
-use parcel_sets::Hand;
+use parcels::Hand;
 use service::{BatchInHand, InnerCall, InnerOutcome, Job, JobReply, RunInner, Service};
 use std::alloc::Global;
 

@@ -1,14 +1,14 @@
 //! The desk's calls at the engine's own types: what is asked of those types is proved here once.
 
 ghost use Rattle.std.specs.Prelude.{◌≡◌, OnOk, IfErr};
-ghost use Rattle.affinity_tree.specs.Affinity.{affinity_of};
-ghost use Rattle.affinity_tree.specs.Tree.{IsNode};
+ghost use Rattle.affinity.specs.Affinity.{affinity_of};
+ghost use Rattle.affinity.specs.Tree.{IsNode};
 ghost use Rattle.desk.specs.laws.Books.{IsIdle};
 ghost use Rattle.desk.specs.laws.Calls.{HasBegun, MayFinish, HasFinished, MayPutBack, HasPutBack};
 ghost use Rattle.desk.specs.Refusal.{IsRefused};
 ghost use Rattle.desk.specs.Words.{books, machine_in, IsKept};
 
-use affinity_tree::Affinity;
+use affinity::Affinity;
 use desk::{Desk, ParcelKinds, Refusal};
 use service::{Job, JobReply, Service};
 

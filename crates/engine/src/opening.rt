@@ -2,20 +2,20 @@
 
 ghost use Rattle.std.specs.Prelude.{◌≡◌, ◌≤◌, IfOk, replicate};
 ghost use Rattle.nfs_model.specs.Headline.{opening_world};
-ghost use Rattle.affinity_tree.specs.Layout.{layout_of};
+ghost use Rattle.affinity.specs.Layout.{layout_of};
 ghost use Rattle.engine.specs.Seen.{setup_in, world, setup_of};
 ghost use Rattle.engine.specs.Workers.{idle_worker};
 ghost use Rattle.engine.specs.Sound.{IsSoundEngine};
 
 use crate::state::State;
 use crate::worker::{Worker, WorkerRun};
-use affinity_tree::Layout;
+use affinity::Layout;
 use desk::{Desk, ParcelKinds};
 use engine_feed::Calls;
+use filer_state::laws::begins_sound;
+use filer_state::{Files, opening_parcels};
 use nfs_values::Verifier;
-use parcel_sets::Hand;
-use parcels::laws::begins_sound;
-use parcels::{Files, opening_parcels};
+use parcels::Hand;
 use service::{BatchInHand, Service};
 use slab::Slab;
 use std::alloc::{AllocError, Global};

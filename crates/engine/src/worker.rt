@@ -7,10 +7,10 @@ ghost use Rattle.nfs_model.specs.Events.Refusals.{is_idle, has_empty_hand};
 ghost use Rattle.engine.specs.Seen.{worker_seen};
 ghost use Rattle.engine.specs.Workers.{RunSet, RunTaken, HandSet, HandTaken};
 
-use affinity_tree::scheduler::Message;
 use engine_feed::OfferedCall;
 use nfs_values::Moment;
-use parcel_sets::Hand;
+use parcels::Hand;
+use scheduler::Message;
 use service::{BatchInHand, Outcome};
 use std::mem;
 

@@ -10,7 +10,7 @@ use Rattle.nfs_model.specs.World as worlds
 use Rattle.nfs_model.specs.World.{Connection, changed_at, with_output, written_to}
 use Rattle.nfs_model.specs.Events.Refusals.{is_open}
 use Rattle.nfs_values.specs.declared.call.Call.{Call}
-use Rattle.affinity_tree.specs.declared.scheduler.message.Message.{Message}
+use Rattle.scheduler.specs.declared.message.Message.{Message}
 use Rattle.engine_feed.specs.declared.state.ConnectionState.{ConnectionState}
 use Rattle.engine_feed.specs.declared.state.CallsState.{CallsState}
 use Rattle.engine_feed.specs.Codec.{reply_record}

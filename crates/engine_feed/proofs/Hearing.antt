@@ -17,9 +17,9 @@ use Rattle.nfs_values.specs.Call.{call_of}
 use Rattle.nfs_values.specs.Credential.{credential_of}
 use Rattle.rpc_msg.specs.Replies as replies
 use Rattle.rpc_msg.specs.Room.{reply_room}
-use Rattle.affinity_tree.specs.declared.scheduler.message.Message.{Message}
-use Rattle.affinity_tree.specs.declared.scheduler.message.Origin.{Origin}
-use Rattle.affinity_tree.specs.Affinity.{affinity_of}
+use Rattle.scheduler.specs.declared.message.Message.{Message}
+use Rattle.scheduler.specs.declared.message.Origin.{Origin}
+use Rattle.affinity.specs.Affinity.{affinity_of}
 use Rattle.engine_feed.specs.declared.state.ConnectionState.{ConnectionState}
 use Rattle.engine_feed.specs.declared.state.CallsState.{CallsState}
 use Rattle.engine_feed.specs.Codec.{reply_record}

@@ -9,10 +9,10 @@ use Rattle.nfs_values.specs.Moment.{moment_of}
 use Rattle.nfs_values.specs.Credential.{credential_of}
 use Rattle.nfs_values.specs.Call.{call_of}
 use Rattle.nfs_values.specs.Reply.{refusal_of}
-use Rattle.affinity_tree.specs.Affinity.{affinity_of}
-use Rattle.affinity_tree.specs.Layout as layouts
-use Rattle.affinity_tree.specs.declared.scheduler.message.Message.{Message}
-use Rattle.affinity_tree.specs.declared.scheduler.message.Origin.{Origin}
+use Rattle.affinity.specs.Affinity.{affinity_of}
+use Rattle.affinity.specs.Layout as layouts
+use Rattle.scheduler.specs.declared.message.Message.{Message}
+use Rattle.scheduler.specs.declared.message.Origin.{Origin}
 use Rattle.engine_feed.specs.declared.message.Request.{Request}
 use Rattle.engine_feed.specs.declared.message.Request.TheVariants as requests
 use Rattle.engine_feed.specs.declared.message.Heard.{Heard}

@@ -8,11 +8,11 @@ use Rattle.nfs_model.specs.Serial.Starve.{may_starve_at_decoding}
 use Rattle.nfs_values.specs.declared.call.Call.{Call}
 use Rattle.nfs_values.specs.Call.{call_of}
 use Rattle.rpc_msg.specs.Room.{reply_room}
-use Rattle.affinity_tree.specs.Affinity.{affinity_of}
-use Rattle.affinity_tree.specs.Tree.{IsNode}
+use Rattle.affinity.specs.Affinity.{affinity_of}
+use Rattle.affinity.specs.Tree.{IsNode}
 use Rattle.rpc_record.specs.Machine.{State, Outcome, More, Made, Fault, outcome}
 use Rattle.rpc_record.specs.Stream.{read_stream}
-use Rattle.affinity_tree.specs.declared.scheduler.message.Message.{Message}
+use Rattle.scheduler.specs.declared.message.Message.{Message}
 use Rattle.engine_feed.specs.declared.stop.StreamFault.{StreamFault}
 use Rattle.engine_feed.specs.declared.stop.StreamFault.TheVariants.{RecordTooLong}
 use Rattle.engine_feed.specs.declared.state.Arrival.{Arrival}

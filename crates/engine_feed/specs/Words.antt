@@ -9,8 +9,8 @@ use Rattle.nfs_model.specs.Events.Feed.{Feeds, feeding, heard_in}
 use Rattle.nfs_model.specs.Events.Refusals.{is_open}
 use Rattle.nfs_laws.specs.Walk.{Walks}
 use Rattle.nfs_values.specs.declared.call.Call.{Call}
-use Rattle.affinity_tree.specs.declared.scheduler.message.Message.{Message}
-use Rattle.affinity_tree.specs.declared.scheduler.message.Origin.{Origin}
+use Rattle.scheduler.specs.declared.message.Message.{Message}
+use Rattle.scheduler.specs.declared.message.Origin.{Origin}
 use Rattle.engine_feed.specs.declared.stop.Stop.{Stop}
 use Rattle.engine_feed.specs.declared.state.ConnectionState.{ConnectionState}
 use Rattle.engine_feed.specs.declared.state.CallsState.{CallsState}

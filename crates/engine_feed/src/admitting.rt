@@ -18,12 +18,12 @@ use crate::at_once::answer_at_once;
 use crate::finishing::{keep_entry, write_reply};
 use crate::message::Request;
 use crate::state::{CallsState, ConnectionState};
-use affinity_tree::homes::home_of;
-use affinity_tree::scheduler::laws::nodes_have_queues;
-use affinity_tree::scheduler::{Message, Origin};
+use affinity::homes::home_of;
 use nfs_laws::laws::without_home_stays;
 use nfs_values::{Credential, Moment, Refusal, Reply};
 use rpc_msg::{refusals_fit, replies_fit, room_of_reply};
+use scheduler::laws::nodes_have_queues;
+use scheduler::{Message, Origin};
 
 /// Answers a call as its record is complete.
 fn answer(

@@ -3,14 +3,14 @@
 ghost use Rattle.std.specs.Prelude.{◌≡◌, Err};
 ghost use Rattle.nfs_model.specs.Home.{named_by};
 ghost use Rattle.nfs_model.specs.Serial.AtOnce.{answer_of_two, answer_without_home};
-ghost use Rattle.affinity_tree.specs.Layout.{layout_of};
+ghost use Rattle.affinity.specs.Layout.{layout_of};
 ghost use Rattle.nfs_values.specs.Answer.{answer_of};
 ghost use Rattle.nfs_values.specs.Call.{call_of};
 ghost use Rattle.nfs_values.specs.declared.answer.Answer.TheVariants.{Rename};
 
 use crate::asked::OfferedCall;
-use affinity_tree::Layout;
-use affinity_tree::homes::named_by;
+use affinity::Layout;
+use affinity::homes::named_by;
 use nfs_values::{Answer, Call, FileHandle, Status};
 use std::alloc::Global;
 

@@ -5,9 +5,9 @@ use crate::connection::OpenConnection;
 use crate::message::FinishedCall;
 use crate::moving::{begin, leave, put_back, reply_to};
 use crate::state::CallsState;
-use affinity_tree::scheduler::{Message, NoSuchCall, Waiting};
-use affinity_tree::{Affinity, Layout};
+use affinity::{Affinity, Layout};
 use nfs_values::{Moment, Reply};
+use scheduler::{Message, NoSuchCall, Waiting};
 use std::alloc::{AllocError, Global};
 use std::marker::Model;
 
@@ -42,9 +42,9 @@ impl Calls {
     ghost use Rattle.nfs_model.specs.World.{with_output};
     ghost use Rattle.nfs_values.specs.Moment.{moment_of};
     ghost use Rattle.nfs_values.specs.Reply.{reply_of};
-    ghost use Rattle.affinity_tree.specs.Affinity.{affinity_of};
-    ghost use Rattle.affinity_tree.specs.Layout.{layout_of};
-    ghost use Rattle.affinity_tree.specs.Tree.{IsNode};
+    ghost use Rattle.affinity.specs.Affinity.{affinity_of};
+    ghost use Rattle.affinity.specs.Layout.{layout_of};
+    ghost use Rattle.affinity.specs.Tree.{IsNode};
     ghost use Rattle.engine_feed.specs.Codec.{reply_record};
     ghost use Rattle.engine_feed.specs.Seen.{connection_of, owed_by, entry_of, finished_message};
     ghost use Rattle.engine_feed.specs.Seen.{layout_in, messages_of, finished_of, running_count};

@@ -12,10 +12,10 @@ use crate::admitting::{admit, starve};
 use crate::arrival::take_bytes;
 use crate::state::{Arrival, CallsState, ConnectionState, PLACES, REPLY_LIMIT};
 use crate::stop::Stop;
-use affinity_tree::scheduler::Origin;
 use nfs_laws::laws::feeds_are_walks;
 use nfs_values::ConnectionNumber;
 use rpc_record::Look;
+use scheduler::Origin;
 use std::alloc::AllocError;
 
 /// Room for one more reply beside those that are owed.

@@ -4,7 +4,7 @@ ghost use Rattle.std.specs.Prelude.{◌≡◌, ◌+◌, ◌≤◌, ◌<◌, ◌�
 ghost use Rattle.std.specs.Prelude.{vec_len, vec_capacity};
 ghost use Rattle.nfs_values.specs.Moment.{moment_of};
 ghost use Rattle.nfs_values.specs.Reply.{reply_of};
-ghost use Rattle.affinity_tree.specs.Affinity.{affinity_of};
+ghost use Rattle.affinity.specs.Affinity.{affinity_of};
 ghost use Rattle.engine_feed.specs.Codec.{reply_record};
 ghost use Rattle.engine_feed.specs.Seen.{asked_in, entry_at, entry_of};
 ghost use Rattle.engine_feed.specs.Sound.{IsWrittenTo, KeepsEntry};
@@ -12,9 +12,9 @@ ghost use Rattle.engine_feed.specs.Sound.{IsWrittenTo, KeepsEntry};
 use crate::message::{FinishedCall, Request};
 use crate::reply::put_reply;
 use crate::state::{CallsState, ConnectionState};
-use affinity_tree::Affinity;
-use affinity_tree::scheduler::Origin;
+use affinity::Affinity;
 use nfs_values::{Moment, Reply};
+use scheduler::Origin;
 
 /// Writes a reply record, for which there is room, and answers how many bytes it has.
 pub(crate) fn write_reply(to: &mut ConnectionState, xid: u32, reply: &Reply) -> usize

@@ -1,9 +1,9 @@
 //! What records ask, and calls that are finished.
 
 use crate::asked::OfferedCall;
-use affinity_tree::Affinity;
-use affinity_tree::scheduler::Origin;
+use affinity::Affinity;
 use nfs_values::{Credential, Moment, Refusal};
+use scheduler::Origin;
 
 /// What a record asks.
 #[derive(Drop)]

@@ -12,9 +12,9 @@ use crate::asked::OfferedCall;
 use crate::finishing::{keep_entry, write_reply};
 use crate::message::Request;
 use crate::state::{CallsState, ConnectionState};
-use affinity_tree::scheduler::laws::nodes_have_queues;
-use affinity_tree::scheduler::{Message, NoSuchCall};
 use nfs_values::{Moment, Reply};
+use scheduler::laws::nodes_have_queues;
+use scheduler::{Message, NoSuchCall};
 
 /// Takes the message at a place of the list, which runs from now on.
 pub(crate) fn begin(

@@ -5,9 +5,9 @@ ghost use Rattle.std.specs.Prelude.{◌≡◌, ◌≤◌};
 use crate::asked::OfferedCall;
 use crate::message::{FinishedCall, Heard};
 use crate::stop::StreamFault;
-use affinity_tree::Layout;
-use affinity_tree::scheduler::Waiting;
+use affinity::Layout;
 use rpc_record::Reassembler;
+use scheduler::Waiting;
 use std::alloc::Global;
 
 /// How many messages may wait or run.

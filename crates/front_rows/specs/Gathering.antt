@@ -3,10 +3,10 @@ use Rattle.std.specs.Prelude.{◌≡◌, List, [], ◌∷◌, ◌++◌, map, ref
 use Rattle.std.proofs.Common.{sym, ap, ◌∙◌, append_assoc, append-nil}
 use Rattle.nfs_model.specs.World as worlds
 use Rattle.nfs_values.specs.declared.call.Call.{Call}
-use Rattle.affinity_tree.specs.declared.scheduler.message.Message.{Message}
+use Rattle.scheduler.specs.declared.message.Message.{Message}
 use Rattle.outboxes.specs.Boxes.{Boxes, put}
 use Rattle.engine_feed.specs.Seen.{message_of}
-use Rattle.connections.specs.tcp_front.Arrivals.{Arrival, Waits, Answered}
+use Rattle.tcp_front.specs.Arrivals.{Arrival, Waits, Answered}
 
 -- the calls among these
 abbrev pub calls_of : List Arrival → List worlds.Message

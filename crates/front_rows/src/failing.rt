@@ -1,16 +1,16 @@
 //! Devices that fail at any of their calls, over worked records joined.
 
 ghost use Rattle.std.specs.Prelude.{◌≡◌};
-ghost use Rattle.connections.specs.tcp_front.Counts.{failures_of};
+ghost use Rattle.tcp_front.specs.Counts.{failures_of};
 
 use crate::devices::Narrow;
 use crate::reading::{Row, bytes_of, read, same};
 use crate::texts::{JOINED, JOINED_ENDS, JOINED_REPLIES};
 use crate::writing::waiting_for;
-use connections::tcp_front::{Counted, WriteFault, write_joined, write_loop};
 use std::mem;
 use std::process::Abort;
 use std::sync::Wait;
+use tcp_front::{Counted, WriteFault, write_joined, write_loop};
 
 /// How many bytes the records have, and how many their replies.
 const STREAM: usize = 448;

@@ -1,16 +1,16 @@
 //! A sink that keeps what comes to it.
 
 ghost use Rattle.std.specs.Prelude.{◌≡◌, IfOk};
-ghost use Rattle.affinity_tree.specs.Layout.{layout_of};
+ghost use Rattle.affinity.specs.Layout.{layout_of};
 ghost use Rattle.front_rows.specs.Gathering.{HasGathered, gathered_none, gathered_more};
 
-use affinity_tree::Layout;
-use affinity_tree::scheduler::Message;
-use connections::tcp_front::RecordSink;
+use affinity::Layout;
 use engine_feed::OfferedCall;
 use nfs_values::{ConnectionNumber, Reply};
 use outboxes::Outboxes;
+use scheduler::Message;
 use std::alloc::{AllocError, Global};
+use tcp_front::RecordSink;
 
 /// The calls that came, and the replies, each in the outbox of its connection.
 #[derive(Drop)]

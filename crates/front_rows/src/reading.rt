@@ -1,7 +1,7 @@
 //! Streams that are read, cut anywhere.
 
 ghost use Rattle.std.specs.Prelude.{◌≡◌};
-ghost use Rattle.affinity_tree.specs.Layout.{layout_of};
+ghost use Rattle.affinity.specs.Layout.{layout_of};
 
 use crate::devices::Cut;
 use crate::gathered::Gathered;
@@ -9,12 +9,12 @@ use crate::texts::{
     BADHANDLE_REPLY, GETATTR, GETATTR_ASTRAY, NO_CALL, NO_PROGRAM, NO_PROGRAM_REPLY, NULL,
     NULL_IN_TWO, NULL_REPLY, SHORT, TOO_LONG,
 };
-use affinity_tree::{Affinity, AggregateSpec, Layout, VolumeSpec};
-use connections::tcp_front::{Counted, read_loop};
+use affinity::{Affinity, AggregateSpec, Layout, VolumeSpec};
 use nfs_values::ConnectionNumber;
 use std::mem;
 use std::process::Abort;
 use std::sync::Wait;
+use tcp_front::{Counted, read_loop};
 
 /// What a stream comes to.
 #[derive(Drop)]

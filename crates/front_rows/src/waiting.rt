@@ -3,9 +3,9 @@
 ghost use Rattle.std.specs.Prelude.{◌≡◌};
 ghost use Rattle.front_rows.specs.Leaving.{HasLeft, IsEmpty, left_none, left_more};
 
-use connections::tcp_front::RecordSource;
 use nfs_values::ConnectionNumber;
 use outboxes::{Outboxes, Record};
+use tcp_front::RecordSource;
 
 /// The outbox of a connection.
 #[derive(Drop)]

@@ -1,20 +1,18 @@
 //! Records that are written, to writers that take few bytes at once, and fail.
 
 ghost use Rattle.std.specs.Prelude.{◌≡◌};
-ghost use Rattle.connections.specs.tcp_front.Counts.{failures_of};
+ghost use Rattle.tcp_front.specs.Counts.{failures_of};
 
 use crate::devices::Narrow;
 use crate::gathered::Gathered;
 use crate::reading::{bytes_of, layout, same, sink};
 use crate::texts::{NO_PROGRAM, NO_PROGRAM_REPLY, NULL, NULL_REPLY};
 use crate::waiting::Waiting;
-use connections::tcp_front::{
-    Counted, WriteFault, read_loop, write_joined, write_loop, write_piece,
-};
 use nfs_values::ConnectionNumber;
 use std::mem;
 use std::process::Abort;
 use std::sync::Wait;
+use tcp_front::{Counted, WriteFault, read_loop, write_joined, write_loop, write_piece};
 
 /// How two records of 28 bytes are written.
 struct Row {

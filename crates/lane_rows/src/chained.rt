@@ -5,7 +5,7 @@ use crate::memory::Memory;
 use crate::opening::MemoryLane;
 use crate::rows::{MANY, device};
 use crate::texts::{FSSTAT, FSSTAT_REPLY, GETATTR, GETATTR_REPLY};
-use affinity_tree::Affinity;
+use affinity::Affinity;
 use lanes::{Came, Sent};
 use nfs_values::Moment;
 use std::process::Abort;

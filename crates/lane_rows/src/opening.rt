@@ -1,7 +1,7 @@
 //! Lanes of a filer, over devices in memory.
 
 use crate::memory::Memory;
-use affinity_tree::Layout;
+use affinity::Layout;
 use lanes::Lane;
 use std::process::Abort;
 use std::sync::Arc;

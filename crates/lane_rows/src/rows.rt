@@ -1,14 +1,14 @@
 //! A connection that is read to its end and written, however its bytes are cut.
 
 ghost use Rattle.std.specs.Prelude.{◌≡◌};
-ghost use Rattle.affinity_tree.specs.Layout.{layout_of};
+ghost use Rattle.affinity.specs.Layout.{layout_of};
 
 use crate::gathered::Gathered;
 use crate::memory::Memory;
 use crate::texts::{
     GETATTR, NO_PROGRAM, NO_PROGRAM_REPLY, NULL, NULL_IN_TWO, NULL_REPLY, TOO_LONG,
 };
-use affinity_tree::{AggregateSpec, Layout, VolumeSpec};
+use affinity::{AggregateSpec, Layout, VolumeSpec};
 use lanes::{Came, Connection, Sent};
 use nfs_values::ConnectionNumber;
 use std::mem;

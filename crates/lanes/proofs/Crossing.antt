@@ -4,8 +4,8 @@ use denote.Param.Send.{IsSend, sendable, view_send}
 use denote.Param.SendFields.{as_row_send, declared_send}
 use Rattle.std.proofs.Crossing.{crosses, send, frees}
 use Rattle.slab.proofs.Slab.TheSendSync as slab
-use Rattle.connections.proofs.tcp_front.stream.Stopped.TheSendSync as stopped
-use Rattle.connections.proofs.tcp_front.stream.Stream.TheSendSync as stream
+use Rattle.tcp_front.proofs.stream.Stopped.TheSendSync as stopped
+use Rattle.tcp_front.proofs.stream.Stream.TheSendSync as stream
 use Rattle.outboxes.specs.contracts.record.Record as Record
 use Rattle.outboxes.specs.contracts.record.Record.TheInside as RecordInside
 use Rattle.outboxes.specs.contracts.said.Said as Said

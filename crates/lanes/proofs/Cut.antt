@@ -7,11 +7,11 @@ use Rattle.rpc_record.specs.Stream.{read_stream}
 use Rattle.nfs_model.specs.Tree.{Layout}
 use Rattle.nfs_model.specs.World.{Heard, Scanned}
 use Rattle.engine_feed.specs.Streams.{scan_stream}
-use Rattle.connections.specs.declared.tcp_front.stream.Stopped.{Stopped}
-use Rattle.connections.specs.declared.tcp_front.stream.Stopped.TheVariants as stops
-use Rattle.connections.specs.declared.tcp_front.stream.Stream.{Stream}
-use Rattle.connections.specs.tcp_front.Arrivals.{Arrival}
-use Rattle.connections.specs.tcp_front.Steps.{Adds, HasTaken}
+use Rattle.tcp_front.specs.declared.stream.Stopped.{Stopped}
+use Rattle.tcp_front.specs.declared.stream.Stopped.TheVariants as stops
+use Rattle.tcp_front.specs.declared.stream.Stream.{Stream}
+use Rattle.tcp_front.specs.Arrivals.{Arrival}
+use Rattle.tcp_front.specs.Steps.{Adds, HasTaken}
 use Rattle.lanes.specs.Connections.{has_stopped}
 use Rattle.lanes.specs.Cutting.{HasCut}
 

@@ -2,8 +2,8 @@
 use Rattle.std.proofs.Common.{◌≡◌, ◌∙◌, Option, Some, None, subst, ap}
 use Rattle.std.specs.Prelude.{option_map}
 use Rattle.nfs_model.specs.Tree as trees
-use Rattle.affinity_tree.specs.declared.layout.Layout.{Layout}
-use Rattle.affinity_tree.specs.Layout.{layout_of}
+use Rattle.affinity.specs.declared.layout.Layout.{Layout}
+use Rattle.affinity.specs.Layout.{layout_of}
 use Rattle.workers.specs.shared_waiting.Balance.{FitsIn}
 use Rattle.workers.specs.Balance.{Passed}
 use Rattle.workers.specs.Messages.{IsPlaced, Fits}

@@ -1,9 +1,9 @@
 -- A queue in which nothing is left.
 use Rattle.std.proofs.Common.{◌≡◌, ◌≤◌, ℕ, ◌+◌, ◌^◌, List, [], ◌∷◌, ◌++◌, length, refl, sym, ap, subst, ◌∙◌, arith}
 use Rattle.crossbeam_queue.specs.Fifo.{Held}
-use Rattle.affinity_tree.specs.declared.layout.Layout as layouts
-use Rattle.depot.specs.rule.Sums.{total}
-use Rattle.depot.specs.rule.lemmas.Sums.{total-append}
+use Rattle.affinity.specs.declared.layout.Layout as layouts
+use Rattle.depot_rule.specs.Sums.{total}
+use Rattle.depot_rule.specs.lemmas.Sums.{total-append}
 use Rattle.nfs_model.specs.Tree.{Layout}
 use Rattle.nfs_values.specs.declared.moment.Moment.{Moment}
 use Rattle.outboxes.specs.Boxes.{Addressed}

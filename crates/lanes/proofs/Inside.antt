@@ -11,14 +11,14 @@ use Rattle.nfs_model.specs.Parts.{Hand, Empty, Fresh, Dead}
 use Rattle.nfs_model.specs.Server.{Named, most_bytes}
 use Rattle.nfs_model.specs.Tree.{Affinity, Layout, Serial, Aggregate, Volume, Logical, Stripe, Vbn, Range}
 use Rattle.nfs_model.specs.Types as types
-use Rattle.affinity_tree.specs.Affinity.{affinity_of}
-use Rattle.affinity_tree.specs.Tree.{IsNode}
-use Rattle.affinity_tree.specs.declared.layout.Layout as layouts
+use Rattle.affinity.specs.Affinity.{affinity_of}
+use Rattle.affinity.specs.Tree.{IsNode}
+use Rattle.affinity.specs.declared.layout.Layout as layouts
 use Rattle.workers.specs.declared.shared_waiting.pass.SharedWaiting.{SharedWaiting}
 use Rattle.depot.specs.Words.{IsSeatHere}
-use Rattle.depot.specs.rule.History.{listed}
-use Rattle.parcels.specs.state.Opening.{AreOpening}
-use Rattle.parcels.specs.state.Parcels.{FilerParcel}
+use Rattle.depot_rule.specs.History.{listed}
+use Rattle.filer_state.specs.state.Opening.{AreOpening}
+use Rattle.filer_state.specs.state.Parcels.{FilerParcel}
 use Rattle.nfs_values.specs.Call.{call_of}
 use Rattle.nfs_values.specs.declared.call.Call.{Call}
 use Rattle.nfs_values.specs.declared.call.Call.TheVariants as calls

@@ -4,8 +4,8 @@ use Rattle.std.specs.FinMap.{get}
 use Rattle.std.proofs.Math.Arith.{lt_of_le-ne}
 use Rattle.std.proofs.lemmas.Bool.{eqb-false}
 use Rattle.std.proofs.lemmas.Map.Views.{exact_unsigned_eq}
-use Rattle.depot.specs.rule.Sums.{total}
-use Rattle.depot.specs.rule.lemmas.Sums.{total-append}
+use Rattle.depot_rule.specs.Sums.{total}
+use Rattle.depot_rule.specs.lemmas.Sums.{total-append}
 use Rattle.nfs_model.specs.Tree.{Layout}
 use Rattle.nfs_model.specs.World as worlds
 use Rattle.nfs_model.specs.World.{Heard}
@@ -14,8 +14,8 @@ use Rattle.outboxes.specs.Boxes.{Addressed, Boxes, opened, put, shut}
 use Rattle.outboxes.specs.Messages.{ReplyMessage}
 use Rattle.workers.specs.Balance.{FilerEntry, Weight, by_entry, by_key}
 use Rattle.workers.specs.declared.message.Message.{Message}
-use Rattle.connections.specs.Admitted.{calls_of, seen_of}
-use Rattle.connections.specs.tcp_front.Arrivals.{Arrival, arrivals}
+use Rattle.tcp_front.specs.Admitted.{calls_of, seen_of}
+use Rattle.tcp_front.specs.Arrivals.{Arrival, arrivals}
 use Rattle.lanes.specs.declared.connection.Connection.{Connection}
 use Rattle.lanes.specs.Connections.{number_of}
 use Rattle.lanes.specs.Intakes.{all_put, answered_of}

@@ -4,9 +4,9 @@ use Rattle.std.proofs.KnownBytes.{Consumes-kept, Consumes-nil, Keeps-refl}
 use Rattle.std.specs.Io.KnownBytes.{Consumes, IsAtEnd, Keeps}
 use Rattle.nfs_model.specs.Tree.{Layout}
 use Rattle.nfs_model.specs.World.{Heard}
-use Rattle.connections.specs.declared.tcp_front.stream.Stopped.{Stopped}
-use Rattle.connections.specs.declared.tcp_front.stream.Stream.{Stream}
-use Rattle.connections.specs.tcp_front.Arrivals.{Arrival, most_records}
+use Rattle.tcp_front.specs.declared.stream.Stopped.{Stopped}
+use Rattle.tcp_front.specs.declared.stream.Stream.{Stream}
+use Rattle.tcp_front.specs.Arrivals.{Arrival, most_records}
 use Rattle.lanes.specs.declared.connection.Connection.{Connection}
 use Rattle.lanes.specs.declared.reading.Came.{Came}
 use Rattle.lanes.specs.declared.reading.Came.TheVariants as cames

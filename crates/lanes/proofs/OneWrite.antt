@@ -7,7 +7,7 @@ use Rattle.std.specs.FinMap.{get}
 use Rattle.std.specs.Io.KnownBytes.{Appends, Keeps}
 use Rattle.outboxes.specs.Boxes.{Boxes, oldest, taken}
 use Rattle.outboxes.specs.Messages.{ReplyMessage, record_of}
-use Rattle.connections.specs.tcp_front.Writing.{records_of}
+use Rattle.tcp_front.specs.Writing.{records_of}
 use Rattle.lanes.specs.declared.connection.Connection.{Connection}
 use Rattle.lanes.specs.declared.told.Told.{Told}
 use Rattle.lanes.specs.declared.told.Told.TheVariants as tolds

@@ -1,18 +1,18 @@
 -- A connection of which nothing came has no reply.
 use Rattle.std.proofs.Common.{◌≡◌, ◌≤◌, ◌==◌, ℕ, ◌+◌, Bool, true, false, if◌then◌else◌, List, [], ◌∷◌, map, Option, Some, None, refl, sym, ap, ◌∙◌, arith}
-use Rattle.depot.specs.rule.Sums.{total}
+use Rattle.depot_rule.specs.Sums.{total}
 use Rattle.nfs_model.specs.World as worlds
 use Rattle.nfs_model.specs.Types.{Asked}
 use Rattle.outboxes.specs.Boxes.{Addressed}
 use Rattle.outboxes.specs.Messages.{ReplyMessage}
-use Rattle.parcels.specs.state.Jobs as jobs
+use Rattle.filer_state.specs.state.Jobs as jobs
 use Rattle.service.specs.declared.job.Job.{Job}
 use Rattle.service.specs.declared.job.Job.TheVariants.{Serve, Inner}
 use Rattle.workers.specs.Balance.{FilerEntry, Weight, by_entry, by_job, by_key}
 use Rattle.workers.specs.Jobs.{job_reply_of}
 use Rattle.workers.specs.declared.message.Message.{Message}
-use Rattle.connections.specs.Admitted.{calls_of, seen_of}
-use Rattle.connections.specs.tcp_front.Arrivals.{Arrival, Waits, Answered}
+use Rattle.tcp_front.specs.Admitted.{calls_of, seen_of}
+use Rattle.tcp_front.specs.Arrivals.{Arrival, Waits, Answered}
 use Rattle.lanes.specs.Intakes.{answered_of}
 use Rattle.lanes.specs.Story.{of_connection, Ending, Served, AtOnce, answer_to, with_reply, replies_to, served_of, at_once_of, with_served, served_in}
 

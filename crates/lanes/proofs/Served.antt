@@ -7,7 +7,7 @@ use Rattle.nfs_model.specs.Tree.{Layout}
 use Rattle.nfs_model.specs.volume.lemmas.Numbered.{itself, get-changed_at}
 use Rattle.outboxes.specs.Boxes.{Addressed, Boxes, put, with_last}
 use Rattle.outboxes.specs.Messages.{ReplyMessage}
-use Rattle.connections.specs.tcp_front.Arrivals.{Arrival, arrivals}
+use Rattle.tcp_front.specs.Arrivals.{Arrival, arrivals}
 use Rattle.lanes.specs.declared.connection.Connection.{Connection}
 use Rattle.lanes.specs.Connections.{number_of}
 use Rattle.lanes.specs.Intakes.{all_put}

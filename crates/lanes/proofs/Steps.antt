@@ -5,14 +5,14 @@ use Rattle.std.specs.FinMap as maps
 use Rattle.std.proofs.Math.Logic.{∥∥₁_map}
 use Rattle.nfs_model.specs.Tree.{Layout}
 use Rattle.nfs_model.specs.World.{Heard}
-use Rattle.affinity_tree.specs.declared.layout.Layout as layouts
+use Rattle.affinity.specs.declared.layout.Layout as layouts
 use Rattle.nfs_model.specs.volume.lemmas.Numbered.{get-remove_at}
 use Rattle.nfs_values.specs.declared.moment.Moment.{Moment}
 use Rattle.nfs_values.specs.Credential.{credential_of}
-use Rattle.parcels.specs.state.Jobs as jobs
-use Rattle.depot.specs.rule.History.{entries_of}
-use Rattle.depot.specs.rule.Sums.{total}
-use Rattle.depot.specs.rule.lemmas.Sums.{total-append}
+use Rattle.filer_state.specs.state.Jobs as jobs
+use Rattle.depot_rule.specs.History.{entries_of}
+use Rattle.depot_rule.specs.Sums.{total}
+use Rattle.depot_rule.specs.lemmas.Sums.{total-append}
 use Rattle.slab.specs.Slab.{Slab, get, ContainsKey, Updates, with_value}
 use Rattle.slab.proofs.SlabLemmas.{Updates-with_value}
 use Rattle.outboxes.specs.Boxes.{Addressed, addressed, Boxes, put, shut, opened}
@@ -39,9 +39,9 @@ use Rattle.lanes.specs.declared.connection.Flags.{Flags}
 use Rattle.lanes.specs.declared.intake.Intake.{Intake}
 use Rattle.lanes.specs.declared.reading.Came.{Came}
 use Rattle.lanes.specs.declared.writing.Sent.{Sent}
-use Rattle.connections.specs.declared.tcp_front.stream.Stopped.{Stopped}
-use Rattle.connections.specs.declared.tcp_front.stream.Stream.{Stream}
-use Rattle.connections.specs.tcp_front.Arrivals.{Arrival}
+use Rattle.tcp_front.specs.declared.stream.Stopped.{Stopped}
+use Rattle.tcp_front.specs.declared.stream.Stream.{Stream}
+use Rattle.tcp_front.specs.Arrivals.{Arrival}
 use Rattle.lanes.specs.Connections.{flagged, number_of, owing}
 use Rattle.lanes.specs.Intakes.{HasTakenIn, has_room_in}
 use Rattle.lanes.specs.Lanes.{Closes, Flagged, HasBoth, ReadsOn, ReadsUnder, WritesUnder, owing_in}

@@ -1,6 +1,6 @@
 -- What contracts name of a connection.
 use Rattle.std.specs.Prelude.{ℕ, ⊤, List, Option, Some, None}
-use Rattle.connections.specs.declared.tcp_front.stream.Stopped.{Stopped}
+use Rattle.tcp_front.specs.declared.stream.Stopped.{Stopped}
 use Rattle.lanes.specs.declared.connection.Connection.{Connection}
 use Rattle.lanes.specs.declared.connection.Flags.{Flags}
 use Rattle.lanes.specs.declared.due.Due.{Due}

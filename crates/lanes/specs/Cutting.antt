@@ -1,10 +1,10 @@
 -- Bytes that are cut into records, and those that are kept.
 use Rattle.std.specs.Prelude.{◌≡◌, ℕ, ◌<◌, Bool, false, List, [], ◌++◌, length, Option, None}
 use Rattle.nfs_model.specs.Tree.{Layout}
-use Rattle.connections.specs.declared.tcp_front.stream.Stopped.{Stopped}
-use Rattle.connections.specs.declared.tcp_front.stream.Stream.{Stream}
-use Rattle.connections.specs.tcp_front.Arrivals.{Arrival}
-use Rattle.connections.specs.tcp_front.Steps.{HasTaken}
+use Rattle.tcp_front.specs.declared.stream.Stopped.{Stopped}
+use Rattle.tcp_front.specs.declared.stream.Stream.{Stream}
+use Rattle.tcp_front.specs.Arrivals.{Arrival}
+use Rattle.tcp_front.specs.Steps.{HasTaken}
 
 -- A beginning of these bytes was taken, and the records that it completes were given on; the rest is kept, for want
 -- of room in the sink, or the reading stopped.

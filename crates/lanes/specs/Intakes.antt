@@ -1,9 +1,9 @@
 -- What came to a lane's queue and outboxes.
 use Rattle.std.specs.Prelude.{◌≡◌, ℕ, Bool, ◌&&◌, nat_lt, List, [], ◌∷◌, ◌++◌, map}
-use Rattle.affinity_tree.specs.declared.layout.Layout.{Layout}
+use Rattle.affinity.specs.declared.layout.Layout.{Layout}
 use Rattle.outboxes.specs.Boxes.{Addressed, Boxes, put}
-use Rattle.connections.specs.Admitted.{calls_of, seen_of}
-use Rattle.connections.specs.tcp_front.Arrivals.{Arrival, Waits, Answered}
+use Rattle.tcp_front.specs.Admitted.{calls_of, seen_of}
+use Rattle.tcp_front.specs.Arrivals.{Arrival, Waits, Answered}
 use Rattle.workers.specs.declared.message.Message.{Message}
 use Rattle.workers.specs.declared.shared.Filer.{Filer}
 use Rattle.workers.specs.declared.shared_waiting.pass.Pass.{Pass}

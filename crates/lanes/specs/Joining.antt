@@ -3,7 +3,7 @@ use Rattle.std.specs.Prelude.{◌≡◌, ℕ, ◌+◌, List, ◌++◌, Option, S
 use Rattle.std.specs.FinMap.{get}
 use Rattle.outboxes.specs.Boxes.{Boxes}
 use Rattle.outboxes.specs.Messages.{ReplyMessage}
-use Rattle.connections.specs.tcp_front.Writing.{records_of}
+use Rattle.tcp_front.specs.Writing.{records_of}
 use Rattle.lanes.specs.Rests.{list_of}
 use Rattle.lanes.specs.Taking.{IsOut, Takes}
 

@@ -1,12 +1,12 @@
 -- What the calls of a lane do.
 use Rattle.std.specs.Prelude.{◌≡◌, ◌≢◌, ℕ, Bool, List, [], Option, Some, None, Result, Ok, Err}
 use Rattle.slab.specs.Slab.{Slab, get, Updates, with_value}
-use Rattle.affinity_tree.specs.declared.layout.Layout as layouts
+use Rattle.affinity.specs.declared.layout.Layout as layouts
 use Rattle.nfs_model.specs.Tree.{Layout}
 use Rattle.outboxes.specs.Boxes.{Boxes, shut, opened}
 use Rattle.workers.specs.declared.message.Message.{Message}
 use Rattle.workers.specs.declared.shared_waiting.pass.Pass.{Pass}
-use Rattle.depot.specs.rule.Sums.{total}
+use Rattle.depot_rule.specs.Sums.{total}
 use Rattle.workers.specs.shared_waiting.Balance.{IsWhole, both}
 use Rattle.workers.specs.shared_waiting.Passes.{known}
 use Rattle.workers.specs.declared.worker.Worker.{Worker}

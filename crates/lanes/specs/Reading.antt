@@ -6,11 +6,11 @@ use Rattle.nfs_model.specs.World.{Heard}
 use Rattle.rpc_record.specs.Machine.{State}
 use Rattle.rpc_record.specs.Stream.{read_stream}
 use Rattle.engine_feed.specs.Numbers.{fault_number}
-use Rattle.connections.specs.declared.tcp_front.stream.Stopped.{Stopped}
-use Rattle.connections.specs.declared.tcp_front.stream.Stopped.TheVariants as stops
-use Rattle.connections.specs.declared.tcp_front.stream.Stream.{Stream}
-use Rattle.connections.specs.tcp_front.Arrivals.{Arrival, arrivals, most_records}
-use Rattle.connections.specs.tcp_front.Reading.{AreAll, AreFirst}
+use Rattle.tcp_front.specs.declared.stream.Stopped.{Stopped}
+use Rattle.tcp_front.specs.declared.stream.Stopped.TheVariants as stops
+use Rattle.tcp_front.specs.declared.stream.Stream.{Stream}
+use Rattle.tcp_front.specs.Arrivals.{Arrival, arrivals, most_records}
+use Rattle.tcp_front.specs.Reading.{AreAll, AreFirst}
 use Rattle.lanes.specs.declared.connection.Connection.{Connection}
 use Rattle.lanes.specs.declared.reading.Came.{Came}
 use Rattle.lanes.specs.declared.reading.Came.TheVariants as cames

@@ -1,19 +1,19 @@
 -- The whole life of a lane: what came, what ended, and what is known of each connection that it ever had.
 use Rattle.std.specs.Prelude.{◌≡◌, ◌≢◌, ◌==◌, ℕ, ◌<◌, ◌≤◌, ◌+◌, ◌*◌, Bool, List, [], ◌∷◌, ◌++◌, map, Option, Some, None, if◌then◌else◌}
 use Rattle.std.specs.FinMap.{get}
-use Rattle.depot.specs.rule.Sums.{total}
+use Rattle.depot_rule.specs.Sums.{total}
 use Rattle.nfs_model.specs.Tree.{Layout}
 use Rattle.nfs_model.specs.World.{Heard, Message}
 use Rattle.outboxes.specs.Boxes.{Addressed, addressed, Boxes}
 use Rattle.outboxes.specs.Messages.{ReplyMessage, message}
-use Rattle.parcels.specs.state.Jobs as jobs
+use Rattle.filer_state.specs.state.Jobs as jobs
 use Rattle.service.specs.declared.job.Job.{Job}
 use Rattle.service.specs.declared.job.Job.TheVariants.{Serve, Inner}
 use Rattle.workers.specs.Jobs.{job_reply_of}
 use Rattle.workers.specs.Balance.{FilerEntry, Weight, by_entry, by_key}
 use Rattle.workers.specs.declared.message.Message as workers
-use Rattle.connections.specs.Admitted.{calls_of, seen_of}
-use Rattle.connections.specs.tcp_front.Arrivals.{Arrival, Waits, Answered, arrivals}
+use Rattle.tcp_front.specs.Admitted.{calls_of, seen_of}
+use Rattle.tcp_front.specs.Arrivals.{Arrival, Waits, Answered, arrivals}
 use Rattle.lanes.specs.declared.connection.Connection.{Connection}
 use Rattle.lanes.specs.Connections.{number_of}
 use Rattle.lanes.specs.Intakes.{answered_of}

@@ -2,7 +2,7 @@
 use Rattle.std.specs.Prelude.{ℕ, List, Option}
 use Rattle.std.specs.Arc.{arc_value}
 use Rattle.slab.specs.Slab.{Slab, get}
-use Rattle.affinity_tree.specs.declared.layout.Layout.{Layout}
+use Rattle.affinity.specs.declared.layout.Layout.{Layout}
 use Rattle.outboxes.specs.Boxes.{Boxes}
 use Rattle.workers.specs.declared.message.Message.{Message}
 use Rattle.workers.specs.declared.shared.Filer.{Filer}

@@ -4,7 +4,7 @@ use Rattle.std.specs.FinMap.{get}
 use Rattle.std.specs.Io.KnownBytes.{Appends, Keeps}
 use Rattle.outboxes.specs.Boxes.{Boxes}
 use Rattle.outboxes.specs.Messages.{ReplyMessage}
-use Rattle.connections.specs.tcp_front.Writing.{records_of}
+use Rattle.tcp_front.specs.Writing.{records_of}
 use Rattle.lanes.specs.declared.connection.Connection.{Connection}
 use Rattle.lanes.specs.declared.told.Told.{Told}
 use Rattle.lanes.specs.declared.told.Told.TheVariants as tolds

@@ -1,18 +1,18 @@
 //! Connections.
 
 ghost use Rattle.std.specs.Prelude.{◌≡◌, ◌<◌, None};
-ghost use Rattle.connections.specs.tcp_front.Arrivals.{most_records};
+ghost use Rattle.tcp_front.specs.Arrivals.{most_records};
 
 use crate::backlog::Backlog;
 use crate::device::Device;
 use crate::due::Due;
 use crate::rest::Rest;
 use crate::watched::Watched;
-use connections::tcp_front::{Stopped, Stream};
 use nfs_values::ConnectionNumber;
 use rpc_record::Reassembler;
 use std::alloc::Global;
 use std::snapshot::Snapshot;
+use tcp_front::{Stopped, Stream};
 
 /// What a thread keeps of a connection for itself. It says nothing of the connection's bytes.
 #[derive(Clone, Copy, PartialEq, Eq, Debug)]

@@ -1,13 +1,13 @@
 //! Bytes that are cut into records, and those that are kept.
 
 ghost use Rattle.std.specs.Prelude.{◌≡◌, ◌<◌, [], None, length};
-ghost use Rattle.affinity_tree.specs.Layout.{layout_of};
-ghost use Rattle.connections.specs.tcp_front.Arrivals.{most_records};
+ghost use Rattle.affinity.specs.Layout.{layout_of};
+ghost use Rattle.tcp_front.specs.Arrivals.{most_records};
 ghost use Rattle.lanes.specs.Cutting.{HasCut};
 
 use crate::backlog::Backlog;
-use affinity_tree::Layout;
-use connections::tcp_front::{RecordSink, Stopped, Stream, take_some};
+use affinity::Layout;
+use tcp_front::{RecordSink, Stopped, Stream, take_some};
 
 /// Cuts kept bytes as far as the sink has room.
 pub(crate) fn cut_kept<S: RecordSink>(

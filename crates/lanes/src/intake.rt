@@ -5,16 +5,16 @@ ghost use Rattle.workers.specs.shared_waiting.Passes.{known, IsOf};
 ghost use Rattle.workers.specs.Words.{layout_in, layout_known};
 
 use crate::due::Due;
-use affinity_tree::scheduler::Message;
-use affinity_tree::{Kind, Layout};
-use connections::message::in_room;
-use connections::tcp_front::RecordSink;
+use affinity::{Kind, Layout};
 use engine_feed::OfferedCall;
 use nfs_values::{Call, ConnectionNumber, Reply};
 use outboxes::Outboxes;
+use scheduler::Message;
 use std::alloc::{AllocError, Global};
 use std::snapshot::Snapshot;
 use std::sync::Wait;
+use tcp_front::RecordSink;
+use tcp_front::message::in_room;
 use workers::shared_waiting::{Pass, SharedWaiting};
 use workers::{Envelope, Filer};
 

@@ -1,14 +1,14 @@
 //! One read of a connection.
 
 ghost use Rattle.std.specs.Prelude.{◌≡◌, ◌<◌, length};
-ghost use Rattle.affinity_tree.specs.Layout.{layout_of};
+ghost use Rattle.affinity.specs.Layout.{layout_of};
 
 use crate::connection::Connection;
 use crate::cutting::{cut_kept, cut_new};
 use crate::device::Device;
 use crate::told::Told;
-use affinity_tree::Layout;
-use connections::tcp_front::RecordSink;
+use affinity::Layout;
+use tcp_front::RecordSink;
 
 /// What a read of a connection came to.
 #[derive(Clone, Copy, PartialEq, Eq, Debug)]

@@ -1,7 +1,7 @@
 //! What a device had no room for.
 
 ghost use Rattle.std.specs.Prelude.{◌≡◌, ◌≤◌, ◌++◌, ◌↔◌, [], List, ℕ, length, drop, IsTrue};
-ghost use Rattle.connections.specs.tcp_front.Writing.{records_of};
+ghost use Rattle.tcp_front.specs.Writing.{records_of};
 ghost use Rattle.lanes.specs.Rests.{list_of};
 
 use crate::backlog::Backlog;

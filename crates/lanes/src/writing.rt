@@ -1,7 +1,7 @@
 //! One write to a connection.
 
 ghost use Rattle.std.specs.Prelude.{◌≡◌, ◌≢◌, ◌<◌, ◌≤◌, ◌++◌, [], length};
-ghost use Rattle.connections.specs.tcp_front.Writing.{records_of};
+ghost use Rattle.tcp_front.specs.Writing.{records_of};
 ghost use Rattle.lanes.specs.Rests.{list_of};
 ghost use Rattle.lanes.specs.Writing.{all_of, breaks, HasSent, HasWrittenParts, IsOutcome};
 ghost use Rattle.lanes.specs.declared.writing.Sent.TheVariants.{All, More};

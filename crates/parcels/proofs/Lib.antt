@@ -1,5 +1,12 @@
-mod DirectoryMaps
-mod Laid
-mod Begun
-mod Counted
-mod Places
+pub mod PlaceLemmas
+pub mod Moves
+pub mod OfKind
+pub mod Parts
+pub mod Steps
+pub mod Exactness
+pub mod Allowing
+pub mod Apart
+pub mod Allowed
+pub mod AtNode
+pub mod Siblings
+pub mod Levels

@@ -1,30 +1,28 @@
-//! The parcels of a filer: what each node of the tree holds, the parcels of a layout as a run
-//! begins, and how many ranges a volume has.
-//!
-//! `state` says what parcels stand for and when they are sound. The other modules are laws: what a
-//! call of one kind does to sound parcels.
+//! Parcels of the tree of affinities, and typed sets of them: each node's parcel with those of all
+//! nodes below it. A set is put together from a shelf of parcels and taken apart without memory.
 #![tactic(auto)]
 
-pub mod attributes;
-pub mod bytes;
-pub mod changes;
-mod counting;
-mod directory_map;
-mod files;
-pub mod laws;
-mod logical;
-pub mod names;
-pub mod nodes;
-mod opening;
-mod range;
-pub mod state;
-mod stripe;
-pub mod totals;
+mod children;
+mod family;
+mod gather;
+mod hand;
+mod node;
+mod nodes;
+mod numbers;
+mod places;
+mod scatter;
+mod sets;
+mod shelf;
+mod vec_shelf;
 
-pub use counting::ranges_used;
-pub use directory_map::DirectoryMap;
-pub use files::Files;
-pub use logical::{Logical, LogicalParcel};
-pub use opening::opening_parcels;
-pub use range::RangeParcel;
-pub use stripe::StripeParcel;
+pub use family::{Family, Parcel};
+pub use hand::Hand;
+pub use node::Node;
+pub use nodes::{
+    AggregateNode, LogicalNode, RangeNode, SerialNode, StripeNode, VbnNode, VolumeNode,
+};
+pub use numbers::Numbers;
+pub use places::{Places, eight_places, sixteen_places, two_places};
+pub use sets::{AggrHeld, LogicalHeld, RangeHeld, SerialHeld, StripeHeld, VbnHeld, VolumeHeld};
+pub use shelf::Shelf;
+pub use vec_shelf::VecShelf;

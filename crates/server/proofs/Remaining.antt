@@ -1,11 +1,11 @@
 -- What is left of a lane, put to what is left of others.
 use Rattle.std.proofs.Common.{◌≡◌, ℕ, ◌+◌, List, [], ◌∷◌, ◌++◌, Option, refl, sym, ap, subst, arith, ◌∙◌}
 use Rattle.std.specs.Prelude.{option_to_list}
-use Rattle.affinity_tree.specs.declared.layout.Layout.{Layout}
+use Rattle.affinity.specs.declared.layout.Layout.{Layout}
 use Rattle.depot.specs.Words.{view, splits_left, IsSeatHere}
-use Rattle.depot.specs.rule.History.{entries_of}
-use Rattle.depot.specs.rule.Sums.{total}
-use Rattle.depot.specs.rule.lemmas.Sums.{total-append}
+use Rattle.depot_rule.specs.History.{entries_of}
+use Rattle.depot_rule.specs.Sums.{total}
+use Rattle.depot_rule.specs.lemmas.Sums.{total-append}
 use Rattle.workers.specs.Apart.{AreOf}
 use Rattle.workers.specs.Balance.{FilerEntry, Passed, Weight, by_entry, by_key, by_kept, IsEven}
 use Rattle.workers.specs.Words.{entries_in, layout_in, seats_in, verifier_in, HasOpened, IsAt}

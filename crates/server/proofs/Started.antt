@@ -1,6 +1,6 @@
 -- Lanes whose threads are started, and come back.
 use Rattle.std.proofs.Common.{◌≡◌, ℕ, ◌+◌, List, [], All, length, ap, ◌∙◌, subst, sym, arith}
-use Rattle.depot.specs.rule.Sums.{total}
+use Rattle.depot_rule.specs.Sums.{total}
 use Rattle.lanes.specs.declared.lane.Lane.{Lane}
 use Rattle.workers.specs.declared.shared.Filer.{Filer}
 use Rattle.server.specs.contracts.socket.SocketDevice.TheImpl.{ghosts}

@@ -1,10 +1,10 @@
 -- The end of a server.
 use Rattle.std.specs.Prelude.{◌≡◌, ℕ, ◌+◌, List, length}
 use Rattle.depot.specs.Words.{view}
-use Rattle.depot.specs.rule.History.{entries_of}
-use Rattle.depot.specs.rule.Sums.{total}
+use Rattle.depot_rule.specs.History.{entries_of}
+use Rattle.depot_rule.specs.Sums.{total}
 use Rattle.nfs_model.specs.Tree as trees
-use Rattle.parcel_sets.specs.Sets.{serial_parcels}
+use Rattle.parcels.specs.Sets.{serial_parcels}
 use Rattle.lanes.specs.declared.device.Device as devices
 use Rattle.lanes.specs.declared.lane.Lane.{Lane}
 use Rattle.server.specs.declared.ending.FilerEnd.{FilerEnd}

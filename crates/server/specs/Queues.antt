@@ -1,6 +1,6 @@
 -- Queues of lanes that begin.
 use Rattle.std.specs.Prelude.{◌≡◌, [], Some}
-use Rattle.affinity_tree.specs.declared.layout.Layout.{Layout}
+use Rattle.affinity.specs.declared.layout.Layout.{Layout}
 use Rattle.lanes.specs.Lanes.{HasBoth}
 use Rattle.server.specs.declared.opening.Queue.{Queue}
 use Rattle.workers.specs.declared.message.Message.{Message}

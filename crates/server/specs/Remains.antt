@@ -1,8 +1,8 @@
 -- What is left of lanes that were put together.
 use Rattle.std.specs.Prelude.{ℕ, ◌+◌}
 use Rattle.depot.specs.Words.{view, IsSeatHere}
-use Rattle.depot.specs.rule.History.{entries_of}
-use Rattle.depot.specs.rule.Sums.{total}
+use Rattle.depot_rule.specs.History.{entries_of}
+use Rattle.depot_rule.specs.Sums.{total}
 use Rattle.server.specs.declared.remains.Remains.{Remains}
 use Rattle.workers.specs.Balance.{Weight, by_entry, by_key}
 use Rattle.workers.specs.Words.{layout_in, verifier_in, HasOpened}

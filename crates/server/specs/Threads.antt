@@ -1,7 +1,7 @@
 -- The threads of a filer's lanes.
 use Rattle.std.specs.Prelude.{◌≡◌, ℕ, List, length, All}
 use Rattle.std.specs.declared.thread.PromisedHandle.{PromisedHandle}
-use Rattle.depot.specs.rule.Sums.{total}
+use Rattle.depot_rule.specs.Sums.{total}
 use Rattle.lanes.specs.declared.device.Device as devices
 use Rattle.lanes.specs.declared.lane.Lane.{Lane}
 use Rattle.server.specs.declared.socket.Socket.{Socket}

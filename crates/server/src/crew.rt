@@ -1,7 +1,7 @@
 //! The threads of a filer's lanes.
 
 ghost use Rattle.std.specs.Prelude.{◌≡◌, ◌≤◌, ◌+◌, ℕ, All, true, vec_len, vec_capacity};
-ghost use Rattle.depot.specs.rule.Sums.{total};
+ghost use Rattle.depot_rule.specs.Sums.{total};
 ghost use Rattle.lanes.specs.Words.{Identity};
 ghost use Rattle.server.specs.Lanes.{by_identity, seats_of, IsLaneOf};
 ghost use Rattle.server.specs.Threads.{identity_for, identity_with, seats_for, seats_with};

@@ -3,8 +3,8 @@
 ghost use Rattle.std.specs.Prelude.{◌≡◌, ◌<◌, ◌≤◌, ◌+◌, ◌*◌, ℕ, All};
 ghost use Rattle.std.specs.Prelude.{vec_len, vec_capacity};
 ghost use Rattle.depot.specs.Words.{splits_left, view};
-ghost use Rattle.depot.specs.rule.History.{entries_of};
-ghost use Rattle.depot.specs.rule.Sums.{total};
+ghost use Rattle.depot_rule.specs.History.{entries_of};
+ghost use Rattle.depot_rule.specs.Sums.{total};
 ghost use Rattle.server.specs.Ends.{HaveStopped};
 ghost use Rattle.server.specs.Lanes.{admitted_by, finished_by, seats_of, AreLanesOf};
 ghost use Rattle.server.specs.Lanes.{IsLaneOf};

@@ -8,7 +8,7 @@ ghost use Rattle.server.specs.Queues.{IsNewQueue, IsReadyLane};
 
 use crate::fault::ServerFault;
 use crate::options::MOST_VOLUMES;
-use affinity_tree::{AggregateSpec, Layout, VolumeSpec};
+use affinity::{AggregateSpec, Layout, VolumeSpec};
 use lanes::{Device, Lane};
 use std::alloc::{AllocError, Global};
 use std::rt::Clock;

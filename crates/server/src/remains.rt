@@ -1,7 +1,7 @@
 //! What is left of lanes that were put together.
 
 ghost use Rattle.depot.specs.Words.{view, HasNoGrant};
-ghost use Rattle.depot.specs.rule.History.{entries_of, AreHands};
+ghost use Rattle.depot_rule.specs.History.{entries_of, AreHands};
 ghost use Rattle.workers.specs.Jobs.{job_takes, job_gives};
 
 use depot::Seat;

@@ -3,7 +3,7 @@
 ghost use Rattle.std.specs.Prelude.{◌≡◌, ◌<◌, ◌≤◌, ◌+◌, ℕ, [], List, length, All, IfOk, OnOk, IfSome};
 ghost use Rattle.std.specs.Prelude.{vec_len, vec_capacity};
 ghost use Rattle.std.specs.Arc.{arc_value};
-ghost use Rattle.depot.specs.rule.Sums.{total};
+ghost use Rattle.depot_rule.specs.Sums.{total};
 ghost use Rattle.lanes.specs.declared.lane.Lane as laned;
 ghost use Rattle.server.specs.Ends.{IsEndOf};
 ghost use Rattle.lanes.specs.Words.{Identity};
@@ -25,7 +25,7 @@ use crate::room::Room;
 use crate::socket::Socket;
 use crate::station::Station;
 use crate::task::{Task, Thread};
-use affinity_tree::Layout;
+use affinity::Layout;
 use lanes::{Device, Lane};
 use std::alloc::Global;
 use std::io::Write;

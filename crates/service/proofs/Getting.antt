@@ -7,12 +7,12 @@ use Rattle.nfs_values.specs.Answer.{answer_of}
 use Rattle.nfs_values.specs.declared.answer.Answer.TheVariants.{GetAttributes}
 use Rattle.nfs_values.specs.declared.attributes.Attributes.{Attributes}
 use Rattle.nfs_values.specs.declared.status.Status.{Status}
-use Rattle.parcels.specs.state.Tree.{file_touch}
-use Rattle.parcels.specs.state.Lenses.{LogicalSet, logical_lens}
-use Rattle.parcels.specs.state.Promises.{RightOnVolume}
-use Rattle.parcels.specs.state.Jobs.{Replied}
-use Rattle.parcels.specs.state.Calls.{ServesOn}
-use Rattle.parcels.specs.state.Changes.{getattr_answer}
+use Rattle.filer_state.specs.state.Tree.{file_touch}
+use Rattle.filer_state.specs.state.Lenses.{LogicalSet, logical_lens}
+use Rattle.filer_state.specs.state.Promises.{RightOnVolume}
+use Rattle.filer_state.specs.state.Jobs.{Replied}
+use Rattle.filer_state.specs.state.Calls.{ServesOn}
+use Rattle.filer_state.specs.state.Changes.{getattr_answer}
 use Rattle.service.specs.renames.AttributeLaws.{getattr_call}
 use Rattle.service.specs.renames.GettingLemmas.{getattr-right}
 use Rattle.service.specs.Getattr.{TellsAttributes}

@@ -2,28 +2,28 @@
 use Rattle.std.proofs.Common.{◌≡◌, ◌≢◌, ℕ, ◌<◌, length, Option, Some, None, refl, sym, ap, ◌∙◌, subst, arith}
 use Rattle.nfs_model.specs.Parts.{Hand, Empty}
 use Rattle.nfs_model.specs.Tree.{Layout, Affinity, Logical, Vbn, Range, stripes_of}
-use Rattle.affinity_tree.specs.Affinity.{kind_of}
-use Rattle.affinity_tree.specs.Fault.{fault_of}
-use Rattle.affinity_tree.specs.Numbers.{number_of, parents}
-use Rattle.affinity_tree.specs.Tree.{IsNode}
-use Rattle.affinity_tree.specs.declared.affinity.Kind.{Kind}
-use Rattle.affinity_tree.specs.declared.affinity.Kind.TheVariants as kinds
-use Rattle.parcel_sets.specs.Sets.{range_parcels, vbn_parcels, logical_parcels}
+use Rattle.affinity.specs.Affinity.{kind_of}
+use Rattle.affinity.specs.Fault.{fault_of}
+use Rattle.affinity.specs.Numbers.{number_of, parents}
+use Rattle.affinity.specs.Tree.{IsNode}
+use Rattle.affinity.specs.declared.affinity.Kind.{Kind}
+use Rattle.affinity.specs.declared.affinity.Kind.TheVariants as kinds
+use Rattle.parcels.specs.Sets.{range_parcels, vbn_parcels, logical_parcels}
 use Rattle.nfs_values.specs.declared.number.VolumeNumber.{VolumeNumber}
 use Rattle.nfs_model.specs.volume.Ranges.{RangeValue}
-use Rattle.parcels.specs.state.Contents.{VolumeContents}
-use Rattle.parcels.specs.state.Deeds.{FilerSteps}
-use Rattle.parcels.specs.state.Jobs.{InnerCall, Fetch, Deliver, Cull, Free, Survey, Inner, JobReply, batches_in, inner_node, inner_volume}
-use Rattle.parcels.specs.state.Lenses.{Lens, in_volume, range_lens, vbn_lens, logical_lens}
-use Rattle.parcels.specs.state.Parcels.{FilerParcel}
-use Rattle.parcels.specs.state.Partition.{AreOf}
-use Rattle.parcels.specs.state.Promises.{HasVolume, IsRight, IsSeenBy}
-use Rattle.parcels.specs.state.Running.{HasFiler}
-use Rattle.parcels.specs.state.Sets.{FilerRange, FilerVbn, FilerLogical, vbn_set, logical_set, logical_before, logical_after}
-use Rattle.parcels.specs.laws.lemmas.Granted.{range-has, logical-has}
-use Rattle.parcels.specs.laws.lemmas.Kinds.{range-step, vbn-step, logical-step}
-use Rattle.parcels.specs.laws.lemmas.Running.{inner-runs-by}
-use Rattle.parcels.specs.laws.lemmas.SeenSets.{range-seen, vbn-seen, logical-seen}
+use Rattle.filer_state.specs.state.Contents.{VolumeContents}
+use Rattle.filer_state.specs.state.Deeds.{FilerSteps}
+use Rattle.filer_state.specs.state.Jobs.{InnerCall, Fetch, Deliver, Cull, Free, Survey, Inner, JobReply, batches_in, inner_node, inner_volume}
+use Rattle.filer_state.specs.state.Lenses.{Lens, in_volume, range_lens, vbn_lens, logical_lens}
+use Rattle.filer_state.specs.state.Parcels.{FilerParcel}
+use Rattle.filer_state.specs.state.Partition.{AreOf}
+use Rattle.filer_state.specs.state.Promises.{HasVolume, IsRight, IsSeenBy}
+use Rattle.filer_state.specs.state.Running.{HasFiler}
+use Rattle.filer_state.specs.state.Sets.{FilerRange, FilerVbn, FilerLogical, vbn_set, logical_set, logical_before, logical_after}
+use Rattle.filer_state.specs.laws.lemmas.Granted.{range-has, logical-has}
+use Rattle.filer_state.specs.laws.lemmas.Kinds.{range-step, vbn-step, logical-step}
+use Rattle.filer_state.specs.laws.lemmas.Running.{inner-runs-by}
+use Rattle.filer_state.specs.laws.lemmas.SeenSets.{range-seen, vbn-seen, logical-seen}
 use Rattle.service.specs.Inner.{InnerHasRun, IsHandFor}
 use Rattle.service.specs.InnerOn.{HasRunOn, MayRunOn, UnlessDone}
 use Rattle.service.specs.Jobs.{inner_of, job_reply_of}

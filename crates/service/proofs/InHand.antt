@@ -5,12 +5,12 @@ use Rattle.std.specs.Prelude.{◌==◌, if◌then◌else◌}
 use Rattle.nfs_model.specs.Moves.{dead_hand, fresh_hand}
 use Rattle.nfs_model.specs.Parts.{Hand, Empty, Fresh, Dead, times_listed}
 use Rattle.nfs_model.specs.volume.Ranges.{RangeValue}
-use Rattle.parcels.specs.state.Jobs as replies
-use Rattle.parcels.specs.state.Jobs.{InnerCall, Fetch, Deliver, Cull, Free, Survey, batches_in, inner_volume}
-use Rattle.parcels.specs.state.Lenses.{LogicalSet, range_lens, logical_lens}
-use Rattle.parcels.specs.state.Partition.{AreOf}
-use Rattle.parcels.specs.state.Promises.{HasVolume}
-use Rattle.parcels.specs.state.Running.{InnerRunsOn}
+use Rattle.filer_state.specs.state.Jobs as replies
+use Rattle.filer_state.specs.state.Jobs.{InnerCall, Fetch, Deliver, Cull, Free, Survey, batches_in, inner_volume}
+use Rattle.filer_state.specs.state.Lenses.{LogicalSet, range_lens, logical_lens}
+use Rattle.filer_state.specs.state.Partition.{AreOf}
+use Rattle.filer_state.specs.state.Promises.{HasVolume}
+use Rattle.filer_state.specs.state.Running.{InnerRunsOn}
 use Rattle.service_batches.specs.Batches.{CullsHere, DeliversHere, FetchesHere, FreesHere, MayDeliver, MayFree}
 use Rattle.service.specs.Inner.{IsHandFor}
 use Rattle.service.specs.InnerOn.{HasRunOn, MayRunOn}

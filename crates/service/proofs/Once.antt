@@ -9,28 +9,28 @@ use Rattle.nfs_model.specs.Tree.{Layout, Affinity, Serial, Aggregate, Volume, Lo
 use Rattle.nfs_model.specs.Parts.{Hand, one_if, times_listed, most_ranges, range_blocks}
 use Rattle.nfs_model.specs.volume.Stripes.{Place, Block}
 use Rattle.nfs_model.specs.volume.Ranges.{RangeValue}
-use Rattle.affinity_tree.specs.Ancestors.{Covers}
-use Rattle.affinity_tree.specs.Numbers.{number_of, parents}
-use Rattle.affinity_tree.specs.Tree.{IsNode}
-use Rattle.affinity_tree.specs.Under.{IsUnder}
-use Rattle.affinity_tree.specs.Alike.{AreAlike}
-use Rattle.affinity_tree.specs.lemmas.Alike.{alike}
-use Rattle.affinity_tree.specs.lemmas.Standing.{number-place, covers-under}
-use Rattle.parcel_sets.specs.Exact.{kind_in, HasExactly}
-use Rattle.depot.specs.rule.History.{after, covers, listed, entries_of}
-use Rattle.depot.specs.rule.Sums.{total}
-use Rattle.depot.specs.rule.lemmas.Covering.{covers-true, true-covers}
+use Rattle.affinity.specs.Ancestors.{Covers}
+use Rattle.affinity.specs.Numbers.{number_of, parents}
+use Rattle.affinity.specs.Tree.{IsNode}
+use Rattle.affinity.specs.Under.{IsUnder}
+use Rattle.affinity.specs.Alike.{AreAlike}
+use Rattle.affinity.specs.lemmas.Alike.{alike}
+use Rattle.affinity.specs.lemmas.Standing.{number-place, covers-under}
+use Rattle.parcels.specs.Exact.{kind_in, HasExactly}
+use Rattle.depot_rule.specs.History.{after, covers, listed, entries_of}
+use Rattle.depot_rule.specs.Sums.{total}
+use Rattle.depot_rule.specs.lemmas.Covering.{covers-true, true-covers}
 use Rattle.depot.specs.Grants.{IsAfter}
-use Rattle.parcels.specs.state.Contents.{VolumeContents, FilerContents, each, logical_in, stripe_in, range_in, contents_of, filer_contents}
-use Rattle.parcels.specs.state.Partition.{times_in, times_in_hand, times_in_stripe, StandOnce}
-use Rattle.parcels.specs.state.Sound.{IsFiler, AreSound}
-use Rattle.parcels.specs.state.Tree.{ranges_used}
-use Rattle.parcels.specs.laws.lemmas.Alike.{filer-same}
-use Rattle.parcels.specs.laws.lemmas.Each.{each-get, each-same}
+use Rattle.filer_state.specs.state.Contents.{VolumeContents, FilerContents, each, logical_in, stripe_in, range_in, contents_of, filer_contents}
+use Rattle.filer_state.specs.state.Partition.{times_in, times_in_hand, times_in_stripe, StandOnce}
+use Rattle.filer_state.specs.state.Sound.{IsFiler, AreSound}
+use Rattle.filer_state.specs.state.Tree.{ranges_used}
+use Rattle.filer_state.specs.laws.lemmas.Alike.{filer-same}
+use Rattle.filer_state.specs.laws.lemmas.Each.{each-get, each-same}
 use Rattle.service.specs.Laws.{service_behaviour, ServiceEntry, ServiceView, ServiceParcels, AreHandsOf}
 use Rattle.service.specs.Laws.{GrantsHaveEachBlockOnce, WholeGrantsHaveAllBlocks, ClosedDepotsHaveAllBlocks}
-use Rattle.parcels.specs.state.Parcels.{FilerParcel}
-use Rattle.parcels.specs.declared.files.Files.{Files}
+use Rattle.filer_state.specs.state.Parcels.{FilerParcel}
+use Rattle.filer_state.specs.declared.files.Files.{Files}
 
 -- ---- counts
 

@@ -19,12 +19,12 @@ use Rattle.nfs_values.specs.declared.call.Call as codes
 use Rattle.nfs_values.specs.declared.status.Status.{Status}
 use Rattle.service.specs.renames.ChangeLaws.{rename_call}
 use Rattle.service_data.specs.WritingLaws.{write_call}
-use Rattle.parcels.specs.state.Calls.{VolumeCall, ServesOn, handle_in}
-use Rattle.parcels.specs.state.Contents.{VolumeContents}
-use Rattle.parcels.specs.state.Jobs as jobs
-use Rattle.parcels.specs.state.Lenses.{Lens, LogicalSet, VolumeSet, logical_lens, volume_lens}
-use Rattle.parcels.specs.state.Promises.{RightOnVolume}
-use Rattle.parcels.specs.state.Running.{RunsOn, UnlessReplied}
+use Rattle.filer_state.specs.state.Calls.{VolumeCall, ServesOn, handle_in}
+use Rattle.filer_state.specs.state.Contents.{VolumeContents}
+use Rattle.filer_state.specs.state.Jobs as jobs
+use Rattle.filer_state.specs.state.Lenses.{Lens, LogicalSet, VolumeSet, logical_lens, volume_lens}
+use Rattle.filer_state.specs.state.Promises.{RightOnVolume}
+use Rattle.filer_state.specs.state.Running.{RunsOn, UnlessReplied}
 use Rattle.service_data.specs.Writing.{asked_to_write, writing_outcome, written_outcome}
 use Rattle.service.specs.renames.Promises.{Renames, renaming_outcome}
 use Rattle.service.specs.totals.Space.{TellsSpace}

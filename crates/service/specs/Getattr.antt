@@ -6,10 +6,10 @@ use Rattle.nfs_values.specs.Answer.{answer_of}
 use Rattle.nfs_values.specs.declared.answer.Answer.TheVariants.{GetAttributes}
 use Rattle.nfs_values.specs.declared.attributes.Attributes.{Attributes}
 use Rattle.nfs_values.specs.declared.status.Status.{Status}
-use Rattle.parcels.specs.state.Lenses.{LogicalSet, logical_lens}
-use Rattle.parcels.specs.state.Promises.{RightOnVolume}
-use Rattle.parcels.specs.state.Jobs.{Replied}
-use Rattle.parcels.specs.state.Calls.{ServesOn}
+use Rattle.filer_state.specs.state.Lenses.{LogicalSet, logical_lens}
+use Rattle.filer_state.specs.state.Promises.{RightOnVolume}
+use Rattle.filer_state.specs.state.Jobs.{Replied}
+use Rattle.filer_state.specs.state.Calls.{ServesOn}
 use Rattle.service.specs.renames.AttributeLaws.{getattr_call}
 
 -- An entry of GETATTR of a fileid under Logical, with this result, is right: by whatever handle, and whatever the rest of the

@@ -2,8 +2,8 @@
 use Rattle.std.specs.Prelude.{◌≡◌, refl, ℕ, Bool, true, false, List, Option, Some, None}
 use Rattle.std.specs.Coded.{Coded, code_by, coded×, coded_ℕ, coded_bool, coded_list, coded_option}
 use Rattle.nfs_model.specs.Parts as parts
-use Rattle.parcel_sets.specs.declared.hand.Hand.{Hand}
-use Rattle.parcel_sets.specs.declared.hand.Hand.TheVariants.{Empty, Fresh, Dead}
+use Rattle.parcels.specs.declared.hand.Hand.{Hand}
+use Rattle.parcels.specs.declared.hand.Hand.TheVariants.{Empty, Fresh, Dead}
 
 -- a hand, as the model has it
 abbrev pub hand_of : Hand (List ℕ) → parts.Hand

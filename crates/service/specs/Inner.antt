@@ -2,9 +2,9 @@
 use Rattle.std.specs.Prelude.{◌≡◌, ℕ, ◌<◌, List, length, Option, Some, None}
 use Rattle.nfs_model.specs.Tree.{Layout, Affinity}
 use Rattle.nfs_model.specs.Parts.{Hand, Empty, Fresh, Dead, range_of}
-use Rattle.parcels.specs.state.Parcels.{FilerParcel}
-use Rattle.parcels.specs.state.Jobs.{InnerCall, Fetch, Deliver, Cull, Free, Survey, Inner, gives, batches_in, inner_node}
-use Rattle.parcels.specs.state.Running.{HasFiler, InnerRuns}
+use Rattle.filer_state.specs.state.Parcels.{FilerParcel}
+use Rattle.filer_state.specs.state.Jobs.{InnerCall, Fetch, Deliver, Cull, Free, Survey, Inner, gives, batches_in, inner_node}
+use Rattle.filer_state.specs.state.Running.{HasFiler, InnerRuns}
 use Rattle.service.specs.declared.inner.InnerOutcome.{InnerOutcome}
 use Rattle.service.specs.declared.inner.InnerOutcome.TheVariants.{Done, Refused, NoMemory}
 use Rattle.service.specs.Jobs.{job_reply_of}

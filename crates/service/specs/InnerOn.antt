@@ -1,12 +1,12 @@
 -- Inner calls run on the part of a volume that they hold, with what is in the hand.
 use Rattle.std.specs.Prelude.{◌≡◌, ℕ, Some, None}
 use Rattle.nfs_model.specs.Parts.{Hand}
-use Rattle.parcels.specs.state.Contents.{VolumeContents}
-use Rattle.parcels.specs.state.Jobs.{InnerCall, Inner, takes, gives, batches_in}
-use Rattle.parcels.specs.state.Lenses.{Lens}
-use Rattle.parcels.specs.state.Partition.{AreOf}
-use Rattle.parcels.specs.state.Promises.{HasVolume}
-use Rattle.parcels.specs.state.Running.{InnerRunsOn}
+use Rattle.filer_state.specs.state.Contents.{VolumeContents}
+use Rattle.filer_state.specs.state.Jobs.{InnerCall, Inner, takes, gives, batches_in}
+use Rattle.filer_state.specs.state.Lenses.{Lens}
+use Rattle.filer_state.specs.state.Partition.{AreOf}
+use Rattle.filer_state.specs.state.Promises.{HasVolume}
+use Rattle.filer_state.specs.state.Running.{InnerRunsOn}
 use Rattle.service.specs.declared.inner.InnerOutcome.{InnerOutcome}
 use Rattle.service.specs.declared.inner.InnerOutcome.TheVariants.{Done, Refused, NoMemory}
 use Rattle.service.specs.Jobs.{job_reply_of}

@@ -3,18 +3,18 @@ use Rattle.std.specs.Prelude.{ℕ, List, Option, Some}
 use Rattle.nfs_model.specs.Types as types
 use Rattle.nfs_model.specs.Parts.{Hand}
 use Rattle.nfs_model.specs.Replay as replay
-use Rattle.affinity_tree.specs.Affinity.{affinity_of}
+use Rattle.affinity.specs.Affinity.{affinity_of}
 use Rattle.nfs_values.specs.Call.{call_of}
 use Rattle.nfs_values.specs.Credential.{credential_of}
 use Rattle.nfs_values.specs.Moment.{moment_of}
 use Rattle.nfs_values.specs.Reply.{refusal_of, reply_of}
-use Rattle.depot.specs.rule.Machine.{IsLocal, Keeps}
-use Rattle.parcels.specs.state.Parcels.{FilerParcel}
-use Rattle.parcels.specs.state.Sound.{IsFiler}
-use Rattle.parcels.specs.state.Jobs as jobs
-use Rattle.parcels.specs.state.Jobs.{takes, gives}
-use Rattle.parcels.specs.state.Deeds.{FilerSteps}
-use Rattle.parcels.specs.laws.lemmas.Lawful.{steps-local, steps-keep}
+use Rattle.depot_rule.specs.Machine.{IsLocal, Keeps}
+use Rattle.filer_state.specs.state.Parcels.{FilerParcel}
+use Rattle.filer_state.specs.state.Sound.{IsFiler}
+use Rattle.filer_state.specs.state.Jobs as jobs
+use Rattle.filer_state.specs.state.Jobs.{takes, gives}
+use Rattle.filer_state.specs.state.Deeds.{FilerSteps}
+use Rattle.filer_state.specs.laws.lemmas.Lawful.{steps-local, steps-keep}
 use Rattle.service.specs.declared.job.Asked.{Asked}
 use Rattle.service.specs.declared.job.Asked.TheVariants.{Call, Refused, Undecoded}
 use Rattle.service.specs.declared.job.ServedCall.{ServedCall}

@@ -2,19 +2,19 @@
 use Rattle.std.specs.Prelude.{◌≡◌, ℕ, ◌+◌, ◌<◌, ◌≤◌, List, length, Option}
 use Rattle.nfs_model.specs.Tree.{Layout, Affinity, Serial}
 use Rattle.nfs_model.specs.Parts.{Hand}
-use Rattle.affinity_tree.specs.Numbers.{number_of, parents}
-use Rattle.affinity_tree.specs.Tree.{IsNode}
-use Rattle.parcel_sets.specs.Exact.{kind_in, HasExactly}
-use Rattle.depot.specs.declared.rule.view.View.{View}
-use Rattle.depot.specs.declared.rule.view.Entry.{Entry}
-use Rattle.depot.specs.rule.History.{Behaviour, behaviour, entries_of, AreHands}
-use Rattle.depot.specs.rule.Sums.{total}
+use Rattle.affinity.specs.Numbers.{number_of, parents}
+use Rattle.affinity.specs.Tree.{IsNode}
+use Rattle.parcels.specs.Exact.{kind_in, HasExactly}
+use Rattle.depot_rule.specs.declared.view.View.{View}
+use Rattle.depot_rule.specs.declared.view.Entry.{Entry}
+use Rattle.depot_rule.specs.History.{Behaviour, behaviour, entries_of, AreHands}
+use Rattle.depot_rule.specs.Sums.{total}
 use Rattle.depot.specs.Grants.{IsAfter, IsClosed}
-use Rattle.parcels.specs.declared.files.Files.{Files}
-use Rattle.parcels.specs.state.Parcels.{FilerParcel}
-use Rattle.parcels.specs.state.Contents.{VolumeContents, contents_of}
-use Rattle.parcels.specs.state.Partition.{times_in, times_in_hand, StandOnce}
-use Rattle.parcels.specs.state.Sound.{IsFiler}
+use Rattle.filer_state.specs.declared.files.Files.{Files}
+use Rattle.filer_state.specs.state.Parcels.{FilerParcel}
+use Rattle.filer_state.specs.state.Contents.{VolumeContents, contents_of}
+use Rattle.filer_state.specs.state.Partition.{times_in, times_in_hand, StandOnce}
+use Rattle.filer_state.specs.state.Sound.{IsFiler}
 use Rattle.service.specs.Jobs.{job_steps, job_takes, job_gives}
 use Rattle.service.specs.declared.job.Job.{Job}
 use Rattle.service.specs.declared.job.JobReply.{JobReply}

@@ -20,8 +20,8 @@ use Rattle.nfs_model.specs.Serial.Rmdir.{rmdir}
 use Rattle.nfs_model.specs.Serial.Write.{write}
 use Rattle.nfs_model.specs.Server.{Named, VolumeState, most_bytes}
 use Rattle.nfs_model.specs.Work as works
-use Rattle.affinity_tree.specs.Affinity.{affinity_of}
-use Rattle.affinity_tree.specs.Tree.{IsNode}
+use Rattle.affinity.specs.Affinity.{affinity_of}
+use Rattle.affinity.specs.Tree.{IsNode}
 use Rattle.nfs_values.specs.Call.{call_of}
 use Rattle.nfs_values.specs.Reply.{reply_of}
 use Rattle.nfs_values.specs.declared.call.Call.{Call}
@@ -29,9 +29,9 @@ use Rattle.nfs_values.specs.declared.call.Call.TheVariants.{GetAttributes, SetAt
 use Rattle.nfs_values.specs.declared.call.Call.TheVariants.{Remove, RemoveDirectory, Rename, ReadDirectory}
 use Rattle.nfs_values.specs.declared.call.Call.TheVariants.{FilesystemStatus, Commit, Census, Grow}
 use Rattle.nfs_model.specs.volume.Stripes.{StripeValue}
-use Rattle.parcels.specs.state.Calls.{VolumeCall, LieIn, handle_in}
-use Rattle.parcels.specs.state.Parcels.{FilerParcel}
-use Rattle.parcels.specs.state.Running.{HasFiler, Runs}
+use Rattle.filer_state.specs.state.Calls.{VolumeCall, LieIn, handle_in}
+use Rattle.filer_state.specs.state.Parcels.{FilerParcel}
+use Rattle.filer_state.specs.state.Running.{HasFiler, Runs}
 use Rattle.service.specs.declared.outcome.Outcome.{Outcome}
 use Rattle.service.specs.declared.outcome.Outcome.TheVariants.{Replied, Starved, Moved}
 

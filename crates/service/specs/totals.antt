@@ -2,6 +2,6 @@ pub mod Ranges
 pub mod Growing
 pub mod Space
 pub mod Census
-pub use Rattle.parcels.specs.totals.Running
-pub use Rattle.parcels.specs.totals.CensusLaws
-pub use Rattle.parcels.specs.totals.lemmas.Running as RunningLemmas
+pub use Rattle.filer_state.specs.totals.Running
+pub use Rattle.filer_state.specs.totals.CensusLaws
+pub use Rattle.filer_state.specs.totals.lemmas.Running as RunningLemmas

@@ -1,19 +1,19 @@
 //! A call run on the parcels of a node of any kind.
 
-ghost use Rattle.affinity_tree.specs.Affinity.{affinity_of};
-ghost use Rattle.affinity_tree.specs.Layout.{layout_of};
-ghost use Rattle.affinity_tree.specs.Tree.{IsNode};
+ghost use Rattle.affinity.specs.Affinity.{affinity_of};
+ghost use Rattle.affinity.specs.Layout.{layout_of};
+ghost use Rattle.affinity.specs.Tree.{IsNode};
 ghost use Rattle.nfs_values.specs.Credential.{credential_of};
 ghost use Rattle.nfs_values.specs.Moment.{moment_of};
-ghost use Rattle.parcel_sets.specs.Exact.{kind_in, HasExactly};
+ghost use Rattle.parcels.specs.Exact.{kind_in, HasExactly};
 ghost use Rattle.service.specs.Running.{AsksFor, HasRun};
 
 use crate::outcome::Outcome;
 use crate::task::Run;
-use affinity_tree::{Affinity, Layout};
+use affinity::{Affinity, Layout};
 use desk::{ParcelKinds, TaskNode};
-use parcel_sets::Parcel;
-use parcels::Files;
+use filer_state::Files;
+use parcels::Parcel;
 
 /// Runs a call on the parcels of a node of any kind at which it is run: its home, or above it
 /// where it moved. It sees these parcels alone. A reply is what the serial server does on all that

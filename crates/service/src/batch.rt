@@ -2,7 +2,7 @@
 
 ghost use Rattle.std.specs.Prelude.{◌≡◌};
 
-use parcel_sets::Hand;
+use parcels::Hand;
 use std::marker::Model;
 use vbn_ranges::Batch;
 

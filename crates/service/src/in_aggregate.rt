@@ -3,25 +3,25 @@
 ghost use Rattle.std.specs.Prelude.{◌≡◌, []};
 ghost use Rattle.nfs_model.specs.Tree as trees;
 ghost use Rattle.nfs_model.specs.Types.{Ask};
-ghost use Rattle.affinity_tree.specs.Layout.{layout_of};
+ghost use Rattle.affinity.specs.Layout.{layout_of};
 ghost use Rattle.nfs_values.specs.Call.{call_of};
 ghost use Rattle.nfs_values.specs.Credential.{credential_of};
 ghost use Rattle.nfs_values.specs.Moment.{moment_of};
-ghost use Rattle.parcel_sets.specs.Filled.{aggregate_alike};
-ghost use Rattle.parcels.specs.state.Lenses.{aggregate_lens};
-ghost use Rattle.parcels.specs.state.Promises.{HasAll};
-ghost use Rattle.parcels.specs.state.Running.{task_under, UnlessReplied};
-ghost use Rattle.parcels.specs.state.Sets.{aggregate_set};
+ghost use Rattle.parcels.specs.Filled.{aggregate_alike};
+ghost use Rattle.filer_state.specs.state.Lenses.{aggregate_lens};
+ghost use Rattle.filer_state.specs.state.Promises.{HasAll};
+ghost use Rattle.filer_state.specs.state.Running.{task_under, UnlessReplied};
+ghost use Rattle.filer_state.specs.state.Sets.{aggregate_set};
 ghost use Rattle.service.specs.totals.Running.{RunsOnAll};
 ghost use Rattle.service.specs.Running.{outcome_of, IsRunAt};
 
 use crate::outcome::{Outcome, outcome_grown};
 use crate::task::Run;
 use crate::totals::grow;
-use affinity_tree::Layout;
+use affinity::Layout;
+use filer_state::Files;
 use nfs_values::Call;
-use parcel_sets::AggrHeld;
-use parcels::Files;
+use parcels::AggrHeld;
 
 /// Runs a call on the parcels under an Aggregate: GROW of a volume on it.
 pub fn run_on_aggregate(

@@ -4,18 +4,18 @@ ghost use Rattle.std.specs.Prelude.{◌≡◌, true, false, Some, []};
 ghost use Rattle.nfs_model.specs.Home.{home, named_by, rename_home};
 ghost use Rattle.nfs_model.specs.Tree as trees;
 ghost use Rattle.nfs_model.specs.Types as types;
-ghost use Rattle.affinity_tree.specs.Layout.{layout_of};
+ghost use Rattle.affinity.specs.Layout.{layout_of};
 ghost use Rattle.nfs_values.specs.Call.{call_of};
 ghost use Rattle.nfs_values.specs.Credential.{credential_of};
 ghost use Rattle.nfs_values.specs.Handle.{named_of};
 ghost use Rattle.nfs_values.specs.Moment.{moment_of};
 ghost use Rattle.nfs_values.specs.declared.answer.Answer.TheVariants as answers;
 ghost use Rattle.nfs_values.specs.declared.call.Call.TheVariants as calls;
-ghost use Rattle.parcel_sets.specs.Filled.{logical_alike};
-ghost use Rattle.parcels.specs.state.Lenses.{logical_lens};
-ghost use Rattle.parcels.specs.state.Promises.{HasVolume};
-ghost use Rattle.parcels.specs.state.Running.{RunsOn, UnlessReplied};
-ghost use Rattle.parcels.specs.state.Sets.{logical_before, logical_after};
+ghost use Rattle.parcels.specs.Filled.{logical_alike};
+ghost use Rattle.filer_state.specs.state.Lenses.{logical_lens};
+ghost use Rattle.filer_state.specs.state.Promises.{HasVolume};
+ghost use Rattle.filer_state.specs.state.Running.{RunsOn, UnlessReplied};
+ghost use Rattle.filer_state.specs.state.Sets.{logical_before, logical_after};
 ghost use Rattle.service.specs.renames.NamePromises.{listing_outcome, making_outcome};
 ghost use Rattle.service.specs.renames.Promises.{renaming_outcome};
 ghost use Rattle.service.specs.Running.{
@@ -36,14 +36,14 @@ use crate::renames::{
     remove_directory, rename, set_attributes,
 };
 use crate::task::Run;
-use affinity_tree::homes::named_by;
-use affinity_tree::{Affinity, Layout};
+use affinity::homes::named_by;
+use affinity::{Affinity, Layout};
+use filer_state::Files;
 use nfs_values::{
     Answer, Call, FileHandle, MakeResults, Named, ReadDirectoryResults, RenameResults, Reply,
     Status, Target, VolumeNumber,
 };
-use parcel_sets::LogicalHeld;
-use parcels::Files;
+use parcels::LogicalHeld;
 use service_data::{read_in_logical, write_in_logical};
 use std::alloc::AllocError;
 

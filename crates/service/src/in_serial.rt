@@ -2,23 +2,23 @@
 
 ghost use Rattle.nfs_model.specs.Tree as trees;
 ghost use Rattle.nfs_model.specs.Types.{Ask};
-ghost use Rattle.affinity_tree.specs.Layout.{layout_of};
+ghost use Rattle.affinity.specs.Layout.{layout_of};
 ghost use Rattle.nfs_values.specs.Call.{call_of};
 ghost use Rattle.nfs_values.specs.Credential.{credential_of};
 ghost use Rattle.nfs_values.specs.Moment.{moment_of};
-ghost use Rattle.parcels.specs.state.Lenses.{serial_lens};
-ghost use Rattle.parcels.specs.state.Running.{task_under};
-ghost use Rattle.parcels.specs.state.Sets.{serial_set};
+ghost use Rattle.filer_state.specs.state.Lenses.{serial_lens};
+ghost use Rattle.filer_state.specs.state.Running.{task_under};
+ghost use Rattle.filer_state.specs.state.Sets.{serial_set};
 ghost use Rattle.service.specs.totals.Running.{RunsOnAll};
 ghost use Rattle.service.specs.Running.{outcome_of, IsRunAt};
 
 use crate::outcome::{Outcome, outcome_counted};
 use crate::task::Run;
 use crate::totals::census;
-use affinity_tree::Layout;
+use affinity::Layout;
+use filer_state::Files;
 use nfs_values::Call;
-use parcel_sets::SerialHeld;
-use parcels::Files;
+use parcels::SerialHeld;
 
 /// Runs a call on all that is stored: CENSUS, which changes nothing.
 pub fn run_on_serial(run: Run, layout: &Layout, held: &SerialHeld<Files>) -> Outcome

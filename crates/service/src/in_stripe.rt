@@ -2,12 +2,12 @@
 
 ghost use Rattle.std.specs.Prelude.{◌≡◌, ◌<◌};
 ghost use Rattle.nfs_model.specs.Tree as trees;
-ghost use Rattle.affinity_tree.specs.Layout.{layout_of};
+ghost use Rattle.affinity.specs.Layout.{layout_of};
 ghost use Rattle.nfs_values.specs.Call.{call_of};
 ghost use Rattle.nfs_values.specs.Credential.{credential_of};
 ghost use Rattle.nfs_values.specs.Moment.{moment_of};
-ghost use Rattle.parcels.specs.state.Lenses.{stripe_lens};
-ghost use Rattle.parcels.specs.state.Running.{RunsOn, UnlessReplied};
+ghost use Rattle.filer_state.specs.state.Lenses.{stripe_lens};
+ghost use Rattle.filer_state.specs.state.Running.{RunsOn, UnlessReplied};
 ghost use Rattle.service.specs.Running.{
   call_of_node,
   call_on,
@@ -20,10 +20,10 @@ ghost use Rattle.service.specs.Running.{
 use crate::named::fileid_here;
 use crate::outcome::{Outcome, outcome_read, outcome_written_in_stripe};
 use crate::task::Run;
-use affinity_tree::{Affinity, Layout};
+use affinity::{Affinity, Layout};
+use filer_state::Files;
 use nfs_values::{Call, Fileid, VolumeNumber};
-use parcel_sets::StripeHeld;
-use parcels::Files;
+use parcels::StripeHeld;
 use service_data::{read_in_stripe, write_in_stripe};
 
 /// Runs a call on the parcel of a stripe of its volume, its home. A WRITE that would extend the

@@ -2,25 +2,25 @@
 
 ghost use Rattle.std.specs.Prelude.{◌≡◌, []};
 ghost use Rattle.nfs_model.specs.Tree as trees;
-ghost use Rattle.affinity_tree.specs.Layout.{layout_of};
+ghost use Rattle.affinity.specs.Layout.{layout_of};
 ghost use Rattle.nfs_values.specs.Call.{call_of};
 ghost use Rattle.nfs_values.specs.Credential.{credential_of};
 ghost use Rattle.nfs_values.specs.Moment.{moment_of};
-ghost use Rattle.parcel_sets.specs.Filled.{volume_alike};
-ghost use Rattle.parcels.specs.state.Lenses.{volume_lens};
-ghost use Rattle.parcels.specs.state.Promises.{HasVolume};
-ghost use Rattle.parcels.specs.state.Running.{RunsOn, UnlessReplied};
-ghost use Rattle.parcels.specs.state.Sets.{volume_before, volume_after};
+ghost use Rattle.parcels.specs.Filled.{volume_alike};
+ghost use Rattle.filer_state.specs.state.Lenses.{volume_lens};
+ghost use Rattle.filer_state.specs.state.Promises.{HasVolume};
+ghost use Rattle.filer_state.specs.state.Running.{RunsOn, UnlessReplied};
+ghost use Rattle.filer_state.specs.state.Sets.{volume_before, volume_after};
 ghost use Rattle.service.specs.Running.{call_on, outcome_of, IsRunAt};
 
 use crate::named::fileid_here;
 use crate::outcome::{Outcome, outcome_written};
 use crate::task::Run;
 use crate::totals::space;
-use affinity_tree::{Affinity, Layout};
+use affinity::{Affinity, Layout};
+use filer_state::Files;
 use nfs_values::{Answer, Call, Reply, VolumeNumber};
-use parcel_sets::VolumeHeld;
-use parcels::Files;
+use parcels::VolumeHeld;
 use service_data::write_in_volume;
 
 /// Runs a call on the parcels under Volume of its volume: FSSTAT, whose home it is, or a WRITE that

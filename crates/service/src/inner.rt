@@ -1,24 +1,24 @@
 //! An inner call run on what a worker was lent.
 
 ghost use Rattle.std.specs.Prelude.{◌≡◌, ℕ, List};
-ghost use Rattle.parcel_sets.specs.Filled.{logical_alike};
+ghost use Rattle.parcels.specs.Filled.{logical_alike};
 ghost use Rattle.nfs_model.specs.Parts as parts;
 ghost use Rattle.nfs_model.specs.Moves.{dead_hand, fresh_hand};
-ghost use Rattle.parcels.specs.state.Jobs as jobs;
-ghost use Rattle.parcels.specs.state.Lenses.{range_lens, vbn_lens, logical_lens};
-ghost use Rattle.parcels.specs.state.Sets.{vbn_set, logical_before, logical_after};
+ghost use Rattle.filer_state.specs.state.Jobs as jobs;
+ghost use Rattle.filer_state.specs.state.Lenses.{range_lens, vbn_lens, logical_lens};
+ghost use Rattle.filer_state.specs.state.Sets.{vbn_set, logical_before, logical_after};
 ghost use Rattle.service.specs.Inner.{IsHandFor};
 ghost use Rattle.service.specs.InnerOn.{HasRunOn, MayRunOn, UnlessDone};
 
 use crate::batch::BatchInHand;
 use crate::job::{InnerCall, JobReply};
-use affinity_tree::{Affinity, Layout};
+use affinity::{Affinity, Layout};
 use desk::{ParcelKinds, Task};
+use filer_state::Files;
 use nfs_values::VolumeNumber;
-use parcel_sets::{
+use parcels::{
     AggrHeld, Hand, LogicalHeld, Parcel, RangeHeld, SerialHeld, StripeHeld, VbnHeld, VolumeHeld,
 };
-use parcels::Files;
 use service_batches::{cull, deliver, fetch, free, survey};
 use std::alloc::Global;
 use vbn_ranges::Batch;

@@ -1,7 +1,7 @@
 //! What a depot of a filer's parcels runs.
 
 use crate::batch::BatchInHand;
-use affinity_tree::Affinity;
+use affinity::Affinity;
 use nfs_values::{Call, ConnectionNumber, Credential, Moment, Refusal, Reply, VolumeNumber};
 
 /// What a record asks.

@@ -2,16 +2,16 @@
 
 use crate::batch::BatchInHand;
 use crate::job::{Job, JobReply};
-use depot::rule::machine::Machine;
-use parcel_sets::Parcel;
-use parcels::Files;
+use depot_rule::machine::Machine;
+use filer_state::Files;
+use parcels::Parcel;
 
 /// Calls on the parcels of a filer: whatever the other parcels are, each does what the serial
 /// server does, and all that has to hold of them stays so.
 pub struct Service;
 
 impl Machine for Service {
-    ghost use Rattle.parcels.specs.state.Sound.{IsFiler};
+    ghost use Rattle.filer_state.specs.state.Sound.{IsFiler};
     ghost use Rattle.service.specs.Jobs.{job_steps, job_takes, job_gives, jobs-local, jobs-keep};
 
     type Parcel = Parcel<Files>;

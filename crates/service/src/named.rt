@@ -2,14 +2,14 @@
 
 ghost use Rattle.std.specs.Prelude.{◌≡◌};
 ghost use Rattle.nfs_model.specs.Home.{named_by};
-ghost use Rattle.affinity_tree.specs.Affinity.{affinity_of};
-ghost use Rattle.affinity_tree.specs.Layout.{layout_of};
+ghost use Rattle.affinity.specs.Affinity.{affinity_of};
+ghost use Rattle.affinity.specs.Layout.{layout_of};
 ghost use Rattle.nfs_values.specs.Call.{call_of};
-ghost use Rattle.parcels.specs.state.Calls.{handle_in};
+ghost use Rattle.filer_state.specs.state.Calls.{handle_in};
 ghost use Rattle.service.specs.Running.{fileid_in, IsRunIn, IsRunOnVolume};
 
-use affinity_tree::homes::named_by;
-use affinity_tree::{Affinity, Layout};
+use affinity::homes::named_by;
+use affinity::{Affinity, Layout};
 use nfs_values::{Call, FileHandle, Fileid};
 
 /// The fileid that the handle of a call on a volume names, the first of RENAME's, where the call is

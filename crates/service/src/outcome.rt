@@ -7,7 +7,7 @@ ghost use Rattle.service.specs.totals.Census.{census_outcome};
 ghost use Rattle.service.specs.totals.Growing.{growing_outcome};
 ghost use Rattle.service.specs.Running.{outcome_of};
 
-use affinity_tree::Affinity;
+use affinity::Affinity;
 use nfs_values::{Answer, ReadResults, Reply, Status, VolumeCount, VolumeNumber, WriteResults};
 use std::alloc::AllocError;
 

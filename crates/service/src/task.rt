@@ -2,8 +2,8 @@
 
 ghost use Rattle.std.specs.Prelude.{◌≡◌};
 ghost use Rattle.nfs_model.specs.Tree as trees;
-ghost use Rattle.affinity_tree.specs.Affinity.{affinity_of, kind_of};
-ghost use Rattle.affinity_tree.specs.declared.affinity.Kind.TheVariants as kinds;
+ghost use Rattle.affinity.specs.Affinity.{affinity_of, kind_of};
+ghost use Rattle.affinity.specs.declared.affinity.Kind.TheVariants as kinds;
 
 use crate::in_aggregate::run_on_aggregate;
 use crate::in_logical::run_on_logical;
@@ -11,13 +11,13 @@ use crate::in_serial::run_on_serial;
 use crate::in_stripe::run_on_stripe;
 use crate::in_volume::run_on_volume;
 use crate::outcome::Outcome;
-use affinity_tree::{Affinity, Layout};
+use affinity::{Affinity, Layout};
 use desk::{ParcelKinds, Task};
+use filer_state::Files;
 use nfs_values::{Call, Credential, Moment, VolumeNumber};
-use parcel_sets::{
+use parcels::{
     AggrHeld, LogicalHeld, Parcel, RangeHeld, SerialHeld, StripeHeld, VbnHeld, VolumeHeld,
 };
-use parcels::Files;
 use std::alloc::Global;
 
 /// A call to be run under its home or above it, as a task on the parcels of the node.

@@ -11,16 +11,16 @@ use Rattle.std.specs.FinSet as sets
 use Rattle.std.specs.FinSet.{FinSet, contains, from_list, contains-empty, contains-union}
 use Rattle.nfs_model.specs.Parts.{Fresh, Dead, IsBatch, range_of, one_if, times_listed, range_blocks, most_ranges}
 use Rattle.nfs_laws.specs.lemmas.Counting.{contains_listed}
-use Rattle.depot.specs.rule.Sums.{total}
+use Rattle.depot_rule.specs.Sums.{total}
 use Rattle.nfs_model.specs.volume.Ranges.{RangeValue, MayBeGiven, given, with_numbers}
-use Rattle.parcels.specs.state.Contents.{VolumeContents}
-use Rattle.parcels.specs.state.Lenses.{LogicalSet, range_lens, logical_lens}
-use Rattle.parcels.specs.state.Parcels.{no_range}
-use Rattle.parcels.specs.state.Partition.{times_in_hand}
-use Rattle.parcels.specs.state.Promises.{HasVolume}
-use Rattle.parcels.specs.state.Tree.{ranges_used}
-use Rattle.parcels.specs.state.WellFormed.{range_at}
-use Rattle.parcels.specs.laws.lemmas.Freeing.{free-right}
+use Rattle.filer_state.specs.state.Contents.{VolumeContents}
+use Rattle.filer_state.specs.state.Lenses.{LogicalSet, range_lens, logical_lens}
+use Rattle.filer_state.specs.state.Parcels.{no_range}
+use Rattle.filer_state.specs.state.Partition.{times_in_hand}
+use Rattle.filer_state.specs.state.Promises.{HasVolume}
+use Rattle.filer_state.specs.state.Tree.{ranges_used}
+use Rattle.filer_state.specs.state.WellFormed.{range_at}
+use Rattle.filer_state.specs.laws.lemmas.Freeing.{free-right}
 
 -- each number of a list fails a test
 all-apart : (test : ℕ → Bool) (blocks : List ℕ) → ((n : ℕ) → 0 < times_listed n blocks → test n ≡ false) → AllByRecursion (λ b. test b ≡ false) blocks

@@ -9,15 +9,15 @@ use Rattle.std.specs.List.{filter, range_with_len}
 use Rattle.nfs_model.specs.Moves.{in_range}
 use Rattle.nfs_model.specs.Parts.{most_ranges, range_blocks}
 use Rattle.nfs_model.specs.volume.Ranges.{RangeValue, free_numbers}
-use Rattle.parcels.specs.state.Contents.{VolumeContents, each}
-use Rattle.parcels.specs.state.Parcels.{no_range}
-use Rattle.parcels.specs.state.Partition.{free_in}
-use Rattle.parcels.specs.state.Tree.{ranges_used}
-use Rattle.parcels.specs.state.WellFormed.{WellFormed, range_at}
-use Rattle.parcels.specs.laws.lemmas.Culling.{free_counts}
-use Rattle.parcels.specs.laws.lemmas.Each.{each-index}
-use Rattle.parcels.specs.laws.lemmas.Fetching.{in-range-at}
-use Rattle.parcels.specs.laws.lemmas.Limits.{ranges-fit}
+use Rattle.filer_state.specs.state.Contents.{VolumeContents, each}
+use Rattle.filer_state.specs.state.Parcels.{no_range}
+use Rattle.filer_state.specs.state.Partition.{free_in}
+use Rattle.filer_state.specs.state.Tree.{ranges_used}
+use Rattle.filer_state.specs.state.WellFormed.{WellFormed, range_at}
+use Rattle.filer_state.specs.laws.lemmas.Culling.{free_counts}
+use Rattle.filer_state.specs.laws.lemmas.Each.{each-index}
+use Rattle.filer_state.specs.laws.lemmas.Fetching.{in-range-at}
+use Rattle.filer_state.specs.laws.lemmas.Limits.{ranges-fit}
 use Rattle.service_batches.specs.Counts.{count_shown, with_count, counts_shown}
 
 module _ (p : VolumeContents) (well : WellFormed p) (range : ℕ → RangeValue) (these : p.ranges ≡ each range 0 most_ranges) where

@@ -7,16 +7,16 @@ use Rattle.nfs_model.specs.Moves.{lowest_batch}
 use Rattle.nfs_model.specs.Parts.{IsBatch, most_ranges, most_carried, range_of}
 use Rattle.nfs_model.specs.volume.Logical.{LogicalValue}
 use Rattle.nfs_model.specs.volume.Ranges.{RangeValue, lowest, taken, given, with_numbers, without_numbers}
-use Rattle.parcels.specs.state.Calls.{DoesInnerOn}
-use Rattle.parcels.specs.state.Contents.{VolumeContents}
-use Rattle.parcels.specs.state.Jobs.{Survey, Surveyed}
-use Rattle.parcels.specs.state.Lenses.{LogicalSet, vbn_lens}
-use Rattle.parcels.specs.state.Sound.{IsSound}
-use Rattle.parcels.specs.state.WellFormed.{WellFormed}
-use Rattle.parcels.specs.laws.lemmas.Culling.{culled_from, cull-right, free_counts, survey-right}
-use Rattle.parcels.specs.laws.lemmas.Delivering.{deliver-right}
-use Rattle.parcels.specs.laws.lemmas.Fetching.{fetch-right, fetch-refused}
-use Rattle.parcels.specs.laws.lemmas.Freeing.{free-right}
+use Rattle.filer_state.specs.state.Calls.{DoesInnerOn}
+use Rattle.filer_state.specs.state.Contents.{VolumeContents}
+use Rattle.filer_state.specs.state.Jobs.{Survey, Surveyed}
+use Rattle.filer_state.specs.state.Lenses.{LogicalSet, vbn_lens}
+use Rattle.filer_state.specs.state.Sound.{IsSound}
+use Rattle.filer_state.specs.state.WellFormed.{WellFormed}
+use Rattle.filer_state.specs.laws.lemmas.Culling.{culled_from, cull-right, free_counts, survey-right}
+use Rattle.filer_state.specs.laws.lemmas.Delivering.{deliver-right}
+use Rattle.filer_state.specs.laws.lemmas.Fetching.{fetch-right, fetch-refused}
+use Rattle.filer_state.specs.laws.lemmas.Freeing.{free-right}
 use Rattle.service_batches.specs.Batches.{CullsHere, DeliversHere, FetchesHere, FreesHere, SurveysHere}
 
 pub fetch-done : (x : RangeValue) → x.number < most_ranges → x.is_used ≡ true → (blocks : List ℕ) (new : RangeValue) → blocks ≡ lowest most_carried x

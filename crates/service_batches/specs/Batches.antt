@@ -4,10 +4,10 @@ use Rattle.std.specs.Prelude.{ℕ, List, [], ◌∷◌, Option, Some, None}
 use Rattle.nfs_model.specs.Parts.{Fresh, Dead}
 use Rattle.nfs_model.specs.Moves.{fresh_hand, dead_hand}
 use Rattle.nfs_model.specs.volume.Ranges.{RangeValue}
-use Rattle.parcels.specs.state.Jobs.{Fetch, Deliver, Cull, Free, Survey, JobReply, Took, Gave, Surveyed}
-use Rattle.parcels.specs.state.Lenses.{LogicalSet, range_lens, vbn_lens, logical_lens}
-use Rattle.parcels.specs.state.Promises.{HasVolume}
-use Rattle.parcels.specs.state.Running.{InnerRunsOn}
+use Rattle.filer_state.specs.state.Jobs.{Fetch, Deliver, Cull, Free, Survey, JobReply, Took, Gave, Surveyed}
+use Rattle.filer_state.specs.state.Lenses.{LogicalSet, range_lens, vbn_lens, logical_lens}
+use Rattle.filer_state.specs.state.Promises.{HasVolume}
+use Rattle.filer_state.specs.state.Running.{InnerRunsOn}
 
 -- what a fetch comes to: its blocks come into the hand, or it is refused
 abbrev pub fetch_told : ℕ → Option (List ℕ) → Option JobReply

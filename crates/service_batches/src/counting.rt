@@ -1,12 +1,12 @@
 //! How many blocks are free.
 
 ghost use Rattle.std.specs.Prelude.{◌≡◌, IfOk, OnOk};
-ghost use Rattle.parcels.specs.state.Sets.{range_value, vbn_set};
+ghost use Rattle.filer_state.specs.state.Sets.{range_value, vbn_set};
 ghost use Rattle.service_batches.specs.Batches.{SurveysHere};
 ghost use Rattle.service_batches.specs.Counts.{count_shown, with_count};
 
-use parcel_sets::{RangeHeld, VbnHeld};
-use parcels::Files;
+use filer_state::Files;
+use parcels::{RangeHeld, VbnHeld};
 use std::alloc::{AllocError, Global};
 
 /// The ranges of a volume at most.

@@ -1,12 +1,12 @@
 //! Batches for the stock, and of the dead.
 
 ghost use Rattle.std.specs.Prelude.{◌≡◌, ◌<◌, length, OnOk, OnErr};
-ghost use Rattle.parcel_sets.specs.Filled.{logical_alike};
-ghost use Rattle.parcels.specs.state.Sets.{logical_before, logical_after};
+ghost use Rattle.parcels.specs.Filled.{logical_alike};
+ghost use Rattle.filer_state.specs.state.Sets.{logical_before, logical_after};
 ghost use Rattle.service_batches.specs.Batches.{CullsHere, DeliversHere, MayDeliver};
 
-use parcel_sets::LogicalHeld;
-use parcels::Files;
+use filer_state::Files;
+use parcels::LogicalHeld;
 use std::alloc::AllocError;
 use vbn_ranges::Batch;
 

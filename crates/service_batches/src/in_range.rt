@@ -4,8 +4,8 @@ ghost use Rattle.std.specs.Prelude.{◌≡◌, ◌<◌, length, IfNone};
 ghost use Rattle.nfs_model.specs.Parts.{range_of};
 ghost use Rattle.service_batches.specs.Batches.{FetchesHere, FreesHere, MayFree};
 
-use parcel_sets::RangeHeld;
-use parcels::Files;
+use filer_state::Files;
+use parcels::RangeHeld;
 use vbn_ranges::Batch;
 
 /// The blocks that a hand carries at most.

@@ -8,9 +8,9 @@ use Rattle.std.specs.FinSet.{contains, len}
 use Rattle.nfs_model.specs.Moves.{in_range}
 use Rattle.nfs_model.specs.Parts.{range_blocks}
 use Rattle.nfs_model.specs.volume.Ranges.{RangeValue, free_numbers}
-use Rattle.parcels.specs.state.Contents.{each}
-use Rattle.parcels.specs.state.Sets.{FilerRange, range_value, placed}
-use Rattle.parcels.specs.bytes.WritingUp.{free_count}
+use Rattle.filer_state.specs.state.Contents.{each}
+use Rattle.filer_state.specs.state.Sets.{FilerRange, range_value, placed}
+use Rattle.filer_state.specs.bytes.WritingUp.{free_count}
 use Rattle.service_data.proofs.Parted.{at-found}
 
 fewer : {A : Type 0} (test : A → Bool) (xs : List A) → length (filter test xs) ≤ length xs

@@ -2,16 +2,16 @@
 use Rattle.std.proofs.Common.{◌≡◌, ℕ, zero, suc, ◌+◌, ◌<◌, ◌≤◌, List, [], ◌∷◌, length, refl, sym, ap, subst, ◌∙◌, arith, inl, inr}
 use Rattle.std.specs.Prelude.{slice_set, is_some}
 use Rattle.std.specs.FinSet.{len}
-use Rattle.depot.specs.rule.Sums.{total}
+use Rattle.depot_rule.specs.Sums.{total}
 use Rattle.nfs_model.specs.volume.Ranges.{RangeValue, taken}
 use Rattle.nfs_model.specs.volume.Stripes.{StripeValue, block_numbered}
-use Rattle.parcel_sets.specs.Filled.{volume_alike}
-use Rattle.parcels.specs.state.Contents.{each}
-use Rattle.parcels.specs.state.Lenses.{VolumeSet}
-use Rattle.parcels.specs.state.Sets.{FilerLogical, FilerVolume, placed, stripe_value, vbn_set, logical_before, volume_before, volume_after}
-use Rattle.parcels.specs.state.WellFormed.{range_at}
-use Rattle.parcels.specs.bytes.Extending.{home_changed}
-use Rattle.parcels.specs.bytes.WritingUp.{LeaveParts, for_holes}
+use Rattle.parcels.specs.Filled.{volume_alike}
+use Rattle.filer_state.specs.state.Contents.{each}
+use Rattle.filer_state.specs.state.Lenses.{VolumeSet}
+use Rattle.filer_state.specs.state.Sets.{FilerLogical, FilerVolume, placed, stripe_value, vbn_set, logical_before, volume_before, volume_after}
+use Rattle.filer_state.specs.state.WellFormed.{range_at}
+use Rattle.filer_state.specs.bytes.Extending.{home_changed}
+use Rattle.filer_state.specs.bytes.WritingUp.{LeaveParts, for_holes}
 use Rattle.service_data.specs.Stripes.{HasStripes}
 use Rattle.service_data.specs.Places.{home_held, StripesChanged}
 use Rattle.service_data.specs.Holes.{renumbered}

@@ -6,13 +6,13 @@ use Rattle.std.specs.FinSet as sets
 use Rattle.std.specs.FinSet.{FinSet, contains, len, len-empty}
 use Rattle.nfs_model.specs.Moves.{in_range, batch, first_filled, lowest_batch}
 use Rattle.nfs_model.specs.Parts.{most_carried, most_ranges}
-use Rattle.depot.specs.rule.Sums.{total}
+use Rattle.depot_rule.specs.Sums.{total}
 use Rattle.nfs_model.specs.volume.Logical.{LogicalValue}
 use Rattle.nfs_model.specs.volume.Ranges.{RangeValue, without_numbers}
 use Rattle.vbn_ranges.specs.Batch.{first_of}
-use Rattle.parcels.specs.state.Lenses.{VolumeSet}
-use Rattle.parcels.specs.state.Sets.{FilerVolume, FilerVbn, vbn_set, volume_before, volume_after}
-use Rattle.parcels.specs.bytes.WritingUp.{for_holes}
+use Rattle.filer_state.specs.state.Lenses.{VolumeSet}
+use Rattle.filer_state.specs.state.Sets.{FilerVolume, FilerVbn, vbn_set, volume_before, volume_after}
+use Rattle.filer_state.specs.bytes.WritingUp.{for_holes}
 use Rattle.service_data.specs.Parts.{NoneFree, LeavesOne}
 use Rattle.service_data.proofs.Parted.{free-head}
 

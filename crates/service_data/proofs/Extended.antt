@@ -9,10 +9,10 @@ use Rattle.nfs_model.specs.Server.{block_size}
 use Rattle.nfs_model.specs.Types.{Moment}
 use Rattle.nfs_model.specs.volume.Logical.{LogicalValue}
 use Rattle.nfs_model.specs.volume.Stripes.{stripe_of, overwritten}
-use Rattle.parcels.specs.state.Contents.{each}
-use Rattle.parcels.specs.state.Sets.{FilerStripe, FilerLogical, stripe_value, placed, logical_before, logical_after}
-use Rattle.parcels.specs.bytes.Extending.{holes, filled_with, stripe_grown, span_written, spans_written, stripes_extended}
-use Rattle.parcels.specs.bytes.WritingUp.{Leave}
+use Rattle.filer_state.specs.state.Contents.{each}
+use Rattle.filer_state.specs.state.Sets.{FilerStripe, FilerLogical, stripe_value, placed, logical_before, logical_after}
+use Rattle.filer_state.specs.bytes.Extending.{holes, filled_with, stripe_grown, span_written, spans_written, stripes_extended}
+use Rattle.filer_state.specs.bytes.WritingUp.{Leave}
 use Rattle.service_data.specs.Stripes.{HasStripes}
 use Rattle.service_data.specs.Places.{place_changed, with_places, StripesChanged}
 use Rattle.service_data.specs.Holes.{Rise, zeroed, renumbered, stock_held, TakesNumbers, inode_extended_in, extending_by, ExtendsFile}

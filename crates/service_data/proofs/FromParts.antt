@@ -6,11 +6,11 @@ use Rattle.std.specs.Ordering.{nat_cmp}
 use Rattle.nfs_model.specs.Types.{Moment}
 use Rattle.nfs_model.specs.volume.Logical.{LogicalValue}
 use Rattle.nfs_model.specs.volume.Stripes.{StripeValue}
-use Rattle.parcels.specs.state.Contents.{each}
-use Rattle.parcels.specs.state.Lenses.{VolumeSet}
-use Rattle.parcels.specs.state.Sets.{FilerLogical, FilerVolume, stripe_value, placed, vbn_set, logical_before, logical_after, volume_before, volume_after}
-use Rattle.parcels.specs.bytes.Extending.{holes, filled_with, stripe_grown, spans_written, stripes_extended}
-use Rattle.parcels.specs.bytes.WritingUp.{LeaveParts}
+use Rattle.filer_state.specs.state.Contents.{each}
+use Rattle.filer_state.specs.state.Lenses.{VolumeSet}
+use Rattle.filer_state.specs.state.Sets.{FilerLogical, FilerVolume, stripe_value, placed, vbn_set, logical_before, logical_after, volume_before, volume_after}
+use Rattle.filer_state.specs.bytes.Extending.{holes, filled_with, stripe_grown, spans_written, stripes_extended}
+use Rattle.filer_state.specs.bytes.WritingUp.{LeaveParts}
 use Rattle.service_data.specs.Places.{StripesChanged}
 use Rattle.service_data.specs.Holes.{HasRoom, Rise, zeroed, renumbered, stock_held, inode_extended_in, extending_by}
 use Rattle.service_data.specs.Parts.{restriped, LeavesOne, TakesParts}

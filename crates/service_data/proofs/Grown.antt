@@ -4,7 +4,7 @@ use Rattle.std.specs.FinMap.{get}
 use Rattle.nfs_model.specs.volume.Maps.{changed_value}
 use Rattle.nfs_model.specs.volume.lemmas.Numbered.{insert-same}
 use Rattle.nfs_model.specs.volume.Stripes.{Card, OfFolder, StripeValue}
-use Rattle.parcels.specs.bytes.Extending.{card_grown, stripe_grown}
+use Rattle.filer_state.specs.bytes.Extending.{card_grown, stripe_grown}
 
 pub grown-folder : (fileid size : ℕ) (s : StripeValue) (card : Option Card) → card ≡ get s.cards fileid → Some OfFolder ≡ card → s ≡ stripe_grown fileid size s
 grown-folder fileid size s card found is =

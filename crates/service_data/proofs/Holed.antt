@@ -13,9 +13,9 @@ use Rattle.nfs_model.specs.volume.Maps.{changed_at}
 use Rattle.nfs_model.specs.volume.lemmas.Maps.{get-changed_at}
 use Rattle.nfs_model.specs.volume.lemmas.Entries.{place_total, place_same}
 use Rattle.nfs_model.specs.volume.Stripes.{Block, Place, place_cmp, StripeValue, stripe_of, is_filled, zero_block, block_inserted, block_taken, block_numbered}
-use Rattle.parcels.specs.state.Parcels.{no_stripe}
-use Rattle.parcels.specs.state.Tree.{home_stripe}
-use Rattle.parcels.specs.bytes.Extending.{holes, home_changed, filled_with}
+use Rattle.filer_state.specs.state.Parcels.{no_stripe}
+use Rattle.filer_state.specs.state.Tree.{home_stripe}
+use Rattle.filer_state.specs.bytes.Extending.{holes, home_changed, filled_with}
 use Rattle.service_data.specs.Holes.{Rise, AreHoles, with_hole, zeroed, renumbered}
 
 -- ---- blocks by their places

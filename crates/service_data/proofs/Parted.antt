@@ -11,13 +11,13 @@ use Rattle.std.specs.FinSet.{FinSet, contains}
 use Rattle.nfs_model.specs.Moves.{in_range}
 use Rattle.nfs_model.specs.Parts.{range_blocks}
 use Rattle.nfs_values.specs.declared.number.BlockNumber.{BlockNumber}
-use Rattle.parcel_sets.specs.Filled.{is_filled, AreFilledAlike}
+use Rattle.parcels.specs.Filled.{is_filled, AreFilledAlike}
 use Rattle.nfs_model.specs.volume.Ranges.{RangeValue, free_numbers, lowest, taken}
 use Rattle.vbn_ranges.specs.Batch.{numbers, first_of}
-use Rattle.parcels.specs.state.Contents.{each}
-use Rattle.parcels.specs.state.Parcels.{no_range}
-use Rattle.parcels.specs.state.Sets.{FilerRange, FilerVbn, range_value, placed, vbn_set}
-use Rattle.parcels.specs.laws.lemmas.Each.{each-set, each-index, each-length}
+use Rattle.filer_state.specs.state.Contents.{each}
+use Rattle.filer_state.specs.state.Parcels.{no_range}
+use Rattle.filer_state.specs.state.Sets.{FilerRange, FilerVbn, range_value, placed, vbn_set}
+use Rattle.filer_state.specs.laws.lemmas.Each.{each-set, each-index, each-length}
 use Rattle.service_data.specs.Parts.{range_changed, LeavesFree, NoneFree}
 
 -- ---- the lowest of a range

@@ -3,14 +3,14 @@ use Rattle.std.proofs.Common.{◌≡◌, ◌≢◌, ℕ, zero, suc, ◌+◌, ◌
 use Rattle.std.proofs.Common.{Some, None, refl, sym, ap, subst, ◌∙◌, arith}
 use Rattle.std.specs.Prelude.{slice_get, slice_set, slice_index_or, is_some}
 use Rattle.std.proofs.Math.Nat.{add-mod}
-use Rattle.parcel_sets.specs.Filled.{is_filled}
+use Rattle.parcels.specs.Filled.{is_filled}
 use Rattle.nfs_model.specs.volume.Stripes.{StripeValue, stripe_of, span_blocks}
-use Rattle.parcels.specs.state.Contents.{each}
-use Rattle.parcels.specs.state.Parcels.{no_stripe}
-use Rattle.parcels.specs.state.Tree.{stripe_at, home_stripe}
-use Rattle.parcels.specs.state.Sets.{FilerStripe, FilerLogical, stripe_value, placed, logical_before}
-use Rattle.parcels.specs.laws.lemmas.Each.{each-same, each-set, each-index, each-length, each-map}
-use Rattle.parcels.specs.bytes.Extending.{home_changed}
+use Rattle.filer_state.specs.state.Contents.{each}
+use Rattle.filer_state.specs.state.Parcels.{no_stripe}
+use Rattle.filer_state.specs.state.Tree.{stripe_at, home_stripe}
+use Rattle.filer_state.specs.state.Sets.{FilerStripe, FilerLogical, stripe_value, placed, logical_before}
+use Rattle.filer_state.specs.laws.lemmas.Each.{each-same, each-set, each-index, each-length, each-map}
+use Rattle.filer_state.specs.bytes.Extending.{home_changed}
 use Rattle.service_data.specs.Stripes.{HasStripes}
 use Rattle.service_data.specs.Places.{place_changed, one_changed, first_changed, with_places, home_held, StripesChanged}
 

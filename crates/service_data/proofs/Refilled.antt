@@ -5,9 +5,9 @@ use Rattle.std.specs.FinSet.{FinSet, contains, len}
 use Rattle.nfs_model.specs.volume.Logical.{LogicalValue}
 use Rattle.nfs_model.specs.volume.Ranges.{without_numbers}
 use Rattle.nfs_model.specs.volume.Stripes.{StripeValue, stripe_of, is_filled, block_inserted, block_taken, block_numbered}
-use Rattle.parcels.specs.state.Sets.{FilerStripe, FilerLogical, logical_before, stripe_value}
-use Rattle.parcels.specs.bytes.Extending.{home_changed}
-use Rattle.parcels.specs.bytes.WritingUp.{Leave}
+use Rattle.filer_state.specs.state.Sets.{FilerStripe, FilerLogical, logical_before, stripe_value}
+use Rattle.filer_state.specs.bytes.Extending.{home_changed}
+use Rattle.filer_state.specs.bytes.WritingUp.{Leave}
 use Rattle.service_data.specs.Stripes.{HasStripes}
 use Rattle.service_data.specs.Places.{home_held, with_places, StripesChanged}
 use Rattle.service_data.specs.Holes.{Rise, AreHoles, zeroed, renumbered, stock_held, TakesNumbers}

@@ -9,15 +9,15 @@ use Rattle.std.specs.List.{range_with_len}
 use Rattle.nfs_model.specs.Server.{block_size}
 use Rattle.nfs_model.specs.Home.{span_bytes}
 use Rattle.nfs_model.specs.volume.Stripes.{StripeValue, stripe_of, bytes_read}
-use Rattle.parcels.specs.state.Contents.{VolumeContents}
-use Rattle.parcels.specs.state.Tree.{stripe_at, file_byte}
-use Rattle.parcels.specs.state.Parcels.{no_stripe}
-use Rattle.parcels.specs.state.Sets.{FilerStripe, FilerLogical, stripe_value, placed, in_one, logical_before}
-use Rattle.parcels.specs.state.Lenses.{LogicalSet}
-use Rattle.parcels.specs.state.Calls.{LieIn}
-use Rattle.parcels.specs.laws.lemmas.Each.{each-index, each-length}
-use Rattle.parcels.specs.bytes.Reading.{bytes_under}
-use Rattle.parcels.specs.bytes.lemmas.Spans.{bytes-here}
+use Rattle.filer_state.specs.state.Contents.{VolumeContents}
+use Rattle.filer_state.specs.state.Tree.{stripe_at, file_byte}
+use Rattle.filer_state.specs.state.Parcels.{no_stripe}
+use Rattle.filer_state.specs.state.Sets.{FilerStripe, FilerLogical, stripe_value, placed, in_one, logical_before}
+use Rattle.filer_state.specs.state.Lenses.{LogicalSet}
+use Rattle.filer_state.specs.state.Calls.{LieIn}
+use Rattle.filer_state.specs.laws.lemmas.Each.{each-index, each-length}
+use Rattle.filer_state.specs.bytes.Reading.{bytes_under}
+use Rattle.filer_state.specs.bytes.lemmas.Spans.{bytes-here}
 use Rattle.service_data.specs.Promises.{IsHeld}
 use Rattle.service_data.specs.Stripes.{HasStripes}
 

@@ -20,12 +20,12 @@ use Rattle.nfs_values.specs.declared.answer.ReadResults.{ReadResults}
 use Rattle.nfs_values.specs.declared.status.Status.{Status}
 use Rattle.nfs_model.specs.volume.Inodes.{Inode}
 use Rattle.nfs_model.specs.volume.Stripes.{Card, StripeValue, byte_at, bytes_read}
-use Rattle.parcels.specs.state.Lenses.{LogicalSet, logical_lens, stripe_lens}
-use Rattle.parcels.specs.state.Running.{RunsOn}
-use Rattle.parcels.specs.state.Tree.{file_byte}
-use Rattle.parcels.specs.bytes.Reading.{some_told, read_told, on_card, on_inode, stripe_read, logical_read, bytes_under}
-use Rattle.parcels.specs.bytes.Laws.{read_call}
-use Rattle.parcels.specs.bytes.lemmas.Reads.{stripe-reads, stripe-starves, logical-reads, logical-starves}
+use Rattle.filer_state.specs.state.Lenses.{LogicalSet, logical_lens, stripe_lens}
+use Rattle.filer_state.specs.state.Running.{RunsOn}
+use Rattle.filer_state.specs.state.Tree.{file_byte}
+use Rattle.filer_state.specs.bytes.Reading.{some_told, read_told, on_card, on_inode, stripe_read, logical_read, bytes_under}
+use Rattle.filer_state.specs.bytes.Laws.{read_call}
+use Rattle.filer_state.specs.bytes.lemmas.Reads.{stripe-reads, stripe-starves, logical-reads, logical-starves}
 use Rattle.service_data.specs.Promises.{ReadsInStripe, ReadsInLogical}
 
 -- ---- what is told of a file whose byte at k is f k

@@ -17,11 +17,11 @@ use Rattle.nfs_values.specs.declared.status.Status.{Status}
 use Rattle.nfs_values.specs.declared.verifier.Verifier.{Verifier}
 use Rattle.nfs_values.specs.declared.status.Status.TheVariants.{Invalid, TooBig}
 use Rattle.nfs_model.specs.volume.Stripes.{Card, OfFile, OfFolder, StripeValue, stays_within, overwritten}
-use Rattle.parcels.specs.state.Lenses.{stripe_lens}
-use Rattle.parcels.specs.state.Running.{RunsOn}
-use Rattle.parcels.specs.bytes.Writing.{StripeOutcome, tells, fails, some_written, card_written, stripe_write}
-use Rattle.parcels.specs.bytes.WritingLaws.{write_call}
-use Rattle.parcels.specs.bytes.lemmas.Writes.{stripe-writes}
+use Rattle.filer_state.specs.state.Lenses.{stripe_lens}
+use Rattle.filer_state.specs.state.Running.{RunsOn}
+use Rattle.filer_state.specs.bytes.Writing.{StripeOutcome, tells, fails, some_written, card_written, stripe_write}
+use Rattle.filer_state.specs.bytes.WritingLaws.{write_call}
+use Rattle.filer_state.specs.bytes.lemmas.Writes.{stripe-writes}
 use Rattle.service_data.specs.Writing.{bytes_to_write, writing_outcome, WritesInStripe}
 
 -- ---- what the checks leave

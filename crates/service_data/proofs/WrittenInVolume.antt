@@ -11,11 +11,11 @@ use Rattle.nfs_values.specs.Status.{status_of}
 use Rattle.nfs_values.specs.declared.answer.WriteResults.{WriteResults}
 use Rattle.nfs_values.specs.declared.status.Status.{Status}
 use Rattle.nfs_model.specs.volume.Stripes.{Card}
-use Rattle.parcels.specs.state.Lenses.{VolumeSet, volume_lens}
-use Rattle.parcels.specs.state.Running.{RunsOn}
-use Rattle.parcels.specs.bytes.WritingLaws.{write_call}
-use Rattle.parcels.specs.bytes.WritingUpLaws.{VolumeWriteIsRight, VolumeWriteMayStarve}
-use Rattle.parcels.specs.bytes.WritingUp.{VolumeWrites, DueInVolume, WrittenWhereFits, WrittenWhereThere, bytes_due}
+use Rattle.filer_state.specs.state.Lenses.{VolumeSet, volume_lens}
+use Rattle.filer_state.specs.state.Running.{RunsOn}
+use Rattle.filer_state.specs.bytes.WritingLaws.{write_call}
+use Rattle.filer_state.specs.bytes.WritingUpLaws.{VolumeWriteIsRight, VolumeWriteMayStarve}
+use Rattle.filer_state.specs.bytes.WritingUp.{VolumeWrites, DueInVolume, WrittenWhereFits, WrittenWhereThere, bytes_due}
 use Rattle.service_data.specs.Promises.{IsHeld}
 use Rattle.service_data.specs.Writing.{bytes_to_write, card_shown, written_outcome}
 use Rattle.service_data.specs.WritingInVolume.{IsVolumeHeld, WritesInVolume, ExtendsInVolume, MayStarveInVolume, DoneInVolume}

@@ -19,12 +19,12 @@ use Rattle.nfs_values.specs.declared.status.Status.TheVariants.{Invalid, TooBig}
 use Rattle.nfs_model.specs.volume.Inodes.{InodeKind, RegularFile, Folder, Inode, IsInodes}
 use Rattle.nfs_model.specs.volume.lemmas.Inodes.{filled-within}
 use Rattle.nfs_model.specs.volume.Stripes.{Card}
-use Rattle.parcels.specs.state.Lenses.{LogicalSet, logical_lens}
-use Rattle.parcels.specs.state.Running.{RunsOn}
-use Rattle.parcels.specs.laws.lemmas.Limits.{used-fits, ranges-fit}
-use Rattle.parcels.specs.bytes.WritingLaws.{write_call}
-use Rattle.parcels.specs.bytes.WritingUpLaws.{LogicalWriteIsRight, LogicalWriteMayStarve}
-use Rattle.parcels.specs.bytes.WritingUp.{LogicalWrites, DueInLogical, WrittenWhereEnough, kind_due, bytes_due}
+use Rattle.filer_state.specs.state.Lenses.{LogicalSet, logical_lens}
+use Rattle.filer_state.specs.state.Running.{RunsOn}
+use Rattle.filer_state.specs.laws.lemmas.Limits.{used-fits, ranges-fit}
+use Rattle.filer_state.specs.bytes.WritingLaws.{write_call}
+use Rattle.filer_state.specs.bytes.WritingUpLaws.{LogicalWriteIsRight, LogicalWriteMayStarve}
+use Rattle.filer_state.specs.bytes.WritingUp.{LogicalWrites, DueInLogical, WrittenWhereEnough, kind_due, bytes_due}
 use Rattle.service_data.specs.Promises.{IsHeld}
 use Rattle.service_data.specs.Holes.{HasRoom, Extends}
 use Rattle.service_data.specs.Writing.{bytes_to_write, kind_card, card_shown, written_outcome, MayStarve, DoneInLogical, WritesInLogical}

@@ -6,15 +6,15 @@ use Rattle.std.specs.FinSet.{FinSet, len}
 use Rattle.std.specs.Ordering.{nat_cmp}
 use Rattle.std.specs.declared.alloc.AllocError.{AllocError}
 use Rattle.nfs_model.specs.Types.{Moment}
-use Rattle.parcel_sets.specs.Filled.{logical_alike}
+use Rattle.parcels.specs.Filled.{logical_alike}
 use Rattle.nfs_model.specs.volume.Inodes.{Inode, InodesValue, filled_blocks}
 use Rattle.nfs_model.specs.volume.Stripes.{StripeValue, is_filled, block_inserted, block_numbered}
 use Rattle.nfs_model.specs.volume.Logical.{LogicalValue}
-use Rattle.parcels.specs.state.Lenses.{LogicalSet}
-use Rattle.parcels.specs.state.Sets.{FilerLogical, logical_before}
-use Rattle.parcels.specs.state.Tree.{home_stripe}
-use Rattle.parcels.specs.bytes.Extending.{Extending, holes, home_changed, inodes_extended, file_extended}
-use Rattle.parcels.specs.bytes.WritingUp.{Leave, with_stock}
+use Rattle.filer_state.specs.state.Lenses.{LogicalSet}
+use Rattle.filer_state.specs.state.Sets.{FilerLogical, logical_before}
+use Rattle.filer_state.specs.state.Tree.{home_stripe}
+use Rattle.filer_state.specs.bytes.Extending.{Extending, holes, home_changed, inodes_extended, file_extended}
+use Rattle.filer_state.specs.bytes.WritingUp.{Leave, with_stock}
 use Rattle.service_data.specs.Stripes.{HasStripes}
 
 -- ---- lists of blocks

@@ -5,6 +5,6 @@ pub mod Holes
 pub mod Parts
 pub mod Writing
 pub mod WritingInVolume
-pub use Rattle.parcels.specs.bytes.Laws as ReadingLaws
-pub use Rattle.parcels.specs.bytes.WritingLaws
-pub use Rattle.parcels.specs.bytes.lemmas.Homes as HomeLemmas
+pub use Rattle.filer_state.specs.bytes.Laws as ReadingLaws
+pub use Rattle.filer_state.specs.bytes.WritingLaws
+pub use Rattle.filer_state.specs.bytes.lemmas.Homes as HomeLemmas

@@ -4,11 +4,11 @@ use Rattle.std.specs.FinSet as sets
 use Rattle.std.specs.FinSet.{contains}
 use Rattle.nfs_model.specs.volume.Ranges.{RangeValue, taken}
 use Rattle.nfs_model.specs.volume.Stripes.{StripeValue}
-use Rattle.parcels.specs.state.Lenses.{VolumeSet}
-use Rattle.parcels.specs.state.Sets.{FilerRange, FilerVolume, volume_before}
-use Rattle.parcels.specs.state.WellFormed.{range_at}
-use Rattle.parcel_sets.specs.Filled.{volume_alike}
-use Rattle.parcels.specs.bytes.WritingUp.{LeavesStock, LeavesRange, LeavesDead, LeaveParts}
+use Rattle.filer_state.specs.state.Lenses.{VolumeSet}
+use Rattle.filer_state.specs.state.Sets.{FilerRange, FilerVolume, volume_before}
+use Rattle.filer_state.specs.state.WellFormed.{range_at}
+use Rattle.parcels.specs.Filled.{volume_alike}
+use Rattle.filer_state.specs.bytes.WritingUp.{LeavesStock, LeavesRange, LeavesDead, LeaveParts}
 use Rattle.service_data.specs.Stripes.{HasStripes}
 use Rattle.service_data.specs.Holes.{renumbered}
 

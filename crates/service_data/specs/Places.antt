@@ -1,8 +1,8 @@
 -- The stripes that are held under Logical, as they change: one of them, or all.
 use Rattle.std.specs.Prelude.{◌≡◌, ℕ, zero, suc, List, [], ◌∷◌, Option, Some, None, slice_index_or, slice_set}
-use Rattle.parcel_sets.specs.Filled.{logical_alike}
+use Rattle.parcels.specs.Filled.{logical_alike}
 use Rattle.nfs_model.specs.volume.Stripes.{StripeValue, stripe_of}
-use Rattle.parcels.specs.state.Sets.{FilerStripe, FilerLogical, logical_before}
+use Rattle.filer_state.specs.state.Sets.{FilerStripe, FilerLogical, logical_before}
 use Rattle.service_data.specs.Stripes.{HasStripes}
 
 module _ {P : Type 0} where

@@ -11,11 +11,11 @@ use Rattle.nfs_values.specs.declared.answer.Answer.TheVariants.{Read}
 use Rattle.nfs_values.specs.declared.answer.ReadResults.{ReadResults}
 use Rattle.nfs_values.specs.declared.status.Status.{Status}
 use Rattle.nfs_model.specs.volume.Stripes.{StripeValue}
-use Rattle.parcels.specs.state.Lenses.{LogicalSet, logical_lens, stripe_lens}
-use Rattle.parcels.specs.state.Promises.{HasVolume}
-use Rattle.parcels.specs.state.Calls.{LieIn}
-use Rattle.parcels.specs.state.Running.{RunsOn}
-use Rattle.parcels.specs.bytes.Laws.{read_call}
+use Rattle.filer_state.specs.state.Lenses.{LogicalSet, logical_lens, stripe_lens}
+use Rattle.filer_state.specs.state.Promises.{HasVolume}
+use Rattle.filer_state.specs.state.Calls.{LieIn}
+use Rattle.filer_state.specs.state.Running.{RunsOn}
+use Rattle.filer_state.specs.bytes.Laws.{read_call}
 
 -- n bytes at an offset lie in one span; none always do
 abbrev pub LieInOneSpan : ℕ → ℕ → Type 0

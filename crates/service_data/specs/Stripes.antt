@@ -1,6 +1,6 @@
 -- The stripes that are held under Logical.
 use Rattle.std.specs.Prelude.{◌≡◌, ℕ, ◌<◌, ◌≤◌, true, is_some}
-use Rattle.parcels.specs.state.Sets.{FilerLogical, placed}
+use Rattle.filer_state.specs.state.Sets.{FilerLogical, placed}
 
 -- there are from 1 to 16, each in its place
 pub record HasStripes {P : Type 0} (held : FilerLogical P) : Type 0 where

@@ -16,11 +16,11 @@ use Rattle.nfs_values.specs.declared.status.Status.{Status}
 use Rattle.nfs_values.specs.declared.status.Status.TheVariants.{Stale, Invalid, TooBig}
 use Rattle.nfs_model.specs.volume.Inodes.{InodeKind, RegularFile, Folder, Inode}
 use Rattle.nfs_model.specs.volume.Stripes.{Card, OfFile, OfFolder, StripeValue}
-use Rattle.parcels.specs.state.Lenses.{LogicalSet, logical_lens, stripe_lens}
-use Rattle.parcels.specs.state.Calls.{LieIn}
-use Rattle.parcels.specs.state.Running.{RunsOn}
-use Rattle.parcels.specs.bytes.WritingLaws.{write_call}
-use Rattle.parcels.specs.bytes.WritingUp.{LogicalWrites, bytes_due, holes_of}
+use Rattle.filer_state.specs.state.Lenses.{LogicalSet, logical_lens, stripe_lens}
+use Rattle.filer_state.specs.state.Calls.{LieIn}
+use Rattle.filer_state.specs.state.Running.{RunsOn}
+use Rattle.filer_state.specs.bytes.WritingLaws.{write_call}
+use Rattle.filer_state.specs.bytes.WritingUp.{LogicalWrites, bytes_due, holes_of}
 
 -- what is asked: bytes at an offset, with the count that was given, at a moment
 abbrev pub asked_to_write : ℕ → ℕ → List ℕ → Moment → Writing

@@ -8,12 +8,12 @@ use Rattle.nfs_model.specs.Tree.{Volume}
 use Rattle.nfs_model.specs.Serial.Write.{Writing, bytes_kept}
 use Rattle.nfs_values.specs.declared.answer.WriteResults.{WriteResults}
 use Rattle.nfs_values.specs.declared.status.Status.{Status}
-use Rattle.parcels.specs.state.Lenses.{VolumeSet, volume_lens}
-use Rattle.parcels.specs.state.Promises.{HasVolume}
-use Rattle.parcels.specs.state.Running.{RunsOn}
-use Rattle.parcels.specs.bytes.Extending.{holes, file_extended}
-use Rattle.parcels.specs.bytes.WritingLaws.{write_call}
-use Rattle.parcels.specs.bytes.WritingUp.{LeaveParts, VolumeWrites, all_blocks, bytes_due, for_holes}
+use Rattle.filer_state.specs.state.Lenses.{VolumeSet, volume_lens}
+use Rattle.filer_state.specs.state.Promises.{HasVolume}
+use Rattle.filer_state.specs.state.Running.{RunsOn}
+use Rattle.filer_state.specs.bytes.Extending.{holes, file_extended}
+use Rattle.filer_state.specs.bytes.WritingLaws.{write_call}
+use Rattle.filer_state.specs.bytes.WritingUp.{LeaveParts, VolumeWrites, all_blocks, bytes_due, for_holes}
 use Rattle.service_data.specs.Holes.{extending_by}
 use Rattle.service_data.specs.Writing.{written_outcome}
 use Rattle.service_data.specs.declared.extension.Extension.{Extension}

@@ -2,11 +2,11 @@
 
 ghost use Rattle.std.specs.Prelude.{◌≡◌, ◌+◌, ◌<◌, ◌≤◌, nat_lt};
 ghost use Rattle.std.specs.FinSet.{len};
-ghost use Rattle.parcels.specs.state.Sets.{range_value, vbn_set, volume_before};
-ghost use Rattle.parcels.specs.bytes.WritingUp.{all_blocks, for_holes, free_count};
+ghost use Rattle.filer_state.specs.state.Sets.{range_value, vbn_set, volume_before};
+ghost use Rattle.filer_state.specs.bytes.WritingUp.{all_blocks, for_holes, free_count};
 
-use parcel_sets::{RangeHeld, VbnHeld, VolumeHeld};
-use parcels::{Files, ranges_used};
+use filer_state::{Files, ranges_used};
+use parcels::{RangeHeld, VbnHeld, VolumeHeld};
 
 /// The blocks of a range.
 const RANGE_BLOCKS: u64 = 1024;

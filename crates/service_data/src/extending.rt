@@ -13,17 +13,17 @@ ghost use Rattle.std.specs.Prelude.{
 };
 ghost use Rattle.nfs_model.specs.Home.{span_bytes};
 ghost use Rattle.nfs_values.specs.Moment.{moment_of};
-ghost use Rattle.volume_logical.specs.inodes.Inode.{inode_value, kind_value};
-ghost use Rattle.parcel_sets.specs.Filled.{logical_alike, volume_alike};
+ghost use Rattle.inodes.specs.Inode.{inode_value, kind_value};
+ghost use Rattle.parcels.specs.Filled.{logical_alike, volume_alike};
 ghost use Rattle.nfs_model.specs.volume.Inodes.{filled_blocks};
-ghost use Rattle.parcels.specs.state.Sets.{
+ghost use Rattle.filer_state.specs.state.Sets.{
   logical_before,
   logical_after,
   volume_before,
   volume_after,
 };
-ghost use Rattle.parcels.specs.bytes.Extending.{holes, spans_written, kind_extended};
-ghost use Rattle.parcels.specs.bytes.WritingUp.{for_holes};
+ghost use Rattle.filer_state.specs.bytes.Extending.{holes, spans_written, kind_extended};
+ghost use Rattle.filer_state.specs.bytes.WritingUp.{for_holes};
 ghost use Rattle.service_data.specs.Stripes.{HasStripes};
 ghost use Rattle.service_data.specs.Places.{StripesChanged};
 ghost use Rattle.service_data.specs.Holes.{Extends, HasRoom, inode_extended_in};
@@ -35,11 +35,11 @@ use crate::extension::Extension;
 use crate::holes::{fill_holes, find_holes, number_holes};
 use crate::homes::{grow_cards, write_span};
 use crate::parts::number_blocks;
+use filer_state::Files;
+use inodes::{Inode, InodeKind};
 use nfs_values::{Fileid, Moment};
-use parcel_sets::{LogicalHeld, VolumeHeld};
-use parcels::Files;
+use parcels::{LogicalHeld, VolumeHeld};
 use std::alloc::AllocError;
-use volume_logical::inodes::{Inode, InodeKind};
 
 /// The bytes of a span.
 const SPAN: u64 = 262_144;

@@ -3,8 +3,8 @@
 ghost use Rattle.std.specs.Prelude.{◌≡◌, ◌+◌, ◌<◌, ◌≤◌, ◌∷◌, [], true, take, length, OnOk, OnErr};
 ghost use Rattle.std.specs.FinSet.{contains, len};
 ghost use Rattle.nfs_model.specs.volume.Ranges.{without_numbers};
-ghost use Rattle.parcels.specs.state.Sets.{logical_before};
-ghost use Rattle.parcels.specs.bytes.Extending.{holes};
+ghost use Rattle.filer_state.specs.state.Sets.{logical_before};
+ghost use Rattle.filer_state.specs.bytes.Extending.{holes};
 ghost use Rattle.service_data.specs.Stripes.{HasStripes};
 ghost use Rattle.service_data.specs.Places.{StripesChanged};
 ghost use Rattle.service_data.specs.Holes.{
@@ -17,9 +17,9 @@ ghost use Rattle.service_data.specs.Holes.{
 };
 
 use crate::homes::{BLOCK_BYTES, empty_block, fill_block, is_filled, number_block};
+use filer_state::Files;
 use nfs_values::{BlockNumber, Fileid};
-use parcel_sets::LogicalHeld;
-use parcels::Files;
+use parcels::LogicalHeld;
 use std::alloc::AllocError;
 
 /// More blocks than this no WRITE meets: it has at most 65,536 bytes.

@@ -24,9 +24,9 @@ ghost use Rattle.nfs_model.specs.volume.Stripes.{
   block_numbered,
   overwritten,
 };
-ghost use Rattle.parcels.specs.state.Sets.{logical_before, stripe_value};
-ghost use Rattle.parcels.specs.state.Tree.{home_stripe};
-ghost use Rattle.parcels.specs.bytes.Extending.{span_written, stripe_grown};
+ghost use Rattle.filer_state.specs.state.Sets.{logical_before, stripe_value};
+ghost use Rattle.filer_state.specs.state.Tree.{home_stripe};
+ghost use Rattle.filer_state.specs.bytes.Extending.{span_written, stripe_grown};
 ghost use Rattle.service_data.specs.Stripes.{HasStripes};
 ghost use Rattle.service_data.specs.Places.{
   home_held,
@@ -34,12 +34,12 @@ ghost use Rattle.service_data.specs.Places.{
   StripesChanged,
 };
 
+use filer_state::Files;
 use nfs_values::{BlockNumber, Fileid, Moment};
-use parcel_sets::{LogicalHeld, StripeHeld};
-use parcels::Files;
+use parcels::{LogicalHeld, StripeHeld};
 use std::alloc::AllocError;
+use stripe_cards::Card;
 use stripes::Stripe;
-use stripes::cards::Card;
 
 /// The blocks of a span, which lie in one stripe.
 const SPAN_BLOCKS: u64 = 64;

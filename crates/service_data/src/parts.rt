@@ -3,10 +3,10 @@
 ghost use Rattle.std.specs.Prelude.{◌≡◌, ◌<◌, ◌≤◌, ◌∷◌, [], length, true, IfNone, IfSome};
 ghost use Rattle.std.specs.FinSet as sets;
 ghost use Rattle.std.specs.FinSet.{contains};
-ghost use Rattle.parcel_sets.specs.Filled.{vbn_alike, volume_alike};
+ghost use Rattle.parcels.specs.Filled.{vbn_alike, volume_alike};
 ghost use Rattle.nfs_model.specs.volume.Ranges.{taken};
-ghost use Rattle.parcels.specs.state.Sets.{range_value, vbn_set, volume_before, volume_after};
-ghost use Rattle.parcels.specs.bytes.WritingUp.{for_holes};
+ghost use Rattle.filer_state.specs.state.Sets.{range_value, vbn_set, volume_before, volume_after};
+ghost use Rattle.filer_state.specs.bytes.WritingUp.{for_holes};
 ghost use Rattle.service_data.specs.Parts.{
   range_changed,
   LeavesFree,
@@ -17,9 +17,9 @@ ghost use Rattle.service_data.specs.Parts.{
 ghost use Rattle.service_data.specs.Stripes.{HasStripes};
 
 use crate::homes::number_block;
+use filer_state::Files;
 use nfs_values::{BlockNumber, Fileid};
-use parcel_sets::{RangeHeld, VbnHeld, VolumeHeld};
-use parcels::Files;
+use parcels::{RangeHeld, VbnHeld, VolumeHeld};
 use vbn_ranges::Range;
 
 /// Puts filled blocks of a file under numbers of the parts of its volume. It takes no memory.

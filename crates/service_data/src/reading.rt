@@ -4,10 +4,10 @@ ghost use Rattle.std.specs.Prelude.{◌≡◌, ℕ, ◌+◌, ◌-◌, [], min, n
 ghost use Rattle.std.specs.Option.{option_map};
 ghost use Rattle.nfs_model.specs.Types as types;
 ghost use Rattle.nfs_values.specs.Answer.{result_of};
-ghost use Rattle.volume_logical.specs.inodes.Inode.{inode_value};
-ghost use Rattle.stripes.specs.cards.Cards.{card_of};
-ghost use Rattle.parcels.specs.state.Sets.{logical_before};
-ghost use Rattle.parcels.specs.bytes.Reading.{on_card, on_inode};
+ghost use Rattle.inodes.specs.Inode.{inode_value};
+ghost use Rattle.stripe_cards.specs.Cards.{card_of};
+ghost use Rattle.filer_state.specs.state.Sets.{logical_before};
+ghost use Rattle.filer_state.specs.bytes.Reading.{on_card, on_inode};
 ghost use Rattle.service_data.specs.Promises.{
   LieInOneSpan,
   ReadsInStripe,
@@ -16,12 +16,12 @@ ghost use Rattle.service_data.specs.Promises.{
 };
 
 use crate::spans::read_spans;
+use filer_state::Files;
+use inodes::{Inode, InodeKind};
 use nfs_values::{BytesRead, Fileid, ReadResults, Status, room_to_read};
-use parcel_sets::{LogicalHeld, StripeHeld};
-use parcels::Files;
+use parcels::{LogicalHeld, StripeHeld};
 use std::alloc::{AllocError, Global};
-use stripes::cards::Card;
-use volume_logical::inodes::{Inode, InodeKind};
+use stripe_cards::Card;
 
 /// Larger counts of bytes are taken as this.
 pub(crate) const COUNT_LIMIT: u32 = 65_536;

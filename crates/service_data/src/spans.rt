@@ -4,13 +4,13 @@ ghost use Rattle.std.specs.Prelude.{◌≡◌, ◌+◌, ◌%◌, ◌≤◌, ◌<
 ghost use Rattle.std.specs.Vec.{vec_len, vec_capacity};
 ghost use Rattle.nfs_model.specs.Home.{span_bytes};
 ghost use Rattle.nfs_model.specs.volume.Stripes.{bytes_read};
-ghost use Rattle.parcels.specs.state.Sets.{logical_before, stripe_value};
-ghost use Rattle.parcels.specs.bytes.Reading.{bytes_under};
+ghost use Rattle.filer_state.specs.state.Sets.{logical_before, stripe_value};
+ghost use Rattle.filer_state.specs.bytes.Reading.{bytes_under};
 ghost use Rattle.service_data.specs.Stripes.{HasStripes};
 
+use filer_state::Files;
 use nfs_values::Fileid;
-use parcel_sets::{LogicalHeld, StripeHeld};
-use parcels::Files;
+use parcels::{LogicalHeld, StripeHeld};
 
 /// The bytes of a span, which lie in one stripe.
 const SPAN: u64 = 262_144;

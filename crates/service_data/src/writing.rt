@@ -3,10 +3,10 @@
 ghost use Rattle.std.specs.Prelude.{◌≡◌, min, IfNone, IfOk, None, OnErr};
 ghost use Rattle.std.specs.Option.{option_map};
 ghost use Rattle.nfs_values.specs.Moment.{moment_of};
-ghost use Rattle.stripes.specs.cards.Cards.{card_of};
-ghost use Rattle.volume_logical.specs.inodes.Inode.{inode_value};
-ghost use Rattle.parcel_sets.specs.Filled.{logical_alike, volume_alike};
-ghost use Rattle.parcels.specs.state.Sets.{
+ghost use Rattle.stripe_cards.specs.Cards.{card_of};
+ghost use Rattle.inodes.specs.Inode.{inode_value};
+ghost use Rattle.parcels.specs.Filled.{logical_alike, volume_alike};
+ghost use Rattle.filer_state.specs.state.Sets.{
   logical_before,
   logical_after,
   volume_before,
@@ -26,13 +26,13 @@ ghost use Rattle.service_data.specs.WritingInVolume.{DoneInVolume, IsVolumeHeld,
 use crate::extending::{extend, extend_in_volume};
 use crate::extension::Extension;
 use crate::reading::COUNT_LIMIT;
+use filer_state::Files;
+use filer_state::bytes::writing_calls_are_right;
+use inodes::{Inode, InodeKind};
 use nfs_values::{Fileid, Moment, Status, WriteResults};
-use parcel_sets::{LogicalHeld, StripeHeld, VolumeHeld};
-use parcels::Files;
-use parcels::bytes::writing_calls_are_right;
+use parcels::{LogicalHeld, StripeHeld, VolumeHeld};
 use std::alloc::AllocError;
-use stripes::cards::Card;
-use volume_logical::inodes::{Inode, InodeKind};
+use stripe_cards::Card;
 
 /// WRITE (RFC 1813 section 3.3.7), on the parcel of the stripe in which its bytes lie, as many as
 /// the count, at most 65,536: STALE, INVAL for a directory or for a count that isn't the number of

@@ -6,7 +6,7 @@ use Rattle.std.specs.FinMap.{get, get-empty}
 use Rattle.std.specs.Ordering.{nat_cmp}
 use Rattle.nfs_model.specs.volume.Stripes.{StripeValue, Card, card_settled, touch_taken, cut}
 use Rattle.nfs_model.specs.volume.lemmas.Numbered.{itself, get-changed_at}
-use Rattle.parcels.specs.state.Sets.{FilerStripe, stripe_value}
+use Rattle.filer_state.specs.state.Sets.{FilerStripe, stripe_value}
 
 settled-some : (o : Option Card) → IsSome o → IsSome (option_map card_settled o)
 settled-some None some = let h : false ≡ true = some in absurd cc

@@ -3,9 +3,9 @@ use Rattle.std.proofs.Common.{ℕ, Option, Some, None}
 use Rattle.nfs_model.specs.Types.{Moment, SetAttributes}
 use Rattle.std.specs.Prelude.{length}
 use Rattle.nfs_model.specs.volume.Inodes.{Inode}
-use Rattle.parcels.specs.state.Lenses.{LogicalSet}
-use Rattle.parcels.specs.changes.NodesSized.{all_freed}
-use Rattle.parcels.specs.changes.Attributes.{node_sized, node_changed}
+use Rattle.filer_state.specs.state.Lenses.{LogicalSet}
+use Rattle.filer_state.specs.changes.NodesSized.{all_freed}
+use Rattle.filer_state.specs.changes.Attributes.{node_sized, node_changed}
 use Rattle.service_names.specs.Shown.{HasFewLinks}
 use Rattle.service_names.proofs.Removed.{few-sized}
 

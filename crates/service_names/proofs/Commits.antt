@@ -9,15 +9,15 @@ use Rattle.nfs_values.specs.declared.answer.Answer.TheVariants.{Commit}
 use Rattle.nfs_values.specs.declared.answer.CommitResults.{CommitResults}
 use Rattle.nfs_values.specs.declared.status.Status.{Status}
 use Rattle.nfs_model.specs.volume.Inodes.{Inode, RegularFile, Folder}
-use Rattle.parcels.specs.state.Tree.{file_touch}
-use Rattle.parcels.specs.state.Lenses.{LogicalSet, logical_lens}
-use Rattle.parcels.specs.state.Promises.{RightOnVolume}
-use Rattle.parcels.specs.state.Jobs.{Replied}
-use Rattle.parcels.specs.state.Calls.{ServesOn}
-use Rattle.parcels.specs.state.Changes.{shown_inode}
-use Rattle.parcels.specs.changes.NameAnswers.{file_committed, inode_committed, commit_answer}
-use Rattle.parcels.specs.changes.NameLaws.{commit_call}
-use Rattle.parcels.specs.changes.ListingLemmas.{commit-right}
+use Rattle.filer_state.specs.state.Tree.{file_touch}
+use Rattle.filer_state.specs.state.Lenses.{LogicalSet, logical_lens}
+use Rattle.filer_state.specs.state.Promises.{RightOnVolume}
+use Rattle.filer_state.specs.state.Jobs.{Replied}
+use Rattle.filer_state.specs.state.Calls.{ServesOn}
+use Rattle.filer_state.specs.state.Changes.{shown_inode}
+use Rattle.filer_state.specs.changes.NameAnswers.{file_committed, inode_committed, commit_answer}
+use Rattle.filer_state.specs.changes.NameLaws.{commit_call}
+use Rattle.filer_state.specs.changes.ListingLemmas.{commit-right}
 use Rattle.service_names.specs.Promises.{Commits}
 
 module _ (v fileid : ℕ) (set : LogicalSet) where

@@ -2,11 +2,11 @@
 use Rattle.std.proofs.Common.{◌≡◌, ℕ, ◌<◌, ◌≤◌, List, map, Option, Some, None, refl, sym, ap, ◌∙◌, arith, ⊎_elim}
 use Rattle.std.proofs.lemmas.Bool.{cases_lt}
 use Rattle.std.specs.Prelude.{length, slice_get}
-use Rattle.parcel_sets.specs.Filled.{is_filled, AreFilledAlike}
+use Rattle.parcels.specs.Filled.{is_filled, AreFilledAlike}
 use Rattle.nfs_model.specs.volume.Stripes.{card_dropped}
-use Rattle.parcels.specs.state.Contents.{each}
-use Rattle.parcels.specs.state.Sets.{FilerStripe, stripe_value, placed, in_one}
-use Rattle.parcels.specs.laws.lemmas.Each.{each-same, each-map, get-there}
+use Rattle.filer_state.specs.state.Contents.{each}
+use Rattle.filer_state.specs.state.Sets.{FilerStripe, stripe_value, placed, in_one}
+use Rattle.filer_state.specs.laws.lemmas.Each.{each-same, each-map, get-there}
 use Rattle.service_names.specs.Cards.{InFirst, IsDropped}
 use Rattle.service_names.proofs.Gone.{vacant-dropped}
 use Rattle.service_names.proofs.Putting.{there}

@@ -9,13 +9,13 @@ use Rattle.std.specs.Ordering.{nat_cmp}
 use Rattle.nfs_model.specs.Types.{Moment}
 use Rattle.nfs_model.specs.volume.Inodes.{Inode}
 use Rattle.nfs_model.specs.volume.Stripes.{Card, card_dropped}
-use Rattle.parcels.specs.state.Lenses.{LogicalSet}
-use Rattle.parcels.specs.state.Parcels.{no_stripe}
-use Rattle.parcels.specs.state.Sets.{FilerStripe, FilerLogical, stripe_value, logical_set, logical_before, logical_after}
-use Rattle.parcels.specs.changes.NodesSized.{file_sized}
-use Rattle.parcels.specs.changes.NodesDropped.{directory_left, node_dropped}
-use Rattle.parcels.specs.changes.Named.{HeldNode}
-use Rattle.parcels.specs.changes.Dropping.{dropping_of, emptying_of, child_emptied}
+use Rattle.filer_state.specs.state.Lenses.{LogicalSet}
+use Rattle.filer_state.specs.state.Parcels.{no_stripe}
+use Rattle.filer_state.specs.state.Sets.{FilerStripe, FilerLogical, stripe_value, logical_set, logical_before, logical_after}
+use Rattle.filer_state.specs.changes.NodesSized.{file_sized}
+use Rattle.filer_state.specs.changes.NodesDropped.{directory_left, node_dropped}
+use Rattle.filer_state.specs.changes.Named.{HeldNode}
+use Rattle.filer_state.specs.changes.Dropping.{dropping_of, emptying_of, child_emptied}
 use Rattle.service_names.specs.Naming.{naming_in}
 
 -- an empty place stays as it is

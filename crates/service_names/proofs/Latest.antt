@@ -5,9 +5,9 @@ use Rattle.std.specs.Ordering.{nat_cmp}
 use Rattle.std.specs.FinMap.{get, get-empty}
 use Rattle.nfs_model.specs.Types.{Moment}
 use Rattle.nfs_model.specs.volume.Stripes.{StripeValue, Card, touch_of}
-use Rattle.parcels.specs.state.Contents.{each}
-use Rattle.parcels.specs.state.Tree.{file_touch, later}
-use Rattle.parcels.specs.state.Sets.{FilerStripe, FilerLogical, stripe_value, placed, in_one, logical_before}
+use Rattle.filer_state.specs.state.Contents.{each}
+use Rattle.filer_state.specs.state.Tree.{file_touch, later}
+use Rattle.filer_state.specs.state.Sets.{FilerStripe, FilerLogical, stripe_value, placed, in_one, logical_before}
 
 -- an empty place has no touch
 pub vacant-touch : {P : Type 0} (o : Option (FilerStripe P)) (fileid : ℕ) → o ≡ None → None ≡ touch_of (get (stripe_value o).cards fileid)

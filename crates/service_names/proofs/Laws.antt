@@ -1,12 +1,12 @@
 -- Calls that are right since they come to what is the serial server's.
 use Rattle.std.proofs.Common.{◌≡◌, ℕ, false, [], sym, subst}
 use Rattle.nfs_model.specs.Types.{Answer, Success}
-use Rattle.parcels.specs.state.Lenses.{LogicalSet, logical_lens}
-use Rattle.parcels.specs.state.Promises.{RightOnVolume}
-use Rattle.parcels.specs.state.Jobs.{Replied}
-use Rattle.parcels.specs.state.Calls.{VolumeCall, ServesOn}
-use Rattle.parcels.specs.state.Changes.{LogicalAnswer}
-use Rattle.parcels.specs.changes.Laws.{IsDone}
+use Rattle.filer_state.specs.state.Lenses.{LogicalSet, logical_lens}
+use Rattle.filer_state.specs.state.Promises.{RightOnVolume}
+use Rattle.filer_state.specs.state.Jobs.{Replied}
+use Rattle.filer_state.specs.state.Calls.{VolumeCall, ServesOn}
+use Rattle.filer_state.specs.state.Changes.{LogicalAnswer}
+use Rattle.filer_state.specs.changes.Laws.{IsDone}
 
 pub right-by : (v : ℕ) (call : VolumeCall) (old new : LogicalSet) (answer : Answer) (done : LogicalAnswer) → IsDone v call old done
     → answer ≡ done.answer → new ≡ done.set

@@ -17,13 +17,13 @@ use Rattle.nfs_values.specs.declared.answer.ReadDirectoryResults.{ReadDirectoryR
 use Rattle.nfs_values.specs.declared.status.Status.{Status}
 use Rattle.nfs_model.specs.volume.Directories.{Page, page_of}
 use Rattle.nfs_model.specs.volume.Inodes.{Inode}
-use Rattle.parcels.specs.state.Lenses.{LogicalSet, logical_lens}
-use Rattle.parcels.specs.state.Running.{RunsOn}
-use Rattle.parcels.specs.state.Calls.{answer_of}
-use Rattle.parcels.specs.state.Changes.{shown_inode}
-use Rattle.parcels.specs.changes.NameAnswers.{is_bad_cookie, readdir_answer}
-use Rattle.parcels.specs.changes.NameLaws.{readdir_call}
-use Rattle.parcels.specs.changes.ListingLemmas.{readdir-right, readdir-starves}
+use Rattle.filer_state.specs.state.Lenses.{LogicalSet, logical_lens}
+use Rattle.filer_state.specs.state.Running.{RunsOn}
+use Rattle.filer_state.specs.state.Calls.{answer_of}
+use Rattle.filer_state.specs.state.Changes.{shown_inode}
+use Rattle.filer_state.specs.changes.NameAnswers.{is_bad_cookie, readdir_answer}
+use Rattle.filer_state.specs.changes.NameLaws.{readdir_call}
+use Rattle.filer_state.specs.changes.ListingLemmas.{readdir-right, readdir-starves}
 use Rattle.service_names.specs.Listing.{all_under, tells_nothing}
 use Rattle.service_names.specs.Promises.{Lists}
 use Rattle.service_names.specs.declared.listing.PageAsked.{PageAsked}

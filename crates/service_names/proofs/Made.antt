@@ -6,11 +6,11 @@ use Rattle.nfs_values.specs.Answer as values
 use Rattle.nfs_values.specs.declared.answer.Answer as answered
 use Rattle.nfs_values.specs.declared.answer.MakeResults.{MakeResults}
 use Rattle.nfs_values.specs.declared.status.Status.{Status}
-use Rattle.parcels.specs.state.Lenses.{LogicalSet, logical_lens}
-use Rattle.parcels.specs.state.Calls.{VolumeCall}
-use Rattle.parcels.specs.state.Changes.{LogicalAnswer}
-use Rattle.parcels.specs.state.Running.{RunsOn}
-use Rattle.parcels.specs.changes.Laws.{IsDone, MayStarve}
+use Rattle.filer_state.specs.state.Lenses.{LogicalSet, logical_lens}
+use Rattle.filer_state.specs.state.Calls.{VolumeCall}
+use Rattle.filer_state.specs.state.Changes.{LogicalAnswer}
+use Rattle.filer_state.specs.state.Running.{RunsOn}
+use Rattle.filer_state.specs.changes.Laws.{IsDone, MayStarve}
 use Rattle.service_names.specs.Making.{Makes}
 use Rattle.service_names.specs.Promises.{making_outcome}
 use Rattle.service_names.proofs.Laws.{right-by}

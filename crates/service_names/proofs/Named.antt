@@ -11,14 +11,14 @@ use Rattle.nfs_values.specs.declared.answer.Answer.TheVariants.{Lookup}
 use Rattle.nfs_values.specs.declared.answer.LookupResults.{LookupResults}
 use Rattle.nfs_values.specs.declared.status.Status as statuses
 use Rattle.nfs_model.specs.volume.Inodes.{Inode}
-use Rattle.parcels.specs.state.Lenses.{LogicalSet, logical_lens}
-use Rattle.parcels.specs.state.Promises.{RightOnVolume}
-use Rattle.parcels.specs.state.Jobs.{Replied}
-use Rattle.parcels.specs.state.Calls.{ServesOn}
-use Rattle.parcels.specs.state.Changes.{shown_inode}
-use Rattle.parcels.specs.changes.NameAnswers.{entries_of, fileid_named, object_told, found_told, unless_fault, lookup_answer}
-use Rattle.parcels.specs.changes.NameLaws.{lookup_call}
-use Rattle.parcels.specs.changes.LookupLemmas.{lookup-right}
+use Rattle.filer_state.specs.state.Lenses.{LogicalSet, logical_lens}
+use Rattle.filer_state.specs.state.Promises.{RightOnVolume}
+use Rattle.filer_state.specs.state.Jobs.{Replied}
+use Rattle.filer_state.specs.state.Calls.{ServesOn}
+use Rattle.filer_state.specs.state.Changes.{shown_inode}
+use Rattle.filer_state.specs.changes.NameAnswers.{entries_of, fileid_named, object_told, found_told, unless_fault, lookup_answer}
+use Rattle.filer_state.specs.changes.NameLaws.{lookup_call}
+use Rattle.filer_state.specs.changes.LookupLemmas.{lookup-right}
 use Rattle.service_names.specs.Promises.{LooksUp}
 
 module _ (v fileid : ℕ) (name : List ℕ) (set : LogicalSet) where

@@ -4,9 +4,9 @@ use Rattle.std.specs.Prelude.{if◌then◌else◌, is_some}
 use Rattle.nfs_model.specs.Types.{SetAttributes, Status, Invalid, TooBig, NoSpace}
 use Rattle.nfs_model.specs.Serial.Setattr.{has_bad_time, is_past}
 use Rattle.nfs_model.specs.volume.Inodes.{Inode}
-use Rattle.parcels.specs.state.Lenses.{LogicalSet}
-use Rattle.parcels.specs.changes.Named.{unless_fault, HeldNaming}
-use Rattle.parcels.specs.changes.Making.{held_made, create_check, mkdir_check, is_full_set}
+use Rattle.filer_state.specs.state.Lenses.{LogicalSet}
+use Rattle.filer_state.specs.changes.Named.{unless_fault, HeldNaming}
+use Rattle.filer_state.specs.changes.Making.{held_made, create_check, mkdir_check, is_full_set}
 use Rattle.service_names.specs.Making.{Makes}
 
 -- where nothing hinders, a node is made

@@ -4,9 +4,9 @@ use Rattle.std.specs.Prelude.{if◌then◌else◌}
 use Rattle.nfs_model.specs.Types.{SetAttributes, Unchecked, Exclusive, Status, Exists}
 use Rattle.nfs_model.specs.Serial.Create.{is_verifier}
 use Rattle.nfs_model.specs.volume.Inodes.{InodeKind, RegularFile}
-use Rattle.parcels.specs.changes.Named.{fails, unless_fault, HeldNaming, HeldNode}
-use Rattle.parcels.specs.changes.Attributes.{node_changed, node_fault}
-use Rattle.parcels.specs.changes.Making.{create_upon, there_shown, there_set}
+use Rattle.filer_state.specs.changes.Named.{fails, unless_fault, HeldNaming, HeldNode}
+use Rattle.filer_state.specs.changes.Attributes.{node_changed, node_fault}
+use Rattle.filer_state.specs.changes.Making.{create_upon, there_shown, there_set}
 
 module _ (n : HeldNaming) (child : HeldNode) (kind : InodeKind) (size filled : ℕ) (kept : Option (List ℕ)) (is : kind ≡ RegularFile size filled kept) where
   -- an exclusive one, by whether the verifier is the same

@@ -8,7 +8,7 @@ use Rattle.std.specs.Ordering.{nat_cmp}
 use Rattle.nfs_model.specs.volume.Inodes.{InodeKind, RegularFile, Folder}
 use Rattle.nfs_model.specs.volume.Stripes.{StripeValue, OfFile, OfFolder, touch_of, card_dropped}
 use Rattle.nfs_model.specs.volume.lemmas.Numbered.{same-answers, get-insert_at, get-remove_at}
-use Rattle.parcels.specs.changes.NodesMade.{card_made}
+use Rattle.filer_state.specs.changes.NodesMade.{card_made}
 use Rattle.service_names.specs.Cards.{InFirst}
 
 -- ---- one card

@@ -8,13 +8,13 @@ use Rattle.nfs_model.specs.Names.{is_dots}
 use Rattle.nfs_model.specs.volume.Directories.{DirectoryValue, fileid_found}
 use Rattle.nfs_model.specs.volume.Inodes.{InodeKind, RegularFile, Folder, Inode}
 use Rattle.nfs_model.specs.volume.lemmas.Numbered.{get-remove_at}
-use Rattle.parcels.specs.state.Lenses.{LogicalSet}
-use Rattle.parcels.specs.state.Changes.{LogicalAnswer}
-use Rattle.parcels.specs.changes.NameAnswers.{entries_of}
-use Rattle.parcels.specs.changes.NodesSized.{kind_sized}
-use Rattle.parcels.specs.changes.NodesDropped.{without_subdirectories, directories_left}
-use Rattle.parcels.specs.changes.Named.{fails, HeldNode, node_at, node_under}
-use Rattle.parcels.specs.changes.Dropping.{file_gone, held_gone, remove_by, remove_kind, held_remove, if_empty, rmdir_kind}
+use Rattle.filer_state.specs.state.Lenses.{LogicalSet}
+use Rattle.filer_state.specs.state.Changes.{LogicalAnswer}
+use Rattle.filer_state.specs.changes.NameAnswers.{entries_of}
+use Rattle.filer_state.specs.changes.NodesSized.{kind_sized}
+use Rattle.filer_state.specs.changes.NodesDropped.{without_subdirectories, directories_left}
+use Rattle.filer_state.specs.changes.Named.{fails, HeldNode, node_at, node_under}
+use Rattle.filer_state.specs.changes.Dropping.{file_gone, held_gone, remove_by, remove_kind, held_remove, if_empty, rmdir_kind}
 use Rattle.service_names.specs.Naming.{naming_in}
 use Rattle.service_names.specs.Shown.{HasFewLinks}
 

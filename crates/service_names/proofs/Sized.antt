@@ -4,14 +4,14 @@ use Rattle.std.proofs.Common.{length-append, ⊎_elim}
 use Rattle.std.proofs.lemmas.Bool.{cases_eq}
 use Rattle.std.specs.Prelude.{length, map, is_some, IsSome, slice_get, slice_set, slice_index_or}
 use Rattle.std.specs.FinMap.{get}
-use Rattle.parcel_sets.specs.Filled.{is_filled, AreFilledAlike}
+use Rattle.parcels.specs.Filled.{is_filled, AreFilledAlike}
 use Rattle.nfs_model.specs.volume.Logical.{LogicalValue}
 use Rattle.nfs_model.specs.volume.Stripes.{StripeValue, numbers_freed}
-use Rattle.parcels.specs.state.Contents.{each}
-use Rattle.parcels.specs.state.Parcels.{no_stripe}
-use Rattle.parcels.specs.state.Sets.{FilerStripe, FilerLogical, stripe_value, placed, in_one, logical_before}
-use Rattle.parcels.specs.laws.lemmas.Each.{each-same, each-map, each-index}
-use Rattle.parcels.specs.changes.NodesSized.{stripe_sized, all_freed}
+use Rattle.filer_state.specs.state.Contents.{each}
+use Rattle.filer_state.specs.state.Parcels.{no_stripe}
+use Rattle.filer_state.specs.state.Sets.{FilerStripe, FilerLogical, stripe_value, placed, in_one, logical_before}
+use Rattle.filer_state.specs.laws.lemmas.Each.{each-same, each-map, each-index}
+use Rattle.filer_state.specs.changes.NodesSized.{stripe_sized, all_freed}
 use Rattle.service_names.specs.Changing.{AreNumbers, MayBeSet, with_dead}
 use Rattle.service_names.proofs.Freed.{added-none, added-before}
 use Rattle.service_names.proofs.Taking.{set-here, set-else, found-here, filled-as}

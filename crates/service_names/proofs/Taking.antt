@@ -5,15 +5,15 @@ use Rattle.std.specs.Prelude.{slice_get, slice_set, slice_index_or, length, is_s
 use Rattle.std.specs.FinMap as maps
 use Rattle.std.specs.Ordering.{nat_cmp}
 use Rattle.nfs_model.specs.Types.{Moment}
-use Rattle.parcel_sets.specs.Filled.{is_filled, AreFilledAlike}
+use Rattle.parcels.specs.Filled.{is_filled, AreFilledAlike}
 use Rattle.nfs_model.specs.volume.Stripes.{StripeValue, Card, card_settled, touch_of, touch_taken}
 use Rattle.nfs_model.specs.volume.Maps.{changed_value}
-use Rattle.parcels.specs.state.Contents.{each}
-use Rattle.parcels.specs.state.Changes.{touches_taken}
-use Rattle.parcels.specs.state.Parcels.{no_stripe}
-use Rattle.parcels.specs.state.Tree.{file_touch, later}
-use Rattle.parcels.specs.state.Sets.{FilerStripe, stripe_value, placed, in_one}
-use Rattle.parcels.specs.laws.lemmas.Each.{each-same, each-map}
+use Rattle.filer_state.specs.state.Contents.{each}
+use Rattle.filer_state.specs.state.Changes.{touches_taken}
+use Rattle.filer_state.specs.state.Parcels.{no_stripe}
+use Rattle.filer_state.specs.state.Tree.{file_touch, later}
+use Rattle.filer_state.specs.state.Sets.{FilerStripe, stripe_value, placed, in_one}
+use Rattle.filer_state.specs.laws.lemmas.Each.{each-same, each-map}
 use Rattle.service_names.proofs.Latest.{IsTouchFrom, none-from, touch-more}
 
 -- an empty place stays as it is

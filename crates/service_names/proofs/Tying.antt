@@ -7,7 +7,7 @@ use Rattle.nfs_model.specs.volume.Directories.{DirectoryValue, empty_directory}
 use Rattle.nfs_model.specs.volume.Inodes.{InodeKind, RegularFile, Folder}
 use Rattle.nfs_model.specs.volume.Logical.{LogicalValue}
 use Rattle.nfs_model.specs.volume.lemmas.Numbered.{get-insert_at}
-use Rattle.parcels.specs.changes.NodesMade.{directories_made}
+use Rattle.filer_state.specs.changes.NodesMade.{directories_made}
 use Rattle.service_names.specs.Changing.{with_directories}
 use Rattle.service_names.specs.Making.{without_directory}
 use Rattle.service_names.proofs.Putting.{remove-put}

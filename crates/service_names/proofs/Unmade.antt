@@ -5,7 +5,7 @@ use Rattle.std.proofs.lemmas.Bool.{cases_lt}
 use Rattle.std.specs.Prelude.{is_some, IsSome, slice_get}
 use Rattle.std.specs.Ordering.{nat_cmp}
 use Rattle.std.specs.FinMap.{get, get-empty}
-use Rattle.parcel_sets.specs.Filled.{is_filled, AreFilledAlike}
+use Rattle.parcels.specs.Filled.{is_filled, AreFilledAlike}
 use Rattle.nfs_model.specs.volume.Directories.{DirectoryValue, added}
 use Rattle.nfs_model.specs.volume.Inodes.{InodeKind, Inode, inode_of, inode_created, inode_unmade, inode_set}
 use Rattle.nfs_model.specs.volume.Logical.{LogicalValue}
@@ -13,14 +13,14 @@ use Rattle.nfs_model.specs.volume.Maps.{changed_at, changed_value}
 use Rattle.nfs_model.specs.volume.Stripes.{StripeValue, Card}
 use Rattle.nfs_model.specs.volume.lemmas.Inodes.{unmade-created, inode-created-there}
 use Rattle.nfs_model.specs.volume.lemmas.Numbered.{remove-absent}
-use Rattle.parcels.specs.state.Contents.{each}
-use Rattle.parcels.specs.state.Names.{root}
-use Rattle.parcels.specs.state.Parcels.{no_stripe}
-use Rattle.parcels.specs.state.Tree.{stripe_at}
-use Rattle.parcels.specs.state.Sets.{FilerLogical, FilerStripe, stripe_value, placed, in_one, logical_before, logical_after}
-use Rattle.parcels.specs.laws.lemmas.Each.{each-same, each-map, each-index, get-there}
-use Rattle.parcels.specs.changes.NodesMade.{card_made, directories_made, node_made}
-use Rattle.parcels.specs.changes.Making.{making_of}
+use Rattle.filer_state.specs.state.Contents.{each}
+use Rattle.filer_state.specs.state.Names.{root}
+use Rattle.filer_state.specs.state.Parcels.{no_stripe}
+use Rattle.filer_state.specs.state.Tree.{stripe_at}
+use Rattle.filer_state.specs.state.Sets.{FilerLogical, FilerStripe, stripe_value, placed, in_one, logical_before, logical_after}
+use Rattle.filer_state.specs.laws.lemmas.Each.{each-same, each-map, each-index, get-there}
+use Rattle.filer_state.specs.changes.NodesMade.{card_made, directories_made, node_made}
+use Rattle.filer_state.specs.changes.Making.{making_of}
 use Rattle.service_names.specs.declared.within.Within.{Within}
 use Rattle.service_names.specs.Cards.{InFirst, place_dropped, DiffersByCard, HasCard, IsDropped}
 use Rattle.service_names.specs.Making.{MayMake, naming_within, inode_dated, without_directory, node_unmade}

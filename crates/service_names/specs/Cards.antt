@@ -2,8 +2,8 @@
 use Rattle.std.specs.Prelude.{◌≡◌, ℕ, ◌<◌, ◌≤◌, true, List, length, Option, Some, None, is_some, slice_get}
 use Rattle.nfs_model.specs.volume.Inodes.{InodeKind}
 use Rattle.nfs_model.specs.volume.Stripes.{card_dropped}
-use Rattle.parcels.specs.state.Sets.{FilerStripe, stripe_value}
-use Rattle.parcels.specs.changes.NodesMade.{card_made}
+use Rattle.filer_state.specs.state.Sets.{FilerStripe, stripe_value}
+use Rattle.filer_state.specs.changes.NodesMade.{card_made}
 
 -- the first n of some places are related to what they were; all others are as they were
 pub record InFirst {A : Type 0} (Q : A → A → Type 0) (n : ℕ) (old new : List A) : Type 0 where

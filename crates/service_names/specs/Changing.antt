@@ -5,14 +5,14 @@ use Rattle.nfs_model.specs.Parts.{most_ranges, range_blocks}
 use Rattle.nfs_model.specs.Server.{Attributes}
 use Rattle.nfs_model.specs.Types.{Moment}
 use Rattle.nfs_model.specs.volume.Inodes.{Inode, InodeKind, InodesValue, inode_set}
-use Rattle.parcels.specs.state.Names.{DirectoryMap}
+use Rattle.filer_state.specs.state.Names.{DirectoryMap}
 use Rattle.nfs_model.specs.volume.Logical.{LogicalValue}
 use Rattle.nfs_model.specs.volume.Ranges.{with_numbers}
-use Rattle.parcels.specs.state.Lenses.{LogicalSet}
-use Rattle.parcels.specs.state.Tree.{stripe_at}
-use Rattle.parcels.specs.changes.NodesDropped.{without_subdirectories}
-use Rattle.parcels.specs.changes.NodesMade.{folders_in}
-use Rattle.parcels.specs.changes.NodesSized.{Sizing, all_freed}
+use Rattle.filer_state.specs.state.Lenses.{LogicalSet}
+use Rattle.filer_state.specs.state.Tree.{stripe_at}
+use Rattle.filer_state.specs.changes.NodesDropped.{without_subdirectories}
+use Rattle.filer_state.specs.changes.NodesMade.{folders_in}
+use Rattle.filer_state.specs.changes.NodesSized.{Sizing, all_freed}
 
 -- numbers that blocks of a volume can have
 abbrev pub AreNumbers : List ℕ → Type 0

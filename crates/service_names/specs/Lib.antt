@@ -6,15 +6,15 @@ pub mod Naming
 pub mod Cards
 pub mod Making
 pub mod lemmas
-pub use Rattle.parcels.specs.changes.Named as NamedChanges
-pub use Rattle.parcels.specs.changes.Dropping as DroppingChanges
-pub use Rattle.parcels.specs.changes.Renaming as RenamingChanges
-pub use Rattle.parcels.specs.changes.Laws as ChangeLaws
-pub use Rattle.parcels.specs.changes.AttributeLaws
-pub use Rattle.parcels.specs.changes.GettingLemmas
-pub use Rattle.parcels.specs.changes.NameAnswers
-pub use Rattle.parcels.specs.changes.NameLaws
-pub use Rattle.parcels.specs.changes.NodesMade
-pub use Rattle.parcels.specs.changes.NodesDropped
-pub use Rattle.parcels.specs.changes.NodesMoved
-pub use Rattle.parcels.specs.changes.NodesSized
+pub use Rattle.filer_state.specs.changes.Named as NamedChanges
+pub use Rattle.filer_state.specs.changes.Dropping as DroppingChanges
+pub use Rattle.filer_state.specs.changes.Renaming as RenamingChanges
+pub use Rattle.filer_state.specs.changes.Laws as ChangeLaws
+pub use Rattle.filer_state.specs.changes.AttributeLaws
+pub use Rattle.filer_state.specs.changes.GettingLemmas
+pub use Rattle.filer_state.specs.changes.NameAnswers
+pub use Rattle.filer_state.specs.changes.NameLaws
+pub use Rattle.filer_state.specs.changes.NodesMade
+pub use Rattle.filer_state.specs.changes.NodesDropped
+pub use Rattle.filer_state.specs.changes.NodesMoved
+pub use Rattle.filer_state.specs.changes.NodesSized

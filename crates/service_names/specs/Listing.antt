@@ -4,7 +4,7 @@ use Rattle.nfs_model.specs.Types.{Listed}
 use Rattle.nfs_model.specs.Names.{dot, dot_dot}
 use Rattle.nfs_model.specs.volume.Directories.{Page}
 use Rattle.nfs_model.specs.volume.Logical.{LogicalValue}
-use Rattle.parcels.specs.changes.NameAnswers.{entries_of}
+use Rattle.filer_state.specs.changes.NameAnswers.{entries_of}
 
 abbrev pub entry_here : ℕ → List ℕ → ℕ → Listed
 entry_here cookie name fileid = record { cookie = cookie; name = name; fileid = fileid }

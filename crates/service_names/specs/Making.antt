@@ -4,15 +4,15 @@ use Rattle.std.specs.FinMap.{get, len, remove}
 use Rattle.nfs_model.specs.Types.{Moment, Shown, Wcc, Answer, MadeDone}
 use Rattle.nfs_model.specs.Server.{most_inodes}
 use Rattle.nfs_values.specs.Moment.{moment_of}
-use Rattle.volume_logical.specs.inodes.Inode.{inode_value}
+use Rattle.inodes.specs.Inode.{inode_value}
 use Rattle.nfs_model.specs.volume.Directories.{found}
 use Rattle.nfs_model.specs.volume.Inodes.{InodeKind, Inode, IsInodes, inode_unmade}
 use Rattle.nfs_model.specs.volume.Logical.{LogicalValue}
-use Rattle.parcels.specs.state.Lenses.{LogicalSet}
-use Rattle.parcels.specs.state.Names.{root, subdirectories_in}
-use Rattle.parcels.specs.state.Tree.{stripe_at}
-use Rattle.parcels.specs.changes.NodesMade.{folders_in, with_subdirectories}
-use Rattle.parcels.specs.changes.Named.{HeldNaming}
+use Rattle.filer_state.specs.state.Lenses.{LogicalSet}
+use Rattle.filer_state.specs.state.Names.{root, subdirectories_in}
+use Rattle.filer_state.specs.state.Tree.{stripe_at}
+use Rattle.filer_state.specs.changes.NodesMade.{folders_in, with_subdirectories}
+use Rattle.filer_state.specs.changes.Named.{HeldNaming}
 use Rattle.service_names.specs.Naming.{naming_in}
 use Rattle.service_names.specs.declared.within.Within.{Within}
 

@@ -4,12 +4,12 @@ use Rattle.nfs_model.specs.Types.{Moment}
 use Rattle.nfs_values.specs.Status.{status_of}
 use Rattle.nfs_values.specs.declared.status.Status.{Status}
 use Rattle.nfs_model.specs.volume.Inodes as values
-use Rattle.volume_logical.specs.inodes.Inode.{inode_value}
-use Rattle.volume_logical.specs.declared.inodes.inode.Inode.{Inode}
-use Rattle.parcels.specs.state.Lenses.{LogicalSet}
-use Rattle.parcels.specs.state.Changes.{LogicalAnswer}
-use Rattle.parcels.specs.changes.NameAnswers.{entries_of}
-use Rattle.parcels.specs.changes.Named.{fails, HeldNaming, HeldNode}
+use Rattle.inodes.specs.Inode.{inode_value}
+use Rattle.inodes.specs.declared.inode.Inode.{Inode}
+use Rattle.filer_state.specs.state.Lenses.{LogicalSet}
+use Rattle.filer_state.specs.state.Changes.{LogicalAnswer}
+use Rattle.filer_state.specs.changes.NameAnswers.{entries_of}
+use Rattle.filer_state.specs.changes.Named.{fails, HeldNaming, HeldNode}
 use Rattle.service_names.specs.declared.node.Node.{Node}
 
 -- a node as the parcels have it

@@ -14,17 +14,17 @@ use Rattle.nfs_values.specs.declared.answer.ReadDirectoryResults.{ReadDirectoryR
 use Rattle.nfs_values.specs.declared.answer.CommitResults.{CommitResults}
 use Rattle.nfs_model.specs.Work as works
 use Rattle.nfs_model.specs.Work.{Outcome, Starved}
-use Rattle.parcels.specs.state.Running.{RunsOn}
+use Rattle.filer_state.specs.state.Running.{RunsOn}
 use Rattle.service_names.specs.declared.listing.PageAsked.{PageAsked}
 use Rattle.std.specs.declared.alloc.AllocError.{AllocError}
 use Rattle.nfs_values.specs.declared.status.Status.{Status}
-use Rattle.parcels.specs.state.Lenses.{LogicalSet, logical_lens}
-use Rattle.parcels.specs.state.Promises.{RightOnVolume}
-use Rattle.parcels.specs.state.Jobs.{Replied}
-use Rattle.parcels.specs.state.Calls.{ServesOn}
-use Rattle.parcels.specs.changes.AttributeLaws.{setattr_call}
-use Rattle.parcels.specs.changes.NameLaws.{lookup_call, readdir_call, commit_call}
-use Rattle.parcels.specs.changes.Laws.{create_call, mkdir_call, remove_call, rmdir_call}
+use Rattle.filer_state.specs.state.Lenses.{LogicalSet, logical_lens}
+use Rattle.filer_state.specs.state.Promises.{RightOnVolume}
+use Rattle.filer_state.specs.state.Jobs.{Replied}
+use Rattle.filer_state.specs.state.Calls.{ServesOn}
+use Rattle.filer_state.specs.changes.AttributeLaws.{setattr_call}
+use Rattle.filer_state.specs.changes.NameLaws.{lookup_call, readdir_call, commit_call}
+use Rattle.filer_state.specs.changes.Laws.{create_call, mkdir_call, remove_call, rmdir_call}
 
 -- An entry of LOOKUP of a name in the directory of a fileid under Logical, with this result, is right: by whatever handle and at
 -- whatever moment, and whatever the rest of the volume is (RFC 1813 section 3.3.3).

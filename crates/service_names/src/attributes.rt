@@ -14,16 +14,16 @@ ghost use Rattle.nfs_model.specs.Serial.Setattr.{
 ghost use Rattle.nfs_values.specs.Moment.{moment_of};
 ghost use Rattle.nfs_values.specs.Set.{set_of, time_of};
 ghost use Rattle.nfs_values.specs.Status.{status_of};
-ghost use Rattle.volume_logical.specs.inodes.Inode.{attributes_value, inode_value, kind_value};
-ghost use Rattle.parcels.specs.changes.Attributes.{is_sized_folder, node_fault};
-ghost use Rattle.parcels.specs.state.Changes.{attributes_now};
-ghost use Rattle.parcels.specs.state.Sets.{logical_before};
+ghost use Rattle.inodes.specs.Inode.{attributes_value, inode_value, kind_value};
+ghost use Rattle.filer_state.specs.changes.Attributes.{is_sized_folder, node_fault};
+ghost use Rattle.filer_state.specs.state.Changes.{attributes_now};
+ghost use Rattle.filer_state.specs.state.Sets.{logical_before};
 
 use crate::touches::{is_same, latest_touch};
+use filer_state::Files;
+use inodes::{Inode, InodeKind, StoredAttributes};
 use nfs_values::{Fileid, Moment, SetAttributes, SetTime, Status};
-use parcel_sets::LogicalHeld;
-use parcels::Files;
-use volume_logical::inodes::{Inode, InodeKind, StoredAttributes};
+use parcels::LogicalHeld;
 
 /// What hinders that the node of a fileid, whose inode this is, gets attributes: NOT_SYNC where a
 /// guard is another ctime; INVAL for a time of 1,000,000,000 nanoseconds or more, or the size of a

@@ -1,20 +1,20 @@
 //! The cards of a node, in the stripes of its volume.
 
 ghost use Rattle.std.specs.Prelude.{◌≡◌, ◌≤◌, map, OnOk};
-ghost use Rattle.parcel_sets.specs.Filled.{logical_alike};
-ghost use Rattle.volume_logical.specs.inodes.Inode.{kind_value};
-ghost use Rattle.parcels.specs.state.Sets.{logical_before, logical_after};
-ghost use Rattle.parcels.specs.changes.NodesMade.{card_made};
+ghost use Rattle.parcels.specs.Filled.{logical_alike};
+ghost use Rattle.inodes.specs.Inode.{kind_value};
+ghost use Rattle.filer_state.specs.state.Sets.{logical_before, logical_after};
+ghost use Rattle.filer_state.specs.changes.NodesMade.{card_made};
 ghost use Rattle.nfs_model.specs.volume.Stripes.{card_dropped};
 ghost use Rattle.service_names.specs.Cards.{InFirst, DiffersByCard, HasCard, IsDropped};
 
+use filer_state::Files;
+use inodes::InodeKind;
 use nfs_values::Fileid;
-use parcel_sets::{LogicalHeld, StripeHeld};
-use parcels::Files;
+use parcels::{LogicalHeld, StripeHeld};
 use std::alloc::AllocError;
+use stripe_cards::CardKind;
 use stripes::Stripe;
-use stripes::cards::CardKind;
-use volume_logical::inodes::InodeKind;
 
 /// Puts the card of a new node into each stripe of its volume. Where memory runs out some stripes
 /// may have it.

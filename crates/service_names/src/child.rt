@@ -7,24 +7,24 @@ ghost use Rattle.nfs_model.specs.Types.{Moment};
 ghost use Rattle.nfs_model.specs.Names.{is_dots};
 ghost use Rattle.nfs_values.specs.Attributes.{change_of};
 ghost use Rattle.nfs_model.specs.volume.Directories.{fileid_found};
-ghost use Rattle.volume_logical.specs.inodes.Inode.{inode_value, kind_value};
-ghost use Rattle.parcels.specs.state.Changes.{LogicalAnswer};
-ghost use Rattle.parcels.specs.state.Lenses.{LogicalSet};
-ghost use Rattle.parcels.specs.state.Names.{is_folder};
-ghost use Rattle.parcels.specs.state.Sets.{logical_before};
-ghost use Rattle.volume_logical.specs.directories.Index.{fileid_number};
-ghost use Rattle.parcels.specs.changes.NameAnswers.{entries_of};
-ghost use Rattle.parcels.specs.changes.Named.{HeldNaming, on_held_name, node_at, directory_change};
+ghost use Rattle.inodes.specs.Inode.{inode_value, kind_value};
+ghost use Rattle.filer_state.specs.state.Changes.{LogicalAnswer};
+ghost use Rattle.filer_state.specs.state.Lenses.{LogicalSet};
+ghost use Rattle.filer_state.specs.state.Names.{is_folder};
+ghost use Rattle.filer_state.specs.state.Sets.{logical_before};
+ghost use Rattle.directories.specs.Index.{fileid_number};
+ghost use Rattle.filer_state.specs.changes.NameAnswers.{entries_of};
+ghost use Rattle.filer_state.specs.changes.Named.{HeldNaming, on_held_name, node_at, directory_change};
 ghost use Rattle.service_names.specs.Naming.{node_value, naming_in, naming_of, come_to};
 ghost use Rattle.service_names.specs.Shown.{HasFewLinks};
 
 use crate::naming::{is_same_name, name_fault};
 use crate::node::Node;
 use crate::showing::{prior, shown};
+use filer_state::Files;
+use inodes::{Inode, InodeKind};
 use nfs_values::{Change, Fileid, Status, VolumeNumber};
-use parcel_sets::LogicalHeld;
-use parcels::Files;
-use volume_logical::inodes::{Inode, InodeKind};
+use parcels::LogicalHeld;
 
 /// The inode of a directory on whose name a call is: STALE where there is no node of the fileid,
 /// NOTDIR where it is a file, or what is wrong with the name.

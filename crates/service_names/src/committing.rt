@@ -1,16 +1,16 @@
 //! COMMIT.
 
 ghost use Rattle.std.specs.Prelude.{[]};
-ghost use Rattle.parcels.specs.state.Lenses.{logical_lens};
-ghost use Rattle.parcels.specs.state.Promises.{HasVolume};
-ghost use Rattle.parcels.specs.state.Sets.{logical_before};
+ghost use Rattle.filer_state.specs.state.Lenses.{logical_lens};
+ghost use Rattle.filer_state.specs.state.Promises.{HasVolume};
+ghost use Rattle.filer_state.specs.state.Sets.{logical_before};
 ghost use Rattle.service_names.specs.Promises.{Commits};
 
 use crate::showing::{prior, shown_now};
+use filer_state::Files;
+use inodes::InodeKind;
 use nfs_values::{Change, CommitResults, Fileid, Status, VolumeNumber};
-use parcel_sets::LogicalHeld;
-use parcels::Files;
-use volume_logical::inodes::InodeKind;
+use parcels::LogicalHeld;
 
 /// COMMIT (RFC 1813 section 3.3.21), on the parcels of a volume's names and attributes: STALE, or
 /// INVAL for a directory; else the attributes of a file and the verifier of writes, all of which

@@ -7,12 +7,12 @@ ghost use Rattle.nfs_values.specs.Moment.{moment_of};
 ghost use Rattle.nfs_values.specs.Set.{mode_of, set_of};
 ghost use Rattle.nfs_values.specs.declared.answer.Answer.TheVariants as answers;
 ghost use Rattle.nfs_model.specs.volume.Directories.{fileid_found};
-ghost use Rattle.parcel_sets.specs.Filled.{logical_alike};
-ghost use Rattle.parcels.specs.state.Lenses.{logical_lens};
-ghost use Rattle.parcels.specs.state.Promises.{HasVolume};
-ghost use Rattle.parcels.specs.state.Sets.{logical_before, logical_after};
-ghost use Rattle.parcels.specs.changes.NameAnswers.{entries_of};
-ghost use Rattle.parcels.specs.changes.Laws.{create_done, mkdir_done};
+ghost use Rattle.parcels.specs.Filled.{logical_alike};
+ghost use Rattle.filer_state.specs.state.Lenses.{logical_lens};
+ghost use Rattle.filer_state.specs.state.Promises.{HasVolume};
+ghost use Rattle.filer_state.specs.state.Sets.{logical_before, logical_after};
+ghost use Rattle.filer_state.specs.changes.NameAnswers.{entries_of};
+ghost use Rattle.filer_state.specs.changes.Laws.{create_done, mkdir_done};
 ghost use Rattle.service_names.specs.Making.{Makes};
 ghost use Rattle.service_names.specs.Promises.{Creates, MakesDirectory};
 
@@ -20,12 +20,12 @@ use crate::child::{child_at, directory_named, is_dots};
 use crate::making_new::{create_new, make_new};
 use crate::upon::create_upon;
 use crate::within::Within;
+use filer_state::Files;
+use filer_state::changes::making_calls_are_right;
 use nfs_values::{
     CreateMode, Credential, Fileid, MakeResults, Moment, SetAttributes, Status, VolumeNumber,
 };
-use parcel_sets::LogicalHeld;
-use parcels::Files;
-use parcels::changes::making_calls_are_right;
+use parcels::LogicalHeld;
 use std::alloc::{AllocError, Global};
 
 /// CREATE (RFC 1813 section 3.3.8), on the parcels of a volume's names and attributes, at a moment:

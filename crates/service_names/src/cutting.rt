@@ -2,16 +2,16 @@
 
 ghost use Rattle.std.specs.Prelude.{◌≡◌, ◌-◌, length, is_some, map, IsSome};
 ghost use Rattle.std.specs.FinMap.{get};
-ghost use Rattle.parcel_sets.specs.Filled.{logical_alike};
+ghost use Rattle.parcels.specs.Filled.{logical_alike};
 ghost use Rattle.nfs_model.specs.volume.Ranges.{with_numbers};
 ghost use Rattle.nfs_model.specs.volume.Stripes.{cut, numbers_freed};
-ghost use Rattle.parcels.specs.changes.NodesSized.{all_freed, stripe_sized};
-ghost use Rattle.parcels.specs.state.Sets.{logical_before, logical_after, stripe_value};
+ghost use Rattle.filer_state.specs.changes.NodesSized.{all_freed, stripe_sized};
+ghost use Rattle.filer_state.specs.state.Sets.{logical_before, logical_after, stripe_value};
 ghost use Rattle.service_names.specs.Changing.{AreNumbers, MayBeSet, with_dead};
 
+use filer_state::{Files, LogicalParcel};
 use nfs_values::Fileid;
-use parcel_sets::{LogicalHeld, StripeHeld};
-use parcels::{Files, LogicalParcel};
+use parcels::{LogicalHeld, StripeHeld};
 use stripes::Stripe;
 use vbn_ranges::DeadBlocks;
 

@@ -2,23 +2,23 @@
 
 ghost use Rattle.std.specs.Prelude.{◌≡◌, ◌≤◌, ◌<◌, ◌^◌, ℕ, Some, None};
 ghost use Rattle.std.specs.FinMap.{get};
-ghost use Rattle.parcel_sets.specs.Filled.{logical_alike};
+ghost use Rattle.parcels.specs.Filled.{logical_alike};
 ghost use Rattle.nfs_values.specs.Moment.{moment_of};
 ghost use Rattle.nfs_model.specs.volume.Directories.{removed};
 ghost use Rattle.nfs_model.specs.volume.Inodes.{inode_set, inode_dropped};
 ghost use Rattle.nfs_model.specs.volume.Maps.{changed_at};
-ghost use Rattle.volume_logical.specs.inodes.Inode.{inode_value, kind_value};
-ghost use Rattle.parcels.specs.state.Names.{parent_in};
-ghost use Rattle.parcels.specs.state.Sets.{logical_before, logical_after};
-ghost use Rattle.parcels.specs.changes.NameAnswers.{entries_of};
-ghost use Rattle.parcels.specs.changes.NodesDropped.{
+ghost use Rattle.inodes.specs.Inode.{inode_value, kind_value};
+ghost use Rattle.filer_state.specs.state.Names.{parent_in};
+ghost use Rattle.filer_state.specs.state.Sets.{logical_before, logical_after};
+ghost use Rattle.filer_state.specs.changes.NameAnswers.{entries_of};
+ghost use Rattle.filer_state.specs.changes.NodesDropped.{
   directories_left,
   directory_left,
   node_dropped,
   without_subdirectories,
 };
-ghost use Rattle.parcels.specs.changes.NodesMade.{folders_in};
-ghost use Rattle.parcels.specs.changes.Dropping.{dropping_of, child_emptied, file_gone};
+ghost use Rattle.filer_state.specs.changes.NodesMade.{folders_in};
+ghost use Rattle.filer_state.specs.changes.Dropping.{dropping_of, child_emptied, file_gone};
 ghost use Rattle.service_names.specs.Changing.{inode_left, MayBeSet, with_directories, with_inodes};
 ghost use Rattle.service_names.specs.Naming.{node_value, naming_of};
 
@@ -26,10 +26,10 @@ use crate::cards::drop_cards;
 use crate::making::folders_in;
 use crate::node::Node;
 use crate::sizing::size_file;
+use filer_state::{Files, LogicalParcel};
+use inodes::{Inode, InodeKind, StoredAttributes};
 use nfs_values::{Fileid, Moment};
-use parcel_sets::LogicalHeld;
-use parcels::{Files, LogicalParcel};
-use volume_logical::inodes::{Inode, InodeKind, StoredAttributes};
+use parcels::LogicalHeld;
 
 /// Drops a file under a name of a directory, whose blocks are dead then, and tells the directory's
 /// inode. It takes no memory.

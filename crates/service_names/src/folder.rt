@@ -5,13 +5,13 @@ ghost use Rattle.std.specs.FinMap.{get};
 ghost use Rattle.nfs_model.specs.Types as types;
 ghost use Rattle.nfs_values.specs.Answer.{result_of};
 ghost use Rattle.nfs_model.specs.volume.Inodes as values;
-ghost use Rattle.volume_logical.specs.inodes.Inode.{inode_value};
-ghost use Rattle.parcels.specs.changes.NameAnswers.{on_folder};
+ghost use Rattle.inodes.specs.Inode.{inode_value};
+ghost use Rattle.filer_state.specs.changes.NameAnswers.{on_folder};
 
+use filer_state::Files;
+use inodes::{Inode, InodeKind};
 use nfs_values::{Fileid, Status};
-use parcel_sets::LogicalHeld;
-use parcels::Files;
-use volume_logical::inodes::{Inode, InodeKind};
+use parcels::LogicalHeld;
 
 /// The inode of a directory, and its parent: STALE where there is no node of the fileid, NOTDIR
 /// where it is a file.

@@ -3,17 +3,17 @@
 ghost use Rattle.std.specs.Prelude.{◌≡◌, ◌<◌, ◌≤◌, [], ◌∷◌, ◌++◌, length};
 ghost use Rattle.std.specs.Prelude.{IfOk, OnOk, OnErr};
 ghost use Rattle.nfs_model.specs.Serial.Readdir.{above_cookie, fitting};
-ghost use Rattle.volume_logical.specs.directories.Entries.{
+ghost use Rattle.directories.specs.Entries.{
   listed,
   page_told,
   page_value,
   page_behind,
 };
 ghost use Rattle.nfs_model.specs.volume.Directories.{page_of};
-ghost use Rattle.parcels.specs.changes.NameAnswers.{entries_of, is_bad_cookie};
-ghost use Rattle.parcels.specs.state.Lenses.{logical_lens};
-ghost use Rattle.parcels.specs.state.Promises.{HasVolume};
-ghost use Rattle.parcels.specs.state.Sets.{logical_before};
+ghost use Rattle.filer_state.specs.changes.NameAnswers.{entries_of, is_bad_cookie};
+ghost use Rattle.filer_state.specs.state.Lenses.{logical_lens};
+ghost use Rattle.filer_state.specs.state.Promises.{HasVolume};
+ghost use Rattle.filer_state.specs.state.Sets.{logical_before};
 ghost use Rattle.service_names.specs.Promises.{Lists};
 ghost use Rattle.service_names.specs.Listing.{
   dot_entry,
@@ -26,13 +26,13 @@ ghost use Rattle.service_names.specs.Listing.{
 use crate::folder::folder_at;
 use crate::naming::is_same_name;
 use crate::showing::shown;
+use directories::Page;
+use filer_state::Files;
 use nfs_values::{
     Cookie, DirectoryEntry, Fileid, Name, ReadDirectoryResults, Status, Verifier, VolumeNumber,
 };
-use parcel_sets::LogicalHeld;
-use parcels::Files;
+use parcels::LogicalHeld;
 use std::alloc::{AllocError, Global};
-use volume_logical::directories::Page;
 
 /// Larger counts of READDIR are taken as this.
 const COUNT_LIMIT: u32 = 65_536;

@@ -1,17 +1,17 @@
 //! LOOKUP.
 
 ghost use Rattle.std.specs.Prelude.{◌≡◌, []};
-ghost use Rattle.parcels.specs.state.Lenses.{logical_lens};
-ghost use Rattle.parcels.specs.state.Promises.{HasVolume};
-ghost use Rattle.parcels.specs.state.Sets.{logical_before};
+ghost use Rattle.filer_state.specs.state.Lenses.{logical_lens};
+ghost use Rattle.filer_state.specs.state.Promises.{HasVolume};
+ghost use Rattle.filer_state.specs.state.Sets.{logical_before};
 ghost use Rattle.service_names.specs.Promises.{LooksUp};
 
 use crate::folder::folder_at;
 use crate::naming::{fileid_named, name_fault};
 use crate::showing::{shown, shown_now};
+use filer_state::Files;
 use nfs_values::{FileHandle, Fileid, LookupResults, Named, Status, VolumeNumber};
-use parcel_sets::LogicalHeld;
-use parcels::Files;
+use parcels::LogicalHeld;
 
 /// LOOKUP (RFC 1813 section 3.3.3), on the parcels of a volume's names and attributes: STALE,
 /// NOTDIR, what is wrong with the name; the node that the name stands for in a directory, or NOENT

@@ -20,20 +20,20 @@ ghost use Rattle.std.specs.FinMap.{get, len};
 ghost use Rattle.nfs_model.specs.Server.{most_inodes};
 ghost use Rattle.nfs_values.specs.Answer.{node_made as made_told};
 ghost use Rattle.nfs_values.specs.Moment.{moment_of};
-ghost use Rattle.parcel_sets.specs.Filled.{logical_alike};
-ghost use Rattle.volume_logical.specs.inodes.Inode.{inode_value, kind_value};
+ghost use Rattle.parcels.specs.Filled.{logical_alike};
+ghost use Rattle.inodes.specs.Inode.{inode_value, kind_value};
 ghost use Rattle.nfs_model.specs.volume.Directories.{added, found};
 ghost use Rattle.nfs_model.specs.volume.Inodes.{filled_blocks, inode_created, inode_of, inode_set};
 ghost use Rattle.nfs_model.specs.volume.Maps.{changed_at};
-ghost use Rattle.parcels.specs.state.Names.{subdirectories_in};
-ghost use Rattle.parcels.specs.state.Sets.{logical_before, logical_after};
-ghost use Rattle.parcels.specs.changes.NodesMade.{
+ghost use Rattle.filer_state.specs.state.Names.{subdirectories_in};
+ghost use Rattle.filer_state.specs.state.Sets.{logical_before, logical_after};
+ghost use Rattle.filer_state.specs.changes.NodesMade.{
   directories_made,
   folders_in,
   node_made,
   with_subdirectories,
 };
-ghost use Rattle.parcels.specs.changes.Making.{held_made, making_of};
+ghost use Rattle.filer_state.specs.changes.Making.{held_made, making_of};
 ghost use Rattle.service_names.specs.Cards.{InFirst, DiffersByCard, HasCard, IsDropped};
 ghost use Rattle.service_names.specs.Changing.{with_directories, with_inodes};
 ghost use Rattle.service_names.specs.Making.{
@@ -50,12 +50,12 @@ use crate::child::directory_change;
 use crate::node::Node;
 use crate::showing::shown;
 use crate::within::Within;
+use directories::Directory;
+use filer_state::Files;
+use inodes::{Created, Inode, InodeKind, StoredAttributes};
 use nfs_values::{FileHandle, Fileid, MakeResults, Name, Named};
-use parcel_sets::LogicalHeld;
-use parcels::Files;
+use parcels::LogicalHeld;
 use std::alloc::{AllocError, Global};
-use volume_logical::directories::Directory;
-use volume_logical::inodes::{Created, Inode, InodeKind, StoredAttributes};
 
 /// Makes a node under a name of a directory, and tells it. Where memory runs out nothing has
 /// changed.

@@ -7,9 +7,9 @@ ghost use Rattle.nfs_values.specs.declared.answer.Answer.TheVariants.{Create, Ma
 ghost use Rattle.nfs_values.specs.Credential.{credential_of};
 ghost use Rattle.nfs_values.specs.Set.{mode_of, set_of};
 ghost use Rattle.nfs_values.specs.Status.{status_of};
-ghost use Rattle.parcel_sets.specs.Filled.{logical_alike};
-ghost use Rattle.parcels.specs.state.Sets.{logical_before, logical_after};
-ghost use Rattle.parcels.specs.changes.Making.{
+ghost use Rattle.parcels.specs.Filled.{logical_alike};
+ghost use Rattle.filer_state.specs.state.Sets.{logical_before, logical_after};
+ghost use Rattle.filer_state.specs.changes.Making.{
   create_by,
   create_check,
   is_full_set,
@@ -22,9 +22,9 @@ use crate::attributes::{has_bad_time, is_past};
 use crate::making::make_told;
 use crate::new_inodes::{asked_attributes, file_inode, folder_inode};
 use crate::within::Within;
+use filer_state::Files;
 use nfs_values::{CreateMode, Credential, MakeResults, SetAttributes, Status};
-use parcel_sets::LogicalHeld;
-use parcels::Files;
+use parcels::LogicalHeld;
 use std::alloc::{AllocError, Global};
 
 /// The most inodes of a volume.

@@ -5,12 +5,12 @@ ghost use Rattle.std.specs.List.{list_any};
 ghost use Rattle.std.specs.Option.{option_map};
 ghost use Rattle.nfs_model.specs.Names.{same_name, name_fault};
 ghost use Rattle.nfs_values.specs.Status.{status_of};
-ghost use Rattle.volume_logical.specs.directories.Index.{fileid_number};
-ghost use Rattle.parcels.specs.changes.NameAnswers.{entries_of, fileid_named};
+ghost use Rattle.directories.specs.Index.{fileid_number};
+ghost use Rattle.filer_state.specs.changes.NameAnswers.{entries_of, fileid_named};
 
+use filer_state::Files;
 use nfs_values::{Fileid, Status};
-use parcel_sets::LogicalHeld;
-use parcels::Files;
+use parcels::LogicalHeld;
 
 /// What is wrong with a name: NAMETOOLONG over 255 bytes; ACCES where it is empty, or has `/` or
 /// byte 0 (our profile).

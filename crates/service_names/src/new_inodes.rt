@@ -6,12 +6,12 @@ ghost use Rattle.nfs_model.specs.Serial.Create.{asked_attributes, kept_verifier,
 ghost use Rattle.nfs_values.specs.Credential.{credential_of};
 ghost use Rattle.nfs_values.specs.Moment.{moment_of};
 ghost use Rattle.nfs_values.specs.Set.{mode_of, set_of};
-ghost use Rattle.volume_logical.specs.inodes.Inode.{attributes_value, inode_value};
-ghost use Rattle.parcels.specs.changes.Making.{file_inode, folder_inode};
+ghost use Rattle.inodes.specs.Inode.{attributes_value, inode_value};
+ghost use Rattle.filer_state.specs.changes.Making.{file_inode, folder_inode};
 
 use crate::attributes::with_attributes;
+use inodes::{Inode, InodeKind, StoredAttributes};
 use nfs_values::{CreateMode, Credential, Fileid, Moment, SetAttributes, SetTime, Verifier};
-use volume_logical::inodes::{Inode, InodeKind, StoredAttributes};
 
 /// The mode of a new file where none is given (our profile).
 const FILE_MODE: u32 = 0o644;

@@ -1,7 +1,7 @@
 //! Nodes.
 
+use inodes::Inode;
 use nfs_values::Fileid;
-use volume_logical::inodes::Inode;
 
 /// A node of a volume.
 #[derive(Clone, Copy)]

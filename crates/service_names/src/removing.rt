@@ -2,31 +2,31 @@
 
 ghost use Rattle.std.specs.Prelude.{◌≡◌, ◌≤◌, ◌<◌, ◌^◌, [], Some};
 ghost use Rattle.std.specs.FinMap.{get};
-ghost use Rattle.parcel_sets.specs.Filled.{logical_alike};
+ghost use Rattle.parcels.specs.Filled.{logical_alike};
 ghost use Rattle.nfs_values.specs.Answer.{answer_of};
 ghost use Rattle.nfs_values.specs.Moment.{moment_of};
 ghost use Rattle.nfs_values.specs.declared.answer.Answer.TheVariants as answers;
-ghost use Rattle.parcels.specs.state.Lenses.{logical_lens};
-ghost use Rattle.parcels.specs.state.Promises.{HasVolume};
-ghost use Rattle.parcels.specs.state.Sets.{logical_before, logical_after};
-ghost use Rattle.volume_logical.specs.inodes.Inode.{kind_value};
-ghost use Rattle.parcels.specs.changes.NameAnswers.{entries_of};
-ghost use Rattle.parcels.specs.changes.Named.{node_under};
-ghost use Rattle.parcels.specs.changes.Dropping.{rmdir_kind};
+ghost use Rattle.filer_state.specs.state.Lenses.{logical_lens};
+ghost use Rattle.filer_state.specs.state.Promises.{HasVolume};
+ghost use Rattle.filer_state.specs.state.Sets.{logical_before, logical_after};
+ghost use Rattle.inodes.specs.Inode.{kind_value};
+ghost use Rattle.filer_state.specs.changes.NameAnswers.{entries_of};
+ghost use Rattle.filer_state.specs.changes.Named.{node_under};
+ghost use Rattle.filer_state.specs.changes.Dropping.{rmdir_kind};
 ghost use Rattle.service_names.specs.Naming.{naming_of, node_value};
 ghost use Rattle.service_names.specs.Promises.{Removes, RemovesDirectory};
 ghost use Rattle.service_names.specs.Shown.{HasFewLinks};
-ghost use Rattle.parcels.specs.changes.Laws.{remove_done, rmdir_done};
+ghost use Rattle.filer_state.specs.changes.Laws.{remove_done, rmdir_done};
 
 use crate::child::{child_at, directory_change, directory_named, is_dots, is_empty};
 use crate::dropping::{drop_file, drop_node};
 use crate::naming::is_same_name;
 use crate::node::Node;
+use filer_state::Files;
+use filer_state::changes::dropping_calls_are_right;
+use inodes::InodeKind;
 use nfs_values::{Change, Fileid, Moment, Status, VolumeNumber};
-use parcel_sets::LogicalHeld;
-use parcels::Files;
-use parcels::changes::dropping_calls_are_right;
-use volume_logical::inodes::InodeKind;
+use parcels::LogicalHeld;
 
 /// REMOVE (RFC 1813 section 3.3.12), on the parcels of a volume's names and attributes, at a
 /// moment: STALE, NOTDIR, what is wrong with the name, INVAL for `.` and `..`, NOENT, or ISDIR for

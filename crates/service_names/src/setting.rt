@@ -4,15 +4,15 @@ ghost use Rattle.std.specs.Prelude.{◌≡◌, []};
 ghost use Rattle.std.specs.Option.{option_map};
 ghost use Rattle.nfs_values.specs.Answer.{answer_of};
 ghost use Rattle.nfs_values.specs.declared.answer.Answer.TheVariants as answers;
-ghost use Rattle.parcels.specs.state.Lenses.{logical_lens};
-ghost use Rattle.parcels.specs.state.Promises.{HasVolume};
-ghost use Rattle.parcel_sets.specs.Filled.{logical_alike};
+ghost use Rattle.filer_state.specs.state.Lenses.{logical_lens};
+ghost use Rattle.filer_state.specs.state.Promises.{HasVolume};
+ghost use Rattle.parcels.specs.Filled.{logical_alike};
 ghost use Rattle.nfs_values.specs.Moment.{moment_of};
 ghost use Rattle.nfs_values.specs.Set.{set_of};
-ghost use Rattle.volume_logical.specs.inodes.Inode.{attributes_value, inode_value};
-ghost use Rattle.parcels.specs.changes.Attributes.{held_setattr, node_changed};
-ghost use Rattle.parcels.specs.state.Changes.{node_set};
-ghost use Rattle.parcels.specs.state.Sets.{logical_before, logical_after};
+ghost use Rattle.inodes.specs.Inode.{attributes_value, inode_value};
+ghost use Rattle.filer_state.specs.changes.Attributes.{held_setattr, node_changed};
+ghost use Rattle.filer_state.specs.state.Changes.{node_set};
+ghost use Rattle.filer_state.specs.state.Sets.{logical_before, logical_after};
 ghost use Rattle.service_names.specs.Promises.{SetsAttributes};
 ghost use Rattle.service_names.specs.Changing.{MayBeSet, with_value};
 
@@ -20,11 +20,11 @@ use crate::attributes::{attributes_now, set_fault, with_attributes};
 use crate::showing::{prior, shown, shown_now};
 use crate::sizing::{set_inode, size_file};
 use crate::touches::{latest_touch, take_touches};
+use filer_state::Files;
+use filer_state::changes::setting_calls_are_right;
+use inodes::{Inode, StoredAttributes};
 use nfs_values::{Change, Fileid, Moment, SetAttributes, Status, VolumeNumber};
-use parcel_sets::LogicalHeld;
-use parcels::Files;
-use parcels::changes::setting_calls_are_right;
-use volume_logical::inodes::{Inode, StoredAttributes};
+use parcels::LogicalHeld;
 
 /// SETATTR (RFC 1813 section 3.3.2), on the parcels of a volume's names and attributes, at a
 /// moment: STALE where there is no node of the fileid, NOT_SYNC where a guard is another ctime,

@@ -5,18 +5,18 @@ ghost use Rattle.std.specs.Option.{option_map};
 ghost use Rattle.nfs_model.specs.Shown.{before_of as before_shown};
 ghost use Rattle.nfs_values.specs.Attributes.{before_of, shown_of};
 ghost use Rattle.nfs_values.specs.Moment.{moment_of};
-ghost use Rattle.volume_logical.specs.inodes.Inode.{attributes_value, inode_value, kind_value};
+ghost use Rattle.inodes.specs.Inode.{attributes_value, inode_value, kind_value};
 ghost use Rattle.nfs_model.specs.volume.Inodes.{RegularFile};
-ghost use Rattle.parcels.specs.state.Changes.{shown_inode, shown_kind};
-ghost use Rattle.parcels.specs.state.Sets.{logical_before};
-ghost use Rattle.parcels.specs.state.Tree.{file_touch};
+ghost use Rattle.filer_state.specs.state.Changes.{shown_inode, shown_kind};
+ghost use Rattle.filer_state.specs.state.Sets.{logical_before};
+ghost use Rattle.filer_state.specs.state.Tree.{file_touch};
 ghost use Rattle.service_names.specs.Shown.{HasFewLinks};
 
 use crate::touches::latest_touch;
+use filer_state::Files;
+use inodes::{Inode, InodeKind, StoredAttributes};
 use nfs_values::{Attributes, FileKind, Fileid, Moment, PriorAttributes, VolumeNumber};
-use parcel_sets::LogicalHeld;
-use parcels::Files;
-use volume_logical::inodes::{Inode, InodeKind, StoredAttributes};
+use parcels::LogicalHeld;
 
 /// The attributes of a node of a volume (fattr3, RFC 1813 section 2.6). The stripes are asked for
 /// the latest touch of a file alone, since a directory has none.

@@ -1,18 +1,18 @@
 //! Files of a size set.
 
 ghost use Rattle.std.specs.Prelude.{◌≡◌, ◌<◌, ◌^◌, ◌-◌, ℕ, length};
-ghost use Rattle.parcel_sets.specs.Filled.{logical_alike};
-ghost use Rattle.volume_logical.specs.inodes.Inode.{attributes_value, inode_value, kind_value};
+ghost use Rattle.parcels.specs.Filled.{logical_alike};
+ghost use Rattle.inodes.specs.Inode.{attributes_value, inode_value, kind_value};
 ghost use Rattle.nfs_model.specs.volume.Inodes.{filled_blocks};
-ghost use Rattle.parcels.specs.changes.NodesSized.{all_freed, kind_sized, inode_sized, file_sized};
-ghost use Rattle.parcels.specs.state.Sets.{logical_before, logical_after};
+ghost use Rattle.filer_state.specs.changes.NodesSized.{all_freed, kind_sized, inode_sized, file_sized};
+ghost use Rattle.filer_state.specs.state.Sets.{logical_before, logical_after};
 ghost use Rattle.service_names.specs.Changing.{MayBeSet, sizing, with_inode};
 
 use crate::cutting::size_stripes;
+use filer_state::Files;
+use inodes::{Inode, InodeKind, StoredAttributes};
 use nfs_values::Fileid;
-use parcel_sets::LogicalHeld;
-use parcels::Files;
-use volume_logical::inodes::{Inode, InodeKind, StoredAttributes};
+use parcels::LogicalHeld;
 
 /// Sets a file to a size, cut or grown by a hole, and to attributes, and tells its inode; the
 /// blocks that leave it are dead. It takes no memory.

@@ -5,15 +5,15 @@ ghost use Rattle.std.specs.FinMap.{get};
 ghost use Rattle.std.specs.Option.{option_map};
 ghost use Rattle.nfs_model.specs.Shown.{moment_le, same_moment};
 ghost use Rattle.nfs_values.specs.Moment.{moment_of};
-ghost use Rattle.parcel_sets.specs.Filled.{logical_alike};
+ghost use Rattle.parcels.specs.Filled.{logical_alike};
 ghost use Rattle.nfs_model.specs.volume.Stripes.{touch_of, touch_taken};
-ghost use Rattle.parcels.specs.state.Changes.{touches_taken};
-ghost use Rattle.parcels.specs.state.Sets.{logical_before, logical_after, stripe_value};
-ghost use Rattle.parcels.specs.state.Tree.{file_touch, later};
+ghost use Rattle.filer_state.specs.state.Changes.{touches_taken};
+ghost use Rattle.filer_state.specs.state.Sets.{logical_before, logical_after, stripe_value};
+ghost use Rattle.filer_state.specs.state.Tree.{file_touch, later};
 
+use filer_state::Files;
 use nfs_values::{Fileid, Moment};
-use parcel_sets::{LogicalHeld, StripeHeld};
-use parcels::Files;
+use parcels::{LogicalHeld, StripeHeld};
 
 /// The latest touch of a file in the stripes of its volume.
 pub(crate) fn latest_touch(held: &LogicalHeld<Files>, fileid: Fileid) -> Option<Moment>

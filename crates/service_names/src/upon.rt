@@ -9,13 +9,13 @@ ghost use Rattle.nfs_values.specs.Answer.{answer_of, node_made as made_told};
 ghost use Rattle.nfs_values.specs.declared.answer.Answer.TheVariants.{Create};
 ghost use Rattle.nfs_values.specs.Moment.{moment_of};
 ghost use Rattle.nfs_values.specs.Set.{mode_of, set_of};
-ghost use Rattle.parcel_sets.specs.Filled.{logical_alike};
-ghost use Rattle.volume_logical.specs.inodes.Inode.{inode_value, kind_value};
-ghost use Rattle.parcels.specs.state.Changes.{shown_inode};
-ghost use Rattle.parcels.specs.state.Lenses.{LogicalSet};
-ghost use Rattle.parcels.specs.state.Sets.{logical_before, logical_after};
-ghost use Rattle.parcels.specs.changes.Making.{create_upon};
-ghost use Rattle.parcels.specs.changes.Named.{directory_change};
+ghost use Rattle.parcels.specs.Filled.{logical_alike};
+ghost use Rattle.inodes.specs.Inode.{inode_value, kind_value};
+ghost use Rattle.filer_state.specs.state.Changes.{shown_inode};
+ghost use Rattle.filer_state.specs.state.Lenses.{LogicalSet};
+ghost use Rattle.filer_state.specs.state.Sets.{logical_before, logical_after};
+ghost use Rattle.filer_state.specs.changes.Making.{create_upon};
+ghost use Rattle.filer_state.specs.changes.Named.{directory_change};
 ghost use Rattle.service_names.specs.Changing.{MayBeSet};
 ghost use Rattle.service_names.specs.Making.{naming_within};
 ghost use Rattle.service_names.specs.Naming.{node_value};
@@ -29,12 +29,12 @@ use crate::setting::set_node;
 use crate::showing::shown;
 use crate::touches::latest_touch;
 use crate::within::Within;
+use filer_state::Files;
+use inodes::InodeKind;
 use nfs_values::{
     CreateMode, FileHandle, MakeResults, Moment, Named, SetAttributes, Status, Verifier,
 };
-use parcel_sets::LogicalHeld;
-use parcels::Files;
-use volume_logical::inodes::InodeKind;
+use parcels::LogicalHeld;
 
 /// CREATE where the name is there: EXIST if it is guarded, or for a directory; an exclusive one
 /// answers the file of its verifier, and an unchecked one sets the file. It takes no memory.

@@ -1,7 +1,7 @@
 //! The directory of a call.
 
+use inodes::Inode;
 use nfs_values::{Fileid, Moment, VolumeNumber};
-use volume_logical::inodes::Inode;
 
 /// A directory in which a call makes a node, and the moment of the call.
 #[derive(Clone, Copy)]

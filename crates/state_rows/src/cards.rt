@@ -4,7 +4,7 @@ use crate::same::same;
 use nfs_values::{Fileid, Moment};
 use std::mem;
 use std::process::Abort;
-use stripes::cards::{Card, Cards};
+use stripe_cards::{Card, Cards};
 
 const FILE: Fileid = Fileid(2);
 

@@ -4,8 +4,8 @@ use crate::same::same;
 use nfs_values::{BlockNumber, Fileid, Moment, Verifier};
 use std::mem;
 use std::process::Abort;
+use stripe_cards::CardKind;
 use stripes::Stripe;
-use stripes::cards::CardKind;
 
 const FILE: Fileid = Fileid(2);
 

@@ -1,10 +1,10 @@
 //! Directories of one entry and of a thousand, and pages at their edges.
 
 use crate::same::same;
+use directories::Directory;
 use nfs_values::{Cookie, DirectoryEntry, Fileid, Name};
 use std::mem;
 use std::process::Abort;
-use volume_logical::directories::Directory;
 
 /// The last decimal digit of a number.
 fn digit(number: u64) -> u8 {

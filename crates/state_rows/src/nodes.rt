@@ -1,10 +1,10 @@
 //! Inodes made, changed and dropped, and as many as a volume has at most.
 
 use crate::same::same;
+use inodes::{Inode, InodeKind, Inodes, StoredAttributes};
 use nfs_values::{Fileid, Moment, Verifier};
 use std::mem;
 use std::process::Abort;
-use volume_logical::inodes::{Inode, InodeKind, Inodes, StoredAttributes};
 
 const MADE: Moment = Moment {
     seconds: 7,

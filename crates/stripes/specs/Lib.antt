@@ -1,3 +1,2 @@
 pub mod Bytes
 pub mod Spans
-pub mod cards

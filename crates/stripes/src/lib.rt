@@ -3,7 +3,6 @@
 
 mod block;
 mod blocks;
-pub mod cards;
 mod span;
 mod spans;
 mod stripe;

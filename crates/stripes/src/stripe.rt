@@ -43,13 +43,13 @@ ghost use Rattle.nfs_model.specs.volume.Stripes.{
   cut,
   numbers_freed,
 };
-ghost use Rattle.stripes.specs.cards.Cards.{card_of, card_set};
+ghost use Rattle.stripe_cards.specs.Cards.{card_of, card_set};
 
 use crate::blocks::Blocks;
-use crate::cards::{Card, CardKind, Cards};
 use nfs_values::{BlockNumber, Fileid, Moment, Verifier};
 use std::alloc::{AllocError, Global};
 use std::marker::Model;
+use stripe_cards::{Card, CardKind, Cards};
 
 /// A stripe of a volume: a card of each inode, and the blocks of the spans that lie in it.
 pub struct Stripe {

@@ -2,8 +2,8 @@
 
 use crate::holds::holds;
 use crate::layouts::two_volumes;
-use affinity_tree::homes::home_of;
-use affinity_tree::{Affinity, Layout};
+use affinity::homes::home_of;
+use affinity::{Affinity, Layout};
 use nfs_values::{
     BytesToWrite, Call, Cookie, CreateMode, FileHandle, Name, SetAttributes, SetTime, Target,
     Verifier, VolumeNumber,

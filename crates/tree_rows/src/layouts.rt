@@ -1,7 +1,7 @@
 //! Layouts at their limits, exclusion, names.
 
 use crate::holds::holds;
-use affinity_tree::{Affinity, AggregateSpec, Layout, VolumeSpec};
+use affinity::{Affinity, AggregateSpec, Layout, VolumeSpec};
 use std::mem;
 use std::process::Abort;
 

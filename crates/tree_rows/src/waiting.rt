@@ -1,12 +1,12 @@
 //! Messages found by affinity, and a thousand of them.
 
-ghost use Rattle.affinity_tree.specs.Affinity.{affinity_of};
-ghost use Rattle.affinity_tree.specs.scheduler.QueueNumber.{HasQueue};
+ghost use Rattle.affinity.specs.Affinity.{affinity_of};
+ghost use Rattle.scheduler.specs.QueueNumber.{HasQueue};
 
 use crate::holds::holds;
-use affinity_tree::Affinity;
-use affinity_tree::scheduler::{Message, NoSuchCall, Origin, Waiting};
+use affinity::Affinity;
 use nfs_values::{ConnectionNumber, Credential};
+use scheduler::{Message, NoSuchCall, Origin, Waiting};
 use std::mem;
 use std::process::Abort;
 

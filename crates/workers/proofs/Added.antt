@@ -1,21 +1,21 @@
 -- An entry that was added to a history did its deed on the parcels that the entries before it left.
 use Rattle.std.proofs.Common.{◌≡◌, ℕ, List, [], ◌∷◌, ◌++◌, length, Option, None, refl, sym, subst, arith}
 use Rattle.nfs_model.specs.Tree.{Layout, Affinity}
-use Rattle.affinity_tree.specs.Fault.{fault_of}
-use Rattle.affinity_tree.specs.Numbers.{number_of, parents}
-use Rattle.affinity_tree.specs.Tree.{IsNode}
-use Rattle.affinity_tree.specs.lemmas.Alike.{alike}
-use Rattle.depot.specs.declared.rule.view.Entry.{Entry}
-use Rattle.depot.specs.rule.History.{Legal, SoundThroughout, AreHands, after, put_in, listed}
-use Rattle.depot.specs.rule.Plays.{HasAdded}
-use Rattle.depot.specs.rule.lemmas.Histories.{moved-snoc, starts-itself}
-use Rattle.parcels.specs.state.Deeds.{ParcelsDo, FilerSteps}
-use Rattle.parcels.specs.state.Parcels.{FilerParcel}
-use Rattle.parcels.specs.state.Promises.{HandsMove}
-use Rattle.parcels.specs.state.Sound.{AreSound, AllSound, IsFiler}
-use Rattle.parcels.specs.laws.lemmas.Alike.{filer-same}
-use Rattle.parcels.specs.laws.lemmas.Lawful.{entry-does}
-use Rattle.parcels.specs.declared.files.Files.{Files}
+use Rattle.affinity.specs.Fault.{fault_of}
+use Rattle.affinity.specs.Numbers.{number_of, parents}
+use Rattle.affinity.specs.Tree.{IsNode}
+use Rattle.affinity.specs.lemmas.Alike.{alike}
+use Rattle.depot_rule.specs.declared.view.Entry.{Entry}
+use Rattle.depot_rule.specs.History.{Legal, SoundThroughout, AreHands, after, put_in, listed}
+use Rattle.depot_rule.specs.Plays.{HasAdded}
+use Rattle.depot_rule.specs.lemmas.Histories.{moved-snoc, starts-itself}
+use Rattle.filer_state.specs.state.Deeds.{ParcelsDo, FilerSteps}
+use Rattle.filer_state.specs.state.Parcels.{FilerParcel}
+use Rattle.filer_state.specs.state.Promises.{HandsMove}
+use Rattle.filer_state.specs.state.Sound.{AreSound, AllSound, IsFiler}
+use Rattle.filer_state.specs.laws.lemmas.Alike.{filer-same}
+use Rattle.filer_state.specs.laws.lemmas.Lawful.{entry-does}
+use Rattle.filer_state.specs.declared.files.Files.{Files}
 use Rattle.service.specs.Jobs.{job_of, job_reply_of, job_steps, job_takes, job_gives}
 use Rattle.workers.specs.Balance.{FilerView, FilerEntry}
 use Rattle.workers.specs.Carries.{left_by}

@@ -6,8 +6,8 @@ use Rattle.std.specs.FinSet.{FinSet}
 use Rattle.nfs_model.specs.Tree.{Layout}
 use Rattle.nfs_model.specs.Parts.{Parts, range_blocks, most_ranges, IsBatch}
 use Rattle.nfs_model.specs.Moves.{Carrying, batch, first_filled, lowest_batch, fresh_hand, dead_hand}
-use Rattle.affinity_tree.specs.Tree.{IsNode}
-use Rattle.parcels.specs.state.Jobs.{InnerCall, Fetch, Deliver, Cull, Free, Survey, JobReply, Took, Gave, Surveyed, Replied, inner_node, InnerMoves}
+use Rattle.affinity.specs.Tree.{IsNode}
+use Rattle.filer_state.specs.state.Jobs.{InnerCall, Fetch, Deliver, Cull, Free, Survey, JobReply, Took, Gave, Surveyed, Replied, inner_node, InnerMoves}
 use Rattle.workers.specs.Carries.{hand_after}
 use Rattle.workers.specs.Words.{IsHandIn}
 

@@ -3,15 +3,15 @@ use Rattle.std.proofs.Common.{◌≡◌, List, [], ◌∷◌, Option, refl, sym,
 use Rattle.std.specs.Prelude.{Result, Ok}
 use Rattle.nfs_model.specs.Tree.{Layout}
 use Rattle.nfs_model.specs.Parts.{Hand}
-use Rattle.affinity_tree.specs.Tree.{IsNode}
-use Rattle.depot.specs.rule.Sums.{total}
-use Rattle.depot.specs.rule.lemmas.Sums.{total-append}
-use Rattle.depot.specs.rule.lemmas.Histories.{moved-snoc}
-use Rattle.depot.specs.rule.History.{AreHands, entries_of}
-use Rattle.parcels.specs.state.Tree.{ranges_used}
-use Rattle.parcels.specs.state.Partition.{parts_of}
-use Rattle.parcels.specs.state.Jobs as jobs
-use Rattle.parcels.specs.state.Jobs.{InnerCall, JobReply, takes, gives, batches_in, inner_node}
+use Rattle.affinity.specs.Tree.{IsNode}
+use Rattle.depot_rule.specs.Sums.{total}
+use Rattle.depot_rule.specs.lemmas.Sums.{total-append}
+use Rattle.depot_rule.specs.lemmas.Histories.{moved-snoc}
+use Rattle.depot_rule.specs.History.{AreHands, entries_of}
+use Rattle.filer_state.specs.state.Tree.{ranges_used}
+use Rattle.filer_state.specs.state.Partition.{parts_of}
+use Rattle.filer_state.specs.state.Jobs as jobs
+use Rattle.filer_state.specs.state.Jobs.{InnerCall, JobReply, takes, gives, batches_in, inner_node}
 use Rattle.service.specs.Jobs.{job_of, job_reply_of, job_takes, job_gives}
 use Rattle.service.specs.declared.job.Job.{Job}
 use Rattle.service.specs.declared.job.Job.TheVariants.{Serve, Inner}

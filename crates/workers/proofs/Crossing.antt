@@ -5,9 +5,9 @@ use Rattle.std.proofs.Crossing.{crosses, Box-send}
 use Rattle.depot.proofs.depot.Depot.TheSendSync as depot
 use Rattle.depot.proofs.seats.Seat.TheSendSync as seat
 use Rattle.nfs_values.proofs.verifier.Verifier.TheSendSync as verifier
-use Rattle.parcel_sets.proofs.family.Parcel.TheSendSync as parcel
-use Rattle.parcels.proofs.range.RangeParcel.TheSendSync as range
-use Rattle.parcels.proofs.stripe.StripeParcel.TheSendSync as stripe
+use Rattle.parcels.proofs.family.Parcel.TheSendSync as parcel
+use Rattle.filer_state.proofs.range.RangeParcel.TheSendSync as range
+use Rattle.filer_state.proofs.stripe.StripeParcel.TheSendSync as stripe
 use Rattle.service.proofs.batch.BatchInHand.TheSendSync as batch
 use Rattle.service.proofs.job.Job.TheSendSync as job
 use Rattle.service.specs.contracts.job.Job as Job

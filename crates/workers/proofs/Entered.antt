@@ -4,9 +4,9 @@ use Rattle.nfs_model.specs.Tree.{Layout}
 use Rattle.nfs_values.specs.Reply.{reply_of}
 use Rattle.nfs_values.specs.declared.moment.Moment.{Moment}
 use Rattle.nfs_values.specs.declared.reply.Reply.{Reply}
-use Rattle.affinity_tree.specs.declared.scheduler.message.Origin.{Origin}
-use Rattle.affinity_tree.specs.Numbers.{number_of}
-use Rattle.parcel_sets.specs.Exact.{kind_in}
+use Rattle.scheduler.specs.declared.message.Origin.{Origin}
+use Rattle.affinity.specs.Numbers.{number_of}
+use Rattle.parcels.specs.Exact.{kind_in}
 use Rattle.depot.specs.Grants.{entry_of, IsFinished}
 use Rattle.desk.specs.laws.Backing.{CanFinish}
 use Rattle.outboxes.specs.Boxes.{Addressed, addressed}

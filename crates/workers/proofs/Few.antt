@@ -2,10 +2,10 @@
 use Rattle.std.proofs.Common.{◌≡◌, ◌≤◌, ◌+◌, ℕ, List, [], ◌∷◌, ◌++◌, length, length-append, Option, ap, arith}
 use Rattle.nfs_model.specs.Tree.{Layout, Affinity}
 use Rattle.nfs_values.specs.declared.moment.Moment.{Moment}
-use Rattle.affinity_tree.specs.Affinity.{affinity_of}
-use Rattle.affinity_tree.specs.Numbers.{number_of}
-use Rattle.parcel_sets.specs.Exact.{kind_in}
-use Rattle.depot.specs.rule.History.{entries_of}
+use Rattle.affinity.specs.Affinity.{affinity_of}
+use Rattle.affinity.specs.Numbers.{number_of}
+use Rattle.parcels.specs.Exact.{kind_in}
+use Rattle.depot_rule.specs.History.{entries_of}
 use Rattle.depot.specs.lemmas.Seats.{begun-entries, ended-entries, finished-entries}
 use Rattle.depot.specs.Grants.{entry_of}
 use Rattle.desk.specs.laws.Backing.{IsGranted}

@@ -1,17 +1,17 @@
 -- What a depot grants, as a run of a call needs it.
 use Rattle.std.proofs.Common.{◌≡◌, ℕ, ◌<◌, List, [], length, Option, sym, subst}
 use Rattle.nfs_model.specs.Tree.{Layout, Affinity}
-use Rattle.affinity_tree.specs.Ancestors.{Covers}
-use Rattle.affinity_tree.specs.Numbers.{number_of, parents}
-use Rattle.affinity_tree.specs.Tree.{IsNode}
-use Rattle.affinity_tree.specs.lemmas.Standing.{number-place}
-use Rattle.depot.specs.rule.History.{after, listed}
+use Rattle.affinity.specs.Ancestors.{Covers}
+use Rattle.affinity.specs.Numbers.{number_of, parents}
+use Rattle.affinity.specs.Tree.{IsNode}
+use Rattle.affinity.specs.lemmas.Standing.{number-place}
+use Rattle.depot_rule.specs.History.{after, listed}
 use Rattle.depot.specs.Grants.{IsAfter}
-use Rattle.parcels.specs.laws.lemmas.Granted.{filer-has}
-use Rattle.parcels.specs.state.Parcels.{FilerParcel}
-use Rattle.parcels.specs.state.Running.{HasFiler}
-use Rattle.parcels.specs.state.Sound.{IsFiler}
-use Rattle.parcels.specs.declared.files.Files.{Files}
+use Rattle.filer_state.specs.laws.lemmas.Granted.{filer-has}
+use Rattle.filer_state.specs.state.Parcels.{FilerParcel}
+use Rattle.filer_state.specs.state.Running.{HasFiler}
+use Rattle.filer_state.specs.state.Sound.{IsFiler}
+use Rattle.filer_state.specs.declared.files.Files.{Files}
 use Rattle.workers.specs.Balance.{FilerView}
 use Rattle.workers.specs.Turns.{filer_behaviour}
 use Rattle.workers.specs.lemmas.Covered.{covers-place}

@@ -2,31 +2,31 @@
 use Rattle.std.proofs.Common.{◌≡◌, ℕ, ◌<◌, List, [], ◌∷◌, ◌++◌, length, Option, Some, None, refl, sym, ap, ◌∙◌, subst, arith}
 use Rattle.nfs_model.specs.Tree.{Layout, Affinity}
 use Rattle.nfs_model.specs.Parts.{Hand, Empty}
-use Rattle.affinity_tree.specs.Affinity.{affinity_of}
-use Rattle.affinity_tree.specs.Fault.{fault_of}
-use Rattle.affinity_tree.specs.Numbers.{number_of, parents}
-use Rattle.affinity_tree.specs.Tree.{IsNode}
-use Rattle.affinity_tree.specs.lemmas.Alike.{alike}
-use Rattle.parcel_sets.specs.Exact.{kind_in}
-use Rattle.depot.specs.rule.Sums.{total}
-use Rattle.depot.specs.rule.History.{after, listed, entries_of, AreHands, SoundHistory}
-use Rattle.depot.specs.rule.Plays.{HasAdded}
+use Rattle.affinity.specs.Affinity.{affinity_of}
+use Rattle.affinity.specs.Fault.{fault_of}
+use Rattle.affinity.specs.Numbers.{number_of, parents}
+use Rattle.affinity.specs.Tree.{IsNode}
+use Rattle.affinity.specs.lemmas.Alike.{alike}
+use Rattle.parcels.specs.Exact.{kind_in}
+use Rattle.depot_rule.specs.Sums.{total}
+use Rattle.depot_rule.specs.History.{after, listed, entries_of, AreHands, SoundHistory}
+use Rattle.depot_rule.specs.Plays.{HasAdded}
 use Rattle.depot.specs.Grants.{entry_of, HasWith, IsBegun, IsAfter, IsStep, IsEnded, IsFinished, IsRefused}
 use Rattle.depot.specs.declared.grants.Refusal.{Refusal}
 use Rattle.depot.specs.declared.grants.Refusal.TheVariants as refusals
 use Rattle.depot.specs.lemmas.Seats.{begun-with, begun-entries, ended-entries, ended-none, finished-entries, finished-none}
 use Rattle.desk.specs.laws.Backing.{CanFinish, CanPutBack}
-use Rattle.parcels.specs.state.Contents.{VolumeContents, volume_at, contents_of, filer_contents}
-use Rattle.parcels.specs.state.Jobs as jobs
-use Rattle.parcels.specs.state.Jobs.{InnerCall, Fetch, Deliver, Cull, Free, Survey, gives, batches_in, inner_node, inner_volume}
-use Rattle.parcels.specs.state.Deeds.{FilerSteps}
-use Rattle.parcels.specs.state.Parcels.{FilerParcel}
-use Rattle.parcels.specs.state.Promises.{HandsMove}
-use Rattle.parcels.specs.state.Running.{HasFiler, IsRefusedIn, IsRefusedOn}
-use Rattle.parcels.specs.state.Sound.{AreSound, IsFiler}
-use Rattle.parcels.specs.laws.lemmas.Alike.{filer-same}
-use Rattle.parcels.specs.laws.lemmas.Each.{each-get}
-use Rattle.parcels.specs.declared.files.Files.{Files}
+use Rattle.filer_state.specs.state.Contents.{VolumeContents, volume_at, contents_of, filer_contents}
+use Rattle.filer_state.specs.state.Jobs as jobs
+use Rattle.filer_state.specs.state.Jobs.{InnerCall, Fetch, Deliver, Cull, Free, Survey, gives, batches_in, inner_node, inner_volume}
+use Rattle.filer_state.specs.state.Deeds.{FilerSteps}
+use Rattle.filer_state.specs.state.Parcels.{FilerParcel}
+use Rattle.filer_state.specs.state.Promises.{HandsMove}
+use Rattle.filer_state.specs.state.Running.{HasFiler, IsRefusedIn, IsRefusedOn}
+use Rattle.filer_state.specs.state.Sound.{AreSound, IsFiler}
+use Rattle.filer_state.specs.laws.lemmas.Alike.{filer-same}
+use Rattle.filer_state.specs.laws.lemmas.Each.{each-get}
+use Rattle.filer_state.specs.declared.files.Files.{Files}
 use Rattle.service.specs.Inner.{IsHandFor, MayLackMemory, InnerHasRun}
 use Rattle.service.specs.Jobs.{inner_of, job_reply_of, job_takes, job_gives}
 use Rattle.service.specs.declared.inner.InnerOutcome.{InnerOutcome}

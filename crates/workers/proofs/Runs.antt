@@ -6,13 +6,13 @@ use Rattle.nfs_values.specs.Moment.{moment_of}
 use Rattle.nfs_values.specs.declared.call.Call.{Call}
 use Rattle.nfs_values.specs.declared.credential.Credential.{Credential}
 use Rattle.nfs_values.specs.declared.moment.Moment.{Moment}
-use Rattle.parcel_sets.specs.Exact.{kind_in}
+use Rattle.parcels.specs.Exact.{kind_in}
 use Rattle.desk.specs.laws.Backing.{IsWhole, IsDone}
 use Rattle.nfs_values.specs.declared.reply.Refusal.TheVariants.{SystemError}
 use Rattle.nfs_values.specs.declared.reply.Reply.{Reply}
 use Rattle.nfs_values.specs.declared.reply.Reply.TheVariants.{Refused}
-use Rattle.affinity_tree.specs.declared.affinity.Affinity.{Affinity}
-use Rattle.affinity_tree.specs.Numbers.{number_of}
+use Rattle.affinity.specs.declared.affinity.Affinity.{Affinity}
+use Rattle.affinity.specs.Numbers.{number_of}
 use Rattle.depot.specs.Grants.{entry_of, IsFinished}
 use Rattle.desk.specs.laws.Backing.{CanFinish}
 use Rattle.service.specs.declared.job.Job.{Job}

@@ -9,26 +9,26 @@ use Rattle.nfs_values.specs.Moment.{moment_of}
 use Rattle.nfs_values.specs.Reply.{reply_of}
 use Rattle.nfs_values.specs.declared.moment.Moment.{Moment}
 use Rattle.nfs_values.specs.declared.reply.Reply.{Reply}
-use Rattle.affinity_tree.specs.declared.affinity.Affinity as codes
-use Rattle.affinity_tree.specs.Ancestors.{Covers}
-use Rattle.affinity_tree.specs.Affinity.{affinity_of}
-use Rattle.affinity_tree.specs.Fault.{fault_of}
-use Rattle.affinity_tree.specs.Numbers.{number_of, parents}
-use Rattle.affinity_tree.specs.Tree.{IsNode}
-use Rattle.parcel_sets.specs.Exact.{kind_in}
-use Rattle.depot.specs.rule.Shares.{Has}
-use Rattle.depot.specs.rule.History.{after, listed, entries_of, SoundHistory}
-use Rattle.depot.specs.rule.Plays.{HasAdded}
+use Rattle.affinity.specs.declared.affinity.Affinity as codes
+use Rattle.affinity.specs.Ancestors.{Covers}
+use Rattle.affinity.specs.Affinity.{affinity_of}
+use Rattle.affinity.specs.Fault.{fault_of}
+use Rattle.affinity.specs.Numbers.{number_of, parents}
+use Rattle.affinity.specs.Tree.{IsNode}
+use Rattle.parcels.specs.Exact.{kind_in}
+use Rattle.depot_rule.specs.Shares.{Has}
+use Rattle.depot_rule.specs.History.{after, listed, entries_of, SoundHistory}
+use Rattle.depot_rule.specs.Plays.{HasAdded}
 use Rattle.depot.specs.Grants.{entry_of, HasWith, IsBegun, IsAfter, IsStep, IsEnded, IsFinished, IsRefused}
 use Rattle.depot.specs.declared.grants.Refusal.{Refusal}
 use Rattle.depot.specs.declared.grants.Refusal.TheVariants as refusals
 use Rattle.depot.specs.lemmas.Seats.{begun-with, begun-entries, begun-hand, ended-entries, ended-none, finished-entries, finished-none}
 use Rattle.desk.specs.laws.Backing.{CanFinish, CanPutBack}
-use Rattle.parcels.specs.state.Jobs as jobs
-use Rattle.parcels.specs.state.Parcels.{FilerParcel}
-use Rattle.parcels.specs.state.Deeds.{FilerSteps}
-use Rattle.parcels.specs.state.Running.{Enters, finished_at}
-use Rattle.parcels.specs.declared.files.Files.{Files}
+use Rattle.filer_state.specs.state.Jobs as jobs
+use Rattle.filer_state.specs.state.Parcels.{FilerParcel}
+use Rattle.filer_state.specs.state.Deeds.{FilerSteps}
+use Rattle.filer_state.specs.state.Running.{Enters, finished_at}
+use Rattle.filer_state.specs.declared.files.Files.{Files}
 use Rattle.outboxes.specs.Boxes.{Addressed, addressed}
 use Rattle.outboxes.specs.Messages as replies
 use Rattle.outboxes.specs.Messages.{record_of}

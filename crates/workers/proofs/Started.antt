@@ -3,18 +3,18 @@ use Rattle.std.proofs.Common.{◌≡◌, ℕ, ◌+◌, zero, suc, List, [], leng
 use mathlib.Core.Option.{some, some-injective, some-ne-none}
 use lib.ListN.{get_elem?}
 use Rattle.nfs_model.specs.Tree.{Layout}
-use Rattle.affinity_tree.specs.Numbers.{number_of, parents, node_count}
-use Rattle.affinity_tree.specs.lemmas.Smaller.{length-parents}
-use Rattle.affinity_tree.specs.lemmas.Standing.{number-place}
-use Rattle.depot.specs.rule.History.{entries_of}
-use Rattle.depot.specs.rule.Seats.{fresh}
-use Rattle.depot.specs.rule.Shares.{Has}
-use Rattle.depot.specs.rule.Sums.{total}
-use Rattle.depot.specs.rule.lemmas.Listed.{by-number-at}
+use Rattle.affinity.specs.Numbers.{number_of, parents, node_count}
+use Rattle.affinity.specs.lemmas.Smaller.{length-parents}
+use Rattle.affinity.specs.lemmas.Standing.{number-place}
+use Rattle.depot_rule.specs.History.{entries_of}
+use Rattle.depot_rule.specs.Seats.{fresh}
+use Rattle.depot_rule.specs.Shares.{Has}
+use Rattle.depot_rule.specs.Sums.{total}
+use Rattle.depot_rule.specs.lemmas.Listed.{by-number-at}
 use Rattle.depot.specs.Words.{first_view}
-use Rattle.parcels.specs.state.Opening.{AreOpening}
-use Rattle.parcels.specs.state.Parcels.{FilerParcel}
-use Rattle.parcels.specs.declared.files.Files.{Files}
+use Rattle.filer_state.specs.state.Opening.{AreOpening}
+use Rattle.filer_state.specs.state.Parcels.{FilerParcel}
+use Rattle.filer_state.specs.declared.files.Files.{Files}
 use Rattle.workers.specs.Balance.{FilerView, Passed, by_key, by_entry, IsEven}
 use Rattle.workers.specs.Words.{HasOpened, HasDoneNothing, IsReady}
 

@@ -5,13 +5,13 @@ use Rattle.crossbeam_queue.specs.Fifo.{Held}
 use Rattle.nfs_model.specs.Parts.{Hand}
 use Rattle.nfs_model.specs.Tree as trees
 use Rattle.nfs_values.specs.declared.moment.Moment.{Moment}
-use Rattle.affinity_tree.specs.declared.layout.Layout.{Layout}
-use Rattle.affinity_tree.specs.Layout.{layout_of}
-use Rattle.depot.specs.declared.rule.view.Entry.{Entry}
-use Rattle.depot.specs.rule.Sums.{total}
-use Rattle.depot.specs.rule.lemmas.Sums.{total-append}
-use Rattle.depot.specs.rule.lemmas.Histories.{moved-snoc}
-use Rattle.depot.specs.rule.History.{AreHands, entries_of}
+use Rattle.affinity.specs.declared.layout.Layout.{Layout}
+use Rattle.affinity.specs.Layout.{layout_of}
+use Rattle.depot_rule.specs.declared.view.Entry.{Entry}
+use Rattle.depot_rule.specs.Sums.{total}
+use Rattle.depot_rule.specs.lemmas.Sums.{total-append}
+use Rattle.depot_rule.specs.lemmas.Histories.{moved-snoc}
+use Rattle.depot_rule.specs.History.{AreHands, entries_of}
 use Rattle.outboxes.specs.Boxes.{Addressed}
 use Rattle.service.specs.Jobs.{job_of, job_takes, job_gives}
 use Rattle.service.specs.declared.job.Job.{Job}
@@ -30,8 +30,8 @@ use Rattle.workers.specs.declared.turned.Turn.TheVariants as turns
 use Rattle.workers.specs.declared.worker.Worker.{Worker}
 use Rattle.depot.specs.Grants.{IsRefused}
 use Rattle.depot.specs.declared.grants.Refusal.TheVariants as refusals
-use Rattle.parcels.specs.state.Jobs as jobs
-use Rattle.parcels.specs.state.Jobs.{takes, gives}
+use Rattle.filer_state.specs.state.Jobs as jobs
+use Rattle.filer_state.specs.state.Jobs.{takes, gives}
 
 -- ---- the queue's layout
 

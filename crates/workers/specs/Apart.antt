@@ -1,8 +1,8 @@
 -- What a worker is made of.
 use Rattle.std.specs.Prelude.{◌≡◌}
 use Rattle.depot.specs.Words.{view, HasNoGrant}
-use Rattle.depot.specs.rule.History.{entries_of, AreHands}
-use Rattle.parcels.specs.state.Jobs.{batches_in}
+use Rattle.depot_rule.specs.History.{entries_of, AreHands}
+use Rattle.filer_state.specs.state.Jobs.{batches_in}
 use Rattle.service.specs.Jobs.{job_takes, job_gives}
 use Rattle.workers.specs.shared_waiting.Passes.{known}
 use Rattle.workers.specs.declared.parts.WorkerParts.{WorkerParts}

@@ -1,14 +1,14 @@
 -- What a worker's type keeps: each message that it picked was finished, put back or is kept.
 use Rattle.std.specs.Prelude.{◌≡◌, ℕ, ◌+◌, List, Option, Some, None}
-use Rattle.affinity_tree.specs.declared.layout.Layout.{Layout}
-use Rattle.depot.specs.declared.rule.view.View as seats
-use Rattle.depot.specs.declared.rule.view.Entry.{Entry}
-use Rattle.depot.specs.rule.Sums.{total}
+use Rattle.affinity.specs.declared.layout.Layout.{Layout}
+use Rattle.depot_rule.specs.declared.view.View as seats
+use Rattle.depot_rule.specs.declared.view.Entry.{Entry}
+use Rattle.depot_rule.specs.Sums.{total}
 use Rattle.nfs_model.specs.Types.{Asked, Ask}
 use Rattle.nfs_values.specs.Call.{call_of}
 use Rattle.nfs_values.specs.Credential.{credential_of}
-use Rattle.parcels.specs.state.Parcels.{FilerParcel}
-use Rattle.parcels.specs.declared.files.Files.{Files}
+use Rattle.filer_state.specs.state.Parcels.{FilerParcel}
+use Rattle.filer_state.specs.declared.files.Files.{Files}
 use Rattle.service.specs.Jobs.{asked_of}
 use Rattle.service.specs.declared.job.Job.{Job}
 use Rattle.service.specs.declared.job.Job.TheVariants.{Serve, Inner}

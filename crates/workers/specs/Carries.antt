@@ -2,24 +2,24 @@
 use Rattle.std.specs.Prelude.{◌≡◌, ℕ, List, [], ◌∷◌, ◌++◌, length, Option, Result, Ok, Err}
 use Rattle.nfs_model.specs.Tree.{Layout}
 use Rattle.nfs_model.specs.Parts.{Hand, Empty, batch_in}
-use Rattle.affinity_tree.specs.declared.affinity.Affinity as codes
-use Rattle.affinity_tree.specs.declared.affinity.Affinity.TheVariants as nodes
-use Rattle.affinity_tree.specs.Numbers.{number_of}
-use Rattle.affinity_tree.specs.Tree.{IsNode}
-use Rattle.parcel_sets.specs.Exact.{kind_in}
-use Rattle.depot.specs.rule.History.{after, put_in, listed, entries_of, AreHands}
-use Rattle.depot.specs.rule.Plays.{HasAdded}
+use Rattle.affinity.specs.declared.affinity.Affinity as codes
+use Rattle.affinity.specs.declared.affinity.Affinity.TheVariants as nodes
+use Rattle.affinity.specs.Numbers.{number_of}
+use Rattle.affinity.specs.Tree.{IsNode}
+use Rattle.parcels.specs.Exact.{kind_in}
+use Rattle.depot_rule.specs.History.{after, put_in, listed, entries_of, AreHands}
+use Rattle.depot_rule.specs.Plays.{HasAdded}
 use Rattle.depot.specs.Grants.{IsAfter, IsRefused}
 use Rattle.depot.specs.declared.grants.Refusal.{Refusal}
 use Rattle.depot.specs.declared.grants.Refusal.TheVariants as refusals
 use Rattle.desk.specs.laws.Backing.{IsWhole, IsGranted, IsDone}
-use Rattle.parcels.specs.state.Contents.{filer_contents}
-use Rattle.parcels.specs.state.Deeds.{DoesInner}
-use Rattle.parcels.specs.state.Jobs as jobs
-use Rattle.parcels.specs.state.Jobs.{InnerCall, JobReply, Took, Gave, gives, batches_in, inner_node}
-use Rattle.parcels.specs.state.Parcels.{FilerParcel}
-use Rattle.parcels.specs.state.Running.{IsRefusedIn}
-use Rattle.parcels.specs.declared.files.Files.{Files}
+use Rattle.filer_state.specs.state.Contents.{filer_contents}
+use Rattle.filer_state.specs.state.Deeds.{DoesInner}
+use Rattle.filer_state.specs.state.Jobs as jobs
+use Rattle.filer_state.specs.state.Jobs.{InnerCall, JobReply, Took, Gave, gives, batches_in, inner_node}
+use Rattle.filer_state.specs.state.Parcels.{FilerParcel}
+use Rattle.filer_state.specs.state.Running.{IsRefusedIn}
+use Rattle.filer_state.specs.declared.files.Files.{Files}
 use Rattle.service.specs.Inner.{IsHandFor, MayLackMemory, InnerHasRun}
 use Rattle.service.specs.Jobs.{job_of, job_reply_of, job_takes, job_gives}
 use Rattle.service.specs.declared.inner.InnerOutcome.{InnerOutcome}

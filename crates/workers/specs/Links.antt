@@ -5,10 +5,10 @@ use Rattle.nfs_model.specs.Tree.{Layout}
 use Rattle.nfs_values.specs.Reply.{reply_of}
 use Rattle.nfs_values.specs.declared.moment.Moment.{Moment}
 use Rattle.nfs_values.specs.declared.reply.Reply.{Reply}
-use Rattle.affinity_tree.specs.Affinity.{affinity_of}
-use Rattle.affinity_tree.specs.Numbers.{number_of, parents}
-use Rattle.parcel_sets.specs.Exact.{kind_in}
-use Rattle.depot.specs.declared.rule.view.Read.{Read}
+use Rattle.affinity.specs.Affinity.{affinity_of}
+use Rattle.affinity.specs.Numbers.{number_of, parents}
+use Rattle.parcels.specs.Exact.{kind_in}
+use Rattle.depot_rule.specs.declared.view.Read.{Read}
 use Rattle.depot.specs.Grants.{entry_of, HasRead, IsEnded, IsFinished}
 use Rattle.desk.specs.laws.Backing.{CanFinish, CanPutBack, IsGranted}
 use Rattle.outboxes.specs.Boxes.{Addressed, addressed}

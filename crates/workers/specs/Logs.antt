@@ -2,9 +2,9 @@
 use Rattle.std.specs.Prelude.{List, map}
 use Rattle.nfs_model.specs.Types.{Reply}
 use Rattle.nfs_model.specs.Replay.{FinishedCall}
-use Rattle.depot.specs.declared.rule.view.Entry.{Entry}
-use Rattle.parcels.specs.state.Jobs as jobs
-use Rattle.parcels.specs.state.Replayed.{calls_of, replies_of}
+use Rattle.depot_rule.specs.declared.view.Entry.{Entry}
+use Rattle.filer_state.specs.state.Jobs as jobs
+use Rattle.filer_state.specs.state.Replayed.{calls_of, replies_of}
 use Rattle.service.specs.Jobs.{job_of, job_reply_of}
 use Rattle.service.specs.declared.job.Job.{Job}
 use Rattle.service.specs.declared.job.JobReply.{JobReply}

@@ -5,12 +5,12 @@ use Rattle.nfs_values.specs.Call.{call_of}
 use Rattle.nfs_values.specs.declared.call.Call.{Call}
 use Rattle.nfs_values.specs.declared.call.Call.TheVariants as calls
 use Rattle.nfs_values.specs.declared.credential.Credential.{Credential}
-use Rattle.affinity_tree.specs.declared.affinity.Affinity.{Affinity}
-use Rattle.affinity_tree.specs.declared.affinity.Affinity.TheVariants as affinities
-use Rattle.affinity_tree.specs.declared.layout.Layout.{Layout}
-use Rattle.affinity_tree.specs.Affinity.{affinity_of}
-use Rattle.affinity_tree.specs.Layout.{layout_of}
-use Rattle.affinity_tree.specs.Tree.{IsNode}
+use Rattle.affinity.specs.declared.affinity.Affinity.{Affinity}
+use Rattle.affinity.specs.declared.affinity.Affinity.TheVariants as affinities
+use Rattle.affinity.specs.declared.layout.Layout.{Layout}
+use Rattle.affinity.specs.Affinity.{affinity_of}
+use Rattle.affinity.specs.Layout.{layout_of}
+use Rattle.affinity.specs.Tree.{IsNode}
 use Rattle.rpc_msg.specs.Room.{reply_room}
 use Rattle.service.specs.Running.{IsRunAt}
 use Rattle.service.specs.declared.job.Asked.{Asked}

@@ -3,8 +3,8 @@ use Rattle.std.specs.Prelude.{◌≡◌, ℕ, ◌*◌, ◌/◌, ◌%◌, ◌&&�
 use Rattle.nfs_model.specs.Tree.{Layout}
 use Rattle.nfs_model.specs.Parts.{Hand, Empty, Fresh, Dead, most_ranges, range_of}
 use Rattle.nfs_model.specs.Events.Refusals.{is_empty_hand}
-use Rattle.parcels.specs.state.Jobs as jobs
-use Rattle.parcels.specs.state.Jobs.{InnerCall, JobReply}
+use Rattle.filer_state.specs.state.Jobs as jobs
+use Rattle.filer_state.specs.state.Jobs.{InnerCall, JobReply}
 use Rattle.workers.specs.declared.message.Message.{Message}
 use Rattle.workers.specs.declared.tend.Tend.{Tend}
 use Rattle.workers.specs.declared.tend.Tend.TheVariants.{Fetch, Cull, PutDown}

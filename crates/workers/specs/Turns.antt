@@ -8,19 +8,19 @@ use Rattle.nfs_values.specs.Call.{call_of}
 use Rattle.nfs_values.specs.Credential.{credential_of}
 use Rattle.nfs_values.specs.Moment.{moment_of}
 use Rattle.nfs_values.specs.declared.moment.Moment.{Moment}
-use Rattle.affinity_tree.specs.declared.affinity.Affinity.{Affinity}
-use Rattle.affinity_tree.specs.Affinity.{affinity_of}
-use Rattle.affinity_tree.specs.Numbers.{number_of}
-use Rattle.depot.specs.rule.History.{Behaviour, behaviour, entries_of}
-use Rattle.depot.specs.rule.Plays.{HasAdded}
+use Rattle.affinity.specs.declared.affinity.Affinity.{Affinity}
+use Rattle.affinity.specs.Affinity.{affinity_of}
+use Rattle.affinity.specs.Numbers.{number_of}
+use Rattle.depot_rule.specs.History.{Behaviour, behaviour, entries_of}
+use Rattle.depot_rule.specs.Plays.{HasAdded}
 use Rattle.depot.specs.Grants.{IsBegun, IsAfter, IsEnded, IsRefused}
 use Rattle.depot.specs.declared.grants.Refusal.{Refusal}
 use Rattle.depot.specs.declared.grants.Refusal.TheVariants as refusals
-use Rattle.parcels.specs.state.Jobs as jobs
-use Rattle.parcels.specs.state.Parcels.{FilerParcel}
-use Rattle.parcels.specs.state.Running.{MovesTo}
-use Rattle.parcels.specs.state.Sound.{IsFiler}
-use Rattle.parcels.specs.declared.files.Files.{Files}
+use Rattle.filer_state.specs.state.Jobs as jobs
+use Rattle.filer_state.specs.state.Parcels.{FilerParcel}
+use Rattle.filer_state.specs.state.Running.{MovesTo}
+use Rattle.filer_state.specs.state.Sound.{IsFiler}
+use Rattle.filer_state.specs.declared.files.Files.{Files}
 use Rattle.outboxes.specs.Boxes.{Addressed}
 use Rattle.service.specs.Jobs.{job_steps, job_takes, job_gives, job_reply_of}
 use Rattle.service.specs.declared.job.Asked.TheVariants.{Call}

@@ -3,17 +3,17 @@ use Rattle.std.specs.Prelude.{◌≡◌, ◌+◌, ◌<◌, ℕ, List, [], length
 use Rattle.nfs_model.specs.Tree as trees
 use Rattle.nfs_model.specs.Tree.{Logical, Range}
 use Rattle.nfs_model.specs.Parts.{Hand, Empty, Fresh, Dead, range_of}
-use Rattle.affinity_tree.specs.declared.layout.Layout.{Layout}
-use Rattle.affinity_tree.specs.Layout.{layout_of}
-use Rattle.affinity_tree.specs.Tree.{IsNode}
-use Rattle.depot.specs.declared.rule.view.View.{View}
-use Rattle.depot.specs.rule.History.{listed, entries_of}
-use Rattle.depot.specs.rule.Shares.{Has}
+use Rattle.affinity.specs.declared.layout.Layout.{Layout}
+use Rattle.affinity.specs.Layout.{layout_of}
+use Rattle.affinity.specs.Tree.{IsNode}
+use Rattle.depot_rule.specs.declared.view.View.{View}
+use Rattle.depot_rule.specs.History.{listed, entries_of}
+use Rattle.depot_rule.specs.Shares.{Has}
 use Rattle.depot.specs.Words as depots
 use Rattle.depot.specs.Words.{IsSeatHere}
-use Rattle.parcels.specs.state.Opening.{AreOpening}
-use Rattle.parcels.specs.state.Parcels.{FilerParcel}
-use Rattle.parcels.specs.declared.files.Files.{Files}
+use Rattle.filer_state.specs.state.Opening.{AreOpening}
+use Rattle.filer_state.specs.state.Parcels.{FilerParcel}
+use Rattle.filer_state.specs.declared.files.Files.{Files}
 use Rattle.workers.specs.declared.shared_waiting.pass.SharedWaiting.{SharedWaiting}
 use Rattle.workers.specs.shared_waiting.Passes as passes
 use Rattle.workers.specs.shared_waiting.Passes.{IsOf}

@@ -3,7 +3,7 @@
 ghost use Rattle.std.specs.Prelude.{List, [], ◌∷◌, ◌++◌};
 ghost use Rattle.outboxes.specs.Boxes.{Addressed};
 
-use affinity_tree::Affinity;
+use affinity::Affinity;
 use outboxes::{Answer, Outboxes};
 use std::sync::atomic::{AtomicBool, Ordering};
 

@@ -19,14 +19,14 @@ use crate::shared::Filer;
 use crate::shared_waiting::{Pass, SharedWaiting};
 use crate::telling::{forget, starved};
 use crate::turned::Gate;
-use affinity_tree::{Kind, Layout};
+use affinity::{Kind, Layout};
 use depot::{Refusal, Seat};
 use desk::{NodeGrant, ParcelKinds, TaskNode};
+use filer_state::Files;
 use nfs_values::Moment;
-use parcel_sets::{
+use parcels::{
     AggregateNode, LogicalNode, Parcel, RangeNode, SerialNode, StripeNode, VbnNode, VolumeNode,
 };
-use parcels::Files;
 use rpc_msg::{replies_fit, servers_are_roomy};
 use service::{JobReply, Service};
 use std::sync::Wait;

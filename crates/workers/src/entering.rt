@@ -12,9 +12,9 @@ ghost use Rattle.workers.specs.Turns.{job_of_message};
 
 use crate::envelope::Envelope;
 use crate::telling::let_go;
-use affinity_tree::scheduler::Origin;
 use nfs_values::Moment;
 use outboxes::{Answer, Room};
+use scheduler::Origin;
 use service::{Job, JobReply};
 
 /// The call of an entry, and what its answer needs.

@@ -5,10 +5,10 @@ ghost use Rattle.workers.specs.Messages.{readdressed};
 
 use crate::message::Message;
 use crate::shared_waiting::Fitting;
-use affinity_tree::scheduler::Origin;
-use affinity_tree::{Affinity, Layout};
+use affinity::{Affinity, Layout};
 use nfs_values::{Call, Credential, Moment};
 use outboxes::Room;
+use scheduler::Origin;
 use service::{Asked, Job, ServedCall};
 use std::alloc::{AllocError, Global};
 use std::marker::Model;

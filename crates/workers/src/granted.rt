@@ -5,8 +5,8 @@ ghost use Rattle.depot.specs.Grants.{IsRefused};
 ghost use Rattle.depot.specs.Words.{view, splits_left, IsNodeOf, IsSeatHere};
 ghost use Rattle.desk.specs.Any.{node_lent};
 ghost use Rattle.desk.specs.laws.Backing.{IsGranted};
-ghost use Rattle.parcel_sets.specs.Exact.{kind_in};
-ghost use Rattle.affinity_tree.specs.Affinity.{affinity_of};
+ghost use Rattle.parcels.specs.Exact.{kind_in};
+ghost use Rattle.affinity.specs.Affinity.{affinity_of};
 ghost use Rattle.workers.specs.Messages.{IsPlaced};
 ghost use Rattle.workers.specs.Runs.{HasRunTo, HasRunInto, IsLentFor};
 ghost use Rattle.workers.specs.Turns.{filer_behaviour};
@@ -16,13 +16,13 @@ use crate::envelope::Envelope;
 use crate::shared::Filer;
 use crate::telling::{tell, tell_starved};
 use crate::turned::{Gate, Place, Stage};
-use affinity_tree::Affinity;
-use affinity_tree::scheduler::Origin;
+use affinity::Affinity;
 use depot::{Refusal, Seat};
 use desk::{NodeGrant, ParcelKinds, TaskNode, begin_node, work_node};
+use filer_state::Files;
 use nfs_values::Moment;
-use parcel_sets::Parcel;
-use parcels::Files;
+use parcels::Parcel;
+use scheduler::Origin;
 use service::{JobReply, Outcome, Run, Service};
 
 /// The call of a record at a stage.

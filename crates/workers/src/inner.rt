@@ -11,11 +11,11 @@ ghost use Rattle.workers.specs.Words.{layout_in, verifier_in, IsReady};
 use crate::granted::Ran;
 use crate::shared::Filer;
 use crate::tend::{Carried, TendRefusal};
-use affinity_tree::{Affinity, Kind};
+use affinity::{Affinity, Kind};
 use depot::{Refusal, Seat};
 use desk::{NodeGrant, ParcelKinds, TaskNode, begin_node, finish_node, put_back_node, work_node};
-use parcel_sets::{Hand, LogicalNode, Parcel, RangeNode, VbnNode};
-use parcels::Files;
+use filer_state::Files;
+use parcels::{Hand, LogicalNode, Parcel, RangeNode, VbnNode};
 use service::{BatchInHand, InnerCall, InnerOutcome, Job, RunInner, Service};
 
 /// The node under which an inner call runs.

@@ -2,7 +2,7 @@
 
 ghost use Rattle.std.specs.Prelude.{◌≡◌, true, false, length, Some, IfSome};
 ghost use Rattle.nfs_model.specs.Tree as trees;
-ghost use Rattle.parcel_sets.specs.Exact.{kind_in};
+ghost use Rattle.parcels.specs.Exact.{kind_in};
 ghost use Rattle.depot.specs.Grants.{IsLast};
 ghost use Rattle.depot.specs.Words.{view, splits_left, IsSeatHere};
 ghost use Rattle.desk.specs.Any.{node_lent};
@@ -23,12 +23,12 @@ use crate::granted::{Ended, place_of, run_on};
 use crate::shared::Filer;
 use crate::shared_waiting::{Pass, SharedWaiting};
 use crate::turned::{Gate, Stage};
-use affinity_tree::{Affinity, Layout};
+use affinity::{Affinity, Layout};
 use depot::Seat;
 use desk::{NodeGrant, ParcelKinds, TaskNode, finish_node, go_on_node, put_back_node};
+use filer_state::Files;
 use nfs_values::Moment;
-use parcel_sets::{Node, Parcel};
-use parcels::Files;
+use parcels::{Node, Parcel};
 use rpc_msg::{replies_fit, servers_are_roomy};
 use service::{JobReply, Service};
 use std::sync::Wait;

@@ -5,18 +5,18 @@ use crate::opening::open;
 use crate::shared::Filer;
 use crate::shared_waiting::{Pass, SharedWaiting};
 use crate::worker::Worker;
-use affinity_tree::Layout;
+use affinity::Layout;
 use depot::{Depot, Seat};
 use nfs_values::Verifier;
 use outboxes::Outboxes;
-use parcel_sets::Hand;
+use parcels::Hand;
 use service::{BatchInHand, Service};
 use std::alloc::{AllocError, Global};
 use std::sync::Mutex;
 
 impl Filer {
     ghost use Rattle.std.specs.Prelude.{◌≡◌, Some, IfOk};
-    ghost use Rattle.affinity_tree.specs.Layout.{layout_of};
+    ghost use Rattle.affinity.specs.Layout.{layout_of};
     ghost use Rattle.depot.specs.Words.{view, splits_left, IsSeatHere};
     ghost use Rattle.workers.specs.shared_waiting.Balance.{IsWhole};
     ghost use Rattle.workers.specs.shared_waiting.Passes.{known, IsOf};
@@ -69,7 +69,7 @@ impl Filer {
 impl Worker {
     ghost use Rattle.std.specs.Prelude.{◌≡◌, [], None};
     ghost use Rattle.depot.specs.Words.{view, HasNoGrant};
-    ghost use Rattle.depot.specs.rule.History.{entries_of, AreHands};
+    ghost use Rattle.depot_rule.specs.History.{entries_of, AreHands};
     ghost use Rattle.nfs_model.specs.Parts as parts;
     ghost use Rattle.service.specs.Jobs.{job_takes, job_gives};
     ghost use Rattle.workers.specs.shared_waiting.Passes.{known};

@@ -1,9 +1,9 @@
 //! Messages to workers.
 
-use affinity_tree::Affinity;
-use affinity_tree::scheduler::Origin;
+use affinity::Affinity;
 use nfs_values::{Call, Credential};
 use outboxes::Room;
+use scheduler::Origin;
 
 /// A call that waits for a worker, and the room of its reply. In a queue of a layout it tries a
 /// node at which its call is run, and its reply fits its room.

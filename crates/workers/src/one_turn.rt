@@ -8,7 +8,7 @@ use crate::shared::Filer;
 use crate::shared_waiting::SharedWaiting;
 use crate::turned::{Gate, Served, Turn};
 use crate::worker::Worker;
-use affinity_tree::Layout;
+use affinity::Layout;
 use depot::Refusal;
 use nfs_values::Moment;
 use std::sync::Wait;

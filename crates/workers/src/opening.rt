@@ -1,7 +1,7 @@
 //! A filer at the start.
 
 ghost use Rattle.std.specs.Prelude.{◌≡◌, Some, IfOk};
-ghost use Rattle.affinity_tree.specs.Layout.{layout_of};
+ghost use Rattle.affinity.specs.Layout.{layout_of};
 ghost use Rattle.depot.specs.Words.{view, splits_left, IsSeatHere};
 ghost use Rattle.workers.specs.shared_waiting.Balance.{IsWhole};
 ghost use Rattle.workers.specs.shared_waiting.Passes.{known, IsOf};
@@ -11,12 +11,12 @@ ghost use Rattle.workers.specs.Words.{HasDoneNothing, IsReady};
 use crate::envelope::Envelope;
 use crate::shared::Filer;
 use crate::shared_waiting::{Pass, SharedWaiting};
-use affinity_tree::Layout;
+use affinity::Layout;
 use depot::{Depot, Seat};
+use filer_state::opening_parcels;
 use nfs_values::Verifier;
 use outboxes::Outboxes;
-use parcel_sets::SerialNode;
-use parcels::opening_parcels;
+use parcels::SerialNode;
 use service::Service;
 use std::alloc::{AllocError, Global};
 use std::sync::Mutex;

@@ -2,7 +2,7 @@
 
 use crate::envelope::Envelope;
 use crate::shared_waiting::Pass;
-use affinity_tree::Layout;
+use affinity::Layout;
 use depot::Seat;
 use service::{BatchInHand, Service};
 

@@ -11,7 +11,7 @@ ghost use Rattle.workers.specs.Words.{layout_known};
 
 use crate::envelope::Envelope;
 use crate::shared_waiting::{Pass, SharedWaiting};
-use affinity_tree::Layout;
+use affinity::Layout;
 use std::sync::Wait;
 
 /// The message that is kept, or else the one that waits longest.

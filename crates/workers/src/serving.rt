@@ -1,10 +1,10 @@
 //! A message on a seat, from begin to end.
 
 ghost use Rattle.std.specs.Prelude.{◌≡◌, ◌≤◌, length};
-ghost use Rattle.affinity_tree.specs.Numbers.{number_of};
+ghost use Rattle.affinity.specs.Numbers.{number_of};
 ghost use Rattle.nfs_values.specs.Reply.{reply_of};
 ghost use Rattle.nfs_values.specs.declared.reply.Reply.{Reply};
-ghost use Rattle.parcel_sets.specs.Exact.{kind_in};
+ghost use Rattle.parcels.specs.Exact.{kind_in};
 ghost use Rattle.depot.specs.Grants.{entry_of, IsFinished};
 ghost use Rattle.depot.specs.Words.{view, splits_left, IsNodeOf, IsSeatHere};
 ghost use Rattle.desk.specs.Any.{node_lent};
@@ -24,16 +24,16 @@ use crate::linking::has_eight;
 use crate::shared::Filer;
 use crate::telling::starved;
 use crate::turned::{Gate, Served, Stage};
-use affinity_tree::Kind;
+use affinity::Kind;
 use depot::Seat;
 use desk::{NodeGrant, ParcelKinds, TaskNode, finish_node, put_back_node};
+use filer_state::Files;
 use nfs_values::Moment;
 use outboxes::Answer;
-use parcel_sets::{
+use parcels::{
     AggregateNode, LogicalNode, Node, Parcel, RangeNode, SerialNode, StripeNode, VbnNode,
     VolumeNode,
 };
-use parcels::Files;
 use rpc_msg::{replies_fit, servers_are_roomy};
 use service::{JobReply, Service};
 

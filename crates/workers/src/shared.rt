@@ -2,7 +2,7 @@
 
 use crate::envelope::Envelope;
 use crate::shared_waiting::SharedWaiting;
-use affinity_tree::Layout;
+use affinity::Layout;
 use depot::Depot;
 use nfs_values::Verifier;
 use outboxes::Outboxes;

@@ -4,7 +4,7 @@ use crate::envelope::Envelope;
 use crate::shared::Filer;
 use crate::shared_waiting::{Pass, SharedWaiting};
 use crate::worker::Worker;
-use affinity_tree::Layout;
+use affinity::Layout;
 use depot::Seat;
 use service::Service;
 

@@ -2,7 +2,7 @@
 
 ghost use Rattle.std.specs.Prelude.{◌≡◌};
 
-use affinity_tree::Affinity;
+use affinity::Affinity;
 use nfs_values::VolumeNumber;
 use service::{BatchInHand, JobReply};
 

@@ -1,7 +1,7 @@
 //! What a worker does without a message.
 
 ghost use Rattle.std.specs.Prelude.{◌≡◌, length, nat_lt, Ok, Err, MatchResult};
-ghost use Rattle.affinity_tree.specs.Layout.{layout_of};
+ghost use Rattle.affinity.specs.Layout.{layout_of};
 ghost use Rattle.nfs_model.specs.Events.Refusals.{is_empty_hand};
 ghost use Rattle.nfs_model.specs.Parts.{batch_in};
 ghost use Rattle.service.specs.Jobs.{inner_of, job_reply_of};
@@ -14,9 +14,9 @@ use crate::shared::Filer;
 use crate::shared_waiting::SharedWaiting;
 use crate::tend::{Carried, Tend, TendRefusal, Tended};
 use crate::worker::Worker;
-use affinity_tree::Layout;
+use affinity::Layout;
 use nfs_values::VolumeNumber;
-use parcel_sets::Hand;
+use parcels::Hand;
 use service::{BatchInHand, InnerCall, JobReply};
 
 /// The ranges of a volume, in use or not.

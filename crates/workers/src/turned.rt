@@ -1,7 +1,7 @@
 //! What comes of turns, and who looks on.
 
 use crate::envelope::Envelope;
-use affinity_tree::Affinity;
+use affinity::Affinity;
 use depot::Refusal;
 use nfs_values::ConnectionNumber;
 use outboxes::Answer;

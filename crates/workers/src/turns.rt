@@ -7,7 +7,7 @@ use crate::shared::Filer;
 use crate::shared_waiting::{Pass, SharedWaiting};
 use crate::turned::Gate;
 use crate::worker::Worker;
-use affinity_tree::Layout;
+use affinity::Layout;
 use nfs_values::Moment;
 use std::sync::Wait;
 

@@ -1,6 +1,6 @@
 //! What comes of turns whose answers were put.
 
-use affinity_tree::Affinity;
+use affinity::Affinity;
 use nfs_values::ConnectionNumber;
 
 /// What came of a turn whose answer, if there was one, was put into the outboxes.

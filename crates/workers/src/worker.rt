@@ -1,8 +1,8 @@
 //! A worker.
 
-ghost use Rattle.parcels.specs.state.Jobs.{batches_in};
+ghost use Rattle.filer_state.specs.state.Jobs.{batches_in};
 ghost use Rattle.depot.specs.Words.{view, HasNoGrant};
-ghost use Rattle.depot.specs.rule.History.{entries_of, AreHands};
+ghost use Rattle.depot_rule.specs.History.{entries_of, AreHands};
 ghost use Rattle.service.specs.Jobs.{job_takes, job_gives};
 ghost use Rattle.workers.specs.shared_waiting.Passes.{known};
 ghost use Rattle.workers.specs.Balance.{IsEven};
@@ -18,11 +18,11 @@ use crate::shared_waiting::{Pass, SharedWaiting};
 use crate::tend::{TendRefusal, Tended};
 use crate::tending::answer;
 use crate::turned::{Gate, Turn};
-use affinity_tree::Layout;
+use affinity::Layout;
 use depot::Seat;
 use nfs_laws::laws::batches_are_of_one_range;
 use nfs_values::Moment;
-use parcel_sets::Hand;
+use parcels::Hand;
 use service::{BatchInHand, InnerCall, Service};
 use std::mem;
 use std::sync::Wait;

@@ -4,7 +4,7 @@ use crate::calls::measured::{Measured, make_call, make_file};
 use crate::calls::serving::{Server, opened};
 use crate::printing::print_figures;
 use crate::rates::per_second;
-use affinity_tree::VolumeSpec;
+use affinity::VolumeSpec;
 use std::io;
 use std::rt::Clock;
 use std::time::Instant;

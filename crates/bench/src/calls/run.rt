@@ -6,7 +6,7 @@ use crate::calls::names;
 use crate::calls::records::GETATTR;
 use crate::calls::serving::{LARGEST, Server, opened};
 use crate::printing::print_figures;
-use affinity_tree::VolumeSpec;
+use affinity::VolumeSpec;
 use engine::Event;
 use nfs_values::{ConnectionNumber, Moment, WorkerNumber};
 use std::io;

@@ -2,7 +2,7 @@
 
 ghost use Rattle.std.specs.Prelude.{◌≤◌};
 
-use affinity_tree::{AggregateSpec, Layout, VolumeSpec};
+use affinity::{AggregateSpec, Layout, VolumeSpec};
 use engine::{Engine, Event};
 use std::alloc::{AllocError, Global};
 

@@ -4,13 +4,13 @@ ghost use Rattle.std.specs.Prelude.{IsTrue, min};
 ghost use Rattle.service_data.specs.Promises.{LieInOneSpan};
 
 use crate::work::Work;
+use filer_state::{Files, StripeParcel};
 use nfs_values::{BlockNumber, Fileid, Moment, Verifier};
-use parcel_sets::StripeHeld;
-use parcels::{Files, StripeParcel};
+use parcels::StripeHeld;
 use service_data::{read_in_stripe, write_in_stripe};
 use std::alloc::{AllocError, Global};
+use stripe_cards::CardKind;
 use stripes::Stripe;
-use stripes::cards::CardKind;
 
 /// The bytes of the file.
 pub(crate) const FILE_BYTES: usize = 16_777_216;

@@ -4,10 +4,10 @@ ghost use Rattle.std.specs.Prelude.{◌≤◌};
 ghost use Rattle.depot.specs.Words.{IsSeatHere};
 
 use crate::rates::per_second;
-use affinity_tree::{Affinity, Kind};
+use affinity::{Affinity, Kind};
 use depot::trial::adding::{Adding, open, split, touches};
 use depot::{Depot, Seat};
-use parcel_sets::{LogicalNode, StripeNode};
+use parcels::{LogicalNode, StripeNode};
 use std::alloc::AllocError;
 use std::rt::Clock;
 use std::thread::Threads;

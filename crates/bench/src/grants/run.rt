@@ -4,7 +4,7 @@ use crate::grants::crew::{Crew, NAMES, STRIPES, depot_pass};
 use crate::grants::lock::additions;
 use crate::printing::{print_figures, print_ratio};
 use crate::rates::per_second;
-use affinity_tree::Affinity;
+use affinity::Affinity;
 use std::io;
 use std::rt::Clock;
 use std::sync::{Mutex, Wait};

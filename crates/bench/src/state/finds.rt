@@ -3,9 +3,9 @@
 ghost use Rattle.std.specs.Prelude.{◌<◌};
 
 use crate::work::Work;
+use directories::Directory;
 use nfs_values::{Fileid, Name};
 use std::alloc::{AllocError, Global};
-use volume_logical::directories::Directory;
 
 /// How many names a pass has.
 const NAMES: u32 = 65_000;

@@ -1,9 +1,9 @@
 //! Inodes by fileid.
 
 use crate::work::Work;
+use inodes::{Inode, InodeKind, Inodes, StoredAttributes};
 use nfs_values::{Fileid, Moment};
 use std::alloc::{AllocError, Global};
-use volume_logical::inodes::{Inode, InodeKind, Inodes, StoredAttributes};
 
 /// How many inodes there are beside the root.
 const INODES: u64 = 65_000;

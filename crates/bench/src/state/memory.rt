@@ -3,14 +3,14 @@
 use crate::printing::print_figures;
 use crate::state::finds::{add, name};
 use crate::state::gets::create_file;
+use directories::Directory;
+use inodes::Inodes;
 use nfs_values::Verifier;
 use std::alloc::{AllocError, Global};
 use std::rt::Files;
 use std::{fs, io, mem};
+use stripe_cards::CardKind;
 use stripes::Stripe;
-use stripes::cards::CardKind;
-use volume_logical::directories::Directory;
-use volume_logical::inodes::Inodes;
 
 /// How many files a volume gets.
 const FILES: u32 = 65_000;

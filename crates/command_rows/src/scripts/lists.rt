@@ -2,7 +2,7 @@
 
 use crate::scripts::events::{holds, same};
 use crate::scripts::texts::{NULL, NULL_REPLY};
-use affinity_tree::{AggregateSpec, Layout, VolumeSpec};
+use affinity::{AggregateSpec, Layout, VolumeSpec};
 use filer_commands::replay::{ConnectionNumber, Engine, Event, Worker, WorkerNumber, WorkerRun};
 use std::process::Abort;
 

@@ -3,22 +3,22 @@ use Rattle.std.proofs.Common.{◌≡◌, ℕ, zero, suc, ◌+◌, ◌*◌, ◌<�
 use mathlib.Core.Logic.{dite}
 use native.Mathlib.Decide.{ℕ_discrete}
 use Rattle.nfs_model.specs.Tree.{Layout, Affinity}
-use Rattle.affinity_tree.specs.Tree.{IsNode}
-use Rattle.affinity_tree.specs.Numbers.{number_of, node_count, parents}
-use Rattle.affinity_tree.specs.lemmas.Places.{number_positive, number_within}
-use Rattle.affinity_tree.specs.lemmas.Smaller.{length-parents}
-use Rattle.parcel_sets.specs.declared.family.Parcel.{Parcel}
-use Rattle.parcel_sets.specs.declared.family.Parcel.TheVariants.{Stripe}
-use Rattle.parcel_sets.specs.declared.sets.StripeHeld.{StripeHeld}
-use Rattle.parcel_sets.specs.Sets.{stripe_parcels}
-use Rattle.parcel_sets.specs.NumberIn.{number_in}
-use Rattle.depot.specs.rule.Shares.{opening_view}
+use Rattle.affinity.specs.Tree.{IsNode}
+use Rattle.affinity.specs.Numbers.{number_of, node_count, parents}
+use Rattle.affinity.specs.lemmas.Places.{number_positive, number_within}
+use Rattle.affinity.specs.lemmas.Smaller.{length-parents}
+use Rattle.parcels.specs.declared.family.Parcel.{Parcel}
+use Rattle.parcels.specs.declared.family.Parcel.TheVariants.{Stripe}
+use Rattle.parcels.specs.declared.sets.StripeHeld.{StripeHeld}
+use Rattle.parcels.specs.Sets.{stripe_parcels}
+use Rattle.parcels.specs.NumberIn.{number_in}
+use Rattle.depot_rule.specs.Shares.{opening_view}
 use Rattle.depot.specs.trial.Adding.{AreEach}
-use Rattle.depot.specs.declared.rule.view.View.{View}
-use Rattle.depot.specs.declared.rule.view.Entry.{Entry}
-use Rattle.depot.specs.rule.Sums.{total}
-use Rattle.depot.specs.rule.History.{behaviour, AreHands, entries_of, listed, after}
-use Rattle.depot.specs.rule.lemmas.Histories.{moved-snoc}
+use Rattle.depot_rule.specs.declared.view.View.{View}
+use Rattle.depot_rule.specs.declared.view.Entry.{Entry}
+use Rattle.depot_rule.specs.Sums.{total}
+use Rattle.depot_rule.specs.History.{behaviour, AreHands, entries_of, listed, after}
+use Rattle.depot_rule.specs.lemmas.Histories.{moved-snoc}
 use Rattle.depot.specs.declared.trial.lending.Move.{Move}
 use Rattle.depot.specs.Grants.{IsAfter}
 use Rattle.depot.specs.trial.Lending.{sum_below, size, tokens_in, taken_by, given_by, Becomes, Moves, FewTokens, IsHand}

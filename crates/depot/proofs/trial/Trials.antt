@@ -6,18 +6,18 @@ use Rattle.std.proofs.lemmas.List.{get_or-set_same, get_or-set_other}
 use mathlib.Core.Logic.{dite}
 use native.Mathlib.Decide.{ℕ_discrete}
 use Rattle.nfs_model.specs.Tree.{Layout, Affinity, Serial}
-use Rattle.affinity_tree.specs.declared.affinity.Kind.{Kind}
-use Rattle.affinity_tree.specs.Affinity.{kind_of}
-use Rattle.affinity_tree.specs.Tree.{IsNode}
-use Rattle.affinity_tree.specs.Under.{IsUnder}
-use Rattle.affinity_tree.specs.lemmas.Places.{number_positive, number_within}
-use Rattle.affinity_tree.specs.lemmas.Numbered.{own_number}
-use Rattle.parcel_sets.specs.Exact.{IsPlaced}
-use Rattle.affinity_tree.specs.Numbers.{number_of, node_count}
+use Rattle.affinity.specs.declared.affinity.Kind.{Kind}
+use Rattle.affinity.specs.Affinity.{kind_of}
+use Rattle.affinity.specs.Tree.{IsNode}
+use Rattle.affinity.specs.Under.{IsUnder}
+use Rattle.affinity.specs.lemmas.Places.{number_positive, number_within}
+use Rattle.affinity.specs.lemmas.Numbered.{own_number}
+use Rattle.parcels.specs.Exact.{IsPlaced}
+use Rattle.affinity.specs.Numbers.{number_of, node_count}
 use Rattle.depot.specs.trial.Adding.{AreEach}
-use Rattle.parcel_sets.specs.Moved.{Moved}
-use Rattle.parcel_sets.specs.NumberIn.{number_in}
-use Rattle.parcel_sets.specs.declared.family.Parcel.{Parcel}
+use Rattle.parcels.specs.Moved.{Moved}
+use Rattle.parcels.specs.NumberIn.{number_in}
+use Rattle.parcels.specs.declared.family.Parcel.{Parcel}
 
 -- ---- parcels laid out node by node
 

@@ -3,12 +3,12 @@ use Rattle.std.proofs.Common.{◌≡◌, ◌≢◌, ℕ, zero, suc, List, [], �
 use mathlib.Core.Option.{some, some-ne-none}
 use lib.ListN.{get_elem?}
 use Rattle.atomic_table.proofs.Lists.{at_set}
-use Rattle.depot.specs.declared.rule.view.View.{View}
-use Rattle.depot.specs.declared.rule.view.Read.{Read}
-use Rattle.depot.specs.declared.rule.view.Entry.{Entry}
-use Rattle.depot.specs.rule.Sums.{total}
-use Rattle.depot.specs.rule.Shares.{Has}
-use Rattle.depot.specs.rule.History.{Behaviour, AreHands, entries_of}
+use Rattle.depot_rule.specs.declared.view.View.{View}
+use Rattle.depot_rule.specs.declared.view.Read.{Read}
+use Rattle.depot_rule.specs.declared.view.Entry.{Entry}
+use Rattle.depot_rule.specs.Sums.{total}
+use Rattle.depot_rule.specs.Shares.{Has}
+use Rattle.depot_rule.specs.History.{Behaviour, AreHands, entries_of}
 use Rattle.depot.specs.Grants.{ListsAs, HasWith, HasRead, IsLast, IsBegun, IsAfter, IsEnded, IsFinished, HasInHand, HasGoneOn}
 
 set-there : {A : Type 0} (xs : List A) (i : ℕ) (x y : A) → get_elem? xs i ≡ some x → get_elem? (set xs i y) i ≡ some y

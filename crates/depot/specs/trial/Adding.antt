@@ -2,16 +2,16 @@
 use Rattle.std.specs.Prelude.{◌≡◌, ◌≢◌, ℕ, ◌+◌, ◌%◌, ◌||◌, nat_lt, List, Option, Some}
 use Rattle.std.proofs.Common.{refl, sym, ap, ◌∙◌, inl}
 use Rattle.std.proofs.lemmas.Bool.{eq-eqb}
-use Rattle.parcel_sets.specs.declared.family.Parcel.{Parcel}
-use Rattle.parcel_sets.specs.Exact.{kind_in}
-use Rattle.parcel_sets.specs.NumberIn.{number_in}
+use Rattle.parcels.specs.declared.family.Parcel.{Parcel}
+use Rattle.parcels.specs.Exact.{kind_in}
+use Rattle.parcels.specs.NumberIn.{number_in}
 use Rattle.depot.specs.declared.trial.adding.Change.{Change}
 use Rattle.depot.specs.declared.trial.adding.Change.TheVariants.{Touch, Read, Add}
-use Rattle.affinity_tree.specs.Ancestors.{tally, ancestors}
-use Rattle.depot.specs.rule.History.{covers}
-use Rattle.depot.specs.rule.Seats.{if_less}
-use Rattle.depot.specs.rule.Machine.{IsLocal}
-use Rattle.depot.specs.rule.lemmas.Covering.{covers-true, if-alike}
+use Rattle.affinity.specs.Ancestors.{tally, ancestors}
+use Rattle.depot_rule.specs.History.{covers}
+use Rattle.depot_rule.specs.Seats.{if_less}
+use Rattle.depot_rule.specs.Machine.{IsLocal}
+use Rattle.depot_rule.specs.lemmas.Covering.{covers-true, if-alike}
 
 module _ {P : Type 0} where
   -- each parcel is this number

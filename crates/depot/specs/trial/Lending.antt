@@ -4,19 +4,19 @@ use Rattle.std.proofs.Common.{refl, sym, ap, ◌∙◌, arith, inl}
 use Rattle.std.proofs.lemmas.Bool.{eq-eqb}
 use mathlib.Core.Logic.{dite}
 use native.Mathlib.Decide.{ℕ_discrete}
-use Rattle.parcel_sets.specs.declared.family.Parcel.{Parcel}
-use Rattle.parcel_sets.specs.Exact.{kind_in}
-use Rattle.parcel_sets.specs.NumberIn.{number_in}
+use Rattle.parcels.specs.declared.family.Parcel.{Parcel}
+use Rattle.parcels.specs.Exact.{kind_in}
+use Rattle.parcels.specs.NumberIn.{number_in}
 use Rattle.depot.specs.declared.trial.lending.Move.{Move}
 use Rattle.depot.specs.declared.trial.lending.Move.TheVariants.{Take, Give}
-use Rattle.depot.specs.declared.rule.view.View.{View}
-use Rattle.depot.specs.declared.rule.view.Entry.{Entry}
-use Rattle.affinity_tree.specs.Ancestors.{tally, ancestors}
-use Rattle.depot.specs.rule.Sums.{total}
-use Rattle.depot.specs.rule.Seats.{if_less}
-use Rattle.depot.specs.rule.History.{covers, AreHands, entries_of}
-use Rattle.depot.specs.rule.Machine.{IsLocal, Keeps}
-use Rattle.depot.specs.rule.lemmas.Covering.{covers-true, if-alike}
+use Rattle.depot_rule.specs.declared.view.View.{View}
+use Rattle.depot_rule.specs.declared.view.Entry.{Entry}
+use Rattle.affinity.specs.Ancestors.{tally, ancestors}
+use Rattle.depot_rule.specs.Sums.{total}
+use Rattle.depot_rule.specs.Seats.{if_less}
+use Rattle.depot_rule.specs.History.{covers, AreHands, entries_of}
+use Rattle.depot_rule.specs.Machine.{IsLocal, Keeps}
+use Rattle.depot_rule.specs.lemmas.Covering.{covers-true, if-alike}
 
 -- f of each number below n, added up
 abbrev pub sum_below : (ℕ → ℕ) → ℕ → ℕ

@@ -3,21 +3,21 @@
 
 ghost use Rattle.std.specs.Prelude.{◌≡◌, ◌+◌, ◌≤◌, true, [], Option, IfOk, IfSome};
 ghost use Rattle.nfs_model.specs.Tree as trees;
-ghost use Rattle.affinity_tree.specs.Layout.{layout_of};
-ghost use Rattle.parcel_sets.specs.Exact.{kind_in, HasExactly};
-ghost use Rattle.parcel_sets.specs.Sets.{serial_parcels};
-ghost use Rattle.affinity_tree.specs.Affinity.{affinity_of};
-ghost use Rattle.affinity_tree.specs.Tree.{IsNode};
+ghost use Rattle.affinity.specs.Layout.{layout_of};
+ghost use Rattle.parcels.specs.Exact.{kind_in, HasExactly};
+ghost use Rattle.parcels.specs.Sets.{serial_parcels};
+ghost use Rattle.affinity.specs.Affinity.{affinity_of};
+ghost use Rattle.affinity.specs.Tree.{IsNode};
 ghost use Rattle.depot.specs.Grants.{HasWith, HasInHand};
 ghost use Rattle.depot.specs.declared.trial.adding.Change.TheVariants as changes;
 ghost use Rattle.depot.specs.Words.{layout_in, IsSeatHere, IsNodeOf, all_parcels};
 ghost use Rattle.depot.specs.Words.{machine_of, view, node_of, number_in, parcels_in, IsWhole};
 ghost use Rattle.depot.specs.trial.Adding.{AreEach};
 
-use crate::rule::machine::Machine;
 use crate::{Depot, Grant, Seat};
-use affinity_tree::{Affinity, AggregateSpec, Kind, Layout, VolumeSpec};
-use parcel_sets::{Node, Numbers, Parcel, SerialHeld, SerialNode, StripeNode, VecShelf};
+use affinity::{Affinity, AggregateSpec, Kind, Layout, VolumeSpec};
+use depot_rule::machine::Machine;
+use parcels::{Node, Numbers, Parcel, SerialHeld, SerialNode, StripeNode, VecShelf};
 use std::alloc::{AllocError, Global};
 
 /// A call on the number of its node.

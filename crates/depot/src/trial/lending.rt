@@ -1,15 +1,15 @@
 //! A machine for tests, whose calls move tokens between a node's parcel and the seat's hand.
 
 ghost use Rattle.std.specs.Prelude.{◌≡◌, true, false, ℕ, List, [], ◌∷◌, IfOk};
-ghost use Rattle.depot.specs.rule.History.{entries_of};
+ghost use Rattle.depot_rule.specs.History.{entries_of};
 ghost use Rattle.depot.specs.Words.{view, IsSeatHere};
 ghost use Rattle.depot.specs.trial.Lending.{IsHand};
 
-use crate::rule::machine::Machine;
 use crate::trial::adding::{all_of, is_node_of, volumes};
 use crate::{Depot, Seat};
-use affinity_tree::{Affinity, Kind};
-use parcel_sets::{Numbers, Parcel, SerialNode, StripeNode};
+use affinity::{Affinity, Kind};
+use depot_rule::machine::Machine;
+use parcels::{Numbers, Parcel, SerialNode, StripeNode};
 use std::alloc::{AllocError, Global};
 
 /// A call on the tokens of its node.

@@ -3,15 +3,15 @@ use Rattle.std.specs.Prelude.{◌≡◌, ◌≢◌, ℕ, Bool, true, false, List
 use mathlib.Core.Option.{some}
 use lib.ListN.{get_elem?}
 use Rattle.nfs_model.specs.Tree.{Layout, Affinity, excludes}
-use Rattle.affinity_tree.specs.declared.affinity.Kind.{Kind}
-use Rattle.affinity_tree.specs.Numbers.{number_of}
-use Rattle.affinity_tree.specs.Tree.{IsNode}
-use Rattle.parcel_sets.specs.Exact.{HasExactly}
-use Rattle.depot.specs.declared.rule.view.View.{View}
-use Rattle.depot.specs.declared.rule.view.Entry.{Entry}
-use Rattle.depot.specs.rule.History.{Behaviour, listed, after, entries_of}
-use Rattle.depot.specs.rule.Shares.{Has}
-use Rattle.depot.specs.rule.Plays.{IsOnly}
+use Rattle.affinity.specs.declared.affinity.Kind.{Kind}
+use Rattle.affinity.specs.Numbers.{number_of}
+use Rattle.affinity.specs.Tree.{IsNode}
+use Rattle.parcels.specs.Exact.{HasExactly}
+use Rattle.depot_rule.specs.declared.view.View.{View}
+use Rattle.depot_rule.specs.declared.view.Entry.{Entry}
+use Rattle.depot_rule.specs.History.{Behaviour, listed, after, entries_of}
+use Rattle.depot_rule.specs.Shares.{Has}
+use Rattle.depot_rule.specs.Plays.{IsOnly}
 use Rattle.depot.specs.Grants.{entry_of, IsSeatOf, HasWith, IsBegun, IsAfter, IsStep, HasInHand, IsFinished}
 use Rattle.desk.specs.laws.Books.{Lent, Books, HasLent}
 use Rattle.desk.specs.laws.Calls.{Does}

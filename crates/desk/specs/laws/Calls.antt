@@ -1,10 +1,10 @@
 -- What calls do to a desk.
 use Rattle.std.specs.Prelude.{◌≡◌, ◌≢◌, ℕ, ◌+◌, ◌<◌, ◌≤◌, List, [], ◌∷◌, ◌++◌, length, slice_set, Option, Some, None}
 use Rattle.nfs_model.specs.Tree.{Layout, Affinity}
-use Rattle.affinity_tree.specs.Numbers.{number_of, parents}
-use Rattle.depot.specs.rule.Sums.{total}
-use Rattle.depot.specs.rule.Shares.{worn}
-use Rattle.depot.specs.rule.History.{Behaviour, patched}
+use Rattle.affinity.specs.Numbers.{number_of, parents}
+use Rattle.depot_rule.specs.Sums.{total}
+use Rattle.depot_rule.specs.Shares.{worn}
+use Rattle.depot_rule.specs.History.{Behaviour, patched}
 use Rattle.depot.specs.Grants.{entry_of}
 use Rattle.desk.specs.laws.Books.{Lent, Books, settled, now, stamps, HasLent, IsTaken, UnderLent, IsUnchanged, IsSame, IsWorked, HasHands, IsSettled}
 

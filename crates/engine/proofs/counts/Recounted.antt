@@ -2,7 +2,7 @@
 use Rattle.std.proofs.Common.{◌≡◌, ◌<◌, ◌≤◌, ℕ, zero, suc, ◌+◌, List, [], ◌∷◌, length, refl, ap, ◌∙◌, arith}
 use Rattle.std.specs.Prelude.{slice_set, slice_index_or}
 use Rattle.nfs_model.specs.World.{changed_at}
-use Rattle.parcels.specs.state.Contents.{each}
+use Rattle.filer_state.specs.state.Contents.{each}
 use Rattle.engine.specs.declared.counts.counts.VolumeCounts.{VolumeCounts}
 use Rattle.engine.specs.counts.Counts.{recounted}
 

@@ -7,20 +7,20 @@ use Rattle.std.specs.Ordering.{nat_cmp}
 use Rattle.std.specs.FinSet.{len-empty}
 use Rattle.nfs_model.specs.Tree.{Layout, Affinity, Serial, Aggregate, Volume, Logical, Stripe, Vbn, Range, stripes_of, aggregate_of}
 use Rattle.nfs_model.specs.World.{changed_at}
-use Rattle.affinity_tree.specs.declared.affinity.Kind.TheVariants as kinds
-use Rattle.affinity_tree.specs.Affinity.{kind_of}
-use Rattle.affinity_tree.specs.Fault.{fault_of}
-use Rattle.affinity_tree.specs.Tree.{IsNode}
-use Rattle.affinity_tree.specs.Numbers.{number_of, parents}
-use Rattle.depot.specs.rule.History.{patched}
-use Rattle.parcel_sets.specs.Sets.{stripe_parcels, logical_parcels, volume_parcels, aggregate_parcels, serial_parcels}
-use Rattle.parcels.specs.state.Parcels.{FilerParcel}
-use Rattle.parcels.specs.state.Contents.{VolumeContents, FilerContents, each, filer_contents}
-use Rattle.parcels.specs.state.Lenses.{VolumeSet, logical_lens, volume_lens, stripe_lens, volume_or_none, put_if, put_each}
-use Rattle.parcels.specs.state.Sets.{FilerStripe, FilerLogical, FilerVolume, FilerAggregate, FilerSerial, logical_set, volume_set}
-use Rattle.parcels.specs.state.Sets.{placed, volume_value, volume_placed, volume_with}
-use Rattle.parcels.specs.laws.lemmas.Each.{each-map}
-use Rattle.parcels.specs.laws.lemmas.SeenSets.{stripe-seen, logical-seen, volume-seen, aggregate-seen, serial-seen}
+use Rattle.affinity.specs.declared.affinity.Kind.TheVariants as kinds
+use Rattle.affinity.specs.Affinity.{kind_of}
+use Rattle.affinity.specs.Fault.{fault_of}
+use Rattle.affinity.specs.Tree.{IsNode}
+use Rattle.affinity.specs.Numbers.{number_of, parents}
+use Rattle.depot_rule.specs.History.{patched}
+use Rattle.parcels.specs.Sets.{stripe_parcels, logical_parcels, volume_parcels, aggregate_parcels, serial_parcels}
+use Rattle.filer_state.specs.state.Parcels.{FilerParcel}
+use Rattle.filer_state.specs.state.Contents.{VolumeContents, FilerContents, each, filer_contents}
+use Rattle.filer_state.specs.state.Lenses.{VolumeSet, logical_lens, volume_lens, stripe_lens, volume_or_none, put_if, put_each}
+use Rattle.filer_state.specs.state.Sets.{FilerStripe, FilerLogical, FilerVolume, FilerAggregate, FilerSerial, logical_set, volume_set}
+use Rattle.filer_state.specs.state.Sets.{placed, volume_value, volume_placed, volume_with}
+use Rattle.filer_state.specs.laws.lemmas.Each.{each-map}
+use Rattle.filer_state.specs.laws.lemmas.SeenSets.{stripe-seen, logical-seen, volume-seen, aggregate-seen, serial-seen}
 use Rattle.engine.specs.declared.counts.counts.VolumeCounts.{VolumeCounts}
 use Rattle.engine.specs.counts.Counts.{counted, IsCounted, counts_in, with_logical, with_set, if_on, in_whole, recounted, IsOfCalls, HasCounted}
 use Rattle.engine.proofs.counts.Recounted.{recounted-all}

@@ -7,14 +7,14 @@ use Rattle.nfs_model.specs.Server.{VolumeState}
 use Rattle.nfs_model.specs.Parts.{Parts, Hand, Empty, Fresh, Dead, Counts, range_blocks}
 use Rattle.nfs_model.specs.World.{World, changed_at}
 use Rattle.nfs_model.specs.Events.Refusals.{Done, HandHas, HasPut}
-use Rattle.affinity_tree.specs.Numbers.{number_of, parents}
-use Rattle.depot.specs.rule.History.{patched}
+use Rattle.affinity.specs.Numbers.{number_of, parents}
+use Rattle.depot_rule.specs.History.{patched}
 use Rattle.nfs_model.specs.volume.Logical.{LogicalValue}
-use Rattle.parcels.specs.state.Parcels.{FilerParcel}
-use Rattle.parcels.specs.state.Contents.{VolumeContents, filer_contents}
-use Rattle.parcels.specs.state.Tree.{ranges_used}
-use Rattle.parcels.specs.state.Lenses.{VolumeSet}
-use Rattle.parcels.specs.state.Sets.{FilerVolume, FilerAggregate, FilerSerial, placed, volume_before, volume_placed}
+use Rattle.filer_state.specs.state.Parcels.{FilerParcel}
+use Rattle.filer_state.specs.state.Contents.{VolumeContents, filer_contents}
+use Rattle.filer_state.specs.state.Tree.{ranges_used}
+use Rattle.filer_state.specs.state.Lenses.{VolumeSet}
+use Rattle.filer_state.specs.state.Sets.{FilerVolume, FilerAggregate, FilerSerial, placed, volume_before, volume_placed}
 use Rattle.engine.specs.declared.counts.counts.VolumeCounts.{VolumeCounts}
 use Rattle.engine.specs.declared.counts.counts.PartCounts.{PartCounts}
 

@@ -4,17 +4,17 @@ use Rattle.nfs_model.specs.Tree.{Layout}
 use Rattle.nfs_model.specs.Replay.{server_after}
 use Rattle.nfs_model.specs.World.{Setup, World, Running, Worker}
 use Rattle.nfs_model.specs.Headline.{start}
-use Rattle.affinity_tree.specs.Numbers.{parents}
-use Rattle.depot.specs.declared.rule.view.Entry.{Entry}
-use Rattle.depot.specs.rule.History.{Legal, after, listed}
+use Rattle.affinity.specs.Numbers.{parents}
+use Rattle.depot_rule.specs.declared.view.Entry.{Entry}
+use Rattle.depot_rule.specs.History.{Legal, after, listed}
 use Rattle.desk.specs.laws.Books.{Lent, overlaid}
-use Rattle.parcels.specs.state.Parcels.{FilerParcel}
-use Rattle.parcels.specs.state.Contents.{filer_contents}
-use Rattle.parcels.specs.state.Tree.{tree}
-use Rattle.parcels.specs.state.Partition.{all_parts}
-use Rattle.parcels.specs.state.Opening.{AreOpening}
-use Rattle.parcels.specs.state.Jobs.{Job, JobReply}
-use Rattle.parcels.specs.state.Deeds.{FilerSteps}
+use Rattle.filer_state.specs.state.Parcels.{FilerParcel}
+use Rattle.filer_state.specs.state.Contents.{filer_contents}
+use Rattle.filer_state.specs.state.Tree.{tree}
+use Rattle.filer_state.specs.state.Partition.{all_parts}
+use Rattle.filer_state.specs.state.Opening.{AreOpening}
+use Rattle.filer_state.specs.state.Jobs.{Job, JobReply}
+use Rattle.filer_state.specs.state.Deeds.{FilerSteps}
 use Rattle.engine.specs.laws.Store.{calls_served, calls_run}
 
 -- what the seat has seen: the parcels by node as the filer began, and each call that was stamped since, in order, with its node,

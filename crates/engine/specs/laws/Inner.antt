@@ -3,15 +3,15 @@ use Rattle.std.specs.Prelude.{◌≡◌, ℕ, ◌+◌, ◌/◌, ◌<◌, [], ◌
 use Rattle.nfs_model.specs.Server.{VolumeState}
 use Rattle.nfs_model.specs.Parts.{Parts, Hand, Empty, range_blocks}
 use Rattle.nfs_model.specs.World.{World, Worker, changed_at, with_hand}
-use Rattle.affinity_tree.specs.Ancestors.{Covers}
-use Rattle.affinity_tree.specs.Numbers.{number_of, parents}
-use Rattle.depot.specs.rule.Shares.{worn}
-use Rattle.depot.specs.rule.History.{patched}
+use Rattle.affinity.specs.Ancestors.{Covers}
+use Rattle.affinity.specs.Numbers.{number_of, parents}
+use Rattle.depot_rule.specs.Shares.{worn}
+use Rattle.depot_rule.specs.History.{patched}
 use Rattle.depot.specs.Grants.{entry_of}
 use Rattle.desk.specs.laws.Books.{settled, now, stamps, HasLent, IsTaken, UnderLent, IsSettled}
-use Rattle.parcels.specs.state.Parcels.{FilerParcel}
-use Rattle.parcels.specs.state.Jobs.{InnerCall, Inner, Job, JobReply, Took, gives, batches_in, inner_node, inner_volume, InnerMoves}
-use Rattle.parcels.specs.state.Deeds.{FilerSteps}
+use Rattle.filer_state.specs.state.Parcels.{FilerParcel}
+use Rattle.filer_state.specs.state.Jobs.{InnerCall, Inner, Job, JobReply, Took, gives, batches_in, inner_node, inner_volume, InnerMoves}
+use Rattle.filer_state.specs.state.Deeds.{FilerSteps}
 use Rattle.engine.specs.laws.Store.{FilerBooks, filer}
 
 -- ---- on a desk

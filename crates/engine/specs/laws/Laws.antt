@@ -4,9 +4,9 @@ use Rattle.nfs_model.specs.Work.{Outcome}
 use Rattle.nfs_model.specs.World.{Setup, World, Running, Worker, store_of, task_of}
 use Rattle.nfs_model.specs.Work.{Works}
 use Rattle.nfs_model.specs.Agreed.{IsAgreed}
-use Rattle.parcels.specs.state.Contents.{filer_contents}
-use Rattle.parcels.specs.state.Deeds.{stored_all}
-use Rattle.parcels.specs.state.Jobs.{Job, JobReply}
+use Rattle.filer_state.specs.state.Contents.{filer_contents}
+use Rattle.filer_state.specs.state.Deeds.{stored_all}
+use Rattle.filer_state.specs.state.Jobs.{Job, JobReply}
 use Rattle.desk.specs.laws.Books.{now}
 use Rattle.desk.specs.laws.Calls.{HasWorked}
 use Rattle.engine.specs.laws.Store.{FilerBooks, StandsFor}

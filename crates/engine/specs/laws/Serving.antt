@@ -6,15 +6,15 @@ use Rattle.nfs_model.specs.Parts.{Hand}
 use Rattle.nfs_model.specs.Work.{Task, Outcome, Replied, Starved, Moved, move_of}
 use Rattle.nfs_model.specs.World.{Running, task_of}
 use Rattle.nfs_model.specs.Events.Step.{finished_call}
-use Rattle.affinity_tree.specs.Ancestors.{Covers}
-use Rattle.affinity_tree.specs.Numbers.{number_of, parents}
+use Rattle.affinity.specs.Ancestors.{Covers}
+use Rattle.affinity.specs.Numbers.{number_of, parents}
 use Rattle.desk.specs.laws.Calls.{Does}
-use Rattle.parcels.specs.state.Parcels.{FilerParcel}
-use Rattle.parcels.specs.state.Contents.{filer_contents}
-use Rattle.parcels.specs.state.Sound.{AllSound}
-use Rattle.parcels.specs.state.Jobs as jobs
-use Rattle.parcels.specs.state.Jobs.{Serve}
-use Rattle.parcels.specs.state.Deeds.{FilerSteps, stored_all}
+use Rattle.filer_state.specs.state.Parcels.{FilerParcel}
+use Rattle.filer_state.specs.state.Contents.{filer_contents}
+use Rattle.filer_state.specs.state.Sound.{AllSound}
+use Rattle.filer_state.specs.state.Jobs as jobs
+use Rattle.filer_state.specs.state.Jobs.{Serve}
+use Rattle.filer_state.specs.state.Deeds.{FilerSteps, stored_all}
 
 module _ {P : Type 0} where
   -- parcels that agree under a node

@@ -8,21 +8,21 @@ use Rattle.nfs_model.specs.Work.{Outcome, Replied, Starved, Moved}
 use Rattle.nfs_model.specs.World.{Setup, World, Running, Worker}
 use Rattle.nfs_model.specs.Events.Step.{finished_call}
 use Rattle.nfs_model.specs.Headline.{start, IsTriedAt}
-use Rattle.affinity_tree.specs.Fault.{fault_of}
-use Rattle.affinity_tree.specs.Tree.{IsNode}
-use Rattle.affinity_tree.specs.Numbers.{number_of, parents}
-use Rattle.depot.specs.declared.rule.view.Entry.{Entry}
-use Rattle.depot.specs.rule.History.{Behaviour, behaviour, Legal}
+use Rattle.affinity.specs.Fault.{fault_of}
+use Rattle.affinity.specs.Tree.{IsNode}
+use Rattle.affinity.specs.Numbers.{number_of, parents}
+use Rattle.depot_rule.specs.declared.view.Entry.{Entry}
+use Rattle.depot_rule.specs.History.{Behaviour, behaviour, Legal}
 use Rattle.desk.specs.laws.Books.{Lent, Books, settled, now, stamps, HasLent, UnderLent, IsUnchanged, HasHands, IsSettled}
-use Rattle.parcels.specs.state.Parcels.{FilerParcel}
-use Rattle.parcels.specs.state.Contents.{filer_contents}
-use Rattle.parcels.specs.state.Tree.{tree}
-use Rattle.parcels.specs.state.Partition.{all_parts}
-use Rattle.parcels.specs.state.Sound.{IsFiler}
-use Rattle.parcels.specs.state.Jobs as jobs
-use Rattle.parcels.specs.state.Jobs.{InnerCall, Job, Serve, Inner, JobReply, takes, gives, batches_in}
-use Rattle.parcels.specs.state.Deeds.{FilerSteps}
-use Rattle.parcels.specs.state.Opening.{AreOpening}
+use Rattle.filer_state.specs.state.Parcels.{FilerParcel}
+use Rattle.filer_state.specs.state.Contents.{filer_contents}
+use Rattle.filer_state.specs.state.Tree.{tree}
+use Rattle.filer_state.specs.state.Partition.{all_parts}
+use Rattle.filer_state.specs.state.Sound.{IsFiler}
+use Rattle.filer_state.specs.state.Jobs as jobs
+use Rattle.filer_state.specs.state.Jobs.{InnerCall, Job, Serve, Inner, JobReply, takes, gives, batches_in}
+use Rattle.filer_state.specs.state.Deeds.{FilerSteps}
+use Rattle.filer_state.specs.state.Opening.{AreOpening}
 
 -- the books of a desk of a filer's parcels, with calls and replies of whatever types
 abbrev pub FilerBooks : Type 0 → Type 0 → Type 0 → Type 0

@@ -4,15 +4,15 @@ ghost use Rattle.std.specs.Prelude.{◌≡◌, ◌<◌, length, ℕ, Some};
 ghost use Rattle.nfs_model.specs.Tree as trees;
 ghost use Rattle.nfs_model.specs.Tree.{aggregate_of};
 ghost use Rattle.nfs_model.specs.World.{changed_at};
-ghost use Rattle.affinity_tree.specs.Layout.{layout_of};
-ghost use Rattle.parcels.specs.state.Sets.{placed, volume_placed, volume_value};
+ghost use Rattle.affinity.specs.Layout.{layout_of};
+ghost use Rattle.filer_state.specs.state.Sets.{placed, volume_placed, volume_value};
 ghost use Rattle.engine.specs.counts.Counts.{counts_of, counts_in, recounted};
 ghost use Rattle.engine.specs.counts.Counts.{with_logical, with_set, if_on, in_whole};
 
 use crate::counts::counts::VolumeCounts;
-use affinity_tree::Layout;
-use parcel_sets::{AggrHeld, LogicalHeld, SerialHeld, VolumeHeld};
-use parcels::{Files, ranges_used};
+use affinity::Layout;
+use filer_state::{Files, ranges_used};
+use parcels::{AggrHeld, LogicalHeld, SerialHeld, VolumeHeld};
 
 /// The blocks of a range.
 pub(crate) const RANGE_BLOCKS: usize = 1024;
@@ -67,7 +67,7 @@ pub(crate) fn recount_all(counts: &mut Vec<VolumeCounts>, layout: &Layout, held:
 }
 
 /// The counts of a volume, by the aggregate that is held: as they were where it is on another.
-#[tactic(auto, using(affinity_tree::specs::lemmas::Lawful::few_volumes))]
+#[tactic(auto, using(affinity::specs::lemmas::Lawful::few_volumes))]
 fn count_if_on(
     layout: &Layout,
     aggregate: u32,
@@ -86,7 +86,7 @@ fn count_if_on(
 }
 
 /// The counts of a volume that there is.
-#[tactic(auto, using(affinity_tree::specs::lemmas::Lawful::few_aggregates, affinity_tree::specs::lemmas::Lawful::few_volumes))]
+#[tactic(auto, using(affinity::specs::lemmas::Lawful::few_aggregates, affinity::specs::lemmas::Lawful::few_volumes))]
 fn count_in_whole(layout: &Layout, held: &SerialHeld<Files>, volume: u32) -> VolumeCounts
     requires there { volume < length (layout_of layout.now).volumes }
     ensures { let L = layout_of layout.now in

@@ -2,10 +2,10 @@
 
 ghost use Rattle.std.specs.Prelude.{◌≡◌};
 ghost use Rattle.nfs_model.specs.Tree as trees;
-ghost use Rattle.affinity_tree.specs.Affinity.{affinity_of, kind_of};
-ghost use Rattle.affinity_tree.specs.declared.affinity.Kind.TheVariants as kinds;
+ghost use Rattle.affinity.specs.Affinity.{affinity_of, kind_of};
+ghost use Rattle.affinity.specs.declared.affinity.Kind.TheVariants as kinds;
 
-use affinity_tree::Affinity;
+use affinity::Affinity;
 
 /// The volume of a node that is Volume Logical.
 pub(crate) fn volume_of_logical(affinity: Affinity) -> u32

@@ -5,12 +5,12 @@ ghost use Rattle.nfs_model.specs.Tree.{VolumeLayout};
 ghost use Rattle.nfs_model.specs.Server.{opening};
 ghost use Rattle.nfs_model.specs.Parts.{range_blocks};
 ghost use Rattle.nfs_model.specs.Headline.{opening_parts};
-ghost use Rattle.affinity_tree.specs.Layout.{layout_of};
+ghost use Rattle.affinity.specs.Layout.{layout_of};
 ghost use Rattle.engine.specs.counts.Counts.{all_seen};
 
 use crate::counts::counting::RANGE_BLOCKS;
 use crate::counts::counts::VolumeCounts;
-use affinity_tree::Layout;
+use affinity::Layout;
 use std::alloc::{AllocError, Global};
 
 /// The counts of a layout's volumes as a run begins: all their block numbers are free.

@@ -5,12 +5,12 @@ ghost use Rattle.std.specs.Prelude.{◌≡◌};
 use crate::counts::counting::{recount_aggregate, recount_all, recount_logical, recount_volume};
 use crate::counts::counts::VolumeCounts;
 use crate::counts::nodes::{aggregate_of, volume_around, volume_of_logical};
-use affinity_tree::{Affinity, Layout};
+use affinity::{Affinity, Layout};
 use desk::{ParcelKinds, Task};
-use parcel_sets::{
+use filer_state::Files;
+use parcels::{
     AggrHeld, LogicalHeld, Parcel, RangeHeld, SerialHeld, StripeHeld, VbnHeld, VolumeHeld,
 };
-use parcels::Files;
 
 /// The counts of all volumes, to be taken anew of those whose Logical is under a node, as a task on
 /// the parcels of the node, which it leaves as they are. Where they were right before the parcels

@@ -2,7 +2,7 @@
 
 ghost use Rattle.engine.specs.laws.Laws.{CallsAgree, WorkIsTheModels};
 
-use parcels::laws::parts_partition;
+use filer_state::laws::parts_partition;
 
 /// Calls that run at one time don't disturb each other, whatever they are: the server is the one
 /// after the finished calls and those that were worked, finishing gives what each was worked to,

@@ -1,7 +1,7 @@
 -- The lines that are printed (our profile).
 use Rattle.std.specs.Prelude.{ℕ, List, [], ◌∷◌, ◌++◌, Option, Some, None, codes}
 use Rattle.std.specs.Fmt.{decimal}
-use Rattle.affinity_tree.specs.Affinity.{affinity_text}
+use Rattle.affinity.specs.Affinity.{affinity_text}
 use Rattle.engine.specs.declared.event.Done.{Done}
 use Rattle.engine.specs.declared.event.Done.TheVariants.{Opened, Fed, Closed, Granted, Replied, Starved}
 use Rattle.engine.specs.declared.event.Done.TheVariants.{Moved, Written, PutBack, InHand, PutDown, Surveyed}

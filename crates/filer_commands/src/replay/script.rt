@@ -2,8 +2,8 @@
 
 ghost use Rattle.std.specs.Prelude.{◌≡◌, ◌+◌, ◌<◌, ◌≤◌, ◌^◌, ◌⊎◌, ◌↔◌, [], ◌∷◌, ◌++◌};
 ghost use Rattle.std.specs.Prelude.{length, Contains, IsTrue, IfOk, IfErr, IsSome, IfSome};
-ghost use Rattle.affinity_tree.specs.Specification.{volume_asked};
-ghost use Rattle.affinity_tree.specs.Fault.{is_limited, is_striped};
+ghost use Rattle.affinity.specs.Specification.{volume_asked};
+ghost use Rattle.affinity.specs.Fault.{is_limited, is_striped};
 
 mod line;
 mod verb;
@@ -12,7 +12,7 @@ mod word;
 use crate::replay::fault::ProgramFault;
 pub(crate) use crate::replay::script::line::Request;
 use crate::replay::script::line::{LayoutLine, Unread, read_layout_line, read_request};
-use affinity_tree::{
+use affinity::{
     AggregateSpec, Layout, LayoutFault, MIB, MOST_AGGREGATES, MOST_MIB, MOST_RANGES, MOST_SPARE,
     MOST_STRIPES, MOST_VOLUMES, STRIPES, VolumeSpec,
 };
@@ -80,8 +80,8 @@ pub(crate) struct Start {
 }
 
 impl<'a> Script<'a> {
-    ghost use Rattle.affinity_tree.specs.Layout.{layout_of};
-    ghost use Rattle.affinity_tree.specs.Specification.{layout_in};
+    ghost use Rattle.affinity.specs.Layout.{layout_of};
+    ghost use Rattle.affinity.specs.Specification.{layout_in};
 
     /// A script of which nothing is read.
     pub(crate) fn new(alloc: Global, text: &'a [u8]) -> Script<'a>

@@ -1,8 +1,8 @@
 -- What comes to an intake adds up.
 use Rattle.std.proofs.Common.{◌≡◌, refl, sym, ap, ◌∙◌, List, [], ◌∷◌, ◌++◌, map, append_assoc, append-nil}
 use Rattle.outboxes.specs.Boxes.{Addressed, Boxes, put}
-use Rattle.connections.specs.Admitted.{calls_of, seen_of}
-use Rattle.connections.specs.tcp_front.Arrivals.{Arrival, Waits, Answered}
+use Rattle.tcp_front.specs.Admitted.{calls_of, seen_of}
+use Rattle.tcp_front.specs.Arrivals.{Arrival, Waits, Answered}
 use Rattle.workers.specs.shared_waiting.Passes.{known}
 use Rattle.lanes.specs.declared.intake.Intake.{Intake}
 use Rattle.lanes.specs.Intakes.{answered_of, all_put, HasTakenIn}

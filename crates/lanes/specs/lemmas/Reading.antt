@@ -7,12 +7,12 @@ use Rattle.nfs_model.specs.World.{Heard, Scanned}
 use Rattle.outboxes.specs.Messages.{ReplyMessage}
 use Rattle.engine_feed.specs.Numbers.{fault_number}
 use Rattle.engine_feed.specs.Streams.{scan_stream}
-use Rattle.connections.specs.declared.tcp_front.stream.Stopped.{Stopped}
-use Rattle.connections.specs.declared.tcp_front.stream.Stopped.TheVariants as stops
-use Rattle.connections.specs.declared.tcp_front.stream.Stream.{Stream}
-use Rattle.connections.specs.tcp_front.Arrivals.{Arrival}
-use Rattle.connections.specs.tcp_front.Steps.{BringsFirst, StopsAs}
-use Rattle.connections.specs.tcp_front.Reading.{AreFirst}
+use Rattle.tcp_front.specs.declared.stream.Stopped.{Stopped}
+use Rattle.tcp_front.specs.declared.stream.Stopped.TheVariants as stops
+use Rattle.tcp_front.specs.declared.stream.Stream.{Stream}
+use Rattle.tcp_front.specs.Arrivals.{Arrival}
+use Rattle.tcp_front.specs.Steps.{BringsFirst, StopsAs}
+use Rattle.tcp_front.specs.Reading.{AreFirst}
 use Rattle.lanes.specs.declared.connection.Connection.{Connection}
 use Rattle.lanes.specs.declared.reading.Came.{Came}
 use Rattle.lanes.specs.Connections.{now_of}

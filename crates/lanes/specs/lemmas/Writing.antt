@@ -7,11 +7,11 @@ use Rattle.rpc_msg.specs.Replies.{reply_record, reply_bytes}
 use Rattle.outboxes.specs.Boxes.{Boxes}
 use Rattle.outboxes.specs.Messages.{ReplyMessage, record_of}
 use Rattle.outboxes.specs.lemmas.Messages.{record_is}
-use Rattle.connections.specs.tcp_front.Writing.{records_of}
+use Rattle.tcp_front.specs.Writing.{records_of}
 use Rattle.lanes.specs.declared.connection.Connection.{Connection}
 use Rattle.lanes.specs.declared.writing.Sent.{Sent}
-use Rattle.connections.specs.declared.tcp_front.stream.Stopped.{Stopped}
-use Rattle.connections.specs.declared.tcp_front.stream.Stream.{Stream}
+use Rattle.tcp_front.specs.declared.stream.Stopped.{Stopped}
+use Rattle.tcp_front.specs.declared.stream.Stream.{Stream}
 use Rattle.nfs_model.specs.World.{Heard}
 use Rattle.lanes.specs.Connections.{now_of, number_of}
 use Rattle.lanes.specs.Reading.{IsReadFrom, Reads}

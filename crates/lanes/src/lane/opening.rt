@@ -5,7 +5,7 @@ use crate::device::Device;
 use crate::due::Due;
 use crate::intake::Intake;
 use crate::lane::Lane;
-use affinity_tree::Layout;
+use affinity::Layout;
 use outboxes::Outboxes;
 use slab::Slab;
 use std::alloc::Global;

@@ -3,7 +3,7 @@
 use crate::device::Device;
 use crate::intake::Intake;
 use crate::lane::Lane;
-use affinity_tree::Layout;
+use affinity::Layout;
 use workers::shared_waiting::{Pass, SharedWaiting};
 use workers::{Envelope, Worker};
 

@@ -1,7 +1,7 @@
 //! Connections that are read.
 
 ghost use Rattle.std.specs.Prelude.{◌≡◌, ◌<◌, length};
-ghost use Rattle.affinity_tree.specs.Layout.{layout_of};
+ghost use Rattle.affinity.specs.Layout.{layout_of};
 ghost use Rattle.slab.specs.Slab.{get};
 ghost use Rattle.workers.specs.Words.{layout_in};
 ghost use Rattle.lanes.specs.Lanes.{ReadsOn, ReadsUnder};
@@ -11,7 +11,7 @@ use crate::device::Device;
 use crate::intake::Intake;
 use crate::lane::Lane;
 use crate::reading::Came;
-use affinity_tree::Layout;
+use affinity::Layout;
 use slab::Slab;
 use std::sync::Wait;
 

@@ -3,25 +3,25 @@ use Rattle.std.proofs.Common.{◌≡◌, ℕ, ◌+◌, ◌<◌, List, length, Op
 use Rattle.nfs_model.specs.Parts.{Hand}
 use Rattle.nfs_model.specs.Server.{Server, opening}
 use Rattle.nfs_model.specs.Tree.{Layout, Serial}
-use Rattle.affinity_tree.specs.Fault.{fault_of}
-use Rattle.affinity_tree.specs.Numbers.{number_of, parents}
-use Rattle.affinity_tree.specs.lemmas.Alike.{alike}
-use Rattle.affinity_tree.specs.lemmas.Standing.{number-place}
+use Rattle.affinity.specs.Fault.{fault_of}
+use Rattle.affinity.specs.Numbers.{number_of, parents}
+use Rattle.affinity.specs.lemmas.Alike.{alike}
+use Rattle.affinity.specs.lemmas.Standing.{number-place}
 use Rattle.depot.specs.Grants.{IsClosed}
-use Rattle.depot.specs.rule.History.{after, entries_of, listed, AreHands, Legal, SoundThroughout}
-use Rattle.depot.specs.rule.Sums.{total}
-use Rattle.parcels.specs.laws.lemmas.Alike.{filer-same}
-use Rattle.parcels.specs.laws.lemmas.Opening.{opening-tree}
-use Rattle.parcels.specs.laws.lemmas.SeenSets.{serial-seen}
-use Rattle.parcels.specs.state.Contents.{FilerContents, filer_contents}
-use Rattle.parcels.specs.state.Parcels.{FilerParcel}
-use Rattle.parcels.specs.state.Partition.{times_in_hand}
-use Rattle.parcels.specs.state.Replayed.{Replays}
-use Rattle.parcels.specs.state.Sets.{FilerSerial, serial_set}
-use Rattle.parcels.specs.state.Sound.{AreSound, AllSound, IsFiler}
-use Rattle.parcels.specs.state.Tree.{server_of, tree}
-use Rattle.parcel_sets.specs.Sets.{serial_parcels}
-use Rattle.parcels.specs.declared.files.Files.{Files}
+use Rattle.depot_rule.specs.History.{after, entries_of, listed, AreHands, Legal, SoundThroughout}
+use Rattle.depot_rule.specs.Sums.{total}
+use Rattle.filer_state.specs.laws.lemmas.Alike.{filer-same}
+use Rattle.filer_state.specs.laws.lemmas.Opening.{opening-tree}
+use Rattle.filer_state.specs.laws.lemmas.SeenSets.{serial-seen}
+use Rattle.filer_state.specs.state.Contents.{FilerContents, filer_contents}
+use Rattle.filer_state.specs.state.Parcels.{FilerParcel}
+use Rattle.filer_state.specs.state.Partition.{times_in_hand}
+use Rattle.filer_state.specs.state.Replayed.{Replays}
+use Rattle.filer_state.specs.state.Sets.{FilerSerial, serial_set}
+use Rattle.filer_state.specs.state.Sound.{AreSound, AllSound, IsFiler}
+use Rattle.filer_state.specs.state.Tree.{server_of, tree}
+use Rattle.parcels.specs.Sets.{serial_parcels}
+use Rattle.filer_state.specs.declared.files.Files.{Files}
 use Rattle.workers.specs.Jobs.{job_steps, job_takes, job_gives}
 use Rattle.workers.specs.declared.message.Message.{Message}
 use Rattle.workers.specs.Balance.{FilerEntry, FilerView, Weight, by_entry, by_key}

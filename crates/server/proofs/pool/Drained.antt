@@ -1,8 +1,8 @@
 -- What the only pass picks until nothing waits.
 use Rattle.std.proofs.Common.{◌≡◌, ℕ, ◌+◌, List, [], ◌∷◌, ◌++◌, length, ap, arith}
 use Rattle.crossbeam_queue.specs.Fifo.{Held}
-use Rattle.depot.specs.rule.Sums.{total}
-use Rattle.depot.specs.rule.lemmas.Sums.{total-append}
+use Rattle.depot_rule.specs.Sums.{total}
+use Rattle.depot_rule.specs.lemmas.Sums.{total-append}
 use Rattle.workers.specs.shared_waiting.Balance.{taken, IsWhole, Leaves}
 use Rattle.workers.specs.declared.message.Message.{Message}
 use Rattle.workers.specs.Balance.{Passed}

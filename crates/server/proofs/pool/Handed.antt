@@ -1,8 +1,8 @@
 -- Workers and threads, handed from one list to another.
 use Rattle.std.proofs.Common.{◌≡◌, ℕ, ◌+◌, ◌-◌, ◌*◌, ◌^◌, List, [], ◌∷◌, ◌++◌, Some, All, ap, arith, sym, subst, ◌∙◌}
 use Rattle.std.proofs.lemmas.List.Elements.{All-push, All-pop}
-use Rattle.depot.specs.rule.Sums.{total}
-use Rattle.depot.specs.rule.lemmas.Sums.{total-append}
+use Rattle.depot_rule.specs.Sums.{total}
+use Rattle.depot_rule.specs.lemmas.Sums.{total-append}
 use Rattle.server.specs.pool.Heirs.{IsHeir}
 use Rattle.server.specs.pool.Shares.{share_of}
 use Rattle.workers.specs.declared.worker.Worker.{Worker}

@@ -3,14 +3,14 @@ use Rattle.std.proofs.Common.{◌≡◌, ℕ, ◌+◌, List, [], ◌∷◌, ◌+
 use Rattle.std.specs.Prelude.{option_to_list}
 use Rattle.nfs_model.specs.Parts.{Hand}
 use Rattle.depot.specs.Words.{view, splits_left, IsSeatHere}
-use Rattle.depot.specs.declared.rule.view.Entry.{Entry}
-use Rattle.depot.specs.rule.History.{batches_of, AreHands}
-use Rattle.depot.specs.rule.Seats.{merge}
-use Rattle.depot.specs.rule.Shares.{Has}
-use Rattle.depot.specs.rule.Sums.{total}
-use Rattle.depot.specs.rule.lemmas.Sums.{total-append}
-use Rattle.parcels.specs.state.Parcels.{FilerParcel}
-use Rattle.parcels.specs.declared.files.Files.{Files}
+use Rattle.depot_rule.specs.declared.view.Entry.{Entry}
+use Rattle.depot_rule.specs.History.{batches_of, AreHands}
+use Rattle.depot_rule.specs.Seats.{merge}
+use Rattle.depot_rule.specs.Shares.{Has}
+use Rattle.depot_rule.specs.Sums.{total}
+use Rattle.depot_rule.specs.lemmas.Sums.{total-append}
+use Rattle.filer_state.specs.state.Parcels.{FilerParcel}
+use Rattle.filer_state.specs.declared.files.Files.{Files}
 use Rattle.workers.specs.Jobs.{job_takes, job_gives}
 use Rattle.workers.specs.shared_waiting.Balance.{both}
 use Rattle.workers.specs.shared_waiting.Passes.{IsOf}

@@ -1,7 +1,7 @@
 -- Shares of the right to know the queue, as passes are joined and cut.
 use Rattle.std.proofs.Common.{◌≡◌, ℕ, ◌+◌, ◌^◌, ◌≤◌, List, [], ◌∷◌, ◌++◌, ap, ◌∙◌, subst, arith}
-use Rattle.depot.specs.rule.Sums.{total}
-use Rattle.depot.specs.rule.lemmas.Sums.{total-append}
+use Rattle.depot_rule.specs.Sums.{total}
+use Rattle.depot_rule.specs.lemmas.Sums.{total-append}
 use Rattle.workers.specs.shared_waiting.Balance.{part, both, left, right, IsWhole}
 use Rattle.workers.specs.shared_waiting.Passes.{known}
 use Rattle.workers.specs.declared.worker.Worker.{Worker}

@@ -3,15 +3,15 @@ use Rattle.std.specs.Prelude.{◌≡◌, ◌<◌, ℕ, ◌+◌, List, length, Op
 use Rattle.nfs_model.specs.Parts.{Hand}
 use Rattle.nfs_model.specs.Server.{opening}
 use Rattle.nfs_model.specs.Tree as trees
-use Rattle.affinity_tree.specs.Numbers.{parents}
-use Rattle.depot.specs.rule.History.{after, listed, AreHands, Legal, SoundThroughout}
-use Rattle.depot.specs.rule.Sums.{total}
-use Rattle.parcels.specs.state.Opening.{AreOpening}
-use Rattle.parcels.specs.state.Parcels.{FilerParcel}
-use Rattle.parcels.specs.state.Replayed.{Replays}
-use Rattle.parcels.specs.state.Sound.{AllSound}
-use Rattle.parcels.specs.state.Tree.{tree}
-use Rattle.parcels.specs.declared.files.Files.{Files}
+use Rattle.affinity.specs.Numbers.{parents}
+use Rattle.depot_rule.specs.History.{after, listed, AreHands, Legal, SoundThroughout}
+use Rattle.depot_rule.specs.Sums.{total}
+use Rattle.filer_state.specs.state.Opening.{AreOpening}
+use Rattle.filer_state.specs.state.Parcels.{FilerParcel}
+use Rattle.filer_state.specs.state.Replayed.{Replays}
+use Rattle.filer_state.specs.state.Sound.{AllSound}
+use Rattle.filer_state.specs.state.Tree.{tree}
+use Rattle.filer_state.specs.declared.files.Files.{Files}
 use Rattle.workers.specs.Jobs.{job_steps, job_takes, job_gives}
 use Rattle.workers.specs.declared.message.Message.{Message}
 use Rattle.workers.specs.Balance.{FilerEntry, Weight, by_entry, by_key}

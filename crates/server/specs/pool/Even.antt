@@ -1,6 +1,6 @@
 -- What workers that were put together keep.
 use Rattle.std.specs.Prelude.{◌≡◌, ◌+◌, List}
-use Rattle.depot.specs.rule.Sums.{total}
+use Rattle.depot_rule.specs.Sums.{total}
 use Rattle.workers.specs.declared.message.Message.{Message}
 use Rattle.workers.specs.Balance.{FilerEntry, Passed, Weight, by_entry, by_key}
 

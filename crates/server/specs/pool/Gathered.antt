@@ -1,8 +1,8 @@
 -- What all workers of a filer leave.
 use Rattle.std.specs.Prelude.{◌≡◌, ℕ, ◌+◌}
 use Rattle.depot.specs.Words.{view, splits_left, IsSeatHere, HasNoGrant}
-use Rattle.depot.specs.rule.History.{entries_of, AreHands}
-use Rattle.depot.specs.rule.Sums.{total}
+use Rattle.depot_rule.specs.History.{entries_of, AreHands}
+use Rattle.depot_rule.specs.Sums.{total}
 use Rattle.workers.specs.Jobs.{job_takes, job_gives}
 use Rattle.workers.specs.shared_waiting.Passes.{IsOf}
 use Rattle.server.specs.declared.pool.gathered.Gathered.{Gathered}

@@ -1,7 +1,7 @@
 -- What a pool has.
 use Rattle.std.specs.Prelude.{◌≡◌, ◌≤◌, ◌+◌, ◌^◌, ℕ, List, length}
 use Rattle.std.specs.Arc.{arc_value}
-use Rattle.depot.specs.rule.Sums.{total}
+use Rattle.depot_rule.specs.Sums.{total}
 use Rattle.server.specs.declared.pool.pool.Pool.{Pool}
 use Rattle.server.specs.pool.Shares.{FilerPass, entries_by, picks_by, puts_by, share_in}
 use Rattle.server.specs.pool.Threads.{Thread, seats_with, share_with, started_with}

@@ -1,9 +1,9 @@
 -- What workers and passes come to, added up.
 use Rattle.std.specs.Prelude.{◌≡◌, ◌≤◌, ℕ, ◌+◌, ◌^◌, List}
 use Rattle.nfs_model.specs.Parts.{Hand}
-use Rattle.affinity_tree.specs.declared.layout.Layout.{Layout}
-use Rattle.depot.specs.rule.Sums.{total}
-use Rattle.parcels.specs.state.Jobs.{batches_in}
+use Rattle.affinity.specs.declared.layout.Layout.{Layout}
+use Rattle.depot_rule.specs.Sums.{total}
+use Rattle.filer_state.specs.state.Jobs.{batches_in}
 use Rattle.workers.specs.shared_waiting.Balance.{part}
 use Rattle.workers.specs.shared_waiting.Passes.{known}
 use Rattle.workers.specs.declared.shared_waiting.pass.Pass.{Pass}

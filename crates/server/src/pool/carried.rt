@@ -1,9 +1,9 @@
 //! What one worker carries and keeps, put to what others did.
 
 ghost use Rattle.std.specs.Prelude.{◌≡◌, ◌≤◌, ◌+◌, ◌++◌, option_to_list, vec_len, vec_capacity};
-ghost use Rattle.parcels.specs.state.Jobs.{batches_in};
+ghost use Rattle.filer_state.specs.state.Jobs.{batches_in};
 
-use parcel_sets::Hand;
+use parcels::Hand;
 use workers::{BatchInHand, Envelope};
 
 /// Puts the batch of a hand, if it has one.

@@ -4,16 +4,16 @@ ghost use Rattle.std.specs.Prelude.{◌≡◌, ℕ};
 ghost use Rattle.server.specs.pool.Ends.{HasEnded};
 ghost use Rattle.server.specs.pool.Gathered.{calls_by, IsLeftOf};
 ghost use Rattle.depot.specs.Words.{view};
-ghost use Rattle.depot.specs.rule.History.{entries_of};
-ghost use Rattle.depot.specs.rule.Sums.{total};
+ghost use Rattle.depot_rule.specs.History.{entries_of};
+ghost use Rattle.depot_rule.specs.Sums.{total};
 ghost use Rattle.nfs_model.specs.Tree as trees;
-ghost use Rattle.parcel_sets.specs.Sets.{serial_parcels};
+ghost use Rattle.parcels.specs.Sets.{serial_parcels};
 ghost use Rattle.workers.specs.Balance.{FilerEntry, Weight};
 ghost use Rattle.workers.specs.Words.{layout_in, verifier_in};
 
 use crate::pool::ended::Ended;
 use crate::pool::left::Left;
-use parcel_sets::SerialNode;
+use parcels::SerialNode;
 use workers::Filer;
 
 /// Ends a filer. Its parcels come back, with what its workers left.

@@ -1,7 +1,7 @@
 //! Workers that threads give back.
 
 ghost use Rattle.std.specs.Prelude.{◌≡◌, ◌≤◌, ◌+◌, ℕ, All, vec_len, vec_capacity};
-ghost use Rattle.depot.specs.rule.Sums.{total};
+ghost use Rattle.depot_rule.specs.Sums.{total};
 ghost use Rattle.server.specs.pool.Shares.{share_of};
 ghost use Rattle.server.specs.pool.Threads.{seats_with, share_with, ServesIn};
 ghost use Rattle.workers.specs.Words.{seats_in, IsIn};

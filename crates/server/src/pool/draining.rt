@@ -1,12 +1,12 @@
 //! The messages that wait at the end.
 
 ghost use Rattle.std.specs.Prelude.{◌≡◌, ◌≤◌, ◌+◌, ℕ, [], vec_len, vec_capacity};
-ghost use Rattle.depot.specs.rule.Sums.{total};
+ghost use Rattle.depot_rule.specs.Sums.{total};
 ghost use Rattle.workers.specs.shared_waiting.Balance.{IsWhole};
 ghost use Rattle.workers.specs.shared_waiting.Passes.{known, IsOf};
 ghost use Rattle.workers.specs.declared.message.Message as messages;
 
-use affinity_tree::Layout;
+use affinity::Layout;
 use std::sync::Wait;
 use workers::Envelope;
 use workers::shared_waiting::{Pass, SharedWaiting};

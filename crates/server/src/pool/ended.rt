@@ -1,7 +1,7 @@
 //! What a filer leaves.
 
-use parcel_sets::SerialHeld;
-use parcels::Files;
+use filer_state::Files;
+use parcels::SerialHeld;
 use workers::{BatchInHand, Envelope};
 
 /// What a filer leaves: all its parcels, the batches that were in hands, and the messages that

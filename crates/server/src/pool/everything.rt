@@ -1,7 +1,7 @@
 //! All workers and passes of a filer, put together.
 
 ghost use Rattle.std.specs.Prelude.{◌≡◌, ℕ, All};
-ghost use Rattle.depot.specs.rule.Sums.{total};
+ghost use Rattle.depot_rule.specs.Sums.{total};
 ghost use Rattle.server.specs.pool.Gathered.{calls_by, IsLeftOf};
 ghost use Rattle.server.specs.pool.Shares.{AreAll, carried_by, kept_by, put_by, picked_by};
 ghost use Rattle.nfs_model.specs.Parts as parts;
@@ -14,7 +14,7 @@ use crate::pool::gathered::Gathered;
 use crate::pool::joining::{begin, join_all, join_passes};
 use crate::pool::left::Left;
 use crate::pool::room::Room;
-use affinity_tree::Layout;
+use affinity::Layout;
 use std::sync::Wait;
 use workers::shared_waiting::Pass;
 use workers::{Envelope, Filer, Worker};

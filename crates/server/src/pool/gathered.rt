@@ -1,12 +1,12 @@
 //! Workers that were put together.
 
 ghost use Rattle.depot.specs.Words.{view, HasNoGrant};
-ghost use Rattle.depot.specs.rule.History.{entries_of, AreHands};
+ghost use Rattle.depot_rule.specs.History.{entries_of, AreHands};
 ghost use Rattle.server.specs.pool.Even.{IsEvenWith};
 ghost use Rattle.workers.specs.Jobs.{job_takes, job_gives};
 ghost use Rattle.workers.specs.shared_waiting.Passes.{known};
 
-use affinity_tree::Layout;
+use affinity::Layout;
 use depot::Seat;
 use workers::shared_waiting::Pass;
 use workers::{BatchInHand, Envelope, Service};

@@ -14,11 +14,11 @@ ghost use Rattle.std.specs.Prelude.{
   vec_capacity,
 };
 ghost use Rattle.depot.specs.Words.{splits_left};
-ghost use Rattle.depot.specs.rule.Sums.{total};
+ghost use Rattle.depot_rule.specs.Sums.{total};
 ghost use Rattle.server.specs.pool.Gathered.{IsGatheredIn};
 ghost use Rattle.server.specs.pool.Shares.{AreAllWith, FilerPass};
 ghost use Rattle.server.specs.pool.Shares.{carried_by, kept_by, put_by, picked_by};
-ghost use Rattle.parcels.specs.state.Jobs.{batches_in};
+ghost use Rattle.filer_state.specs.state.Jobs.{batches_in};
 ghost use Rattle.nfs_model.specs.Parts as parts;
 ghost use Rattle.workers.specs.shared_waiting.Balance.{both, IsWhole};
 ghost use Rattle.workers.specs.shared_waiting.Passes.{known, IsOf};
@@ -27,7 +27,7 @@ ghost use Rattle.workers.specs.Words.{passed, seats_in, IsIn};
 
 use crate::pool::carried::{push_batch, push_kept};
 use crate::pool::gathered::Gathered;
-use affinity_tree::Layout;
+use affinity::Layout;
 use workers::shared_waiting::{Pass, SharedWaiting};
 use workers::{BatchInHand, Envelope, Filer, Worker, WorkerParts};
 

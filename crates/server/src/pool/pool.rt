@@ -2,7 +2,7 @@
 
 ghost use Rattle.std.specs.Prelude.{◌≡◌, ◌≤◌, [], All, IfOk, vec_len, vec_capacity};
 ghost use Rattle.std.specs.Arc.{arc_value};
-ghost use Rattle.depot.specs.rule.Sums.{total};
+ghost use Rattle.depot_rule.specs.Sums.{total};
 ghost use Rattle.server.specs.pool.Threads.{seats_with, ServesIn};
 
 use crate::pool::collecting::collect;
@@ -14,7 +14,7 @@ use crate::pool::splits::{first_worker, split_workers};
 use crate::pool::starting::start_all;
 use crate::pool::stop_word::StopWord;
 use crate::pool::task::Thread;
-use affinity_tree::Layout;
+use affinity::Layout;
 use depot::Seat;
 use std::alloc::{AllocError, Global};
 use std::rt::Clock;
@@ -85,7 +85,7 @@ fn supply(alloc: Global, filer: &Arc<Filer>) -> Result<Supplies, AllocError>
 impl Pool {
     ghost use Rattle.std.specs.Prelude.{◌<◌, None, Some};
     ghost use Rattle.depot.specs.Words.{view, splits_left, HasNoGrant, IsSeatHere};
-    ghost use Rattle.depot.specs.rule.History.{entries_of, AreHands};
+    ghost use Rattle.depot_rule.specs.History.{entries_of, AreHands};
     ghost use Rattle.server.specs.pool.Gathered.{calls_by, IsLeftOf};
     ghost use Rattle.server.specs.pool.Pools.{filer_of, HasBetween, HasAllWith};
     ghost use Rattle.server.specs.pool.Shares.{put_by, picked_by};

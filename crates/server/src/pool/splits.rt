@@ -2,19 +2,19 @@
 
 ghost use Rattle.std.specs.Prelude.{◌≡◌, ◌<◌, ◌≤◌, ◌+◌, ℕ, [], None, Some, All};
 ghost use Rattle.std.specs.Prelude.{vec_len, vec_capacity};
-ghost use Rattle.depot.specs.rule.Sums.{total};
+ghost use Rattle.depot_rule.specs.Sums.{total};
 ghost use Rattle.server.specs.pool.Shares.{entries_by, picks_by, puts_by, share_of};
 ghost use Rattle.workers.specs.declared.message.Message as messages;
 ghost use Rattle.workers.specs.Balance.{FilerEntry};
 ghost use Rattle.depot.specs.Words.{view, splits_left, HasNoGrant, IsSeatHere};
-ghost use Rattle.depot.specs.rule.History.{entries_of, AreHands};
+ghost use Rattle.depot_rule.specs.History.{entries_of, AreHands};
 ghost use Rattle.workers.specs.Balance.{IsEven};
 ghost use Rattle.workers.specs.Jobs.{job_takes, job_gives};
 ghost use Rattle.workers.specs.Words.{entries_in, layout_in, layout_known, passed, seats_in};
 ghost use Rattle.workers.specs.Words.{verifier_in, HasOpened, IsIn};
 ghost use Rattle.workers.specs.shared_waiting.Passes.{known, IsOf};
 
-use affinity_tree::Layout;
+use affinity::Layout;
 use depot::Seat;
 use workers::shared_waiting::Pass;
 use workers::{Envelope, Filer, Service, Worker};

@@ -3,7 +3,7 @@
 ghost use Rattle.std.specs.Prelude.{◌≡◌, ◌≤◌, ◌+◌, ℕ, [], All, None, IfOk};
 ghost use Rattle.std.specs.Prelude.{vec_len, vec_capacity};
 ghost use Rattle.std.specs.Arc.{arc_value};
-ghost use Rattle.depot.specs.rule.Sums.{total};
+ghost use Rattle.depot_rule.specs.Sums.{total};
 ghost use Rattle.server.specs.pool.Threads.{started_with, ServesIn};
 ghost use Rattle.workers.specs.declared.worker.Worker.{Worker};
 ghost use Rattle.workers.specs.Words.{IsIn};

@@ -3,7 +3,7 @@ use Rattle.std.proofs.Common.{◌≡◌, ℕ, zero, suc, ◌-◌, ◌<◌, ◌==
 use Rattle.std.proofs.lemmas.Bool.{eqb-true}
 use Rattle.std.specs.FinMap.{get}
 use Rattle.nfs_model.specs.Serial.Rename.{on_parent}
-use Rattle.parcels.specs.state.Names.{InodeMap, parent_directory}
+use Rattle.filer_state.specs.state.Names.{InodeMap, parent_directory}
 use Rattle.service_names.specs.RenamingChanges.{above, climbs}
 
 is-false : (at target : ℕ) → (at ≡ target → ⊥) → (b : Bool) → (at == target) ≡ b → (at == target) ≡ false

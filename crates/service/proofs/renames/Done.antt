@@ -8,12 +8,12 @@ use Rattle.nfs_values.specs.Answer as values
 use Rattle.nfs_values.specs.declared.answer.Answer.TheVariants.{Rename}
 use Rattle.nfs_values.specs.declared.answer.RenameResults.{RenameResults}
 use Rattle.nfs_values.specs.declared.status.Status as statuses
-use Rattle.parcels.specs.state.Calls.{VolumeCall, ServesOn}
-use Rattle.parcels.specs.state.Changes.{LogicalAnswer}
-use Rattle.parcels.specs.state.Lenses.{LogicalSet, logical_lens}
-use Rattle.parcels.specs.state.Jobs.{Replied}
-use Rattle.parcels.specs.state.Promises.{RightOnVolume}
-use Rattle.parcels.specs.state.Running.{RunsOn}
+use Rattle.filer_state.specs.state.Calls.{VolumeCall, ServesOn}
+use Rattle.filer_state.specs.state.Changes.{LogicalAnswer}
+use Rattle.filer_state.specs.state.Lenses.{LogicalSet, logical_lens}
+use Rattle.filer_state.specs.state.Jobs.{Replied}
+use Rattle.filer_state.specs.state.Promises.{RightOnVolume}
+use Rattle.filer_state.specs.state.Running.{RunsOn}
 use Rattle.service_names.specs.ChangeLaws.{IsDone, MayStarve}
 use Rattle.service_names.specs.NamedChanges.{HeldNode, node_under, directory_change}
 use Rattle.service_names.specs.RenamingChanges.{HeldRenaming, fails_both, unless_both, is_one_entry, goes_below, target_may_go, directory_now, set_renamed}

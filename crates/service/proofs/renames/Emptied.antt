@@ -2,9 +2,9 @@
 use Rattle.std.proofs.Common.{◌≡◌, ℕ, List, Option, Some, refl, sym, ap, ◌∙◌}
 use Rattle.nfs_model.specs.Types.{Moment}
 use Rattle.nfs_model.specs.volume.Inodes.{InodeKind, RegularFile, Folder, Inode}
-use Rattle.parcels.specs.state.Lenses.{LogicalSet}
-use Rattle.parcels.specs.state.Names.{DirectoryMap}
-use Rattle.parcels.specs.state.Sets.{FilerLogical, logical_set, logical_before, logical_after}
+use Rattle.filer_state.specs.state.Lenses.{LogicalSet}
+use Rattle.filer_state.specs.state.Names.{DirectoryMap}
+use Rattle.filer_state.specs.state.Sets.{FilerLogical, logical_set, logical_before, logical_after}
 use Rattle.service_names.specs.NodesDropped.{directories_left, node_dropped}
 use Rattle.service_names.specs.NodesSized.{kind_sized, file_sized}
 use Rattle.service_names.specs.NamedChanges.{HeldNode}

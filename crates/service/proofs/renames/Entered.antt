@@ -9,8 +9,8 @@ use Rattle.nfs_model.specs.volume.Directories.{DirectoryValue, added, removed, f
 use Rattle.nfs_model.specs.volume.Maps.{changed_at, changed_value}
 use Rattle.nfs_model.specs.volume.lemmas.Directories.{same-turned}
 use Rattle.nfs_model.specs.volume.lemmas.Numbered.{itself, get-insert_at, get-remove_at, same-answers, insert-same, insert-twice}
-use Rattle.parcels.specs.state.Names.{DirectoryMap}
-use Rattle.parcels.specs.state.Tree.{directory_or_empty}
+use Rattle.filer_state.specs.state.Names.{DirectoryMap}
+use Rattle.filer_state.specs.state.Tree.{directory_or_empty}
 use Rattle.service.specs.renames.Moving.{replaced}
 
 -- ---- one directory

@@ -9,19 +9,19 @@ use Rattle.nfs_model.specs.Names.{same_name}
 use Rattle.nfs_model.specs.Parts.{Hand}
 use Rattle.nfs_model.specs.Serial.Rename.{is_empty_list}
 use Rattle.nfs_model.specs.Types.{Listed}
-use Rattle.depot.specs.rule.Shares.{too_many}
+use Rattle.depot_rule.specs.Shares.{too_many}
 use Rattle.nfs_model.specs.volume.Directories.{DirectoryValue, found, fileid_found}
 use Rattle.nfs_model.specs.volume.Inodes.{InodeKind, RegularFile, Folder, Inode}
 use Rattle.nfs_model.specs.volume.lemmas.Inodes.{filled-within}
 use Rattle.nfs_model.specs.volume.lemmas.Numbered.{get-remove_at}
-use Rattle.volume_logical.specs.inodes.Inode.{inode_value}
-use Rattle.parcels.specs.state.Calls.{VolumeCall}
-use Rattle.parcels.specs.state.Changes.{LogicalAnswer}
-use Rattle.parcels.specs.state.Contents.{VolumeContents}
-use Rattle.parcels.specs.state.Lenses.{LogicalSet, logical_lens}
-use Rattle.parcels.specs.state.Promises.{HasVolume}
-use Rattle.parcels.specs.state.Sound.{IsSound}
-use Rattle.parcels.specs.laws.lemmas.Limits.{used-fits, ranges-fit}
+use Rattle.inodes.specs.Inode.{inode_value}
+use Rattle.filer_state.specs.state.Calls.{VolumeCall}
+use Rattle.filer_state.specs.state.Changes.{LogicalAnswer}
+use Rattle.filer_state.specs.state.Contents.{VolumeContents}
+use Rattle.filer_state.specs.state.Lenses.{LogicalSet, logical_lens}
+use Rattle.filer_state.specs.state.Promises.{HasVolume}
+use Rattle.filer_state.specs.state.Sound.{IsSound}
+use Rattle.filer_state.specs.laws.lemmas.Limits.{used-fits, ranges-fit}
 use Rattle.service_names.specs.NameAnswers.{entries_of}
 use Rattle.service_names.specs.ChangeLaws.{IsDone}
 use Rattle.service_names.specs.NamedChanges.{HeldNode, node_there, node_at}

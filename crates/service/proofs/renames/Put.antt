@@ -6,12 +6,12 @@ use Rattle.nfs_values.specs.Moment.{moment_of}
 use Rattle.nfs_model.specs.volume.Inodes.{Inode}
 use Rattle.nfs_model.specs.volume.Stripes.{StripeValue}
 use Rattle.nfs_model.specs.volume.Logical.{LogicalValue}
-use Rattle.volume_logical.specs.inodes.Inode.{inode_value}
-use Rattle.parcels.specs.state.Changes.{attributes_now, touches_taken}
-use Rattle.parcels.specs.state.Contents.{each}
-use Rattle.parcels.specs.state.Lenses.{LogicalSet}
-use Rattle.parcels.specs.state.Sets.{FilerLogical, stripe_value, placed, logical_before, logical_after}
-use Rattle.parcels.specs.state.Tree.{file_touch}
+use Rattle.inodes.specs.Inode.{inode_value}
+use Rattle.filer_state.specs.state.Changes.{attributes_now, touches_taken}
+use Rattle.filer_state.specs.state.Contents.{each}
+use Rattle.filer_state.specs.state.Lenses.{LogicalSet}
+use Rattle.filer_state.specs.state.Sets.{FilerLogical, stripe_value, placed, logical_before, logical_after}
+use Rattle.filer_state.specs.state.Tree.{file_touch}
 use Rattle.service_names.specs.NodesMade.{folders_in, with_subdirectories}
 use Rattle.service_names.specs.NodesMoved.{dated_inode, with_parent, node_hung}
 use Rattle.service_names.specs.NamedChanges.{HeldNode}

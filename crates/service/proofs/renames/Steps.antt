@@ -5,15 +5,15 @@ use Rattle.std.specs.FinMap.{get, remove}
 use Rattle.nfs_model.specs.Parts.{most_ranges, range_blocks}
 use Rattle.nfs_model.specs.Server.{Attributes}
 use Rattle.nfs_values.specs.Moment.{moment_of}
-use Rattle.volume_logical.specs.inodes.Inode.{inode_value, kind_value}
+use Rattle.inodes.specs.Inode.{inode_value, kind_value}
 use Rattle.nfs_model.specs.volume.Inodes.{InodeKind, RegularFile, Folder, Inode, inode_set, inode_dropped}
 use Rattle.nfs_model.specs.volume.Maps.{changed_at}
 use Rattle.nfs_model.specs.volume.Directories.{removed}
 use Rattle.service_names.specs.NameAnswers.{entries_of}
-use Rattle.parcels.specs.state.Contents.{each}
-use Rattle.parcels.specs.state.Lenses.{LogicalSet}
-use Rattle.parcels.specs.state.Names.{DirectoryMap}
-use Rattle.parcels.specs.state.Sets.{FilerLogical, stripe_value, placed, logical_set, logical_before, logical_after}
+use Rattle.filer_state.specs.state.Contents.{each}
+use Rattle.filer_state.specs.state.Lenses.{LogicalSet}
+use Rattle.filer_state.specs.state.Names.{DirectoryMap}
+use Rattle.filer_state.specs.state.Sets.{FilerLogical, stripe_value, placed, logical_set, logical_before, logical_after}
 use Rattle.service_names.specs.NodesDropped.{directory_left, without_subdirectories}
 use Rattle.service_names.specs.NodesMade.{folders_in}
 use Rattle.service_names.specs.NodesMoved.{dated_inode}

@@ -10,14 +10,14 @@ use Rattle.nfs_model.specs.Tree.{Layout, aggregate_of}
 use Rattle.nfs_model.specs.Work.{Replied}
 use Rattle.nfs_values.specs.Answer.{count_of}
 use Rattle.nfs_values.specs.declared.answer.VolumeCount.{VolumeCount}
-use Rattle.parcels.specs.state.Contents.{FilerContents, each}
-use Rattle.parcels.specs.state.Lenses.{serial_lens}
-use Rattle.parcels.specs.state.Sets.{FilerSerial, placed, volume_with, volume_placed, serial_set}
-use Rattle.parcels.specs.laws.lemmas.Each.{each-map}
-use Rattle.parcels.specs.totals.Running.{RunsOnAll}
-use Rattle.parcels.specs.totals.Census.{count_in, count_held}
-use Rattle.parcels.specs.totals.CensusLaws.{census_task}
-use Rattle.parcels.specs.totals.lemmas.Census.{census-right, census-starves}
+use Rattle.filer_state.specs.state.Contents.{FilerContents, each}
+use Rattle.filer_state.specs.state.Lenses.{serial_lens}
+use Rattle.filer_state.specs.state.Sets.{FilerSerial, placed, volume_with, volume_placed, serial_set}
+use Rattle.filer_state.specs.laws.lemmas.Each.{each-map}
+use Rattle.filer_state.specs.totals.Running.{RunsOnAll}
+use Rattle.filer_state.specs.totals.Census.{count_in, count_held}
+use Rattle.filer_state.specs.totals.CensusLaws.{census_task}
+use Rattle.filer_state.specs.totals.lemmas.Census.{census-right, census-starves}
 use Rattle.service.specs.totals.Census.{TakesCensus}
 
 -- ---- the volumes, one after another

@@ -9,22 +9,22 @@ use Rattle.nfs_model.specs.Parts.{range_blocks}
 use Rattle.nfs_model.specs.Work.{Replied}
 use Rattle.nfs_values.specs.Status.{status_of}
 use Rattle.nfs_values.specs.declared.status.Status.{Status}
-use Rattle.parcel_sets.specs.Filled.{is_filled, AreFilledAlike, InEachPlace, vbn_alike, volume_alike, aggregate_alike}
+use Rattle.parcels.specs.Filled.{is_filled, AreFilledAlike, InEachPlace, vbn_alike, volume_alike, aggregate_alike}
 use Rattle.nfs_model.specs.volume.Ranges.{RangeValue}
-use Rattle.parcels.specs.state.Contents.{VolumeContents, each}
-use Rattle.parcels.specs.state.Parcels.{no_range}
-use Rattle.parcels.specs.state.Lenses.{VolumeSet, AggregateSet, volume_lens, aggregate_lens}
-use Rattle.parcels.specs.state.Running.{task_under}
-use Rattle.parcels.specs.state.Sets.{FilerRange, FilerVbn, FilerVolume, FilerAggregate, range_value, placed, vbn_set, volume_set, volume_value, volume_placed}
-use Rattle.parcels.specs.state.Sets.{aggregate_set}
-use Rattle.parcels.specs.state.Tree.{ranges_used}
-use Rattle.parcels.specs.state.WellFormed.{range_at}
-use Rattle.parcels.specs.laws.lemmas.Each.{each-get, each-set, each-index}
-use Rattle.parcels.specs.laws.lemmas.Steps.{get-some}
-use Rattle.parcels.specs.totals.Running.{RunsOnAll}
-use Rattle.parcels.specs.totals.Growing.{first_in_use, grow_refusal, AggregateAnswer, grow_checked, grow_there, grow_aggregate, with_ranges}
-use Rattle.parcels.specs.totals.Laws.{GrowIsRight}
-use Rattle.parcels.specs.totals.lemmas.Sets.{set-there}
+use Rattle.filer_state.specs.state.Contents.{VolumeContents, each}
+use Rattle.filer_state.specs.state.Parcels.{no_range}
+use Rattle.filer_state.specs.state.Lenses.{VolumeSet, AggregateSet, volume_lens, aggregate_lens}
+use Rattle.filer_state.specs.state.Running.{task_under}
+use Rattle.filer_state.specs.state.Sets.{FilerRange, FilerVbn, FilerVolume, FilerAggregate, range_value, placed, vbn_set, volume_set, volume_value, volume_placed}
+use Rattle.filer_state.specs.state.Sets.{aggregate_set}
+use Rattle.filer_state.specs.state.Tree.{ranges_used}
+use Rattle.filer_state.specs.state.WellFormed.{range_at}
+use Rattle.filer_state.specs.laws.lemmas.Each.{each-get, each-set, each-index}
+use Rattle.filer_state.specs.laws.lemmas.Steps.{get-some}
+use Rattle.filer_state.specs.totals.Running.{RunsOnAll}
+use Rattle.filer_state.specs.totals.Growing.{first_in_use, grow_refusal, AggregateAnswer, grow_checked, grow_there, grow_aggregate, with_ranges}
+use Rattle.filer_state.specs.totals.Laws.{GrowIsRight}
+use Rattle.filer_state.specs.totals.lemmas.Sets.{set-there}
 use Rattle.service.specs.totals.Growing.{HasVolumeOf, GrowsAggregate, DoneInAggregate, VolumeGrows, PlaceGrows, HasRangesIn, growing_outcome, growth_refused}
 
 -- ---- a place among others

@@ -2,11 +2,11 @@
 use Rattle.std.proofs.Common.{◌≡◌, ℕ, zero, suc, ◌+◌, ◌<◌, ◌≤◌, true, List, [], ◌∷◌, length, Option, Some, None}
 use Rattle.std.proofs.Common.{refl, sym, ap, ◌∙◌, arith}
 use Rattle.std.specs.Prelude.{slice_get, slice_set, slice_index_or, is_some}
-use Rattle.parcel_sets.specs.Filled.{is_filled, vbn_alike}
+use Rattle.parcels.specs.Filled.{is_filled, vbn_alike}
 use Rattle.nfs_model.specs.volume.Ranges.{RangeValue, put_in_use}
-use Rattle.parcels.specs.state.Contents.{each}
-use Rattle.parcels.specs.state.Sets.{FilerRange, FilerVbn, range_value, placed, vbn_set}
-use Rattle.parcels.specs.totals.Growing.{first_in_use}
+use Rattle.filer_state.specs.state.Contents.{each}
+use Rattle.filer_state.specs.state.Sets.{FilerRange, FilerVbn, range_value, placed, vbn_set}
+use Rattle.filer_state.specs.totals.Growing.{first_in_use}
 use Rattle.service.specs.totals.Ranges.{HasRanges, place_in_use, first_places, with_places}
 
 -- the values from a number on, of which the first n come into use

@@ -7,12 +7,12 @@ use Rattle.nfs_values.specs.Answer.{answer_of}
 use Rattle.nfs_values.specs.declared.answer.Answer.TheVariants.{FilesystemStatus}
 use Rattle.nfs_values.specs.declared.answer.FilesystemStatusResults.{FilesystemStatusResults}
 use Rattle.nfs_values.specs.declared.status.Status.{Status}
-use Rattle.parcels.specs.state.Lenses.{VolumeSet, logical_lens, volume_lens}
-use Rattle.parcels.specs.state.Promises.{HasVolume}
-use Rattle.parcels.specs.state.Running.{RunsOn}
-use Rattle.parcels.specs.totals.Space.{space_answer}
-use Rattle.parcels.specs.totals.SpaceLaws.{fsstat_call}
-use Rattle.parcels.specs.totals.lemmas.Space.{fsstat-right}
+use Rattle.filer_state.specs.state.Lenses.{VolumeSet, logical_lens, volume_lens}
+use Rattle.filer_state.specs.state.Promises.{HasVolume}
+use Rattle.filer_state.specs.state.Running.{RunsOn}
+use Rattle.filer_state.specs.totals.Space.{space_answer}
+use Rattle.filer_state.specs.totals.SpaceLaws.{fsstat_call}
+use Rattle.filer_state.specs.totals.lemmas.Space.{fsstat-right}
 use Rattle.service.specs.totals.Space.{TellsSpace}
 
 -- what is under Volume has what is under Logical

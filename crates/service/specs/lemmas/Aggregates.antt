@@ -10,15 +10,15 @@ use Rattle.nfs_values.specs.Call.{call_of}
 use Rattle.nfs_values.specs.declared.call.Call.{Call}
 use Rattle.nfs_values.specs.declared.call.Call.TheVariants as calls
 use Rattle.nfs_values.specs.declared.status.Status.{Status}
-use Rattle.affinity_tree.specs.Fault.{fault_of}
-use Rattle.affinity_tree.specs.Tree.{IsNode}
-use Rattle.parcel_sets.specs.Sets.{aggregate_parcels}
-use Rattle.parcels.specs.state.Deeds.{stored_all}
-use Rattle.parcels.specs.state.Lenses.{AggregateSet, aggregate_lens}
-use Rattle.parcels.specs.state.Promises.{HasAll}
-use Rattle.parcels.specs.state.Running.{HasFiler, UnlessReplied, Runs, task_under}
-use Rattle.parcels.specs.state.Sets.{FilerAggregate, aggregate_set}
-use Rattle.parcels.specs.laws.lemmas.Granted.{aggregate-has}
+use Rattle.affinity.specs.Fault.{fault_of}
+use Rattle.affinity.specs.Tree.{IsNode}
+use Rattle.parcels.specs.Sets.{aggregate_parcels}
+use Rattle.filer_state.specs.state.Deeds.{stored_all}
+use Rattle.filer_state.specs.state.Lenses.{AggregateSet, aggregate_lens}
+use Rattle.filer_state.specs.state.Promises.{HasAll}
+use Rattle.filer_state.specs.state.Running.{HasFiler, UnlessReplied, Runs, task_under}
+use Rattle.filer_state.specs.state.Sets.{FilerAggregate, aggregate_set}
+use Rattle.filer_state.specs.laws.lemmas.Granted.{aggregate-has}
 use Rattle.service.specs.totals.Running.{RunsOnAll}
 use Rattle.service.specs.totals.RunningLemmas.{aggregate-runs}
 use Rattle.service.specs.totals.Growing.{HasVolumeOf, GrowsAggregate, growing_outcome}

@@ -10,11 +10,11 @@ use Rattle.nfs_model.specs.Work.{volume_above}
 use Rattle.nfs_values.specs.Call.{call_of}
 use Rattle.nfs_values.specs.declared.call.Call.{Call}
 use Rattle.nfs_values.specs.declared.call.Call.TheVariants as calls
-use Rattle.affinity_tree.specs.Affinity.{kind_of}
-use Rattle.affinity_tree.specs.declared.affinity.Kind.{Kind}
-use Rattle.affinity_tree.specs.declared.affinity.Kind.TheVariants as kinds
-use Rattle.parcel_sets.specs.Sets.{volume_around}
-use Rattle.parcels.specs.state.Calls.{LieIn, handle_in}
+use Rattle.affinity.specs.Affinity.{kind_of}
+use Rattle.affinity.specs.declared.affinity.Kind.{Kind}
+use Rattle.affinity.specs.declared.affinity.Kind.TheVariants as kinds
+use Rattle.parcels.specs.Sets.{volume_around}
+use Rattle.filer_state.specs.state.Calls.{LieIn, handle_in}
 use Rattle.service_data.specs.HomeLemmas.{home-lies}
 use Rattle.service.specs.Running.{IsRun, IsRunAt, IsRunIn, RunsAbove, BytesLieIn, fileid_in}
 

@@ -6,16 +6,16 @@ use Rattle.nfs_model.specs.Work.{Outcome, Replied, Starved, Moved}
 use Rattle.nfs_values.specs.Call.{call_of}
 use Rattle.nfs_values.specs.declared.call.Call.{Call}
 use Rattle.nfs_values.specs.declared.call.Call.TheVariants as calls
-use Rattle.affinity_tree.specs.Affinity.{kind_of}
-use Rattle.affinity_tree.specs.declared.affinity.Kind.TheVariants as kinds
-use Rattle.affinity_tree.specs.Fault.{fault_of}
-use Rattle.parcel_sets.specs.Sets.{serial_parcels}
-use Rattle.parcels.specs.state.Contents.{FilerContents}
-use Rattle.parcels.specs.state.Lenses.{serial_lens}
-use Rattle.parcels.specs.state.Promises.{HasAll}
-use Rattle.parcels.specs.state.Running.{HasFiler, Runs, UnlessReplied, task_under}
-use Rattle.parcels.specs.state.Sets.{FilerSerial, serial_set}
-use Rattle.parcels.specs.laws.lemmas.Granted.{serial-has}
+use Rattle.affinity.specs.Affinity.{kind_of}
+use Rattle.affinity.specs.declared.affinity.Kind.TheVariants as kinds
+use Rattle.affinity.specs.Fault.{fault_of}
+use Rattle.parcels.specs.Sets.{serial_parcels}
+use Rattle.filer_state.specs.state.Contents.{FilerContents}
+use Rattle.filer_state.specs.state.Lenses.{serial_lens}
+use Rattle.filer_state.specs.state.Promises.{HasAll}
+use Rattle.filer_state.specs.state.Running.{HasFiler, Runs, UnlessReplied, task_under}
+use Rattle.filer_state.specs.state.Sets.{FilerSerial, serial_set}
+use Rattle.filer_state.specs.laws.lemmas.Granted.{serial-has}
 use Rattle.service.specs.totals.Running.{RunsOnAll}
 use Rattle.service.specs.totals.RunningLemmas as totals
 use Rattle.service.specs.Running.{IsRunAt, MovesOn}

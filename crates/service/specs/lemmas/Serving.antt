@@ -18,26 +18,26 @@ use Rattle.nfs_model.specs.Work.{Outcome, Replied, Starved, Moved, Ready, move_i
 use Rattle.nfs_values.specs.Call.{call_of}
 use Rattle.nfs_values.specs.declared.call.Call.{Call}
 use Rattle.nfs_values.specs.declared.call.Call.TheVariants as calls
-use Rattle.affinity_tree.specs.Fault.{fault_of}
-use Rattle.affinity_tree.specs.lemmas.Ways.{begins-self, begins-longer}
-use Rattle.affinity_tree.specs.Tree.{IsNode, covers}
-use Rattle.parcel_sets.specs.Sets.{volume_around, stripe_parcels, logical_parcels, volume_parcels}
+use Rattle.affinity.specs.Fault.{fault_of}
+use Rattle.affinity.specs.lemmas.Ways.{begins-self, begins-longer}
+use Rattle.affinity.specs.Tree.{IsNode, covers}
+use Rattle.parcels.specs.Sets.{volume_around, stripe_parcels, logical_parcels, volume_parcels}
 use Rattle.nfs_model.specs.volume.Stripes.{StripeValue}
-use Rattle.parcels.specs.state.Calls.{IsCallOn, handle_in, located_on, move_on}
-use Rattle.parcels.specs.state.Contents.{VolumeContents, FilerContents, filer_contents}
-use Rattle.parcels.specs.state.Deeds.{IsHomeOrAbove}
-use Rattle.parcels.specs.state.Lenses.{Lens, logical_lens, stripe_lens, volume_lens, volume_or_none}
-use Rattle.parcels.specs.state.Partition.{parts_of}
-use Rattle.parcels.specs.state.Promises.{HasVolume}
-use Rattle.parcels.specs.state.Running.{HasFiler, RunsOn, UnlessReplied, Runs}
-use Rattle.parcels.specs.state.Sets.{FilerLogical, FilerStripe, FilerVolume, logical_set, logical_before, logical_after, volume_set, volume_before}
-use Rattle.parcels.specs.state.Sets.{volume_after}
-use Rattle.parcels.specs.state.Tree.{stripe_at}
-use Rattle.parcels.specs.laws.lemmas.Granted.{stripe-has, logical-has, volume-has}
-use Rattle.parcels.specs.laws.lemmas.Kinds.{stripe-step, logical-step, volume-step}
-use Rattle.parcels.specs.laws.lemmas.Running.{runs-by}
-use Rattle.parcels.specs.laws.lemmas.SeenSets.{stripe-seen, logical-seen, volume-seen}
-use Rattle.parcels.specs.laws.lemmas.Steps.{laid-out, get-some}
+use Rattle.filer_state.specs.state.Calls.{IsCallOn, handle_in, located_on, move_on}
+use Rattle.filer_state.specs.state.Contents.{VolumeContents, FilerContents, filer_contents}
+use Rattle.filer_state.specs.state.Deeds.{IsHomeOrAbove}
+use Rattle.filer_state.specs.state.Lenses.{Lens, logical_lens, stripe_lens, volume_lens, volume_or_none}
+use Rattle.filer_state.specs.state.Partition.{parts_of}
+use Rattle.filer_state.specs.state.Promises.{HasVolume}
+use Rattle.filer_state.specs.state.Running.{HasFiler, RunsOn, UnlessReplied, Runs}
+use Rattle.filer_state.specs.state.Sets.{FilerLogical, FilerStripe, FilerVolume, logical_set, logical_before, logical_after, volume_set, volume_before}
+use Rattle.filer_state.specs.state.Sets.{volume_after}
+use Rattle.filer_state.specs.state.Tree.{stripe_at}
+use Rattle.filer_state.specs.laws.lemmas.Granted.{stripe-has, logical-has, volume-has}
+use Rattle.filer_state.specs.laws.lemmas.Kinds.{stripe-step, logical-step, volume-step}
+use Rattle.filer_state.specs.laws.lemmas.Running.{runs-by}
+use Rattle.filer_state.specs.laws.lemmas.SeenSets.{stripe-seen, logical-seen, volume-seen}
+use Rattle.filer_state.specs.laws.lemmas.Steps.{laid-out, get-some}
 use Rattle.service.specs.Running.{IsRunAt, IsRunIn, RunsAbove, IsStripeOf, MovesOn, call_on, fileid_in, other_in, procedure}
 use Rattle.service.specs.lemmas.Homes.{IsNodeOf, at-logical, both-there, run-home, run-in}
 

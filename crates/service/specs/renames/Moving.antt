@@ -7,9 +7,9 @@ use Rattle.nfs_model.specs.Parts.{most_ranges, range_blocks}
 use Rattle.nfs_values.specs.Moment.{moment_of}
 use Rattle.nfs_model.specs.volume.Directories.{DirectoryValue, added, removed}
 use Rattle.nfs_model.specs.volume.Maps.{changed_at}
-use Rattle.volume_logical.specs.inodes.Inode.{kind_value, inode_value}
-use Rattle.parcels.specs.state.Lenses.{LogicalSet}
-use Rattle.parcels.specs.state.Names.{DirectoryMap, is_folder}
+use Rattle.inodes.specs.Inode.{kind_value, inode_value}
+use Rattle.filer_state.specs.state.Lenses.{LogicalSet}
+use Rattle.filer_state.specs.state.Names.{DirectoryMap, is_folder}
 use Rattle.service_names.specs.NameAnswers.{entries_of}
 use Rattle.service_names.specs.NodesDropped.{directories_left, node_dropped}
 use Rattle.service_names.specs.NodesSized.{file_sized}

@@ -9,8 +9,8 @@ use Rattle.nfs_values.specs.Answer.{answer_of}
 use Rattle.nfs_values.specs.declared.answer.Answer.TheVariants.{Rename}
 use Rattle.nfs_values.specs.declared.answer.RenameResults.{RenameResults}
 use Rattle.nfs_values.specs.declared.status.Status.{Status}
-use Rattle.parcels.specs.state.Lenses.{LogicalSet, logical_lens}
-use Rattle.parcels.specs.state.Running.{RunsOn}
+use Rattle.filer_state.specs.state.Lenses.{LogicalSet, logical_lens}
+use Rattle.filer_state.specs.state.Running.{RunsOn}
 use Rattle.service_names.specs.ChangeLaws.{rename_call}
 
 -- what it comes to: a reply, or memory ran out

@@ -9,11 +9,11 @@ use Rattle.nfs_values.specs.Moment.{moment_of}
 use Rattle.nfs_values.specs.Status.{status_of}
 use Rattle.nfs_values.specs.declared.status.Status.{Status}
 use Rattle.nfs_model.specs.volume.Inodes as values
-use Rattle.volume_logical.specs.inodes.Inode.{inode_value}
-use Rattle.volume_logical.specs.declared.inodes.inode.Inode.{Inode}
-use Rattle.parcels.specs.state.Lenses.{LogicalSet}
-use Rattle.parcels.specs.state.Names.{InodeMap}
-use Rattle.parcels.specs.state.Changes.{LogicalAnswer}
+use Rattle.inodes.specs.Inode.{inode_value}
+use Rattle.inodes.specs.declared.inode.Inode.{Inode}
+use Rattle.filer_state.specs.state.Lenses.{LogicalSet}
+use Rattle.filer_state.specs.state.Names.{InodeMap}
+use Rattle.filer_state.specs.state.Changes.{LogicalAnswer}
 use Rattle.service_names.specs.ChangeLaws.{rename_done}
 use Rattle.service_names.specs.NamedChanges.{HeldNode, node_under}
 use Rattle.service_names.specs.RenamingChanges.{HeldRenaming, fails_both, rename_by}

@@ -8,10 +8,10 @@ use Rattle.nfs_model.specs.Work.{Outcome, Replied, Starved}
 use Rattle.nfs_values.specs.Answer.{answer_of}
 use Rattle.nfs_values.specs.declared.answer.Answer.TheVariants.{Census}
 use Rattle.nfs_values.specs.declared.answer.VolumeCount.{VolumeCount}
-use Rattle.parcels.specs.state.Contents.{FilerContents}
-use Rattle.parcels.specs.state.Lenses.{serial_lens}
-use Rattle.parcels.specs.totals.Running.{RunsOnAll}
-use Rattle.parcels.specs.totals.CensusLaws.{census_task}
+use Rattle.filer_state.specs.state.Contents.{FilerContents}
+use Rattle.filer_state.specs.state.Lenses.{serial_lens}
+use Rattle.filer_state.specs.totals.Running.{RunsOnAll}
+use Rattle.filer_state.specs.totals.CensusLaws.{census_task}
 
 -- what a CENSUS comes to: a reply, or memory ran out
 abbrev pub census_outcome : Result (Vec VolumeCount) AllocError → Outcome

@@ -10,14 +10,14 @@ use Rattle.nfs_values.specs.Answer.{answer_of}
 use Rattle.nfs_values.specs.Status.{status_of}
 use Rattle.nfs_values.specs.declared.answer.Answer.TheVariants.{Grow}
 use Rattle.nfs_values.specs.declared.status.Status.{Status}
-use Rattle.parcel_sets.specs.Filled.{volume_alike, aggregate_alike}
-use Rattle.parcels.specs.state.Lenses.{aggregate_lens}
-use Rattle.parcels.specs.state.Promises.{HasAll}
-use Rattle.parcels.specs.state.Running.{task_under}
-use Rattle.parcels.specs.state.Sets.{FilerVolume, FilerAggregate, vbn_set, aggregate_set}
-use Rattle.parcels.specs.state.Tree.{ranges_used}
-use Rattle.parcels.specs.totals.Running.{RunsOnAll}
-use Rattle.parcels.specs.totals.Growing.{first_in_use, grow_refusal, grow_aggregate}
+use Rattle.parcels.specs.Filled.{volume_alike, aggregate_alike}
+use Rattle.filer_state.specs.state.Lenses.{aggregate_lens}
+use Rattle.filer_state.specs.state.Promises.{HasAll}
+use Rattle.filer_state.specs.state.Running.{task_under}
+use Rattle.filer_state.specs.state.Sets.{FilerVolume, FilerAggregate, vbn_set, aggregate_set}
+use Rattle.filer_state.specs.state.Tree.{ranges_used}
+use Rattle.filer_state.specs.totals.Running.{RunsOnAll}
+use Rattle.filer_state.specs.totals.Growing.{first_in_use, grow_refusal, grow_aggregate}
 use Rattle.service.specs.totals.Ranges.{HasRanges}
 
 -- ---- an aggregate

@@ -1,7 +1,7 @@
 -- The ranges of a volume in their places, as the first of them come into use.
 use Rattle.std.specs.Prelude.{◌≡◌, ℕ, zero, suc, ◌<◌, true, is_some, List, [], ◌∷◌, Option, Some, None}
 use Rattle.nfs_model.specs.volume.Ranges.{put_in_use}
-use Rattle.parcels.specs.state.Sets.{FilerRange, FilerVbn, placed}
+use Rattle.filer_state.specs.state.Sets.{FilerRange, FilerVbn, placed}
 
 module _ {P : Type 0} where
   -- all 16 are there, each in its place

@@ -7,9 +7,9 @@ use Rattle.nfs_values.specs.Answer.{answer_of}
 use Rattle.nfs_values.specs.declared.answer.Answer.TheVariants.{FilesystemStatus}
 use Rattle.nfs_values.specs.declared.answer.FilesystemStatusResults.{FilesystemStatusResults}
 use Rattle.nfs_values.specs.declared.status.Status.{Status}
-use Rattle.parcels.specs.state.Lenses.{VolumeSet, volume_lens}
-use Rattle.parcels.specs.state.Running.{RunsOn}
-use Rattle.parcels.specs.totals.SpaceLaws.{fsstat_call}
+use Rattle.filer_state.specs.state.Lenses.{VolumeSet, volume_lens}
+use Rattle.filer_state.specs.state.Running.{RunsOn}
+use Rattle.filer_state.specs.totals.SpaceLaws.{fsstat_call}
 
 -- A run of FSSTAT of a fileid by what is under Volume of a volume is right: by whatever handle, and whatever the rest of what is
 -- stored is.

@@ -4,19 +4,19 @@ ghost use Rattle.std.specs.Prelude.{◌≡◌, ◌==◌, ◌&&◌, is_none};
 ghost use Rattle.std.specs.Option.{option_map};
 ghost use Rattle.nfs_model.specs.Names.{same_name};
 ghost use Rattle.nfs_values.specs.Status.{status_of};
-ghost use Rattle.volume_logical.specs.inodes.Inode.{kind_value};
+ghost use Rattle.inodes.specs.Inode.{kind_value};
 ghost use Rattle.service_names.specs.RenamingChanges.{may_replace, target_may_go};
-ghost use Rattle.parcels.specs.state.Names.{parent_in};
-ghost use Rattle.parcels.specs.state.Sets.{logical_before};
+ghost use Rattle.filer_state.specs.state.Names.{parent_in};
+ghost use Rattle.filer_state.specs.state.Sets.{logical_before};
 ghost use Rattle.service_names.specs.Naming.{node_value};
 ghost use Rattle.service.specs.renames.Renaming.{names_fault};
 
 use crate::renames::between::Between;
+use filer_state::Files;
+use inodes::InodeKind;
 use nfs_values::Status;
-use parcel_sets::LogicalHeld;
-use parcels::Files;
+use parcels::LogicalHeld;
 use service_names::{Node, is_dots, is_empty, is_same_name, name_fault};
-use volume_logical::inodes::InodeKind;
 
 /// What is wrong with the names: from's first, then to's; INVAL for `.` and `..` in either.
 pub(crate) fn names_fault(from: &[u8], to: &[u8]) -> Option<Status>

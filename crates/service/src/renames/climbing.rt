@@ -2,20 +2,20 @@
 
 ghost use Rattle.std.specs.Prelude.{◌≡◌};
 ghost use Rattle.std.specs.FinMap.{get, len};
-ghost use Rattle.volume_logical.specs.directories.Index.{fileid_number};
-ghost use Rattle.volume_logical.specs.inodes.Inode.{kind_value};
-ghost use Rattle.parcels.specs.state.Names.{parent_directory};
-ghost use Rattle.parcels.specs.state.Sets.{logical_before};
+ghost use Rattle.directories.specs.Index.{fileid_number};
+ghost use Rattle.inodes.specs.Inode.{kind_value};
+ghost use Rattle.filer_state.specs.state.Names.{parent_directory};
+ghost use Rattle.filer_state.specs.state.Sets.{logical_before};
 ghost use Rattle.service_names.specs.RenamingChanges.{above, climbs, goes_below};
 ghost use Rattle.service.specs.renames.Renaming.{renaming_in};
 ghost use Rattle.std.specs.Prelude.{List, ℕ};
 
 use crate::renames::between::Between;
+use filer_state::Files;
+use inodes::InodeKind;
 use nfs_values::Fileid;
-use parcel_sets::LogicalHeld;
-use parcels::Files;
+use parcels::LogicalHeld;
 use service_names::Node;
-use volume_logical::inodes::InodeKind;
 
 /// Whether a node is a directory that would come into itself or below itself.
 pub(crate) fn goes_below(held: &LogicalHeld<Files>, between: Between, child: Node) -> bool

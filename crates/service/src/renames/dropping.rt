@@ -3,19 +3,19 @@
 ghost use Rattle.std.specs.Prelude.{◌≡◌, ◌≤◌, ◌<◌, ◌^◌, ℕ, List, IfSome};
 ghost use Rattle.std.specs.Option.{option_map};
 ghost use Rattle.nfs_values.specs.Moment.{moment_of};
-ghost use Rattle.parcel_sets.specs.Filled.{logical_alike};
+ghost use Rattle.parcels.specs.Filled.{logical_alike};
 ghost use Rattle.service_names.specs.NamedChanges.{HeldNode};
-ghost use Rattle.parcels.specs.state.Sets.{logical_before, logical_after};
+ghost use Rattle.filer_state.specs.state.Sets.{logical_before, logical_after};
 ghost use Rattle.service_names.specs.Changing.{MayBeSet};
 ghost use Rattle.service_names.specs.Naming.{naming_of, node_value};
 ghost use Rattle.service.specs.renames.Moving.{emptied_gone, node_gone, target_out};
 
 use crate::renames::between::Between;
+use filer_state::Files;
+use inodes::InodeKind;
 use nfs_values::Moment;
-use parcel_sets::LogicalHeld;
-use parcels::Files;
+use parcels::LogicalHeld;
 use service_names::{Node, directory_left, drop_cards, drop_directory, drop_inode, size_file};
-use volume_logical::inodes::InodeKind;
 
 /// Drops the target, if there is one, whose entry is gone: a file's blocks are dead. It takes no
 /// memory.

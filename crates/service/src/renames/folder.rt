@@ -3,18 +3,18 @@
 ghost use Rattle.std.specs.Prelude.{◌≡◌, true, IfOk, Some};
 ghost use Rattle.std.specs.FinMap.{get};
 ghost use Rattle.nfs_model.specs.volume.Inodes as values;
-ghost use Rattle.volume_logical.specs.inodes.Inode.{inode_value};
+ghost use Rattle.inodes.specs.Inode.{inode_value};
 ghost use Rattle.service_names.specs.RenamingChanges.{inode_or, on_folder};
-ghost use Rattle.parcels.specs.state.Changes.{LogicalAnswer};
-ghost use Rattle.parcels.specs.state.Names.{is_folder};
-ghost use Rattle.parcels.specs.state.Sets.{logical_before};
+ghost use Rattle.filer_state.specs.state.Changes.{LogicalAnswer};
+ghost use Rattle.filer_state.specs.state.Names.{is_folder};
+ghost use Rattle.filer_state.specs.state.Sets.{logical_before};
 ghost use Rattle.service.specs.renames.Renaming.{come_to_folder};
 
+use filer_state::Files;
+use inodes::{Inode, InodeKind};
 use nfs_values::{Fileid, Status};
-use parcel_sets::LogicalHeld;
-use parcels::Files;
+use parcels::LogicalHeld;
 use service_names::Node;
-use volume_logical::inodes::{Inode, InodeKind};
 
 /// The inode of a directory: STALE where there is no node of the fileid, NOTDIR where it is a file.
 pub(crate) fn folder_at(held: &LogicalHeld<Files>, fileid: Fileid) -> Result<Inode, Status>

@@ -4,13 +4,13 @@ ghost use Rattle.std.specs.Prelude.{◌≡◌, ◌≤◌, ◌<◌, ◌^◌, IfSo
 ghost use Rattle.std.specs.FinMap.{get};
 ghost use Rattle.std.specs.Option.{option_map};
 ghost use Rattle.nfs_values.specs.Moment.{moment_of};
-ghost use Rattle.parcel_sets.specs.Filled.{logical_alike};
-ghost use Rattle.volume_logical.specs.inodes.Inode.{attributes_value, inode_value, kind_value};
+ghost use Rattle.parcels.specs.Filled.{logical_alike};
+ghost use Rattle.inodes.specs.Inode.{attributes_value, inode_value, kind_value};
 ghost use Rattle.service_names.specs.RenamingChanges.{set_renamed};
 ghost use Rattle.service_names.specs.NodesMade.{folders_in, with_subdirectories};
 ghost use Rattle.service_names.specs.NodesMoved.{dated_inode, with_parent};
-ghost use Rattle.parcels.specs.state.Changes.{attributes_now};
-ghost use Rattle.parcels.specs.state.Sets.{logical_before, logical_after};
+ghost use Rattle.filer_state.specs.state.Changes.{attributes_now};
+ghost use Rattle.filer_state.specs.state.Sets.{logical_before, logical_after};
 ghost use Rattle.service_names.specs.Changing.{with_directories};
 ghost use Rattle.service_names.specs.Naming.{node_value};
 ghost use Rattle.service_names.specs.Shown.{HasFewLinks};
@@ -26,12 +26,12 @@ ghost use Rattle.service.specs.renames.Renaming.{AllWithin, IsWithin, renaming_i
 use crate::renames::between::Between;
 use crate::renames::dropping::drop_target;
 use crate::renames::folder::directory_now;
+use filer_state::Files;
+use inodes::{Inode, InodeKind, StoredAttributes};
 use nfs_values::{Fileid, Moment, Name};
-use parcel_sets::LogicalHeld;
-use parcels::Files;
+use parcels::LogicalHeld;
 use service_names::{Node, attributes_now, directory_left, set_inode, take_touches, with_child};
 use std::alloc::{AllocError, Global};
-use volume_logical::inodes::{Inode, InodeKind, StoredAttributes};
 
 /// Moves a node from its name to another, whose target goes, if there is one. The entry of the new
 /// name comes first: where there is no memory for it nothing has changed.

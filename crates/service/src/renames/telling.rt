@@ -2,17 +2,17 @@
 
 ghost use Rattle.std.specs.Prelude.{◌≡◌, ℕ, List};
 ghost use Rattle.nfs_values.specs.Answer.{name_moved};
-ghost use Rattle.volume_logical.specs.inodes.Inode.{kind_value};
+ghost use Rattle.inodes.specs.Inode.{kind_value};
 ghost use Rattle.service_names.specs.RenamingChanges.{held_renamed};
-ghost use Rattle.parcels.specs.state.Lenses.{LogicalSet};
-ghost use Rattle.parcels.specs.state.Sets.{logical_before};
+ghost use Rattle.filer_state.specs.state.Lenses.{LogicalSet};
+ghost use Rattle.filer_state.specs.state.Sets.{logical_before};
 ghost use Rattle.service.specs.renames.Renaming.{AllWithin, IsWithin, renaming_in};
 
 use crate::renames::between::Between;
 use crate::renames::folder::directory_now;
+use filer_state::Files;
 use nfs_values::RenameResults;
-use parcel_sets::LogicalHeld;
-use parcels::Files;
+use parcels::LogicalHeld;
 use service_names::directory_change;
 
 /// The attributes of both directories before the call, and as they are now.

@@ -3,22 +3,22 @@
 ghost use Rattle.std.specs.Prelude.{◌≡◌, ◌<◌, ◌≤◌, ℕ, length};
 ghost use Rattle.nfs_model.specs.Tree as trees;
 ghost use Rattle.nfs_model.specs.Tree.{aggregate_of};
-ghost use Rattle.affinity_tree.specs.Layout.{layout_of};
+ghost use Rattle.affinity.specs.Layout.{layout_of};
 ghost use Rattle.nfs_values.specs.Answer.{count_of};
-ghost use Rattle.parcels.specs.state.Sets.{
+ghost use Rattle.filer_state.specs.state.Sets.{
   placed,
   serial_set,
   volume_before,
   volume_placed,
   volume_value,
 };
-ghost use Rattle.parcels.specs.totals.Census.{count_in};
+ghost use Rattle.filer_state.specs.totals.Census.{count_in};
 ghost use Rattle.service.specs.totals.Census.{TakesCensus};
 
-use affinity_tree::Layout;
+use affinity::Layout;
+use filer_state::{Files, ranges_used};
 use nfs_values::{VolumeCount, VolumeNumber};
-use parcel_sets::{AggrHeld, SerialHeld, VolumeHeld};
-use parcels::{Files, ranges_used};
+use parcels::{AggrHeld, SerialHeld, VolumeHeld};
 use std::alloc::{AllocError, Global};
 
 /// The blocks of a range.
@@ -43,7 +43,7 @@ pub fn census(
 }
 
 /// The blocks of a volume that there is.
-#[tactic(auto, using(affinity_tree::specs::lemmas::Lawful::few_aggregates, affinity_tree::specs::lemmas::Lawful::few_volumes))]
+#[tactic(auto, using(affinity::specs::lemmas::Lawful::few_aggregates, affinity::specs::lemmas::Lawful::few_volumes))]
 fn count_at(layout: &Layout, held: &SerialHeld<Files>, volume: u32) -> VolumeCount
     requires there { volume < length (layout_of layout.now).volumes }
     ensures { let L = layout_of layout.now in count_of result ≡ count_in volume

@@ -1,15 +1,15 @@
 //! FSSTAT.
 
 ghost use Rattle.std.specs.Prelude.{[]};
-ghost use Rattle.parcels.specs.state.Lenses.{volume_lens};
-ghost use Rattle.parcels.specs.state.Promises.{HasVolume};
-ghost use Rattle.parcels.specs.state.Sets.{volume_before};
+ghost use Rattle.filer_state.specs.state.Lenses.{volume_lens};
+ghost use Rattle.filer_state.specs.state.Promises.{HasVolume};
+ghost use Rattle.filer_state.specs.state.Sets.{volume_before};
 ghost use Rattle.service.specs.totals.Space.{TellsSpace};
 
 use crate::totals::counting::volume_count;
+use filer_state::Files;
 use nfs_values::{Fileid, FilesystemStatusResults, Status, VolumeNumber};
-use parcel_sets::VolumeHeld;
-use parcels::Files;
+use parcels::VolumeHeld;
 use service_names::shown_now;
 
 /// The bytes of a block.

@@ -1,7 +1,7 @@
 //! GROW.
 
 ghost use Rattle.std.specs.Prelude.{◌≡◌, ◌≤◌, OnErr};
-ghost use Rattle.parcel_sets.specs.Filled.{aggregate_alike};
+ghost use Rattle.parcels.specs.Filled.{aggregate_alike};
 ghost use Rattle.service.specs.totals.Growing.{
   DoneInAggregate,
   GrowsAggregate,
@@ -14,10 +14,10 @@ ghost use Rattle.service.specs.totals.Growing.{
 ghost use Rattle.service.specs.totals.Ranges.{HasRanges};
 
 use crate::totals::ranges::put_in_use;
+use filer_state::totals::growing_calls_are_right;
+use filer_state::{Files, ranges_used};
 use nfs_values::{Status, VolumeNumber};
-use parcel_sets::{AggrHeld, VolumeHeld};
-use parcels::totals::growing_calls_are_right;
-use parcels::{Files, ranges_used};
+use parcels::{AggrHeld, VolumeHeld};
 
 /// The ranges of a volume at most.
 const MOST_RANGES: u32 = 16;

@@ -1,14 +1,14 @@
 //! The ranges of a volume, in their places, as they come into use.
 
 ghost use Rattle.std.specs.Prelude.{◌≡◌, ◌≤◌};
-ghost use Rattle.parcel_sets.specs.Filled.{vbn_alike};
+ghost use Rattle.parcels.specs.Filled.{vbn_alike};
 ghost use Rattle.nfs_model.specs.volume.Ranges.{put_in_use};
-ghost use Rattle.parcels.specs.state.Sets.{vbn_set};
-ghost use Rattle.parcels.specs.totals.Growing.{first_in_use};
+ghost use Rattle.filer_state.specs.state.Sets.{vbn_set};
+ghost use Rattle.filer_state.specs.totals.Growing.{first_in_use};
 ghost use Rattle.service.specs.totals.Ranges.{HasRanges, place_in_use};
 
-use parcel_sets::{RangeHeld, VbnHeld};
-use parcels::Files;
+use filer_state::Files;
+use parcels::{RangeHeld, VbnHeld};
 
 /// Puts the first ranges of a volume into use, so many: those that weren't, with all their blocks
 /// free.

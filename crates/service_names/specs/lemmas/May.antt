@@ -7,24 +7,24 @@ use Rattle.std.specs.FinMap.{get, len}
 use Rattle.nfs_model.specs.Parts.{Hand}
 use Rattle.nfs_model.specs.Server.{most_inodes}
 use Rattle.nfs_model.specs.Types.{Listed}
-use Rattle.depot.specs.rule.Shares.{too_many}
+use Rattle.depot_rule.specs.Shares.{too_many}
 use Rattle.nfs_model.specs.volume.Directories.{DirectoryValue, found, fileid_found}
 use Rattle.nfs_model.specs.volume.Inodes.{InodeKind, RegularFile, Folder, Inode}
 use Rattle.nfs_model.specs.volume.Stripes.{Card}
 use Rattle.nfs_model.specs.volume.lemmas.Inodes.{next-absent}
-use Rattle.volume_logical.specs.inodes.Inode.{inode_value}
-use Rattle.parcels.specs.state.Contents.{VolumeContents}
-use Rattle.parcels.specs.state.Names.{root, size_in, is_folder, parent_directory, subdirectories_in, subdirectories_of, folders_listed}
-use Rattle.parcels.specs.state.WellFormed.{WellFormed, size_shown}
-use Rattle.parcels.specs.state.Sound.{IsSound}
-use Rattle.parcels.specs.state.Lenses.{LogicalSet, logical_lens}
-use Rattle.parcels.specs.state.Promises.{HasVolume}
-use Rattle.parcels.specs.state.Tree.{stripe_at, directory_or_empty}
-use Rattle.parcels.specs.laws.lemmas.Limits.{few-folders}
-use Rattle.parcels.specs.changes.NameAnswers.{entries_of}
-use Rattle.parcels.specs.changes.Making.{is_full_set}
-use Rattle.parcels.specs.changes.Named.{node_at, node_there}
-use Rattle.parcels.specs.changes.lemmas.Named.{entry-there}
+use Rattle.inodes.specs.Inode.{inode_value}
+use Rattle.filer_state.specs.state.Contents.{VolumeContents}
+use Rattle.filer_state.specs.state.Names.{root, size_in, is_folder, parent_directory, subdirectories_in, subdirectories_of, folders_listed}
+use Rattle.filer_state.specs.state.WellFormed.{WellFormed, size_shown}
+use Rattle.filer_state.specs.state.Sound.{IsSound}
+use Rattle.filer_state.specs.state.Lenses.{LogicalSet, logical_lens}
+use Rattle.filer_state.specs.state.Promises.{HasVolume}
+use Rattle.filer_state.specs.state.Tree.{stripe_at, directory_or_empty}
+use Rattle.filer_state.specs.laws.lemmas.Limits.{few-folders}
+use Rattle.filer_state.specs.changes.NameAnswers.{entries_of}
+use Rattle.filer_state.specs.changes.Making.{is_full_set}
+use Rattle.filer_state.specs.changes.Named.{node_at, node_there}
+use Rattle.filer_state.specs.changes.lemmas.Named.{entry-there}
 use Rattle.service_names.specs.declared.within.Within.{Within}
 use Rattle.service_names.specs.Making.{MayMake, naming_within}
 

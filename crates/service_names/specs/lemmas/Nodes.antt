@@ -9,17 +9,17 @@ use Rattle.nfs_model.specs.Parts.{Hand, one_if, times_listed, most_ranges, range
 use Rattle.nfs_model.specs.volume.Directories.{DirectoryValue}
 use Rattle.nfs_model.specs.volume.Inodes.{Inode}
 use Rattle.nfs_model.specs.volume.Stripes.{Card}
-use Rattle.parcels.specs.state.Contents.{VolumeContents}
-use Rattle.parcels.specs.state.Names.{is_folder, size_in}
-use Rattle.parcels.specs.state.Sound.{IsSound}
-use Rattle.parcels.specs.state.Tree.{stripe_at, ranges_used, directory_or_empty}
-use Rattle.parcels.specs.state.WellFormed.{size_shown}
-use Rattle.parcels.specs.state.Lenses.{LogicalSet, logical_lens}
-use Rattle.parcels.specs.state.Promises.{HasVolume}
-use Rattle.parcels.specs.laws.lemmas.Limits.{used-fits, ranges-fit}
-use Rattle.parcels.specs.changes.NameAnswers.{entries_of}
-use Rattle.parcels.specs.changes.NodesSized.{all_freed}
-use Rattle.parcels.specs.changes.SizedLemmas.{freed-times}
+use Rattle.filer_state.specs.state.Contents.{VolumeContents}
+use Rattle.filer_state.specs.state.Names.{is_folder, size_in}
+use Rattle.filer_state.specs.state.Sound.{IsSound}
+use Rattle.filer_state.specs.state.Tree.{stripe_at, ranges_used, directory_or_empty}
+use Rattle.filer_state.specs.state.WellFormed.{size_shown}
+use Rattle.filer_state.specs.state.Lenses.{LogicalSet, logical_lens}
+use Rattle.filer_state.specs.state.Promises.{HasVolume}
+use Rattle.filer_state.specs.laws.lemmas.Limits.{used-fits, ranges-fit}
+use Rattle.filer_state.specs.changes.NameAnswers.{entries_of}
+use Rattle.filer_state.specs.changes.NodesSized.{all_freed}
+use Rattle.filer_state.specs.changes.SizedLemmas.{freed-times}
 use Rattle.service_names.specs.Changing.{AreNumbers, MayBeSet}
 use Rattle.service_names.specs.lemmas.Whole.{whole-few}
 

@@ -4,12 +4,12 @@ use Rattle.std.specs.Prelude.{is_some}
 use Rattle.std.specs.FinMap.{get}
 use Rattle.nfs_model.specs.volume.Directories.{DirectoryValue}
 use Rattle.nfs_model.specs.volume.Inodes.{InodeKind, RegularFile, Folder, Inode}
-use Rattle.parcels.specs.state.Contents.{VolumeContents}
-use Rattle.parcels.specs.state.Names.{is_folder, parent_in, subdirectories_in, subdirectories_of, folders_listed}
-use Rattle.parcels.specs.state.WellFormed.{WellFormed}
-use Rattle.parcels.specs.state.Lenses.{LogicalSet, logical_lens}
-use Rattle.parcels.specs.state.Promises.{HasVolume}
-use Rattle.parcels.specs.laws.lemmas.Limits.{few-folders}
+use Rattle.filer_state.specs.state.Contents.{VolumeContents}
+use Rattle.filer_state.specs.state.Names.{is_folder, parent_in, subdirectories_in, subdirectories_of, folders_listed}
+use Rattle.filer_state.specs.state.WellFormed.{WellFormed}
+use Rattle.filer_state.specs.state.Lenses.{LogicalSet, logical_lens}
+use Rattle.filer_state.specs.state.Promises.{HasVolume}
+use Rattle.filer_state.specs.laws.lemmas.Limits.{few-folders}
 use Rattle.service_names.specs.Shown.{HasFewLinks}
 
 -- no directory of a sound volume has too many links

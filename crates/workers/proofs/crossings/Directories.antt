@@ -3,12 +3,12 @@ use denote.Plain.{UInt}
 use mir.Syntax.{w32}
 use denote.Param.Send.{IsSend, sendable, view_send}
 use Rattle.std.proofs.Crossing.{crosses}
-use Rattle.volume_logical.specs.contracts.directories.entries.Entries as Entries
-use Rattle.volume_logical.specs.contracts.directories.entries.Entries.TheInside as EntriesInside
-use Rattle.volume_logical.specs.contracts.directories.directory.Directory as Directory
-use Rattle.volume_logical.specs.contracts.directories.directory.Directory.TheInside as DirectoryInside
-use Rattle.volume_logical.proofs.directories.slot.Slot.TheSendSync as slot
-use Rattle.volume_logical.proofs.directories.spot.Spot.TheSendSync as spot
+use Rattle.directories.specs.contracts.entries.Entries as Entries
+use Rattle.directories.specs.contracts.entries.Entries.TheInside as EntriesInside
+use Rattle.directories.specs.contracts.directory.Directory as Directory
+use Rattle.directories.specs.contracts.directory.Directory.TheInside as DirectoryInside
+use Rattle.directories.proofs.slot.Slot.TheSendSync as slot
+use Rattle.directories.proofs.spot.Spot.TheSendSync as spot
 use Rattle.nfs_values.proofs.number.Cookie.TheSendSync as cookie
 use Rattle.workers.proofs.crossings.Structs.{struct-send}
 use Rattle.workers.proofs.crossings.Sequences.{sequence-send}

@@ -2,13 +2,13 @@
 use denote.Param.Send.{IsSend, sendable, view_send}
 use Rattle.std.proofs.Crossing.{crosses, Box-send}
 use Rattle.std.proofs.MapsCrossing.{BTreeMap-send}
-use Rattle.volume_logical.proofs.inodes.inodes.Inodes.TheSendSync as inodes
+use Rattle.inodes.proofs.inodes.Inodes.TheSendSync as inodes
 use Rattle.nfs_values.proofs.verifier.Verifier.TheSendSync as verifier
-use Rattle.parcels.specs.contracts.directory_map.DirectoryMap as Map
-use Rattle.parcels.specs.contracts.directory_map.DirectoryMap.TheInside as MapInside
-use Rattle.parcels.specs.contracts.logical.Logical as Logical
-use Rattle.parcels.specs.contracts.logical.LogicalParcel as Parcel
-use Rattle.parcels.specs.contracts.logical.LogicalParcel.TheInside as ParcelInside
+use Rattle.filer_state.specs.contracts.directory_map.DirectoryMap as Map
+use Rattle.filer_state.specs.contracts.directory_map.DirectoryMap.TheInside as MapInside
+use Rattle.filer_state.specs.contracts.logical.Logical as Logical
+use Rattle.filer_state.specs.contracts.logical.LogicalParcel as Parcel
+use Rattle.filer_state.specs.contracts.logical.LogicalParcel.TheInside as ParcelInside
 use Rattle.vbn_ranges.proofs.stock.Stock.TheSendSync as stock
 use Rattle.vbn_ranges.proofs.dead.DeadBlocks.TheSendSync as dead
 use Rattle.workers.proofs.crossings.Structs.{struct-send}

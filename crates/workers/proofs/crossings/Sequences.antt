@@ -4,13 +4,13 @@ use denote.Param.Send.{IsSend, sendable, view_send}
 use denote.Struct.Field.{usize-field}
 use denote.Hole.{as_row}
 use Rattle.std.proofs.Crossing.{crosses, Box-send}
-use Rattle.volume_logical.proofs.sequences.tree.Tree.TheLaws.TheKnot.{send-Tree}
-use Rattle.volume_logical.specs.contracts.sequences.tree.Tree as Tree
-use Rattle.volume_logical.specs.contracts.sequences.tree.Node as Node
-use Rattle.volume_logical.specs.contracts.sequences.room.Room as Room
-use Rattle.volume_logical.specs.contracts.sequences.room.Room.TheInside as RoomInside
-use Rattle.volume_logical.specs.contracts.sequences.sequence.Sequence as Sequence
-use Rattle.volume_logical.specs.contracts.sequences.sequence.Sequence.TheInside as SequenceInside
+use Rattle.directories.proofs.sequences.tree.Tree.TheLaws.TheKnot.{send-Tree}
+use Rattle.directories.specs.contracts.sequences.tree.Tree as Tree
+use Rattle.directories.specs.contracts.sequences.tree.Node as Node
+use Rattle.directories.specs.contracts.sequences.room.Room as Room
+use Rattle.directories.specs.contracts.sequences.room.Room.TheInside as RoomInside
+use Rattle.directories.specs.contracts.sequences.sequence.Sequence as Sequence
+use Rattle.directories.specs.contracts.sequences.sequence.Sequence.TheInside as SequenceInside
 use Rattle.workers.proofs.crossings.Structs.{struct-send}
 
 size-send : IsSend (as_row usize-field)

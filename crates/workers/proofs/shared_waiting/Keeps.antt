@@ -8,8 +8,8 @@ use lib.ListN.{get_elem?}
 use Rattle.crossbeam_queue.specs.Fifo.{Pushes, Pops, Forks, Merges, Learns}
 use Rattle.crossbeam_queue.proofs.Lists.{at_set, at_snoc}
 use Rattle.atomic_table.proofs.Lists.{set_else}
-use Rattle.depot.specs.rule.Sums.{total}
-use Rattle.depot.specs.rule.lemmas.Sums.{total-append}
+use Rattle.depot_rule.specs.Sums.{total}
+use Rattle.depot_rule.specs.lemmas.Sums.{total-append}
 use Rattle.workers.specs.declared.shared_waiting.view.View.{View}
 use Rattle.workers.specs.shared_waiting.Balance.{part, added, taken, opening, left, right, both, spent, keyed, grown, HasGrown, Balanced, IsWhole, Leaves, FitsIn, AllFit}
 use Rattle.workers.proofs.shared_waiting.Sums.{total-set, total-alone, total-at, power, halves, joined, part-none}

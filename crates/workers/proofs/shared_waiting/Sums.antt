@@ -4,7 +4,7 @@ use Rattle.std.proofs.Common.{mul-pos}
 use Rattle.std.proofs.lemmas.Nat.{pow-add, pow_pos}
 use mathlib.Core.Option.{some, some-injective, some-ne-none}
 use lib.ListN.{get_elem?}
-use Rattle.depot.specs.rule.Sums.{total}
+use Rattle.depot_rule.specs.Sums.{total}
 
 module _ {V : Type 0} where
   pub total-set : (f : V → ℕ) (l : List V) (i : ℕ) (v w : V) → get_elem? l i ≡ some v → total f (set l i w) + f v ≡ total f l + f w

@@ -2,8 +2,8 @@
 use Rattle.std.proofs.Common.{◌≡◌, ℕ, zero, suc, ◌<◌, ◌≤◌, List, length, ap, arith, ⊎_elim}
 use Rattle.std.proofs.lemmas.Bool.{cases_lt}
 use Rattle.std.proofs.lemmas.List.{get_or_past}
-use Rattle.affinity_tree.specs.Ancestors.{Covers, tally, ancestors}
-use Rattle.affinity_tree.specs.lemmas.Standing.{ancestors-root}
+use Rattle.affinity.specs.Ancestors.{Covers, tally, ancestors}
+use Rattle.affinity.specs.lemmas.Standing.{ancestors-root}
 
 -- a node covers numbers of nodes alone
 pub covers-place : (ps : List ℕ) (b k : ℕ) → 0 < b → b < length ps → Covers ps b k → (0 < k) × (k < length ps)

@@ -1,5 +1,5 @@
-use Rattle.affinity_tree.specs.Ancestors.{ancestors}
-use Rattle.depot.specs.rule.Seats.{view_of}
+use Rattle.affinity.specs.Ancestors.{ancestors}
+use Rattle.depot_rule.specs.Seats.{view_of}
 use Rattle.depot.proofs.Moves.{ended-from}
 use Rattle.depot.proofs.claiming.give_up.Goals as goal
 

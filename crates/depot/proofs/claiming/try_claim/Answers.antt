@@ -1,7 +1,7 @@
 use Rattle.std.proofs.Common.{length, ap, ◌∙◌}
-use Rattle.affinity_tree.specs.Ancestors.{ancestors}
-use Rattle.depot.specs.rule.Seats.{view_of}
-use Rattle.depot.specs.rule.History.{listed}
+use Rattle.affinity.specs.Ancestors.{ancestors}
+use Rattle.depot_rule.specs.Seats.{view_of}
+use Rattle.depot_rule.specs.History.{listed}
 use Rattle.depot.specs.Grants.{IsAfter}
 use Rattle.depot.specs.Words.{served_by}
 use Rattle.depot.proofs.Moves.{refused-here, granted-from, none-excluded, moved-one, moved-path, moved-unsure}

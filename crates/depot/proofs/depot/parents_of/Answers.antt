@@ -2,9 +2,9 @@ use Rattle.std.proofs.Common.{◌≡◌, ◌<◌, ℕ, ◌+◌, List, length, re
 use Rattle.std.proofs.lemmas.List.{length-replicate, length-set}
 use Rattle.std.proofs.lemmas.List.Edits.{fill_by_more}
 use Rattle.std.proofs.lemmas.Grind.{same_number_lists}
-use Rattle.affinity_tree.specs.Layout.{layout_of}
-use Rattle.affinity_tree.specs.Numbers as numbers
-use Rattle.affinity_tree.specs.lemmas.Smaller.{length-parents}
+use Rattle.affinity.specs.Layout.{layout_of}
+use Rattle.affinity.specs.Numbers as numbers
+use Rattle.affinity.specs.lemmas.Smaller.{length-parents}
 use Rattle.depot.proofs.depot.parents_of.Goals as goal
 
 first-entry : (n : ℕ) (xs : List ℕ) → xs ≡ replicate {A = ℕ} n 0 → (k : ℕ) → k < 1 → slice_index xs k ≡ 0

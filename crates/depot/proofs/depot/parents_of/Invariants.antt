@@ -1,6 +1,6 @@
 use Rattle.std.proofs.Common.{◌≡◌, ◌<◌, ◌≤◌, ℕ, ◌+◌, length, slice_index}
-use Rattle.affinity_tree.specs.Layout.{layout_of}
-use Rattle.affinity_tree.specs.Numbers as numbers
+use Rattle.affinity.specs.Layout.{layout_of}
+use Rattle.affinity.specs.Numbers as numbers
 use Rattle.depot.proofs.depot.parents_of.Given as goal
 
 -- the entries so far are the list's

@@ -1,15 +1,15 @@
 use Rattle.std.proofs.Common.{◌≡◌, ◌<◌, ℕ, List, length, refl, sym, ap, ◌∙◌, subst}
 use Rattle.nfs_model.specs.Tree.{Layout}
-use Rattle.affinity_tree.specs.Affinity.{affinity_of}
-use Rattle.affinity_tree.specs.Layout.{layout_of}
-use Rattle.affinity_tree.specs.Numbers.{number_of, parents}
-use Rattle.affinity_tree.specs.Ancestors.{IsTree, Covers}
-use Rattle.depot.specs.rule.Seats.{view_of}
-use Rattle.depot.specs.rule.Shares.{Has}
-use Rattle.parcel_sets.specs.Moved.{Moved}
+use Rattle.affinity.specs.Affinity.{affinity_of}
+use Rattle.affinity.specs.Layout.{layout_of}
+use Rattle.affinity.specs.Numbers.{number_of, parents}
+use Rattle.affinity.specs.Ancestors.{IsTree, Covers}
+use Rattle.depot_rule.specs.Seats.{view_of}
+use Rattle.depot_rule.specs.Shares.{Has}
+use Rattle.parcels.specs.Moved.{Moved}
 use Rattle.depot.specs.Holds.{untaken}
 use Rattle.depot.specs.Grants.{HasWith}
-use Rattle.affinity_tree.specs.lemmas.Standing.{parents-tree, number-place}
+use Rattle.affinity.specs.lemmas.Standing.{parents-tree, number-place}
 use Rattle.depot.proofs.Home.{none-left, set-home, gone-untaken, home-ended, home-else, home-apart}
 use Rattle.depot.proofs.Ended.{given-allowed}
 use Rattle.depot.proofs.homing.give_home.Goals as goal

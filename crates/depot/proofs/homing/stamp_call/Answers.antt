@@ -1,6 +1,6 @@
-use Rattle.affinity_tree.specs.Affinity.{affinity_of}
-use Rattle.affinity_tree.specs.Layout.{layout_of}
-use Rattle.depot.specs.rule.Seats.{view_of}
+use Rattle.affinity.specs.Affinity.{affinity_of}
+use Rattle.affinity.specs.Layout.{layout_of}
+use Rattle.depot_rule.specs.Seats.{view_of}
 use Rattle.depot.specs.Words.{served_by}
 use Rattle.depot.proofs.Ended.{stamp-step, stamp-hand}
 use Rattle.depot.proofs.homing.stamp_call.Goals as goal

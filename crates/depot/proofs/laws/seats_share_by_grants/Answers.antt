@@ -1,5 +1,5 @@
 use Rattle.std.proofs.Common.{ap}
-use Rattle.affinity_tree.specs.Ancestors.{tally}
+use Rattle.affinity.specs.Ancestors.{tally}
 use Rattle.depot.specs.Calls.{known}
 use Rattle.depot.proofs.Moves.{only-grants}
 use Rattle.depot.proofs.Holding.{nothing}

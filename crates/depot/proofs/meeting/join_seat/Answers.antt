@@ -1,11 +1,11 @@
 use Rattle.std.proofs.Common.{arith, ◌≡◌, ℕ, ◌+◌, ◌∷◌, List, [], length, refl, sym, inl, ap, ◌∙◌, subst}
 use lib.ListN.{get_elem?}
-use Rattle.depot.specs.declared.rule.view.Entry.{Entry}
-use Rattle.depot.specs.declared.rule.view.View.{View}
-use Rattle.depot.specs.rule.History.{entries_of}
-use Rattle.depot.specs.rule.Sums.{total}
-use Rattle.depot.specs.rule.Seats.{view_of, merge}
-use Rattle.depot.proofs.rule.Joining.{merges-seats, held-first, held-of, held-second}
+use Rattle.depot_rule.specs.declared.view.Entry.{Entry}
+use Rattle.depot_rule.specs.declared.view.View.{View}
+use Rattle.depot_rule.specs.History.{entries_of}
+use Rattle.depot_rule.specs.Sums.{total}
+use Rattle.depot_rule.specs.Seats.{view_of, merge}
+use Rattle.depot_rule.proofs.Joining.{merges-seats, held-first, held-of, held-second}
 use Rattle.depot.specs.Calls.{known}
 use Rattle.depot.specs.Words.{served_by, view}
 use Rattle.depot.proofs.Apart.{Apart, both-apart}

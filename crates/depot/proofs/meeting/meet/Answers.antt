@@ -1,8 +1,8 @@
 use Rattle.std.proofs.Common.{rules, refl, ◌≡◌, ◌∷◌, [], length, ap, ◌∙◌}
-use Rattle.depot.specs.rule.History.{entries_of}
-use Rattle.depot.specs.rule.Seats.{view_of, first_of, others_of}
-use Rattle.depot.proofs.rule.Dealing.{meets, parts-again}
-use Rattle.depot.proofs.rule.Looking.{alikes}
+use Rattle.depot_rule.specs.History.{entries_of}
+use Rattle.depot_rule.specs.Seats.{view_of, first_of, others_of}
+use Rattle.depot_rule.proofs.Dealing.{meets, parts-again}
+use Rattle.depot_rule.proofs.Looking.{alikes}
 use Rattle.depot.specs.Calls.{known, own_views}
 use Rattle.depot.specs.Words.{served_by}
 use Rattle.depot.proofs.Seated.{HasMet, met-so, AreAlike, alike-known, told, told-known}

@@ -1,6 +1,6 @@
 use Rattle.std.proofs.Common.{rules, arith, ◌≡◌, ◌+◌, length, sym, ap, ◌∙◌, subst}
-use Rattle.depot.specs.rule.Seats.{fresh, view_of}
-use Rattle.depot.proofs.rule.Joining.{splits-seat}
+use Rattle.depot_rule.specs.Seats.{fresh, view_of}
+use Rattle.depot_rule.proofs.Joining.{splits-seat}
 use Rattle.depot.specs.Calls.{own_views, known}
 use Rattle.depot.specs.Holds.{IsGathered, IsApart}
 use Rattle.depot.specs.Words.{served_by}

@@ -1,7 +1,7 @@
 use Rattle.std.proofs.Common.{arith, ◌<◌, ℕ, [], slice_index, sym, ap, refl, ◌∙◌}
-use Rattle.affinity_tree.specs.Ancestors.{tally, ancestors}
-use Rattle.depot.specs.rule.Seats.{view_of}
-use Rattle.depot.specs.rule.lemmas.Trees.{ancestors-root, not-above}
+use Rattle.affinity.specs.Ancestors.{tally, ancestors}
+use Rattle.depot_rule.specs.Seats.{view_of}
+use Rattle.depot_rule.specs.lemmas.Trees.{ancestors-root, not-above}
 use Rattle.depot.specs.Calls.{MovedTo}
 use Rattle.depot.proofs.Moves.{same-path, moved-one, moved-path, moved-unsure, entered-parent, claimed-higher, found-claimed}
 use Rattle.depot.proofs.path.+climb.Goals as goal

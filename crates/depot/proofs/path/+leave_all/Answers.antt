@@ -1,7 +1,7 @@
 use Rattle.std.proofs.Common.{rules, arith, ◌≡◌, ◌<◌, ◌∷◌, ℕ, [], slice_index, refl, ◌∙◌}
-use Rattle.affinity_tree.specs.Ancestors.{ancestors}
-use Rattle.depot.specs.rule.Seats.{view_of}
-use Rattle.depot.specs.rule.lemmas.Trees.{ancestors-parent, ancestors-root}
+use Rattle.affinity.specs.Ancestors.{ancestors}
+use Rattle.depot_rule.specs.Seats.{view_of}
+use Rattle.depot_rule.specs.lemmas.Trees.{ancestors-parent, ancestors-root}
 use Rattle.depot.specs.Calls.{MovedTo}
 use Rattle.depot.proofs.Moves.{moved-on, moved-one, moved-path, same-path, left-one}
 use Rattle.depot.proofs.path.+leave_all.Goals as goal

@@ -1,9 +1,9 @@
 use Rattle.std.proofs.Common.{rules, arith, ◌<◌, ◌∷◌, ℕ, List, length, get_or, Option, None, sym, ap, refl, ◌∙◌, subst}
 use Rattle.atomic_table.specs.Table.{rest}
-use Rattle.affinity_tree.specs.Ancestors.{Covers}
-use Rattle.depot.specs.rule.Seats.{view_of}
-use Rattle.depot.proofs.rule.Places.{one-view, of-one}
-use Rattle.depot.proofs.rule.Slots.{fetches, empties}
+use Rattle.affinity.specs.Ancestors.{Covers}
+use Rattle.depot_rule.specs.Seats.{view_of}
+use Rattle.depot_rule.proofs.Places.{one-view, of-one}
+use Rattle.depot_rule.proofs.Slots.{fetches, empties}
 use Rattle.depot.specs.Words.{served_by}
 use Rattle.depot.proofs.Moves.{hand-free}
 use Rattle.depot.proofs.slots.take_parcel.Goals as goal

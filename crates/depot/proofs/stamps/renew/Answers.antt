@@ -1,7 +1,7 @@
-use Rattle.depot.specs.rule.Seats.{view_of}
+use Rattle.depot_rule.specs.Seats.{view_of}
 use Rattle.depot.specs.Words.{served_by}
-use Rattle.depot.proofs.rule.Places.{one-view, of-one}
-use Rattle.depot.proofs.rule.Renewing.{renews}
+use Rattle.depot_rule.proofs.Places.{one-view, of-one}
+use Rattle.depot_rule.proofs.Renewing.{renews}
 use Rattle.depot.proofs.stamps.renew.Goals as goal
 
 pub load-requires : goal.load-requires

@@ -1,12 +1,12 @@
 use Rattle.std.proofs.Common.{◌+◌, ◌%◌, ◌^◌, Option, sym, subst}
 use mathlib.Core.Option.{none}
 use Rattle.atomic_table.specs.Table.{step, Allows}
-use Rattle.depot.specs.declared.rule.view.Entry.{Entry}
-use Rattle.depot.specs.rule.Rule.{Rule}
-use Rattle.depot.specs.rule.Seats.{view_of}
-use Rattle.depot.specs.rule.Plays.{StampSays}
-use Rattle.depot.proofs.rule.Places.{one-view}
-use Rattle.depot.proofs.rule.Stamping.{stamps}
+use Rattle.depot_rule.specs.declared.view.Entry.{Entry}
+use Rattle.depot_rule.specs.Rule.{Rule}
+use Rattle.depot_rule.specs.Seats.{view_of}
+use Rattle.depot_rule.specs.Plays.{StampSays}
+use Rattle.depot_rule.proofs.Places.{one-view}
+use Rattle.depot_rule.proofs.Stamping.{stamps}
 use Rattle.depot.specs.Words.{served_by}
 use Rattle.depot.proofs.Moves.{stamped-so}
 use Rattle.depot.proofs.stamps.stamp_as.Goals as goal

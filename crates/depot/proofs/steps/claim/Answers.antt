@@ -1,8 +1,8 @@
 use Rattle.std.proofs.Common.{rules, arith, ◌<◌, length, ap}
-use Rattle.affinity_tree.specs.Ancestors.{tally}
-use Rattle.depot.specs.rule.Seats.{view_of}
-use Rattle.depot.proofs.rule.Places.{one-view, of-one}
-use Rattle.depot.proofs.rule.Claiming.{claims-it}
+use Rattle.affinity.specs.Ancestors.{tally}
+use Rattle.depot_rule.specs.Seats.{view_of}
+use Rattle.depot_rule.proofs.Places.{one-view, of-one}
+use Rattle.depot_rule.proofs.Claiming.{claims-it}
 use Rattle.depot.specs.Words.{served_by}
 use Rattle.depot.proofs.Moves.{granted-now, not-excluded}
 use Rattle.depot.proofs.steps.claim.Goals as goal

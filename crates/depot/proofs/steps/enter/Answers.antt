@@ -1,7 +1,7 @@
 use Rattle.std.proofs.Common.{rules, arith, ◌<◌, length, refl}
-use Rattle.depot.specs.rule.Seats.{view_of}
-use Rattle.depot.proofs.rule.Places.{one-view, of-one}
-use Rattle.depot.proofs.rule.Entering.{enters, backs-out}
+use Rattle.depot_rule.specs.Seats.{view_of}
+use Rattle.depot_rule.proofs.Places.{one-view, of-one}
+use Rattle.depot_rule.proofs.Entering.{enters, backs-out}
 use Rattle.depot.specs.Words.{served_by}
 use Rattle.depot.proofs.Moves.{calm-again}
 use Rattle.depot.proofs.steps.enter.Goals as goal

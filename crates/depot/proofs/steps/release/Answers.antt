@@ -1,7 +1,7 @@
 use Rattle.std.proofs.Common.{rules, arith, ◌<◌, length}
-use Rattle.depot.specs.rule.Seats.{view_of}
-use Rattle.depot.proofs.rule.Places.{one-view, of-one}
-use Rattle.depot.proofs.rule.Claiming.{releases}
+use Rattle.depot_rule.specs.Seats.{view_of}
+use Rattle.depot_rule.proofs.Places.{one-view, of-one}
+use Rattle.depot_rule.proofs.Claiming.{releases}
 use Rattle.depot.specs.Words.{served_by}
 use Rattle.depot.proofs.steps.release.Goals as goal
 

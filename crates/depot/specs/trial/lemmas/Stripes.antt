@@ -1,13 +1,13 @@
 -- What calls on a stripe's number are to its parcels.
 use Rattle.std.proofs.Common.{◌≡◌, ◌≢◌, ℕ, ◌+◌, ◌%◌, ◌==◌, Bool, true, false, cond, List, refl, sym, ap, ◌∙◌, eq-eqb, ne_eqb, Option, Some, None}
 use Rattle.nfs_model.specs.Tree.{Layout, Affinity}
-use Rattle.affinity_tree.specs.declared.affinity.Kind.{Kind}
-use Rattle.affinity_tree.specs.Numbers.{number_of}
-use Rattle.parcel_sets.specs.Exact.{kind_in, HasExactly}
-use Rattle.parcel_sets.specs.Places.{alone}
-use Rattle.parcel_sets.specs.Sets.{stripe_parcels}
-use Rattle.parcel_sets.specs.declared.sets.StripeHeld.{StripeHeld}
-use Rattle.parcel_sets.specs.declared.family.Parcel.TheVariants.{Stripe}
+use Rattle.affinity.specs.declared.affinity.Kind.{Kind}
+use Rattle.affinity.specs.Numbers.{number_of}
+use Rattle.parcels.specs.Exact.{kind_in, HasExactly}
+use Rattle.parcels.specs.Places.{alone}
+use Rattle.parcels.specs.Sets.{stripe_parcels}
+use Rattle.parcels.specs.declared.sets.StripeHeld.{StripeHeld}
+use Rattle.parcels.specs.declared.family.Parcel.TheVariants.{Stripe}
 use Rattle.depot.specs.trial.Adding.{Changes}
 use Rattle.depot.specs.declared.trial.adding.Change.TheVariants.{Read, Add}
 

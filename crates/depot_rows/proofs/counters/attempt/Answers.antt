@@ -1,6 +1,6 @@
 use Rattle.std.proofs.Common.{sym, subst}
-use Rattle.affinity_tree.specs.Affinity.{affinity_of}
-use Rattle.parcel_sets.specs.Exact.{HasExactly, kind_in}
+use Rattle.affinity.specs.Affinity.{affinity_of}
+use Rattle.parcels.specs.Exact.{HasExactly, kind_in}
 use Rattle.depot.specs.Words.{view, layout_in, node_of, held_in}
 use Rattle.depot.specs.lemmas.Seats.{begun-with}
 use Rattle.depot_rows.specs.Counting.{AddsOne}

@@ -1,6 +1,6 @@
 use Rattle.std.proofs.Common.{sym, subst}
-use Rattle.affinity_tree.specs.Affinity.{affinity_of}
-use Rattle.parcel_sets.specs.Sets.{stripe_parcels}
+use Rattle.affinity.specs.Affinity.{affinity_of}
+use Rattle.parcels.specs.Sets.{stripe_parcels}
 use Rattle.depot.specs.Grants.{HasWith}
 use Rattle.depot.specs.Words.{view, layout_in, number_in, node_of}
 use Rattle.depot.specs.lemmas.Seats.{begun-with}

@@ -1,4 +1,4 @@
-use Rattle.affinity_tree.specs.Affinity.{affinity_of}
+use Rattle.affinity.specs.Affinity.{affinity_of}
 use Rattle.desk.specs.laws.lemmas.Beside.{begun-fresh, fresh-still}
 use Rattle.desk.specs.Words.{books}
 use Rattle.depot_rows.proofs.turns.ask.Goals as goal

@@ -1,5 +1,5 @@
 use Rattle.std.proofs.Common.{sym, subst}
-use Rattle.affinity_tree.specs.Numbers.{number_of}
+use Rattle.affinity.specs.Numbers.{number_of}
 use Rattle.depot.specs.Grants.{IsEnded}
 use Rattle.depot.specs.Words.{layout_in, view}
 use Rattle.desk.specs.laws.Backing.{CanPutBack}

@@ -1,7 +1,7 @@
 use Rattle.std.proofs.Common.{◌<◌, ◌≤◌, length, arith, refl}
 use Rattle.std.proofs.lemmas.List.{length-map}
-use Rattle.affinity_tree.specs.Affinity.{affinity_of}
-use Rattle.affinity_tree.specs.Layout.{layout_of}
+use Rattle.affinity.specs.Affinity.{affinity_of}
+use Rattle.affinity.specs.Layout.{layout_of}
 use Rattle.desk.specs.laws.lemmas.Taken.{taken-here, none-more, none-taken}
 use Rattle.desk.specs.Places.{granted, all_granted, shown}
 use Rattle.desk.proofs.Places.{told-there}

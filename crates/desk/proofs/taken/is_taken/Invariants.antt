@@ -1,5 +1,5 @@
-use Rattle.affinity_tree.specs.Affinity.{affinity_of}
-use Rattle.affinity_tree.specs.Layout.{layout_of}
+use Rattle.affinity.specs.Affinity.{affinity_of}
+use Rattle.affinity.specs.Layout.{layout_of}
 use Rattle.desk.specs.laws.lemmas.Taken.{NoneBefore}
 use Rattle.desk.specs.Places.{all_granted, shown}
 use Rattle.desk.proofs.taken.is_taken.Given as goal

@@ -1,7 +1,7 @@
 use Rattle.std.proofs.Common.{ap}
-use Rattle.affinity_tree.specs.Layout.{layout_of}
-use Rattle.affinity_tree.specs.Tree.{IsNode}
-use Rattle.parcel_sets.specs.Exact.{HasExactly}
+use Rattle.affinity.specs.Layout.{layout_of}
+use Rattle.affinity.specs.Tree.{IsNode}
+use Rattle.parcels.specs.Exact.{HasExactly}
 use Rattle.desk.specs.Any.{small_lent}
 use Rattle.desk.proofs.Worked.{as-given, as-left, as-done}
 use Rattle.desk.proofs.working.work_small.Goals as goal

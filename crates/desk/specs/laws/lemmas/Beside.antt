@@ -4,8 +4,8 @@ use mathlib.Core.Option.{some, some-injective}
 use lib.ListN.{get_elem?}
 use Rattle.atomic_table.proofs.Lists.{set_here, set_else}
 use Rattle.nfs_model.specs.Tree.{Affinity}
-use Rattle.affinity_tree.specs.Numbers.{number_of, parents}
-use Rattle.depot.specs.rule.History.{Behaviour}
+use Rattle.affinity.specs.Numbers.{number_of, parents}
+use Rattle.depot_rule.specs.History.{Behaviour}
 use Rattle.desk.specs.laws.Books.{Lent, Books, settled, HasLent, IsIdle, UnderLent, IsUnchanged, IsWorked, HasHands, IsSettled}
 use Rattle.desk.specs.laws.Calls.{Does, with_lent, HasBegun, HasWorked, HasFinished, MayPutBack, AreIdle}
 use Rattle.desk.specs.laws.lemmas.Seats.{at-length}

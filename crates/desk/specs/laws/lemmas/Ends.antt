@@ -5,13 +5,13 @@ use mathlib.Core.Option.{some, some-injective}
 use lib.ListN.{get_elem?}
 use Rattle.atomic_table.proofs.Lists.{at_map, at_index}
 use Rattle.nfs_model.specs.Tree.{Layout, Affinity}
-use Rattle.affinity_tree.specs.declared.affinity.Kind.{Kind}
-use Rattle.affinity_tree.specs.Fault.{fault_of}
-use Rattle.affinity_tree.specs.Numbers.{number_of}
-use Rattle.parcel_sets.specs.Exact.{HasExactly}
-use Rattle.depot.specs.declared.rule.view.View.{View}
-use Rattle.depot.specs.declared.rule.view.Entry.{Entry}
-use Rattle.depot.specs.rule.History.{Behaviour}
+use Rattle.affinity.specs.declared.affinity.Kind.{Kind}
+use Rattle.affinity.specs.Fault.{fault_of}
+use Rattle.affinity.specs.Numbers.{number_of}
+use Rattle.parcels.specs.Exact.{HasExactly}
+use Rattle.depot_rule.specs.declared.view.View.{View}
+use Rattle.depot_rule.specs.declared.view.Entry.{Entry}
+use Rattle.depot_rule.specs.History.{Behaviour}
 use Rattle.depot.specs.Grants.{entry_of, IsEnded, IsFinished}
 use Rattle.desk.specs.laws.Books.{Lent, Books, settled, now, HasLent, UnderLent, IsSame, IsWorked, IsUnchanged, IsSettled}
 use Rattle.desk.specs.laws.Backing.{Shows, books_of, IsBacked, IsBook, CanFinish, CanPutBack}

@@ -4,12 +4,12 @@ use Rattle.std.specs.Prelude.{option_map}
 use mathlib.Core.Option.{some, some-injective, some-ne-none}
 use lib.ListN.{get_elem?}
 use Rattle.nfs_model.specs.Tree.{Layout}
-use Rattle.affinity_tree.specs.declared.affinity.Kind.{Kind}
-use Rattle.affinity_tree.specs.Numbers.{node_count, parents}
-use Rattle.depot.specs.declared.rule.view.View.{View}
-use Rattle.depot.specs.declared.rule.view.Entry.{Entry}
-use Rattle.depot.specs.rule.Shares.{Has, opening_view}
-use Rattle.depot.specs.rule.History.{Behaviour, by_number, listed, after, entries_of}
+use Rattle.affinity.specs.declared.affinity.Kind.{Kind}
+use Rattle.affinity.specs.Numbers.{node_count, parents}
+use Rattle.depot_rule.specs.declared.view.View.{View}
+use Rattle.depot_rule.specs.declared.view.Entry.{Entry}
+use Rattle.depot_rule.specs.Shares.{Has, opening_view}
+use Rattle.depot_rule.specs.History.{Behaviour, by_number, listed, after, entries_of}
 use Rattle.depot.specs.Grants.{IsSeatOf, IsClosed}
 use Rattle.desk.specs.laws.Books.{Lent, HasLent, opening_books}
 use Rattle.desk.specs.laws.Backing.{Shows, books_of, IsBook}

@@ -4,11 +4,11 @@ use Rattle.std.proofs.lemmas.Bool.{cases_Bool}
 use mathlib.Core.Option.{some, some-injective, some-ne-none}
 use lib.ListN.{get_elem?}
 use Rattle.nfs_model.specs.Tree.{Layout}
-use Rattle.affinity_tree.specs.Ancestors.{Covers}
-use Rattle.affinity_tree.specs.Numbers.{number_of, parents}
-use Rattle.depot.specs.rule.Seats.{if_less}
-use Rattle.depot.specs.rule.History.{covers, patched}
-use Rattle.depot.specs.rule.lemmas.Covering.{covers-true, true-covers, patched-in, patched-out}
+use Rattle.affinity.specs.Ancestors.{Covers}
+use Rattle.affinity.specs.Numbers.{number_of, parents}
+use Rattle.depot_rule.specs.Seats.{if_less}
+use Rattle.depot_rule.specs.History.{covers, patched}
+use Rattle.depot_rule.specs.lemmas.Covering.{covers-true, true-covers, patched-in, patched-out}
 use Rattle.desk.specs.laws.Books.{Lent, overlaid}
 
 -- whether b covers k

@@ -5,23 +5,23 @@ use mathlib.Core.Option.{some, some-injective, some-ne-none}
 use lib.ListN.{get_elem?}
 use Rattle.atomic_table.proofs.Lists.{at_set, set_here, set_else}
 use Rattle.nfs_model.specs.Tree.{Layout, Affinity, excludes, path, begins}
-use Rattle.affinity_tree.specs.declared.affinity.Kind.{Kind}
-use Rattle.affinity_tree.specs.Fault.{fault_of}
-use Rattle.affinity_tree.specs.Tree.{IsNode}
-use Rattle.affinity_tree.specs.Numbers.{number_of, node_count, parents}
-use Rattle.affinity_tree.specs.Ancestors.{IsTree, Covers, Excludes}
-use Rattle.affinity_tree.specs.lemmas.Smaller.{length-parents}
-use Rattle.affinity_tree.specs.lemmas.Standing.{parents-tree, number-place, excludes-number, number-excludes}
-use Rattle.parcel_sets.specs.Exact.{HasExactly}
-use Rattle.depot.specs.declared.rule.view.View.{View}
-use Rattle.depot.specs.declared.rule.view.Entry.{Entry}
-use Rattle.depot.specs.rule.Shares.{worn, Has}
-use Rattle.depot.specs.rule.History.{Behaviour, AreHands, patched, listed, after, entries_of}
-use Rattle.depot.specs.rule.Plays.{with_entry}
-use Rattle.depot.specs.rule.lemmas.Trees.{cover-excludes, covers-below, above-smaller}
-use Rattle.depot.specs.rule.lemmas.Histories.{after-snoc}
-use Rattle.depot.specs.rule.lemmas.Listed.{by-number-at}
-use Rattle.depot.specs.rule.lemmas.Covering.{patched-in, patched-out}
+use Rattle.affinity.specs.declared.affinity.Kind.{Kind}
+use Rattle.affinity.specs.Fault.{fault_of}
+use Rattle.affinity.specs.Tree.{IsNode}
+use Rattle.affinity.specs.Numbers.{number_of, node_count, parents}
+use Rattle.affinity.specs.Ancestors.{IsTree, Covers, Excludes}
+use Rattle.affinity.specs.lemmas.Smaller.{length-parents}
+use Rattle.affinity.specs.lemmas.Standing.{parents-tree, number-place, excludes-number, number-excludes}
+use Rattle.parcels.specs.Exact.{HasExactly}
+use Rattle.depot_rule.specs.declared.view.View.{View}
+use Rattle.depot_rule.specs.declared.view.Entry.{Entry}
+use Rattle.depot_rule.specs.Shares.{worn, Has}
+use Rattle.depot_rule.specs.History.{Behaviour, AreHands, patched, listed, after, entries_of}
+use Rattle.depot_rule.specs.Plays.{with_entry}
+use Rattle.depot_rule.specs.lemmas.Trees.{cover-excludes, covers-below, above-smaller}
+use Rattle.depot_rule.specs.lemmas.Histories.{after-snoc}
+use Rattle.depot_rule.specs.lemmas.Listed.{by-number-at}
+use Rattle.depot_rule.specs.lemmas.Covering.{patched-in, patched-out}
 use Rattle.depot.specs.Calls.{IsExcluded}
 use Rattle.depot.specs.Grants.{entry_of, IsSeatOf, IsBegun, IsEnded, IsFinished}
 use Rattle.desk.specs.laws.Books.{Lent, Books, overlaid, settled, now, stamps, HasLent, IsIdle, IsTaken, UnderLent, IsUnchanged, IsSame, IsSettled}

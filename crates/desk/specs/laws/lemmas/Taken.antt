@@ -8,8 +8,8 @@ use native.Mathlib.Decide.{ℕ_discrete}
 use lib.ListN.{get_elem?}
 use Rattle.atomic_table.proofs.Lists.{at_map, at_index}
 use Rattle.nfs_model.specs.Tree.{Layout, Affinity, excludes}
-use Rattle.depot.specs.declared.rule.view.View.{View}
-use Rattle.depot.specs.declared.rule.view.Entry.{Entry}
+use Rattle.depot_rule.specs.declared.view.View.{View}
+use Rattle.depot_rule.specs.declared.view.Entry.{Entry}
 use Rattle.desk.specs.laws.Books.{Lent, IsIdle, IsTaken}
 use Rattle.desk.specs.laws.Backing.{Shows, books_of, excludes_lent, IsTakenIn}
 use Rattle.desk.specs.laws.lemmas.Seats.{at-length}

@@ -6,16 +6,16 @@ use native.Mathlib.Decide.{ℕ_discrete}
 use lib.ListN.{get_elem?}
 use Rattle.atomic_table.proofs.Lists.{at_set, set_here, set_else}
 use Rattle.nfs_model.specs.Tree.{Affinity, excludes}
-use Rattle.affinity_tree.specs.declared.affinity.Kind.{Kind}
-use Rattle.affinity_tree.specs.Fault.{fault_of}
-use Rattle.affinity_tree.specs.Numbers.{number_of, parents}
-use Rattle.affinity_tree.specs.Ancestors.{Covers}
-use Rattle.parcel_sets.specs.Exact.{HasExactly}
-use Rattle.depot.specs.declared.rule.view.View.{View}
-use Rattle.depot.specs.declared.rule.view.Entry.{Entry}
-use Rattle.depot.specs.rule.Sums.{total}
-use Rattle.depot.specs.rule.History.{Behaviour, AreHands, patched, listed, after}
-use Rattle.depot.specs.rule.lemmas.Covering.{patched-in, patched-out}
+use Rattle.affinity.specs.declared.affinity.Kind.{Kind}
+use Rattle.affinity.specs.Fault.{fault_of}
+use Rattle.affinity.specs.Numbers.{number_of, parents}
+use Rattle.affinity.specs.Ancestors.{Covers}
+use Rattle.parcels.specs.Exact.{HasExactly}
+use Rattle.depot_rule.specs.declared.view.View.{View}
+use Rattle.depot_rule.specs.declared.view.Entry.{Entry}
+use Rattle.depot_rule.specs.Sums.{total}
+use Rattle.depot_rule.specs.History.{Behaviour, AreHands, patched, listed, after}
+use Rattle.depot_rule.specs.lemmas.Covering.{patched-in, patched-out}
 use Rattle.depot.specs.Grants.{HasWith, IsStep, HasInHand}
 use Rattle.desk.specs.laws.Books.{Lent, Books, settled, now, HasLent, IsWorked, HasHands}
 use Rattle.desk.specs.laws.Backing.{IsBacked, IsBook}

@@ -6,9 +6,9 @@ use Rattle.nfs_model.specs.Parts.{Hand}
 use Rattle.nfs_model.specs.Tree.{Layout}
 use Rattle.nfs_model.specs.Events.Refusals.{Begin}
 use Rattle.nfs_values.specs.Moment.{moment_of}
-use Rattle.affinity_tree.specs.declared.affinity.Affinity.{Affinity}
-use Rattle.affinity_tree.specs.Affinity.{affinity_of}
-use Rattle.affinity_tree.specs.Tree.{IsNode}
+use Rattle.affinity.specs.declared.affinity.Affinity.{Affinity}
+use Rattle.affinity.specs.Affinity.{affinity_of}
+use Rattle.affinity.specs.Tree.{IsNode}
 use Rattle.desk.specs.laws.Calls as desks
 use Rattle.desk.specs.Refusal.{IsRefused}
 use Rattle.desk.specs.Words.{books}

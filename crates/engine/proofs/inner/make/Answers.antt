@@ -1,7 +1,7 @@
 use Rattle.std.proofs.Common.{refl, sym, ◌∙◌, subst}
 use Rattle.nfs_model.specs.Tree.{Affinity}
-use Rattle.affinity_tree.specs.Affinity.{affinity_of}
-use Rattle.affinity_tree.specs.Tree.{IsNode}
+use Rattle.affinity.specs.Affinity.{affinity_of}
+use Rattle.affinity.specs.Tree.{IsNode}
 use Rattle.desk.specs.laws.Calls.{HasBegun}
 use Rattle.desk.specs.Refusal.{IsRefused}
 use Rattle.desk.specs.declared.refusal.Refusal.TheVariants.{Taken, Worn}

@@ -1,8 +1,8 @@
 use Rattle.std.proofs.Common.{◌≡◌, List, [], ap, ◌∙◌}
 use Rattle.std.specs.Prelude.{length}
 use Rattle.nfs_model.specs.Tree.{Serial}
-use Rattle.affinity_tree.specs.Layout.{layout_of}
-use Rattle.parcel_sets.specs.Sets.{serial_parcels}
+use Rattle.affinity.specs.Layout.{layout_of}
+use Rattle.parcels.specs.Sets.{serial_parcels}
 use Rattle.desk.specs.Words.{books}
 use Rattle.engine_feed.specs.Seen.{layout_in}
 use Rattle.engine.specs.declared.connection.Connection.{Connection}

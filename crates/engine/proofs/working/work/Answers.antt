@@ -15,13 +15,13 @@ use Rattle.nfs_model.specs.Events.Step as steps
 use Rattle.nfs_values.specs.declared.call.Call.{Call}
 use Rattle.nfs_values.specs.Credential.{credential_of}
 use Rattle.nfs_values.specs.Moment.{moment_of}
-use Rattle.affinity_tree.specs.Affinity.{affinity_of}
-use Rattle.affinity_tree.specs.declared.scheduler.message.Message.{Message}
-use Rattle.depot.specs.rule.Sums.{total}
-use Rattle.parcels.specs.state.Parcels.{FilerParcel}
-use Rattle.parcels.specs.state.Contents.{filer_contents}
-use Rattle.parcels.specs.state.Deeds.{stored_all}
-use Rattle.parcels.specs.declared.files.Files.{Files}
+use Rattle.affinity.specs.Affinity.{affinity_of}
+use Rattle.scheduler.specs.declared.message.Message.{Message}
+use Rattle.depot_rule.specs.Sums.{total}
+use Rattle.filer_state.specs.state.Parcels.{FilerParcel}
+use Rattle.filer_state.specs.state.Contents.{filer_contents}
+use Rattle.filer_state.specs.state.Deeds.{stored_all}
+use Rattle.filer_state.specs.declared.files.Files.{Files}
 use Rattle.desk.specs.laws.Books.{now, stamps}
 use Rattle.desk.specs.laws.Calls.{Does, HasWorked}
 use Rattle.engine.specs.laws.Store.{FilerBooks, StandsFor}

@@ -3,11 +3,11 @@ use Rattle.std.proofs.Common.{◌≡◌, ℕ, suc, ◌≤◌, Bool, true, false,
 use Rattle.std.specs.Prelude.{slice_get, ◌*◌}
 use Rattle.std.specs.FinSet as sets
 use Rattle.nfs_model.specs.Parts.{Hand, one_if, times_listed, range_blocks}
-use Rattle.parcels.specs.state.Contents.{VolumeContents, FilerContents}
-use Rattle.parcels.specs.state.Tree.{volume_of, ranges_used}
-use Rattle.parcels.specs.state.Partition.{all_numbers, files_in, parts_of}
-use Rattle.parcels.specs.state.Sound.{IsSound, AreSound}
-use Rattle.parcels.specs.laws.lemmas.Counted.{all-times, all-length, len-listed}
+use Rattle.filer_state.specs.state.Contents.{VolumeContents, FilerContents}
+use Rattle.filer_state.specs.state.Tree.{volume_of, ranges_used}
+use Rattle.filer_state.specs.state.Partition.{all_numbers, files_in, parts_of}
+use Rattle.filer_state.specs.state.Sound.{IsSound, AreSound}
+use Rattle.filer_state.specs.laws.lemmas.Counted.{all-times, all-length, len-listed}
 use Rattle.engine.specs.counts.Counts.{counted, counts_seen, all_seen}
 
 at-most-one : (b : Bool) → one_if b ≤ 1

@@ -11,25 +11,25 @@ use Rattle.nfs_model.specs.Parts.{Parts, Hand, Empty, Fresh, Dead, hand_blocks, 
 use Rattle.nfs_model.specs.World.{Setup, World, Running, Worker, with_held, all_running, hands_blocks}
 use Rattle.nfs_model.specs.Headline.{worked_by, server_worked, IsOutcome}
 use Rattle.nfs_model.specs.Agreed.{IsAgreed}
-use Rattle.affinity_tree.specs.Tree.{IsNode}
-use Rattle.affinity_tree.specs.Ancestors.{Covers}
-use Rattle.affinity_tree.specs.Numbers.{number_of, parents}
-use Rattle.affinity_tree.specs.lemmas.Alike.{alike}
-use Rattle.affinity_tree.specs.lemmas.Standing.{parents-tree, number-excludes}
-use Rattle.depot.specs.rule.Sums.{total}
-use Rattle.depot.specs.rule.History.{patched}
-use Rattle.depot.specs.rule.lemmas.Trees.{cover-excludes}
+use Rattle.affinity.specs.Tree.{IsNode}
+use Rattle.affinity.specs.Ancestors.{Covers}
+use Rattle.affinity.specs.Numbers.{number_of, parents}
+use Rattle.affinity.specs.lemmas.Alike.{alike}
+use Rattle.affinity.specs.lemmas.Standing.{parents-tree, number-excludes}
+use Rattle.depot_rule.specs.Sums.{total}
+use Rattle.depot_rule.specs.History.{patched}
+use Rattle.depot_rule.specs.lemmas.Trees.{cover-excludes}
 use Rattle.desk.specs.laws.Books.{Lent, settled, now, stamps, HasLent}
 use Rattle.desk.specs.laws.lemmas.Overlays.{all-served, IsDone, AreDone, served}
-use Rattle.parcels.specs.state.Parcels.{FilerParcel}
-use Rattle.parcels.specs.state.Contents.{VolumeContents, FilerContents, filer_contents}
-use Rattle.parcels.specs.state.Tree.{tree, volume_of}
-use Rattle.parcels.specs.state.Partition.{parts_of, times_in_hand}
-use Rattle.parcels.specs.state.Sound.{AreSound, AllSound}
-use Rattle.parcels.specs.state.Jobs.{Job, JobReply, batches_in}
-use Rattle.parcels.specs.laws.lemmas.Alike.{filer-same}
-use Rattle.parcels.specs.laws.lemmas.Steps.{sound-by-weight}
-use Rattle.parcels.specs.laws.Laws.{PartsPartition}
+use Rattle.filer_state.specs.state.Parcels.{FilerParcel}
+use Rattle.filer_state.specs.state.Contents.{VolumeContents, FilerContents, filer_contents}
+use Rattle.filer_state.specs.state.Tree.{tree, volume_of}
+use Rattle.filer_state.specs.state.Partition.{parts_of, times_in_hand}
+use Rattle.filer_state.specs.state.Sound.{AreSound, AllSound}
+use Rattle.filer_state.specs.state.Jobs.{Job, JobReply, batches_in}
+use Rattle.filer_state.specs.laws.lemmas.Alike.{filer-same}
+use Rattle.filer_state.specs.laws.lemmas.Steps.{sound-by-weight}
+use Rattle.filer_state.specs.laws.Laws.{PartsPartition}
 use Rattle.engine.specs.laws.Store.{FilerBooks, batches_carried, RunsOn, RunOn, StandsFor}
 use Rattle.engine.specs.laws.lemmas.Served.{outcome-there, outcome-agrees}
 

@@ -11,18 +11,18 @@ use Rattle.nfs_model.specs.Tree.{Layout, Affinity, excludes}
 use Rattle.nfs_model.specs.World.{Setup, World, Message, Running, Worker, with_held, all_running, affinities, changed_at, with_running}
 use Rattle.nfs_model.specs.Events.Refusals.{is_busy, is_worn, excluded}
 use Rattle.nfs_model.specs.Events.Step.{begun}
-use Rattle.affinity_tree.specs.Fault.{fault_of}
-use Rattle.affinity_tree.specs.Numbers.{parents}
-use Rattle.depot.specs.rule.Shares.{worn}
-use Rattle.depot.specs.rule.History.{Legal}
+use Rattle.affinity.specs.Fault.{fault_of}
+use Rattle.affinity.specs.Numbers.{parents}
+use Rattle.depot_rule.specs.Shares.{worn}
+use Rattle.depot_rule.specs.History.{Legal}
 use Rattle.desk.specs.laws.Books.{Lent, settled, now, stamps, HasLent, IsTaken, IsSame, HasHands, IsSettled}
 use Rattle.desk.specs.laws.Calls.{HasBegun, IsWorn, with_lent}
-use Rattle.parcels.specs.state.Parcels.{FilerParcel}
-use Rattle.parcels.specs.state.Contents.{filer_contents}
-use Rattle.parcels.specs.state.Tree.{tree}
-use Rattle.parcels.specs.state.Partition.{all_parts}
-use Rattle.parcels.specs.state.Opening.{AreOpening}
-use Rattle.parcels.specs.state.Jobs.{Job, JobReply}
+use Rattle.filer_state.specs.state.Parcels.{FilerParcel}
+use Rattle.filer_state.specs.state.Contents.{filer_contents}
+use Rattle.filer_state.specs.state.Tree.{tree}
+use Rattle.filer_state.specs.state.Partition.{all_parts}
+use Rattle.filer_state.specs.state.Opening.{AreOpening}
+use Rattle.filer_state.specs.state.Jobs.{Job, JobReply}
 use Rattle.engine.specs.laws.Store.{FilerBooks, filer, RunsOn, RunOn, IsApart, StandsFor, batches_carried, calls_served}
 use Rattle.engine.specs.laws.lemmas.Changing.{carried-stay, run-changed}
 

@@ -6,10 +6,10 @@ use mathlib.Core.Option.{some}
 use lib.ListN.{get_elem?}
 use Rattle.nfs_model.specs.Work.{Outcome, Replied, Starved, Moved}
 use Rattle.nfs_model.specs.World.{Setup, Running, Worker, changed_at, with_running}
-use Rattle.depot.specs.declared.rule.view.Entry.{Entry}
+use Rattle.depot_rule.specs.declared.view.Entry.{Entry}
 use Rattle.desk.specs.laws.Books.{Lent, settled, UnderLent}
-use Rattle.parcels.specs.state.Parcels.{FilerParcel}
-use Rattle.parcels.specs.state.Jobs.{batches_in}
+use Rattle.filer_state.specs.state.Parcels.{FilerParcel}
+use Rattle.filer_state.specs.state.Jobs.{batches_in}
 use Rattle.engine.specs.laws.Store.{FilerBooks, HasOutcome, RunsOn, RunOn, batches_carried}
 
 -- what is carried stays

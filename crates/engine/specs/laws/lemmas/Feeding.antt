@@ -14,10 +14,10 @@ use Rattle.nfs_model.specs.World.{Setup, World, Heard, Message}
 use Rattle.nfs_model.specs.Headline.{start}
 use Rattle.nfs_model.specs.Events.Feed.{Feeds, Feeding, Hears, heard_in, admit, call_at_once, call_undecoded, bytes_taken, served_count}
 use Rattle.desk.specs.laws.Books.{settled, HasHands}
-use Rattle.parcels.specs.state.Contents.{filer_contents}
-use Rattle.parcels.specs.state.Tree.{volume_of}
-use Rattle.parcels.specs.state.Jobs.{Job, JobReply}
-use Rattle.parcels.specs.laws.lemmas.Steps.{laid-out}
+use Rattle.filer_state.specs.state.Contents.{filer_contents}
+use Rattle.filer_state.specs.state.Tree.{volume_of}
+use Rattle.filer_state.specs.state.Jobs.{Job, JobReply}
+use Rattle.filer_state.specs.laws.lemmas.Steps.{laid-out}
 use Rattle.engine.specs.laws.Store.{FilerBooks, filer, RunOn, StandsFor, batches_carried, calls_run}
 use Rattle.engine.specs.laws.lemmas.Finishing.{after-one}
 use Rattle.engine.specs.laws.lemmas.Recorded.{run-none}

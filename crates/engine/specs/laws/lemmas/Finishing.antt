@@ -13,29 +13,29 @@ use Rattle.nfs_model.specs.Work.{Outcome, Moved}
 use Rattle.nfs_model.specs.World.{Setup, World, Running, Worker, changed_at, with_running}
 use Rattle.nfs_model.specs.Headline.{start, worked_by}
 use Rattle.nfs_model.specs.Events.Step.{finished_call}
-use Rattle.affinity_tree.specs.Fault.{fault_of}
-use Rattle.affinity_tree.specs.Tree.{IsNode}
-use Rattle.affinity_tree.specs.Numbers.{number_of, node_count, parents}
-use Rattle.affinity_tree.specs.lemmas.Smaller.{length-parents}
-use Rattle.depot.specs.declared.rule.view.Entry.{Entry}
-use Rattle.depot.specs.rule.Sums.{total}
-use Rattle.depot.specs.rule.History.{patched, listed, by_number, put_in, Legal}
-use Rattle.depot.specs.rule.lemmas.Covering.{patched-in, patched-out}
-use Rattle.depot.specs.rule.lemmas.Histories.{after-snoc, legal-snoc, moved-snoc}
-use Rattle.depot.specs.rule.lemmas.Listed.{by-number-at}
+use Rattle.affinity.specs.Fault.{fault_of}
+use Rattle.affinity.specs.Tree.{IsNode}
+use Rattle.affinity.specs.Numbers.{number_of, node_count, parents}
+use Rattle.affinity.specs.lemmas.Smaller.{length-parents}
+use Rattle.depot_rule.specs.declared.view.Entry.{Entry}
+use Rattle.depot_rule.specs.Sums.{total}
+use Rattle.depot_rule.specs.History.{patched, listed, by_number, put_in, Legal}
+use Rattle.depot_rule.specs.lemmas.Covering.{patched-in, patched-out}
+use Rattle.depot_rule.specs.lemmas.Histories.{after-snoc, legal-snoc, moved-snoc}
+use Rattle.depot_rule.specs.lemmas.Listed.{by-number-at}
 use Rattle.depot.specs.Grants.{entry_of}
 use Rattle.desk.specs.laws.Books.{Lent, settled, stamps, HasLent, UnderLent, IsUnchanged, HasHands, IsSettled}
 use Rattle.desk.specs.laws.Calls.{MayFinish, HasFinished, HasPutBack, with_lent}
 use Rattle.desk.specs.laws.lemmas.Overlays.{covers-or-not}
-use Rattle.parcels.specs.state.Parcels.{FilerParcel}
-use Rattle.parcels.specs.state.Contents.{filer_contents}
-use Rattle.parcels.specs.state.Tree.{tree}
-use Rattle.parcels.specs.state.Partition.{all_parts}
-use Rattle.parcels.specs.state.Opening.{AreOpening}
-use Rattle.parcels.specs.state.Jobs as jobs
-use Rattle.parcels.specs.state.Jobs.{Job, JobReply, Serve, takes, gives}
-use Rattle.parcels.specs.state.Deeds.{FilerSteps}
-use Rattle.parcels.specs.laws.lemmas.Lawful.{steps-local}
+use Rattle.filer_state.specs.state.Parcels.{FilerParcel}
+use Rattle.filer_state.specs.state.Contents.{filer_contents}
+use Rattle.filer_state.specs.state.Tree.{tree}
+use Rattle.filer_state.specs.state.Partition.{all_parts}
+use Rattle.filer_state.specs.state.Opening.{AreOpening}
+use Rattle.filer_state.specs.state.Jobs as jobs
+use Rattle.filer_state.specs.state.Jobs.{Job, JobReply, Serve, takes, gives}
+use Rattle.filer_state.specs.state.Deeds.{FilerSteps}
+use Rattle.filer_state.specs.laws.lemmas.Lawful.{steps-local}
 use Rattle.engine.specs.laws.Store.{FilerBooks, filer, IsServed, HasOutcome, RunsOn, RunOn, IsApart, StandsFor}
 use Rattle.engine.specs.laws.Store.{batches_carried, calls_served, calls_run, with_served}
 use Rattle.engine.specs.laws.lemmas.Agreeing.{sound-settled}

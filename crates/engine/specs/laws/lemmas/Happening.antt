@@ -8,17 +8,17 @@ use Rattle.nfs_model.specs.Events.Refusals.{Event, Begin, Work, Finish, Granted,
 use Rattle.nfs_model.specs.Events.Step.{Events, begun, worked, done_of, told_of, finished_by}
 use Rattle.nfs_model.specs.Headline.{Kept}
 use Rattle.nfs_model.specs.Agreed.{IsAgreed}
-use Rattle.depot.specs.declared.rule.view.View.{View}
-use Rattle.depot.specs.declared.rule.view.Entry.{Entry}
-use Rattle.affinity_tree.specs.declared.affinity.Kind.{Kind}
+use Rattle.depot_rule.specs.declared.view.View.{View}
+use Rattle.depot_rule.specs.declared.view.Entry.{Entry}
+use Rattle.affinity.specs.declared.affinity.Kind.{Kind}
 use Rattle.desk.specs.laws.Books.{now, IsTaken}
 use Rattle.desk.specs.laws.Calls.{IsWorn, HasBegun, HasWorked}
 use Rattle.desk.specs.laws.Backing.{IsBook}
-use Rattle.parcels.specs.state.Parcels.{FilerParcel}
-use Rattle.parcels.specs.state.Contents.{filer_contents}
-use Rattle.parcels.specs.state.Jobs.{Job, JobReply}
-use Rattle.parcels.specs.state.Deeds.{stored_all}
-use Rattle.parcels.specs.laws.Laws.{PartsPartition}
+use Rattle.filer_state.specs.state.Parcels.{FilerParcel}
+use Rattle.filer_state.specs.state.Contents.{filer_contents}
+use Rattle.filer_state.specs.state.Jobs.{Job, JobReply}
+use Rattle.filer_state.specs.state.Deeds.{stored_all}
+use Rattle.filer_state.specs.laws.Laws.{PartsPartition}
 use Rattle.engine.specs.laws.Store.{FilerBooks, IsApart, StandsFor}
 use Rattle.engine.specs.laws.Serving.{Serving}
 use Rattle.engine.specs.laws.lemmas.Agreeing.{agreed}

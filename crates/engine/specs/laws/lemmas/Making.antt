@@ -7,32 +7,32 @@ use lib.ListN.{get_elem?}
 use Rattle.atomic_table.proofs.Lists.{set_here, set_else, set_again}
 use Rattle.nfs_model.specs.Tree.{Layout}
 use Rattle.nfs_model.specs.Parts.{Hand}
-use Rattle.affinity_tree.specs.Fault.{fault_of}
-use Rattle.affinity_tree.specs.Tree.{IsNode}
-use Rattle.affinity_tree.specs.Ancestors.{Covers}
-use Rattle.affinity_tree.specs.Numbers.{number_of, parents}
-use Rattle.affinity_tree.specs.lemmas.Alike.{alike}
-use Rattle.affinity_tree.specs.lemmas.Standing.{parents-tree, number-excludes}
-use Rattle.depot.specs.rule.Shares.{too_many}
-use Rattle.depot.specs.rule.Sums.{total}
-use Rattle.depot.specs.rule.lemmas.Sums.{total-append}
-use Rattle.depot.specs.rule.History.{patched}
-use Rattle.depot.specs.rule.lemmas.Trees.{cover-excludes}
+use Rattle.affinity.specs.Fault.{fault_of}
+use Rattle.affinity.specs.Tree.{IsNode}
+use Rattle.affinity.specs.Ancestors.{Covers}
+use Rattle.affinity.specs.Numbers.{number_of, parents}
+use Rattle.affinity.specs.lemmas.Alike.{alike}
+use Rattle.affinity.specs.lemmas.Standing.{parents-tree, number-excludes}
+use Rattle.depot_rule.specs.Shares.{too_many}
+use Rattle.depot_rule.specs.Sums.{total}
+use Rattle.depot_rule.specs.lemmas.Sums.{total-append}
+use Rattle.depot_rule.specs.History.{patched}
+use Rattle.depot_rule.specs.lemmas.Trees.{cover-excludes}
 use Rattle.depot.specs.Grants.{entry_of}
 use Rattle.desk.specs.laws.Books.{Lent, settled, now, stamps, HasLent, IsIdle, UnderLent, HasHands, IsSettled}
 use Rattle.desk.specs.laws.Calls.{Does, with_lent, HasBegun, HasWorked, MayFinish, HasFinished, MayPutBack, HasPutBack}
 use Rattle.desk.specs.laws.lemmas.Overlays.{overlaid-here}
 use Rattle.desk.specs.laws.lemmas.Seats.{at-length}
 use Rattle.desk.specs.laws.lemmas.Beside.{lent-here, begun-fresh, still-fresh, work-lent, work-done}
-use Rattle.parcels.specs.state.Parcels.{FilerParcel}
-use Rattle.parcels.specs.state.Contents.{filer_contents}
-use Rattle.parcels.specs.state.Sound.{AreSound, AllSound}
-use Rattle.parcels.specs.state.Jobs.{InnerCall, Inner, Job, JobReply, takes, gives, batches_in, inner_node}
-use Rattle.parcels.specs.state.Deeds.{FilerSteps}
-use Rattle.parcels.specs.state.Running.{HasFiler}
-use Rattle.parcels.specs.laws.lemmas.Alike.{filer-same}
-use Rattle.parcels.specs.laws.lemmas.Lawful.{steps-local}
-use Rattle.parcels.specs.laws.lemmas.Steps.{sound-by-weight}
+use Rattle.filer_state.specs.state.Parcels.{FilerParcel}
+use Rattle.filer_state.specs.state.Contents.{filer_contents}
+use Rattle.filer_state.specs.state.Sound.{AreSound, AllSound}
+use Rattle.filer_state.specs.state.Jobs.{InnerCall, Inner, Job, JobReply, takes, gives, batches_in, inner_node}
+use Rattle.filer_state.specs.state.Deeds.{FilerSteps}
+use Rattle.filer_state.specs.state.Running.{HasFiler}
+use Rattle.filer_state.specs.laws.lemmas.Alike.{filer-same}
+use Rattle.filer_state.specs.laws.lemmas.Lawful.{steps-local}
+use Rattle.filer_state.specs.laws.lemmas.Steps.{sound-by-weight}
 use Rattle.engine.specs.laws.Store.{FilerBooks, filer, IsApart}
 use Rattle.engine.specs.laws.Inner.{IsFree, HasMade}
 use Rattle.engine.specs.laws.lemmas.Served.{covered-node}

@@ -7,20 +7,20 @@ use Rattle.nfs_model.specs.Tree.{Layout}
 use Rattle.nfs_model.specs.Parts.{Empty}
 use Rattle.nfs_model.specs.World.{Setup, Worker}
 use Rattle.nfs_model.specs.Headline.{opening_world}
-use Rattle.affinity_tree.specs.Fault.{fault_of}
-use Rattle.affinity_tree.specs.Numbers.{number_of, node_count}
-use Rattle.affinity_tree.specs.lemmas.Smaller.{length-parents}
-use Rattle.affinity_tree.specs.lemmas.Standing.{number-place}
-use Rattle.depot.specs.rule.History.{listed, by_number}
-use Rattle.depot.specs.rule.lemmas.Listed.{by-number-at}
+use Rattle.affinity.specs.Fault.{fault_of}
+use Rattle.affinity.specs.Numbers.{number_of, node_count}
+use Rattle.affinity.specs.lemmas.Smaller.{length-parents}
+use Rattle.affinity.specs.lemmas.Standing.{number-place}
+use Rattle.depot_rule.specs.History.{listed, by_number}
+use Rattle.depot_rule.specs.lemmas.Listed.{by-number-at}
 use Rattle.desk.specs.laws.Books.{Lent, overlaid, HasHands, opening_books}
-use Rattle.parcels.specs.state.Parcels.{FilerParcel}
-use Rattle.parcels.specs.state.Contents.{filer_contents}
-use Rattle.parcels.specs.state.Tree.{tree}
-use Rattle.parcels.specs.state.Partition.{all_parts}
-use Rattle.parcels.specs.state.Opening.{AreOpening}
-use Rattle.parcels.specs.laws.Laws.{OpensSound, OpensAsServer, OpensFree}
-use Rattle.parcels.specs.state.Jobs.{Job, JobReply}
+use Rattle.filer_state.specs.state.Parcels.{FilerParcel}
+use Rattle.filer_state.specs.state.Contents.{filer_contents}
+use Rattle.filer_state.specs.state.Tree.{tree}
+use Rattle.filer_state.specs.state.Partition.{all_parts}
+use Rattle.filer_state.specs.state.Opening.{AreOpening}
+use Rattle.filer_state.specs.laws.Laws.{OpensSound, OpensAsServer, OpensFree}
+use Rattle.filer_state.specs.state.Jobs.{Job, JobReply}
 use Rattle.engine.specs.laws.Store.{FilerBooks, filer, RunOn, StandsFor, batches_carried}
 
 abbrev idle : Worker

@@ -3,8 +3,8 @@ use Rattle.std.proofs.Common.{◌≡◌, List, [], ◌∷◌, ◌++◌, Option, 
 use Rattle.std.proofs.lemmas.List.{append-nil}
 use Rattle.nfs_model.specs.Tree.{Affinity}
 use Rattle.nfs_model.specs.Replay.{FinishedCall}
-use Rattle.depot.specs.declared.rule.view.Entry.{Entry}
-use Rattle.parcels.specs.state.Jobs.{Job, Serve, Inner}
+use Rattle.depot_rule.specs.declared.view.Entry.{Entry}
+use Rattle.filer_state.specs.state.Jobs.{Job, Serve, Inner}
 use Rattle.engine.specs.laws.Store.{calls_served, calls_run, with_served, with_run}
 
 served-before : (job : Job) (xs ys : List FinishedCall) → with_served job (xs ++ ys) ≡ with_served job xs ++ ys

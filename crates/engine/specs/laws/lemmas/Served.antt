@@ -9,25 +9,25 @@ use Rattle.nfs_model.specs.Work.{Outcome, Replied, Starved, Moved}
 use Rattle.nfs_model.specs.World.{Setup, Running}
 use Rattle.nfs_model.specs.Headline.{worked_by, IsOutcome}
 use Rattle.nfs_model.specs.Events.Step.{finished_call}
-use Rattle.affinity_tree.specs.Fault.{fault_of}
-use Rattle.affinity_tree.specs.Tree.{IsNode}
-use Rattle.affinity_tree.specs.Ancestors.{Covers}
-use Rattle.affinity_tree.specs.Numbers.{number_of, parents}
-use Rattle.affinity_tree.specs.lemmas.Standing.{parents-tree, number-place}
-use Rattle.depot.specs.rule.History.{patched}
-use Rattle.depot.specs.rule.lemmas.Covering.{patched-in, patched-out}
-use Rattle.depot.specs.rule.lemmas.Trees.{covers-below, above-smaller}
+use Rattle.affinity.specs.Fault.{fault_of}
+use Rattle.affinity.specs.Tree.{IsNode}
+use Rattle.affinity.specs.Ancestors.{Covers}
+use Rattle.affinity.specs.Numbers.{number_of, parents}
+use Rattle.affinity.specs.lemmas.Standing.{parents-tree, number-place}
+use Rattle.depot_rule.specs.History.{patched}
+use Rattle.depot_rule.specs.lemmas.Covering.{patched-in, patched-out}
+use Rattle.depot_rule.specs.lemmas.Trees.{covers-below, above-smaller}
 use Rattle.desk.specs.laws.Books.{Lent, settled, IsUnchanged}
 use Rattle.desk.specs.laws.lemmas.Overlays.{covers-or-not}
-use Rattle.parcels.specs.state.Parcels.{FilerParcel}
-use Rattle.parcels.specs.state.Contents.{filer_contents}
-use Rattle.parcels.specs.state.Tree.{server_of, tree}
-use Rattle.parcels.specs.state.Sound.{AllSound}
-use Rattle.parcels.specs.state.Jobs as jobs
-use Rattle.parcels.specs.state.Jobs.{Job, JobReply, Serve}
-use Rattle.parcels.specs.state.Deeds.{Serves}
-use Rattle.parcels.specs.laws.lemmas.Steps.{sound-later}
-use Rattle.parcels.specs.laws.lemmas.Lawful.{steps-local, entry-does}
+use Rattle.filer_state.specs.state.Parcels.{FilerParcel}
+use Rattle.filer_state.specs.state.Contents.{filer_contents}
+use Rattle.filer_state.specs.state.Tree.{server_of, tree}
+use Rattle.filer_state.specs.state.Sound.{AllSound}
+use Rattle.filer_state.specs.state.Jobs as jobs
+use Rattle.filer_state.specs.state.Jobs.{Job, JobReply, Serve}
+use Rattle.filer_state.specs.state.Deeds.{Serves}
+use Rattle.filer_state.specs.laws.lemmas.Steps.{sound-later}
+use Rattle.filer_state.specs.laws.lemmas.Lawful.{steps-local, entry-does}
 use Rattle.engine.specs.laws.Store.{FilerBooks, IsServed, HasOutcome}
 
 -- what a node covers is a node

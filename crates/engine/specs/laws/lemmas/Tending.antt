@@ -10,29 +10,29 @@ use Rattle.nfs_model.specs.Server.{Server}
 use Rattle.nfs_model.specs.Parts.{Hand, Empty, range_blocks}
 use Rattle.nfs_model.specs.World.{Setup, World, Worker, changed_at, with_hand}
 use Rattle.nfs_model.specs.Events.Refusals.{excluded, is_range_in_use}
-use Rattle.affinity_tree.specs.Fault.{fault_of}
-use Rattle.affinity_tree.specs.Tree.{IsNode}
-use Rattle.affinity_tree.specs.Ancestors.{Covers}
-use Rattle.affinity_tree.specs.Numbers.{number_of, parents}
-use Rattle.depot.specs.declared.rule.view.Entry.{Entry}
-use Rattle.depot.specs.rule.Sums.{total}
-use Rattle.depot.specs.rule.lemmas.Sums.{total-append}
-use Rattle.depot.specs.rule.History.{patched, put_in, Legal}
-use Rattle.depot.specs.rule.lemmas.Histories.{after-snoc, legal-snoc, moved-snoc}
+use Rattle.affinity.specs.Fault.{fault_of}
+use Rattle.affinity.specs.Tree.{IsNode}
+use Rattle.affinity.specs.Ancestors.{Covers}
+use Rattle.affinity.specs.Numbers.{number_of, parents}
+use Rattle.depot_rule.specs.declared.view.Entry.{Entry}
+use Rattle.depot_rule.specs.Sums.{total}
+use Rattle.depot_rule.specs.lemmas.Sums.{total-append}
+use Rattle.depot_rule.specs.History.{patched, put_in, Legal}
+use Rattle.depot_rule.specs.lemmas.Histories.{after-snoc, legal-snoc, moved-snoc}
 use Rattle.depot.specs.Grants.{entry_of}
 use Rattle.desk.specs.laws.Books.{Lent, settled, now, stamps, HasHands}
-use Rattle.parcels.specs.state.Parcels.{FilerParcel}
-use Rattle.parcels.specs.state.Contents.{VolumeContents, volume_at, contents_of, filer_contents}
-use Rattle.parcels.specs.state.Tree.{tree, server_of, volume_of, ranges_used}
-use Rattle.parcels.specs.state.Partition.{all_parts, parts_of}
-use Rattle.parcels.specs.state.Sound.{AllSound}
-use Rattle.parcels.specs.state.Opening.{AreOpening}
-use Rattle.parcels.specs.state.Jobs.{InnerCall, Fetch, Deliver, Cull, Free, Survey, Inner, Job, JobReply, Took, Gave, Surveyed, Replied}
-use Rattle.parcels.specs.state.Jobs.{takes, gives, batches_in, inner_node, inner_volume, InnerMoves}
-use Rattle.parcels.specs.state.Deeds.{DoesInner, FilerSteps}
-use Rattle.parcels.specs.state.Running.{IsRefusedIn, IsRefusedOn}
-use Rattle.parcels.specs.laws.lemmas.Each.{each-get}
-use Rattle.parcels.specs.laws.lemmas.Lawful.{entry-does}
+use Rattle.filer_state.specs.state.Parcels.{FilerParcel}
+use Rattle.filer_state.specs.state.Contents.{VolumeContents, volume_at, contents_of, filer_contents}
+use Rattle.filer_state.specs.state.Tree.{tree, server_of, volume_of, ranges_used}
+use Rattle.filer_state.specs.state.Partition.{all_parts, parts_of}
+use Rattle.filer_state.specs.state.Sound.{AllSound}
+use Rattle.filer_state.specs.state.Opening.{AreOpening}
+use Rattle.filer_state.specs.state.Jobs.{InnerCall, Fetch, Deliver, Cull, Free, Survey, Inner, Job, JobReply, Took, Gave, Surveyed, Replied}
+use Rattle.filer_state.specs.state.Jobs.{takes, gives, batches_in, inner_node, inner_volume, InnerMoves}
+use Rattle.filer_state.specs.state.Deeds.{DoesInner, FilerSteps}
+use Rattle.filer_state.specs.state.Running.{IsRefusedIn, IsRefusedOn}
+use Rattle.filer_state.specs.laws.lemmas.Each.{each-get}
+use Rattle.filer_state.specs.laws.lemmas.Lawful.{entry-does}
 use Rattle.engine.specs.laws.Store.{FilerBooks, filer, RunOn, IsApart, StandsFor, batches_carried, calls_served, with_served}
 use Rattle.engine.specs.laws.Inner.{IsFree, HasMade, HasMoved, hand_after}
 use Rattle.engine.specs.laws.lemmas.Agreeing.{sound-settled, now-served}

@@ -16,22 +16,22 @@ use Rattle.nfs_model.specs.Work.{move_by, move_if, move_of, move_of_call, move_o
 use Rattle.nfs_model.specs.World.{Setup, World, Running, Worker, store_of, task_of, changed_at, with_running}
 use Rattle.nfs_model.specs.Headline.{IsTriedAt}
 use Rattle.nfs_model.specs.Events.Step.{finished_call, worked}
-use Rattle.affinity_tree.specs.Fault.{fault_of}
-use Rattle.affinity_tree.specs.Ancestors.{Covers}
-use Rattle.affinity_tree.specs.Numbers.{number_of, parents}
-use Rattle.depot.specs.rule.History.{patched, Legal}
+use Rattle.affinity.specs.Fault.{fault_of}
+use Rattle.affinity.specs.Ancestors.{Covers}
+use Rattle.affinity.specs.Numbers.{number_of, parents}
+use Rattle.depot_rule.specs.History.{patched, Legal}
 use Rattle.desk.specs.laws.Books.{Lent, settled, now, stamps, IsUnchanged, HasHands, IsSettled}
 use Rattle.desk.specs.laws.Calls.{HasWorked, with_lent}
 use Rattle.desk.specs.laws.lemmas.Overlays.{overlaid-here}
-use Rattle.parcels.specs.state.Parcels.{FilerParcel}
-use Rattle.parcels.specs.state.Contents.{filer_contents}
-use Rattle.parcels.specs.state.Tree.{tree}
-use Rattle.parcels.specs.state.Sound.{AllSound}
-use Rattle.parcels.specs.state.Opening.{AreOpening}
-use Rattle.parcels.specs.state.Jobs as jobs
-use Rattle.parcels.specs.state.Jobs.{Job, JobReply, Serve}
-use Rattle.parcels.specs.state.Deeds.{FilerSteps, Serves, stored_all}
-use Rattle.parcels.specs.laws.lemmas.Lawful.{steps-local, entry-does}
+use Rattle.filer_state.specs.state.Parcels.{FilerParcel}
+use Rattle.filer_state.specs.state.Contents.{filer_contents}
+use Rattle.filer_state.specs.state.Tree.{tree}
+use Rattle.filer_state.specs.state.Sound.{AllSound}
+use Rattle.filer_state.specs.state.Opening.{AreOpening}
+use Rattle.filer_state.specs.state.Jobs as jobs
+use Rattle.filer_state.specs.state.Jobs.{Job, JobReply, Serve}
+use Rattle.filer_state.specs.state.Deeds.{FilerSteps, Serves, stored_all}
+use Rattle.filer_state.specs.laws.lemmas.Lawful.{steps-local, entry-does}
 use Rattle.engine.specs.laws.Store.{FilerBooks, filer, HasOutcome, RunsOn, RunOn, IsApart, StandsFor, batches_carried, calls_served}
 use Rattle.engine.specs.laws.Serving.{Serving, AgreeUnder}
 use Rattle.engine.specs.laws.lemmas.Agreeing.{reached-once, now-served}

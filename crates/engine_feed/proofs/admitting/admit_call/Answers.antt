@@ -5,7 +5,7 @@ use Rattle.nfs_values.specs.declared.call.Call.{Call}
 use Rattle.nfs_values.specs.Answer.{answer_of}
 use Rattle.nfs_values.specs.Call.{call_of}
 use Rattle.nfs_values.specs.Credential.{credential_of}
-use Rattle.affinity_tree.specs.Affinity.{affinity_of}
+use Rattle.affinity.specs.Affinity.{affinity_of}
 use Rattle.engine_feed.specs.Seen.{layout_in}
 use Rattle.engine_feed.proofs.Hearing.{waits, at-once, at-once-fits}
 use Rattle.engine_feed.proofs.admitting.admit_call.Goals as goal

@@ -2,7 +2,7 @@
 
 use crate::replay::script::verb::{Verb, verb_of};
 use crate::replay::script::word::Words;
-use affinity_tree::VolumeSpec;
+use affinity::VolumeSpec;
 use engine::Event;
 use nfs_values::{Moment, VolumeNumber};
 use std::alloc::Global;

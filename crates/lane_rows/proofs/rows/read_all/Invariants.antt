@@ -1,5 +1,5 @@
 use Rattle.std.proofs.Common.{◌≡◌, ◌<◌, length}
-use Rattle.affinity_tree.specs.Layout.{layout_of}
+use Rattle.affinity.specs.Layout.{layout_of}
 use Rattle.lane_rows.proofs.rows.read_all.Given as goal
 
 abbrev pub invariant-loop : goal.invariant-loop

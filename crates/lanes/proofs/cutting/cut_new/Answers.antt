@@ -1,4 +1,4 @@
-use Rattle.affinity_tree.specs.Layout.{layout_of}
+use Rattle.affinity.specs.Layout.{layout_of}
 use Rattle.lanes.proofs.Cut.{cut-no-memory, cut-stopped, none-is, stopped-is}
 use Rattle.lanes.proofs.cutting.cut_new.Goals as goal
 use Rattle.std.proofs.Common.{◌∙◌}

@@ -1,7 +1,7 @@
 -- the records that were taken stand behind what was there
 use Rattle.std.proofs.Common.{◌≡◌, List, ◌++◌}
 use Rattle.outboxes.specs.Messages.{ReplyMessage}
-use Rattle.connections.specs.tcp_front.Writing.{records_of}
+use Rattle.tcp_front.specs.Writing.{records_of}
 use Rattle.lanes.specs.Taking.{Takes}
 use Rattle.lanes.specs.lemmas.Taking.{waits}
 use Rattle.lanes.proofs.joining.join.Given as goal

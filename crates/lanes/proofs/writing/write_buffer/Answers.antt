@@ -1,5 +1,5 @@
 use Rattle.std.proofs.Common.{◌≡◌, ◌<◌, ◌++◌, ℕ, List, length, drop, rules, sym, ap, subst, ◌∙◌}
-use Rattle.connections.specs.tcp_front.Writing.{records_of}
+use Rattle.tcp_front.specs.Writing.{records_of}
 use Rattle.lanes.specs.Rests.{list_of}
 use Rattle.lanes.specs.Writing.{IsOutcome}
 use Rattle.lanes.proofs.OneWrite.{sent-by}

@@ -1,5 +1,5 @@
 use Rattle.std.proofs.Common.{◌≡◌, ◌≤◌, ◌+◌, ℕ, All, vec_len, vec_capacity}
-use Rattle.depot.specs.rule.Sums.{total}
+use Rattle.depot_rule.specs.Sums.{total}
 use Rattle.workers.specs.declared.shared.Filer.{Filer}
 use Rattle.lanes.specs.Words.{Identity}
 use Rattle.server.specs.Threads.{identity_for, identity_with, seats_for, seats_with, IsTaskFor, ServesFor}

@@ -1,5 +1,5 @@
 use Rattle.std.proofs.Common.{ap, arith}
-use Rattle.depot.specs.rule.Sums.{total}
+use Rattle.depot_rule.specs.Sums.{total}
 use Rattle.server.specs.Lanes.{admitted_by, finished_by, seats_of, IsLaneOf}
 use Rattle.server.proofs.pool.Lists.{all-popped, none-left, total-last}
 use Rattle.server.proofs.gathering.gather_lanes.Goals as goal

@@ -1,8 +1,8 @@
 use Rattle.std.proofs.Common.{◌+◌, ap, ◌∙◌, subst, sym}
 use Rattle.depot.specs.Words.{view, IsSeatHere}
-use Rattle.depot.specs.rule.History.{entries_of}
-use Rattle.depot.specs.rule.Sums.{total}
-use Rattle.parcels.specs.state.Jobs.{batches_in}
+use Rattle.depot_rule.specs.History.{entries_of}
+use Rattle.depot_rule.specs.Sums.{total}
+use Rattle.filer_state.specs.state.Jobs.{batches_in}
 use Rattle.workers.specs.Balance.{by_key}
 use Rattle.workers.specs.Words.{entries_in, layout_in, verifier_in, HasOpened, IsAt}
 use Rattle.workers.specs.declared.shared.Filer.{Filer}

@@ -1,7 +1,7 @@
 use Rattle.std.proofs.Common.{◌≡◌, ◌≤◌, ◌+◌, ◌*◌, ℕ, All, vec_len, vec_capacity}
 use Rattle.depot.specs.Words.{view, splits_left}
-use Rattle.depot.specs.rule.History.{entries_of}
-use Rattle.depot.specs.rule.Sums.{total}
+use Rattle.depot_rule.specs.History.{entries_of}
+use Rattle.depot_rule.specs.Sums.{total}
 use Rattle.workers.specs.Balance.{FilerEntry, Weight}
 use Rattle.server.specs.Lanes.{admitted_by, finished_by, seats_of, IsLaneOf}
 use Rattle.server.specs.Remains.{calls_in, AreRemainsIn}

@@ -9,7 +9,7 @@ use Rattle.workers.specs.Balance.{Passed}
 use Rattle.workers.specs.Words.{seats_in, IsAt}
 use Rattle.lanes.specs.Words.{Identity}
 use Rattle.server.specs.Lanes.{by_place, places, places_below, seats_of, IsLaneOf}
-use Rattle.depot.specs.rule.Sums.{total}
+use Rattle.depot_rule.specs.Sums.{total}
 use Rattle.server.specs.Queues.{IsNewQueue}
 use Rattle.server.proofs.pool.Handed.{all-pushed}
 use Rattle.server.proofs.pool.Lists.{total-last}

@@ -3,10 +3,10 @@ use Rattle.nfs_values.specs.declared.status.Status.TheVariants.{Stale}
 use Rattle.nfs_model.specs.Types.{GetattrDone}
 use Rattle.nfs_model.specs.volume.Inodes.{Inode, inode_of}
 use Rattle.nfs_model.specs.volume.Logical.{LogicalValue}
-use Rattle.volume_logical.specs.inodes.Inode.{inode_value}
-use Rattle.parcels.specs.state.Sets.{logical_before}
-use Rattle.parcels.specs.state.Tree.{file_touch}
-use Rattle.parcels.specs.state.Changes.{getattr_answer}
+use Rattle.inodes.specs.Inode.{inode_value}
+use Rattle.filer_state.specs.state.Sets.{logical_before}
+use Rattle.filer_state.specs.state.Tree.{file_touch}
+use Rattle.filer_state.specs.state.Changes.{getattr_answer}
 use Rattle.service.proofs.Getting.{tells}
 use Rattle.service.specs.renames.WholeLemmas.{whole-links}
 use Rattle.service.proofs.attributes.get_attributes.Goals as goal

@@ -1,6 +1,6 @@
 use Rattle.std.proofs.Common.{◌≡◌, ap, subst}
 use Rattle.nfs_model.specs.Tree.{Aggregate}
-use Rattle.affinity_tree.specs.Layout.{layout_of}
+use Rattle.affinity.specs.Layout.{layout_of}
 use Rattle.nfs_values.specs.Call.{call_of}
 use Rattle.nfs_values.specs.Credential.{credential_of}
 use Rattle.nfs_values.specs.Moment.{moment_of}

@@ -3,7 +3,7 @@ use Rattle.std.specs.Option.{option_map}
 use Rattle.nfs_model.specs.Tree.{Logical}
 use Rattle.nfs_model.specs.Types.{Success}
 use Rattle.nfs_model.specs.Work.{Outcome, Replied}
-use Rattle.affinity_tree.specs.Layout.{layout_of}
+use Rattle.affinity.specs.Layout.{layout_of}
 use Rattle.nfs_values.specs.Answer.{answer_of}
 use Rattle.nfs_values.specs.Call.{call_of}
 use Rattle.nfs_values.specs.Credential.{credential_of}
@@ -14,9 +14,9 @@ use Rattle.nfs_values.specs.declared.answer.Answer.TheVariants as answers
 use Rattle.nfs_values.specs.declared.call.Call.{Call}
 use Rattle.service.specs.renames.AttributeLaws.{setattr_call}
 use Rattle.service.specs.renames.ChangeLaws.{create_call, mkdir_call, remove_call, rmdir_call}
-use Rattle.parcels.specs.state.Lenses.{logical_lens}
-use Rattle.parcels.specs.state.Running.{RunsOn}
-use Rattle.parcels.specs.state.Sets.{logical_before, logical_after}
+use Rattle.filer_state.specs.state.Lenses.{logical_lens}
+use Rattle.filer_state.specs.state.Running.{RunsOn}
+use Rattle.filer_state.specs.state.Sets.{logical_before, logical_after}
 use Rattle.service.specs.renames.NamePromises.{Creates, MakesDirectory, Removes, RemovesDirectory}
 use Rattle.service_data.specs.Writing.{written_outcome}
 use Rattle.service.specs.Running.{call_named, outcome_of, RunsThere}

@@ -1,9 +1,9 @@
 use Rattle.std.proofs.Common.{ℕ, List, subst}
-use Rattle.affinity_tree.specs.Layout.{layout_of}
+use Rattle.affinity.specs.Layout.{layout_of}
 use Rattle.nfs_values.specs.Credential.{credential_of}
 use Rattle.nfs_values.specs.Handle.{named_of}
 use Rattle.nfs_values.specs.Moment.{moment_of}
-use Rattle.parcels.specs.state.Sets.{logical_before, logical_after}
+use Rattle.filer_state.specs.state.Sets.{logical_before, logical_after}
 use Rattle.service.specs.renames.Promises.{Renames}
 use Rattle.service.specs.Running.{outcome_of}
 use Rattle.service.proofs.Runs.{renaming-runs}

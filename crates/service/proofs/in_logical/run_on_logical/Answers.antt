@@ -1,10 +1,10 @@
 use Rattle.nfs_model.specs.Tree.{Logical}
-use Rattle.affinity_tree.specs.Layout.{layout_of}
+use Rattle.affinity.specs.Layout.{layout_of}
 use Rattle.nfs_values.specs.Call.{call_of}
 use Rattle.nfs_values.specs.Credential.{credential_of}
 use Rattle.nfs_values.specs.Moment.{moment_of}
-use Rattle.parcels.specs.state.Lenses.{logical_lens}
-use Rattle.parcels.specs.state.Sets.{logical_before, logical_after}
+use Rattle.filer_state.specs.state.Lenses.{logical_lens}
+use Rattle.filer_state.specs.state.Sets.{logical_before, logical_after}
 use Rattle.service.specs.Running.{outcome_of}
 use Rattle.service.proofs.Runs.{runs-here}
 use Rattle.service.proofs.in_logical.run_on_logical.Goals as goal

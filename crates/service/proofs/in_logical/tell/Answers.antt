@@ -12,9 +12,9 @@ use Rattle.nfs_values.specs.declared.call.Call.{Call}
 use Rattle.service.specs.renames.AttributeLaws.{getattr_call}
 use Rattle.service_data.specs.ReadingLaws.{read_call}
 use Rattle.service.specs.renames.NameLaws.{lookup_call, readdir_call, commit_call}
-use Rattle.parcels.specs.state.Lenses.{logical_lens}
-use Rattle.parcels.specs.state.Running.{RunsOn}
-use Rattle.parcels.specs.state.Sets.{logical_before}
+use Rattle.filer_state.specs.state.Lenses.{logical_lens}
+use Rattle.filer_state.specs.state.Running.{RunsOn}
+use Rattle.filer_state.specs.state.Sets.{logical_before}
 use Rattle.service.specs.renames.NamePromises.{LooksUp}
 use Rattle.service.specs.Running.{call_named, outcome_of}
 use Rattle.service.proofs.Runs.{served-runs}

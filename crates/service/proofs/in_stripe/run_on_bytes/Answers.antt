@@ -6,8 +6,8 @@ use Rattle.nfs_values.specs.Credential.{credential_of}
 use Rattle.nfs_values.specs.Moment.{moment_of}
 use Rattle.nfs_values.specs.declared.call.Call.{Call}
 use Rattle.service_data.specs.ReadingLaws.{read_call}
-use Rattle.parcels.specs.state.Lenses.{stripe_lens}
-use Rattle.parcels.specs.state.Running.{RunsOn}
+use Rattle.filer_state.specs.state.Lenses.{stripe_lens}
+use Rattle.filer_state.specs.state.Running.{RunsOn}
 use Rattle.service_data.specs.Writing.{writing_outcome}
 use Rattle.service.specs.Running.{BytesLieIn, call_of_node, outcome_of}
 use Rattle.service.proofs.Runs.{writing-runs, unless-written-there}

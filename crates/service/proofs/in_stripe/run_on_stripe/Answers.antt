@@ -1,10 +1,10 @@
 use Rattle.std.proofs.Common.{ℕ, sym, subst}
 use Rattle.nfs_model.specs.Tree.{Stripe}
-use Rattle.affinity_tree.specs.Layout.{layout_of}
+use Rattle.affinity.specs.Layout.{layout_of}
 use Rattle.nfs_values.specs.Call.{call_of}
 use Rattle.nfs_values.specs.Credential.{credential_of}
 use Rattle.nfs_values.specs.Moment.{moment_of}
-use Rattle.parcels.specs.state.Lenses.{stripe_lens}
+use Rattle.filer_state.specs.state.Lenses.{stripe_lens}
 use Rattle.service.specs.Running.{BytesLieIn, outcome_of}
 use Rattle.service.specs.lemmas.Homes.{bytes-lie}
 use Rattle.service.proofs.Runs.{runs-here}

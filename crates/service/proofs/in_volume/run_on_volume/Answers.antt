@@ -2,14 +2,14 @@ use Rattle.std.proofs.Common.{ap}
 use Rattle.nfs_model.specs.Tree.{Volume}
 use Rattle.nfs_model.specs.Types.{Success}
 use Rattle.nfs_model.specs.Work.{Replied}
-use Rattle.affinity_tree.specs.Layout.{layout_of}
+use Rattle.affinity.specs.Layout.{layout_of}
 use Rattle.nfs_values.specs.Answer.{answer_of}
 use Rattle.nfs_values.specs.Call.{call_of}
 use Rattle.nfs_values.specs.Credential.{credential_of}
 use Rattle.nfs_values.specs.Moment.{moment_of}
 use Rattle.nfs_values.specs.declared.answer.Answer.TheVariants.{FilesystemStatus}
-use Rattle.parcels.specs.state.Lenses.{volume_lens}
-use Rattle.parcels.specs.state.Sets.{volume_before, volume_after}
+use Rattle.filer_state.specs.state.Lenses.{volume_lens}
+use Rattle.filer_state.specs.state.Sets.{volume_before, volume_after}
 use Rattle.service_data.specs.Writing.{written_outcome}
 use Rattle.service.specs.Running.{outcome_of}
 use Rattle.service.specs.lemmas.Homes.{only-writes}

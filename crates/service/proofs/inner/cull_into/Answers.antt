@@ -1,4 +1,4 @@
-use Rattle.parcels.specs.state.Sets.{logical_before, logical_after}
+use Rattle.filer_state.specs.state.Sets.{logical_before, logical_after}
 use Rattle.service.proofs.InHand.{culled-runs}
 use Rattle.service.proofs.inner.cull_into.Goals as goal
 

@@ -1,4 +1,4 @@
-use Rattle.parcels.specs.state.Sets.{logical_before, logical_after}
+use Rattle.filer_state.specs.state.Sets.{logical_before, logical_after}
 use Rattle.service.proofs.InHand.{delivered-runs, to-deliver}
 use Rattle.service.proofs.inner.deliver_from.Goals as goal
 

@@ -1,5 +1,5 @@
 use Rattle.std.proofs.Common.{refl, sym, ap}
-use Rattle.parcels.specs.state.Jobs.{batches_in}
+use Rattle.filer_state.specs.state.Jobs.{batches_in}
 use Rattle.service.proofs.inner.survey_with.Goals as goal
 
 pub returns-in-Ok : goal.returns-in-Ok

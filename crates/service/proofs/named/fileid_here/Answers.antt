@@ -1,7 +1,7 @@
 use Rattle.std.proofs.Common.{sym, ap, ◌∙◌, List, ℕ}
 use Rattle.nfs_model.specs.Home.{named_by}
-use Rattle.affinity_tree.specs.Affinity.{affinity_of}
-use Rattle.affinity_tree.specs.Layout.{layout_of}
+use Rattle.affinity.specs.Affinity.{affinity_of}
+use Rattle.affinity.specs.Layout.{layout_of}
 use Rattle.service.specs.lemmas.Homes.{run-named}
 use Rattle.service.proofs.named.fileid_here.Goals as goal
 

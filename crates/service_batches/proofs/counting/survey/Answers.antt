@@ -1,6 +1,6 @@
 use Rattle.std.proofs.Common.{◌≡◌, ℕ, ◌∙◌, ap, arith}
 use Rattle.nfs_model.specs.volume.Ranges.{RangeValue}
-use Rattle.parcels.specs.state.Sets.{range_value, placed, vbn_set}
+use Rattle.filer_state.specs.state.Sets.{range_value, placed, vbn_set}
 use Rattle.service_batches.specs.Counts.{counts_shown}
 use Rattle.service_batches.proofs.Counted.{all-counted}
 use Rattle.service_batches.proofs.Right.{survey-done}

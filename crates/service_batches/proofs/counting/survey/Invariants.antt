@@ -1,5 +1,5 @@
 use Rattle.std.proofs.Common.{◌≡◌, ℕ}
-use Rattle.parcels.specs.state.Sets.{range_value, placed}
+use Rattle.filer_state.specs.state.Sets.{range_value, placed}
 use Rattle.service_batches.specs.Counts.{counts_shown}
 use Rattle.service_batches.proofs.counting.survey.Given as goal
 

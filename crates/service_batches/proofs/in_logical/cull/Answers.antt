@@ -1,5 +1,5 @@
-use Rattle.parcels.specs.state.Sets.{logical_before}
-use Rattle.parcels.specs.Logical.{logical_value}
+use Rattle.filer_state.specs.state.Sets.{logical_before}
+use Rattle.filer_state.specs.Logical.{logical_value}
 use Rattle.service_batches.proofs.Right.{cull-done}
 use Rattle.service_batches.proofs.in_logical.cull.Goals as goal
 

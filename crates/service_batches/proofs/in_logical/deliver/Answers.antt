@@ -2,8 +2,8 @@ use Rattle.std.proofs.Common.{◌≡◌, ℕ, false, sym, subst}
 use Rattle.std.specs.FinSet.{contains}
 use Rattle.std.specs.List.{AllByRecursion}
 use Rattle.nfs_model.specs.volume.Logical.{LogicalValue}
-use Rattle.parcels.specs.state.Sets.{logical_before}
-use Rattle.parcels.specs.Logical.{logical_value}
+use Rattle.filer_state.specs.state.Sets.{logical_before}
+use Rattle.filer_state.specs.Logical.{logical_value}
 use Rattle.service_batches.proofs.Apart.{not-in-stock}
 use Rattle.service_batches.proofs.Right.{deliver-done, on-good}
 use Rattle.service_batches.proofs.in_logical.deliver.Goals as goal

@@ -1,7 +1,7 @@
 use Rattle.std.proofs.Common.{◌≡◌, length, rules, arith}
-use Rattle.parcels.specs.state.Contents.{each}
-use Rattle.parcels.specs.state.Sets.{range_value, placed}
-use Rattle.parcels.specs.bytes.WritingUp.{free_count}
+use Rattle.filer_state.specs.state.Contents.{each}
+use Rattle.filer_state.specs.state.Sets.{range_value, placed}
+use Rattle.filer_state.specs.bytes.WritingUp.{free_count}
 use Rattle.service_data.proofs.Counted.{free-first, free-more, free-all}
 use Rattle.service_data.proofs.counting.count_free.Goals as goal
 

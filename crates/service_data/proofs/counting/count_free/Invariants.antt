@@ -1,6 +1,6 @@
-use Rattle.parcels.specs.state.Contents.{each}
-use Rattle.parcels.specs.state.Sets.{range_value, placed}
-use Rattle.parcels.specs.bytes.WritingUp.{free_count}
+use Rattle.filer_state.specs.state.Contents.{each}
+use Rattle.filer_state.specs.state.Sets.{range_value, placed}
+use Rattle.filer_state.specs.bytes.WritingUp.{free_count}
 use Rattle.service_data.proofs.Counted.{FreeSoFar}
 use Rattle.service_data.proofs.counting.count_free.Given as goal
 

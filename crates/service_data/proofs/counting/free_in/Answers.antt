@@ -1,7 +1,7 @@
 use Rattle.std.proofs.Common.{sym, ap, ◌∙◌, arith}
 use Rattle.std.specs.Ordering.{nat_cmp}
 use Rattle.std.specs.FinSet.{len, len-empty}
-use Rattle.parcels.specs.state.Sets.{range_value}
+use Rattle.filer_state.specs.state.Sets.{range_value}
 use Rattle.service_data.proofs.Counted.{few-free}
 use Rattle.service_data.proofs.counting.free_in.Goals as goal
 

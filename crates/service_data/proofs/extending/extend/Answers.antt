@@ -2,8 +2,8 @@ use Rattle.std.proofs.Common.{◌≡◌, ◌≤◌, List, ℕ, length, take, sym
 use Rattle.std.specs.FinSet.{len}
 use Rattle.nfs_values.specs.Moment.{moment_of}
 use Rattle.nfs_model.specs.volume.Logical.{LogicalValue}
-use Rattle.parcels.specs.bytes.Extending.{holes}
-use Rattle.parcels.specs.state.Sets.{logical_before}
+use Rattle.filer_state.specs.bytes.Extending.{holes}
+use Rattle.filer_state.specs.state.Sets.{logical_before}
 use Rattle.service_data.specs.Holes.{Rise, AreHoles}
 use Rattle.service_data.proofs.Holed.{holes-are, holes-rise}
 use Rattle.service_data.proofs.Extended.{extends-file, enough-there, as-many}

@@ -1,7 +1,7 @@
 use Rattle.std.proofs.Common.{◌≡◌, ◌<◌, Some, sym, ap, ◌∙◌, arith}
 use Rattle.std.specs.Option.{option_map}
 use Rattle.std.specs.FinMap.{get}
-use Rattle.volume_logical.specs.inodes.Inode.{inode_value, kind_value}
+use Rattle.inodes.specs.Inode.{inode_value, kind_value}
 use Rattle.nfs_model.specs.volume.Inodes.{inode_of, filled_blocks}
 use Rattle.nfs_model.specs.volume.Logical.{LogicalValue}
 use Rattle.service_data.proofs.extending.extend_inode.Goals as goal

@@ -1,6 +1,6 @@
 use Rattle.std.proofs.Common.{length, refl, sym, subst}
 use Rattle.nfs_values.specs.Moment.{moment_of}
-use Rattle.parcels.specs.state.Sets.{logical_before}
+use Rattle.filer_state.specs.state.Sets.{logical_before}
 use Rattle.service_data.specs.Holes.{Rise, AreHoles}
 use Rattle.service_data.proofs.FromParts.{extends-from-parts, still-room}
 use Rattle.service_data.proofs.Holed.{holes-are, holes-rise}

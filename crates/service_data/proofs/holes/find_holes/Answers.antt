@@ -1,8 +1,8 @@
 use Rattle.std.proofs.Common.{◌/◌, arith}
 use Rattle.nfs_model.specs.Server.{block_size}
 use Rattle.nfs_model.specs.volume.Stripes.{is_filled}
-use Rattle.parcels.specs.state.Sets.{logical_before}
-use Rattle.parcels.specs.state.Tree.{home_stripe}
+use Rattle.filer_state.specs.state.Sets.{logical_before}
+use Rattle.filer_state.specs.state.Tree.{home_stripe}
 use Rattle.service_data.proofs.Holed.{found-next}
 use Rattle.service_data.proofs.holes.find_holes.Goals as goal
 

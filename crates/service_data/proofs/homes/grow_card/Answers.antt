@@ -1,6 +1,6 @@
 use Rattle.std.proofs.Common.{Some, sym, ap, ◌∙◌}
 use Rattle.std.specs.Option.{option_map}
-use Rattle.stripes.specs.cards.Cards.{card_of}
+use Rattle.stripe_cards.specs.Cards.{card_of}
 use Rattle.service_data.proofs.Grown.{grown-folder}
 use Rattle.service_data.proofs.homes.grow_card.Goals as goal
 

@@ -1,6 +1,6 @@
 use Rattle.std.proofs.Common.{◌≡◌, rules, refl, ap, arith, length}
 use Rattle.nfs_model.specs.volume.Logical.{LogicalValue}
-use Rattle.parcels.specs.bytes.Extending.{stripe_grown}
+use Rattle.filer_state.specs.bytes.Extending.{stripe_grown}
 use Rattle.service_data.proofs.Placed.{one-more, all-done}
 use Rattle.service_data.proofs.homes.grow_cards.Goals as goal
 

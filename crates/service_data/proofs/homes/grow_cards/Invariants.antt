@@ -1,5 +1,5 @@
 use Rattle.std.proofs.Common.{◌≡◌}
-use Rattle.parcels.specs.bytes.Extending.{stripe_grown}
+use Rattle.filer_state.specs.bytes.Extending.{stripe_grown}
 use Rattle.service_data.specs.Places.{first_changed, with_places}
 use Rattle.service_data.proofs.homes.grow_cards.Given as goal
 

@@ -1,6 +1,6 @@
 use Rattle.std.proofs.Common.{◌≡◌, ◌<◌, ℕ}
 use Rattle.std.specs.FinSet as sets
-use Rattle.parcels.specs.state.Sets.{range_value, placed}
+use Rattle.filer_state.specs.state.Sets.{range_value, placed}
 use Rattle.service_data.proofs.parts.take_free.Given as goal
 
 -- the ranges so far have no free number, and nothing has changed

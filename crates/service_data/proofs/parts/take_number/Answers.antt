@@ -1,7 +1,7 @@
 use Rattle.std.proofs.Common.{◌≡◌, refl, sym, ap, ◌∙◌}
 use Rattle.nfs_model.specs.volume.Logical.{LogicalValue}
-use Rattle.parcels.specs.Logical.{logical_value}
-use Rattle.parcels.specs.state.Sets.{volume_before}
+use Rattle.filer_state.specs.Logical.{logical_value}
+use Rattle.filer_state.specs.state.Sets.{volume_before}
 use Rattle.service_data.proofs.Drained.{lowest-there, none-for-holes, leaves-dead}
 use Rattle.service_data.proofs.parts.take_number.Goals as goal
 

@@ -4,9 +4,9 @@ use Rattle.nfs_values.specs.Answer as answers
 use Rattle.nfs_values.specs.declared.answer.ReadResults.{ReadResults}
 use Rattle.nfs_model.specs.volume.Inodes.{inode_of}
 use Rattle.nfs_model.specs.volume.Logical.{LogicalValue}
-use Rattle.parcels.specs.state.Lenses.{LogicalSet}
-use Rattle.parcels.specs.state.Sets.{logical_before}
-use Rattle.parcels.specs.state.Tree.{file_byte}
+use Rattle.filer_state.specs.state.Lenses.{LogicalSet}
+use Rattle.filer_state.specs.state.Sets.{logical_before}
+use Rattle.filer_state.specs.state.Tree.{file_byte}
 use Rattle.service_data.proofs.Spanned.{stripes-held}
 use Rattle.service_data.proofs.Told.{told-read, told-none, room-behind, logical-told, logical-right, logical-starved}
 use Rattle.service_data.proofs.reading.read_in_logical.Goals as goal

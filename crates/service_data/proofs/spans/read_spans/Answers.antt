@@ -1,5 +1,5 @@
 use Rattle.std.proofs.Common.{◌-◌, ◌%◌, arith}
-use Rattle.parcels.specs.state.Sets.{logical_before}
+use Rattle.filer_state.specs.state.Sets.{logical_before}
 use Rattle.service_data.proofs.Spanned.{two-spans, room-left}
 use Rattle.service_data.proofs.spans.read_spans.Goals as goal
 

@@ -2,11 +2,11 @@ use Rattle.std.proofs.Common.{Ok, take, ap, subst, ◌∙◌}
 use Rattle.std.specs.Option.{option_map}
 use Rattle.nfs_model.specs.Serial.Write.{Writing}
 use Rattle.nfs_values.specs.Moment.{moment_of}
-use Rattle.stripes.specs.cards.Cards.{card_of}
+use Rattle.stripe_cards.specs.Cards.{card_of}
 use Rattle.nfs_model.specs.volume.Inodes.{inode_of}
 use Rattle.nfs_model.specs.volume.Logical.{LogicalValue}
-use Rattle.parcels.specs.state.Lenses.{VolumeSet}
-use Rattle.parcels.specs.state.Sets.{logical_before, volume_before, volume_after}
+use Rattle.filer_state.specs.state.Lenses.{VolumeSet}
+use Rattle.filer_state.specs.state.Sets.{logical_before, volume_before, volume_after}
 use Rattle.service_data.specs.Writing.{asked_to_write, card_shown}
 use Rattle.service_data.specs.WritingInVolume.{ExtendsInVolume}
 use Rattle.service_data.specs.declared.extension.Extension.{Extension}

@@ -1,5 +1,5 @@
 use Rattle.nfs_values.specs.Moment.{moment_of}
-use Rattle.parcels.specs.state.Sets.{logical_before, logical_after}
+use Rattle.filer_state.specs.state.Sets.{logical_before, logical_after}
 use Rattle.service_data.specs.Writing.{asked_to_write}
 use Rattle.service_data.proofs.WrittenUp.{right-done}
 use Rattle.service_data.proofs.writing.write_in_logical.Goals as goal

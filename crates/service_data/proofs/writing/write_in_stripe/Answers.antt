@@ -2,7 +2,7 @@ use Rattle.std.proofs.Common.{refl, rules}
 use Rattle.std.specs.Option.{option_map}
 use Rattle.nfs_model.specs.Serial.Write.{Writing}
 use Rattle.nfs_values.specs.Moment.{moment_of}
-use Rattle.stripes.specs.cards.Cards.{card_of}
+use Rattle.stripe_cards.specs.Cards.{card_of}
 use Rattle.service_data.specs.Writing.{asked_to_write}
 use Rattle.service_data.proofs.Written.{right-failed, right-none, right-moved, right-written}
 use Rattle.service_data.proofs.writing.write_in_stripe.Goals as goal

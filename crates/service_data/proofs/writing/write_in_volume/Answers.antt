@@ -1,5 +1,5 @@
 use Rattle.nfs_values.specs.Moment.{moment_of}
-use Rattle.parcels.specs.state.Sets.{volume_before, volume_after}
+use Rattle.filer_state.specs.state.Sets.{volume_before, volume_after}
 use Rattle.service_data.specs.Writing.{asked_to_write}
 use Rattle.service_data.proofs.WrittenInVolume.{right-told}
 use Rattle.service_data.proofs.writing.write_in_volume.Goals as goal

@@ -1,5 +1,5 @@
 use Rattle.std.proofs.Common.{rules, refl, arith, ◌≡◌, length}
-use Rattle.volume_logical.specs.inodes.Inode.{kind_value}
+use Rattle.inodes.specs.Inode.{kind_value}
 use Rattle.service_names.specs.Cards.{DiffersByCard, HasCard}
 use Rattle.service_names.proofs.Putting.{place-more, in-first, all-first}
 use Rattle.service_names.proofs.cards.put_cards.Goals as goal

@@ -1,5 +1,5 @@
 use Rattle.std.proofs.Common.{rules}
-use Rattle.volume_logical.specs.inodes.Inode.{kind_value}
+use Rattle.inodes.specs.Inode.{kind_value}
 use Rattle.service_names.proofs.Putting.{put-else}
 use Rattle.service_names.proofs.cards.put_in.Goals as goal
 

@@ -4,9 +4,9 @@ use Rattle.nfs_model.specs.Shown.{before_of}
 use Rattle.nfs_values.specs.declared.status.Status.TheVariants.{Stale, Invalid}
 use Rattle.nfs_model.specs.volume.Inodes.{inode_of}
 use Rattle.nfs_model.specs.volume.Logical.{LogicalValue}
-use Rattle.volume_logical.specs.inodes.Inode.{inode_value, kind_value}
-use Rattle.parcels.specs.state.Sets.{logical_before}
-use Rattle.parcels.specs.changes.NameAnswers.{inode_committed}
+use Rattle.inodes.specs.Inode.{inode_value, kind_value}
+use Rattle.filer_state.specs.state.Sets.{logical_before}
+use Rattle.filer_state.specs.changes.NameAnswers.{inode_committed}
 use Rattle.service_names.proofs.Commits.{commits, folder-told, file-told}
 use Rattle.service_names.proofs.committing.commit.Goals as goal
 

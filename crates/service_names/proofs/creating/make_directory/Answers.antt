@@ -4,8 +4,8 @@ use Rattle.nfs_values.specs.Credential.{credential_of}
 use Rattle.nfs_values.specs.Moment.{moment_of}
 use Rattle.nfs_values.specs.Set.{set_of}
 use Rattle.nfs_values.specs.declared.answer.Answer.TheVariants as answers
-use Rattle.parcels.specs.changes.Laws.{mkdir_call, mkdir_done}
-use Rattle.parcels.specs.state.Sets.{logical_before, logical_after}
+use Rattle.filer_state.specs.changes.Laws.{mkdir_call, mkdir_done}
+use Rattle.filer_state.specs.state.Sets.{logical_before, logical_after}
 use Rattle.service_names.proofs.Made.{made-by}
 use Rattle.service_names.proofs.Tying.{on-err-then}
 use Rattle.service_names.proofs.creating.make_directory.Goals as goal

@@ -1,12 +1,12 @@
 use Rattle.std.proofs.Common.{sym, ap, ◌∙◌, Ok, Err, None}
 use Rattle.nfs_model.specs.Types.{Shown, ReaddirDone}
 use Rattle.nfs_model.specs.Serial.Readdir.{above_cookie}
-use Rattle.volume_logical.specs.directories.Entries.{listed, page_value}
-use Rattle.parcels.specs.state.Changes.{shown_inode}
+use Rattle.directories.specs.Entries.{listed, page_value}
+use Rattle.filer_state.specs.state.Changes.{shown_inode}
 use Rattle.service_names.specs.Listing.{all_under}
 use Rattle.nfs_values.specs.declared.status.Status.TheVariants.{BadCookie, TooSmall}
-use Rattle.volume_logical.specs.inodes.Inode.{inode_value}
-use Rattle.parcels.specs.state.Sets.{logical_before}
+use Rattle.inodes.specs.Inode.{inode_value}
+use Rattle.filer_state.specs.state.Sets.{logical_before}
 use Rattle.service_names.specs.lemmas.Whole.{whole-links}
 use Rattle.service_names.proofs.Lists.{lists, starves, listed_in, bad-cookie, good-cookie, page-nothing, page-some, page-fits, page-small}
 use Rattle.service_names.proofs.listing.read_directory.Goals as goal

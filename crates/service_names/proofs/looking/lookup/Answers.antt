@@ -4,8 +4,8 @@ use Rattle.nfs_values.specs.Status.{status_of}
 use Rattle.nfs_values.specs.declared.status.Status.TheVariants.{NoEntry}
 use Rattle.nfs_model.specs.volume.Inodes.{inode_of}
 use Rattle.nfs_model.specs.volume.Logical.{LogicalValue}
-use Rattle.volume_logical.specs.inodes.Inode.{inode_value}
-use Rattle.parcels.specs.state.Sets.{logical_before}
+use Rattle.inodes.specs.Inode.{inode_value}
+use Rattle.filer_state.specs.state.Sets.{logical_before}
 use Rattle.service_names.specs.lemmas.Whole.{whole-links}
 use Rattle.service_names.proofs.Named.{looks-up, told_in, bad-name, no-entry, entry, handed_on}
 use Rattle.service_names.proofs.looking.lookup.Goals as goal

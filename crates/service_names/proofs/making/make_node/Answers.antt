@@ -1,8 +1,8 @@
 use Rattle.std.proofs.Common.{◌≡◌, ◌+◌, ◌∙◌, ℕ, true, ap, sym, subst}
-use Rattle.parcel_sets.specs.Filled.{is_filled}
+use Rattle.parcels.specs.Filled.{is_filled}
 use Rattle.std.specs.Prelude.{is_some, slice_get}
 use Rattle.nfs_model.specs.volume.Inodes.{inode_of}
-use Rattle.volume_logical.specs.inodes.Inode.{inode_value}
+use Rattle.inodes.specs.Inode.{inode_value}
 use Rattle.service_names.specs.Cards.{InFirst, IsDropped}
 use Rattle.service_names.specs.Making.{node_unmade}
 use Rattle.service_names.proofs.Unmade.{was-last, was-made, all-back, places-alike, all-made}

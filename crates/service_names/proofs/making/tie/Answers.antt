@@ -1,5 +1,5 @@
 use Rattle.std.proofs.Common.{◌≡◌, ◌<◌, ◌^◌, None, ap, ◌∙◌}
-use Rattle.volume_logical.specs.inodes.Inode.{kind_value}
+use Rattle.inodes.specs.Inode.{kind_value}
 use Rattle.nfs_model.specs.volume.Directories.{DirectoryValue, found}
 use Rattle.service_names.specs.Making.{without_directory}
 use Rattle.service_names.proofs.Tying.{on-err, on-err-then, directory-kept, without-kept}

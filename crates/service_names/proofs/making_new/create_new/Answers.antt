@@ -4,8 +4,8 @@ use Rattle.nfs_model.specs.Serial.Create.{asked_attributes}
 use Rattle.nfs_values.specs.Credential.{credential_of}
 use Rattle.nfs_values.specs.Moment.{moment_of}
 use Rattle.nfs_values.specs.Set.{mode_of}
-use Rattle.parcels.specs.state.Sets.{logical_before}
-use Rattle.parcels.specs.changes.Making.{create_check, file_inode}
+use Rattle.filer_state.specs.state.Sets.{logical_before}
+use Rattle.filer_state.specs.changes.Making.{create_check, file_inode}
 use Rattle.service_names.specs.Making.{naming_within}
 use Rattle.service_names.proofs.News.{would-make, create-not-full}
 use Rattle.service_names.proofs.Tying.{on-err}

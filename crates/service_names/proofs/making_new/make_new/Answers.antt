@@ -2,8 +2,8 @@ use Rattle.std.proofs.Common.{sym}
 use Rattle.nfs_values.specs.Credential.{credential_of}
 use Rattle.nfs_values.specs.Moment.{moment_of}
 use Rattle.nfs_values.specs.Set.{set_of}
-use Rattle.parcels.specs.state.Sets.{logical_before}
-use Rattle.parcels.specs.changes.Making.{mkdir_check, folder_inode}
+use Rattle.filer_state.specs.state.Sets.{logical_before}
+use Rattle.filer_state.specs.changes.Making.{mkdir_check, folder_inode}
 use Rattle.service_names.specs.Making.{naming_within}
 use Rattle.service_names.proofs.News.{would-make, mkdir-not-full}
 use Rattle.service_names.proofs.Tying.{on-err}

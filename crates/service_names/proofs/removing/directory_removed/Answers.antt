@@ -1,6 +1,6 @@
 use Rattle.std.proofs.Common.{arith}
-use Rattle.volume_logical.specs.inodes.Inode.{inode_value}
-use Rattle.parcels.specs.state.Sets.{logical_before}
+use Rattle.inodes.specs.Inode.{inode_value}
+use Rattle.filer_state.specs.state.Sets.{logical_before}
 use Rattle.service_names.specs.lemmas.Whole.{whole-links}
 use Rattle.service_names.specs.lemmas.Nodes.{whole-used}
 use Rattle.service_names.proofs.removing.directory_removed.Goals as goal

@@ -2,11 +2,11 @@ use Rattle.std.proofs.Common.{sym, ap, ◌∙◌, subst}
 use Rattle.nfs_model.specs.Types.{GoneDone}
 use Rattle.nfs_values.specs.Moment.{moment_of}
 use Rattle.nfs_model.specs.volume.Inodes.{Inode}
-use Rattle.volume_logical.specs.inodes.Inode.{inode_value, kind_value}
-use Rattle.parcels.specs.state.Changes.{LogicalAnswer}
-use Rattle.parcels.specs.state.Sets.{logical_before}
-use Rattle.parcels.specs.changes.NodesMade.{folders_in}
-use Rattle.parcels.specs.changes.Named.{directory_change}
+use Rattle.inodes.specs.Inode.{inode_value, kind_value}
+use Rattle.filer_state.specs.state.Changes.{LogicalAnswer}
+use Rattle.filer_state.specs.state.Sets.{logical_before}
+use Rattle.filer_state.specs.changes.NodesMade.{folders_in}
+use Rattle.filer_state.specs.changes.Named.{directory_change}
 use Rattle.service_names.specs.Naming.{node_value, naming_of}
 use Rattle.service_names.specs.Shown.{HasFewLinks}
 use Rattle.service_names.proofs.Removed.{few-left, removed-folder, still-entered, no-entries}

@@ -2,8 +2,8 @@ use Rattle.nfs_model.specs.Tree.{Logical}
 use Rattle.nfs_values.specs.Answer.{answer_of}
 use Rattle.nfs_values.specs.Moment.{moment_of}
 use Rattle.nfs_values.specs.declared.answer.Answer.TheVariants as answers
-use Rattle.parcels.specs.changes.Laws.{remove_call, remove_done}
-use Rattle.parcels.specs.state.Sets.{logical_before}
+use Rattle.filer_state.specs.changes.Laws.{remove_call, remove_done}
+use Rattle.filer_state.specs.state.Sets.{logical_before}
 use Rattle.service_names.proofs.Laws.{right-by}
 use Rattle.service_names.proofs.removing.remove.Goals as goal
 

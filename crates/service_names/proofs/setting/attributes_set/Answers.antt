@@ -3,8 +3,8 @@ use Rattle.nfs_values.specs.Moment.{moment_of}
 use Rattle.nfs_values.specs.Set.{set_of}
 use Rattle.nfs_model.specs.volume.Inodes.{Inode, inode_of}
 use Rattle.nfs_model.specs.volume.Logical.{LogicalValue}
-use Rattle.volume_logical.specs.inodes.Inode.{inode_value}
-use Rattle.parcels.specs.state.Sets.{logical_before}
+use Rattle.inodes.specs.Inode.{inode_value}
+use Rattle.filer_state.specs.state.Sets.{logical_before}
 use Rattle.service_names.specs.Shown.{HasFewLinks}
 use Rattle.service_names.specs.lemmas.Whole.{whole-links}
 use Rattle.service_names.specs.lemmas.Nodes.{whole-may-be-set}

@@ -4,9 +4,9 @@ use Rattle.nfs_values.specs.Answer.{answer_of}
 use Rattle.nfs_values.specs.Moment.{moment_of}
 use Rattle.nfs_values.specs.Set.{set_of}
 use Rattle.nfs_values.specs.declared.answer.Answer.TheVariants as answers
-use Rattle.parcels.specs.changes.AttributeLaws.{setattr_call}
-use Rattle.parcels.specs.changes.Attributes.{held_setattr}
-use Rattle.parcels.specs.state.Sets.{logical_before}
+use Rattle.filer_state.specs.changes.AttributeLaws.{setattr_call}
+use Rattle.filer_state.specs.changes.Attributes.{held_setattr}
+use Rattle.filer_state.specs.state.Sets.{logical_before}
 use Rattle.service_names.proofs.Laws.{right-by}
 use Rattle.service_names.proofs.setting.set_attributes.Goals as goal
 

@@ -1,9 +1,9 @@
 use Rattle.std.proofs.Common.{ap, sym, ◌∙◌, None}
 use Rattle.nfs_model.specs.volume.Inodes.{InodeKind}
-use Rattle.volume_logical.specs.inodes.Inode.{attributes_value, inode_value, kind_value}
-use Rattle.parcels.specs.state.Changes.{shown_inode, shown_kind}
-use Rattle.parcels.specs.state.Sets.{logical_before}
-use Rattle.parcels.specs.state.Tree.{file_touch}
+use Rattle.inodes.specs.Inode.{attributes_value, inode_value, kind_value}
+use Rattle.filer_state.specs.state.Changes.{shown_inode, shown_kind}
+use Rattle.filer_state.specs.state.Sets.{logical_before}
+use Rattle.filer_state.specs.state.Tree.{file_touch}
 use Rattle.service_names.proofs.showing.shown_now.Goals as goal
 
 pub returns-in-RegularFile : goal.returns-in-RegularFile

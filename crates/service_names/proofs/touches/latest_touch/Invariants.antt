@@ -1,7 +1,7 @@
 use Rattle.std.proofs.Common.{◌≤◌}
 use Rattle.std.specs.Option.{option_map}
 use Rattle.nfs_values.specs.Moment.{moment_of}
-use Rattle.parcels.specs.state.Sets.{stripe_value, placed}
+use Rattle.filer_state.specs.state.Sets.{stripe_value, placed}
 use Rattle.service_names.proofs.Latest.{IsTouchFrom}
 use Rattle.service_names.proofs.touches.latest_touch.Given as goal
 

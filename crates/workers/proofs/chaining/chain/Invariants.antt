@@ -1,5 +1,5 @@
 use Rattle.std.proofs.Common.{◌≡◌, ◌≤◌, ◌+◌, length}
-use Rattle.depot.specs.rule.History.{entries_of}
+use Rattle.depot_rule.specs.History.{entries_of}
 use Rattle.depot.specs.Words.{view, splits_left, IsSeatHere}
 use Rattle.desk.specs.Any.{node_lent}
 use Rattle.workers.specs.shared_waiting.Passes.{known, IsOf}

@@ -1,5 +1,5 @@
 use Rattle.std.proofs.Common.{List, length, Some, refl, sym, ap, subst, arith}
-use Rattle.affinity_tree.specs.Affinity.{affinity_of}
+use Rattle.affinity.specs.Affinity.{affinity_of}
 use Rattle.depot.specs.Words.{view}
 use Rattle.desk.specs.Any.{node_lent}
 use Rattle.workers.specs.declared.chained.Chained.{Chained}

@@ -1,8 +1,8 @@
 use Rattle.std.proofs.Common.{sym, subst}
 use Rattle.nfs_model.specs.Tree.{Layout}
 use Rattle.nfs_values.specs.declared.call.Call.{Call}
-use Rattle.affinity_tree.specs.Tree.{IsNode}
-use Rattle.parcel_sets.specs.Exact.{kind_in}
+use Rattle.affinity.specs.Tree.{IsNode}
+use Rattle.parcels.specs.Exact.{kind_in}
 use Rattle.desk.specs.Any.{node_lent}
 use Rattle.desk.specs.laws.Backing.{IsWhole}
 use Rattle.service.specs.Running.{AsksFor, IsRunAt}

@@ -1,12 +1,12 @@
 use Rattle.std.proofs.Common.{◌≡◌, sym, ap, ◌∙◌, subst}
 use Rattle.nfs_model.specs.Tree.{Layout}
-use Rattle.affinity_tree.specs.Affinity.{affinity_of}
-use Rattle.affinity_tree.specs.Tree.{IsNode}
-use Rattle.parcel_sets.specs.Exact.{kind_in}
+use Rattle.affinity.specs.Affinity.{affinity_of}
+use Rattle.affinity.specs.Tree.{IsNode}
+use Rattle.parcels.specs.Exact.{kind_in}
 use Rattle.depot.specs.Words.{view, IsNodeOf}
 use Rattle.desk.specs.Any.{node_lent}
 use Rattle.desk.specs.laws.Backing.{IsWhole, IsGranted, IsDone}
-use Rattle.parcels.specs.state.Jobs.{batches_in, inner_node}
+use Rattle.filer_state.specs.state.Jobs.{batches_in, inner_node}
 use Rattle.service.specs.Inner.{AsksForInner, InnerHasRun}
 use Rattle.service.specs.Jobs.{inner_of}
 use Rattle.workers.specs.Turns.{filer_behaviour}

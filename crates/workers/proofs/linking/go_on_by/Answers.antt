@@ -1,5 +1,5 @@
 use Rattle.std.proofs.Common.{subst}
-use Rattle.parcel_sets.specs.Exact.{kind_in}
+use Rattle.parcels.specs.Exact.{kind_in}
 use Rattle.depot.specs.Words.{view}
 use Rattle.desk.specs.Any.{node_lent}
 use Rattle.desk.specs.laws.Backing.{HasGoneOn}

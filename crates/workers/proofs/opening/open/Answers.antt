@@ -1,7 +1,7 @@
 use Rattle.std.proofs.Common.{sym, subst}
 use Rattle.nfs_model.specs.Tree.{Layout, Serial}
-use Rattle.affinity_tree.specs.Layout.{layout_of}
-use Rattle.parcel_sets.specs.Sets.{serial_parcels}
+use Rattle.affinity.specs.Layout.{layout_of}
+use Rattle.parcels.specs.Sets.{serial_parcels}
 use Rattle.depot.specs.Words.{view}
 use Rattle.workers.specs.Words.{IsReady}
 use Rattle.workers.proofs.Started.{started-ready}

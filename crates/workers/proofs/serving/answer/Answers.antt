@@ -1,6 +1,6 @@
 use Rattle.std.proofs.Common.{sym, subst}
-use Rattle.affinity_tree.specs.Numbers.{number_of}
-use Rattle.parcel_sets.specs.Exact.{kind_in}
+use Rattle.affinity.specs.Numbers.{number_of}
+use Rattle.parcels.specs.Exact.{kind_in}
 use Rattle.depot.specs.Grants.{entry_of, IsFinished}
 use Rattle.depot.specs.Words.{view}
 use Rattle.desk.specs.Any.{node_lent}

@@ -1,15 +1,15 @@
 use Rattle.std.proofs.Common.{rules, ◌≡◌, ◌<◌, ◌∷◌, ℕ, [], length, sym, ap, ◌∙◌, subst}
-use Rattle.affinity_tree.specs.Affinity.{affinity_of}
-use Rattle.affinity_tree.specs.Ancestors.{IsTree}
-use Rattle.affinity_tree.specs.Numbers as numbers
-use Rattle.affinity_tree.specs.lemmas.Standing.{parents-tree, number-place}
-use Rattle.depot.specs.declared.rule.view.Read.{Read}
-use Rattle.depot.specs.declared.rule.view.Entry.{Entry}
-use Rattle.depot.specs.rule.History.{listed}
-use Rattle.depot.specs.rule.Seats.{view_of}
-use Rattle.depot.specs.rule.Shares.{worn}
-use Rattle.depot.proofs.rule.Places.{one-view}
-use Rattle.depot.proofs.rule.Looking.{looks}
+use Rattle.affinity.specs.Affinity.{affinity_of}
+use Rattle.affinity.specs.Ancestors.{IsTree}
+use Rattle.affinity.specs.Numbers as numbers
+use Rattle.affinity.specs.lemmas.Standing.{parents-tree, number-place}
+use Rattle.depot_rule.specs.declared.view.Read.{Read}
+use Rattle.depot_rule.specs.declared.view.Entry.{Entry}
+use Rattle.depot_rule.specs.History.{listed}
+use Rattle.depot_rule.specs.Seats.{view_of}
+use Rattle.depot_rule.specs.Shares.{worn}
+use Rattle.depot_rule.proofs.Places.{one-view}
+use Rattle.depot_rule.proofs.Looking.{looks}
 use Rattle.depot.specs.Calls.{known}
 use Rattle.depot.specs.Words.{served_by, view, layout_in, number_at}
 use Rattle.depot.specs.Grants.{IsBegun, IsAfter}

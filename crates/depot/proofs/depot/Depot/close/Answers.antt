@@ -1,9 +1,9 @@
 use Rattle.std.proofs.Common.{arith, ◌≡◌, ◌+◌, length, sym, ap, ◌∙◌}
 use Rattle.std.specs.Mem.Slots.{slots_items, slots_filled, slots_counts}
 use Rattle.nfs_model.specs.Tree.{Serial}
-use Rattle.affinity_tree.specs.Layout.{layout_of}
-use Rattle.affinity_tree.specs.Numbers.{parents, node_count}
-use Rattle.affinity_tree.specs.lemmas.Smaller.{length-parents}
+use Rattle.affinity.specs.Layout.{layout_of}
+use Rattle.affinity.specs.Numbers.{parents, node_count}
+use Rattle.affinity.specs.lemmas.Smaller.{length-parents}
 use Rattle.depot.specs.Calls.{known}
 use Rattle.depot.specs.Closed.{left_at}
 use Rattle.depot.specs.Words.{served_by}

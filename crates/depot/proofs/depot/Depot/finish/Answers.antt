@@ -1,10 +1,10 @@
 use Rattle.std.proofs.Common.{rules, ◌≡◌, ◌<◌, ◌∷◌, ℕ, List, [], length, refl, sym, ap, ◌∙◌, subst, arith}
-use Rattle.affinity_tree.specs.Affinity.{affinity_of}
-use Rattle.affinity_tree.specs.Ancestors.{IsTree, Covers}
-use Rattle.affinity_tree.specs.Numbers as numbers
-use Rattle.affinity_tree.specs.lemmas.Standing.{parents-tree}
-use Rattle.depot.specs.rule.Parcels.{has_out}
-use Rattle.depot.specs.rule.Seats.{view_of}
+use Rattle.affinity.specs.Affinity.{affinity_of}
+use Rattle.affinity.specs.Ancestors.{IsTree, Covers}
+use Rattle.affinity.specs.Numbers as numbers
+use Rattle.affinity.specs.lemmas.Standing.{parents-tree}
+use Rattle.depot_rule.specs.Parcels.{has_out}
+use Rattle.depot_rule.specs.Seats.{view_of}
 use Rattle.depot.specs.Calls.{known}
 use Rattle.depot.specs.Holds.{IsGathered}
 use Rattle.depot.specs.Grants.{IsStep, HasInHand, IsFinished}

@@ -1,10 +1,10 @@
 use Rattle.std.proofs.Common.{rules, ◌≡◌, ◌<◌, ◌≤◌, ◌∷◌, ℕ, [], length, refl, sym, ap, ◌∙◌, subst, arith}
-use Rattle.affinity_tree.specs.Affinity.{affinity_of}
-use Rattle.affinity_tree.specs.Numbers as numbers
-use Rattle.depot.specs.rule.Shares.{worn}
-use Rattle.depot.specs.rule.Seats.{view_of}
-use Rattle.depot.proofs.rule.Places.{one-view}
-use Rattle.depot.proofs.rule.Looking.{looks}
+use Rattle.affinity.specs.Affinity.{affinity_of}
+use Rattle.affinity.specs.Numbers as numbers
+use Rattle.depot_rule.specs.Shares.{worn}
+use Rattle.depot_rule.specs.Seats.{view_of}
+use Rattle.depot_rule.proofs.Places.{one-view}
+use Rattle.depot_rule.proofs.Looking.{looks}
 use Rattle.depot.specs.Calls.{known}
 use Rattle.depot.specs.Words.{served_by, view, layout_in, node_of, number_in, parcels_in, entry_with}
 use Rattle.depot.proofs.Moves.{one-of, placed-one}

@@ -1,17 +1,17 @@
 use Rattle.std.proofs.Common.{arith, ◌≡◌, ℕ, ◌+◌, [], ◌∷◌, List, Option, None, length, get_or, sym, refl, ap, ◌∙◌, subst}
 use Rattle.std.proofs.lemmas.List.{length-replicate}
 use Rattle.nfs_model.specs.Tree.{Serial}
-use Rattle.affinity_tree.specs.Layout.{layout_of}
-use Rattle.affinity_tree.specs.Numbers.{number_of, node_count, parents}
-use Rattle.affinity_tree.specs.lemmas.Smaller.{length-parents}
-use Rattle.depot.specs.declared.rule.view.View.{View}
-use Rattle.depot.specs.declared.rule.view.Entry.{Entry}
-use Rattle.depot.specs.rule.Shares.{Has, opening_view}
-use Rattle.depot.proofs.rule.Joining.{none-held}
+use Rattle.affinity.specs.Layout.{layout_of}
+use Rattle.affinity.specs.Numbers.{number_of, node_count, parents}
+use Rattle.affinity.specs.lemmas.Smaller.{length-parents}
+use Rattle.depot_rule.specs.declared.view.View.{View}
+use Rattle.depot_rule.specs.declared.view.Entry.{Entry}
+use Rattle.depot_rule.specs.Shares.{Has, opening_view}
+use Rattle.depot_rule.proofs.Joining.{none-held}
 use Rattle.depot.specs.Calls.{own_views, known}
-use Rattle.depot.specs.rule.History.{by_number}
+use Rattle.depot_rule.specs.History.{by_number}
 use Rattle.depot.specs.Grants.{IsSeatOf}
-use Rattle.affinity_tree.specs.lemmas.Standing.{parents-tree, parents-few}
+use Rattle.affinity.specs.lemmas.Standing.{parents-tree, parents-few}
 use Rattle.depot.specs.Words.{served_by}
 use Rattle.depot.proofs.Apart.{apart-of, none-apart}
 use Rattle.depot.proofs.Opened.{opened-so}

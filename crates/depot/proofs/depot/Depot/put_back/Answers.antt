@@ -1,7 +1,7 @@
 use Rattle.std.proofs.Common.{rules, ◌≡◌, ◌∷◌, [], refl, sym, ap, ◌∙◌, subst, length}
-use Rattle.affinity_tree.specs.Ancestors.{IsTree}
-use Rattle.affinity_tree.specs.lemmas.Standing.{parents-tree}
-use Rattle.depot.specs.rule.Seats.{view_of}
+use Rattle.affinity.specs.Ancestors.{IsTree}
+use Rattle.affinity.specs.lemmas.Standing.{parents-tree}
+use Rattle.depot_rule.specs.Seats.{view_of}
 use Rattle.depot.specs.Calls.{known}
 use Rattle.depot.specs.Holds.{IsGathered}
 use Rattle.depot.specs.Grants.{IsEnded}

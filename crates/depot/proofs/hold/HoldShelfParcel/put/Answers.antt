@@ -1,6 +1,6 @@
 use Rattle.std.proofs.Common.{refl}
-use Rattle.depot.specs.rule.Sums.{without}
-use Rattle.depot.specs.rule.Seats.{view_of}
+use Rattle.depot_rule.specs.Sums.{without}
+use Rattle.depot_rule.specs.Seats.{view_of}
 use Rattle.depot.proofs.Holding.{nothing, given-away, given-there, given-others, given-else}
 use Rattle.depot.proofs.hold.HoldShelfParcel.put.Goals as goal
 

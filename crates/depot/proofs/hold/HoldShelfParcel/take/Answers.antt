@@ -1,5 +1,5 @@
 use Rattle.std.proofs.Common.{refl, ◌∷◌}
-use Rattle.depot.specs.rule.Seats.{view_of}
+use Rattle.depot_rule.specs.Seats.{view_of}
 use Rattle.depot.proofs.Holding.{nothing, untaken-is, taken-there, taken-gone, taken-others, taken-else}
 use Rattle.depot.proofs.hold.HoldShelfParcel.take.Goals as goal
 

@@ -1,9 +1,9 @@
 use Rattle.std.proofs.Common.{arith, ◌≡◌, ◌+◌, length, ap, ◌∙◌, None, Some, refl}
 use Rattle.std.proofs.lemmas.List.{length-replicate, length-set}
-use Rattle.affinity_tree.specs.Affinity.{affinity_of}
-use Rattle.affinity_tree.specs.Layout.{layout_of}
-use Rattle.affinity_tree.specs.Numbers.{node_count}
-use Rattle.parcel_sets.specs.Exact.{kind_in}
+use Rattle.affinity.specs.Affinity.{affinity_of}
+use Rattle.affinity.specs.Layout.{layout_of}
+use Rattle.affinity.specs.Numbers.{node_count}
+use Rattle.parcels.specs.Exact.{kind_in}
 use Rattle.depot.proofs.trial.Trials.{none-below, laid-more, laid-all, none-each, more-each, taken-each}
 use Rattle.depot.proofs.trial.adding.all_of.Goals as goal
 

@@ -1,7 +1,7 @@
 use Rattle.std.proofs.Common.{◌≡◌, ◌+◌, length, get_or, None}
-use Rattle.affinity_tree.specs.Layout.{layout_of}
-use Rattle.affinity_tree.specs.Numbers.{node_count}
-use Rattle.parcel_sets.specs.Exact.{kind_in}
+use Rattle.affinity.specs.Layout.{layout_of}
+use Rattle.affinity.specs.Numbers.{node_count}
+use Rattle.parcels.specs.Exact.{kind_in}
 use Rattle.depot.specs.trial.Adding.{AreEach}
 use Rattle.depot.proofs.trial.Trials.{LaidBelow}
 use Rattle.depot.proofs.trial.adding.all_of.Given as goal

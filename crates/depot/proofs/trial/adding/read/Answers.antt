@@ -1,5 +1,5 @@
 use Rattle.std.proofs.Common.{refl, ap}
-use Rattle.affinity_tree.specs.Affinity.{affinity_of}
+use Rattle.affinity.specs.Affinity.{affinity_of}
 use Rattle.depot.specs.Words.{view, layout_in, node_of, held_in}
 use Rattle.depot.specs.lemmas.Seats.{begun-with, begun-hand}
 use Rattle.depot.specs.declared.trial.adding.Change.TheVariants.{Read}

@@ -1,7 +1,7 @@
 use Rattle.std.proofs.Common.{rules, ◌≡◌, ◌∷◌, ◌+◌, refl, sym, ap, subst, arith}
-use Rattle.affinity_tree.specs.Affinity.{affinity_of}
-use Rattle.affinity_tree.specs.Tree.{IsNode}
-use Rattle.depot.specs.rule.History.{AreHands, behaviour, entries_of}
+use Rattle.affinity.specs.Affinity.{affinity_of}
+use Rattle.affinity.specs.Tree.{IsNode}
+use Rattle.depot_rule.specs.History.{AreHands, behaviour, entries_of}
 use Rattle.depot.specs.Words.{view, layout_in, node_of, held_in}
 use Rattle.depot.specs.lemmas.Seats.{begun-with, begun-entries, finished-entries}
 use Rattle.depot.specs.trial.Lending.{Moves, taken_by, given_by, FewTokens, IsHand}

@@ -1,8 +1,8 @@
 use Rattle.std.proofs.Common.{arith}
-use Rattle.affinity_tree.specs.Layout.{layout_of}
+use Rattle.affinity.specs.Layout.{layout_of}
 use Rattle.nfs_model.specs.Tree.{Serial}
-use Rattle.parcel_sets.specs.Sets.{serial_parcels}
-use Rattle.affinity_tree.specs.lemmas.Lawful.{few_nodes}
+use Rattle.parcels.specs.Sets.{serial_parcels}
+use Rattle.affinity.specs.lemmas.Lawful.{few_nodes}
 use Rattle.depot.specs.Words.{view}
 use Rattle.depot.proofs.trial.Lent.{each-few, hand-opened}
 use Rattle.depot.proofs.trial.lending.open.Goals as goal

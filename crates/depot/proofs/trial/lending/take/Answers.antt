@@ -1,8 +1,8 @@
 use Rattle.std.proofs.Common.{rules, ◌≡◌, ◌∷◌, ◌+◌, refl, sym, ap, subst, arith}
-use Rattle.affinity_tree.specs.Affinity.{affinity_of}
-use Rattle.affinity_tree.specs.Tree.{IsNode}
-use Rattle.parcel_sets.specs.Sets.{stripe_parcels}
-use Rattle.depot.specs.rule.History.{AreHands, behaviour, entries_of}
+use Rattle.affinity.specs.Affinity.{affinity_of}
+use Rattle.affinity.specs.Tree.{IsNode}
+use Rattle.parcels.specs.Sets.{stripe_parcels}
+use Rattle.depot_rule.specs.History.{AreHands, behaviour, entries_of}
 use Rattle.depot.specs.Grants.{HasWith}
 use Rattle.depot.specs.Words.{view, layout_in, number_in, node_of, held_in}
 use Rattle.depot.specs.lemmas.Seats.{begun-with, begun-entries, finished-entries}

@@ -1,7 +1,7 @@
 use Rattle.std.proofs.Common.{◌+◌, ◌%◌, refl}
-use Rattle.affinity_tree.specs.Affinity.{affinity_of}
-use Rattle.affinity_tree.specs.Layout.{layout_of}
-use Rattle.affinity_tree.specs.Numbers.{parents}
+use Rattle.affinity.specs.Affinity.{affinity_of}
+use Rattle.affinity.specs.Layout.{layout_of}
+use Rattle.affinity.specs.Numbers.{parents}
 use Rattle.depot.specs.trial.lemmas.Stripes.{stripe-changed, stripe-added}
 use Rattle.depot_rows.proofs.adder.AdderTaskParcelNumbersParcelKinds.on_stripe.Goals as goal
 

@@ -1,5 +1,5 @@
 use Rattle.std.proofs.Common.{◌+◌, ◌%◌, refl}
-use Rattle.parcel_sets.specs.lemmas.Exactly.{logical-exact}
+use Rattle.parcels.specs.lemmas.Exactly.{logical-exact}
 use Rattle.depot_rows.proofs.Counted.{logical-added}
 use Rattle.depot_rows.proofs.counters.OneCounterLogicalNode.add_one.Goals as goal
 

@@ -1,5 +1,5 @@
 use Rattle.std.proofs.Common.{◌+◌, ◌%◌, refl}
-use Rattle.parcel_sets.specs.lemmas.Exactly.{range-exact}
+use Rattle.parcels.specs.lemmas.Exactly.{range-exact}
 use Rattle.depot_rows.proofs.Counted.{range-added}
 use Rattle.depot_rows.proofs.counters.OneCounterRangeNode.add_one.Goals as goal
 

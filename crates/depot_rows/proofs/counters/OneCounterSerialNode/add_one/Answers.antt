@@ -1,5 +1,5 @@
 use Rattle.std.proofs.Common.{◌+◌, ◌%◌, refl}
-use Rattle.parcel_sets.specs.lemmas.Exactly.{serial-exact}
+use Rattle.parcels.specs.lemmas.Exactly.{serial-exact}
 use Rattle.depot_rows.proofs.Counted.{serial-added, serial-as-it-was}
 use Rattle.depot_rows.proofs.counters.OneCounterSerialNode.add_one.Goals as goal
 

@@ -1,5 +1,5 @@
 use Rattle.std.proofs.Common.{◌+◌, ◌%◌, refl}
-use Rattle.parcel_sets.specs.lemmas.Exactly.{stripe-exact}
+use Rattle.parcels.specs.lemmas.Exactly.{stripe-exact}
 use Rattle.depot_rows.proofs.Counted.{stripe-added}
 use Rattle.depot_rows.proofs.counters.OneCounterStripeNode.add_one.Goals as goal
 

@@ -1,5 +1,5 @@
 use Rattle.std.proofs.Common.{◌+◌, ◌%◌, refl}
-use Rattle.parcel_sets.specs.lemmas.Exactly.{volume-exact}
+use Rattle.parcels.specs.lemmas.Exactly.{volume-exact}
 use Rattle.depot_rows.proofs.Counted.{volume-added}
 use Rattle.depot_rows.proofs.counters.OneCounterVolumeNode.add_one.Goals as goal
 

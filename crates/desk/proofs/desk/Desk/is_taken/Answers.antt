@@ -1,6 +1,6 @@
 use Rattle.std.proofs.Common.{ap}
-use Rattle.affinity_tree.specs.Affinity.{affinity_of}
-use Rattle.affinity_tree.specs.Layout.{layout_of}
+use Rattle.affinity.specs.Affinity.{affinity_of}
+use Rattle.affinity.specs.Layout.{layout_of}
 use Rattle.depot.specs.Words.{layout_in, view}
 use Rattle.desk.specs.laws.lemmas.Taken.{said-taken}
 use Rattle.desk.specs.Places.{all_granted, shown}

@@ -1,4 +1,4 @@
-use Rattle.affinity_tree.specs.Layout.{layout_of}
+use Rattle.affinity.specs.Layout.{layout_of}
 use Rattle.depot.specs.Words.{layout_in, view, all_parcels}
 use Rattle.desk.specs.laws.lemmas.Opened.{opened-kept, opened-books}
 use Rattle.desk.specs.Places.{all_granted, shown}

@@ -1,6 +1,6 @@
 use Rattle.std.proofs.Common.{◌<◌, length, Some, sym, subst, arith}
 use Rattle.std.proofs.lemmas.List.{length-map}
-use Rattle.affinity_tree.specs.Tree.{IsNode}
+use Rattle.affinity.specs.Tree.{IsNode}
 use Rattle.depot.specs.Words.{layout_in, view}
 use Rattle.desk.specs.laws.Backing.{books_of, IsBook, IsWhole, IsDone}
 use Rattle.desk.specs.laws.Calls.{HasWorked}

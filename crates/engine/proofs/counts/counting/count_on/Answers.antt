@@ -1,6 +1,6 @@
 use Rattle.std.proofs.Common.{sym, ap, ◌∙◌}
 use Rattle.nfs_model.specs.Tree.{stripes_of}
-use Rattle.parcels.specs.state.Sets.{volume_placed}
+use Rattle.filer_state.specs.state.Sets.{volume_placed}
 use Rattle.engine.specs.counts.Counts.{counts_in}
 use Rattle.engine.proofs.counts.Tallied.{no-blocks}
 use Rattle.engine.proofs.counts.counting.count_on.Goals as goal

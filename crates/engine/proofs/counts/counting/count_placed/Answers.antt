@@ -1,5 +1,5 @@
 use Rattle.std.proofs.Common.{sym, ap, ◌∙◌}
-use Rattle.parcels.specs.state.Sets.{volume_value}
+use Rattle.filer_state.specs.state.Sets.{volume_value}
 use Rattle.engine.specs.counts.Counts.{counts_in}
 use Rattle.engine.proofs.counts.Tallied.{no-blocks}
 use Rattle.engine.proofs.counts.counting.count_placed.Goals as goal

@@ -1,5 +1,5 @@
 use Rattle.std.proofs.Common.{◌≡◌}
-use Rattle.affinity_tree.specs.Layout.{layout_of}
+use Rattle.affinity.specs.Layout.{layout_of}
 use Rattle.engine.specs.counts.Counts.{recounted, if_on}
 use Rattle.engine.proofs.counts.counting.recount_aggregate.Given as goal
 

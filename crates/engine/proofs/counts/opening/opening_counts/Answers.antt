@@ -1,5 +1,5 @@
 use Rattle.std.proofs.Common.{◌<◌, ◌≤◌, length, arith}
-use Rattle.affinity_tree.specs.Layout.{layout_of}
+use Rattle.affinity.specs.Layout.{layout_of}
 use Rattle.engine.proofs.counts.Opened.{opened-more, opened-all}
 use Rattle.engine.proofs.counts.opening.opening_counts.Goals as goal
 

@@ -1,5 +1,5 @@
 use Rattle.std.proofs.Common.{◌≡◌, map, take}
-use Rattle.affinity_tree.specs.Layout.{layout_of}
+use Rattle.affinity.specs.Layout.{layout_of}
 use Rattle.engine.proofs.counts.Opened.{counts_given}
 use Rattle.engine.proofs.counts.opening.opening_counts.Given as goal
 

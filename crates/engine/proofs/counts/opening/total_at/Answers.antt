@@ -1,7 +1,7 @@
 use Rattle.std.proofs.Common.{ap, ◌∙◌}
 use Rattle.std.specs.Prelude.{◌*◌}
 use Rattle.nfs_model.specs.Parts.{range_blocks}
-use Rattle.parcels.specs.state.Opening.{ranges_in}
+use Rattle.filer_state.specs.state.Opening.{ranges_in}
 use Rattle.engine.proofs.counts.opening.total_at.Goals as goal
 
 pub returns-in-Some : goal.returns-in-Some

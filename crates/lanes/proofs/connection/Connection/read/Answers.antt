@@ -1,6 +1,6 @@
 use Rattle.std.proofs.Common.{◌≡◌, ◌<◌, [], true, false, length, None, take, rules, refl, sym, ap, subst, ◌∙◌, ℕ}
 use Rattle.std.proofs.KnownBytes.{Consumes-nil, Keeps-refl}
-use Rattle.affinity_tree.specs.Layout.{layout_of}
+use Rattle.affinity.specs.Layout.{layout_of}
 use Rattle.lanes.specs.declared.reading.Came.TheVariants as cames
 use Rattle.lanes.specs.declared.told.Told.TheVariants as tolds
 use Rattle.lanes.specs.Connections.{now_of}

@@ -1,6 +1,6 @@
 use Rattle.std.proofs.Common.{refl, sym, ap, subst, ◌∙◌, [], rules}
 use Rattle.std.specs.Arc.{arc_value}
-use Rattle.affinity_tree.specs.declared.layout.Layout.{Layout}
+use Rattle.affinity.specs.declared.layout.Layout.{Layout}
 use Rattle.workers.specs.Words.{entries_in, layout_in, IsAt}
 use Rattle.workers.specs.shared_waiting.Passes.{known}
 use Rattle.workers.specs.declared.message.Message.{Message}

@@ -1,7 +1,7 @@
 use Rattle.std.proofs.Common.{◌≡◌, refl, sym, ap, subst, ◌∙◌, rules}
 use Rattle.std.specs.Arc.{arc_value}
 use Rattle.crossbeam_queue.specs.Fifo.{Held}
-use Rattle.depot.specs.rule.History.{entries_of}
+use Rattle.depot_rule.specs.History.{entries_of}
 use Rattle.workers.specs.Balance.{Passed}
 use Rattle.workers.specs.Chains.{turns_at_most, HasDoneFew, HasPutAll, HasTurnedOn}
 use Rattle.workers.specs.Turns.{HasShareOf, Standing, standing_of}

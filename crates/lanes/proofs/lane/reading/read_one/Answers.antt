@@ -1,4 +1,4 @@
-use Rattle.affinity_tree.specs.Layout.{layout_of}
+use Rattle.affinity.specs.Layout.{layout_of}
 use Rattle.lanes.proofs.Steps.{read-owing}
 use Rattle.lanes.proofs.lane.reading.read_one.Goals as goal
 

@@ -3,7 +3,7 @@ use Rattle.nfs_model.specs.Tree.{Serial}
 use Rattle.depot.specs.Grants.{IsClosed}
 use Rattle.depot.specs.Words as depots
 use Rattle.depot.specs.Words.{view, IsSeatHere}
-use Rattle.parcel_sets.specs.Sets.{serial_parcels}
+use Rattle.parcels.specs.Sets.{serial_parcels}
 use Rattle.workers.specs.Turns.{filer_behaviour}
 use Rattle.workers.specs.Words.{layout_in, verifier_in}
 use Rattle.server.proofs.pool.Closes.{ends}

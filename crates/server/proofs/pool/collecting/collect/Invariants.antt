@@ -1,5 +1,5 @@
 use Rattle.std.proofs.Common.{◌≡◌, ◌≤◌, ◌+◌, ℕ, All, vec_len, vec_capacity}
-use Rattle.depot.specs.rule.Sums.{total}
+use Rattle.depot_rule.specs.Sums.{total}
 use Rattle.server.specs.pool.Shares.{share_of}
 use Rattle.server.specs.pool.Threads.{seats_with, share_with, ServesIn}
 use Rattle.workers.specs.Words.{seats_in, IsIn}

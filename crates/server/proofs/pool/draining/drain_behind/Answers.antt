@@ -1,5 +1,5 @@
 use Rattle.std.proofs.Common.{rules, ◌≡◌, ap, ◌∙◌, arith, subst, sym, length}
-use Rattle.depot.specs.rule.Sums.{total}
+use Rattle.depot_rule.specs.Sums.{total}
 use Rattle.workers.specs.shared_waiting.Balance.{IsWhole}
 use Rattle.workers.specs.shared_waiting.Passes.{known}
 use Rattle.workers.specs.Balance.{Passed}

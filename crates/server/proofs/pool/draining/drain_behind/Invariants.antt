@@ -1,5 +1,5 @@
 use Rattle.std.proofs.Common.{◌≡◌, ◌≤◌, ◌+◌, ℕ, length, vec_len, vec_capacity}
-use Rattle.depot.specs.rule.Sums.{total}
+use Rattle.depot_rule.specs.Sums.{total}
 use Rattle.workers.specs.shared_waiting.Balance.{IsWhole}
 use Rattle.workers.specs.shared_waiting.Passes.{known, IsOf}
 use Rattle.workers.specs.declared.message.Message.{Message}

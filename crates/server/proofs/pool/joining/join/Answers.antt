@@ -1,6 +1,6 @@
 use Rattle.depot.specs.Words.{view}
-use Rattle.depot.specs.rule.History.{entries_of}
-use Rattle.parcels.specs.state.Jobs.{batches_in}
+use Rattle.depot_rule.specs.History.{entries_of}
+use Rattle.filer_state.specs.state.Jobs.{batches_in}
 use Rattle.workers.specs.shared_waiting.Passes.{known}
 use Rattle.server.proofs.pool.Joins.{even-both, hands-both, none-both}
 use Rattle.server.proofs.pool.joining.join.Goals as goal

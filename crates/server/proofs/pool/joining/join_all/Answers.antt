@@ -1,7 +1,7 @@
 use Rattle.std.proofs.Common.{rules, ap, arith}
-use Rattle.depot.specs.rule.Sums.{total}
-use Rattle.depot.specs.rule.lemmas.Sums.{total-append}
-use Rattle.parcels.specs.state.Jobs.{batches_in}
+use Rattle.depot_rule.specs.Sums.{total}
+use Rattle.depot_rule.specs.lemmas.Sums.{total-append}
+use Rattle.filer_state.specs.state.Jobs.{batches_in}
 use Rattle.std.specs.Prelude.{option_to_list}
 use Rattle.workers.specs.shared_waiting.Passes.{known}
 use Rattle.workers.specs.Balance.{by_key}

@@ -1,7 +1,7 @@
 use Rattle.std.proofs.Common.{◌≡◌, ◌≤◌, ◌+◌, ℕ, List, All, vec_len, vec_capacity}
 use Rattle.nfs_model.specs.Parts.{Hand}
 use Rattle.depot.specs.Words.{splits_left}
-use Rattle.depot.specs.rule.Sums.{total}
+use Rattle.depot_rule.specs.Sums.{total}
 use Rattle.workers.specs.shared_waiting.Passes.{known}
 use Rattle.workers.specs.Balance.{Weight, by_key}
 use Rattle.workers.specs.Words.{seats_in, IsIn}

@@ -1,5 +1,5 @@
 use Rattle.std.proofs.Common.{rules, ap, arith}
-use Rattle.depot.specs.rule.Sums.{total}
+use Rattle.depot_rule.specs.Sums.{total}
 use Rattle.workers.specs.shared_waiting.Passes.{known, IsOf}
 use Rattle.server.specs.pool.Shares.{put_by, picked_by}
 use Rattle.server.proofs.pool.Lists.{all-popped, none-left, total-last}

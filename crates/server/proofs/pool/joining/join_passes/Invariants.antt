@@ -1,5 +1,5 @@
 use Rattle.std.proofs.Common.{◌≡◌, ◌+◌, [], All}
-use Rattle.depot.specs.rule.Sums.{total}
+use Rattle.depot_rule.specs.Sums.{total}
 use Rattle.workers.specs.shared_waiting.Passes.{known, IsOf}
 use Rattle.workers.specs.Balance.{Weight}
 use Rattle.server.specs.pool.Shares.{AreAllWith, put_by, picked_by}

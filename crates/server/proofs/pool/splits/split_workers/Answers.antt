@@ -1,7 +1,7 @@
 use Rattle.std.proofs.Common.{rules, ap, arith}
 use Rattle.workers.specs.Balance.{Passed}
 use Rattle.workers.specs.Words.{passed, seats_in, IsIn}
-use Rattle.depot.specs.rule.Sums.{total}
+use Rattle.depot_rule.specs.Sums.{total}
 use Rattle.server.specs.pool.Shares.{entries_by, picks_by, puts_by, share_of}
 use Rattle.server.proofs.pool.Lists.{all-pushed, total-last}
 use Rattle.server.proofs.pool.Sharing.{halved}

@@ -1,5 +1,5 @@
 use Rattle.std.proofs.Common.{◌≡◌, ◌≤◌, ◌+◌, ℕ, All, vec_len, vec_capacity}
-use Rattle.depot.specs.rule.Sums.{total}
+use Rattle.depot_rule.specs.Sums.{total}
 use Rattle.workers.specs.Words.{passed, seats_in, IsIn}
 use Rattle.server.specs.pool.Shares.{entries_by, picks_by, puts_by, share_of}
 use Rattle.workers.specs.Balance.{FilerEntry}

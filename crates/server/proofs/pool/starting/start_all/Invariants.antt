@@ -1,6 +1,6 @@
 use Rattle.std.proofs.Common.{◌≡◌, ◌≤◌, ◌+◌, ℕ, All, vec_len, vec_capacity}
 use Rattle.std.specs.Arc.{arc_value}
-use Rattle.depot.specs.rule.Sums.{total}
+use Rattle.depot_rule.specs.Sums.{total}
 use Rattle.server.specs.pool.Threads.{started_with, ServesIn}
 use Rattle.workers.specs.declared.worker.Worker.{Worker}
 use Rattle.workers.specs.Words.{IsIn}

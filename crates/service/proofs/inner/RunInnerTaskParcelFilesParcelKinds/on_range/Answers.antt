@@ -1,9 +1,9 @@
 use Rattle.std.proofs.Common.{sym, subst}
-use Rattle.affinity_tree.specs.Affinity.{affinity_of}
-use Rattle.affinity_tree.specs.Layout.{layout_of}
-use Rattle.parcel_sets.specs.Sets.{range_parcels}
-use Rattle.parcel_sets.specs.lemmas.Exactly.{range-exact}
-use Rattle.parcel_sets.specs.lemmas.Sorts.{range-kind}
+use Rattle.affinity.specs.Affinity.{affinity_of}
+use Rattle.affinity.specs.Layout.{layout_of}
+use Rattle.parcels.specs.Sets.{range_parcels}
+use Rattle.parcels.specs.lemmas.Exactly.{range-exact}
+use Rattle.parcels.specs.lemmas.Sorts.{range-kind}
 use Rattle.service.specs.Inner.{AsksForInner, InnerHasRun}
 use Rattle.service.specs.Jobs.{inner_of}
 use Rattle.service.specs.declared.job.InnerCall.{InnerCall}

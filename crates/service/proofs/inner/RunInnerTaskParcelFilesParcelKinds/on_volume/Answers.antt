@@ -1,7 +1,7 @@
-use Rattle.affinity_tree.specs.Affinity.{affinity_of}
-use Rattle.affinity_tree.specs.Layout.{layout_of}
-use Rattle.affinity_tree.specs.declared.affinity.Kind.TheVariants as kinds
-use Rattle.parcel_sets.specs.lemmas.Sorts.{volume-kind}
+use Rattle.affinity.specs.Affinity.{affinity_of}
+use Rattle.affinity.specs.Layout.{layout_of}
+use Rattle.affinity.specs.declared.affinity.Kind.TheVariants as kinds
+use Rattle.parcels.specs.lemmas.Sorts.{volume-kind}
 use Rattle.service.specs.Jobs.{inner_of}
 use Rattle.service.proofs.Handed.{no-inner}
 use Rattle.service.proofs.inner.RunInnerTaskParcelFilesParcelKinds.on_volume.Goals as goal

@@ -1,5 +1,5 @@
 use Rattle.nfs_values.specs.Moment.{moment_of}
-use Rattle.volume_logical.specs.inodes.Inode.{inode_value}
+use Rattle.inodes.specs.Inode.{inode_value}
 use Rattle.service_names.specs.Naming.{node_value}
 use Rattle.service.proofs.renames.Emptied.{emptied-then-gone}
 use Rattle.service.proofs.renames.dropping.drop_file.Goals as goal

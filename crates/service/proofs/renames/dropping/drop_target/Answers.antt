@@ -1,7 +1,7 @@
 use Rattle.std.proofs.Common.{sym, ap, ◌∙◌, []}
 use Rattle.std.specs.Option.{option_map}
-use Rattle.volume_logical.specs.inodes.Inode.{kind_value}
-use Rattle.parcels.specs.state.Sets.{logical_before}
+use Rattle.inodes.specs.Inode.{kind_value}
+use Rattle.filer_state.specs.state.Sets.{logical_before}
 use Rattle.service_names.specs.Naming.{node_value}
 use Rattle.service.specs.renames.Moving.{target_out}
 use Rattle.service.proofs.renames.Emptied.{out-file, out-folder}

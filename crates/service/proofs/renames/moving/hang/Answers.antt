@@ -4,7 +4,7 @@ use Rattle.std.specs.Option.{option_map}
 use Rattle.nfs_values.specs.Moment.{moment_of}
 use Rattle.nfs_model.specs.volume.Inodes.{Inode, filled_blocks}
 use Rattle.nfs_model.specs.volume.Logical.{LogicalValue}
-use Rattle.volume_logical.specs.inodes.Inode.{inode_value, kind_value}
+use Rattle.inodes.specs.Inode.{inode_value, kind_value}
 use Rattle.service_names.specs.NodesMade.{folders_in}
 use Rattle.service_names.specs.Naming.{node_value}
 use Rattle.service.specs.renames.Renaming.{IsWithin}

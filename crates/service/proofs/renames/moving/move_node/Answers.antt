@@ -1,6 +1,6 @@
 use Rattle.std.proofs.Common.{refl, arith}
 use Rattle.std.specs.Option.{option_map}
-use Rattle.parcels.specs.state.Sets.{logical_before}
+use Rattle.filer_state.specs.state.Sets.{logical_before}
 use Rattle.service_names.specs.Naming.{node_value}
 use Rattle.service.proofs.renames.Steps.{entry-put, sized-then, used-then, within-last, used-last, moved-is}
 use Rattle.service.proofs.renames.moving.move_node.Goals as goal

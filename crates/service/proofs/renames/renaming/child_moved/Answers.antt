@@ -2,10 +2,10 @@ use Rattle.std.proofs.Common.{[], Some, sym, ap, subst, ◌∙◌}
 use Rattle.std.specs.Option.{option_map}
 use Rattle.nfs_model.specs.Tree.{Logical}
 use Rattle.nfs_values.specs.Moment.{moment_of}
-use Rattle.volume_logical.specs.inodes.Inode.{inode_value}
-use Rattle.parcels.specs.state.Changes.{LogicalAnswer}
-use Rattle.parcels.specs.state.Lenses.{LogicalSet}
-use Rattle.parcels.specs.state.Sets.{logical_before}
+use Rattle.inodes.specs.Inode.{inode_value}
+use Rattle.filer_state.specs.state.Changes.{LogicalAnswer}
+use Rattle.filer_state.specs.state.Lenses.{LogicalSet}
+use Rattle.filer_state.specs.state.Sets.{logical_before}
 use Rattle.service_names.specs.ChangeLaws.{rename_call}
 use Rattle.service_names.specs.RenamingChanges.{held_renamed, rename_by, set_renamed}
 use Rattle.service_names.specs.Naming.{node_value}

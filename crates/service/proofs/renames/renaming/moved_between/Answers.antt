@@ -1,8 +1,8 @@
 use Rattle.std.proofs.Common.{Some, sym, ap, ◌∙◌}
 use Rattle.nfs_values.specs.Status.{status_of}
-use Rattle.volume_logical.specs.inodes.Inode.{inode_value}
-use Rattle.parcels.specs.state.Sets.{logical_before}
-use Rattle.parcels.specs.state.Changes.{LogicalAnswer}
+use Rattle.inodes.specs.Inode.{inode_value}
+use Rattle.filer_state.specs.state.Sets.{logical_before}
+use Rattle.filer_state.specs.state.Changes.{LogicalAnswer}
 use Rattle.service_names.specs.NamedChanges.{node_under}
 use Rattle.service_names.specs.Naming.{node_value}
 use Rattle.service.specs.renames.Renaming.{done_between, renaming_in}

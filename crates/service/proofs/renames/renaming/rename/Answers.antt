@@ -2,7 +2,7 @@ use Rattle.std.proofs.Common.{ap}
 use Rattle.nfs_model.specs.Tree.{Logical}
 use Rattle.nfs_values.specs.Moment.{moment_of}
 use Rattle.service_names.specs.ChangeLaws.{rename_call, rename_done}
-use Rattle.parcels.specs.state.Sets.{logical_before, logical_after}
+use Rattle.filer_state.specs.state.Sets.{logical_before, logical_after}
 use Rattle.service.proofs.renames.Done.{on-err-then, renamed-by}
 use Rattle.service.proofs.renames.renaming.rename.Goals as goal
 

@@ -3,7 +3,7 @@ use Rattle.std.specs.FinMap.{get}
 use Rattle.nfs_model.specs.Types.{RenameDone}
 use Rattle.nfs_values.specs.Moment.{moment_of}
 use Rattle.nfs_model.specs.volume.Inodes.{Inode}
-use Rattle.volume_logical.specs.inodes.Inode.{inode_value}
+use Rattle.inodes.specs.Inode.{inode_value}
 use Rattle.service_names.specs.NamedChanges.{directory_change}
 use Rattle.service_names.specs.Naming.{naming_of}
 use Rattle.service.specs.renames.Renaming.{IsWithin}

@@ -1,12 +1,12 @@
 use Rattle.std.proofs.Common.{subst}
 use Rattle.nfs_model.specs.Tree.{Affinity}
-use Rattle.affinity_tree.specs.Affinity.{affinity_of}
-use Rattle.affinity_tree.specs.Layout.{layout_of}
+use Rattle.affinity.specs.Affinity.{affinity_of}
+use Rattle.affinity.specs.Layout.{layout_of}
 use Rattle.nfs_values.specs.Credential.{credential_of}
 use Rattle.nfs_values.specs.Moment.{moment_of}
-use Rattle.parcel_sets.specs.lemmas.Exactly.{aggregate-exact}
-use Rattle.parcel_sets.specs.lemmas.Sorts.{aggregate-kind}
-use Rattle.parcels.specs.state.Sets.{aggregate_set}
+use Rattle.parcels.specs.lemmas.Exactly.{aggregate-exact}
+use Rattle.parcels.specs.lemmas.Sorts.{aggregate-kind}
+use Rattle.filer_state.specs.state.Sets.{aggregate_set}
 use Rattle.service.specs.Running.{IsRunAt, outcome_of}
 use Rattle.service.specs.lemmas.Aggregates.{aggregate-whole, aggregate-ran, stays-there}
 use Rattle.service.proofs.task.RunTaskParcelFilesParcelKinds.on_aggregate.Goals as goal

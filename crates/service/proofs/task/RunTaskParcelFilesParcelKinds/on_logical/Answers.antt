@@ -1,13 +1,13 @@
 use Rattle.std.proofs.Common.{subst}
 use Rattle.nfs_model.specs.Tree.{Affinity, Logical}
-use Rattle.affinity_tree.specs.Affinity.{affinity_of}
-use Rattle.affinity_tree.specs.Layout.{layout_of}
+use Rattle.affinity.specs.Affinity.{affinity_of}
+use Rattle.affinity.specs.Layout.{layout_of}
 use Rattle.nfs_values.specs.Credential.{credential_of}
 use Rattle.nfs_values.specs.Moment.{moment_of}
-use Rattle.parcel_sets.specs.lemmas.Exactly.{logical-exact}
-use Rattle.parcel_sets.specs.lemmas.Sorts.{logical-kind}
-use Rattle.parcels.specs.state.Lenses.{logical_lens}
-use Rattle.parcels.specs.state.Sets.{logical_before, logical_after}
+use Rattle.parcels.specs.lemmas.Exactly.{logical-exact}
+use Rattle.parcels.specs.lemmas.Sorts.{logical-kind}
+use Rattle.filer_state.specs.state.Lenses.{logical_lens}
+use Rattle.filer_state.specs.state.Sets.{logical_before, logical_after}
 use Rattle.service.specs.Running.{IsRunAt, outcome_of}
 use Rattle.service.specs.lemmas.Serving.{logical-runs, logical-whole, moves-on}
 use Rattle.service.proofs.task.RunTaskParcelFilesParcelKinds.on_logical.Goals as goal

@@ -1,11 +1,11 @@
 use Rattle.std.proofs.Common.{◌≡◌, refl, subst}
 use Rattle.nfs_model.specs.Tree.{Affinity}
-use Rattle.affinity_tree.specs.Affinity.{affinity_of}
-use Rattle.affinity_tree.specs.Layout.{layout_of}
+use Rattle.affinity.specs.Affinity.{affinity_of}
+use Rattle.affinity.specs.Layout.{layout_of}
 use Rattle.nfs_values.specs.Credential.{credential_of}
 use Rattle.nfs_values.specs.Moment.{moment_of}
-use Rattle.parcel_sets.specs.lemmas.Sorts.{serial-kind}
-use Rattle.parcels.specs.state.Sets.{serial_set}
+use Rattle.parcels.specs.lemmas.Sorts.{serial-kind}
+use Rattle.filer_state.specs.state.Sets.{serial_set}
 use Rattle.service.specs.Running.{IsRunAt, outcome_of}
 use Rattle.service.specs.lemmas.OnAll.{is-serial, serial-whole, serial-runs, serial-moves-on}
 use Rattle.service.proofs.Runs.{unless-any}

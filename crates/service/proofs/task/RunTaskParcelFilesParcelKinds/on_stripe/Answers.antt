@@ -1,12 +1,12 @@
-use Rattle.affinity_tree.specs.Affinity.{affinity_of}
-use Rattle.affinity_tree.specs.Layout.{layout_of}
+use Rattle.affinity.specs.Affinity.{affinity_of}
+use Rattle.affinity.specs.Layout.{layout_of}
 use Rattle.nfs_model.specs.Tree.{Affinity, Stripe}
 use Rattle.nfs_values.specs.Credential.{credential_of}
 use Rattle.nfs_values.specs.Moment.{moment_of}
-use Rattle.parcel_sets.specs.lemmas.Exactly.{stripe-exact}
-use Rattle.parcel_sets.specs.lemmas.Sorts.{stripe-kind}
+use Rattle.parcels.specs.lemmas.Exactly.{stripe-exact}
+use Rattle.parcels.specs.lemmas.Sorts.{stripe-kind}
 use Rattle.std.proofs.Common.{subst}
-use Rattle.parcels.specs.state.Lenses.{stripe_lens}
+use Rattle.filer_state.specs.state.Lenses.{stripe_lens}
 use Rattle.service.specs.Running.{IsRunAt, outcome_of}
 use Rattle.service.specs.lemmas.Serving.{stripe-runs, stripe-whole, moves-on}
 use Rattle.service.proofs.task.RunTaskParcelFilesParcelKinds.on_stripe.Goals as goal

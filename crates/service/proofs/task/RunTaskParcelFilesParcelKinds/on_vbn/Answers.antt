@@ -1,7 +1,7 @@
-use Rattle.affinity_tree.specs.declared.affinity.Kind.TheVariants as kinds
-use Rattle.affinity_tree.specs.Affinity.{affinity_of}
-use Rattle.affinity_tree.specs.Layout.{layout_of}
-use Rattle.parcel_sets.specs.lemmas.Sorts.{vbn-kind}
+use Rattle.affinity.specs.declared.affinity.Kind.TheVariants as kinds
+use Rattle.affinity.specs.Affinity.{affinity_of}
+use Rattle.affinity.specs.Layout.{layout_of}
+use Rattle.parcels.specs.lemmas.Sorts.{vbn-kind}
 use Rattle.service.specs.lemmas.Homes.{not-here}
 use Rattle.service.proofs.task.RunTaskParcelFilesParcelKinds.on_vbn.Goals as goal
 

@@ -1,13 +1,13 @@
 use Rattle.std.proofs.Common.{subst}
 use Rattle.nfs_model.specs.Tree.{Affinity, Volume}
-use Rattle.affinity_tree.specs.Affinity.{affinity_of}
-use Rattle.affinity_tree.specs.Layout.{layout_of}
+use Rattle.affinity.specs.Affinity.{affinity_of}
+use Rattle.affinity.specs.Layout.{layout_of}
 use Rattle.nfs_values.specs.Credential.{credential_of}
 use Rattle.nfs_values.specs.Moment.{moment_of}
-use Rattle.parcel_sets.specs.lemmas.Exactly.{volume-exact}
-use Rattle.parcel_sets.specs.lemmas.Sorts.{volume-kind}
-use Rattle.parcels.specs.state.Lenses.{volume_lens}
-use Rattle.parcels.specs.state.Sets.{volume_before, volume_after}
+use Rattle.parcels.specs.lemmas.Exactly.{volume-exact}
+use Rattle.parcels.specs.lemmas.Sorts.{volume-kind}
+use Rattle.filer_state.specs.state.Lenses.{volume_lens}
+use Rattle.filer_state.specs.state.Sets.{volume_before, volume_after}
 use Rattle.service.specs.Running.{IsRunAt, outcome_of}
 use Rattle.service.specs.lemmas.Serving.{volume-runs, volume-whole, moves-on}
 use Rattle.service.proofs.task.RunTaskParcelFilesParcelKinds.on_volume.Goals as goal

@@ -1,7 +1,7 @@
 use Rattle.std.proofs.Common.{◌≡◌, length, ap, ◌∙◌, sym, arith}
-use Rattle.affinity_tree.specs.Layout.{layout_of}
-use Rattle.parcels.specs.state.Contents.{each}
-use Rattle.parcels.specs.state.Sets.{serial_set}
+use Rattle.affinity.specs.Layout.{layout_of}
+use Rattle.filer_state.specs.state.Contents.{each}
+use Rattle.filer_state.specs.state.Sets.{serial_set}
 use Rattle.service.proofs.totals.Counts.{count_by, all-counted, counted-more, takes-counts, takes-none}
 use Rattle.service.proofs.totals.counting.census.Goals as goal
 

@@ -1,7 +1,7 @@
 use Rattle.std.proofs.Common.{◌≡◌, map}
 use Rattle.nfs_values.specs.Answer.{count_of}
-use Rattle.affinity_tree.specs.Layout.{layout_of}
-use Rattle.parcels.specs.state.Contents.{each}
+use Rattle.affinity.specs.Layout.{layout_of}
+use Rattle.filer_state.specs.state.Contents.{each}
 use Rattle.service.proofs.totals.Counts.{count_by}
 use Rattle.service.proofs.totals.counting.census.Given as goal
 

@@ -5,9 +5,9 @@ use Rattle.nfs_model.specs.Server.{block_size, most_inodes}
 use Rattle.nfs_values.specs.declared.status.Status.TheVariants.{Stale}
 use Rattle.nfs_model.specs.volume.Inodes.{inode_of}
 use Rattle.nfs_model.specs.volume.Logical.{LogicalValue}
-use Rattle.volume_logical.specs.inodes.Inode.{inode_value}
-use Rattle.parcels.specs.state.Sets.{volume_before}
-use Rattle.parcels.specs.totals.Space.{space_held, space_told}
+use Rattle.inodes.specs.Inode.{inode_value}
+use Rattle.filer_state.specs.state.Sets.{volume_before}
+use Rattle.filer_state.specs.totals.Space.{space_held, space_told}
 use Rattle.service_names.specs.lemmas.Whole.{whole-links}
 use Rattle.service.proofs.totals.Spaces.{whole-logical, tells-space}
 use Rattle.service.proofs.totals.filesystem.space.Goals as goal

@@ -1,5 +1,5 @@
 use Rattle.depot.specs.Words.{view}
-use Rattle.depot.specs.rule.History.{entries_of}
+use Rattle.depot_rule.specs.History.{entries_of}
 use Rattle.workers.specs.shared_waiting.Passes.{known}
 use Rattle.workers.proofs.Turning.{puts}
 use Rattle.workers.proofs.worker.Worker.put.Goals as goal

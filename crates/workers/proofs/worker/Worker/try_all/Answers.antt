@@ -1,5 +1,5 @@
 use Rattle.depot.specs.Words.{view}
-use Rattle.parcels.specs.state.Jobs.{batches_in}
+use Rattle.filer_state.specs.state.Jobs.{batches_in}
 use Rattle.workers.specs.shared_waiting.Passes.{known}
 use Rattle.workers.specs.Chains.{left_standing}
 use Rattle.workers.specs.Turns.{standing_of}

@@ -1,8 +1,8 @@
 use Rattle.std.proofs.Common.{subst, Option}
 use Rattle.std.specs.Prelude.{IfSome}
 use Rattle.depot.specs.Words.{view}
-use Rattle.depot.specs.rule.History.{entries_of}
-use Rattle.parcels.specs.state.Jobs.{batches_in}
+use Rattle.depot_rule.specs.History.{entries_of}
+use Rattle.filer_state.specs.state.Jobs.{batches_in}
 use Rattle.workers.specs.shared_waiting.Passes.{known}
 use Rattle.workers.specs.declared.message.Message.{Message}
 use Rattle.workers.specs.Balance.{IsEven}

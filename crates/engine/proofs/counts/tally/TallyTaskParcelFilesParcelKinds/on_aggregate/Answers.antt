@@ -1,6 +1,6 @@
-use Rattle.affinity_tree.specs.Affinity.{affinity_of}
-use Rattle.affinity_tree.specs.Layout.{layout_of}
-use Rattle.parcel_sets.specs.lemmas.Sorts.{aggregate-kind}
+use Rattle.affinity.specs.Affinity.{affinity_of}
+use Rattle.affinity.specs.Layout.{layout_of}
+use Rattle.parcels.specs.lemmas.Sorts.{aggregate-kind}
 use Rattle.engine.proofs.counts.Tallied.{aggregate-tallied}
 use Rattle.engine.proofs.counts.tally.TallyTaskParcelFilesParcelKinds.on_aggregate.Goals as goal
 

@@ -1,6 +1,6 @@
-use Rattle.affinity_tree.specs.Affinity.{affinity_of}
-use Rattle.affinity_tree.specs.Layout.{layout_of}
-use Rattle.parcel_sets.specs.lemmas.Sorts.{range-kind}
+use Rattle.affinity.specs.Affinity.{affinity_of}
+use Rattle.affinity.specs.Layout.{layout_of}
+use Rattle.parcels.specs.lemmas.Sorts.{range-kind}
 use Rattle.engine.proofs.counts.Tallied.{of-range}
 use Rattle.engine.proofs.counts.tally.TallyTaskParcelFilesParcelKinds.on_range.Goals as goal
 

@@ -1,6 +1,6 @@
-use Rattle.affinity_tree.specs.Affinity.{affinity_of}
-use Rattle.affinity_tree.specs.Layout.{layout_of}
-use Rattle.parcel_sets.specs.lemmas.Sorts.{serial-kind}
+use Rattle.affinity.specs.Affinity.{affinity_of}
+use Rattle.affinity.specs.Layout.{layout_of}
+use Rattle.parcels.specs.lemmas.Sorts.{serial-kind}
 use Rattle.engine.proofs.counts.Tallied.{serial-tallied}
 use Rattle.engine.proofs.counts.tally.TallyTaskParcelFilesParcelKinds.on_serial.Goals as goal
 

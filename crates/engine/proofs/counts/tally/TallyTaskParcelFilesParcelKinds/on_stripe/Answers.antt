@@ -1,7 +1,7 @@
 use Rattle.std.proofs.Common.{refl}
-use Rattle.affinity_tree.specs.Affinity.{affinity_of}
-use Rattle.affinity_tree.specs.Layout.{layout_of}
-use Rattle.parcel_sets.specs.lemmas.Sorts.{stripe-kind}
+use Rattle.affinity.specs.Affinity.{affinity_of}
+use Rattle.affinity.specs.Layout.{layout_of}
+use Rattle.parcels.specs.lemmas.Sorts.{stripe-kind}
 use Rattle.engine.proofs.counts.Tallied.{stripe-tallied}
 use Rattle.engine.proofs.counts.tally.TallyTaskParcelFilesParcelKinds.on_stripe.Goals as goal
 

@@ -1,6 +1,6 @@
-use Rattle.affinity_tree.specs.Affinity.{affinity_of}
-use Rattle.affinity_tree.specs.Layout.{layout_of}
-use Rattle.parcel_sets.specs.lemmas.Sorts.{vbn-kind}
+use Rattle.affinity.specs.Affinity.{affinity_of}
+use Rattle.affinity.specs.Layout.{layout_of}
+use Rattle.parcels.specs.lemmas.Sorts.{vbn-kind}
 use Rattle.engine.proofs.counts.Tallied.{of-vbn}
 use Rattle.engine.proofs.counts.tally.TallyTaskParcelFilesParcelKinds.on_vbn.Goals as goal
 

@@ -1,8 +1,8 @@
 use Rattle.std.proofs.Common.{subst, arith}
-use Rattle.affinity_tree.specs.Affinity.{affinity_of}
-use Rattle.affinity_tree.specs.Layout.{layout_of}
-use Rattle.affinity_tree.specs.Tree.{IsNode}
-use Rattle.parcel_sets.specs.lemmas.Sorts.{volume-kind}
+use Rattle.affinity.specs.Affinity.{affinity_of}
+use Rattle.affinity.specs.Layout.{layout_of}
+use Rattle.affinity.specs.Tree.{IsNode}
+use Rattle.parcels.specs.lemmas.Sorts.{volume-kind}
 use Rattle.engine.proofs.counts.Tallied.{volume-tallied}
 use Rattle.engine.proofs.counts.tally.TallyTaskParcelFilesParcelKinds.on_volume.Goals as goal
 

@@ -2,7 +2,7 @@ use Rattle.std.proofs.Common.{ap, arith, sym, subst}
 use Rattle.std.proofs.lemmas.List.Elements.{All-nil}
 use Rattle.std.specs.Prelude.{All}
 use Rattle.std.specs.Arc.{arc_value}
-use Rattle.depot.specs.rule.Sums.{total}
+use Rattle.depot_rule.specs.Sums.{total}
 use Rattle.server.specs.pool.Gathered.{IsLeftOf}
 use Rattle.server.specs.pool.Shares.{share_of}
 use Rattle.workers.specs.Words.{seats_in, IsIn}

@@ -1,0 +1,11 @@
+pub mod Specification
+pub mod Fault
+pub mod Largest
+pub mod Tree
+pub mod Under
+pub mod Numbers
+pub mod Ancestors
+pub mod Alike
+pub mod Affinity
+pub mod Layout
+pub mod lemmas

@@ -1,0 +1,163 @@
+//! Where a call is at home.
+
+ghost use Rattle.std.specs.Prelude.{◌≡◌, ◌==◌, ◌+◌, ◌-◌, ◌/◌, ◌<◌, length, min, option_map};
+ghost use Rattle.std.specs.Prelude.{slice_get, IfSome};
+ghost use Rattle.nfs_model.specs.Home.{home, bytes_home, grow_home, logical_home};
+ghost use Rattle.nfs_model.specs.Home.{named_by, rename_home, span_bytes, stripe_of_span};
+ghost use Rattle.nfs_model.specs.Home.{volume_home};
+ghost use Rattle.nfs_values.specs.Call.{call_of};
+ghost use Rattle.nfs_values.specs.Handle.{named_of};
+ghost use Rattle.affinity.specs.Affinity.{affinity_of};
+ghost use Rattle.affinity.specs.Layout.{layout_of};
+ghost use Rattle.affinity.specs.Tree.{IsNode};
+
+use crate::{Affinity, Layout};
+use byteorder::{BigEndian, ByteOrder};
+use nfs_values::{Call, FileHandle, Fileid, Named, VolumeNumber};
+
+/// The bytes of a span, which lie in one stripe.
+const SPAN: u64 = 262_144;
+
+/// Larger counts of bytes are taken as this.
+const COUNT_LIMIT: u32 = 65_536;
+
+/// What a good handle names, which has 12 bytes and a volume that the layout has.
+pub fn named_by(handle: &FileHandle, layout: &Layout) -> Option<Named>
+    ensures named { option_map named_of result ≡ named_by (layout_of layout.now) handle.now }
+    ensures there { IfSome result (λ n. n.volume.0 < length (layout_of layout.now).volumes) }
+{
+    let bytes = handle.as_bytes();
+    if bytes.len() != 12 {
+        return None;
+    }
+    let volume = BigEndian::read_u32(&bytes[..4]);
+    if volume as usize >= layout.volume_count() {
+        return None;
+    }
+    Some(Named {
+        volume: VolumeNumber(volume),
+        fileid: Fileid(BigEndian::read_u64(&bytes[4..])),
+    })
+}
+
+/// Whether bytes, as many as a count that isn't 0, lie in one span.
+fn is_in_one_span(offset: u64, count: u32) -> bool
+    requires { 0 < count }
+    ensures { result ≡ (offset / span_bytes == (offset + count - 1) / span_bytes) }
+{
+    offset % SPAN + u64::from(count) <= SPAN
+}
+
+/// The stripe of a file's span.
+#[tactic(auto, using(crate::proofs::homes::Spans::remainder_of_parts))]
+fn stripe_of_span(layout: &Layout, named: Named, span: u64) -> Affinity
+    requires { named.volume.0 < length (layout_of layout.now).volumes }
+    ensures stripe { affinity_of result
+        ≡ stripe_of_span (layout_of layout.now) (named_of named) span }
+    ensures node { IsNode (layout_of layout.now) (affinity_of result) }
+{
+    let volume = named.volume.0;
+    let stripes = u64::from(layout.stripes_of(volume));
+    let stripe = (named.fileid.0 % stripes + span % stripes) % stripes;
+    Affinity::Stripe {
+        volume,
+        stripe: stripe as u32,
+    }
+}
+
+/// Where a call on bytes of a file is at home.
+fn home_of_bytes(handle: &FileHandle, offset: u64, count: u32, layout: &Layout) -> Option<Affinity>
+    ensures home { let L = layout_of layout.now in option_map affinity_of result
+        ≡ bytes_home L (named_by L handle.now) offset (min count COUNT_LIMIT) }
+    ensures node { IfSome result (λ a. IsNode (layout_of layout.now) (affinity_of a)) }
+{
+    let named = named_by(handle, layout)?;
+    let count = count.min(COUNT_LIMIT);
+    if count == 0 || is_in_one_span(offset, count) {
+        Some(stripe_of_span(layout, named, offset / SPAN))
+    } else {
+        Some(Affinity::VolumeLogical(named.volume.0))
+    }
+}
+
+/// Where a call on names and attributes is at home.
+fn home_of_names(handle: &FileHandle, layout: &Layout) -> Option<Affinity>
+    ensures home { option_map affinity_of result
+        ≡ logical_home (named_by (layout_of layout.now) handle.now) }
+    ensures node { IfSome result (λ a. IsNode (layout_of layout.now) (affinity_of a)) }
+{
+    let named = named_by(handle, layout)?;
+    Some(Affinity::VolumeLogical(named.volume.0))
+}
+
+/// Where a call on names in two directories is at home: with the one volume that both are of.
+fn home_of_renaming(from: &FileHandle, to: &FileHandle, layout: &Layout) -> Option<Affinity>
+    ensures home { let L = layout_of layout.now in option_map affinity_of result
+        ≡ rename_home (named_by L from.now) (named_by L to.now) }
+    ensures node { IfSome result (λ a. IsNode (layout_of layout.now) (affinity_of a)) }
+{
+    let from = named_by(from, layout)?;
+    let to = named_by(to, layout)?;
+    if from.volume.0 == to.volume.0 {
+        Some(Affinity::VolumeLogical(from.volume.0))
+    } else {
+        None
+    }
+}
+
+/// Where a call on a whole volume is at home.
+fn home_of_status(handle: &FileHandle, layout: &Layout) -> Option<Affinity>
+    ensures home { option_map affinity_of result
+        ≡ volume_home (named_by (layout_of layout.now) handle.now) }
+    ensures node { IfSome result (λ a. IsNode (layout_of layout.now) (affinity_of a)) }
+{
+    let named = named_by(handle, layout)?;
+    Some(Affinity::Volume(named.volume.0))
+}
+
+/// Where a volume's growth is at home.
+fn home_of_growth(volume: VolumeNumber, layout: &Layout) -> Option<Affinity>
+    ensures home { option_map affinity_of result
+        ≡ grow_home (slice_get (layout_of layout.now).volumes volume.0) }
+    ensures node { IfSome result (λ a. IsNode (layout_of layout.now) (affinity_of a)) }
+{
+    if volume.0 as usize >= layout.volume_count() {
+        return None;
+    }
+    Some(Affinity::Aggregate(layout.aggregate_of(volume.0)))
+}
+
+/// The affinity that a call tries first; nothing for a call that is answered without one.
+pub fn home_of(call: &Call, layout: &Layout) -> Option<Affinity>
+    ensures home { option_map affinity_of result ≡ home (layout_of layout.now) (call_of call.now) }
+    ensures node { IfSome result (λ a. IsNode (layout_of layout.now) (affinity_of a)) }
+{
+    match call {
+        Call::Null => None,
+        Call::GetAttributes { handle }
+        | Call::SetAttributes { handle, .. }
+        | Call::Commit { handle } => home_of_names(handle, layout),
+        Call::Lookup(target) | Call::Remove(target) | Call::RemoveDirectory(target) => {
+            home_of_names(&target.directory, layout)
+        }
+        Call::Create { target, .. } | Call::MakeDirectory { target, .. } => {
+            home_of_names(&target.directory, layout)
+        }
+        Call::Rename { from, to } => home_of_renaming(&from.directory, &to.directory, layout),
+        Call::ReadDirectory { directory, .. } => home_of_names(directory, layout),
+        Call::Read {
+            handle,
+            offset,
+            count,
+        }
+        | Call::Write {
+            handle,
+            offset,
+            count,
+            ..
+        } => home_of_bytes(handle, *offset, *count, layout),
+        Call::FilesystemStatus { handle } => home_of_status(handle, layout),
+        Call::Census => Some(Affinity::Serial),
+        Call::Grow { volume, .. } => home_of_growth(*volume, layout),
+    }
+}

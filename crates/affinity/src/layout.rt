@@ -1,0 +1,146 @@
+//! Layouts.
+
+ghost use Rattle.std.specs.Prelude.{◌≡◌, None};
+ghost use Rattle.affinity.specs.Specification.{layout_in};
+ghost use Rattle.affinity.specs.Fault.{fault_of};
+
+use crate::fault::LayoutFault;
+use crate::rules::check;
+use crate::specification::{AggregateSpec, MIB, STRIPES, VolumeSpec};
+use std::alloc::{AllocError, Global};
+
+/// The bytes of a mebibyte.
+const MEBIBYTE: u64 = 1_048_576;
+
+/// The aggregates and volumes of a run, fixed for as long as it lasts.
+#[derive(Debug)]
+pub struct Layout {
+    aggregates: Vec<AggregateSpec>,
+    volumes: Vec<VolumeSpec>,
+    pub ghost lawful: { fault_of (layout_in aggregates.items volumes.items) ≡ None },
+}
+
+// By hand, so that crates above have no proof of the drop of each of its parts.
+impl Drop for Layout {
+    fn drop(self) {
+        let Layout {
+            aggregates: _,
+            volumes: _,
+        } = self;
+    }
+}
+
+impl Layout {
+    ghost use Rattle.std.specs.Prelude.{◌<◌, ◌≤◌, length, slice_get, option_map, IfOk, IfErr, OnOk};
+    ghost use Rattle.nfs_model.specs.Tree.{aggregate_of, stripes_of};
+    ghost use Rattle.affinity.specs.Specification.{spare_of, volume_asked};
+    ghost use Rattle.affinity.specs.Fault.{rule_broken};
+    ghost use Rattle.affinity.specs.Largest.{largest_of, mebibytes_in};
+    ghost use Rattle.affinity.specs.Layout.{layout_of};
+
+    /// A layout of these aggregates and volumes. It is refused for the first rule that it breaks.
+    pub fn new(
+        alloc: Global,
+        aggregates: &[AggregateSpec],
+        volumes: &[VolumeSpec],
+    ) -> Result<Layout, LayoutFault>
+        ensures ok { IfOk result (λ layout.
+            layout_of layout ≡ layout_in aggregates.now volumes.now) }
+        ensures lawful { OnOk result (fault_of (layout_in aggregates.now volumes.now) ≡ None) }
+        ensures err { IfErr result (λ fault.
+            rule_broken fault ≡ fault_of (layout_in aggregates.now volumes.now)) }
+    {
+        check(aggregates, volumes)?;
+        Ok(Layout {
+            aggregates: aggregates.to_vec(alloc)?,
+            volumes: volumes.to_vec(alloc)?,
+        })
+    }
+
+    /// A layout of the same aggregates and volumes.
+    pub fn copied(&self, alloc: Global) -> Result<Layout, AllocError>
+        ensures { IfOk result (λ layout. layout_of layout ≡ layout_of self.now) }
+    {
+        Ok(Layout {
+            aggregates: self.aggregates.to_vec(alloc)?,
+            volumes: self.volumes.to_vec(alloc)?,
+        })
+    }
+
+    /// How many aggregates there are.
+    pub fn aggregate_count(&self) -> usize
+        ensures count { result ≡ length (layout_of self.now).spare }
+        ensures most { result ≤ 2 }
+    {
+        self.aggregates.len()
+    }
+
+    /// How many volumes there are.
+    pub fn volume_count(&self) -> usize
+        ensures count { result ≡ length (layout_of self.now).volumes }
+        ensures most { result ≤ 8 }
+    {
+        self.volumes.len()
+    }
+
+    /// An aggregate by its number.
+    pub fn aggregate(&self, aggregate: u32) -> Option<AggregateSpec>
+        ensures { option_map spare_of result ≡ slice_get (layout_of self.now).spare aggregate }
+    {
+        self.aggregates.get(aggregate as usize).copied()
+    }
+
+    /// A volume by its number.
+    pub fn volume(&self, volume: u32) -> Option<VolumeSpec>
+        ensures { option_map volume_asked result ≡ slice_get (layout_of self.now).volumes volume }
+    {
+        self.volumes.get(volume as usize).copied()
+    }
+
+    /// The aggregate of a volume; 0 for a volume that isn't there.
+    #[tactic(auto, using(crate::specs::lemmas::Lawful::aggregate_known))]
+    pub fn aggregate_of(&self, volume: u32) -> u32
+        ensures aggregate { result ≡ aggregate_of (layout_of self.now) volume }
+        ensures known { volume < length (layout_of self.now).volumes
+            → result < length (layout_of self.now).spare }
+    {
+        match self.volume(volume) {
+            Some(specification) => specification.aggregate,
+            None => 0,
+        }
+    }
+
+    /// How many stripes a volume has, 8 or 16; 8 for a volume that isn't there.
+    pub fn stripes_of(&self, volume: u32) -> u32
+        ensures stripes { result ≡ stripes_of (layout_of self.now) volume }
+        ensures some { 0 < result }
+        ensures most { result ≤ 16 }
+    {
+        match self.volume(volume) {
+            Some(specification) => specification.stripes,
+            None => STRIPES,
+        }
+    }
+
+    /// The largest size of a volume's files in bytes, 16 or 64 mebibytes; 16 for a volume that
+    /// isn't there.
+    pub fn largest_of(&self, volume: u32) -> u64
+        ensures largest { result ≡ largest_of (layout_of self.now) volume }
+        ensures some { 0 < result }
+        ensures most { result ≤ 67108864 }
+    {
+        MEBIBYTE * u64::from(self.mebibytes_of(volume))
+    }
+
+    /// The mebibytes of a volume's largest files.
+    fn mebibytes_of(&self, volume: u32) -> u32
+        ensures mebibytes { result ≡ mebibytes_in (slice_get (layout_of self.now).volumes volume) }
+        ensures some { 0 < result }
+        ensures most { result ≤ 64 }
+    {
+        match self.volume(volume) {
+            Some(specification) => specification.mib,
+            None => MIB,
+        }
+    }
+}

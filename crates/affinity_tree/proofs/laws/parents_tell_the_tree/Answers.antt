@@ -1,5 +1,0 @@
-use Rattle.affinity_tree.specs.lemmas.Alike.{alike}
-use Rattle.affinity_tree.proofs.laws.parents_tell_the_tree.Goals as goal
-
-pub returns : goal.returns
-returns c = alike

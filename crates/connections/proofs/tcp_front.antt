@@ -1,8 +1,0 @@
-mod Sent
-mod Rows
-mod JoinedRows
-mod Scanned
-mod Adding
-mod Fitting
-mod Taken
-mod Ends

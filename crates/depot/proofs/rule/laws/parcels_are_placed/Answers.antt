@@ -1,5 +1,0 @@
-use Rattle.depot.proofs.rule.Following.{are-placed}
-use Rattle.depot.proofs.rule.laws.parcels_are_placed.Goals as goal
-
-pub returns : goal.returns
-returns g c = are-placed g.row.P.Denot g.row.E.Denot

@@ -1,5 +1,0 @@
-use Rattle.depot.proofs.rule.Following.{are-single}
-use Rattle.depot.proofs.rule.laws.parcels_are_single.Goals as goal
-
-pub returns : goal.returns
-returns g c = are-single g.row.P.Denot g.row.E.Denot

@@ -1,0 +1,13 @@
+use Rattle.directories.specs.Index.{cookies}
+use Rattle.directories.proofs.Spots.{cookies-insert}
+use Rattle.directories.proofs.Found.{found-nowhere}
+use Rattle.directories.proofs.Changed.{indexed-added}
+use Rattle.directories.proofs.directory.add_at.Goals as goal
+
+pub returns-clause-indexed : goal.returns-clause-indexed
+returns-clause-indexed c =
+    let d = c.args.entries.now in
+    let index = cookies c.args.by_name.now in
+    rw (c.insert.ensures, c.in_ok-cookie.ensures.ok, c.in_ok-room.ensures.same, cookies-insert)
+    (indexed-added d index c.args.place c.in_ok-cookie.cookie c.args.name c.args.fileid.0 c.requires.indexed c.requires.place
+    (found-nowhere d index c.args.place c.args.name c.requires.indexed c.requires.place) c.in_ok-cookie.ensures.cookie)

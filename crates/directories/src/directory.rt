@@ -1,0 +1,267 @@
+//! A directory: its entries, and an index of them by name.
+
+ghost use Rattle.std.specs.Prelude.{
+  ◌≡◌,
+  ◌==◌,
+  ◌<◌,
+  ◌≤◌,
+  ◌^◌,
+  ℕ,
+  length,
+  None,
+  Some,
+  is_some,
+  IfOk,
+  OnOk,
+  OnErr,
+};
+ghost use Rattle.nfs_model.specs.volume.Directories.{
+  IsDirectory,
+  empty_directory,
+  found,
+  fileid_found,
+  page,
+  added,
+  removed,
+};
+ghost use Rattle.directories.specs.Digits.{binary_digits};
+ghost use Rattle.directories.specs.Entries.{
+  listed,
+  page_told,
+  page_value,
+  page_behind,
+};
+ghost use Rattle.directories.specs.Index.{IsAt, IsIndexed, IsPlace, cookies};
+ghost use Rattle.directories.specs.Index.{fileid_number};
+
+use crate::entries::Entries;
+use crate::page::Page;
+use crate::search::find_place;
+use crate::sequences::Sequence;
+use crate::spot::Spot;
+use nfs_values::{Cookie, DirectoryEntry, Fileid, Name};
+use std::alloc::{AllocError, Global};
+use std::marker::Model;
+
+/// A directory: its entries but `.` and `..`, by rising cookies from 3 on. No two have one name,
+/// and no cookie is given twice (RFC 1813 section 3.3.16).
+pub struct Directory {
+    entries: Entries,
+    /// The entries in the order of the names' bytes.
+    by_name: Sequence<Spot>,
+}
+
+// By hand, so that crates above have no proof of the drop of each of its parts.
+impl Drop for Directory {
+    fn drop(self) {
+        let Directory {
+            entries: _,
+            by_name: _,
+        } = self;
+    }
+}
+
+impl Model for Directory {
+    ghost use Rattle.nfs_model.specs.volume.Directories.{DirectoryValue};
+    ghost use Rattle.nfs_model.specs.volume.Codes.{coded_directory};
+    ghost use Rattle.directories.specs.Index.{IsIndexed, cookies};
+
+    ghost Value = { DirectoryValue };
+
+    ghost coded = { coded_directory };
+
+    ghost view = { λ d. d.entries };
+
+    ghost invariant = { λ d. IsIndexed d.entries (cookies d.by_name) };
+}
+
+impl Directory {
+    /// A directory without entries. It takes no memory.
+    pub fn new(alloc: Global) -> Directory
+        ensures { result ≡ empty_directory }
+    {
+        Directory {
+            entries: Entries::new(alloc),
+            by_name: Sequence::new(alloc),
+        }
+    }
+
+    /// The number of entries.
+    pub fn len(&self) -> usize
+        ensures { result ≡ length self.now.list }
+    {
+        self.entries.len()
+    }
+
+    /// Whether there is no entry.
+    pub fn is_empty(&self) -> bool
+        ensures { result ≡ (length self.now.list == 0) }
+    {
+        self.entries.len() == 0
+    }
+
+    /// The cookie that the next entry takes.
+    pub fn next_cookie(&self) -> Cookie
+        ensures cookie { result.0 ≡ self.now.next }
+        ensures directory { IsDirectory self.now }
+    {
+        self.entries.next_cookie()
+    }
+
+    /// The fileid of the entry with a name.
+    pub fn find(&self, name: &[u8]) -> Option<Fileid>
+        ensures { fileid_number result ≡ fileid_found self.now name.now }
+    {
+        self.find_counted(name).0
+    }
+
+    /// The fileid of the entry with a name, and how many names were compared: no more than the
+    /// number of entries has binary digits.
+    pub fn find_counted(&self, name: &[u8]) -> (Option<Fileid>, usize)
+        ensures answer { fileid_number result.0 ≡ fileid_found self.now name.now }
+        ensures compared { result.1 ≤ binary_digits (length self.now.list) }
+    {
+        let search = find_place(&self.entries, &self.by_name, name);
+        if !search.is_there {
+            return (None, search.compared);
+        }
+        let spot = self.by_name.at(search.place);
+        let entry = self.entries.at(spot.cookie, spot.slot);
+        (Some(entry.fileid), search.compared)
+    }
+
+    /// Adds an entry, which takes the next cookie. Where there is no memory for it nothing
+    /// changes, and the name is dropped.
+    pub fn add(&mut self, name: Name, fileid: Fileid) -> Result<(), AllocError>
+        requires cookies { self.old.next < 2 ^ 63 }
+        requires absent { found self.old name ≡ None }
+        ensures ok { OnOk result (self.new ≡ added name fileid.0 self.old) }
+        ensures err { OnErr result (self.new ≡ self.old) }
+    {
+        let place = find_place(&self.entries, &self.by_name, name.as_bytes()).place;
+        add_at(&mut self.entries, &mut self.by_name, place, name, fileid)
+    }
+
+    /// Adds an entry in the place of the one with its name, if there is one, and answers the fileid
+    /// of that one. The entry takes the next cookie. Where there is no memory for it nothing
+    /// changes, and the name is dropped.
+    pub fn replace(&mut self, name: Name, fileid: Fileid) -> Result<Option<Fileid>, AllocError>
+        requires cookies { self.old.next < 2 ^ 63 }
+        ensures ok { OnOk result (self.new ≡ added name fileid.0 (removed name self.old)) }
+        ensures was { IfOk result (λ was. fileid_number was ≡ fileid_found self.old name) }
+        ensures err { OnErr result (self.new ≡ self.old) }
+    {
+        let search = find_place(&self.entries, &self.by_name, name.as_bytes());
+        if !search.is_there {
+            add_at(
+                &mut self.entries,
+                &mut self.by_name,
+                search.place,
+                name,
+                fileid,
+            )?;
+            return Ok(None);
+        }
+        let was = replace_at(
+            &mut self.entries,
+            &mut self.by_name,
+            search.place,
+            name,
+            fileid,
+        )?;
+        Ok(Some(was))
+    }
+
+    /// Removes the entry with a name, and tells whether there was one. It takes no memory.
+    pub fn remove(&mut self, name: &[u8]) -> bool
+        ensures there { result ≡ is_some (found self.old name.now) }
+        ensures left { self.new ≡ removed name.now self.old }
+    {
+        let search = find_place(&self.entries, &self.by_name, name);
+        if !search.is_there {
+            return false;
+        }
+        let spot = self.by_name.remove(search.place);
+        self.entries.remove(spot.cookie);
+        true
+    }
+
+    /// The entries after a cookie, as many as fit into a number of bytes, and whether none
+    /// remains after them. An entry takes 24 bytes and its name, padded to a multiple of 4
+    /// (entry3 with the mark of another item, RFC 1813 section 3.3.16). Memory runs out only where
+    /// an entry fits.
+    pub fn page(&self, alloc: Global, cookie: Cookie, room: usize) -> Result<Page, AllocError>
+        ensures ok { IfOk result (λ p. page_value p ≡ page self.now cookie.0 room) }
+        ensures err { OnErr result (0 < length (page self.now cookie.0 room).entries) }
+    {
+        let mut entries = Vec::new(alloc);
+        let is_last = self.append_page(alloc, cookie, room, &mut entries)?;
+        Ok(Page { entries, is_last })
+    }
+
+    /// Appends the entries after a cookie, as many as fit into a number of bytes, and tells whether
+    /// none remains after them. An entry takes 24 bytes and its name, padded to a multiple of 4
+    /// (entry3 with the mark of another item, RFC 1813 section 3.3.16). Memory runs out only where
+    /// an entry fits.
+    pub fn append_page(
+        &self,
+        alloc: Global,
+        cookie: Cookie,
+        room: usize,
+        entries: &mut Vec<DirectoryEntry>,
+    ) -> Result<bool, AllocError>
+        ensures ok { IfOk result (λ is_last. page_told entries.new.items is_last
+            ≡ page_behind (listed entries.old.items) (page self.now cookie.0 room)) }
+        ensures err { OnErr result (0 < length (page self.now cookie.0 room).entries) }
+    {
+        self.entries.append_page(alloc, cookie, room, entries)
+    }
+}
+
+/// Adds an entry with a name that belongs at a place of the index. Where there is no memory for it
+/// nothing changes.
+fn add_at(
+    entries: &mut Entries,
+    by_name: &mut Sequence<Spot>,
+    place: usize,
+    name: Name,
+    fileid: Fileid,
+) -> Result<(), AllocError>
+    requires cookies { entries.old.next < 2 ^ 63 }
+    requires indexed { IsIndexed entries.old (cookies by_name.old) }
+    requires within { place ≤ length by_name.old }
+    requires place { IsPlace entries.old (cookies by_name.old) name place }
+    ensures indexed { IsIndexed entries.new (cookies by_name.new) }
+    ensures ok { OnOk result (entries.new ≡ added name fileid.0 entries.old) }
+    ensures err { OnErr result (entries.new ≡ entries.old) }
+{
+    let room = by_name.room()?;
+    let (cookie, slot) = entries.add(name, fileid)?;
+    by_name.insert(room, place, Spot { cookie, slot });
+    Ok(())
+}
+
+/// Adds an entry in the place of the one with its name, which is at a place of the index, and
+/// answers the fileid of that one. Where there is no memory for it nothing changes.
+fn replace_at(
+    entries: &mut Entries,
+    by_name: &mut Sequence<Spot>,
+    place: usize,
+    name: Name,
+    fileid: Fileid,
+) -> Result<Fileid, AllocError>
+    requires cookies { entries.old.next < 2 ^ 63 }
+    requires indexed { IsIndexed entries.old (cookies by_name.old) }
+    requires there { IsAt entries.old (cookies by_name.old) name place }
+    ensures indexed { IsIndexed entries.new (cookies by_name.new) }
+    ensures ok { OnOk result (entries.new ≡ added name fileid.0 (removed name entries.old)) }
+    ensures was { IfOk result (λ was. Some was.0 ≡ fileid_found entries.old name) }
+    ensures err { OnErr result (entries.new ≡ entries.old) }
+{
+    let old = by_name.at(place);
+    let was = entries.at(old.cookie, old.slot).fileid;
+    let (cookie, slot) = entries.add(name, fileid)?;
+    entries.remove(old.cookie);
+    by_name.set(place, Spot { cookie, slot });
+    Ok(was)
+}

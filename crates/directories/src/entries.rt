@@ -1,0 +1,280 @@
+//! The entries of a directory in the order of their cookies.
+
+ghost use Rattle.std.specs.Prelude.{
+  ◌≡◌,
+  ◌<◌,
+  ◌≤◌,
+  ◌+◌,
+  ◌++◌,
+  ◌^◌,
+  ℕ,
+  List,
+  length,
+  drop,
+  true,
+  is_some,
+  Some,
+  IfOk,
+  OnOk,
+  OnErr,
+};
+ghost use Rattle.std.specs.List.{AllByRecursion, slice_get};
+ghost use Rattle.nfs_model.specs.Types.{Listed};
+ghost use Rattle.nfs_model.specs.Serial.Readdir.{above_cookie, entry_size, fitting};
+ghost use Rattle.nfs_values.specs.Answer.{entry_of};
+ghost use Rattle.nfs_model.specs.volume.Directories.{empty_directory, added, page};
+ghost use Rattle.directories.specs.Entries.{
+  listed,
+  IsRising,
+  under,
+  has,
+  dropped,
+  fitting_in,
+  page_told,
+  page_behind,
+};
+ghost use Rattle.directories.specs.Slots.{in_slot, in_order, IsOrdered};
+
+use crate::sequences::Sequence;
+use crate::slot::{Slot, entry_in, holds, put, vacate};
+use nfs_values::{Cookie, DirectoryEntry, Fileid, Name};
+use std::alloc::{AllocError, Global};
+use std::marker::Model;
+
+/// Entries by rising cookies, from 3 on, and the next cookie.
+#[derive(Drop)]
+pub struct Entries {
+    slots: Vec<Slot>,
+    /// The slots of the entries in the order of their cookies.
+    order: Sequence<u32>,
+    /// The slot that is filled next, if it is vacant.
+    vacant: u32,
+    next: Cookie,
+}
+
+impl Model for Entries {
+    ghost use Rattle.nfs_model.specs.volume.Directories.{DirectoryValue};
+    ghost use Rattle.nfs_model.specs.volume.Codes.{coded_directory};
+    ghost use Rattle.directories.specs.Slots.{in_order, IsOrdered};
+
+    ghost Value = { DirectoryValue };
+
+    ghost coded = { coded_directory };
+
+    ghost view = { λ e. record { next = e.next.0; list = in_order e.slots.items e.order } };
+
+    ghost invariant = { λ e. IsOrdered e.slots.items e.order e.next.0 };
+}
+
+impl Entries {
+    /// No entry.
+    pub fn new(alloc: Global) -> Entries
+        ensures { result ≡ empty_directory }
+    {
+        Entries {
+            slots: Vec::new(alloc),
+            order: Sequence::new(alloc),
+            vacant: u32::MAX,
+            next: Cookie(3),
+        }
+    }
+
+    /// The number of entries.
+    pub fn len(&self) -> usize
+        ensures { result ≡ length self.now.list }
+    {
+        self.order.len()
+    }
+
+    /// The cookie that the next entry takes.
+    pub fn next_cookie(&self) -> Cookie
+        ensures { result.0 ≡ self.now.next }
+    {
+        self.next
+    }
+
+    /// The entry under a cookie that has one. Where it is in the slot guessed there is no search.
+    pub fn at(&self, cookie: Cookie, guess: u32) -> &DirectoryEntry
+        requires { has self.now.list cookie.0 ≡ true }
+        ensures { under cookie.0 self.now.list ≡ Some (entry_of result.now) }
+    {
+        entry_in(
+            &self.slots,
+            slot_of(&self.slots, &self.order, cookie, guess),
+        )
+    }
+
+    /// Adds an entry under the next cookie, which is the result, with its slot. Where there is no
+    /// memory for it nothing changes.
+    pub fn add(&mut self, name: Name, fileid: Fileid) -> Result<(Cookie, u32), AllocError>
+        requires { self.old.next < 2 ^ 63 }
+        ensures cookie { IfOk result (λ r. r.0.0 ≡ self.old.next) }
+        ensures ok { OnOk result (self.new ≡ added name fileid.0 self.old) }
+        ensures err { OnErr result (self.new ≡ self.old) }
+    {
+        let cookie = self.next;
+        let room = self.order.room()?;
+        let entry = DirectoryEntry {
+            fileid,
+            name,
+            cookie,
+        };
+        let (slot, next) = put(&mut self.slots, self.vacant, entry)?;
+        self.order.push(room, slot);
+        self.vacant = next;
+        self.next = Cookie(cookie.0 + 1);
+        Ok((cookie, slot))
+    }
+
+    /// Removes the entry under a cookie that has one.
+    pub fn remove(&mut self, cookie: Cookie)
+        requires { has self.old.list cookie.0 ≡ true }
+        ensures { self.new ≡ dropped cookie.0 self.old }
+    {
+        let place = place_of(&self.slots, &self.order, cookie);
+        let slot = self.order.remove(place);
+        vacate(&mut self.slots, slot, self.vacant);
+        self.vacant = slot;
+    }
+
+    /// Appends the entries after a cookie, as many as fit into a number of bytes, and tells whether
+    /// none remains after them. Memory runs out only where one fits.
+    pub fn append_page(
+        &self,
+        alloc: Global,
+        cookie: Cookie,
+        room: usize,
+        entries: &mut Vec<DirectoryEntry>,
+    ) -> Result<bool, AllocError>
+        ensures ok { IfOk result (λ is_last. page_told entries.new.items is_last
+            ≡ page_behind (listed entries.old.items) (page self.now cookie.0 room)) }
+        ensures err { OnErr result (0 < length (page self.now cookie.0 room).entries) }
+    {
+        let after = place_after(&self.slots, &self.order, cookie);
+        let remaining = self.order.len() - after;
+        let before = entries.len();
+        append_fitting(alloc, &self.slots, &self.order, after, room, entries)?;
+        Ok(entries.len() - before == remaining)
+    }
+}
+
+/// The slot of the entry under a cookie that has one: the slot guessed, or else by a search.
+fn slot_of(slots: &[Slot], order: &Sequence<u32>, cookie: Cookie, guess: u32) -> u32
+    requires ordered { (next : ℕ) × IsOrdered slots.now order.now next }
+    requires there { has (in_order slots.now order.now) cookie.0 ≡ true }
+    ensures { in_slot slots.now result ≡ under cookie.0 (in_order slots.now order.now) }
+{
+    if holds(slots, guess, cookie) {
+        return guess;
+    }
+    order.at(place_of(slots, order, cookie))
+}
+
+/// The place in the order of the entry under a cookie that has one.
+fn place_of(slots: &[Slot], order: &Sequence<u32>, cookie: Cookie) -> usize
+    requires rising { IsRising (in_order slots.now order.now) }
+    requires there { has (in_order slots.now order.now) cookie.0 ≡ true }
+    ensures within { result < length order.now }
+    ensures place { let entries = in_order slots.now order.now in
+        under cookie.0 entries ≡ slice_get entries result }
+{
+    place_after(slots, order, Cookie(cookie.0 - 1))
+}
+
+/// How many entries have a cookie at or below one.
+fn place_after(slots: &[Slot], order: &Sequence<u32>, cookie: Cookie) -> usize
+    requires { IsRising (in_order slots.now order.now) }
+    ensures within { result ≤ length order.now }
+    ensures after { let entries = in_order slots.now order.now in
+        above_cookie cookie.0 entries ≡ drop result entries }
+{
+    let mut low = 0;
+    let mut high = order.len();
+    let mut part = order.part();
+    while low < high {
+        part = part.narrowed(low, high);
+        let middle = low + (high - low) / 2;
+        if entry_in(slots, part.at(middle)).cookie.0 <= cookie.0 {
+            low = middle + 1;
+        } else {
+            high = middle;
+        }
+    }
+    low
+}
+
+/// Appends the entries from a place of the order on that fit into a number of bytes. Memory runs
+/// out only where one fits.
+fn append_fitting(
+    alloc: Global,
+    slots: &[Slot],
+    order: &Sequence<u32>,
+    after: usize,
+    room: usize,
+    copied: &mut Vec<DirectoryEntry>,
+) -> Result<(), AllocError>
+    requires { AllByRecursion (λ s. is_some (in_slot slots.now s) ≡ true) order.now }
+    ensures ok { OnOk result (listed copied.new.items
+        ≡ listed copied.old.items ++ fitting room (drop after (in_order slots.now order.now))) }
+    ensures err { OnErr result
+        (0 < length (fitting room (drop after (in_order slots.now order.now)))) }
+{
+    let mut left = room;
+    let mut place = after;
+    while place < order.len() {
+        let run = order.run_at(place);
+        match copy_run(alloc, slots, run, left, copied)? {
+            Some(rest) => left = rest,
+            None => return Ok(()),
+        }
+        place += run.len();
+    }
+    Ok(())
+}
+
+/// Copies the entries of a run of slots that fit into a number of bytes behind others. The result
+/// is the number of bytes that are left, if all fitted.
+fn copy_run(
+    alloc: Global,
+    slots: &[Slot],
+    run: &[u32],
+    room: usize,
+    copied: &mut Vec<DirectoryEntry>,
+) -> Result<Option<usize>, AllocError>
+    requires { AllByRecursion (λ s. is_some (in_slot slots.now s) ≡ true) run.now }
+    ensures ok { IfOk result (λ rest. (more : List Listed)
+        → listed copied.new.items ++ fitting_in rest more
+        ≡ listed copied.old.items ++ fitting room (in_order slots.now run.now ++ more)) }
+    ensures err { OnErr result ((more : List Listed)
+        → 0 < length (fitting room (in_order slots.now run.now ++ more))) }
+{
+    let mut left = room;
+    for slot in run {
+        let entry = entry_in(slots, *slot);
+        let size = size_of(entry);
+        if size > left {
+            return Ok(None);
+        }
+        left -= size;
+        copied.push(copy(alloc, entry)?)?;
+    }
+    Ok(Some(left))
+}
+
+/// The bytes of an entry in a page.
+fn size_of(entry: &DirectoryEntry) -> usize
+    ensures { result ≡ entry_size (entry_of entry.now) }
+{
+    24 + 4 * ((entry.name.as_bytes().len() + 3) / 4)
+}
+
+/// A copy of an entry.
+fn copy(alloc: Global, entry: &DirectoryEntry) -> Result<DirectoryEntry, AllocError>
+    ensures { IfOk result (λ e. entry_of e ≡ entry_of entry.now) }
+{
+    Ok(DirectoryEntry {
+        fileid: entry.fileid,
+        name: entry.name.try_clone(alloc)?,
+        cookie: entry.cookie,
+    })
+}

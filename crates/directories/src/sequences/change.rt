@@ -1,0 +1,194 @@
+//! Items that come into a tree and go.
+
+ghost use Rattle.std.specs.Prelude.{
+  ◌≡◌,
+  ◌+◌,
+  ◌<◌,
+  ◌≤◌,
+  ◌^◌,
+  ◌∷◌,
+  ◌++◌,
+  [],
+  max,
+  length,
+  true,
+  is_some,
+  Some,
+};
+ghost use Rattle.std.specs.List.{slice_get, insert, remove};
+ghost use Rattle.std.specs.Vec.{vec_capacity};
+ghost use Rattle.directories.specs.sequences.Values.{DifferByAtMost, IsHeightOver, MayRise};
+ghost use Rattle.directories.specs.sequences.Opened.{IsFirst};
+
+use crate::sequences::chunk::{put, split};
+use crate::sequences::room::Room;
+use crate::sequences::tree::{First, Node, Parts, Tree};
+
+/// A tree with one more item at a place.
+pub(crate) fn inserted<T: Copy>(
+    tree: Tree<T>,
+    room: &mut Option<Room<T>>,
+    place: usize,
+    item: T,
+) -> Tree<T>
+    requires ready { is_some room.old ≡ true }
+    requires within { place ≤ length tree.items }
+    requires fits { length tree.items + 1 < 2 ^ 64 }
+    ensures items { result.items ≡ insert tree.items place item }
+    ensures height { MayRise tree.height result.height }
+{
+    let Parts {
+        left,
+        mut chunk,
+        right,
+    } = match tree.open() {
+        Some(parts) => parts,
+        None => return leaf(room, item),
+    };
+    if place < left.len() {
+        let left = inserted(left, room, place, item);
+        return Parts { left, chunk, right }.balance();
+    }
+    let here = place - left.len();
+    let size = chunk.items.len();
+    if here <= size && size < chunk.items.capacity() {
+        put(&mut chunk.items, here, item);
+        return Parts { left, chunk, right }.join();
+    }
+    if here < size {
+        let mut upper = blank(room);
+        split(&mut chunk.items, &mut upper.items, here, item);
+        let right = with_first(right, upper);
+        return Parts { left, chunk, right }.balance();
+    }
+    let right = inserted(right, room, here - size, item);
+    Parts { left, chunk, right }.balance()
+}
+
+/// The chunk of a room that is there.
+fn blank<T: Copy>(room: &mut Option<Room<T>>) -> Box<Node<T>>
+    requires { is_some room.old ≡ true }
+    ensures empty { result.value.items.items ≡ [] }
+    ensures room { 0 < vec_capacity result.value.items }
+{
+    match room.take() {
+        Some(room) => room.chunk(),
+        None => unreachable!(),
+    }
+}
+
+/// A tree of one item.
+fn leaf<T: Copy>(room: &mut Option<Room<T>>, item: T) -> Tree<T>
+    requires { is_some room.old ≡ true }
+    ensures items { result.items ≡ item ∷ [] }
+    ensures height { result.height ≡ 1 }
+{
+    let mut chunk = blank(room);
+    put(&mut chunk.items, 0, item);
+    Parts {
+        left: Tree::new(),
+        chunk,
+        right: Tree::new(),
+    }
+    .join()
+}
+
+/// A tree with a chunk before all items.
+fn with_first<T: Copy>(tree: Tree<T>, first: Box<Node<T>>) -> Tree<T>
+    requires some { 0 < length first.value.items.items }
+    requires fits { length first.value.items.items + length tree.items < 2 ^ 64 }
+    ensures items { result.items ≡ first.value.items.items ++ tree.items }
+    ensures height { MayRise tree.height result.height }
+{
+    match tree.open() {
+        None => Parts {
+            left: Tree::new(),
+            chunk: first,
+            right: Tree::new(),
+        }
+        .join(),
+        Some(parts) => Parts {
+            left: with_first(parts.left, first),
+            chunk: parts.chunk,
+            right: parts.right,
+        }
+        .balance(),
+    }
+}
+
+/// A tree without the item at a place, and that item.
+pub(crate) fn removed<T: Copy>(tree: Tree<T>, place: usize) -> (Tree<T>, T)
+    requires { place < length tree.items }
+    ensures items { result.0.items ≡ remove tree.items place }
+    ensures item { slice_get tree.items place ≡ Some result.1 }
+    ensures height { MayRise result.0.height tree.height }
+{
+    let Parts {
+        left,
+        mut chunk,
+        right,
+    } = match tree.open() {
+        Some(parts) => parts,
+        None => unreachable!(),
+    };
+    if place < left.len() {
+        let (left, item) = removed(left, place);
+        return (Parts { left, chunk, right }.balance(), item);
+    }
+    let here = place - left.len();
+    let size = chunk.items.len();
+    if here < size {
+        let item = chunk.items.remove(here);
+        if size == 1 {
+            return (merged(left, right), item);
+        }
+        return (Parts { left, chunk, right }.join(), item);
+    }
+    let (right, item) = removed(right, here - size);
+    (Parts { left, chunk, right }.balance(), item)
+}
+
+/// A tree of the items of two.
+fn merged<T: Copy>(left: Tree<T>, right: Tree<T>) -> Tree<T>
+    requires fits { length left.items + length right.items < 2 ^ 64 }
+    requires balanced { DifferByAtMost 1 left.height right.height }
+    ensures items { result.items ≡ left.items ++ right.items }
+    ensures height { MayRise (max left.height right.height) result.height }
+{
+    match without_first(right) {
+        None => left,
+        Some(first) => Parts {
+            left,
+            chunk: first.chunk,
+            right: first.rest,
+        }
+        .balance(),
+    }
+}
+
+/// The first chunk of a tree, and the tree without it.
+fn without_first<T: Copy>(tree: Tree<T>) -> Option<First<T>>
+    ensures { IsFirst tree result }
+{
+    let parts = match tree.open() {
+        Some(parts) => parts,
+        None => return None,
+    };
+    match without_first(parts.left) {
+        None => Some(First {
+            chunk: parts.chunk,
+            rest: parts.right,
+        }),
+        Some(first) => {
+            let rest = Parts {
+                left: first.rest,
+                chunk: parts.chunk,
+                right: parts.right,
+            };
+            Some(First {
+                chunk: first.chunk,
+                rest: rest.balance(),
+            })
+        }
+    }
+}

@@ -1,0 +1,58 @@
+//! Parts of sequences.
+
+ghost use Rattle.std.specs.Prelude.{◌≡◌, ◌+◌, ◌-◌, ◌<◌, ◌≤◌, ◌^◌, List, length, Some};
+ghost use Rattle.std.specs.List.{slice_get};
+ghost use Rattle.directories.specs.sequences.Values.{HasPlaces};
+
+use crate::sequences::tree::Tree;
+use std::marker::Model;
+
+/// A part of a sequence, in which an item is found sooner than in the whole.
+#[derive(Drop)]
+pub struct Part<'a, T> {
+    tree: &'a Tree<T>,
+    /// The place in the sequence that it begins at.
+    first: usize,
+}
+
+impl<'a, T> Model for Part<'a, T> {
+    ghost use Rattle.std.specs.Prelude.{◌+◌, ◌<◌, ◌^◌, length};
+    ghost use Rattle.directories.specs.sequences.Values.{PartValue};
+
+    ghost Value = { PartValue T };
+
+    ghost view = { λ p. record { first = p.first; items = p.tree.now.items } };
+
+    ghost invariant = { λ p. p.first + length p.tree.now.items < 2 ^ 64 };
+}
+
+impl<'a, T: Copy> Part<'a, T> {
+    /// The part that has all.
+    pub(crate) fn whole(tree: &'a Tree<T>) -> Part<'a, T>
+        ensures { (all : List T)
+            → all ≡ tree.now.items
+            → HasPlaces all 0 (length all) result.first result.items }
+    {
+        let _len = tree.len();
+        Part { tree, first: 0 }
+    }
+
+    /// A part of this one that still has the items between two places.
+    pub fn narrowed(self, low: usize, high: usize) -> Part<'a, T>
+        ensures { (all : List T)
+            → HasPlaces all low high self.entry.first self.entry.items
+            → HasPlaces all low high result.first result.items }
+    {
+        let (tree, first) = self.tree.narrowed(self.first, low, high);
+        Part { tree, first }
+    }
+
+    /// The item at a place of the sequence that is in the part.
+    pub fn at(&self, place: usize) -> T
+        requires begins { self.now.first ≤ place }
+        requires ends { place < self.now.first + length self.now.items }
+        ensures { slice_get self.now.items (place - self.now.first) ≡ Some result }
+    {
+        self.tree.run_at(place - self.first)[0]
+    }
+}

@@ -1,0 +1,160 @@
+//! A sequence of items by place.
+
+ghost use Rattle.std.specs.Prelude.{
+  ◌≡◌,
+  ◌<◌,
+  ◌≤◌,
+  ◌^◌,
+  [],
+  ◌∷◌,
+  ◌++◌,
+  length,
+  take,
+  drop,
+  Some,
+  IfOk,
+  slice_set,
+};
+ghost use Rattle.std.specs.List.{slice_get, insert, remove};
+ghost use Rattle.directories.specs.sequences.Values.{HasPlaces};
+
+use crate::sequences::change::{inserted, removed};
+use crate::sequences::part::Part;
+use crate::sequences::room::Room;
+use crate::sequences::tree::Tree;
+use std::alloc::{AllocError, Global};
+use std::marker::Model;
+use std::mem;
+
+/// How many items the first chunk has room for.
+const LEAST: usize = 4;
+
+/// How many items a chunk has room for at most.
+const MOST: usize = 256;
+
+/// Items by place. An item is found, comes in or goes in time logarithmic in their number.
+pub struct Sequence<T> {
+    alloc: Global,
+    tree: Tree<T>,
+    /// Memory for the next chunk, if it is taken.
+    spare: Option<Room<T>>,
+}
+
+// By hand, so that crates above have no proof of the drop of each of its parts.
+impl<T: Drop> Drop for Sequence<T> {
+    fn drop(self) {
+        let Sequence {
+            alloc: _,
+            tree: _,
+            spare: _,
+        } = self;
+    }
+}
+
+impl<T> Model for Sequence<T> {
+    ghost use Rattle.std.specs.Prelude.{List};
+
+    ghost Value = { List T };
+
+    ghost view = { λ s. s.tree.items };
+}
+
+impl<T: Copy> Sequence<T> {
+    /// No item. It takes no memory.
+    pub fn new(alloc: Global) -> Sequence<T>
+        ensures { result ≡ [] }
+    {
+        Sequence {
+            alloc,
+            tree: Tree::new(),
+            spare: None,
+        }
+    }
+
+    /// The number of items.
+    pub fn len(&self) -> usize
+        ensures { result ≡ length self.now }
+    {
+        self.tree.len()
+    }
+
+    /// The item at a place.
+    pub fn at(&self, place: usize) -> T
+        requires { place < length self.now }
+        ensures { slice_get self.now place ≡ Some result }
+    {
+        self.tree.run_at(place)[0]
+    }
+
+    /// The part that has all items.
+    pub fn part(&self) -> Part<'_, T>
+        ensures { HasPlaces self.now 0 (length self.now) result.first result.items }
+    {
+        Part::whole(&self.tree)
+    }
+
+    /// The items that stand together in memory from a place on: some, and not always all.
+    pub fn run_at(&self, place: usize) -> &[T]
+        requires { place < length self.now }
+        ensures run { take (length result.now) (drop place self.now) ≡ result.now }
+        ensures some { 0 < length result.now }
+    {
+        self.tree.run_at(place)
+    }
+
+    /// Memory with which one more item comes in. There are fewer than 2^32 items, or else there is
+    /// no memory for one more.
+    pub fn room(&mut self) -> Result<Room<T>, AllocError>
+        ensures same { self.new ≡ self.old }
+        ensures fits { IfOk result (λ _. length self.new < 2 ^ 32) }
+    {
+        let size = self.tree.len();
+        if size >= 1 << 32 {
+            return Err(AllocError);
+        }
+        match self.spare.take() {
+            Some(room) => Ok(room),
+            None => Room::new(self.alloc, size.clamp(LEAST, MOST)),
+        }
+    }
+
+    /// Puts an item in at a place. It takes no memory but the room.
+    pub fn insert(&mut self, room: Room<T>, place: usize, item: T)
+        requires within { place ≤ length self.old }
+        requires fits { length self.old < 2 ^ 32 }
+        ensures { self.new ≡ insert self.old place item }
+    {
+        self.spare = Some(room);
+        let tree = mem::replace(&mut self.tree, Tree::new());
+        self.tree = inserted(tree, &mut self.spare, place, item);
+    }
+
+    /// Puts an item in behind all others. It takes no memory but the room.
+    pub fn push(&mut self, room: Room<T>, item: T)
+        requires { length self.old < 2 ^ 32 }
+        ensures { self.new ≡ self.old ++ item ∷ [] }
+    {
+        let place = self.len();
+        self.insert(room, place, item);
+    }
+
+    /// Puts an item into the place of another.
+    pub fn set(&mut self, place: usize, item: T)
+        requires { place < length self.old }
+        ensures { self.new ≡ slice_set self.old place item }
+    {
+        self.tree.set(place, item);
+    }
+
+    /// Takes out the item at a place. It takes no memory.
+    pub fn remove(&mut self, place: usize) -> T
+        requires { place < length self.old }
+        ensures item { slice_get self.old place ≡ Some result }
+        ensures left { self.new ≡ remove self.old place }
+    {
+        let tree = mem::replace(&mut self.tree, Tree::new());
+        let (tree, item) = removed(tree, place);
+        self.tree = tree;
+        item
+    }
+}

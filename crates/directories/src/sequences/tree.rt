@@ -1,0 +1,256 @@
+//! A balanced tree of chunks of items.
+
+ghost use Rattle.std.specs.Prelude.{
+  ◌≡◌,
+  ◌+◌,
+  ◌<◌,
+  ◌≤◌,
+  ◌^◌,
+  max,
+  List,
+  length,
+  take,
+  drop,
+  slice_set,
+};
+ghost use Rattle.directories.specs.sequences.Values.{no_items, DifferByAtMost, HasPlaces};
+
+use std::marker::Model;
+use std::mem;
+
+/// Items in the order of their places, in chunks.
+#[cycle(tree)]
+#[derive(Drop)]
+pub(crate) struct Tree<T> {
+    root: Root<T>,
+}
+
+#[cycle(tree)]
+#[derive(Drop)]
+enum Root<T> {
+    Empty,
+    Fork(Box<Node<T>>),
+}
+
+/// A chunk of items with what stands on its two sides.
+#[cycle(tree)]
+#[derive(Drop)]
+pub(crate) struct Node<T> {
+    left: Tree<T>,
+    pub(crate) items: Vec<T>,
+    right: Tree<T>,
+    /// The number of items on the left.
+    before: usize,
+    /// The number of all items.
+    count: usize,
+    height: usize,
+}
+
+impl<T> Model for Tree<T> {
+    ghost use Rattle.directories.specs.sequences.Values.{TreeValue};
+
+    ghost Value = { TreeValue T };
+
+    ghost use Rattle.directories.specs.sequences.Trees.{tree_of, IsTree};
+
+    ghost view = { λ t. tree_of t.root };
+
+    ghost invariant = { λ t. IsTree t.root };
+
+    ghost size = { λ v. v.height };
+
+    ghost use Rattle.directories.specs.sequences.Falls.{sides_lower};
+
+    ghost size_decreases = { λ t h. sides_lower t.root h };
+}
+
+/// A tree in its parts. The chunk's own node has nothing on its sides.
+#[derive(Drop)]
+pub(crate) struct Parts<T> {
+    pub(crate) left: Tree<T>,
+    pub(crate) chunk: Box<Node<T>>,
+    pub(crate) right: Tree<T>,
+}
+
+/// The first chunk of a tree, and what is left.
+#[derive(Drop)]
+pub(crate) struct First<T> {
+    pub(crate) chunk: Box<Node<T>>,
+    pub(crate) rest: Tree<T>,
+}
+
+impl<T: Copy> Node<T> {
+    /// A chunk alone.
+    pub(crate) fn new(items: Vec<T>) -> Node<T>
+        ensures { result.items ≡ items }
+    {
+        Node {
+            left: Tree::new(),
+            items,
+            right: Tree::new(),
+            before: 0,
+            count: 0,
+            height: 0,
+        }
+    }
+}
+
+impl<T: Copy> Tree<T> {
+    ghost use Rattle.directories.specs.sequences.Opened.{IsOpened};
+
+    /// No item. It takes no memory.
+    pub(crate) fn new() -> Tree<T>
+        ensures { result ≡ no_items }
+    {
+        Tree { root: Root::Empty }
+    }
+
+    /// The number of items.
+    pub(crate) fn len(&self) -> usize
+        ensures { result ≡ length self.now.items }
+    {
+        match &self.root {
+            Root::Empty => 0,
+            Root::Fork(node) => node.count,
+        }
+    }
+
+    /// The number of levels.
+    pub(crate) fn height(&self) -> usize
+        ensures value { result ≡ self.now.height }
+        ensures low { result ≤ length self.now.items }
+    {
+        match &self.root {
+            Root::Empty => 0,
+            Root::Fork(node) => node.height,
+        }
+    }
+
+    /// The items that stand together in memory from a place on: some, and not always all.
+    pub(crate) fn run_at(&self, place: usize) -> &[T]
+        requires { place < length self.now.items }
+        ensures run { take (length result.now) (drop place self.now.items) ≡ result.now }
+        ensures some { 0 < length result.now }
+    {
+        match &self.root {
+            Root::Empty => unreachable!(),
+            Root::Fork(node) => {
+                let node: &Node<T> = node;
+                if place < node.before {
+                    return node.left.run_at(place);
+                }
+                let here = place - node.before;
+                if here < node.items.len() {
+                    return &node.items[here..];
+                }
+                node.right.run_at(here - node.items.len())
+            }
+        }
+    }
+
+    /// The lowest subtree that has the items between two places, and the place that it begins at,
+    /// where the tree begins at `first`.
+    pub(crate) fn narrowed(&self, first: usize, low: usize, high: usize) -> (&Tree<T>, usize)
+        requires { first + length self.now.items < 2 ^ 64 }
+        ensures inside { result.1 + length result.0.now.items ≤ first + length self.now.items }
+        ensures places { (all : List T)
+            → HasPlaces all low high first self.now.items
+            → HasPlaces all low high result.1 result.0.now.items }
+    {
+        match &self.root {
+            Root::Empty => (self, first),
+            Root::Fork(node) => {
+                let node: &Node<T> = node;
+                let start = first + node.before;
+                if high <= start {
+                    return node.left.narrowed(first, low, high);
+                }
+                let end = start + node.items.len();
+                if end <= low {
+                    return node.right.narrowed(end, low, high);
+                }
+                (self, first)
+            }
+        }
+    }
+
+    /// Puts an item into the place of another.
+    pub(crate) fn set(&mut self, place: usize, item: T)
+        requires { place < length self.old.items }
+        ensures items { self.new.items ≡ slice_set self.old.items place item }
+        ensures height { self.new.height ≡ self.old.height }
+    {
+        match &mut self.root {
+            Root::Empty => unreachable!(),
+            Root::Fork(node) => {
+                let node: &mut Node<T> = node;
+                if place < node.before {
+                    node.left.set(place, item);
+                    return;
+                }
+                let here = place - node.before;
+                let size = node.items.len();
+                if here < size {
+                    node.items[here] = item;
+                    return;
+                }
+                node.right.set(here - size, item);
+            }
+        }
+    }
+
+    /// The parts of a tree that has an item.
+    pub(crate) fn open(self) -> Option<Parts<T>>
+        ensures { IsOpened self result }
+    {
+        match self.root {
+            Root::Empty => None,
+            Root::Fork(chunk) => Some(Parts::of(chunk)),
+        }
+    }
+}
+
+impl<T: Copy> Parts<T> {
+    ghost use Rattle.directories.specs.sequences.Opened.{chunk_of, all_of};
+
+    /// A chunk, and what stood on its sides.
+    fn of(mut chunk: Box<Node<T>>) -> Parts<T>
+        ensures left { result.left ≡ chunk.value.left }
+        ensures items { result.chunk.value.items ≡ chunk.value.items }
+        ensures right { result.right ≡ chunk.value.right }
+        ensures counted { chunk.value.count < 2 ^ 64 }
+    {
+        fits(chunk.count);
+        let left = mem::replace(&mut chunk.left, Tree::new());
+        let right = mem::replace(&mut chunk.right, Tree::new());
+        Parts { left, chunk, right }
+    }
+
+    /// The tree of these parts, whose sides are as high as each other or one is a level higher.
+    pub(crate) fn join(self) -> Tree<T>
+        requires some { 0 < length (chunk_of self) }
+        requires fits { length (all_of self) < 2 ^ 64 }
+        requires balanced { DifferByAtMost 1 self.left.height self.right.height }
+        ensures items { result.items ≡ all_of self }
+        ensures height { result.height ≡ max self.left.height self.right.height + 1 }
+    {
+        let Parts {
+            left,
+            mut chunk,
+            right,
+        } = self;
+        chunk.before = left.len();
+        chunk.count = left.len() + chunk.items.len() + right.len();
+        chunk.height = left.height().max(right.height()) + 1;
+        chunk.left = left;
+        chunk.right = right;
+        Tree {
+            root: Root::Fork(chunk),
+        }
+    }
+}
+
+/// A number of items is one of 64 bits.
+fn fits(_count: usize)
+    ensures { _count < 2 ^ 64 }
+{}

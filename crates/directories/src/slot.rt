@@ -1,0 +1,90 @@
+//! Slots, in which entries stay where they are.
+
+ghost use Rattle.std.specs.Prelude.{
+  ◌≡◌,
+  ◌<◌,
+  length,
+  true,
+  None,
+  Some,
+  is_some,
+  IfOk,
+  OnErr,
+};
+ghost use Rattle.nfs_values.specs.Answer.{entry_of};
+ghost use Rattle.directories.specs.Slots.{in_slot, has_cookie, Becomes, PutInto};
+
+use nfs_values::{Cookie, DirectoryEntry};
+use std::alloc::AllocError;
+
+/// A place for an entry.
+#[derive(Drop)]
+pub enum Slot {
+    Filled(DirectoryEntry),
+    /// With the slot that is filled after this one. Nothing rests on it but that vacant slots are
+    /// filled again.
+    Vacant(u32),
+}
+
+/// The entry in a slot that has one.
+pub fn entry_in(slots: &[Slot], slot: u32) -> &DirectoryEntry
+    requires { is_some (in_slot slots.now slot) ≡ true }
+    ensures { in_slot slots.now slot ≡ Some (entry_of result.now) }
+{
+    match &slots[slot as usize] {
+        Slot::Filled(entry) => entry,
+        Slot::Vacant(_) => unreachable!(),
+    }
+}
+
+/// Whether the entry of a cookie is in a slot.
+pub fn holds(slots: &[Slot], slot: u32, cookie: Cookie) -> bool
+    ensures { result ≡ has_cookie (in_slot slots.now slot) cookie.0 }
+{
+    match slots.get(slot as usize) {
+        Some(Slot::Filled(entry)) => entry.cookie.0 == cookie.0,
+        Some(Slot::Vacant(_)) => false,
+        None => false,
+    }
+}
+
+/// Puts an entry into a vacant slot, the one with a number if it is vacant. The result is the slot,
+/// and the one that is filled after it. Where there is no memory for a slot nothing changes.
+pub fn put(
+    slots: &mut Vec<Slot>,
+    vacant: u32,
+    entry: DirectoryEntry,
+) -> Result<(u32, u32), AllocError>
+    ensures ok { IfOk result (λ r. PutInto r.0 (entry_of entry) slots.old.items slots.new.items) }
+    ensures err { OnErr result (slots.new.items ≡ slots.old.items) }
+{
+    if let Some(next) = after_vacant(slots, vacant) {
+        slots[vacant as usize] = Slot::Filled(entry);
+        return Ok((vacant, next));
+    }
+    let Ok(slot) = u32::try_from(slots.len()) else {
+        return Err(AllocError);
+    };
+    slots.push(Slot::Filled(entry))?;
+    Ok((slot, vacant))
+}
+
+/// The slot that is filled after one that is vacant.
+fn after_vacant(slots: &[Slot], slot: u32) -> Option<u32>
+    ensures within { is_some result ≡ true → slot < length slots.now }
+    ensures vacant { is_some result ≡ true → in_slot slots.now slot ≡ None }
+{
+    match slots.get(slot as usize) {
+        Some(Slot::Vacant(next)) => Some(*next),
+        Some(Slot::Filled(_)) => None,
+        None => None,
+    }
+}
+
+/// Vacates a slot, after which another is filled.
+pub fn vacate(slots: &mut Vec<Slot>, slot: u32, next: u32)
+    requires { slot < length slots.old.items }
+    ensures { Becomes slot None slots.old.items slots.new.items }
+{
+    slots[slot as usize] = Slot::Vacant(next);
+}

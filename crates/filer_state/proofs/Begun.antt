@@ -1,0 +1,52 @@
+-- The parts of a volume as a run begins, made step by step.
+use Rattle.std.proofs.Common.{◌≡◌, ℕ, cond, List, [], ◌∷◌, Some, sym, ap, ◌∙◌}
+use Rattle.std.proofs.Common.{Result, Ok, Err, IfOk}
+use Rattle.std.specs.Ordering.{nat_cmp, eq_by_cmp}
+use Rattle.std.specs.Cmp.{nat_cmp_total}
+use Rattle.std.specs.FinMap as maps
+use Rattle.std.specs.FinMap.{FinMap, insert, from_sorted, get-from_sorted, get-insert, get-empty, nat_cmp-IsAntisymmetric, same_map}
+use Rattle.std.specs.FinSet as sets
+use Rattle.std.specs.FinSet.{FinSet}
+use Rattle.nfs_model.specs.volume.Directories.{DirectoryValue, empty_directory}
+use Rattle.nfs_model.specs.volume.Inodes.{InodesValue, opening_inodes}
+use Rattle.nfs_model.specs.volume.Logical.{LogicalValue}
+use Rattle.nfs_model.specs.volume.Stripes.{StripeValue, OfFolder, empty_stripe, folder_card_set}
+use Rattle.filer_state.specs.state.Names.{root}
+use Rattle.filer_state.specs.state.Opening.{opening_logical, opening_stripe}
+
+-- what follows of a result where a call has succeeded
+pub if_ok : {T E : Type 0} {P Q : T → Type 0} → ((x : T) → P x → Q x) → (r : Result T E) → IfOk r P → IfOk r Q
+if_ok f (Ok x) p = f x p
+if_ok f (Err e) p = p
+
+-- a map of one key
+single-insert : {X : Type 0} (k : ℕ) (x : X) → insert (maps.empty {R = nat_cmp}) k x ≡ from_sorted ((k, x) ∷ [])
+single-insert {X} k x =
+    same_map nat_cmp_total nat_cmp-IsAntisymmetric _ _ (λ q. get-insert nat_cmp_total (maps.empty {X = X} {R = nat_cmp}) k x q
+    ∙ ap (cond (eq_by_cmp nat_cmp q k) (Some x)) (get-empty nat_cmp q) ∙ sym (get-from_sorted nat_cmp ((k, x) ∷ []) q tt))
+
+pub stripe-begun : (verifier : List ℕ) (stripes largest : ℕ) (made s : StripeValue) → made ≡ empty_stripe verifier stripes largest
+    → s ≡ folder_card_set root made → s ≡ opening_stripe verifier stripes largest
+stripe-begun verifier stripes largest made s is with_card =
+    with_card ∙ ap (folder_card_set root) is ∙ (λ j. record (empty_stripe verifier stripes largest) { cards = single-insert root OfFolder j })
+
+module _ (verifier : List ℕ) (stripes largest : ℕ) where
+  -- of these parts
+  abbrev pub logical_of : InodesValue → FinMap nat_cmp DirectoryValue → FinSet nat_cmp → FinSet nat_cmp → LogicalValue
+  logical_of inodes directories stock dead = record {
+    verifier = verifier;
+    stripes = stripes;
+    largest = largest;
+    inodes = inodes;
+    directories = directories;
+    stock = stock;
+    dead = dead;
+  }
+
+  pub logical-begun : (inodes : InodesValue) (none directories : FinMap nat_cmp DirectoryValue) (d : DirectoryValue) (stock dead : FinSet nat_cmp)
+      → inodes ≡ opening_inodes → none ≡ maps.empty → d ≡ empty_directory → directories ≡ insert none root d → stock ≡ sets.empty → dead ≡ sets.empty
+      → logical_of inodes directories stock dead ≡ opening_logical verifier stripes largest
+  logical-begun inodes none directories d stock dead inodes_are nothing empty with_root no_stock no_dead =
+      let directories_are : directories ≡ from_sorted ((root, empty_directory) ∷ []) =
+      with_root ∙ (λ j. insert (nothing j) root (empty j)) ∙ single-insert root empty_directory in
+      λ j. logical_of (inodes_are j) (directories_are j) (no_stock j) (no_dead j)

@@ -1,0 +1,5 @@
+mod DirectoryMaps
+mod Laid
+mod Begun
+mod Counted
+mod Places

@@ -1,0 +1,10 @@
+pub mod Logical
+pub mod DirectoryMap
+pub mod state
+pub mod laws
+pub mod attributes
+pub mod nodes
+pub mod names
+pub mod changes
+pub mod totals
+pub mod bytes

@@ -1,0 +1,78 @@
+-- SETATTR by what is under Logical (RFC 1813 section 3.3.2).
+use Rattle.std.specs.Prelude.{ℕ, Bool, false, length, Option, Some, None, is_some, if◌then◌else◌}
+use Rattle.std.specs.FinMap.{get}
+use Rattle.nfs_model.specs.Types.{Moment, SetAttributes, Status, NotSynchronous, Invalid, TooBig, SetattrDone}
+use Rattle.nfs_model.specs.Shown.{before_of}
+use Rattle.nfs_model.specs.Serial.Setattr.{is_stale_guard, has_bad_time, is_past, set_attributes}
+use Rattle.nfs_model.specs.volume.Inodes.{InodeKind, RegularFile, Folder, Inode}
+use Rattle.filer_state.specs.state.Tree.{file_touch}
+use Rattle.filer_state.specs.state.Lenses.{LogicalSet}
+use Rattle.filer_state.specs.state.Changes.{LogicalAnswer, attributes_now, shown_inode, inode_after, node_set}
+use Rattle.filer_state.specs.nodes.Sizing.{Sizing, all_freed, inode_sized, file_sized}
+use Rattle.filer_state.specs.changes.Named.{unless_fault, on_inode}
+
+-- ---- a node that is set
+
+-- an inode after a call, and what is under Logical after it
+pub record NodeSet : Type 0 where
+  pub inode : Inode
+  pub set : LogicalSet
+
+-- a file of a size, with attributes set from those that hold
+abbrev pub sizing_of : ℕ → SetAttributes → Moment → Inode → ℕ → LogicalSet → Sizing
+sizing_of fileid set moment inode size s = record {
+  fileid = fileid;
+  inode = inode;
+  attributes = set_attributes set moment (attributes_now (file_touch s.stripes fileid) inode.attributes inode.kind);
+  size = size;
+}
+
+-- without a size a node settles; with one, its file is cut or grown too
+abbrev pub node_sized : ℕ → SetAttributes → Moment → Inode → Option ℕ → LogicalSet → NodeSet
+node_sized fileid set moment inode None s = record {
+  inode = inode_after set moment (file_touch s.stripes fileid) inode;
+  set = node_set fileid (inode_after set moment (file_touch s.stripes fileid) inode) s;
+}
+node_sized fileid set moment inode (Some size) s = record {
+  inode = inode_sized (sizing_of fileid set moment inode size s) (length (all_freed fileid size s.stripes));
+  set = file_sized (sizing_of fileid set moment inode size s) s;
+}
+
+abbrev pub node_changed : ℕ → SetAttributes → Moment → Inode → LogicalSet → NodeSet
+node_changed fileid set moment inode s = node_sized fileid set moment inode set.size s
+
+-- ---- the procedure
+
+-- a size for a directory
+abbrev pub is_sized_folder : InodeKind → Option ℕ → Bool
+is_sized_folder (RegularFile size filled verifier) asked = false
+is_sized_folder (Folder parent subdirectories) asked = is_some asked
+
+-- the first check that fails, by the ctime that holds: the guard, the times, a directory's size, the largest size
+abbrev pub set_fault : ℕ → SetAttributes → Option Moment → Moment → InodeKind → Option Status
+set_fault largest set guard ctime kind =
+    if is_stale_guard guard ctime then Some NotSynchronous
+    else if has_bad_time set then Some Invalid
+    else if is_sized_folder kind set.size then Some Invalid
+    else if is_past set.size largest then Some TooBig
+    else None
+
+-- what fails of a node as it is
+abbrev pub node_fault : ℕ → SetAttributes → Option Moment → Inode → LogicalSet → Option Status
+node_fault fileid set guard inode s =
+    set_fault s.own.largest set guard (attributes_now (file_touch s.stripes fileid) inode.attributes inode.kind).ctime inode.kind
+
+-- the attributes before, and those after
+abbrev pub node_replaced : ℕ → ℕ → Inode → LogicalSet → NodeSet → LogicalAnswer
+node_replaced v fileid old s new = record {
+  answer = SetattrDone (record {
+    before = before_of (shown_inode v fileid old (file_touch s.stripes fileid));
+    after = shown_inode v fileid new.inode None;
+  });
+  set = new.set;
+}
+
+-- STALE, then the checks, then the change
+abbrev pub held_setattr : ℕ → ℕ → SetAttributes → Option Moment → Moment → LogicalSet → LogicalAnswer
+held_setattr v fileid set guard moment s = on_inode (get s.own.inodes.inodes fileid) s (λ inode.
+    unless_fault (node_fault fileid set guard inode s) s (node_replaced v fileid inode s (node_changed fileid set moment inode s)))

@@ -1,0 +1,119 @@
+-- CREATE and MKDIR by what is under Logical (RFC 1813 sections 3.3.8 and 3.3.9).
+use Rattle.std.specs.Prelude.{ℕ, nat_le, Bool, Option, Some, None, is_some, if◌then◌else◌}
+use Rattle.std.specs.FinMap.{len}
+use Rattle.nfs_model.specs.Types.{Moment, Credential, SetAttributes, CreateMode, Unchecked, Guarded, Exclusive, Status}
+use Rattle.nfs_model.specs.Types.{MadeDone, Exists, Invalid, TooBig, NoSpace}
+use Rattle.nfs_model.specs.Server.{handle_bytes, most_inodes}
+use Rattle.nfs_model.specs.Names.{is_dots}
+use Rattle.nfs_model.specs.Serial.Setattr.{has_bad_time, is_past, given}
+use Rattle.nfs_model.specs.Serial.Create.{new_attributes, is_verifier, asked_attributes, kept_verifier}
+use Rattle.nfs_model.specs.volume.Inodes.{InodeKind, RegularFile, Folder, Inode}
+use Rattle.filer_state.specs.state.Tree.{file_touch}
+use Rattle.filer_state.specs.state.Lenses.{LogicalSet}
+use Rattle.filer_state.specs.state.Changes.{LogicalAnswer, shown_inode}
+use Rattle.filer_state.specs.nodes.Making.{Making, directory_inode, node_made}
+use Rattle.filer_state.specs.changes.Named.{fails, unless_fault, HeldNaming, directory_change, HeldNode, node_under}
+use Rattle.filer_state.specs.changes.Attributes.{NodeSet, node_changed, node_fault}
+
+-- ---- a node made
+
+-- the new node under the name
+abbrev pub making_of : HeldNaming → Inode → Making
+making_of n made = record {
+  directory = n.fileid;
+  entries = n.entries;
+  inode = n.inode;
+  name = n.name;
+  made = made;
+  moment = n.moment;
+}
+
+-- a node made under the next fileid
+abbrev pub held_made : HeldNaming → Inode → LogicalAnswer
+held_made n made = record {
+  answer = MadeDone (handle_bytes n.volume n.set.own.inodes.next) (shown_inode n.volume n.set.own.inodes.next made None)
+      (directory_change n (directory_inode (making_of n made)));
+  set = node_made (making_of n made) n.set;
+}
+
+-- no inode is left
+abbrev pub is_full_set : LogicalSet → Bool
+is_full_set s = nat_le most_inodes (len s.own.inodes.inodes)
+
+-- ---- CREATE
+
+-- the first check that fails: the times, the largest size, inodes
+abbrev pub create_check : SetAttributes → LogicalSet → Option Status
+create_check set s =
+    if has_bad_time set then Some Invalid
+    else if is_past set.size s.own.largest then Some TooBig
+    else if is_full_set s then Some NoSpace
+    else None
+
+-- the file to be made: mode 0644 (octal) if none is given; its size is a hole
+abbrev pub file_inode : CreateMode → Credential → Moment → Inode
+file_inode mode credential moment = record {
+  attributes = new_attributes (asked_attributes mode) 420 credential moment;
+  kind = RegularFile (given (asked_attributes mode).size 0) 0 (kept_verifier mode);
+}
+
+-- a node that is there, as it is; the directory doesn't change
+abbrev pub there_shown : HeldNaming → HeldNode → LogicalAnswer
+there_shown n child = record {
+  answer = MadeDone (handle_bytes n.volume child.fileid)
+      (shown_inode n.volume child.fileid child.inode (file_touch n.set.stripes child.fileid)) (directory_change n n.inode);
+  set = n.set;
+}
+
+-- a file that is there, as it is set
+abbrev pub there_set : HeldNaming → ℕ → NodeSet → LogicalAnswer
+there_set n fileid new = record {
+  answer = MadeDone (handle_bytes n.volume fileid) (shown_inode n.volume fileid new.inode None) (directory_change n n.inode);
+  set = new.set;
+}
+
+-- the name is there: GUARDED is EXIST; EXCLUSIVE answers a file of the same verifier; UNCHECKED sets a file
+abbrev pub create_upon : HeldNaming → CreateMode → HeldNode → InodeKind → LogicalAnswer
+create_upon n (Guarded set) child kind = fails Exists n.set
+create_upon n (Unchecked set) child (Folder parent subdirectories) = fails Exists n.set
+create_upon n (Exclusive verifier) child (Folder parent subdirectories) = fails Exists n.set
+create_upon n (Exclusive verifier) child (RegularFile size filled kept) =
+    if is_verifier kept verifier then there_shown n child else fails Exists n.set
+create_upon n (Unchecked set) child (RegularFile size filled kept) =
+    unless_fault (node_fault child.fileid set None child.inode n.set) n.set
+    (there_set n child.fileid (node_changed child.fileid set n.moment child.inode n.set))
+
+-- by whether the name is there
+abbrev pub create_by : HeldNaming → CreateMode → Credential → Option HeldNode → LogicalAnswer
+create_by n mode credential (Some child) = create_upon n mode child child.inode.kind
+create_by n mode credential None =
+    unless_fault (create_check (asked_attributes mode) n.set) n.set (held_made n (file_inode mode credential n.moment))
+
+-- on a good name: EXIST for `.` and `..`
+abbrev pub held_create : CreateMode → Credential → HeldNaming → LogicalAnswer
+held_create mode credential n = if is_dots n.name then fails Exists n.set else create_by n mode credential (node_under n)
+
+-- ---- MKDIR
+
+-- the first check that fails: the times, a size, inodes
+abbrev pub mkdir_check : SetAttributes → LogicalSet → Option Status
+mkdir_check set s =
+    if has_bad_time set then Some Invalid
+    else if is_some set.size then Some Invalid
+    else if is_full_set s then Some NoSpace
+    else None
+
+-- the directory to be made: mode 0755 (octal) if none is given
+abbrev pub folder_inode : ℕ → SetAttributes → Credential → Moment → Inode
+folder_inode parent set credential moment =
+    record { attributes = new_attributes set 493 credential moment; kind = Folder parent 0 }
+
+-- by whether the name is there
+abbrev pub mkdir_by : HeldNaming → SetAttributes → Credential → Option HeldNode → LogicalAnswer
+mkdir_by n set credential (Some child) = fails Exists n.set
+mkdir_by n set credential None =
+    unless_fault (mkdir_check set n.set) n.set (held_made n (folder_inode n.fileid set credential n.moment))
+
+-- on a good name: EXIST for `.` and `..`
+abbrev pub held_mkdir : SetAttributes → Credential → HeldNaming → LogicalAnswer
+held_mkdir set credential n = if is_dots n.name then fails Exists n.set else mkdir_by n set credential (node_under n)

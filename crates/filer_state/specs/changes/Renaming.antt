@@ -1,0 +1,174 @@
+-- RENAME by what is under Logical (RFC 1813 section 3.3.14).
+use Rattle.std.specs.Prelude.{ℕ, zero, suc, Bool, true, false, not, ◌&&◌, ◌||◌, ◌==◌, List, Option, Some, None, if◌then◌else◌}
+use Rattle.std.specs.FinMap.{get, len}
+use Rattle.nfs_model.specs.Types.{Moment, Status, Failed, RenameDone, Stale, NotDirectory, NoEntry, Invalid, Exists}
+use Rattle.nfs_model.specs.Names.{same_name, is_dots, name_fault}
+use Rattle.nfs_model.specs.Serial.Rename.{on_parent, is_empty_list}
+use Rattle.nfs_model.specs.volume.Inodes.{InodeKind, RegularFile, Folder, Inode}
+use Rattle.filer_state.specs.state.Tree.{file_touch}
+use Rattle.filer_state.specs.state.Names.{InodeMap, parent_directory}
+use Rattle.filer_state.specs.state.Lenses.{LogicalSet}
+use Rattle.filer_state.specs.state.Changes.{LogicalAnswer}
+use Rattle.filer_state.specs.nodes.Dropping.{node_dropped}
+use Rattle.filer_state.specs.nodes.Sizing.{file_sized}
+use Rattle.filer_state.specs.nodes.Moving.{Naming, entry_taken, node_hung_up}
+use Rattle.filer_state.specs.names.Answers.{entries_of}
+use Rattle.filer_state.specs.changes.Named.{HeldNaming, directory_change, HeldNode, node_under}
+use Rattle.filer_state.specs.changes.Dropping.{dropping_of, emptying_of, child_emptied}
+
+-- ---- failures
+
+-- a failure changes nothing; it has four absent parts, the attributes of two directories before and after
+abbrev pub fails_both : Status → LogicalSet → LogicalAnswer
+fails_both status s = record { answer = Failed status 4; set = s }
+
+-- the first failure, or what follows
+abbrev pub unless_both : Option Status → LogicalSet → LogicalAnswer → LogicalAnswer
+unless_both None s done = done
+unless_both (Some status) s done = fails_both status s
+
+-- ---- two names
+
+-- two names, of one set and at one moment; their directories may be one
+pub record HeldRenaming : Type 0 where
+  pub from : HeldNaming
+  pub to : HeldNaming
+
+-- both names are of one entry
+abbrev pub is_one_entry : HeldRenaming → Bool
+is_one_entry r = (r.from.fileid == r.to.fileid) && same_name r.from.name r.to.name
+
+-- ---- a directory below itself
+
+-- the parent of a directory, if it isn't its own; a file has none
+abbrev pub above : ℕ → Option ℕ → Option ℕ
+above fileid None = None
+above fileid (Some parent) = if parent == fileid then None else Some parent
+
+-- whether at most so many steps from a directory to its parent lead to a target
+abbrev pub climbs : ℕ → InodeMap → ℕ → ℕ → Bool
+climbs zero inodes target fileid = fileid == target
+climbs (suc n) inodes target fileid =
+    (fileid == target) || on_parent (above fileid (parent_directory (get inodes fileid))) (climbs n inodes target)
+
+-- a directory would come into itself or below itself; as many steps as there are inodes lead to the root
+abbrev pub goes_below : HeldRenaming → ℕ → InodeKind → Bool
+goes_below r fileid (RegularFile size filled verifier) = false
+goes_below r fileid (Folder parent subdirectories) =
+    climbs (len r.from.set.own.inodes.inodes) r.from.set.own.inodes.inodes fileid r.to.fileid
+
+-- ---- the target
+
+-- a node may take another's place: both are files, or both are directories and the other is empty
+abbrev pub may_replace : LogicalSet → InodeKind → ℕ → InodeKind → Bool
+may_replace s (RegularFile size filled verifier) target (RegularFile size' filled' verifier') = true
+may_replace s (RegularFile size filled verifier) target (Folder parent subdirectories) = false
+may_replace s (Folder parent subdirectories) target (RegularFile size filled verifier) = false
+may_replace s (Folder parent subdirectories) target (Folder parent' subdirectories') = is_empty_list (entries_of s.own target).list
+
+-- the target may go, if there is one
+abbrev pub target_may_go : LogicalSet → HeldNode → Option HeldNode → Bool
+target_may_go s moved None = true
+target_may_go s moved (Some target) = may_replace s moved.inode.kind target.fileid target.inode.kind
+
+-- a file goes as by REMOVE, a directory as by RMDIR
+abbrev pub target_dropped : HeldNaming → HeldNode → InodeKind → LogicalSet
+target_dropped to target (RegularFile size filled verifier) =
+    node_dropped (dropping_of to (child_emptied target to.set)) (file_sized (emptying_of target) to.set)
+target_dropped to target (Folder parent subdirectories) = node_dropped (dropping_of to target) to.set
+
+-- the set without the target, if there is one
+abbrev pub target_gone : HeldNaming → Option HeldNode → LogicalSet
+target_gone to None = to.set
+target_gone to (Some target) = target_dropped to target target.inode.kind
+
+-- ---- the steps
+
+-- an inode, or the one before
+abbrev pub inode_or : Option Inode → Inode → Inode
+inode_or None before = before
+inode_or (Some inode) before = inode
+
+-- the inode of a name's directory, in a set after some steps
+abbrev pub directory_now : HeldNaming → LogicalSet → Inode
+directory_now n s = inode_or (get s.own.inodes.inodes n.fileid) n.inode
+
+-- a name of its directory in such a set, for the node that moves
+abbrev pub moving_of : HeldNaming → HeldNode → LogicalSet → Naming
+moving_of n child s = record {
+  directory = n.fileid;
+  entries = entries_of s.own n.fileid;
+  inode = directory_now n s;
+  name = n.name;
+  fileid = child.fileid;
+  node = child.inode;
+  moment = n.moment;
+}
+
+-- the set after the node's entry is taken
+abbrev pub child_taken : HeldNaming → HeldNode → LogicalSet → LogicalSet
+child_taken from child s = entry_taken (moving_of from child s) s
+
+-- the set after the node is hung up
+abbrev pub child_hung : HeldNaming → HeldNode → LogicalSet → LogicalSet
+child_hung to child s = node_hung_up (moving_of to child s) (file_touch s.stripes child.fileid) s
+
+-- one step after another
+abbrev pub set_renamed : HeldRenaming → HeldNode → Option HeldNode → LogicalSet
+set_renamed r child target = child_hung r.to child (child_taken r.from child (target_gone r.to target))
+
+-- ---- the procedure
+
+-- the attributes of both directories before and after, where this is what is left
+abbrev pub held_renamed : HeldRenaming → LogicalSet → LogicalAnswer
+held_renamed r s = record {
+  answer = RenameDone (directory_change r.from (directory_now r.from s)) (directory_change r.to (directory_now r.to s));
+  set = s;
+}
+
+-- NOENT; the same entry is OK, and nothing changes; INVAL for a directory below itself; EXIST for a target that may not go
+abbrev pub rename_by : HeldRenaming → Option HeldNode → Option HeldNode → LogicalAnswer
+rename_by r None target = fails_both NoEntry r.from.set
+rename_by r (Some child) target =
+    if is_one_entry r then held_renamed r r.from.set
+    else if goes_below r child.fileid child.inode.kind then fails_both Invalid r.from.set
+    else if not (target_may_go r.from.set child target) then fails_both Exists r.from.set
+    else held_renamed r (set_renamed r child target)
+
+-- what is wrong with the names, from's first; INVAL for `.` and `..` in either
+abbrev pub held_rename : HeldRenaming → LogicalAnswer
+held_rename r =
+    unless_both (name_fault r.from.name) r.from.set
+    (unless_both (name_fault r.to.name) r.from.set
+    (if is_dots r.from.name || is_dots r.to.name then fails_both Invalid r.from.set
+    else rename_by r (node_under r.from) (node_under r.to)))
+
+-- NOTDIR for a file
+abbrev pub if_folder : InodeKind → LogicalSet → LogicalAnswer → LogicalAnswer
+if_folder (RegularFile size filled verifier) s done = fails_both NotDirectory s
+if_folder (Folder parent subdirectories) s done = done
+
+-- STALE where there is no node, NOTDIR for a file
+abbrev pub on_folder : Option Inode → LogicalSet → (Inode → LogicalAnswer) → LogicalAnswer
+on_folder None s run = fails_both Stale s
+on_folder (Some inode) s run = if_folder inode.kind s (run inode)
+
+-- a name in the directory of a fileid
+abbrev pub name_in : ℕ → ℕ → List ℕ → Moment → LogicalSet → Inode → HeldNaming
+name_in v fileid name moment s inode = record {
+  volume = v;
+  set = s;
+  fileid = fileid;
+  inode = inode;
+  entries = entries_of s.own fileid;
+  name = name;
+  moment = moment;
+}
+
+-- on the directories of two fileids, from's checked first
+abbrev pub on_held_names : ℕ → ℕ → List ℕ → ℕ → List ℕ → Moment → (HeldRenaming → LogicalAnswer) → LogicalSet → LogicalAnswer
+on_held_names v from_id from_name to_id to_name moment run s =
+    on_folder (get s.own.inodes.inodes from_id) s (λ from. on_folder (get s.own.inodes.inodes to_id) s (λ to. run (record {
+      from = name_in v from_id from_name moment s from;
+      to = name_in v to_id to_name moment s to;
+    })))

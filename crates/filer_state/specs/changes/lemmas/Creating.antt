@@ -1,0 +1,125 @@
+-- CREATE and MKDIR by what is under Logical, beside the serial server, where the name isn't there.
+use Rattle.std.proofs.Common.{◌≡◌, ℕ, ◌+◌, ◌<◌, ◌≤◌, Bool, true, false, List, Option, Some, None, refl, sym, ap, subst, nat_lt}
+use Rattle.std.specs.Prelude.{nat_le, is_some, if◌then◌else◌}
+use Rattle.std.proofs.lemmas.Bool.Decides.{nat_tests}
+use Rattle.std.proofs.Common.{arith}
+use Rattle.std.specs.Cmp.{nat_cmp_total}
+use Rattle.std.specs.FinMap.{len, nat_cmp-IsAntisymmetric}
+use Rattle.nfs_model.specs.Types.{Moment, Credential, SetAttributes, CreateMode, Status, Invalid, TooBig, NoSpace}
+use Rattle.nfs_model.specs.Server.{most_inodes}
+use Rattle.nfs_model.specs.Locate.{Effect, Fails, unless, Naming}
+use Rattle.nfs_model.specs.Serial.Setattr.{has_bad_time, is_past, given}
+use Rattle.nfs_model.specs.Serial.Create as creating
+use Rattle.nfs_model.specs.Serial.Create.{is_full, create_fault, new_file, asked_attributes, kept_verifier}
+use Rattle.nfs_model.specs.Serial.Mkdir.{mkdir_fault, new_directory}
+use Rattle.nfs_model.specs.Parts.{Hand}
+use Rattle.nfs_model.specs.volume.Directories.{found}
+use Rattle.nfs_model.specs.volume.Inodes.{Inode}
+use Rattle.filer_state.specs.state.Contents.{VolumeContents}
+use Rattle.filer_state.specs.state.Tree.{node_of, volume_of}
+use Rattle.filer_state.specs.state.Sound.{IsSound}
+use Rattle.filer_state.specs.state.Lenses.{logical_lens}
+use Rattle.filer_state.specs.state.Calls.{VolumeCall}
+use Rattle.filer_state.specs.state.Changes.{LogicalAnswer}
+use Rattle.filer_state.specs.laws.lemmas.Mapped.{len-map_values}
+use Rattle.filer_state.specs.names.Answers.{entries_of}
+use Rattle.filer_state.specs.nodes.Laws.{WeighAlike}
+use Rattle.filer_state.specs.changes.Named.{HeldNaming, fails, unless_fault}
+use Rattle.filer_state.specs.changes.Making.{held_made, is_full_set, create_check, file_inode, mkdir_check, folder_inode}
+use Rattle.filer_state.specs.changes.lemmas.Named.{RightAs, naming_held, naming_seen, IsDirectoryHere}
+use Rattle.filer_state.specs.changes.lemmas.Making.{SaysNothing, failure-right, made-right}
+
+-- ---- the checks
+
+-- where no check fails
+all-pass : (x y z : Status) (a b c : Bool) → (if a then Some x else if b then Some y else if c then Some z else None) ≡ None
+    → (b ≡ false) × (c ≡ false)
+all-pass x y z true b c e = absurd cc
+all-pass x y z false true c e = absurd cc
+all-pass x y z false false true e = absurd cc
+all-pass x y z false false false e = (refl, refl)
+
+module _ (p : VolumeContents) where
+  full-is : is_full (volume_of p) ≡ is_full_set (logical_lens.of p)
+  full-is = ap (nat_le most_inodes)
+      (len-map_values (node_of p.stripes p.logical.directories) nat_cmp_total nat_cmp-IsAntisymmetric p.logical.inodes.inodes)
+
+  create-fault : (set : SetAttributes) → create_fault (volume_of p) set ≡ create_check set (logical_lens.of p)
+  create-fault set = ap (λ (full : Bool). if has_bad_time set then Some Invalid else if is_past set.size p.logical.largest then Some TooBig
+      else if full then Some NoSpace else None) full-is
+
+  mkdir-fault : (set : SetAttributes) → mkdir_fault (volume_of p) set ≡ mkdir_check set (logical_lens.of p)
+  mkdir-fault set = ap (λ (full : Bool). if has_bad_time set then Some Invalid else if is_some set.size then Some Invalid
+      else if full then Some NoSpace else None) full-is
+
+  few-left : is_full_set (logical_lens.of p) ≡ false → len p.logical.inodes.inodes < most_inodes
+  few-left h = grind (arith, nat_tests)
+
+small-size : (largest : ℕ) (o : Option ℕ) → is_past o largest ≡ false → given o 0 ≤ largest
+small-size largest None h = omega arith
+small-size largest (Some n) h = fits h
+  where
+    fits : nat_lt largest n ≡ false → n ≤ largest
+    fits e = grind (arith, nat_tests)
+
+-- ---- the node
+
+module _ (p : VolumeContents) (hands hands' : List Hand) (made : ℕ) (sound : IsSound p hands made) (weigh : WeighAlike p.number hands hands')
+    (c : VolumeCall) (says : SaysNothing c)
+    (fileid : ℕ) (name : List ℕ) (moment : Moment) (inode : Inode) (parent subs : ℕ)
+    (here : IsDirectoryHere p fileid name moment inode parent subs) (absent : found (entries_of p.logical fileid) name ≡ None) where
+  abbrev h : HeldNaming
+  h = naming_held p fileid name moment inode
+
+  abbrev n : Naming
+  n = naming_seen p fileid name moment inode parent
+
+  abbrev Right : LogicalAnswer → Effect → Type 0
+  Right done effect = RightAs c p hands' (made + 1) done effect
+
+  failure : (status : Status) → Right (fails status (logical_lens.of p)) (Fails status)
+  failure status = failure-right p hands hands' made sound weigh c says status
+
+  checked : (done : LogicalAnswer) (effect : Effect) (o : Option Status) → (o ≡ None → Right done effect)
+      → Right (unless_fault o (logical_lens.of p) done) (unless o effect)
+  checked done effect None right = right refl
+  checked done effect (Some status) right = failure status
+
+  -- a new file
+  pub file-right : (mode : CreateMode) (credential : Credential)
+      → Right (unless_fault (create_check (asked_attributes mode) (logical_lens.of p)) (logical_lens.of p) (held_made h (file_inode mode credential moment)))
+      (unless (create_fault (volume_of p) (asked_attributes mode)) (creating.made n (new_file mode credential moment)))
+  file-right mode credential =
+      subst (λ (o : Option Status). Right (unless_fault (create_check set (logical_lens.of p)) (logical_lens.of p) done) (unless o effect))
+      (sym (create-fault p set))
+      (checked done effect (create_check set (logical_lens.of p)) (λ passes.
+      let pass = all-pass Invalid TooBig NoSpace (has_bad_time set) (is_past set.size p.logical.largest) (is_full_set (logical_lens.of p)) passes in
+      made-right p hands hands' made sound weigh c says fileid name moment inode parent subs here absent (few-left p pass.1)
+      (file_inode mode credential moment) (refl, small-size p.logical.largest set.size pass.0)))
+    where
+      set : SetAttributes
+      set = asked_attributes mode
+
+      done : LogicalAnswer
+      done = held_made h (file_inode mode credential moment)
+
+      effect : Effect
+      effect = creating.made n (new_file mode credential moment)
+
+  -- a new directory
+  pub folder-right : (set : SetAttributes) (credential : Credential)
+      → Right (unless_fault (mkdir_check set (logical_lens.of p)) (logical_lens.of p) (held_made h (folder_inode fileid set credential moment)))
+      (unless (mkdir_fault (volume_of p) set) (creating.made n (new_directory fileid set credential moment)))
+  folder-right set credential =
+      subst (λ (o : Option Status). Right (unless_fault (mkdir_check set (logical_lens.of p)) (logical_lens.of p) done) (unless o effect))
+      (sym (mkdir-fault p set))
+      (checked done effect (mkdir_check set (logical_lens.of p)) (λ passes.
+      let pass = all-pass Invalid Invalid NoSpace (has_bad_time set) (is_some set.size) (is_full_set (logical_lens.of p)) passes in
+      made-right p hands hands' made sound weigh c says fileid name moment inode parent subs here absent (few-left p pass.1)
+      (folder_inode fileid set credential moment) (refl, refl)))
+    where
+      done : LogicalAnswer
+      done = held_made h (folder_inode fileid set credential moment)
+
+      effect : Effect
+      effect = creating.made n (new_directory fileid set credential moment)

@@ -1,0 +1,259 @@
+-- RENAME by what is under Logical.
+use Rattle.std.proofs.Common.{◌≡◌, ℕ, ◌+◌, ◌-◌, ◌==◌, ◌&&◌, ◌||◌, not, Bool, true, false, List, Option, Some, None, refl, sym, ap, ◌∙◌, subst}
+use Rattle.std.proofs.Common.{eq-eqb}
+use Rattle.std.specs.Prelude.{IsTrue, length, if◌then◌else◌, slice_get, is_some}
+use Rattle.std.specs.FinMap.{get}
+use Rattle.nfs_model.specs.Types.{Moment, Status, Wcc, Answer, Rename, RenameDone, Invalid, Exists}
+use Rattle.nfs_model.specs.Tree.{Affinity}
+use Rattle.nfs_model.specs.Names.{same_name, is_dots, name_fault}
+use Rattle.nfs_model.specs.Server.{VolumeState, Server, Named, handle_of, named_read, used}
+use Rattle.nfs_model.specs.Shown.{before_of}
+use Rattle.nfs_model.specs.Parts.{Hand}
+use Rattle.nfs_model.specs.Moves.{Emptied}
+use Rattle.nfs_model.specs.Locate.{Effect, Fails, unless, Found, named_child, Located, located_in, located_by, locate}
+use Rattle.nfs_model.specs.Serial.Rename as renames
+use Rattle.nfs_model.specs.Serial.Rename.{Renaming, may_go, goes_below_itself, with_moved, with_entry, without_entry, without_target, renamed_volume}
+use Rattle.nfs_model.specs.Serial.Rename.{rename_told, same_told, is_same_entry, rename_at, rename_in}
+use Rattle.nfs_model.specs.Serial.Starve.{takes_memory}
+use Rattle.nfs_model.specs.volume.Inodes.{Folder, Inode}
+use Rattle.nfs_model.specs.volume.Directories.{found}
+use Rattle.nfs_model.specs.volume.lemmas.Directories.{same-is}
+use Rattle.filer_state.specs.state.Contents.{VolumeContents}
+use Rattle.filer_state.specs.state.Tree.{node_of, volume_of}
+use Rattle.filer_state.specs.state.Names.{parent_in, parent_directory, is_folder, directory_above}
+use Rattle.filer_state.specs.state.WellFormed.{WellFormed}
+use Rattle.filer_state.specs.state.Partition.{parts_of}
+use Rattle.filer_state.specs.state.Sound.{IsSound}
+use Rattle.filer_state.specs.state.Lenses.{LogicalSet, logical_lens}
+use Rattle.filer_state.specs.state.Calls.{VolumeCall}
+use Rattle.filer_state.specs.state.Changes.{LogicalAnswer}
+use Rattle.filer_state.specs.laws.lemmas.Steps.{sound-later}
+use Rattle.filer_state.specs.names.Answers.{entries_of}
+use Rattle.filer_state.specs.nodes.Laws.{WeighAlike}
+use Rattle.filer_state.specs.changes.Named.{HeldNode, node_under}
+use Rattle.filer_state.specs.changes.Renaming.{HeldRenaming, fails_both, unless_both, is_one_entry, goes_below, target_may_go, child_taken, child_hung}
+use Rattle.filer_state.specs.changes.Renaming.{target_gone, set_renamed, held_renamed, rename_by, held_rename}
+use Rattle.filer_state.specs.changes.Laws.{IsDone, MayStarve, rename_call, rename_done}
+use Rattle.filer_state.specs.changes.lemmas.Named.{RightFor, done-right-for, naming_held, naming_seen, IsDirectoryHere, entered-here, before-shown}
+use Rattle.filer_state.specs.changes.lemmas.Named.{IsChildHere, found_seen, child-right}
+use Rattle.filer_state.specs.changes.lemmas.Setattr.{unchanged}
+use Rattle.filer_state.specs.changes.lemmas.Makes.{may-starve}
+use Rattle.filer_state.specs.changes.lemmas.Hanging.{q_hung, sound-hung, from-some, to-some, volume-hung, parts-hung, used-hung}
+use Rattle.filer_state.specs.changes.lemmas.Replacing.{IsFree, free-by}
+use Rattle.filer_state.specs.changes.lemmas.Told.{folder-right, directory-told, below-seen, may-go-seen, clear-of}
+
+module _ (from to : List ℕ) (node : Affinity) (from_id : ℕ) (from_name : List ℕ) (to_id : ℕ) (to_name : List ℕ) (moment : Moment) where
+  abbrev call : VolumeCall
+  call = rename_call from to node from_id from_name to_id to_name moment
+
+  module _ (p : VolumeContents) (hands hands' : List Hand) (made : ℕ) (sound : IsSound p hands made) (weigh : WeighAlike p.number hands hands') where
+    abbrev Right : LogicalAnswer → Effect → Type 0
+    Right done effect = RightFor 4 call p hands' (made + 1) done effect
+
+    failure : (status : Status) → Right (fails_both status (logical_lens.of p)) (Fails status)
+    failure status = (refl, refl, unchanged p, sound-later p hands hands' made weigh sound)
+
+    checked : (o : Option Status) (done : LogicalAnswer) (effect : Effect) → Right done effect
+        → Right (unless_both o (logical_lens.of p) done) (unless o effect)
+    checked None done effect right = right
+    checked (Some status) done effect right = failure status
+
+    -- both directories are there
+    module _ (fi : Inode) (fp fs : ℕ) (here_from : IsDirectoryHere p from_id from_name moment fi fp fs)
+        (ti : Inode) (tp ts : ℕ) (here_to : IsDirectoryHere p to_id to_name moment ti tp ts) where
+      abbrev h : HeldRenaming
+      h = record { from = naming_held p from_id from_name moment fi; to = naming_held p to_id to_name moment ti }
+
+      abbrev r : Renaming
+      r = record { from = naming_seen p from_id from_name moment fi fp; to = naming_seen p to_id to_name moment ti tp }
+
+      -- what is told of them, where this is left
+      told : (set : LogicalSet) (new : VolumeState) → WellFormed (logical_lens.put set p) → volume_of (logical_lens.put set p) ≡ new
+          → is_some (get set.own.directories from_id) ≡ true → is_some (get set.own.directories to_id) ≡ true
+          → (held_renamed h set).answer ≡ RenameDone (renames.directory_change r.from new) (renames.directory_change r.to new)
+      told set new well is from_some to_some =
+          let f0 = ap before_of (sym (before-shown p from_id from_name moment sound.well_formed fi fp fs here_from)) in
+          let t0 = ap before_of (sym (before-shown p to_id to_name moment sound.well_formed ti tp ts here_to)) in
+          let f1 = sym (directory-told (logical_lens.put set p) well h.from new r.from.directory is from_some) in
+          let t1 = sym (directory-told (logical_lens.put set p) well h.to new r.to.directory is to_some) in
+          λ j. RenameDone (record { before = f0 j; after = f1 j }) (record { before = t0 j; after = t1 j })
+
+      -- the same entry
+      same-right : Right (held_renamed h (logical_lens.of p)) (same_told r)
+      same-right = (
+        told (logical_lens.of p) (volume_of p) sound.well_formed refl (ap (λ o. is_some o) here_from.entered) (ap (λ o. is_some o) here_to.entered),
+        refl,
+        unchanged p,
+        sound-later p hands hands' made weigh sound,
+      )
+
+      module _ (child : HeldNode) (under : IsChildHere p from_id from_name child) where
+        -- a node that may move, once its target is gone
+        moved-right : (set : LogicalSet) (target : Option Found)
+            → IsFree p (logical_lens.put set p) h.from h.to child fp tp r.to target hands made
+            → Right (held_renamed h (child_hung h.to child (child_taken h.from child set))) (rename_told r (renamed_volume r child.fileid target))
+        moved-right set target free =
+            let q : VolumeContents = logical_lens.put set p in
+            let after : VolumeContents = q_hung q h.from h.to child fp tp free.may hands made free.sound in
+            let good = sound-hung q h.from h.to child fp tp free.may hands made free.sound hands' weigh in
+            let seen = volume-hung q h.from h.to child fp tp free.may hands made free.sound r.from.volume r.to.volume r.from.directory r.to.directory
+            ∙ ap (λ (v : VolumeState). record v {
+              nodes = with_moved r.to child.fileid (with_entry r.to child.fileid (without_entry r.from v.nodes));
+            }) free.volume in
+            let emptied : Emptied (used (volume_of p) - used (volume_of after)) (parts_of p) (parts_of after) =
+            subst (λ (n : ℕ). Emptied (used (volume_of p) - n) (parts_of p) (parts_of after))
+            (sym (used-hung q h.from h.to child fp tp free.may hands made free.sound))
+            (subst (Emptied (used (volume_of p) - used (volume_of q)) (parts_of p))
+            (sym (parts-hung q h.from h.to child fp tp free.may hands made free.sound)) free.emptied) in (
+              told (child_hung h.to child (child_taken h.from child set)) (renamed_volume r child.fileid target) good.well_formed seen
+                  (from-some q h.from h.to child fp tp free.may hands made free.sound) (to-some q h.from h.to child fp tp free.may hands made free.sound),
+              seen,
+              emptied,
+              good,
+            )
+
+        to-folder : is_folder (get p.logical.inodes.inodes to_id) ≡ true
+        to-folder = ap (λ (i : Option Inode). is_folder i) here_to.there ∙ ap (λ k. is_some (parent_in k)) here_to.kind
+
+        clear : goes_below h child.fileid child.inode.kind ≡ false
+            → (k : ℕ) → (directory_above p.logical.inodes.inodes k to_id == child.fileid) ≡ false
+        clear = clear-of p sound.well_formed from_id from_name child under here_from.entered h refl to-folder
+
+        -- there is no target
+        free-none : found (entries_of p.logical to_id) to_name ≡ None → goes_below h child.fileid child.inode.kind ≡ false
+            → IsFree p p h.from h.to child fp tp r.to None hands made
+        free-none absent passes = record {
+          sound = sound;
+          volume = refl;
+          may = record {
+            from_says = ap parent_directory here_from.there ∙ ap parent_in here_from.kind;
+            from_entered = here_from.entered;
+            under = under;
+            to_says = ap parent_directory here_to.there ∙ ap parent_in here_to.kind;
+            to_entered = here_to.entered;
+            absent = absent;
+            clear = clear passes;
+          };
+          emptied = unchanged p;
+        }
+
+        -- the checks, and what follows
+        module _ (target : Option HeldNode) (found_target : Option Found)
+            (go : may_go (node_of p.stripes p.logical.directories child.fileid child.inode) found_target ≡ target_may_go (logical_lens.of p) child target)
+            (goes : is_one_entry h ≡ false → goes_below h child.fileid child.inode.kind ≡ false → target_may_go (logical_lens.of p) child target ≡ true
+            → Right (held_renamed h (set_renamed h child target)) (rename_told r (renamed_volume r child.fileid found_target))) where
+          abbrev seen_by : Bool → Bool → Effect
+          seen_by below may =
+              if is_same_entry r then same_told r
+              else if below then Fails Invalid
+              else if not may then Fails Exists
+              else rename_told r (renamed_volume r child.fileid found_target)
+
+          passed : (a b d : Bool) → is_one_entry h ≡ a → goes_below h child.fileid child.inode.kind ≡ b
+              → target_may_go (logical_lens.of p) child target ≡ d
+              → Right (if a then held_renamed h (logical_lens.of p)
+              else if b then fails_both Invalid (logical_lens.of p)
+              else if not d then fails_both Exists (logical_lens.of p)
+              else held_renamed h (set_renamed h child target))
+              (if a then same_told r else if b then Fails Invalid else if not d then Fails Exists
+              else rename_told r (renamed_volume r child.fileid found_target))
+          passed true b d one below may = same-right
+          passed false true d one below may = failure Invalid
+          passed false false false one below may = failure Exists
+          passed false false true one below may = goes one below may
+
+          there-right : Right (rename_by h (Some child) target) (rename_at r (Some (found_seen p child)) found_target)
+          there-right =
+              subst (λ (b : Bool). Right (rename_by h (Some child) target)
+              (seen_by b (may_go (node_of p.stripes p.logical.directories child.fileid child.inode) found_target)))
+              (sym (below-seen p r h child.fileid child.inode refl refl refl))
+              (subst (λ (d : Bool). Right (rename_by h (Some child) target) (seen_by (goes_below h child.fileid child.inode.kind) d)) (sym go)
+              (passed (is_one_entry h) (goes_below h child.fileid child.inode.kind) (target_may_go (logical_lens.of p) child target) refl refl refl))
+
+        -- by whether there is a target
+        target-right : Right (rename_by h (Some child) (node_under h.to)) (rename_at r (Some (found_seen p child)) (named_child r.to))
+        target-right = child-right p sound.well_formed to_id to_name moment ti tp ts here_to
+            (λ (o : Option HeldNode) (x : Option Found). Right (rename_by h (Some child) o) (rename_at r (Some (found_seen p child)) x))
+            (λ absent. there-right None None refl (λ one below may. moved-right (logical_lens.of p) None (free-none absent below)))
+            (λ target upon. there-right (Some target) (Some (found_seen p target)) (may-go-seen p child target)
+            (λ one below may. moved-right (target_gone h.to (Some target)) (Some (found_seen p target))
+            (free-by p hands made sound from_id from_name to_id to_name moment fi fp fs here_from ti tp ts here_to child under target upon one
+            (clear below) target.inode.kind refl may)))
+
+      child-there : Right (rename_by h (node_under h.from) (node_under h.to)) (rename_at r (named_child r.from) (named_child r.to))
+      child-there = child-right p sound.well_formed from_id from_name moment fi fp fs here_from
+          (λ (o : Option HeldNode) (x : Option Found). Right (rename_by h o (node_under h.to)) (rename_at r x (named_child r.to)))
+          (λ absent. failure _) (λ child under. target-right child under)
+
+      by-dots : (b : Bool) → Right (if b then fails_both Invalid (logical_lens.of p) else rename_by h (node_under h.from) (node_under h.to))
+          (if b then Fails Invalid else rename_at r (named_child r.from) (named_child r.to))
+      by-dots true = failure Invalid
+      by-dots false = child-there
+
+      names-right : Right (held_rename h) (rename_in r)
+      names-right = checked (name_fault from_name) _ _ (checked (name_fault to_name) _ _ (by-dots (is_dots from_name || is_dots to_name)))
+
+    here : (fileid : ℕ) (name : List ℕ) (inode : Inode) (parent subs : ℕ) → get p.logical.inodes.inodes fileid ≡ Some inode
+        → inode.kind ≡ Folder parent subs → IsDirectoryHere p fileid name moment inode parent subs
+    here fileid name inode parent subs there is = record {
+      there = there;
+      kind = is;
+      entered = entered-here p fileid name moment sound.well_formed inode parent subs there is;
+    }
+
+    renames-right : Right (rename_done p.number from_id from_name to_id to_name moment (logical_lens.of p)) (call.run (volume_of p))
+    renames-right = folder-right p from_id Right _ _ failure (λ fi fp fs there is.
+        folder-right p to_id Right _ _ failure (λ ti tp ts to_there to_is.
+        names-right fi fp fs (here from_id from_name fi fp fs there is) ti tp ts (here to_id to_name ti tp ts to_there to_is)))
+
+  -- RENAME
+  pub rename-is-done : (v : ℕ) (s : LogicalSet) → IsDone v call s (rename_done v from_id from_name to_id to_name moment s)
+  rename-is-done v s = done-right-for 4 v call (λ w t. rename_done w from_id from_name to_id to_name moment t) (λ p. refl) refl renames-right s
+
+-- ---- memory may run out
+
+-- what is located is what its handle names
+located-named : (volumes : List VolumeState) (o : Option Named) (l : Located) → located_by volumes o ≡ Some l → o ≡ Some l.named
+located-named volumes None l is = absurd cc
+located-named volumes (Some named) l is = by (slice_get volumes named.volume) is
+  where
+    by : (v : Option VolumeState) → located_in named v ≡ Some l → Some named ≡ Some l.named
+    by None at = absurd cc
+    by (Some volume) at =
+        let same : record { named = named; volume = volume } ≡ l = cc in
+        ap (λ (x : Located). Some x.named) same
+
+handle-read : (volumes : ℕ) (bytes : List ℕ) (named : Named) → handle_of volumes bytes ≡ Some named → named_read bytes ≡ named
+handle-read volumes bytes named is = by _ is
+  where
+    by : (b : Bool) → (if b then Some (named_read bytes) else None) ≡ Some named → named_read bytes ≡ named
+    by true e = cc
+    by false e = absurd cc
+
+pub rename-starves : (v from_id to_id volumes : ℕ) (from from_name to to_name : List ℕ) (node : Affinity) (moment : Moment) (s : LogicalSet)
+    (from_change to_change : Wcc)
+    → handle_of volumes to ≡ Some (record { volume = v; fileid = to_id })
+    → ((from_id == to_id) && same_name from_name to_name) ≡ false
+    → (rename_done v from_id from_name to_id to_name moment s).answer ≡ RenameDone from_change to_change
+    → MayStarve v (rename_call from to node from_id from_name to_id to_name moment) s
+rename-starves v from_id to_id volumes from from_name to to_name node moment s from_change to_change names two is =
+    may-starve 4 v (rename_call from to node from_id from_name to_id to_name moment) (λ w t. rename_done w from_id from_name to_id to_name moment t)
+    (λ p. refl) refl
+    (λ p hands count sound. (renames-right from to node from_id from_name to_id to_name moment p hands hands count sound (λ n. refl)).0) s
+    (λ p server has at. subst (λ (a : Answer). IsTrue (takes_memory server (Rename from from_name to to_name) a)) (sym is)
+    (by p server at (same_name from to) refl))
+  where
+    by : (p : VolumeContents) (server : Server)
+        → locate server from ≡ Some (record { named = record { volume = p.number; fileid = from_id }; volume = volume_of p })
+        → (b : Bool) → same_name from to ≡ b → not (b && same_name from_name to_name) ≡ true
+    by p server at false e = refl
+    by p server at true e =
+        let first = handle-read (length server.volumes) from _
+        (located-named server.volumes (handle_of (length server.volumes) from) _ at) in
+        let second = handle-read volumes to _ names in
+        let same : from_id ≡ to_id =
+        ap (λ (n : Named). n.fileid) (sym first) ∙ ap (λ (bytes : List ℕ). (named_read bytes).fileid) (same-is from to e)
+        ∙ ap (λ (n : Named). n.fileid) second in
+        let other : same_name from_name to_name ≡ false =
+        sym (ap (λ (b : Bool). b && same_name from_name to_name) (eq-eqb from_id to_id same)) ∙ two in
+        ap (λ (b : Bool). not b) other

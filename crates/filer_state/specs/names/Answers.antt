@@ -1,0 +1,92 @@
+-- What LOOKUP, READDIR and COMMIT answer, by what is under Logical (RFC 1813 sections 3.3.3, 3.3.16 and 3.3.21).
+use Rattle.std.specs.Prelude.{ℕ, Bool, min, not, ◌&&◌, ◌==◌, List, replicate, Option, Some, None, if◌then◌else◌}
+use Rattle.std.specs.FinMap.{get}
+use Rattle.nfs_model.specs.Types.{Status, Shown, Answer, LookupDone, CommitDone, Failed, Stale, NotDirectory, NoEntry, BadCookie, Invalid}
+use Rattle.nfs_model.specs.Server.{DirectoryNode, handle_bytes, most_bytes}
+use Rattle.nfs_model.specs.Shown.{before_of}
+use Rattle.nfs_model.specs.Names.{same_name, dot, dot_dot, name_fault}
+use Rattle.nfs_model.specs.Serial.Readdir.{all_listed, above_cookie, readdir_from}
+use Rattle.nfs_model.specs.volume.Directories.{DirectoryValue, fileid_found}
+use Rattle.nfs_model.specs.volume.Inodes.{InodeKind, RegularFile, Folder, Inode}
+use Rattle.nfs_model.specs.volume.Logical.{LogicalValue}
+use Rattle.filer_state.specs.state.Tree.{file_touch, directory_or_empty}
+use Rattle.filer_state.specs.state.Names.{parent_in}
+use Rattle.filer_state.specs.state.Lenses.{LogicalSet}
+use Rattle.filer_state.specs.state.Calls.{answer_of}
+use Rattle.filer_state.specs.state.Changes.{shown_inode}
+
+-- ---- a directory
+
+-- where a node's kind has a parent, it is a directory
+abbrev pub on_parent : Option ℕ → (ℕ → Answer) → Answer
+on_parent None answer = Failed NotDirectory 1
+on_parent (Some parent) answer = answer parent
+
+-- What is asked of a directory is told by its inode and its parent; STALE, or NOTDIR for a file. A failure has one absent part,
+-- the directory's attributes.
+abbrev pub on_folder : Option Inode → (Inode → ℕ → Answer) → Answer
+on_folder None answer = Failed Stale 1
+on_folder (Some inode) answer = on_parent (parent_in inode.kind) (answer inode)
+
+-- the entries of a directory
+abbrev pub entries_of : LogicalValue → ℕ → DirectoryValue
+entries_of own fileid = directory_or_empty (get own.directories fileid)
+
+-- ---- LOOKUP
+
+-- the fileid that a name stands for in a directory: `.` is the directory, `..` its parent
+abbrev pub fileid_named : ℕ → ℕ → DirectoryValue → List ℕ → Option ℕ
+fileid_named fileid parent d name =
+    if same_name name dot then Some fileid else if same_name name dot_dot then Some parent else fileid_found d name
+
+-- what is told of the node that was found, with the directory's attributes; else NOENT
+abbrev pub object_told : ℕ → LogicalSet → Shown → ℕ → Option Inode → Answer
+object_told v s directory fileid None = Failed NoEntry 1
+object_told v s directory fileid (Some inode) =
+    LookupDone (handle_bytes v fileid) (shown_inode v fileid inode (file_touch s.stripes fileid)) directory
+
+abbrev pub found_told : ℕ → LogicalSet → Shown → Option ℕ → Answer
+found_told v s directory None = Failed NoEntry 1
+found_told v s directory (Some fileid) = object_told v s directory fileid (get s.own.inodes.inodes fileid)
+
+-- the first failure, or an answer
+abbrev pub unless_fault : Option Status → Answer → Answer
+unless_fault None answer = answer
+unless_fault (Some status) answer = Failed status 1
+
+abbrev pub lookup_answer : ℕ → ℕ → List ℕ → LogicalSet → Answer
+lookup_answer v fileid name s = on_folder (get s.own.inodes.inodes fileid) (λ inode parent.
+    unless_fault (name_fault name)
+    (found_told v s (shown_inode v fileid inode None) (fileid_named fileid parent (entries_of s.own fileid) name)))
+
+-- ---- READDIR
+
+-- a directory as calls see it, by its inode, its parent and its entries
+abbrev pub folder_node : Inode → ℕ → DirectoryValue → DirectoryNode
+folder_node inode parent d = record { attributes = inode.attributes; parent = parent; next = d.next; list = d.list }
+
+-- a verifier is of our pages where it is zero
+abbrev pub is_bad_cookie : ℕ → List ℕ → Bool
+is_bad_cookie cookie verifier = not (cookie == 0) && not (same_name verifier (replicate 8 0))
+
+abbrev pub readdir_answer : ℕ → ℕ → ℕ → List ℕ → ℕ → LogicalSet → Answer
+readdir_answer v fileid cookie verifier count s = on_folder (get s.own.inodes.inodes fileid) (λ inode parent.
+    if is_bad_cookie cookie verifier then Failed BadCookie 1
+    else answer_of 1 (readdir_from (min count most_bytes) (shown_inode v fileid inode None)
+    (above_cookie cookie (all_listed fileid (folder_node inode parent (entries_of s.own fileid))))))
+
+-- ---- COMMIT
+
+-- the attributes of a file, which are the same before and after, with the verifier of writes; INVAL for a directory
+abbrev pub file_committed : Shown → List ℕ → InodeKind → Answer
+file_committed shown verifier (RegularFile size filled of_creation) =
+    CommitDone (record { before = before_of shown; after = shown }) verifier
+file_committed shown verifier (Folder parent subdirectories) = Failed Invalid 2
+
+abbrev pub inode_committed : ℕ → ℕ → LogicalSet → Option Inode → Answer
+inode_committed v fileid s None = Failed Stale 2
+inode_committed v fileid s (Some inode) =
+    file_committed (shown_inode v fileid inode (file_touch s.stripes fileid)) s.own.verifier inode.kind
+
+abbrev pub commit_answer : ℕ → ℕ → LogicalSet → Answer
+commit_answer v fileid s = inode_committed v fileid s (get s.own.inodes.inodes fileid)

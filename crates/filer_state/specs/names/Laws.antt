@@ -1,0 +1,51 @@
+-- What calls on names come to, by what is under Logical (RFC 1813 sections 3.3.3, 3.3.16 and 3.3.21).
+use Rattle.std.specs.Prelude.{◌≡◌, ℕ, Bool, false, List, []}
+use Rattle.nfs_model.specs.Types.{Moment, Listed, Shown, Lookup, Readdir, Commit, ReaddirDone, Success}
+use Rattle.nfs_model.specs.Tree.{Affinity}
+use Rattle.nfs_model.specs.Locate.{on_name}
+use Rattle.nfs_model.specs.Serial.Lookup.{lookup}
+use Rattle.nfs_model.specs.Serial.Readdir.{readdir}
+use Rattle.nfs_model.specs.Serial.Commit.{commit}
+use Rattle.filer_state.specs.state.Jobs.{Replied}
+use Rattle.filer_state.specs.state.Lenses.{LogicalSet, logical_lens}
+use Rattle.filer_state.specs.state.Promises.{RightOnVolume}
+use Rattle.nfs_model.specs.Work.{Starved}
+use Rattle.filer_state.specs.state.Calls.{VolumeCall, ServesOn, WorksOn}
+use Rattle.filer_state.specs.names.Answers.{lookup_answer, readdir_answer, commit_answer}
+
+abbrev pub lookup_call : List ℕ → Affinity → ℕ → List ℕ → Moment → VolumeCall
+lookup_call handle node fileid name moment =
+    record { call = Lookup handle name; node = node; fileid = fileid; run = λ volume. on_name name moment lookup volume fileid }
+
+abbrev pub readdir_call : List ℕ → Affinity → ℕ → ℕ → List ℕ → ℕ → VolumeCall
+readdir_call handle node fileid cookie verifier count = record {
+  call = Readdir handle cookie verifier count;
+  node = node;
+  fileid = fileid;
+  run = λ volume. readdir cookie verifier count volume fileid;
+}
+
+abbrev pub commit_call : List ℕ → Affinity → ℕ → VolumeCall
+commit_call handle node fileid = record { call = Commit handle; node = node; fileid = fileid; run = λ volume. commit volume fileid }
+
+-- Whatever the rest of the volume is: the answer told by inodes, entries and touches is the serial server's, and nothing changes.
+abbrev pub LookupIsRight : Type 0
+LookupIsRight = (v fileid : ℕ) (handle name : List ℕ) (node : Affinity) (moment : Moment) (set : LogicalSet)
+    → RightOnVolume v logical_lens (ServesOn (lookup_call handle node fileid name moment) false) [] [] set
+    (Replied (Success (lookup_answer v fileid name set))) set
+
+abbrev pub ReaddirIsRight : Type 0
+ReaddirIsRight = (v fileid : ℕ) (handle : List ℕ) (node : Affinity) (cookie : ℕ) (verifier : List ℕ) (count : ℕ) (set : LogicalSet)
+    → RightOnVolume v logical_lens (ServesOn (readdir_call handle node fileid cookie verifier count) false) [] [] set
+    (Replied (Success (readdir_answer v fileid cookie verifier count set))) set
+
+-- where it would list, memory may run out
+abbrev pub ReaddirMayStarve : Type 0
+ReaddirMayStarve = (v fileid : ℕ) (handle : List ℕ) (node : Affinity) (cookie : ℕ) (verifier : List ℕ) (count : ℕ) (set : LogicalSet)
+    (directory : Shown) (page : List Listed) (eof : Bool) → readdir_answer v fileid cookie verifier count set ≡ ReaddirDone directory page eof
+    → RightOnVolume v logical_lens (WorksOn (readdir_call handle node fileid cookie verifier count)) [] [] set Starved set
+
+abbrev pub CommitIsRight : Type 0
+CommitIsRight = (v fileid : ℕ) (handle : List ℕ) (node : Affinity) (set : LogicalSet)
+    → RightOnVolume v logical_lens (ServesOn (commit_call handle node fileid) false) [] [] set
+    (Replied (Success (commit_answer v fileid set))) set

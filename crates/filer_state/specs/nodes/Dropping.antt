@@ -1,0 +1,53 @@
+-- What a node without bytes and entries comes to that loses its name, by what is under Logical (REMOVE and RMDIR, RFC 1813 sections
+-- 3.3.12 and 3.3.13).
+use Rattle.std.specs.Prelude.{ℕ, ◌-◌, List, map}
+use Rattle.std.specs.FinMap.{insert, remove}
+use Rattle.nfs_model.specs.Types.{Moment}
+use Rattle.nfs_model.specs.volume.Directories.{DirectoryValue, removed}
+use Rattle.nfs_model.specs.volume.Inodes.{InodeKind, RegularFile, Folder, Inode, InodesValue, inode_dropped, inode_set}
+use Rattle.nfs_model.specs.volume.Stripes.{card_dropped}
+use Rattle.filer_state.specs.state.Names.{DirectoryMap}
+use Rattle.filer_state.specs.state.Lenses.{LogicalSet}
+use Rattle.filer_state.specs.nodes.Making.{folders_in}
+
+-- a node to be dropped, which stands under a name of a directory
+pub record Dropping : Type 0 where
+  pub directory : ℕ  -- the fileid of the directory
+  pub entries : DirectoryValue  -- its entries before
+  pub inode : Inode  -- its inode before
+  pub name : List ℕ
+  pub fileid : ℕ  -- of the node
+  pub dropped : Inode  -- of the node
+  pub moment : Moment
+
+-- a directory with fewer subdirectories
+abbrev pub without_subdirectories : ℕ → InodeKind → InodeKind
+without_subdirectories fewer (RegularFile size filled verifier) = RegularFile size filled verifier
+without_subdirectories fewer (Folder parent subdirectories) = Folder parent (subdirectories - fewer)
+
+-- the inode of the directory after it: both times are the moment's
+abbrev pub directory_left : Dropping → Inode
+directory_left m = record {
+  attributes = record m.inode.attributes { mtime = m.moment; ctime = m.moment };
+  kind = without_subdirectories (folders_in m.dropped.kind) m.inode.kind;
+}
+
+-- the inodes after it
+abbrev pub inodes_left : Dropping → InodesValue → InodesValue
+inodes_left m v = inode_set m.directory (directory_left m) (inode_dropped m.fileid v)
+
+-- a directory's entries go with it
+abbrev pub directories_left : InodeKind → ℕ → DirectoryMap → DirectoryMap
+directories_left (RegularFile size filled verifier) fileid directories = directories
+directories_left (Folder parent subdirectories) fileid directories = remove directories fileid
+
+-- the directories after it
+abbrev pub entries_left : Dropping → DirectoryMap → DirectoryMap
+entries_left m directories = insert (directories_left m.dropped.kind m.fileid directories) m.directory (removed m.name m.entries)
+
+-- what is under Logical after it: one inode less, with its cards, and one entry less
+abbrev pub node_dropped : Dropping → LogicalSet → LogicalSet
+node_dropped m set = record {
+  own = record set.own { inodes = inodes_left m set.own.inodes; directories = entries_left m set.own.directories };
+  stripes = map (card_dropped m.fileid) set.stripes;
+}

@@ -1,0 +1,64 @@
+-- What a node made under a name comes to, by what is under Logical (CREATE and MKDIR, RFC 1813 sections 3.3.8 and 3.3.9).
+use Rattle.std.specs.Prelude.{ℕ, ◌+◌, List, map}
+use Rattle.std.specs.FinMap.{insert}
+use Rattle.nfs_model.specs.Types.{Moment}
+use Rattle.nfs_model.specs.volume.Directories.{DirectoryValue, empty_directory, added}
+use Rattle.nfs_model.specs.volume.Inodes.{InodeKind, RegularFile, Folder, Inode, InodesValue, inode_created, inode_set}
+use Rattle.nfs_model.specs.volume.Stripes.{StripeValue, file_card_set, folder_card_set}
+use Rattle.filer_state.specs.state.Names.{DirectoryMap}
+use Rattle.filer_state.specs.state.Lenses.{LogicalSet}
+
+-- a node to be made, under a name of a directory
+pub record Making : Type 0 where
+  pub directory : ℕ  -- the fileid of the directory
+  pub entries : DirectoryValue  -- its entries before
+  pub inode : Inode  -- its inode before
+  pub name : List ℕ
+  pub made : Inode  -- of the new node
+  pub moment : Moment
+
+-- how many directories a node is
+abbrev pub folders_in : InodeKind → ℕ
+folders_in (RegularFile size filled verifier) = 0
+folders_in (Folder parent subdirectories) = 1
+
+-- a directory with more subdirectories
+abbrev pub with_subdirectories : ℕ → InodeKind → InodeKind
+with_subdirectories more (RegularFile size filled verifier) = RegularFile size filled verifier
+with_subdirectories more (Folder parent subdirectories) = Folder parent (subdirectories + more)
+
+-- the inode of the directory after it: both times are the moment's
+abbrev pub directory_inode : Making → Inode
+directory_inode m = record {
+  attributes = record m.inode.attributes { mtime = m.moment; ctime = m.moment };
+  kind = with_subdirectories (folders_in m.made.kind) m.inode.kind;
+}
+
+-- the inodes after it
+abbrev pub inodes_made : Making → InodesValue → InodesValue
+inodes_made m v = inode_set m.directory (directory_inode m) (inode_created m.made v)
+
+-- a new directory has no entries
+abbrev pub directories_made : InodeKind → ℕ → DirectoryMap → DirectoryMap
+directories_made (RegularFile size filled verifier) fileid directories = directories
+directories_made (Folder parent subdirectories) fileid directories = insert directories fileid empty_directory
+
+-- the directories after it, where the new node has this fileid
+abbrev pub entries_made : Making → ℕ → DirectoryMap → DirectoryMap
+entries_made m fileid directories =
+    insert (directories_made m.made.kind fileid directories) m.directory (added m.name fileid m.entries)
+
+-- the card of a new node, in each stripe
+abbrev pub card_made : InodeKind → ℕ → StripeValue → StripeValue
+card_made (RegularFile size filled verifier) fileid s = file_card_set fileid size s
+card_made (Folder parent subdirectories) fileid s = folder_card_set fileid s
+
+-- what is under Logical after it: one more inode, under the next fileid, with its cards, and one more entry
+abbrev pub node_made : Making → LogicalSet → LogicalSet
+node_made m set = record {
+  own = record set.own {
+    inodes = inodes_made m set.own.inodes;
+    directories = entries_made m set.own.inodes.next set.own.directories;
+  };
+  stripes = map (card_made m.made.kind set.own.inodes.next) set.stripes;
+}

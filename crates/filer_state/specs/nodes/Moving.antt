@@ -1,0 +1,70 @@
+-- What a node that moves to another name comes to, by what is under Logical (RENAME, RFC 1813 section 3.3.14), in two steps: its
+-- entry is taken from one directory, and it is hung up under a name of one, which may be the same.
+use Rattle.std.specs.Prelude.{ℕ, Option}
+use Rattle.std.specs.FinMap.{insert}
+use Rattle.nfs_model.specs.Types.{Moment}
+use Rattle.nfs_model.specs.volume.Directories.{DirectoryValue, added, removed}
+use Rattle.nfs_model.specs.volume.Inodes.{InodeKind, RegularFile, Folder, Inode, InodesValue, inode_set}
+use Rattle.filer_state.specs.state.Names.{DirectoryMap}
+use Rattle.filer_state.specs.state.Lenses.{LogicalSet}
+use Rattle.filer_state.specs.state.Changes.{attributes_now, touches_taken}
+use Rattle.filer_state.specs.nodes.Making.{folders_in, with_subdirectories}
+use Rattle.filer_state.specs.nodes.Dropping.{without_subdirectories}
+use Rattle.std.specs.Prelude.{List}
+
+-- a name of a directory, and the node that is under it, or comes under it
+pub record Naming : Type 0 where
+  pub directory : ℕ  -- the fileid of the directory
+  pub entries : DirectoryValue  -- its entries before
+  pub inode : Inode  -- its inode before
+  pub name : List ℕ
+  pub fileid : ℕ  -- of the node
+  pub node : Inode  -- of the node, before
+  pub moment : Moment
+
+-- an inode whose times of modification and change are a moment
+abbrev pub dated_inode : Moment → InodeKind → Inode → Inode
+dated_inode moment kind inode = record { attributes = record inode.attributes { mtime = moment; ctime = moment }; kind = kind }
+
+-- ---- an entry taken
+
+abbrev pub inodes_untied : Naming → InodesValue → InodesValue
+inodes_untied m v =
+    inode_set m.directory (dated_inode m.moment (without_subdirectories (folders_in m.node.kind) m.inode.kind) m.inode) v
+
+abbrev pub entries_untied : Naming → DirectoryMap → DirectoryMap
+entries_untied m directories = insert directories m.directory (removed m.name m.entries)
+
+-- what is under Logical after it
+abbrev pub entry_taken : Naming → LogicalSet → LogicalSet
+entry_taken m set = record set {
+  own = record set.own { inodes = inodes_untied m set.own.inodes; directories = entries_untied m set.own.directories };
+}
+
+-- ---- a node hung up
+
+-- a directory has another parent
+abbrev pub with_parent : ℕ → InodeKind → InodeKind
+with_parent parent (RegularFile size filled verifier) = RegularFile size filled verifier
+with_parent parent (Folder old subdirectories) = Folder parent subdirectories
+
+-- the node after it, where this was its file's latest touch: it settles, and its ctime is the moment
+abbrev pub node_hung : Naming → Option Moment → Inode
+node_hung m touch = record {
+  attributes = record (attributes_now touch m.node.attributes m.node.kind) { ctime = m.moment };
+  kind = with_parent m.directory m.node.kind;
+}
+
+abbrev pub inodes_hung : Naming → Option Moment → InodesValue → InodesValue
+inodes_hung m touch v = inode_set m.fileid (node_hung m touch)
+    (inode_set m.directory (dated_inode m.moment (with_subdirectories (folders_in m.node.kind) m.inode.kind) m.inode) v)
+
+abbrev pub entries_hung : Naming → DirectoryMap → DirectoryMap
+entries_hung m directories = insert directories m.directory (added m.name m.fileid m.entries)
+
+-- what is under Logical after it
+abbrev pub node_hung_up : Naming → Option Moment → LogicalSet → LogicalSet
+node_hung_up m touch set = record {
+  own = record set.own { inodes = inodes_hung m touch set.own.inodes; directories = entries_hung m set.own.directories };
+  stripes = touches_taken m.fileid set.stripes;
+}

@@ -1,0 +1,275 @@
+-- Names after a node without a name is hung up under one: they are lawful again.
+use Rattle.std.proofs.Common.{◌≡◌, ℕ, zero, suc, ◌+◌, ◌==◌, ◌&&◌, not, Bool, true, false, List, [], ◌∷◌, Option, Some, None}
+use Rattle.std.proofs.Common.{refl, sym, ap, ◌∙◌, subst, arith, eq-eqb, ne_eqb}
+use Rattle.std.specs.Prelude.{if◌then◌else◌, is_some, IfSome}
+use Rattle.std.proofs.lemmas.Bool.{eqb-true}
+use Rattle.std.specs.List.{AllByRecursion}
+use Rattle.std.specs.FinMap.{get, nat_cmp-IsAntisymmetric}
+use Rattle.nfs_model.specs.Types.{Moment, Listed}
+use Rattle.nfs_model.specs.Parts.{one_if}
+use Rattle.nfs_model.specs.volume.Directories.{DirectoryValue, added, entry_added}
+use Rattle.nfs_model.specs.volume.Inodes.{InodeKind, RegularFile, Folder, Inode, InodesValue, inode_of, inode_set}
+use Rattle.nfs_model.specs.volume.lemmas.Inodes.{inode-set-there, inode-set-other}
+use Rattle.nfs_model.specs.volume.lemmas.Numbered.{get-insert_at, itself}
+use Rattle.filer_state.specs.state.Names.{root, DirectoryMap, parent_in, parent_directory, subdirectories_in, subdirectories_of}
+use Rattle.filer_state.specs.state.Names.{is_folder, parent_or, times_in_list, times_named, is_named, folders_listed, directory_above, DirectoryFits}
+use Rattle.filer_state.specs.state.Names.{ReachesRoot, AreNamed}
+use Rattle.filer_state.specs.laws.lemmas.Mapped.{entry-at-least}
+use Rattle.filer_state.specs.nodes.Making.{folders_in, with_subdirectories}
+use Rattle.filer_state.specs.nodes.Moving.{Naming, dated_inode, with_parent, node_hung, inodes_hung, entries_hung}
+use Rattle.filer_state.specs.nodes.Laws.{MayHang}
+use Rattle.filer_state.specs.nodes.lemmas.Others as others
+use Rattle.filer_state.specs.nodes.lemmas.Others.{IsChildOf}
+use Rattle.filer_state.specs.nodes.lemmas.Summed.{total-set}
+use Rattle.filer_state.specs.nodes.lemmas.Listing.{count-more, all-more, added-is}
+use Rattle.filer_state.specs.nodes.lemmas.Named.{parent-kept, counted-more}
+use Rattle.filer_state.specs.nodes.lemmas.Untied.{AreNamedBut}
+
+some-with_parent : (p : ℕ) (k : InodeKind) → is_some (parent_in (with_parent p k)) ≡ is_some (parent_in k)
+some-with_parent p (RegularFile size filled verifier) = refl
+some-with_parent p (Folder parent subdirectories) = refl
+
+counted-with_parent : (p : ℕ) (k : InodeKind) → subdirectories_in (with_parent p k) ≡ subdirectories_in k
+counted-with_parent p (RegularFile size filled verifier) = refl
+counted-with_parent p (Folder parent subdirectories) = refl
+
+module _ (old : InodesValue) (directories : DirectoryMap) (m : Naming) (touch : Option Moment) (may : MayHang m old directories) where
+  abbrev new : InodesValue
+  new = inodes_hung m touch old
+
+  abbrev dated : Inode
+  dated = dated_inode m.moment (with_subdirectories (folders_in m.node.kind) m.inode.kind) m.inode
+
+  abbrev between : InodesValue
+  between = inode_set m.directory dated old
+
+  abbrev directories_after : DirectoryMap
+  directories_after = entries_hung m directories
+
+  pub apart : (m.directory == m.fileid) ≡ false
+  apart = may.clear 0
+
+  pub apart-turned : (m.fileid == m.directory) ≡ false
+  apart-turned = ne_eqb m.fileid m.directory (λ (e : m.fileid ≡ m.directory).
+      let t : (m.directory == m.fileid) ≡ true = eq-eqb m.directory m.fileid (sym e) in let f = apart in cc)
+
+  pub still : inode_of between m.fileid ≡ Some m.node
+  still = inode-set-other old m.directory dated m.fileid apart-turned ∙ may.node
+
+  pub hung-node : inode_of new m.fileid ≡ Some (node_hung m touch)
+  hung-node = inode-set-there between m.fileid m.node (node_hung m touch) still
+
+  pub hung-directory : inode_of new m.directory ≡ Some dated
+  hung-directory = inode-set-other between m.fileid (node_hung m touch) m.directory apart ∙ inode-set-there old m.directory m.inode dated may.there
+
+  pub hung-other : (q : ℕ) → (q == m.directory) ≡ false → (q == m.fileid) ≡ false → inode_of new q ≡ inode_of old q
+  hung-other q ne other = inode-set-other between m.fileid (node_hung m touch) q other ∙ inode-set-other old m.directory dated q ne
+
+  pub by-fileid : (P : ℕ → Type 0) → P m.directory → P m.fileid → ((q : ℕ) → (q == m.directory) ≡ false → (q == m.fileid) ≡ false → P q) → (q : ℕ) → P q
+  by-fileid = others.by-two m.directory m.fileid
+
+  parent-same : (q : ℕ) → (q == m.fileid) ≡ false → parent_directory (inode_of new q) ≡ parent_directory (inode_of old q)
+  parent-same = by-fileid (λ q. (q == m.fileid) ≡ false → parent_directory (inode_of new q) ≡ parent_directory (inode_of old q))
+      (λ ne. ap parent_directory hung-directory ∙ parent-kept (folders_in m.node.kind) m.inode.kind ∙ sym (ap parent_directory may.there))
+      (λ ne. let t = itself m.fileid in absurd cc)
+      (λ q ne other _. ap parent_directory (hung-other q ne other))
+
+  folder-same : (q : ℕ) → is_folder (inode_of new q) ≡ is_folder (inode_of old q)
+  folder-same = by-fileid (λ q. is_folder (inode_of new q) ≡ is_folder (inode_of old q))
+      (ap (λ o. is_some o) (parent-same m.directory apart))
+      (ap is_folder hung-node ∙ some-with_parent m.directory m.node.kind ∙ sym (ap is_folder may.node))
+      (λ q ne other. ap is_folder (hung-other q ne other))
+
+  some-same : (q : ℕ) → is_some (inode_of new q) ≡ is_some (inode_of old q)
+  some-same = by-fileid (λ q. is_some (inode_of new q) ≡ is_some (inode_of old q))
+      (ap (λ o. is_some o) hung-directory ∙ sym (ap (λ o. is_some o) may.there))
+      (ap (λ o. is_some o) hung-node ∙ sym (ap (λ o. is_some o) may.node))
+      (λ q ne other. ap (λ o. is_some o) (hung-other q ne other))
+
+  folders-same : (list : List Listed) → folders_listed new.inodes list ≡ folders_listed old.inodes list
+  folders-same [] = refl
+  folders-same (e ∷ list) =
+      let here = ap one_if (folder-same e.fileid) in
+      let others = folders-same list in
+      omega (arith, here, others)
+
+  children-same : (fileid : ℕ) (list : List Listed) → times_in_list m.fileid list ≡ 0
+      → AllByRecursion (IsChildOf old.inodes fileid) list → AllByRecursion (IsChildOf new.inodes fileid) list
+  children-same fileid list none all = others.children-same new.inodes old.inodes m.fileid parent-same fileid list none all
+
+  found-at : (q : ℕ) → get directories_after q ≡ (if q == m.directory then Some (added m.name m.fileid m.entries) else get directories q)
+  found-at q = get-insert_at directories m.directory (added m.name m.fileid m.entries) q
+
+  pub hung-entries : get directories_after m.directory ≡ Some (added m.name m.fileid m.entries)
+  hung-entries =
+      found-at m.directory ∙ ap (λ (b : Bool). if b then Some (added m.name m.fileid m.entries) else get directories m.directory) (itself m.directory)
+
+  pub hung-others : (q : ℕ) → (q == m.directory) ≡ false → get directories_after q ≡ get directories q
+  hung-others q ne = found-at q ∙ ap (λ (b : Bool). if b then Some (added m.name m.fileid m.entries) else get directories q) ne
+
+  by-directory : (P : ℕ → Type 0) → P m.directory → ((q : ℕ) → (q == m.directory) ≡ false → P q) → (q : ℕ) → P q
+  by-directory = others.by-one m.directory
+
+  module _ (named : AreNamedBut m.fileid old.inodes directories) where
+    abbrev times_of : ℕ → ℕ × DirectoryValue → ℕ
+    times_of q e = times_in_list q e.1.list
+
+    abbrev last : Listed
+    last = entry_added m.name m.fileid m.entries
+
+    and-false : (b : Bool) → (b && false) ≡ false
+    and-false true = refl
+    and-false false = refl
+
+    and-true : (b : Bool) → (b && true) ≡ b
+    and-true true = refl
+    and-true false = refl
+
+    none-named : times_named m.fileid directories ≡ 0
+    none-named =
+        named.once m.fileid
+        ∙ ap (λ (b : Bool). one_if (is_named old.inodes m.fileid && not b)) (itself m.fileid)
+        ∙ ap one_if (and-false (is_named old.inodes m.fileid))
+
+    none-listed : (q : ℕ) (d : DirectoryValue) → get directories q ≡ Some d → times_in_list m.fileid d.list ≡ 0
+    none-listed q d e =
+        let most = entry-at-least nat_cmp-IsAntisymmetric (times_of m.fileid) directories q d e in
+        let none = none-named in
+        omega (arith, most, none)
+
+    times-after : (q : ℕ) → times_named q directories_after ≡ times_named q directories + one_if (m.fileid == q)
+    times-after q =
+        let set = total-set (times_of q) directories m.directory m.entries (added m.name m.fileid m.entries) may.entered in
+        let more = count-more (λ (e : Listed). e.fileid == q) m.entries.list last in
+        omega (arith, set, more)
+
+    once-after : (q : ℕ) → times_named q directories_after ≡ one_if (is_named new.inodes q)
+    once-after q = by (q == m.fileid) refl (named.once q)
+      where
+        by : (b : Bool) → (q == m.fileid) ≡ b → times_named q directories ≡ one_if (is_named old.inodes q && not b)
+            → times_named q directories_after ≡ one_if (is_named new.inodes q)
+        by true e was =
+            let is : q ≡ m.fileid = eqb-true q m.fileid e in
+            let here : times_named m.fileid directories_after ≡ 1 =
+            (let after = times-after m.fileid in let none = none-named in let one : one_if (m.fileid == m.fileid) ≡ 1 = ap one_if (itself m.fileid) in
+            omega (arith, after, none, one)) in
+            let now : one_if (is_named new.inodes m.fileid) ≡ 1 =
+            ap (λ o. one_if (is_some o && not (m.fileid == root))) hung-node ∙ ap (λ (t : Bool). one_if (not t)) may.no_root in
+            subst (λ (k : ℕ). times_named k directories_after ≡ one_if (is_named new.inodes k)) (sym is) (here ∙ sym now)
+        by false e was =
+            let other : one_if (m.fileid == q) ≡ 0 =
+            ap one_if (ne_eqb m.fileid q (λ (h : m.fileid ≡ q). let t : (q == m.fileid) ≡ true = eq-eqb q m.fileid (sym h) in cc)) in
+            let after = times-after q in
+            let plain = ap one_if (and-true (is_named old.inodes q)) in
+            let same : one_if (is_named new.inodes q) ≡ one_if (is_named old.inodes q) = ap (λ (b : Bool). one_if (b && not (q == root))) (some-same q) in
+            omega (arith, other, after, was, plain, same)
+
+    -- ---- what holds of each
+
+    kind-folder : (k : InodeKind) → one_if (is_some (parent_in k)) ≡ folders_in k
+    kind-folder (RegularFile size filled verifier) = refl
+    kind-folder (Folder parent subdirectories) = refl
+
+    last-child : IsChildOf new.inodes m.directory last
+    last-child = subst (λ o. IfSome (parent_directory o) (λ parent. parent ≡ m.directory)) (sym hung-node) (by m.node.kind)
+      where
+        by : (k : InodeKind) → IfSome (parent_in (with_parent m.directory k)) (λ parent. parent ≡ m.directory)
+        by (RegularFile size filled verifier) = tt
+        by (Folder parent subdirectories) = refl
+
+    fits-directory : DirectoryFits new.inodes m.directory (added m.name m.fileid m.entries)
+    fits-directory =
+        let was = named.fits m.directory m.entries may.entered in
+        let none = none-listed m.directory m.entries may.entered in
+        let old_links : subdirectories_in m.inode.kind ≡ Some (folders_listed old.inodes m.entries.list) = sym (ap subdirectories_of may.there) ∙ was.links in
+        record {
+          list = added-is m.entries m.name m.fileid may.absent was.list;
+          children = all-more (IsChildOf new.inodes m.directory) m.entries.list last
+              (children-same m.directory m.entries.list none was.children) last-child;
+          links =
+              let more = counted-more (folders_in m.node.kind) (folders_listed old.inodes m.entries.list) m.inode.kind old_links in
+              let one : one_if (is_folder (inode_of new m.fileid)) ≡ folders_in m.node.kind =
+              ap one_if (folder-same m.fileid) ∙ ap (λ o. one_if (is_folder o)) may.node ∙ kind-folder m.node.kind in
+              let sum : folders_listed new.inodes (added m.name m.fileid m.entries).list ≡ folders_listed old.inodes m.entries.list + folders_in m.node.kind =
+              count-more (λ (e : Listed). is_folder (get new.inodes e.fileid)) m.entries.list last
+              ∙ (let same = folders-same m.entries.list in omega (arith, same, one)) in
+              ap subdirectories_of hung-directory ∙ more ∙ ap Some (sym sum);
+        }
+
+    links-other : (q : ℕ) → (q == m.directory) ≡ false → subdirectories_of (inode_of new q) ≡ subdirectories_of (inode_of old q)
+    links-other = by-fileid (λ q. (q == m.directory) ≡ false → subdirectories_of (inode_of new q) ≡ subdirectories_of (inode_of old q))
+        (λ ne. let t = itself m.directory in absurd cc)
+        (λ ne. ap subdirectories_of hung-node ∙ counted-with_parent m.directory m.node.kind ∙ sym (ap subdirectories_of may.node))
+        (λ q ne other _. ap subdirectories_of (hung-other q ne other))
+
+    fits-other : (q : ℕ) → (q == m.directory) ≡ false → (d : DirectoryValue) → get directories q ≡ Some d → DirectoryFits new.inodes q d
+    fits-other q ne d e =
+        let was = named.fits q d e in
+        record {
+          list = was.list;
+          children = children-same q d.list (none-listed q d e) was.children;
+          links = links-other q ne ∙ was.links ∙ ap Some (sym (folders-same d.list));
+        }
+
+    -- ---- the way to the root
+
+    above-clear : (n q : ℕ) → ((k : ℕ) → (directory_above old.inodes k q == m.fileid) ≡ false) → directory_above new.inodes n q ≡ directory_above old.inodes n q
+    above-clear zero q clear = refl
+    above-clear (suc n) q clear =
+        ap (λ o. directory_above new.inodes n (parent_or o q)) (parent-same q (clear 0))
+        ∙ above-clear n (parent_or (parent_directory (inode_of old q)) q) (λ k. clear (suc k))
+
+    reaches-directory : ReachesRoot new.inodes m.directory
+    reaches-directory =
+        let folder : is_folder (inode_of old m.directory) ≡ true = sym (named.folders m.directory) ∙ ap (λ o. is_some o) may.entered in
+        let was = named.rooted m.directory folder in
+        (was.0, above-clear was.0 m.directory may.clear ∙ was.1)
+
+    -- the node itself, which has its parent now there; a file has none, and is nobody's parent
+    reaches-node : (k : InodeKind) → m.node.kind ≡ k → (n : ℕ) → directory_above old.inodes n m.fileid ≡ root → ReachesRoot new.inodes m.fileid
+    reaches-node (Folder parent subdirectories) is n h =
+        let up : parent_directory (inode_of new m.fileid) ≡ Some m.directory = ap parent_directory hung-node
+        ∙ ap (λ k. parent_in (with_parent m.directory k)) is in
+        let there = reaches-directory in
+        (suc there.0, ap (λ o. directory_above new.inodes there.0 (parent_or o m.fileid)) up ∙ there.1)
+    reaches-node (RegularFile size filled verifier) is n h =
+        let none : parent_directory (inode_of old m.fileid) ≡ None = ap parent_directory may.node ∙ ap parent_in is in
+        let t : (m.fileid == root) ≡ true = eq-eqb m.fileid root (sym (stays none n) ∙ h) in
+        let f = may.no_root in
+        absurd cc
+      where
+        stays : parent_directory (inode_of old m.fileid) ≡ None → (n : ℕ) → directory_above old.inodes n m.fileid ≡ m.fileid
+        stays none zero = refl
+        stays none (suc n) = ap (λ o. directory_above old.inodes n (parent_or o m.fileid)) none ∙ stays none n
+
+    reaches : (n q : ℕ) → directory_above old.inodes n q ≡ root → ReachesRoot new.inodes q
+    reaches zero q h = (0, h)
+    reaches (suc n) q h = by (q == m.fileid) refl (reaches n (parent_or (parent_directory (inode_of old q)) q) h)
+      where
+        by : (b : Bool) → (q == m.fileid) ≡ b → ReachesRoot new.inodes (parent_or (parent_directory (inode_of old q)) q) → ReachesRoot new.inodes q
+        by true e further =
+            let is : q ≡ m.fileid = eqb-true q m.fileid e in
+            subst (ReachesRoot new.inodes) (sym is)
+            (reaches-node m.node.kind refl (suc n) (ap (directory_above old.inodes (suc n)) (sym is) ∙ h))
+        by false e further =
+            (suc further.0, ap (λ o. directory_above new.inodes further.0 (parent_or o q)) (parent-same q e) ∙ further.1)
+
+    root-other : (root == m.fileid) ≡ false
+    root-other = ne_eqb root m.fileid (λ (e : root ≡ m.fileid).
+        let t : (m.fileid == root) ≡ true = eq-eqb m.fileid root (sym e) in let f = may.no_root in cc)
+
+    -- names are lawful again
+    pub named-hung : AreNamed new.inodes directories_after
+    named-hung = record {
+      root_there = parent-same root root-other ∙ named.root_there;
+      folders = by-directory (λ q. is_some (get directories_after q) ≡ is_folder (inode_of new q))
+          (ap (λ o. is_some o) hung-entries
+          ∙ sym (folder-same m.directory ∙ sym (named.folders m.directory) ∙ ap (λ o. is_some o) may.entered))
+          (λ q ne. ap (λ o. is_some o) (hung-others q ne) ∙ named.folders q ∙ sym (folder-same q));
+      fits = by-directory (λ q. (d : DirectoryValue) → get directories_after q ≡ Some d → DirectoryFits new.inodes q d)
+          (λ d e. let same : added m.name m.fileid m.entries ≡ d = (let was = hung-entries in cc) in
+          subst (DirectoryFits new.inodes m.directory) same fits-directory)
+          (λ q ne d e. fits-other q ne d (sym (hung-others q ne) ∙ e));
+      once = once-after;
+      rooted = λ q e. let was = named.rooted q (sym (folder-same q) ∙ e) in reaches was.0 q was.1;
+    }

@@ -1,0 +1,372 @@
+-- A node made under a name: all stays sound.
+use Rattle.std.proofs.Common.{◌≡◌, ℕ, suc, ◌+◌, ◌<◌, ◌≤◌, ◌==◌, Bool, true, false, List, [], ◌∷◌, length, map, Option, Some, None}
+use Rattle.std.proofs.Common.{refl, sym, ap, ◌∙◌, subst, arith, ⊎_elim}
+use Rattle.std.specs.Prelude.{if◌then◌else◌, is_some, IfSome, ◌&&◌}
+use Rattle.std.proofs.lemmas.List.{length-map}
+use Rattle.std.proofs.lemmas.Bool.{eqb-true}
+use Rattle.std.specs.List.{range_with_len}
+use Rattle.std.specs.Option.{option_map}
+use Rattle.std.specs.Ordering.{nat_cmp}
+use Rattle.std.specs.Cmp.{nat_cmp_total}
+use Rattle.std.specs.FinMap.{get, len, nat_cmp-IsAntisymmetric}
+use Rattle.std.specs.FinSet as sets
+use Rattle.nfs_model.specs.Parts.{Hand}
+use Rattle.depot_rule.specs.Sums.{total}
+use Rattle.nfs_model.specs.volume.Directories.{DirectoryValue, empty_directory, added}
+use Rattle.nfs_model.specs.volume.Inodes.{InodeKind, RegularFile, Folder, Inode, InodesValue, filled_blocks, inode_of, inode_created}
+use Rattle.nfs_model.specs.volume.Stripes.{Card, OfFile, OfFolder, Block, StripeValue, touch_of, stripe_of, is_filled}
+use Rattle.nfs_model.specs.volume.lemmas.Inodes.{next-absent, len-set, len-created, created-is, set-is, next-set, used-set-same, inode-created-other}
+use Rattle.nfs_model.specs.volume.lemmas.Numbered.{get-insert_at, itself}
+use Rattle.filer_state.specs.state.Contents.{VolumeContents}
+use Rattle.filer_state.specs.state.Tree.{stripe_at, home_stripe, file_filled, file_touch, later, most_file_blocks}
+use Rattle.filer_state.specs.state.Names.{DirectoryMap, size_in, size_of, AreNamed}
+use Rattle.filer_state.specs.state.WellFormed.{StripeFits, WellFormed, size_shown}
+use Rattle.filer_state.specs.state.Partition.{times_in_stripe, times_in_hand}
+use Rattle.filer_state.specs.state.Sound.{IsSound}
+use Rattle.filer_state.specs.state.Lenses.{logical_lens}
+use Rattle.filer_state.specs.laws.lemmas.SameBlocks as blocks
+use Rattle.filer_state.specs.nodes.Making.{Making, with_subdirectories, folders_in, directory_inode, inodes_made, entries_made, card_made, node_made}
+use Rattle.filer_state.specs.nodes.lemmas.Named as names
+use Rattle.filer_state.specs.nodes.lemmas.Named.{new_entries}
+use Rattle.filer_state.specs.nodes.Laws.{IsNewIn, MayBeMade}
+
+-- ---- cards
+
+abbrev shown_size : Inode → Option ℕ
+shown_size inode = size_in inode.kind
+
+module _ (k : InodeKind) (f : ℕ) where
+  abbrev card_of_kind : InodeKind → Card
+  card_of_kind (RegularFile size filled verifier) = OfFile size None
+  card_of_kind (Folder parent subdirectories) = OfFolder
+
+  pub blocks-same : (s : StripeValue) → (card_made k f s).blocks ≡ s.blocks
+  blocks-same s = by k
+    where
+      by : (kind : InodeKind) → (card_made kind f s).blocks ≡ s.blocks
+      by (RegularFile size filled verifier) = refl
+      by (Folder parent subdirectories) = refl
+
+  verifier-same : (s : StripeValue) → (card_made k f s).verifier ≡ s.verifier
+  verifier-same s = by k
+    where
+      by : (kind : InodeKind) → (card_made kind f s).verifier ≡ s.verifier
+      by (RegularFile size filled verifier) = refl
+      by (Folder parent subdirectories) = refl
+
+  stripes-same : (s : StripeValue) → (card_made k f s).stripes ≡ s.stripes
+  stripes-same s = by k
+    where
+      by : (kind : InodeKind) → (card_made kind f s).stripes ≡ s.stripes
+      by (RegularFile size filled verifier) = refl
+      by (Folder parent subdirectories) = refl
+
+  largest-same : (s : StripeValue) → (card_made k f s).largest ≡ s.largest
+  largest-same s = by k
+    where
+      by : (kind : InodeKind) → (card_made kind f s).largest ≡ s.largest
+      by (RegularFile size filled verifier) = refl
+      by (Folder parent subdirectories) = refl
+
+  -- where there was no card, there is one without a touch; the others stay
+  pub card-found : (s : StripeValue) → get s.cards f ≡ None → (q : ℕ)
+      → get (card_made k f s).cards q ≡ (if q == f then Some (card_of_kind k) else get s.cards q)
+  card-found s none q = by k
+    where
+      by : (kind : InodeKind) → get (card_made kind f s).cards q ≡ (if q == f then Some (card_of_kind kind) else get s.cards q)
+      by (RegularFile size filled verifier) =
+          get-insert_at s.cards f (OfFile size (touch_of (get s.cards f))) q
+          ∙ ap (λ o. if q == f then Some (OfFile size (touch_of o)) else get s.cards q) none
+      by (Folder parent subdirectories) = get-insert_at s.cards f OfFolder q
+
+  shown-kind : (kind : InodeKind) → size_shown (card_of_kind kind) ≡ size_in kind
+  shown-kind (RegularFile size filled verifier) = refl
+  shown-kind (Folder parent subdirectories) = refl
+
+  untouched : (kind : InodeKind) → touch_of (Some (card_of_kind kind)) ≡ None
+  untouched (RegularFile size filled verifier) = refl
+  untouched (Folder parent subdirectories) = refl
+
+  pub shown-made : (s : StripeValue) → get s.cards f ≡ None
+      → option_map size_shown (get (card_made k f s).cards f) ≡ Some (size_in k)
+  shown-made s none =
+      ap (option_map size_shown) (card-found s none f)
+      ∙ ap (λ (b : Bool). option_map size_shown (if b then Some (card_of_kind k) else get s.cards f)) (itself f)
+      ∙ ap Some (shown-kind k)
+
+  pub shown-other : (s : StripeValue) → get s.cards f ≡ None → (q : ℕ) → (q == f) ≡ false
+      → get (card_made k f s).cards q ≡ get s.cards q
+  shown-other s none q ne = card-found s none q ∙ ap (λ (b : Bool). if b then Some (card_of_kind k) else get s.cards q) ne
+
+  -- no stripe has a card of a fileid
+  abbrev pub HaveNoCard : List StripeValue → Type 0
+  HaveNoCard stripes = (i : ℕ) → i < length stripes → get (stripe_at stripes i).cards f ≡ None
+
+  pub touch-none : (stripes : List StripeValue) → HaveNoCard stripes → file_touch (map (card_made k f) stripes) f ≡ None
+  touch-none [] none = refl
+  touch-none (s ∷ stripes) none =
+      let here : touch_of (get (card_made k f s).cards f) ≡ None =
+      ap touch_of (card-found s (none 0 (omega arith)) f)
+      ∙ ap (λ (b : Bool). touch_of (if b then Some (card_of_kind k) else get s.cards f)) (itself f) ∙ untouched k in
+      λ j. later (here j) (touch-none stripes (λ i less. none (suc i) (omega arith)) j)
+
+  pub touch-other : (stripes : List StripeValue) → HaveNoCard stripes → (q : ℕ) → (q == f) ≡ false
+      → file_touch (map (card_made k f) stripes) q ≡ file_touch stripes q
+  touch-other [] none q ne = refl
+  touch-other (s ∷ stripes) none q ne = λ j. later
+      (touch_of (shown-other s (none 0 (omega arith)) q ne j)) (touch-other stripes (λ i less. none (suc i) (omega arith)) q ne j)
+
+-- ---- a file without blocks
+
+module _ (stripes : List StripeValue) (f : ℕ) (none : (b : ℕ) → is_filled (home_stripe stripes f b) f b ≡ false) where
+  -- a set kept by a test that nothing passes
+  and-false : (b : Bool) → (b && false) ≡ false
+  and-false true = refl
+  and-false false = refl
+
+  pub none-filled : file_filled stripes f ≡ sets.empty
+  none-filled = sets.same_set nat_cmp_total nat_cmp-IsAntisymmetric (file_filled stripes f) sets.empty (λ q.
+      sets.contains-retain (sets.from_list (range_with_len 0 most_file_blocks)) (λ block. is_filled (home_stripe stripes f block) f block) q
+      (λ x same. ap (λ (b : ℕ). is_filled (home_stripe stripes f b) f b) (sym (nat_cmp-IsAntisymmetric q x same)))
+      ∙ ap (λ b. sets.contains (sets.from_list {R = nat_cmp} (range_with_len 0 most_file_blocks)) q && b) (none q)
+      ∙ and-false (sets.contains (sets.from_list {R = nat_cmp} (range_with_len 0 most_file_blocks)) q)
+      ∙ sym (sets.contains-empty nat_cmp q))
+
+-- ---- the volume after it
+
+-- the volume after a node is made
+abbrev pub made_in : Making → VolumeContents → VolumeContents
+made_in m p = logical_lens.put (node_made m (logical_lens.of p)) p
+
+filled-kept : (more : ℕ) (k : InodeKind) → filled_blocks (with_subdirectories more k) ≡ filled_blocks k
+filled-kept more (RegularFile size filled verifier) = refl
+filled-kept more (Folder parent subdirectories) = refl
+
+new-empty : (directory largest : ℕ) (k : InodeKind) → IsNewIn directory largest k → filled_blocks k ≡ 0
+new-empty directory largest (RegularFile size filled verifier) h = h.0
+new-empty directory largest (Folder parent subdirectories) h = refl
+
+new-size : (directory largest : ℕ) (k : InodeKind) → IsNewIn directory largest k → IfSome (size_in k) (λ size. size ≤ largest)
+new-size directory largest (RegularFile size filled verifier) h = h.1
+new-size directory largest (Folder parent subdirectories) h = tt
+
+module _ (p : VolumeContents) (m : Making) (well : WellFormed p) (may : MayBeMade m p) where
+  abbrev f : ℕ
+  f = p.logical.inodes.next
+
+  abbrev k : InodeKind
+  k = m.made.kind
+
+  abbrev old : InodesValue
+  old = p.logical.inodes
+
+  abbrev new : InodesValue
+  new = inodes_made m old
+
+  -- ---- what is found after it (`Named`)
+
+  apart : (m.directory == f) ≡ false
+  apart = names.apart old p.logical.directories m well.logical.inodes may.there
+
+  at-directory : inode_of new m.directory ≡ Some (directory_inode m)
+  at-directory = names.at-directory old p.logical.directories m well.logical.inodes may.there
+
+  at-made : inode_of new f ≡ Some m.made
+  at-made = names.at-made old p.logical.directories m well.logical.inodes may.there
+
+  at-other : (q : ℕ) → (q == m.directory) ≡ false → (q == f) ≡ false → inode_of new q ≡ inode_of old q
+  at-other = names.at-other old p.logical.directories m well.logical.inodes may.there
+
+  size-same : (q : ℕ) → (q == f) ≡ false → size_of (inode_of new q) ≡ size_of (inode_of old q)
+  size-same = names.size-same old p.logical.directories m well.logical.inodes may.there
+
+  by-fileid : (P : ℕ → Type 0) → P m.directory → P f → ((q : ℕ) → (q == m.directory) ≡ false → (q == f) ≡ false → P q) → (q : ℕ) → P q
+  by-fileid = names.by-fileid old p.logical.directories m well.logical.inodes may.there
+
+  abbrev directories_after : DirectoryMap
+  directories_after = entries_made m f p.logical.directories
+
+  directory-entries : get directories_after m.directory ≡ Some (added m.name f m.entries)
+  directory-entries = names.directory-entries old p.logical.directories m well.logical.inodes may.there may.entered well.logical.named may.absent
+      p.logical.largest may.is_new
+
+  made-entries : get directories_after f ≡ new_entries k
+  made-entries = names.made-entries old p.logical.directories m well.logical.inodes may.there may.entered well.logical.named may.absent
+      p.logical.largest may.is_new
+
+  other-entries : (q : ℕ) → (q == m.directory) ≡ false → (q == f) ≡ false → get directories_after q ≡ get p.logical.directories q
+  other-entries = names.other-entries old p.logical.directories m well.logical.inodes may.there may.entered well.logical.named may.absent
+      p.logical.largest may.is_new
+
+  named-made : AreNamed new.inodes directories_after
+  named-made = names.named-made old p.logical.directories m well.logical.inodes may.there may.entered well.logical.named may.absent
+      p.logical.largest may.is_new
+
+  nothing : inode_of old f ≡ None
+  nothing = next-absent old well.logical.inodes
+
+  -- no stripe has a card of the new fileid yet, nor a block
+  pub no-card : HaveNoCard k f p.stripes
+  no-card i less = by (get (stripe_at p.stripes i).cards f) ((well.stripes i less).cards f ∙ ap (option_map shown_size) nothing)
+    where
+      by : (o : Option Card) → option_map size_shown o ≡ None → o ≡ None
+      by None e = refl
+      by (Some c) e = absurd cc
+
+  some-stripes : 0 < length p.stripes
+  some-stripes =
+      let many = well.as_many in
+      ⊎_elim (λ (e : p.logical.stripes ≡ 8). omega (arith, e, many)) (λ (e : p.logical.stripes ≡ 16). omega (arith, e, many)) well.striped
+
+  pub no-block : (b : ℕ) → is_filled (home_stripe p.stripes f b) f b ≡ false
+  no-block b = by (get (home_stripe p.stripes f b).blocks (f, b)) refl
+    where
+      less : stripe_of (length p.stripes) f b < length p.stripes
+      less = let some = some-stripes in omega (arith, some)
+
+      by : (o : Option Block) → get (home_stripe p.stripes f b).blocks (f, b) ≡ o → is_some o ≡ false
+      by None e = refl
+      by (Some block) e =
+          let fits = (well.stripes (stripe_of (length p.stripes) f b) less).blocks f b block e in
+          let none : size_of (inode_of old f) ≡ None = ap size_of nothing in
+          absurd (let says = fits.1 in cc)
+
+  abbrev after : VolumeContents
+  after = made_in m p
+
+  shown-after : (s : StripeValue) → get s.cards f ≡ None
+      → ((q : ℕ) → option_map size_shown (get s.cards q) ≡ option_map shown_size (inode_of old q))
+      → (q : ℕ) → option_map size_shown (get (card_made k f s).cards q) ≡ option_map shown_size (inode_of new q)
+  shown-after s none fits = by-fileid
+      (λ q. option_map size_shown (get (card_made k f s).cards q) ≡ option_map shown_size (inode_of new q))
+      (ap (option_map size_shown) (shown-other k f s none m.directory (apart))
+      ∙ fits m.directory ∙ ap (option_map shown_size) may.there
+      ∙ ap Some (sym (names.size-kept (folders_in k) m.inode.kind))
+      ∙ sym (ap (option_map shown_size) (at-directory)))
+      (shown-made k f s none ∙ sym (ap (option_map shown_size) (at-made)))
+      (λ q ne older. ap (option_map size_shown) (shown-other k f s none q older) ∙ fits q
+      ∙ sym (ap (option_map shown_size) (at-other q ne older)))
+
+  -- a block's file was there before
+  older-block : (q size : ℕ) → size_of (inode_of old q) ≡ Some size → size_of (inode_of new q) ≡ Some size
+  older-block q size says = by (q == f) refl
+    where
+      by : (b : Bool) → (q == f) ≡ b → size_of (inode_of new q) ≡ Some size
+      by true e =
+          let none : size_of (inode_of old q) ≡ None = ap (λ (x : ℕ). size_of (inode_of old x)) (eqb-true q f e) ∙ ap size_of nothing in
+          absurd cc
+      by false e = size-same q e ∙ says
+
+  fits-after : (i : ℕ) (s : StripeValue) → get s.cards f ≡ None → StripeFits p.logical i s → StripeFits after.logical i (card_made k f s)
+  fits-after i s none fits = record {
+    verifier = verifier-same k f s ∙ fits.verifier;
+    stripes = stripes-same k f s ∙ fits.stripes;
+    largest = largest-same k f s ∙ fits.largest;
+    cards = shown-after s none fits.cards;
+    long = record { long = λ place b e. fits.long.long place b (ap (λ x. get x place) (sym (blocks-same k f s)) ∙ e) };
+    blocks = λ fileid block b e.
+        let was = fits.blocks fileid block b (ap (λ x. get x (fileid, block)) (sym (blocks-same k f s)) ∙ e) in
+        (was.0, older-block fileid was.0 was.1, was.2);
+  }
+
+  empty : filled_blocks k ≡ 0
+  empty = new-empty m.directory p.logical.largest k may.is_new
+
+  filled-after : (q : ℕ) (x : Inode) → inode_of new q ≡ Some x → filled_blocks x.kind ≡ sets.len (file_filled after.stripes q)
+  filled-after = by-fileid
+      (λ q. (x : Inode) → inode_of new q ≡ Some x → filled_blocks x.kind ≡ sets.len (file_filled after.stripes q))
+      (λ x e.
+      let is : directory_inode m ≡ x = (let at = at-directory in cc) in
+      ap (λ (i : Inode). filled_blocks i.kind) (sym is) ∙ filled-kept (folders_in k) m.inode.kind ∙ well.filled m.directory m.inode may.there
+      ∙ sym (ap sets.len (stay m.directory)))
+      (λ x e.
+      let is : m.made ≡ x = (let at = at-made in cc) in
+      ap (λ (i : Inode). filled_blocks i.kind) (sym is) ∙ empty ∙ sym (sets.len-empty nat_cmp) ∙ sym (ap sets.len (none-filled p.stripes f no-block))
+      ∙ sym (ap sets.len (stay f)))
+      (λ q ne older x e.
+      well.filled q x (sym (at-other q ne older) ∙ e) ∙ sym (ap sets.len (stay q)))
+    where
+      stay : (q : ℕ) → file_filled after.stripes q ≡ file_filled p.stripes q
+      stay q = blocks.filled-stays (card_made k f) (blocks-same k f) p.stripes q
+
+  created-lawful : (inode_of (inode_created m.made old) m.directory ≡ Some m.inode)
+  created-lawful = inode-created-other old m.made m.directory (apart) ∙ may.there
+
+  pub well-made : WellFormed after
+  well-made = record {
+    striped = well.striped;
+    largest = well.largest;
+    logical = record {
+      inodes = set-is (inode_created m.made old) m.directory (directory_inode m) (created-is old m.made well.logical.inodes);
+      few =
+          let set = len-set (inode_created m.made old) m.directory (directory_inode m) in
+          let more = len-created old m.made well.logical.inodes in
+          let few = may.few in
+          omega (arith, set, more, few);
+      sizes = λ q. size-after q (q == f) refl;
+      named = named-made;
+    };
+    as_many = length-map p.stripes (card_made k f) ∙ well.as_many;
+    stripes = λ i less.
+        let long = length-map p.stripes (card_made k f) in
+        let on : i < length p.stripes = omega (arith, less, long) in
+        subst (StripeFits after.logical i) (sym (blocks.stripe-mapped (card_made k f) p.stripes i on))
+        (fits-after i (stripe_at p.stripes i) (no-card i on) (well.stripes i on));
+    used =
+        let same = used-set-same (inode_created m.made old) m.directory m.inode (directory_inode m) (created-is old m.made well.logical.inodes)
+        created-lawful (filled-kept (folders_in k) m.inode.kind) in
+        let was = well.used in
+        let none = empty in
+        let blocks = blocks.total-mapped (card_made k f) (λ (s : StripeValue). len s.blocks) (λ s. ap (λ x. len x) (blocks-same k f s)) p.stripes in
+        omega (arith, same, was, none, blocks);
+    filled = filled-after;
+    sixteen = well.sixteen;
+    some = well.some;
+    ranges = well.ranges;
+  }
+    where
+      size-after : (q : ℕ) (b : Bool) → (q == f) ≡ b → IfSome (size_of (inode_of new q)) (λ size. size ≤ p.logical.largest)
+      size-after q true e =
+          subst (λ o. IfSome (size_of o) (λ size. size ≤ p.logical.largest))
+          (sym (ap (λ (x : ℕ). inode_of new x) (eqb-true q f e) ∙ at-made))
+          (new-size m.directory p.logical.largest k may.is_new)
+      size-after q false e =
+          subst (λ o. IfSome o (λ size. size ≤ p.logical.largest))
+          (sym (size-same q e)) (well.logical.sizes q)
+
+  -- all stays sound
+  pub sound-made : (hands hands' : List Hand) (made : ℕ) → ((n : ℕ) → total (times_in_hand p.number n) hands' ≡ total (times_in_hand p.number n) hands)
+      → IsSound p hands made → IsSound after hands' (made + 1)
+  sound-made hands hands' made weigh s = record {
+    well_formed = well-made;
+    young = record {
+      fileids =
+          let next = next-set (inode_created m.made old) m.directory (directory_inode m) in
+          let y = s.young.fileids in
+          omega (arith, next, y);
+      cookies = by-fileid
+          (λ q. (d : DirectoryValue) → get after.logical.directories q ≡ Some d → d.next ≤ 3 + (made + 1))
+          (λ d e.
+          let same : added m.name f m.entries ≡ d = (let at = directory-entries in cc) in
+          let is : m.entries.next + 1 ≡ d.next = ap (λ (x : DirectoryValue). x.next) same in
+          let y = s.young.cookies m.directory m.entries may.entered in
+          omega (arith, is, y))
+          (λ d e. made-cookies k d (sym (made-entries) ∙ e))
+          (λ q ne older d e.
+          let y = s.young.cookies q d (sym (other-entries q ne older) ∙ e) in
+          omega (arith, y));
+    };
+    partition = λ n.
+        let e = weigh n in
+        let o = s.partition n in
+        let stripes = blocks.total-mapped (card_made k f) (times_in_stripe n) (λ t. ap (λ x. times_in_stripe n (record t { blocks = x })) (blocks-same k f t))
+        p.stripes in
+        omega (arith, e, o, stripes);
+  }
+    where
+      made-cookies : (kind : InodeKind) (d : DirectoryValue) → new_entries kind ≡ Some d → d.next ≤ 3 + (made + 1)
+      made-cookies (RegularFile size filled verifier) d e = absurd cc
+      made-cookies (Folder parent subdirectories) d e =
+          let same : empty_directory ≡ d = cc in
+          let is : 3 ≡ d.next = ap (λ (x : DirectoryValue). x.next) same in
+          omega (arith, is)

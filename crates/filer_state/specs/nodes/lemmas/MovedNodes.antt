@@ -1,0 +1,226 @@
+-- The nodes that are seen after a node moves to another name, step by step.
+use Rattle.std.proofs.Common.{◌≡◌, ℕ, ◌==◌, Bool, true, false, List, Option, Some, None, refl, sym, ap, ◌∙◌}
+use Rattle.std.specs.Prelude.{if◌then◌else◌}
+use Rattle.std.proofs.lemmas.Bool.{eqb-true}
+use Rattle.std.specs.Option.{option_map}
+use Rattle.std.specs.Cmp.{nat_cmp_total}
+use Rattle.std.specs.FinMap.{get, insert, nat_cmp-IsAntisymmetric}
+use Rattle.nfs_model.specs.Types.{Moment}
+use Rattle.nfs_model.specs.Server.{Attributes, Node, File, Directory}
+use Rattle.nfs_model.specs.Names.{with_name, dropped_name}
+use Rattle.nfs_model.specs.Serial.Rename.{moved_node}
+use Rattle.nfs_model.specs.volume.Directories.{DirectoryValue, added, removed}
+use Rattle.nfs_model.specs.volume.Inodes.{InodeKind, RegularFile, Folder, Inode, InodesValue, inode_of, inode_set}
+use Rattle.nfs_model.specs.volume.Stripes.{StripeValue}
+use Rattle.nfs_model.specs.volume.lemmas.Inodes.{inode-set-there, inode-set-other}
+use Rattle.nfs_model.specs.volume.lemmas.Maps.{get-map_values}
+use Rattle.nfs_model.specs.volume.lemmas.Numbered.{get-insert_at, same-answers, itself}
+use Rattle.filer_state.specs.state.Tree.{file_touch, directory_or_empty, node_by, node_of}
+use Rattle.filer_state.specs.state.Names.{parent_in}
+use Rattle.filer_state.specs.state.Lenses.{LogicalSet}
+use Rattle.filer_state.specs.state.Changes.{attributes_now}
+use Rattle.filer_state.specs.attributes.lemmas.Kept.{bytes-stay, filled-stays, touch-gone, touch-stays}
+use Rattle.filer_state.specs.nodes.Making.{folders_in, with_subdirectories}
+use Rattle.filer_state.specs.nodes.Dropping.{without_subdirectories}
+use Rattle.filer_state.specs.nodes.Moving.{Naming, dated_inode, entry_taken, with_parent, node_hung, node_hung_up}
+use Rattle.filer_state.specs.nodes.Laws.{seen_directory, nodes_of}
+
+node-of-folder : (stripes : List StripeValue) (o : Option DirectoryValue) (d : DirectoryValue) (q : ℕ) (a : Attributes) (k : InodeKind) (parent : ℕ)
+    → o ≡ Some d → parent_in k ≡ Some parent
+    → node_by stripes o q a k ≡ Directory (record { attributes = a; parent = parent; next = d.next; list = d.list })
+node-of-folder stripes o d q a (RegularFile size filled verifier) parent is says = absurd cc
+node-of-folder stripes o d q a (Folder up subdirectories) parent is says =
+    let same : up ≡ parent = cc in
+    λ j. Directory (record { attributes = a; parent = same j; next = (directory_or_empty (is j)).next; list = (directory_or_empty (is j)).list })
+
+parent-less : (n : ℕ) (k : InodeKind) → parent_in (without_subdirectories n k) ≡ parent_in k
+parent-less n (RegularFile size filled verifier) = refl
+parent-less n (Folder parent subdirectories) = refl
+
+parent-more : (n : ℕ) (k : InodeKind) → parent_in (with_subdirectories n k) ≡ parent_in k
+parent-more n (RegularFile size filled verifier) = refl
+parent-more n (Folder parent subdirectories) = refl
+
+-- ---- an entry taken
+
+module _ (s : LogicalSet) (m : Naming) (there : inode_of s.own.inodes m.directory ≡ Some m.inode)
+    (parent : ℕ) (says : parent_in m.inode.kind ≡ Some parent) where
+  abbrev was : ℕ → Inode → Node
+  was = node_of s.stripes s.own.directories
+
+  abbrev taken : LogicalSet
+  taken = entry_taken m s
+
+  abbrev now : ℕ → Inode → Node
+  now = node_of taken.stripes taken.own.directories
+
+  abbrev dated : Inode
+  dated = dated_inode m.moment (without_subdirectories (folders_in m.node.kind) m.inode.kind) m.inode
+
+  abbrev directory_then : Node
+  directory_then = Directory (dropped_name (seen_directory m.inode m.entries parent) m.name m.moment)
+
+  entries-at : get taken.own.directories m.directory ≡ Some (removed m.name m.entries)
+  entries-at =
+      get-insert_at s.own.directories m.directory (removed m.name m.entries) m.directory
+      ∙ ap (λ (b : Bool). if b then Some (removed m.name m.entries) else get s.own.directories m.directory) (itself m.directory)
+
+  entries-other : (q : ℕ) → (q == m.directory) ≡ false → get taken.own.directories q ≡ get s.own.directories q
+  entries-other q ne =
+      get-insert_at s.own.directories m.directory (removed m.name m.entries) q
+      ∙ ap (λ (b : Bool). if b then Some (removed m.name m.entries) else get s.own.directories q) ne
+
+  here : now m.directory dated ≡ directory_then
+  here = node-of-folder taken.stripes (get taken.own.directories m.directory) (removed m.name m.entries) m.directory dated.attributes dated.kind parent
+      entries-at (parent-less (folders_in m.node.kind) m.inode.kind ∙ says)
+
+  others : (q : ℕ) → (q == m.directory) ≡ false → (o : Option Inode) → option_map (now q) o ≡ option_map (was q) o
+  others q ne None = refl
+  others q ne (Some inode) = λ j. Some (node_by s.stripes (entries-other q ne j) q inode.attributes inode.kind)
+
+  pub nodes-taken : nodes_of taken ≡ insert (nodes_of s) m.directory directory_then
+  nodes-taken = same-answers _ _ (λ q.
+      get-map_values nat_cmp_total nat_cmp-IsAntisymmetric now taken.own.inodes.inodes q ∙ by q (q == m.directory) refl
+      ∙ sym (get-insert_at (nodes_of s) m.directory directory_then q))
+    where
+      by : (q : ℕ) (b : Bool) → (q == m.directory) ≡ b
+          → option_map (now q) (inode_of taken.own.inodes q) ≡ (if b then Some directory_then else get (nodes_of s) q)
+      by q true e =
+          ap (λ (k : ℕ). option_map (now k) (inode_of taken.own.inodes k)) (eqb-true q m.directory e)
+          ∙ ap (option_map (now m.directory)) (inode-set-there s.own.inodes m.directory m.inode dated there) ∙ ap Some here
+      by q false e =
+          ap (option_map (now q)) (inode-set-other s.own.inodes m.directory dated q e) ∙ others q e (inode_of s.own.inodes q)
+          ∙ sym (get-map_values nat_cmp_total nat_cmp-IsAntisymmetric was s.own.inodes.inodes q)
+
+-- ---- a node hung up
+
+module _ (s : LogicalSet) (m : Naming) (there : inode_of s.own.inodes m.directory ≡ Some m.inode) (node : inode_of s.own.inodes m.fileid ≡ Some m.node)
+    (apart : (m.directory == m.fileid) ≡ false) (apart-turned : (m.fileid == m.directory) ≡ false)
+    (parent : ℕ) (says : parent_in m.inode.kind ≡ Some parent) where
+  abbrev touch : Option Moment
+  touch = file_touch s.stripes m.fileid
+
+  abbrev seen : ℕ → Inode → Node
+  seen = node_of s.stripes s.own.directories
+
+  abbrev hung : LogicalSet
+  hung = node_hung_up m touch s
+
+  abbrev then_seen : ℕ → Inode → Node
+  then_seen = node_of hung.stripes hung.own.directories
+
+  abbrev dated_to : Inode
+  dated_to = dated_inode m.moment (with_subdirectories (folders_in m.node.kind) m.inode.kind) m.inode
+
+  abbrev entered_then : Node
+  entered_then = Directory (with_name (seen_directory m.inode m.entries parent) m.name m.fileid m.moment)
+
+  abbrev moved_then : Node
+  moved_then = moved_node m.directory m.moment (seen m.fileid m.node)
+
+  hung-at : get hung.own.directories m.directory ≡ Some (added m.name m.fileid m.entries)
+  hung-at =
+      get-insert_at s.own.directories m.directory (added m.name m.fileid m.entries) m.directory
+      ∙ ap (λ (b : Bool). if b then Some (added m.name m.fileid m.entries) else get s.own.directories m.directory) (itself m.directory)
+
+  hung-off : (q : ℕ) → (q == m.directory) ≡ false → get hung.own.directories q ≡ get s.own.directories q
+  hung-off q ne =
+      get-insert_at s.own.directories m.directory (added m.name m.fileid m.entries) q
+      ∙ ap (λ (b : Bool). if b then Some (added m.name m.fileid m.entries) else get s.own.directories q) ne
+
+  directory-then : then_seen m.directory dated_to ≡ entered_then
+  directory-then = node-of-folder hung.stripes (get hung.own.directories m.directory) (added m.name m.fileid m.entries) m.directory
+      dated_to.attributes dated_to.kind parent hung-at (parent-more (folders_in m.node.kind) m.inode.kind ∙ says)
+
+  node-then : then_seen m.fileid (node_hung m touch) ≡ moved_then
+  node-then = by m.node.kind
+    where
+      by : (k : InodeKind)
+          → node_by hung.stripes (get hung.own.directories m.fileid) m.fileid (record (attributes_now touch m.node.attributes k) { ctime = m.moment })
+          (with_parent m.directory k)
+          ≡ moved_node m.directory m.moment (node_by s.stripes (get s.own.directories m.fileid) m.fileid m.node.attributes k)
+      by (RegularFile size filled verifier) = λ j. File (record {
+        attributes = record (attributes_now touch m.node.attributes (RegularFile size filled verifier)) { ctime = m.moment };
+        bytes = bytes-stay m.fileid s.stripes m.fileid size j;
+        filled = filled-stays m.fileid s.stripes m.fileid j;
+        touch = touch-gone m.fileid s.stripes j;
+        verifier = verifier;
+      })
+      by (Folder old subdirectories) = λ j. Directory (record {
+        attributes = record m.node.attributes { ctime = m.moment };
+        parent = m.directory;
+        next = (directory_or_empty (hung-off m.fileid apart-turned j)).next;
+        list = (directory_or_empty (hung-off m.fileid apart-turned j)).list;
+      })
+
+  off : (q : ℕ) → (q == m.directory) ≡ false → (q == m.fileid) ≡ false → (inode : Inode) → then_seen q inode ≡ seen q inode
+  off q ne other inode = by inode.kind
+    where
+      by : (k : InodeKind) → node_by hung.stripes (get hung.own.directories q) q inode.attributes k
+          ≡ node_by s.stripes (get s.own.directories q) q inode.attributes k
+      by (RegularFile size filled verifier) = λ j. File (record {
+        attributes = inode.attributes;
+        bytes = bytes-stay m.fileid s.stripes q size j;
+        filled = filled-stays m.fileid s.stripes q j;
+        touch = touch-stays m.fileid s.stripes q other j;
+        verifier = verifier;
+      })
+      by (Folder old subdirectories) = λ j. node_by s.stripes (hung-off q ne j) q inode.attributes (Folder old subdirectories)
+
+  all-off : (q : ℕ) → (q == m.directory) ≡ false → (q == m.fileid) ≡ false → (o : Option Inode) → option_map (then_seen q) o ≡ option_map (seen q) o
+  all-off q ne other None = refl
+  all-off q ne other (Some inode) = ap Some (off q ne other inode)
+
+  abbrev answer : ℕ → Option Node
+  answer q = if q == m.fileid then Some moved_then else if q == m.directory then Some entered_then else get (nodes_of s) q
+
+  abbrev between : InodesValue
+  between = inode_set m.directory dated_to s.own.inodes
+
+  pub nodes-hung : nodes_of hung ≡ insert (insert (nodes_of s) m.directory entered_then) m.fileid moved_then
+  nodes-hung = same-answers _ _ (λ q.
+      get-map_values nat_cmp_total nat_cmp-IsAntisymmetric then_seen hung.own.inodes.inodes q ∙ first q (q == m.fileid) refl ∙ sym (wanted q))
+    where
+      wanted : (q : ℕ) → get (insert (insert (nodes_of s) m.directory entered_then) m.fileid moved_then) q ≡ answer q
+      wanted q =
+          get-insert_at (insert (nodes_of s) m.directory entered_then) m.fileid moved_then q
+          ∙ ap (λ (o : Option Node). if q == m.fileid then Some moved_then else o) (get-insert_at (nodes_of s) m.directory entered_then q)
+
+      second : (q : ℕ) (c : Bool) → (q == m.directory) ≡ c → (q == m.fileid) ≡ false
+          → option_map (then_seen q) (inode_of hung.own.inodes q) ≡ (if c then Some entered_then else get (nodes_of s) q)
+      second q true e other =
+          ap (option_map (then_seen q)) (inode-set-other between m.fileid (node_hung m touch) q other)
+          ∙ ap (λ (k : ℕ). option_map (then_seen k) (inode_of between k)) (eqb-true q m.directory e)
+          ∙ ap (option_map (then_seen m.directory)) (inode-set-there s.own.inodes m.directory m.inode dated_to there) ∙ ap Some directory-then
+      second q false e other =
+          ap (option_map (then_seen q)) (inode-set-other between m.fileid (node_hung m touch) q other
+          ∙ inode-set-other s.own.inodes m.directory dated_to q e)
+          ∙ all-off q e other (inode_of s.own.inodes q)
+          ∙ sym (get-map_values nat_cmp_total nat_cmp-IsAntisymmetric seen s.own.inodes.inodes q)
+
+      first : (q : ℕ) (b : Bool) → (q == m.fileid) ≡ b → option_map (then_seen q) (inode_of hung.own.inodes q)
+          ≡ (if b then Some moved_then else if q == m.directory then Some entered_then else get (nodes_of s) q)
+      first q true e =
+          ap (λ (k : ℕ). option_map (then_seen k) (inode_of hung.own.inodes k)) (eqb-true q m.fileid e)
+          ∙ ap (option_map (then_seen m.fileid)) (inode-set-there between m.fileid m.node (node_hung m touch)
+          (inode-set-other s.own.inodes m.directory dated_to m.fileid apart-turned ∙ node))
+          ∙ ap Some node-then
+      first q false e = second q (q == m.directory) refl e
+
+-- ---- both
+
+-- the nodes after a node moved
+pub nodes-moved : (s : LogicalSet) (from to : Naming) (from_parent to_parent : ℕ)
+    → inode_of s.own.inodes from.directory ≡ Some from.inode → parent_in from.inode.kind ≡ Some from_parent
+    → inode_of (entry_taken from s).own.inodes to.directory ≡ Some to.inode → inode_of (entry_taken from s).own.inodes to.fileid ≡ Some to.node
+    → parent_in to.inode.kind ≡ Some to_parent → (to.directory == to.fileid) ≡ false → (to.fileid == to.directory) ≡ false
+    → nodes_of (node_hung_up to (file_touch s.stripes to.fileid) (entry_taken from s))
+    ≡ insert (insert (insert (nodes_of s) from.directory
+    (Directory (dropped_name (seen_directory from.inode from.entries from_parent) from.name from.moment)))
+    to.directory (Directory (with_name (seen_directory to.inode to.entries to_parent) to.name to.fileid to.moment)))
+    to.fileid (moved_node to.directory to.moment (node_of s.stripes (entry_taken from s).own.directories to.fileid to.node))
+nodes-moved s from to from_parent to_parent from_there from_says to_there node to_says apart apart-turned =
+    nodes-hung (entry_taken from s) to to_there node apart apart-turned to_parent to_says
+    ∙ (λ j. insert (insert (nodes-taken s from from_there from_parent from_says j) to.directory
+    (Directory (with_name (seen_directory to.inode to.entries to_parent) to.name to.fileid to.moment)))
+    to.fileid (moved_node to.directory to.moment (node_of s.stripes (entry_taken from s).own.directories to.fileid to.node)))

@@ -1,0 +1,350 @@
+-- Inodes and names after a node is made under a name: they are lawful again.
+use Rattle.std.proofs.Common.{◌≡◌, ℕ, zero, suc, ◌+◌, ◌==◌, ◌&&◌, not, Bool, true, false, List, Option, Some, None}
+use Rattle.std.proofs.Common.{refl, sym, ap, ◌∙◌, subst, arith, eq-eqb, ne_eqb}
+use Rattle.std.specs.Prelude.{if◌then◌else◌, is_some, IfSome}
+use Rattle.std.proofs.lemmas.Bool.{eqb-true}
+use Rattle.std.specs.List.{AllByRecursion}
+use Rattle.std.specs.FinMap.{get, entries, nat_cmp-IsAntisymmetric}
+use Rattle.nfs_model.specs.Types.{Listed}
+use Rattle.nfs_model.specs.Parts.{one_if}
+use Rattle.depot_rule.specs.Sums.{total}
+use Rattle.nfs_model.specs.volume.Directories.{DirectoryValue, empty_directory, added, entry_added, found}
+use Rattle.nfs_model.specs.volume.Inodes.{InodeKind, RegularFile, Folder, InodesValue, IsInodes, inode_of, inode_created}
+use Rattle.nfs_model.specs.volume.lemmas.Inodes.{next-absent, inode-created-there, inode-created-other, inode-set-there, inode-set-other}
+use Rattle.nfs_model.specs.volume.lemmas.Numbered.{get-insert_at, itself}
+use Rattle.filer_state.specs.state.Names.{root, DirectoryMap, size_in, size_of, parent_in, parent_directory, subdirectories_in, subdirectories_of}
+use Rattle.filer_state.specs.state.Names.{is_folder, parent_or, times_in_list, times_named, is_named, folders_listed, directory_above, DirectoryFits, AreNamed}
+use Rattle.filer_state.specs.laws.lemmas.Mapped.{entry-at-least}
+use Rattle.filer_state.specs.nodes.Making.{Making, folders_in, with_subdirectories, directory_inode, inodes_made, directories_made, entries_made}
+use Rattle.filer_state.specs.nodes.Laws.{IsNewIn}
+use Rattle.filer_state.specs.nodes.lemmas.Others as others
+use Rattle.filer_state.specs.nodes.lemmas.Others.{IsChildOf}
+use Rattle.filer_state.specs.nodes.lemmas.Summed.{total-insert, total-set}
+use Rattle.filer_state.specs.nodes.lemmas.Listing.{count-more, all-more, added-is}
+
+-- ---- kinds
+
+pub parent-kept : (more : ℕ) (k : InodeKind) → parent_in (with_subdirectories more k) ≡ parent_in k
+parent-kept more (RegularFile size filled verifier) = refl
+parent-kept more (Folder parent subdirectories) = refl
+
+pub size-kept : (more : ℕ) (k : InodeKind) → size_in (with_subdirectories more k) ≡ size_in k
+size-kept more (RegularFile size filled verifier) = refl
+size-kept more (Folder parent subdirectories) = refl
+
+pub counted-more : (more n : ℕ) (k : InodeKind) → subdirectories_in k ≡ Some n → subdirectories_in (with_subdirectories more k) ≡ Some (n + more)
+counted-more more n (RegularFile size filled verifier) e = absurd cc
+counted-more more n (Folder parent subdirectories) e = let same : subdirectories ≡ n = cc in ap (λ k. Some (k + more)) same
+
+-- the new directory's entries, if it is one
+abbrev pub new_entries : InodeKind → Option DirectoryValue
+new_entries (RegularFile size filled verifier) = None
+new_entries (Folder parent subdirectories) = Some empty_directory
+
+module _ (old : InodesValue) (directories : DirectoryMap) (m : Making) (lawful : IsInodes old) (there : inode_of old m.directory ≡ Some m.inode) where
+  abbrev pub made_fileid : ℕ
+  made_fileid = old.next
+
+  abbrev new : InodesValue
+  new = inodes_made m old
+
+  pub apart : (m.directory == old.next) ≡ false
+  apart = ne_eqb m.directory old.next (λ e. let less = lawful.fileids m.directory m.inode there in absurd (omega (arith, e, less)))
+
+  pub apart-turned : (old.next == m.directory) ≡ false
+  apart-turned = ne_eqb old.next m.directory (λ e. let less = lawful.fileids m.directory m.inode there in absurd (omega (arith, e, less)))
+
+  -- what is found under each fileid
+  pub at-directory : inode_of new m.directory ≡ Some (directory_inode m)
+  at-directory = inode-set-there (inode_created m.made old) m.directory m.inode (directory_inode m) (inode-created-other old m.made m.directory apart ∙ there)
+
+  pub at-made : inode_of new old.next ≡ Some m.made
+  at-made = inode-set-other (inode_created m.made old) m.directory (directory_inode m) old.next apart-turned ∙ inode-created-there old m.made
+
+  pub at-other : (q : ℕ) → (q == m.directory) ≡ false → (q == old.next) ≡ false → inode_of new q ≡ inode_of old q
+  at-other q ne older = inode-set-other (inode_created m.made old) m.directory (directory_inode m) q ne ∙ inode-created-other old m.made q older
+
+  -- by which of them a fileid is
+  pub by-fileid : (P : ℕ → Type 0) → P m.directory → P old.next → ((q : ℕ) → (q == m.directory) ≡ false → (q == old.next) ≡ false → P q) → (q : ℕ) → P q
+  by-fileid = others.by-two m.directory old.next
+
+  -- an inode that was there shows the same parent and size
+  pub parent-same : (q : ℕ) → (q == old.next) ≡ false → parent_directory (inode_of new q) ≡ parent_directory (inode_of old q)
+  parent-same q older = by (q == m.directory) refl
+    where
+      by : (b : Bool) → (q == m.directory) ≡ b → parent_directory (inode_of new q) ≡ parent_directory (inode_of old q)
+      by true e =
+          let is : q ≡ m.directory = eqb-true q m.directory e in
+          ap (λ (k : ℕ). parent_directory (inode_of new k)) is ∙ ap parent_directory at-directory
+          ∙ parent-kept (folders_in m.made.kind) m.inode.kind
+          ∙ sym (ap (λ (k : ℕ). parent_directory (inode_of old k)) is ∙ ap parent_directory there)
+      by false e = ap parent_directory (at-other q e older)
+
+  pub size-same : (q : ℕ) → (q == old.next) ≡ false → size_of (inode_of new q) ≡ size_of (inode_of old q)
+  size-same q older = by (q == m.directory) refl
+    where
+      by : (b : Bool) → (q == m.directory) ≡ b → size_of (inode_of new q) ≡ size_of (inode_of old q)
+      by true e =
+          let is : q ≡ m.directory = eqb-true q m.directory e in
+          ap (λ (k : ℕ). size_of (inode_of new k)) is ∙ ap size_of at-directory
+          ∙ size-kept (folders_in m.made.kind) m.inode.kind
+          ∙ sym (ap (λ (k : ℕ). size_of (inode_of old k)) is ∙ ap size_of there)
+      by false e = ap size_of (at-other q e older)
+
+  pub some-same : (q : ℕ) → (q == old.next) ≡ false → is_some (inode_of new q) ≡ is_some (inode_of old q)
+  some-same q older = by (q == m.directory) refl
+    where
+      by : (b : Bool) → (q == m.directory) ≡ b → is_some (inode_of new q) ≡ is_some (inode_of old q)
+      by true e =
+          let is : q ≡ m.directory = eqb-true q m.directory e in
+          ap (λ (k : ℕ). is_some (inode_of new k)) is ∙ ap (λ o. is_some o) at-directory
+          ∙ sym (ap (λ (k : ℕ). is_some (inode_of old k)) is ∙ ap (λ o. is_some o) there)
+      by false e = ap (λ o. is_some o) (at-other q e older)
+
+  -- ---- lists in which the new fileid doesn't stand
+
+  folders-same : (list : List Listed) → times_in_list old.next list ≡ 0 → folders_listed new.inodes list ≡ folders_listed old.inodes list
+  folders-same list none = others.folders-same new.inodes old.inodes old.next parent-same list none
+
+  children-same : (fileid : ℕ) (list : List Listed) → times_in_list old.next list ≡ 0
+      → AllByRecursion (IsChildOf old.inodes fileid) list → AllByRecursion (IsChildOf new.inodes fileid) list
+  children-same fileid list none all = others.children-same new.inodes old.inodes old.next parent-same fileid list none all
+
+  -- ---- directories
+
+  abbrev directories_after : DirectoryMap
+  directories_after = entries_made m old.next directories
+
+  module _ (entered : get directories m.directory ≡ Some m.entries) (named : AreNamed old.inodes directories) (absent : found m.entries m.name ≡ None)
+      (largest : ℕ) (is_new : IsNewIn m.directory largest m.made.kind) where
+    nothing : inode_of old old.next ≡ None
+    nothing = next-absent old lawful
+
+    none-named : times_named old.next directories ≡ 0
+    none-named = named.once old.next ∙ ap (λ o. one_if (is_some o && not (old.next == root))) nothing
+
+    none-listed : (q : ℕ) (d : DirectoryValue) → get directories q ≡ Some d → times_in_list old.next d.list ≡ 0
+    none-listed q d e =
+        let most = entry-at-least nat_cmp-IsAntisymmetric (λ (x : ℕ × DirectoryValue). times_in_list old.next x.1.list) directories q d e in
+        let none = none-named in
+        omega (arith, most, none)
+
+    no-entries : get directories old.next ≡ None
+    no-entries = by (get directories old.next) (named.folders old.next ∙ ap is_folder nothing)
+      where
+        by : (o : Option DirectoryValue) → is_some o ≡ false → o ≡ None
+        by None e = refl
+        by (Some d) e = absurd cc
+
+    made-alone : (k : InodeKind) → get (directories_made k old.next directories) old.next ≡ new_entries k
+    made-alone (RegularFile size filled verifier) = no-entries
+    made-alone (Folder parent subdirectories) =
+        get-insert_at directories old.next empty_directory old.next
+        ∙ ap (λ (b : Bool). if b then Some empty_directory else get directories old.next) (itself old.next)
+
+    others-alone : (k : InodeKind) (q : ℕ) → (q == old.next) ≡ false → get (directories_made k old.next directories) q ≡ get directories q
+    others-alone (RegularFile size filled verifier) q older = refl
+    others-alone (Folder parent subdirectories) q older =
+        get-insert_at directories old.next empty_directory q ∙ ap (λ (b : Bool). if b then Some empty_directory else get directories q) older
+
+    abbrev first_entries : DirectoryMap
+    first_entries = directories_made m.made.kind old.next directories
+
+    abbrev entries_then : DirectoryValue
+    entries_then = added m.name old.next m.entries
+
+    found-at : (q : ℕ) → get directories_after q ≡ (if q == m.directory then Some entries_then else get first_entries q)
+    found-at q = get-insert_at first_entries m.directory entries_then q
+
+    pub directory-entries : get directories_after m.directory ≡ Some entries_then
+    directory-entries = found-at m.directory ∙ ap (λ (b : Bool). if b then Some entries_then else get first_entries m.directory) (itself m.directory)
+
+    pub made-entries : get directories_after old.next ≡ new_entries m.made.kind
+    made-entries =
+        found-at old.next ∙ ap (λ (b : Bool). if b then Some entries_then else get first_entries old.next) apart-turned ∙ made-alone m.made.kind
+
+    pub other-entries : (q : ℕ) → (q == m.directory) ≡ false → (q == old.next) ≡ false → get directories_after q ≡ get directories q
+    other-entries q ne older =
+        found-at q ∙ ap (λ (b : Bool). if b then Some entries_then else get first_entries q) ne ∙ others-alone m.made.kind q older
+
+    -- ---- what holds of each
+
+    kind-folder : (k : InodeKind) → one_if (is_some (parent_in k)) ≡ folders_in k
+    kind-folder (RegularFile size filled verifier) = refl
+    kind-folder (Folder parent subdirectories) = refl
+
+    kind-entries : (k : InodeKind) → is_some (new_entries k) ≡ is_some (parent_in k)
+    kind-entries (RegularFile size filled verifier) = refl
+    kind-entries (Folder parent subdirectories) = refl
+
+    pub folders-are : (q : ℕ) → is_some (get directories_after q) ≡ is_folder (inode_of new q)
+    folders-are = by-fileid (λ q. is_some (get directories_after q) ≡ is_folder (inode_of new q))
+        (ap (λ o. is_some o) directory-entries ∙ sym (ap is_folder at-directory ∙ ap (λ o. is_some o) (parent-kept (folders_in m.made.kind) m.inode.kind)
+        ∙ sym (ap is_folder there) ∙ sym (named.folders m.directory) ∙ ap (λ o. is_some o) entered))
+        (ap (λ o. is_some o) made-entries ∙ kind-entries m.made.kind ∙ sym (ap is_folder at-made))
+        (λ q ne older. ap (λ o. is_some o) (other-entries q ne older) ∙ named.folders q ∙ sym (ap is_folder (at-other q ne older)))
+
+    abbrev last : Listed
+    last = entry_added m.name old.next m.entries
+
+    last-counts : one_if (is_folder (inode_of new old.next)) ≡ folders_in m.made.kind
+    last-counts = ap (λ o. one_if (is_folder o)) at-made ∙ kind-folder m.made.kind
+
+    last-child : IsChildOf new.inodes m.directory last
+    last-child = subst (λ o. IfSome (parent_directory o) (λ parent. parent ≡ m.directory)) (sym at-made) (by m.made.kind is_new)
+      where
+        by : (k : InodeKind) → IsNewIn m.directory largest k → IfSome (parent_in k) (λ parent. parent ≡ m.directory)
+        by (RegularFile size filled verifier) h = tt
+        by (Folder parent subdirectories) h = h.0
+
+    fits-directory : DirectoryFits new.inodes m.directory entries_then
+    fits-directory =
+        let was = named.fits m.directory m.entries entered in
+        let none = none-listed m.directory m.entries entered in
+        let old_links : subdirectories_in m.inode.kind ≡ Some (folders_listed old.inodes m.entries.list) = sym (ap subdirectories_of there) ∙ was.links in
+        record {
+          list = added-is m.entries m.name old.next absent was.list;
+          children = all-more (IsChildOf new.inodes m.directory) m.entries.list last
+              (children-same m.directory m.entries.list none was.children) last-child;
+          links =
+              let more = counted-more (folders_in m.made.kind) (folders_listed old.inodes m.entries.list) m.inode.kind old_links in
+              let sum : folders_listed new.inodes entries_then.list ≡ folders_listed old.inodes m.entries.list + folders_in m.made.kind =
+              count-more (λ (e : Listed). is_folder (get new.inodes e.fileid)) m.entries.list last
+              ∙ (let same = folders-same m.entries.list none in let one = last-counts in omega (arith, same, one)) in
+              ap subdirectories_of at-directory ∙ more ∙ ap Some (sym sum);
+        }
+
+    fits-made : (k : InodeKind) → m.made.kind ≡ k → (d : DirectoryValue) → new_entries k ≡ Some d → DirectoryFits new.inodes old.next d
+    fits-made (RegularFile size filled verifier) is d e = absurd cc
+    fits-made (Folder parent subdirectories) is d e =
+        let same : empty_directory ≡ d = cc in
+        let new_one : (parent ≡ m.directory) × (subdirectories ≡ 0) = subst (IsNewIn m.directory largest) is is_new in
+        subst (DirectoryFits new.inodes old.next) same (record {
+          list = record { cookies = omega arith; names = tt };
+          children = tt;
+          links = ap subdirectories_of at-made ∙ ap subdirectories_in is ∙ ap Some new_one.1;
+        })
+
+    fits-other : (q : ℕ) (d : DirectoryValue) → (q == m.directory) ≡ false → (q == old.next) ≡ false → get directories q ≡ Some d
+        → DirectoryFits new.inodes q d
+    fits-other q d ne older e =
+        let was = named.fits q d e in
+        let none = none-listed q d e in
+        record {
+          list = was.list;
+          children = children-same q d.list none was.children;
+          links = ap subdirectories_of (at-other q ne older) ∙ was.links ∙ ap Some (sym (folders-same d.list none));
+        }
+
+    -- ---- how often each is named
+
+    abbrev times_of : ℕ → ℕ × DirectoryValue → ℕ
+    times_of q e = times_in_list q e.1.list
+
+    first-times : (q : ℕ) (k : InodeKind) → total (times_of q) (entries (directories_made k old.next directories)) ≡ times_named q directories
+    first-times q (RegularFile size filled verifier) = refl
+    first-times q (Folder parent subdirectories) =
+        let one = total-insert (times_of q) directories old.next empty_directory no-entries in
+        omega (arith, one)
+
+    first-there : get first_entries m.directory ≡ Some m.entries
+    first-there = others-alone m.made.kind m.directory apart ∙ entered
+
+    -- once more for the new node alone
+    times-after : (q : ℕ) → times_named q directories_after ≡ times_named q directories + one_if (old.next == q)
+    times-after q =
+        let set = total-set (times_of q) first_entries m.directory m.entries entries_then first-there in
+        let first = first-times q m.made.kind in
+        let more = count-more (λ (e : Listed). e.fileid == q) m.entries.list last in
+        omega (arith, set, first, more)
+
+    root-apart : (root == old.next) ≡ false
+    root-apart = ne_eqb root old.next (λ e.
+        let gone : parent_directory (inode_of old root) ≡ None = ap (λ (k : ℕ). parent_directory (inode_of old k)) e ∙ ap parent_directory nothing in
+        let is = named.root_there in
+        absurd cc)
+
+    made-is-no-root : (old.next == root) ≡ false
+    made-is-no-root = ne_eqb old.next root (λ e.
+        let gone : parent_directory (inode_of old root) ≡ None = ap (λ (k : ℕ). parent_directory (inode_of old k)) (sym e) ∙ ap parent_directory nothing in
+        let is = named.root_there in
+        absurd cc)
+
+    once-after : (q : ℕ) → times_named q directories_after ≡ one_if (is_named new.inodes q)
+    once-after q = by (q == old.next) refl
+      where
+        by : (b : Bool) → (q == old.next) ≡ b → times_named q directories_after ≡ one_if (is_named new.inodes q)
+        by true e =
+            let is : q ≡ old.next = eqb-true q old.next e in
+            let here : times_named old.next directories_after ≡ 1 =
+            (let after = times-after old.next in let none = none-named in let one : one_if (old.next == old.next) ≡ 1 = ap one_if (itself old.next) in
+            omega (arith, after, none, one)) in
+            let now : one_if (is_named new.inodes old.next) ≡ 1 =
+            ap (λ o. one_if (is_some o && not (old.next == root))) at-made ∙ ap (λ (t : Bool). one_if (not t)) made-is-no-root in
+            subst (λ (k : ℕ). times_named k directories_after ≡ one_if (is_named new.inodes k)) (sym is) (here ∙ sym now)
+        by false e =
+            let other : one_if (old.next == q) ≡ 0 =
+            ap one_if (ne_eqb old.next q (λ (h : old.next ≡ q). let t : (q == old.next) ≡ true = eq-eqb q old.next (sym h) in cc)) in
+            let after = times-after q in
+            let was = named.once q in
+            let same : one_if (is_named new.inodes q) ≡ one_if (is_named old.inodes q) = ap (λ (b : Bool). one_if (b && not (q == root))) (some-same q e) in
+            omega (arith, other, after, was, same)
+
+    -- ---- the way to the root
+
+    above-made : (n : ℕ) → directory_above old.inodes n old.next ≡ old.next
+    above-made zero = refl
+    above-made (suc n) = ap (λ o. directory_above old.inodes n (parent_or (parent_directory o) old.next)) nothing ∙ above-made n
+
+    above-same : (n q : ℕ) → directory_above old.inodes n q ≡ root → directory_above new.inodes n q ≡ root
+    above-same zero q h = h
+    above-same (suc n) q h = by (q == old.next) refl (above-same n)
+      where
+        by : (b : Bool) → (q == old.next) ≡ b → ((r : ℕ) → directory_above old.inodes n r ≡ root → directory_above new.inodes n r ≡ root)
+            → directory_above new.inodes (suc n) q ≡ root
+        by true e further =
+            let is : q ≡ old.next = eqb-true q old.next e in
+            let never : old.next ≡ root = sym (above-made (suc n)) ∙ ap (directory_above old.inodes (suc n)) (sym is) ∙ h in
+            let t : (old.next == root) ≡ true = eq-eqb old.next root never in
+            let f = made-is-no-root in
+            absurd cc
+        by false e further =
+            ap (λ o. directory_above new.inodes n (parent_or o q)) (parent-same q e)
+            ∙ further (parent_or (parent_directory (inode_of old q)) q) h
+
+    rooted-directory : (steps : ℕ) × (directory_above new.inodes steps m.directory ≡ root)
+    rooted-directory =
+        let folder : is_folder (inode_of old m.directory) ≡ true = sym (named.folders m.directory) ∙ ap (λ o. is_some o) entered in
+        let reaches = named.rooted m.directory folder in
+        (reaches.0, above-same reaches.0 m.directory reaches.1)
+
+    rooted-made : (k : InodeKind) → m.made.kind ≡ k → is_folder (inode_of new old.next) ≡ true
+        → (steps : ℕ) × (directory_above new.inodes steps old.next ≡ root)
+    rooted-made (RegularFile size filled verifier) is h =
+        let none : is_folder (inode_of new old.next) ≡ false = ap is_folder at-made ∙ ap (λ k. is_some (parent_in k)) is in
+        absurd cc
+    rooted-made (Folder parent subdirectories) is h =
+        let new_one : (parent ≡ m.directory) × (subdirectories ≡ 0) = subst (IsNewIn m.directory largest) is is_new in
+        let up : parent_directory (inode_of new old.next) ≡ Some m.directory = ap parent_directory at-made ∙ ap parent_in is ∙ ap Some new_one.0 in
+        let reaches = rooted-directory in
+        (suc reaches.0, ap (λ o. directory_above new.inodes reaches.0 (parent_or o old.next)) up ∙ reaches.1)
+
+    -- ---- all of it
+
+    -- names are lawful again
+    pub named-made : AreNamed new.inodes directories_after
+    named-made = record {
+      root_there = parent-same root root-apart ∙ named.root_there;
+      folders = folders-are;
+      fits = by-fileid (λ q. (d : DirectoryValue) → get directories_after q ≡ Some d → DirectoryFits new.inodes q d)
+          (λ d e. let same : entries_then ≡ d = (let was = directory-entries in cc) in subst (DirectoryFits new.inodes m.directory) same fits-directory)
+          (λ d e. fits-made m.made.kind refl d (sym made-entries ∙ e))
+          (λ q ne older d e. fits-other q d ne older (sym (other-entries q ne older) ∙ e));
+      once = once-after;
+      rooted = by-fileid (λ q. is_folder (inode_of new q) ≡ true → (steps : ℕ) × (directory_above new.inodes steps q ≡ root))
+          (λ h. rooted-directory)
+          (rooted-made m.made.kind refl)
+          (λ q ne older h.
+          let reaches = named.rooted q (sym (ap is_folder (at-other q ne older)) ∙ h) in
+          (reaches.0, above-same reaches.0 q reaches.1));
+    }

@@ -1,0 +1,398 @@
+-- Inodes and names after a node without entries loses its name: they are lawful again.
+use Rattle.std.proofs.Common.{◌≡◌, ◌≢◌, ℕ, zero, suc, ◌+◌, ◌-◌, ◌<◌, ◌==◌, ◌&&◌, not, Bool, true, false, List, [], ◌∷◌, Option, Some, None}
+use Rattle.std.proofs.Common.{refl, sym, ap, ◌∙◌, subst, arith, eq-eqb, ne_eqb}
+use Rattle.std.specs.Prelude.{if◌then◌else◌, is_some, IfSome}
+use Rattle.std.proofs.lemmas.Bool.{eqb-true}
+use Rattle.std.specs.List.{AllByRecursion}
+use Rattle.std.specs.Cmp.{nat_cmp_total}
+use Rattle.std.specs.FinMap.{get, remove, entries, nat_cmp-IsAntisymmetric}
+use Rattle.nfs_model.specs.Types.{Listed}
+use Rattle.nfs_model.specs.Names.{find_name, without_name}
+use Rattle.nfs_model.specs.Parts.{one_if}
+use Rattle.depot_rule.specs.Sums.{total}
+use Rattle.nfs_model.specs.volume.Directories.{DirectoryValue, removed, found}
+use Rattle.nfs_model.specs.volume.Inodes.{InodeKind, RegularFile, Folder, Inode, InodesValue, inode_of, inode_dropped}
+use Rattle.nfs_model.specs.volume.lemmas.Inodes.{inode-dropped-there, inode-dropped-other, inode-set-there, inode-set-other}
+use Rattle.nfs_model.specs.volume.lemmas.Numbered.{get-insert_at, get-remove_at, itself}
+use Rattle.filer_state.specs.state.Names.{root, DirectoryMap, size_in, size_of, parent_in, parent_directory, subdirectories_in, subdirectories_of}
+use Rattle.filer_state.specs.state.Names.{is_folder, parent_or, times_in_list, times_named, is_named, folders_listed, directory_above, DirectoryFits, AreNamed}
+use Rattle.filer_state.specs.laws.lemmas.Mapped.{entry-at-least, total-entries}
+use Rattle.filer_state.specs.nodes.Making.{folders_in}
+use Rattle.filer_state.specs.nodes.Dropping.{Dropping, without_subdirectories, directory_left, inodes_left, directories_left, entries_left}
+use Rattle.filer_state.specs.nodes.Laws.{LosesName}
+use Rattle.filer_state.specs.nodes.lemmas.Others as others
+use Rattle.filer_state.specs.nodes.lemmas.Others.{IsChildOf}
+use Rattle.filer_state.specs.nodes.lemmas.Summed.{total-split, total-set}
+use Rattle.filer_state.specs.nodes.lemmas.Listing.{all-without, removed-is, count-without}
+
+-- ---- kinds
+
+pub parent-kept : (fewer : ℕ) (k : InodeKind) → parent_in (without_subdirectories fewer k) ≡ parent_in k
+parent-kept fewer (RegularFile size filled verifier) = refl
+parent-kept fewer (Folder parent subdirectories) = refl
+
+pub size-kept : (fewer : ℕ) (k : InodeKind) → size_in (without_subdirectories fewer k) ≡ size_in k
+size-kept fewer (RegularFile size filled verifier) = refl
+size-kept fewer (Folder parent subdirectories) = refl
+
+pub counted-less : (fewer n : ℕ) (k : InodeKind) → subdirectories_in k ≡ Some n → subdirectories_in (without_subdirectories fewer k) ≡ Some (n - fewer)
+counted-less fewer n (RegularFile size filled verifier) e = absurd cc
+counted-less fewer n (Folder parent subdirectories) e = let same : subdirectories ≡ n = cc in ap (λ k. Some (k - fewer)) same
+
+module _ (old : InodesValue) (directories : DirectoryMap) (m : Dropping) (may : LosesName m old directories) where
+  abbrev new : InodesValue
+  new = inodes_left m old
+
+  apart-is : m.directory ≢ m.fileid
+  apart-is e =
+      let none : m.entries.list ≡ [] = may.empty m.entries (ap (get directories) (sym e) ∙ may.entered) in
+      let gone : found m.entries m.name ≡ None = ap (find_name m.name) none in
+      let is = may.found_there in
+      absurd cc
+
+  pub apart : (m.directory == m.fileid) ≡ false
+  apart = ne_eqb m.directory m.fileid apart-is
+
+  pub apart-turned : (m.fileid == m.directory) ≡ false
+  apart-turned = ne_eqb m.fileid m.directory (λ e. apart-is (sym e))
+
+  -- what is found under each fileid
+  pub there-still : inode_of (inode_dropped m.fileid old) m.directory ≡ Some m.inode
+  there-still = inode-dropped-other old m.fileid m.directory apart ∙ may.there
+
+  pub at-directory : inode_of new m.directory ≡ Some (directory_left m)
+  at-directory = inode-set-there (inode_dropped m.fileid old) m.directory m.inode (directory_left m) there-still
+
+  pub at-dropped : inode_of new m.fileid ≡ None
+  at-dropped = inode-set-other (inode_dropped m.fileid old) m.directory (directory_left m) m.fileid apart-turned ∙ inode-dropped-there old m.fileid
+
+  pub at-other : (q : ℕ) → (q == m.directory) ≡ false → (q == m.fileid) ≡ false → inode_of new q ≡ inode_of old q
+  at-other q ne left = inode-set-other (inode_dropped m.fileid old) m.directory (directory_left m) q ne ∙ inode-dropped-other old m.fileid q left
+
+  -- by which of them a fileid is
+  pub by-fileid : (P : ℕ → Type 0) → P m.directory → P m.fileid → ((q : ℕ) → (q == m.directory) ≡ false → (q == m.fileid) ≡ false → P q) → (q : ℕ) → P q
+  by-fileid = others.by-two m.directory m.fileid
+
+  -- an inode that stays shows the same parent and size
+  pub parent-same : (q : ℕ) → (q == m.fileid) ≡ false → parent_directory (inode_of new q) ≡ parent_directory (inode_of old q)
+  parent-same q left = by (q == m.directory) refl
+    where
+      by : (b : Bool) → (q == m.directory) ≡ b → parent_directory (inode_of new q) ≡ parent_directory (inode_of old q)
+      by true e =
+          let is : q ≡ m.directory = eqb-true q m.directory e in
+          ap (λ (k : ℕ). parent_directory (inode_of new k)) is ∙ ap parent_directory at-directory
+          ∙ parent-kept (folders_in m.dropped.kind) m.inode.kind
+          ∙ sym (ap (λ (k : ℕ). parent_directory (inode_of old k)) is ∙ ap parent_directory may.there)
+      by false e = ap parent_directory (at-other q e left)
+
+  pub size-same : (q : ℕ) → (q == m.fileid) ≡ false → size_of (inode_of new q) ≡ size_of (inode_of old q)
+  size-same q left = by (q == m.directory) refl
+    where
+      by : (b : Bool) → (q == m.directory) ≡ b → size_of (inode_of new q) ≡ size_of (inode_of old q)
+      by true e =
+          let is : q ≡ m.directory = eqb-true q m.directory e in
+          ap (λ (k : ℕ). size_of (inode_of new k)) is ∙ ap size_of at-directory
+          ∙ size-kept (folders_in m.dropped.kind) m.inode.kind
+          ∙ sym (ap (λ (k : ℕ). size_of (inode_of old k)) is ∙ ap size_of may.there)
+      by false e = ap size_of (at-other q e left)
+
+  pub some-same : (q : ℕ) → (q == m.fileid) ≡ false → is_some (inode_of new q) ≡ is_some (inode_of old q)
+  some-same q left = by (q == m.directory) refl
+    where
+      by : (b : Bool) → (q == m.directory) ≡ b → is_some (inode_of new q) ≡ is_some (inode_of old q)
+      by true e =
+          let is : q ≡ m.directory = eqb-true q m.directory e in
+          ap (λ (k : ℕ). is_some (inode_of new k)) is ∙ ap (λ o. is_some o) at-directory
+          ∙ sym (ap (λ (k : ℕ). is_some (inode_of old k)) is ∙ ap (λ o. is_some o) may.there)
+      by false e = ap (λ o. is_some o) (at-other q e left)
+
+  -- ---- lists in which the fileid doesn't stand
+
+  folders-same : (list : List Listed) → times_in_list m.fileid list ≡ 0 → folders_listed new.inodes list ≡ folders_listed old.inodes list
+  folders-same list none = others.folders-same new.inodes old.inodes m.fileid parent-same list none
+
+  children-same : (fileid : ℕ) (list : List Listed) → times_in_list m.fileid list ≡ 0
+      → AllByRecursion (IsChildOf old.inodes fileid) list → AllByRecursion (IsChildOf new.inodes fileid) list
+  children-same fileid list none all = others.children-same new.inodes old.inodes m.fileid parent-same fileid list none all
+
+  -- ---- directories
+
+  abbrev directories_after : DirectoryMap
+  directories_after = entries_left m directories
+
+  module _ (named : AreNamed old.inodes directories) where
+    abbrev times_of : ℕ → ℕ × DirectoryValue → ℕ
+    times_of q e = times_in_list q e.1.list
+
+    abbrev list_left : List Listed
+    list_left = without_name m.name m.entries.list
+
+    -- how often a fileid stands in what is left of the directory
+    times-left : (q : ℕ) → times_in_list q list_left + one_if (m.fileid == q) ≡ times_in_list q m.entries.list
+    times-left q =
+        let all = count-without (λ (e : Listed). e.fileid == q) m.name m.entries.list may.entry
+        (named.fits m.directory m.entries may.entered).list.names may.found_there in
+        let same : one_if (may.entry.fileid == q) ≡ one_if (m.fileid == q) = ap (λ (x : ℕ). one_if (x == q)) may.is in
+        omega (arith, all, same)
+
+    once-before : times_named m.fileid directories ≡ one_if (not (m.fileid == root))
+    once-before = named.once m.fileid ∙ ap (λ o. one_if (is_some o && not (m.fileid == root))) may.node
+
+    some-listed : 0 < times_in_list m.fileid m.entries.list
+    some-listed = let all = times-left m.fileid in let one : one_if (m.fileid == m.fileid) ≡ 1 = ap one_if (itself m.fileid) in omega (arith, all, one)
+
+    -- it isn't the root, since it has a name
+    pub no-root : (m.fileid == root) ≡ false
+    no-root = by (m.fileid == root) refl
+      where
+        by : (b : Bool) → (m.fileid == root) ≡ b → b ≡ false
+        by true e =
+            let some = some-listed in
+            let most = entry-at-least nat_cmp-IsAntisymmetric (times_of m.fileid) directories m.directory m.entries may.entered in
+            let once : times_named m.fileid directories ≡ 0 = once-before ∙ ap (λ (t : Bool). one_if (not t)) e in
+            absurd (omega (arith, some, most, once))
+        by false e = refl
+
+    once-is : times_named m.fileid directories ≡ 1
+    once-is = once-before ∙ ap (λ (t : Bool). one_if (not t)) no-root
+
+    none-left : times_in_list m.fileid list_left ≡ 0
+    none-left =
+        let all = times-left m.fileid in
+        let one : one_if (m.fileid == m.fileid) ≡ 1 = ap one_if (itself m.fileid) in
+        let most = entry-at-least nat_cmp-IsAntisymmetric (times_of m.fileid) directories m.directory m.entries may.entered in
+        let once = once-is in
+        omega (arith, all, one, most, once)
+
+    -- it stands in no other directory
+    none-listed : (q : ℕ) (d : DirectoryValue) → (q == m.directory) ≡ false → get directories q ≡ Some d → times_in_list m.fileid d.list ≡ 0
+    none-listed q d ne e =
+        let split = total-split (times_of m.fileid) directories m.directory m.entries may.entered in
+        let some = some-listed in
+        let once = once-is in
+        let still : get (remove directories m.directory) q ≡ Some d =
+        get-remove_at directories m.directory q ∙ ap (λ (b : Bool). if b then None else get directories q) ne ∙ e in
+        let most = entry-at-least nat_cmp-IsAntisymmetric (times_of m.fileid) (remove directories m.directory) q d still in
+        omega (arith, split, some, once, most)
+
+    -- ---- what is found of the directories
+
+    dropped-folder : is_some (get directories m.fileid) ≡ is_some (parent_in m.dropped.kind)
+    dropped-folder = named.folders m.fileid ∙ ap is_folder may.node
+
+    abbrev first_entries : DirectoryMap
+    first_entries = directories_left m.dropped.kind m.fileid directories
+
+    none-is : (o : Option DirectoryValue) → is_some o ≡ false → o ≡ None
+    none-is None e = refl
+    none-is (Some d) e = absurd cc
+
+    dropped-alone : (k : InodeKind) → is_some (get directories m.fileid) ≡ is_some (parent_in k) → get (directories_left k m.fileid directories) m.fileid ≡ None
+    dropped-alone (RegularFile size filled verifier) e = none-is (get directories m.fileid) e
+    dropped-alone (Folder parent subdirectories) e =
+        get-remove_at directories m.fileid m.fileid ∙ ap (λ (b : Bool). if b then None else get directories m.fileid) (itself m.fileid)
+
+    others-alone : (k : InodeKind) (q : ℕ) → (q == m.fileid) ≡ false → get (directories_left k m.fileid directories) q ≡ get directories q
+    others-alone (RegularFile size filled verifier) q left = refl
+    others-alone (Folder parent subdirectories) q left =
+        get-remove_at directories m.fileid q ∙ ap (λ (b : Bool). if b then None else get directories q) left
+
+    found-at : (q : ℕ) → get directories_after q ≡ (if q == m.directory then Some (removed m.name m.entries) else get first_entries q)
+    found-at q = get-insert_at first_entries m.directory (removed m.name m.entries) q
+
+    pub directory-entries : get directories_after m.directory ≡ Some (removed m.name m.entries)
+    directory-entries =
+        found-at m.directory ∙ ap (λ (b : Bool). if b then Some (removed m.name m.entries) else get first_entries m.directory) (itself m.directory)
+
+    pub dropped-entries : get directories_after m.fileid ≡ None
+    dropped-entries =
+        found-at m.fileid ∙ ap (λ (b : Bool). if b then Some (removed m.name m.entries) else get first_entries m.fileid) apart-turned
+        ∙ dropped-alone m.dropped.kind dropped-folder
+
+    pub other-entries : (q : ℕ) → (q == m.directory) ≡ false → (q == m.fileid) ≡ false → get directories_after q ≡ get directories q
+    other-entries q ne left =
+        found-at q ∙ ap (λ (b : Bool). if b then Some (removed m.name m.entries) else get first_entries q) ne ∙ others-alone m.dropped.kind q left
+
+    -- ---- what holds of each
+
+    folders-are : (q : ℕ) → is_some (get directories_after q) ≡ is_folder (inode_of new q)
+    folders-are = by-fileid (λ q. is_some (get directories_after q) ≡ is_folder (inode_of new q))
+        (ap (λ o. is_some o) directory-entries ∙ sym (ap is_folder at-directory ∙ ap (λ o. is_some o) (parent-kept (folders_in m.dropped.kind) m.inode.kind)
+        ∙ sym (ap is_folder may.there) ∙ sym (named.folders m.directory) ∙ ap (λ o. is_some o) may.entered))
+        (ap (λ o. is_some o) dropped-entries ∙ sym (ap is_folder at-dropped))
+        (λ q ne left. ap (λ o. is_some o) (other-entries q ne left) ∙ named.folders q ∙ sym (ap is_folder (at-other q ne left)))
+
+    kind-folder : (k : InodeKind) → one_if (is_some (parent_in k)) ≡ folders_in k
+    kind-folder (RegularFile size filled verifier) = refl
+    kind-folder (Folder parent subdirectories) = refl
+
+    entry-counts : one_if (is_folder (inode_of old may.entry.fileid)) ≡ folders_in m.dropped.kind
+    entry-counts =
+        ap (λ (x : ℕ). one_if (is_folder (inode_of old x))) may.is ∙ ap (λ o. one_if (is_folder o)) may.node ∙ kind-folder m.dropped.kind
+
+    fits-directory : DirectoryFits new.inodes m.directory (removed m.name m.entries)
+    fits-directory =
+        let was = named.fits m.directory m.entries may.entered in
+        let old_links : subdirectories_in m.inode.kind ≡ Some (folders_listed old.inodes m.entries.list) = sym (ap subdirectories_of may.there) ∙ was.links in
+        record {
+          list = removed-is m.entries m.name was.list;
+          children = children-same m.directory list_left none-left (all-without (IsChildOf old.inodes m.directory) m.name m.entries.list was.children);
+          links =
+              let less = counted-less (folders_in m.dropped.kind) (folders_listed old.inodes m.entries.list) m.inode.kind old_links in
+              let all = count-without (λ (e : Listed). is_folder (get old.inodes e.fileid)) m.name m.entries.list may.entry
+              was.list.names may.found_there in
+              let one = entry-counts in
+              let same = folders-same list_left none-left in
+              let sum : folders_listed old.inodes m.entries.list - folders_in m.dropped.kind ≡ folders_listed new.inodes list_left =
+              omega (arith, all, one, same) in
+              ap subdirectories_of at-directory ∙ less ∙ ap Some sum;
+        }
+
+    fits-other : (q : ℕ) (d : DirectoryValue) → (q == m.directory) ≡ false → (q == m.fileid) ≡ false → get directories q ≡ Some d
+        → DirectoryFits new.inodes q d
+    fits-other q d ne left e =
+        let was = named.fits q d e in
+        let none = none-listed q d ne e in
+        record {
+          list = was.list;
+          children = children-same q d.list none was.children;
+          links = ap subdirectories_of (at-other q ne left) ∙ was.links ∙ ap Some (sym (folders-same d.list none));
+        }
+
+    -- ---- how often each is named
+
+    first-times : (q : ℕ) (k : InodeKind) → is_some (get directories m.fileid) ≡ is_some (parent_in k)
+        → total (times_of q) (entries (directories_left k m.fileid directories)) ≡ times_named q directories
+    first-times q (RegularFile size filled verifier) e = refl
+    first-times q (Folder parent subdirectories) e = by (get directories m.fileid) refl e
+      where
+        by : (o : Option DirectoryValue) → get directories m.fileid ≡ o → is_some (get directories m.fileid) ≡ true
+            → total (times_of q) (entries (remove directories m.fileid)) ≡ times_named q directories
+        by None is some = let none : is_some (get directories m.fileid) ≡ false = ap (λ x. is_some x) is in absurd cc
+        by (Some d) is some =
+            let split = total-split (times_of q) directories m.fileid d is in
+            let none : times_in_list q d.list ≡ 0 = ap (times_in_list q) (may.empty d is) in
+            omega (arith, split, none)
+
+    first-there : get first_entries m.directory ≡ Some m.entries
+    first-there = others-alone m.dropped.kind m.directory apart ∙ may.entered
+
+    times-after : (q : ℕ) → times_named q directories_after + one_if (m.fileid == q) ≡ times_named q directories
+    times-after q =
+        let set = total-set (times_of q) first_entries m.directory m.entries (removed m.name m.entries) first-there in
+        let first = first-times q m.dropped.kind dropped-folder in
+        let left = times-left q in
+        omega (arith, set, first, left)
+
+    once-after : (q : ℕ) → times_named q directories_after ≡ one_if (is_named new.inodes q)
+    once-after q = by (q == m.fileid) refl
+      where
+        by : (b : Bool) → (q == m.fileid) ≡ b → times_named q directories_after ≡ one_if (is_named new.inodes q)
+        by true e =
+            let is : q ≡ m.fileid = eqb-true q m.fileid e in
+            let here : times_named m.fileid directories_after ≡ 0 =
+            (let after = times-after m.fileid in let once = once-is in let one : one_if (m.fileid == m.fileid) ≡ 1 = ap one_if (itself m.fileid) in
+            omega (arith, after, once, one)) in
+            let now : one_if (is_named new.inodes m.fileid) ≡ 0 = ap (λ o. one_if (is_some o && not (m.fileid == root))) at-dropped in
+            subst (λ (k : ℕ). times_named k directories_after ≡ one_if (is_named new.inodes k)) (sym is) (here ∙ sym now)
+        by false e =
+            let other : one_if (m.fileid == q) ≡ 0 =
+            ap one_if (ne_eqb m.fileid q (λ (h : m.fileid ≡ q). let t : (q == m.fileid) ≡ true = eq-eqb q m.fileid (sym h) in cc)) in
+            let after = times-after q in
+            let was = named.once q in
+            let same : one_if (is_named new.inodes q) ≡ one_if (is_named old.inodes q) = ap (λ (b : Bool). one_if (b && not (q == root))) (some-same q e) in
+            omega (arith, other, after, was, same)
+
+    -- ---- the way to the root
+
+    -- where the fileid is the parent of another, this other stands in no directory
+    module _ (q : ℕ) (parent : parent_directory (inode_of old q) ≡ Some m.fileid) where
+      in-other : (x : ℕ) → (x == m.fileid) ≡ false → (list : List Listed) → AllByRecursion (IsChildOf old.inodes x) list → times_in_list q list ≡ 0
+      in-other x left [] all = refl
+      in-other x left (e ∷ list) all = by (e.fileid == q) refl (in-other x left list all.1)
+        where
+          by : (b : Bool) → (e.fileid == q) ≡ b → times_in_list q list ≡ 0 → one_if b + times_in_list q list ≡ 0
+          by true is others =
+              let says : IfSome (parent_directory (inode_of old q)) (λ p. p ≡ x) =
+              subst (λ (k : ℕ). IfSome (parent_directory (get old.inodes k)) (λ p. p ≡ x)) (eqb-true e.fileid q is) all.0 in
+              let same : m.fileid ≡ x = subst (λ o. IfSome o (λ p. p ≡ x)) parent says in
+              let test : (x == m.fileid) ≡ true = eq-eqb x m.fileid (sym same) in
+              absurd cc
+          by false is others = omega (arith, others)
+
+      in-each : (x : ℕ) (d : DirectoryValue) → get directories x ≡ Some d → times_in_list q d.list ≡ 0
+      in-each x d e = by (x == m.fileid) refl
+        where
+          by : (b : Bool) → (x == m.fileid) ≡ b → times_in_list q d.list ≡ 0
+          by true is = ap (times_in_list q) (may.empty d (sym (ap (get directories) (eqb-true x m.fileid is)) ∙ e))
+          by false is = in-other x is d.list (named.fits x d e).children
+
+      never-named : times_named q directories ≡ 0
+      never-named =
+          total-entries nat_cmp_total nat_cmp-IsAntisymmetric (times_of q) (λ (x : ℕ × DirectoryValue). 0) directories in-each
+          ∙ zero-total (entries directories)
+        where
+          zero-total : (es : List (ℕ × DirectoryValue)) → total (λ (x : ℕ × DirectoryValue). 0) es ≡ 0
+          zero-total [] = refl
+          zero-total (e ∷ es) = let others = zero-total es in omega (arith, others)
+
+      is-root : (q == root) ≡ true
+      is-root = by (q == root) refl
+        where
+          some : (o : Option Inode) → parent_directory o ≡ Some m.fileid → is_some o ≡ true
+          some None e = absurd cc
+          some (Some i) e = refl
+
+          by : (b : Bool) → (q == root) ≡ b → b ≡ true
+          by true is = refl
+          by false is =
+              let once : times_named q directories ≡ 1 = named.once q ∙ ap (λ (t : Bool). one_if (t && not (q == root))) (some (inode_of old q) parent)
+              ∙ ap (λ (t : Bool). one_if (not t)) is in
+              let never = never-named in
+              absurd (omega (arith, once, never))
+
+      no-child : m.fileid ≡ root
+      no-child =
+          let here : parent_directory (inode_of old root) ≡ Some m.fileid =
+          ap (λ (k : ℕ). parent_directory (inode_of old k)) (sym (eqb-true q root is-root)) ∙ parent in
+          let was = named.root_there in
+          cc
+
+    not-parent : (q : ℕ) (o : Option ℕ) → parent_directory (inode_of old q) ≡ o → (q == m.fileid) ≡ false → (parent_or o q == m.fileid) ≡ false
+    not-parent q None e left = left
+    not-parent q (Some parent) e left = ne_eqb parent m.fileid (λ is.
+        let here : m.fileid ≡ root = no-child q (e ∙ ap Some is) in
+        let test : (m.fileid == root) ≡ true = eq-eqb m.fileid root here in
+        let f = no-root in
+        cc)
+
+    above-same : (n q : ℕ) → (q == m.fileid) ≡ false → directory_above new.inodes n q ≡ directory_above old.inodes n q
+    above-same zero q left = refl
+    above-same (suc n) q left =
+        ap (λ o. directory_above new.inodes n (parent_or o q)) (parent-same q left)
+        ∙ above-same n (parent_or (parent_directory (inode_of old q)) q) (not-parent q (parent_directory (inode_of old q)) refl left)
+
+    rooted-still : (q : ℕ) → (q == m.fileid) ≡ false → is_folder (inode_of old q) ≡ true → (steps : ℕ) × (directory_above new.inodes steps q ≡ root)
+    rooted-still q left folder = let reaches = named.rooted q folder in (reaches.0, above-same reaches.0 q left ∙ reaches.1)
+
+    -- ---- all of it
+
+    -- names are lawful again
+    pub named-left : AreNamed new.inodes directories_after
+    named-left = record {
+      root_there = parent-same root root-stays ∙ named.root_there;
+      folders = folders-are;
+      fits = by-fileid (λ q. (d : DirectoryValue) → get directories_after q ≡ Some d → DirectoryFits new.inodes q d)
+          (λ d e. let same : removed m.name m.entries ≡ d = (let was = directory-entries in cc) in
+          subst (DirectoryFits new.inodes m.directory) same fits-directory)
+          (λ d e. let none = dropped-entries in absurd cc)
+          (λ q ne left d e. fits-other q d ne left (sym (other-entries q ne left) ∙ e));
+      once = once-after;
+      rooted = by-fileid (λ q. is_folder (inode_of new q) ≡ true → (steps : ℕ) × (directory_above new.inodes steps q ≡ root))
+          (λ h. rooted-still m.directory apart (sym (named.folders m.directory) ∙ ap (λ o. is_some o) may.entered))
+          (λ h. let none : is_folder (inode_of new m.fileid) ≡ false = ap is_folder at-dropped in absurd cc)
+          (λ q ne left h. rooted-still q left (sym (ap is_folder (at-other q ne left)) ∙ h));
+    }
+      where
+        root-stays : (root == m.fileid) ≡ false
+        root-stays = ne_eqb root m.fileid (λ e. let test : (m.fileid == root) ≡ true = eq-eqb m.fileid root (sym e) in let f = no-root in cc)

@@ -1,0 +1,56 @@
+-- The parcels as a run begins, by the layout and the verifier: each volume has its root alone, and all its numbers below total
+-- are free (our profile).
+use Rattle.std.specs.Prelude.{◌≡◌, ℕ, nat_lt, List, [], ◌∷◌, Option, Some, None, slice_get, slice_index_or, if◌then◌else◌}
+use Rattle.std.specs.FinMap.{from_sorted}
+use Rattle.std.specs.FinSet as sets
+use Rattle.nfs_model.specs.Tree as trees
+use Rattle.nfs_model.specs.Tree.{Layout, VolumeLayout, Affinity, stripes_of}
+use Rattle.affinity.specs.Tree.{IsNode}
+use Rattle.affinity.specs.Largest.{largest_of}
+use Rattle.parcels.specs.declared.family.Parcel.TheVariants.{Range, Vbn, Stripe, Logical, Volume, Aggregate, Serial}
+use Rattle.nfs_model.specs.volume.Directories.{empty_directory}
+use Rattle.nfs_model.specs.volume.Inodes.{opening_inodes}
+use Rattle.nfs_model.specs.volume.Logical.{LogicalValue}
+use Rattle.nfs_model.specs.volume.Stripes.{StripeValue, OfFolder, empty_stripe}
+use Rattle.nfs_model.specs.volume.Ranges.{RangeValue, unused_range, put_in_use}
+use Rattle.filer_state.specs.state.Parcels.{FilerParcel}
+use Rattle.filer_state.specs.state.Contents.{at}
+use Rattle.filer_state.specs.state.Names.{root}
+
+-- of a volume of so many stripes and this largest size
+abbrev pub opening_logical : List ℕ → ℕ → ℕ → LogicalValue
+opening_logical verifier stripes largest = record {
+  verifier = verifier;
+  stripes = stripes;
+  largest = largest;
+  inodes = opening_inodes;
+  directories = from_sorted ((root, empty_directory) ∷ []);
+  stock = sets.empty;
+  dead = sets.empty;
+}
+
+abbrev pub opening_stripe : List ℕ → ℕ → ℕ → StripeValue
+opening_stripe verifier stripes largest = record (empty_stripe verifier stripes largest) { cards = from_sorted ((root, OfFolder) ∷ []) }
+
+-- the r-th range, where so many are in use
+abbrev pub opening_range : ℕ → ℕ → RangeValue
+opening_range used r = if nat_lt r used then put_in_use (unused_range r) else unused_range r
+
+-- the ranges of a volume that are in use as a run begins
+abbrev pub ranges_in : Option VolumeLayout → ℕ
+ranges_in None = 0
+ranges_in (Some v) = v.ranges
+
+-- the parcel of a node
+abbrev pub opening_parcel : {P : Type 0} → Layout → List ℕ → Affinity → FilerParcel P
+opening_parcel layout verifier trees.Serial = Serial tt
+opening_parcel layout verifier (trees.Aggregate a) = Aggregate (slice_index_or layout.spare a 0)
+opening_parcel layout verifier (trees.Volume v) = Volume tt
+opening_parcel layout verifier (trees.Logical v) = Logical (opening_logical verifier (stripes_of layout v) (largest_of layout v))
+opening_parcel layout verifier (trees.Stripe v i) = Stripe (opening_stripe verifier (stripes_of layout v) (largest_of layout v))
+opening_parcel layout verifier (trees.Vbn v) = Vbn tt
+opening_parcel layout verifier (trees.Range v r) = Range (opening_range (ranges_in (slice_get layout.volumes v)) r)
+
+-- parcels by number, each as its node's begins
+abbrev pub AreOpening : {P : Type 0} → Layout → List ℕ → (ℕ → Option (FilerParcel P)) → Type 0
+AreOpening layout verifier f = (node : Affinity) → IsNode layout node → at layout f node ≡ Some (opening_parcel layout verifier node)

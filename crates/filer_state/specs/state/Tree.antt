@@ -1,0 +1,110 @@
+-- The server that parcels stand for: names, and files as lists of bytes (RFC 1813 section 2.5).
+use Rattle.std.specs.Prelude.{ℕ, ◌+◌, ◌*◌, ◌/◌, List, [], ◌∷◌, map, length, Option, Some, None, slice_index_or, if◌then◌else◌}
+use Rattle.std.specs.List.{range_with_len}
+use Rattle.std.specs.Ordering.{nat_cmp}
+use Rattle.std.specs.FinMap.{FinMap, get}
+use Rattle.std.specs.FinSet.{FinSet, retain, from_list}
+use Rattle.nfs_model.specs.Types.{Moment}
+use Rattle.nfs_model.specs.Tree.{Layout}
+use Rattle.nfs_model.specs.Server as servers
+use Rattle.nfs_model.specs.Server.{Attributes, Node, File, Directory, Server, block_size}
+use Rattle.nfs_model.specs.Shown.{touched}
+use Rattle.nfs_model.specs.Parts.{range_blocks}
+use Rattle.nfs_model.specs.volume.Maps.{map_values}
+use Rattle.nfs_model.specs.volume.Directories.{DirectoryValue, empty_directory}
+use Rattle.nfs_model.specs.volume.Inodes.{InodeKind, RegularFile, Folder, Inode}
+use Rattle.nfs_model.specs.volume.Stripes.{StripeValue, stripe_of, byte_at, is_filled, touch_of}
+use Rattle.nfs_model.specs.volume.Ranges.{RangeValue}
+use Rattle.filer_state.specs.state.Parcels.{FilerParcel, no_stripe}
+use Rattle.filer_state.specs.state.Contents.{VolumeContents, FilerContents, filer_contents}
+
+-- ---- a file
+
+abbrev pub stripe_at : List StripeValue → ℕ → StripeValue
+stripe_at stripes i = slice_index_or stripes i no_stripe
+
+-- the stripe in which a file's block lies
+abbrev pub home_stripe : List StripeValue → ℕ → ℕ → StripeValue
+home_stripe stripes fileid block = stripe_at stripes (stripe_of (length stripes) fileid block)
+
+-- a byte of a file; a hole reads as zero
+abbrev pub file_byte : List StripeValue → ℕ → ℕ → ℕ
+file_byte stripes fileid at = byte_at (home_stripe stripes fileid (at / block_size)) fileid at
+
+-- the bytes of a file of a size
+abbrev pub file_bytes : List StripeValue → ℕ → ℕ → List ℕ
+file_bytes stripes fileid size = map (file_byte stripes fileid) (range_with_len 0 size)
+
+-- more blocks than this no file has: 64 MiB
+unfoldable pub most_file_blocks : ℕ
+most_file_blocks = 16384
+
+-- the blocks of a file that are there
+abbrev pub file_filled : List StripeValue → ℕ → FinSet nat_cmp
+file_filled stripes fileid =
+    retain (from_list (range_with_len 0 most_file_blocks)) (λ block. is_filled (home_stripe stripes fileid block) fileid block)
+
+-- the later of two touches
+abbrev pub later : Option Moment → Option Moment → Option Moment
+later None touch = touch
+later (Some moment) None = Some moment
+later (Some moment) (Some other) = Some (touched (Some moment) other)
+
+-- the latest touch of a file in its stripes
+abbrev pub file_touch : List StripeValue → ℕ → Option Moment
+file_touch [] fileid = None
+file_touch (s ∷ stripes) fileid = later (touch_of (get s.cards fileid)) (file_touch stripes fileid)
+
+-- ---- a node
+
+-- the entries of a directory
+abbrev pub directory_or_empty : Option DirectoryValue → DirectoryValue
+directory_or_empty None = empty_directory
+directory_or_empty (Some d) = d
+
+-- a node by its attributes and kind: a file's size is its inode's, its bytes, blocks and touch are its stripes'
+abbrev pub node_by : List StripeValue → Option DirectoryValue → ℕ → Attributes → InodeKind → Node
+node_by stripes directory fileid attributes (RegularFile size filled verifier) = File (record {
+  attributes = attributes;
+  bytes = file_bytes stripes fileid size;
+  filled = file_filled stripes fileid;
+  touch = file_touch stripes fileid;
+  verifier = verifier;
+})
+node_by stripes directory fileid attributes (Folder parent subdirectories) = Directory (record {
+  attributes = attributes;
+  parent = parent;
+  next = (directory_or_empty directory).next;
+  list = (directory_or_empty directory).list;
+})
+
+-- the node of an inode
+abbrev pub node_of : List StripeValue → FinMap nat_cmp DirectoryValue → ℕ → Inode → Node
+node_of stripes directories fileid inode = node_by stripes (get directories fileid) fileid inode.attributes inode.kind
+
+-- ---- volumes
+
+-- how many ranges are in use
+abbrev pub ranges_used : List RangeValue → ℕ
+ranges_used [] = 0
+ranges_used (r ∷ rs) = (if r.is_used then 1 else 0) + ranges_used rs
+
+-- a volume as calls see it
+abbrev pub volume_of : VolumeContents → servers.VolumeState
+volume_of p = record {
+  number = p.number;
+  aggregate = p.aggregate;
+  total = range_blocks * ranges_used p.ranges;
+  largest = p.logical.largest;
+  verifier = p.logical.verifier;
+  next = p.logical.inodes.next;
+  nodes = map_values (node_of p.stripes p.logical.directories) p.logical.inodes.inodes;
+}
+
+-- all volumes as calls see them
+abbrev pub server_of : FilerContents → Server
+server_of c = record { spare = c.spare; volumes = map volume_of c.volumes }
+
+-- the server of all parcels
+abbrev pub tree : {P : Type 0} → Layout → (ℕ → Option (FilerParcel P)) → Server
+tree layout f = server_of (filer_contents layout f)

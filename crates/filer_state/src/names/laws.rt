@@ -1,0 +1,18 @@
+//! What follows from the definitions. The function does nothing: its contract is a theorem.
+
+ghost use Rattle.filer_state.specs.names.Laws.{
+  LookupIsRight,
+  ReaddirIsRight,
+  ReaddirMayStarve,
+  CommitIsRight,
+};
+
+/// On every sound volume with the parcels that are held, LOOKUP, READDIR and COMMIT answer as the
+/// serial server does, change nothing, and all stays sound. A READDIR that would list may find no
+/// memory.
+pub fn name_calls_are_right()
+    ensures lookup { LookupIsRight }
+    ensures readdir { ReaddirIsRight }
+    ensures starved { ReaddirMayStarve }
+    ensures commit { CommitIsRight }
+{}

@@ -1,0 +1,52 @@
+-- Inodes as the values have them.
+use Rattle.std.specs.Prelude.{◌≡◌, ℕ, ◌<◌, ◌≤◌, ◌^◌, ◌==◌, List, map, Option, Some, if◌then◌else◌}
+use Rattle.std.specs.Option.{option_map}
+use Rattle.std.specs.Ordering.{nat_cmp}
+use Rattle.std.specs.FinMap.{FinMap, from_entries, get, len}
+use Rattle.std.specs.BTreeMap as btree
+use Rattle.nfs_model.specs.Server.{Attributes, most_inodes}
+use Rattle.nfs_values.specs.Moment.{moment_of}
+use Rattle.nfs_values.specs.declared.moment.Moment.{Moment}
+use Rattle.nfs_values.specs.declared.number.Fileid.{Fileid}
+use Rattle.nfs_values.specs.declared.verifier.Verifier.{Verifier}
+use Rattle.nfs_model.specs.volume.Inodes as values
+use Rattle.nfs_model.specs.volume.Inodes.{InodesValue, filled_blocks}
+use Rattle.inodes.specs.declared.inode.StoredAttributes.{StoredAttributes}
+use Rattle.inodes.specs.declared.inode.InodeKind.{InodeKind}
+use Rattle.inodes.specs.declared.inode.InodeKind.TheVariants.{RegularFile, Directory}
+use Rattle.inodes.specs.declared.inode.Inode.{Inode}
+
+abbrev pub attributes_value : StoredAttributes → Attributes
+attributes_value a = record {
+  mode = a.mode;
+  uid = a.uid;
+  gid = a.gid;
+  atime = moment_of a.atime;
+  mtime = moment_of a.mtime;
+  ctime = moment_of a.ctime;
+}
+
+abbrev pub kind_value : InodeKind → values.InodeKind
+kind_value (RegularFile size filled verifier) = values.RegularFile size filled (option_map (λ (v : Verifier). v.0) verifier)
+kind_value (Directory parent subdirectories) = values.Folder parent.0 subdirectories
+
+abbrev pub inode_value : Inode → values.Inode
+inode_value i = record { attributes = attributes_value i.attributes; kind = kind_value i.kind }
+
+-- inodes by fileid
+abbrev pub inode_map : List (ℕ × Inode) → FinMap nat_cmp values.Inode
+inode_map es = from_entries (map (λ (e : ℕ × Inode). (e.0, inode_value e.1)) es)
+
+abbrev pub inodes_value : Fileid → ℕ → List (ℕ × Inode) → InodesValue
+inodes_value next used es = record { next = next.0; used = used; inodes = inode_map es }
+
+-- An inode of a map is settled, if it is there, and no other has changed.
+abbrev pub HasSettled : ℕ → Option Moment → btree.BTreeMap ℕ Inode → btree.BTreeMap ℕ Inode → Type 0
+HasSettled fileid touch old new = (q : ℕ) → option_map inode_value (btree.get nat_cmp new q)
+    ≡ (if q == fileid then option_map (λ (i : Inode). values.settled_inode (option_map moment_of touch) (inode_value i)) (btree.get nat_cmp old q)
+    else option_map inode_value (btree.get nat_cmp old q))
+
+-- There are at most 65,536 inodes, and the filled blocks of each are a u32, so that the used count is far below 2^63.
+pub record AreFew (v : InodesValue) : Type 0 where
+  pub few : len v.inodes ≤ most_inodes
+  pub counts : (fileid : ℕ) (inode : values.Inode) → get v.inodes fileid ≡ Some inode → filled_blocks inode.kind < 2 ^ 32

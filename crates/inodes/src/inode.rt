@@ -1,0 +1,122 @@
+//! Inodes.
+
+ghost use Rattle.std.specs.Prelude.{◌≡◌};
+
+use nfs_values::{Fileid, Moment, Verifier};
+
+/// What is stored of a node's attributes (fattr3, RFC 1813 section 2.6).
+#[derive(Clone, Copy, Debug, PartialEq, Eq)]
+pub struct StoredAttributes {
+    pub mode: u32,
+    pub uid: u32,
+    pub gid: u32,
+    pub atime: Moment,
+    pub mtime: Moment,
+    pub ctime: Moment,
+}
+
+/// What an inode is of.
+#[derive(Clone, Copy, Debug, PartialEq, Eq)]
+pub enum InodeKind {
+    RegularFile {
+        /// In bytes.
+        size: u64,
+        /// The blocks of 4,096 bytes that are there.
+        filled: u32,
+        /// That of its exclusive creation (createverf3, RFC 1813 section 3.3.8).
+        verifier: Option<Verifier>,
+    },
+    Directory {
+        parent: Fileid,
+        /// How many of its entries are directories.
+        subdirectories: u32,
+    },
+}
+
+/// A node's attributes, and what a reply shows beside them (RFC 1813 section 2.6).
+#[derive(Clone, Copy, Debug, PartialEq, Eq)]
+pub struct Inode {
+    pub attributes: StoredAttributes,
+    pub kind: InodeKind,
+}
+
+impl StoredAttributes {
+    ghost use Rattle.std.specs.Option.{option_map};
+    ghost use Rattle.nfs_model.specs.Shown.{effective_attributes};
+    ghost use Rattle.nfs_values.specs.Moment.{moment_of};
+    ghost use Rattle.inodes.specs.Inode.{attributes_value};
+
+    /// The attributes with a touch, if there is one, as mtime and ctime.
+    pub fn with_touch(self, touch: Option<Moment>) -> StoredAttributes
+        ensures { attributes_value result ≡
+            effective_attributes (option_map moment_of touch) (attributes_value self) }
+    {
+        match touch {
+            None => self,
+            Some(moment) => StoredAttributes {
+                mtime: moment,
+                ctime: moment,
+                ..self
+            },
+        }
+    }
+}
+
+impl InodeKind {
+    ghost use Rattle.nfs_model.specs.volume.Inodes.{filled_blocks};
+    ghost use Rattle.inodes.specs.Inode.{kind_value};
+
+    /// The filled blocks of a file; a directory has none.
+    pub fn filled(self) -> u32
+        ensures { result ≡ filled_blocks (kind_value self) }
+    {
+        match self {
+            InodeKind::RegularFile { filled, .. } => filled,
+            InodeKind::Directory { .. } => 0,
+        }
+    }
+}
+
+impl Inode {
+    ghost use Rattle.std.specs.Option.{option_map};
+    ghost use Rattle.nfs_values.specs.Moment.{moment_of};
+    ghost use Rattle.nfs_model.specs.volume.Inodes.{attributes_held, settled_inode, root_inode};
+    ghost use Rattle.inodes.specs.Inode.{attributes_value, inode_value};
+
+    /// The root directory as a volume begins: mode 0755 (octal), uid and gid 0, all times at the
+    /// start, its own parent (our profile).
+    pub const ROOT: Inode = Inode {
+        attributes: StoredAttributes {
+            mode: 0o755,
+            uid: 0,
+            gid: 0,
+            atime: Moment::START,
+            mtime: Moment::START,
+            ctime: Moment::START,
+        },
+        kind: InodeKind::Directory {
+            parent: Fileid::ROOT,
+            subdirectories: 0,
+        },
+    };
+
+    /// The attributes as they hold, where the file's latest write since its times were last set
+    /// was at a moment, the touch.
+    pub fn attributes_held(self, touch: Option<Moment>) -> StoredAttributes
+        ensures { attributes_value result ≡
+            attributes_held (option_map moment_of touch) (inode_value self) }
+    {
+        self.attributes.with_touch(touch)
+    }
+
+    /// The inode with a touch, if there is one, as its stored mtime and ctime.
+    pub fn settled(self, touch: Option<Moment>) -> Inode
+        ensures { inode_value result ≡
+            settled_inode (option_map moment_of touch) (inode_value self) }
+    {
+        Inode {
+            attributes: self.attributes.with_touch(touch),
+            kind: self.kind,
+        }
+    }
+}

@@ -1,8 +1,0 @@
-pub mod Places
-pub mod Moved
-pub mod Sets
-pub mod Children
-pub mod Exact
-pub mod Filled
-pub mod NumberIn
-pub mod lemmas

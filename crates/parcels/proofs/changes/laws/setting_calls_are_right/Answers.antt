@@ -1,5 +1,0 @@
-use Rattle.parcels.specs.changes.lemmas.Setattr.{setattr-done}
-use Rattle.parcels.proofs.changes.laws.setting_calls_are_right.Goals as goal
-
-pub returns : goal.returns
-returns c = λ v fileid handle node set guard moment s. setattr-done fileid handle node set guard moment v s

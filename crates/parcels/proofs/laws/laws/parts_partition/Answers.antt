@@ -1,5 +1,0 @@
-use Rattle.parcels.specs.laws.lemmas.Counted.{partition-is}
-use Rattle.parcels.proofs.laws.laws.parts_partition.Goals as goal
-
-pub returns : goal.returns
-returns c = λ p hands made in_hands sound listed. partition-is p hands in_hands sound.well_formed sound.partition listed

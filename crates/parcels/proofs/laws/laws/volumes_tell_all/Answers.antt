@@ -1,8 +1,0 @@
-use Rattle.parcels.specs.laws.lemmas.Served.{serve-lift, inner-lift}
-use Rattle.parcels.proofs.laws.laws.volumes_tell_all.Goals as goal
-
-pub returns-clause-serves : goal.returns-clause-serves
-returns-clause-serves c = serve-lift
-
-pub returns-clause-inner : goal.returns-clause-inner
-returns-clause-inner c = inner-lift

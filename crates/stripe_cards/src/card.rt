@@ -1,0 +1,97 @@
+//! One card.
+
+ghost use Rattle.std.specs.Prelude.{◌≡◌, Some};
+ghost use Rattle.std.specs.Option.{option_map};
+ghost use Rattle.nfs_values.specs.Moment.{moment_of};
+ghost use Rattle.nfs_model.specs.Shown.{touched as later_moment};
+ghost use Rattle.nfs_model.specs.volume.Stripes.{touch_of, card_touched, card_settled};
+ghost use Rattle.stripe_cards.specs.Cards.{card_of, card_resized};
+ghost use Rattle.stripe_cards.specs.Counts.{is_untouched};
+
+use nfs_values::Moment;
+
+/// What a stripe knows of an inode.
+#[derive(Clone, Copy, Debug, PartialEq, Eq)]
+pub enum Card {
+    File {
+        /// In bytes.
+        size: u64,
+        /// The latest moment of a write to this stripe since the file's times were last set.
+        touch: Option<Moment>,
+    },
+    Directory,
+}
+
+/// What a card tells but for its touch.
+#[derive(Clone, Copy, Debug, PartialEq, Eq)]
+pub enum CardKind {
+    File {
+        /// In bytes.
+        size: u64,
+    },
+    Directory,
+}
+
+/// A card with the touch set to the later of it and a moment.
+pub(crate) fn touched(card: Card, moment: Moment) -> Card
+    ensures { card_of result ≡ card_touched (moment_of moment) (card_of card) }
+{
+    match card {
+        Card::File { size, touch } => Card::File {
+            size,
+            touch: Some(later(touch, moment)),
+        },
+        Card::Directory => Card::Directory,
+    }
+}
+
+/// The later of a touch, if there is one, and a moment.
+fn later(touch: Option<Moment>, moment: Moment) -> Moment
+    ensures { moment_of result ≡ later_moment (option_map moment_of touch) (moment_of moment) }
+{
+    match touch {
+        None => moment,
+        Some(touch) => touch.max(moment),
+    }
+}
+
+/// A card without its touch.
+pub(crate) fn settled(card: Card) -> Card
+    ensures { card_of result ≡ card_settled (card_of card) }
+{
+    match card {
+        Card::File { size, .. } => Card::File { size, touch: None },
+        Card::Directory => Card::Directory,
+    }
+}
+
+/// The touch on a card, if there is one.
+pub(crate) fn touch_on(card: Option<Card>) -> Option<Moment>
+    ensures { option_map moment_of result ≡ touch_of (option_map card_of card) }
+{
+    match card {
+        Some(Card::File { touch, .. }) => touch,
+        Some(Card::Directory) => None,
+        None => None,
+    }
+}
+
+/// Whether a card is of a file without a touch.
+pub(crate) fn is_untouched(card: Card) -> bool
+    ensures { result ≡ is_untouched (Some (card_of card)) }
+{
+    match card {
+        Card::File { touch, .. } => touch.is_none(),
+        Card::Directory => false,
+    }
+}
+
+/// The card of a file with a size and the touch that a card has.
+pub(crate) fn resized(card: Card, size: u64) -> Card
+    ensures { card_of result ≡ card_resized size (card_of card) }
+{
+    Card::File {
+        size,
+        touch: touch_on(Some(card)),
+    }
+}

@@ -1,0 +1,165 @@
+//! Cards by fileid.
+
+ghost use Rattle.std.specs.Prelude.{◌≡◌, IsOk, IsSome, OnOk, OnErr};
+ghost use Rattle.std.specs.Option.{option_map};
+ghost use Rattle.std.specs.FinMap.{empty, get, insert, remove};
+ghost use Rattle.nfs_values.specs.Moment.{moment_of};
+ghost use Rattle.nfs_model.specs.volume.Maps.{changed_at};
+ghost use Rattle.nfs_model.specs.volume.Stripes.{
+  OfFile,
+  OfFolder,
+  touch_of,
+  card_touched,
+  card_settled,
+};
+ghost use Rattle.stripe_cards.specs.Cards.{card_of};
+
+use crate::card::{Card, touch_on};
+use crate::chunks::{Chunks, card_in, put, remove_at, resize_at, take_touch_at, touch_at};
+use crate::counts::{TouchCounts, class_of, count_down, count_up, no_touches};
+use nfs_values::{Fileid, Moment};
+use std::alloc::{AllocError, Global};
+use std::collections::BTreeMap;
+use std::marker::Model;
+
+/// A map from fileids to cards.
+pub struct Cards {
+    alloc: Global,
+    chunks: Chunks,
+    /// The number of the chunk that is kept though it may be empty.
+    kept: u64,
+    /// How many cards have a touch, so that where there is none the map isn't asked for it.
+    touches: TouchCounts,
+}
+
+// By hand, so that crates above have no proof of the drop of each of its parts.
+impl Drop for Cards {
+    fn drop(self) {
+        let Cards {
+            alloc: _,
+            chunks: _,
+            kept: _,
+            touches: _,
+        } = self;
+    }
+}
+
+impl Model for Cards {
+    ghost use Rattle.std.specs.FinMap.{FinMap};
+    ghost use Rattle.std.specs.FinMap as maps;
+    ghost use Rattle.std.specs.Coded.{coded_ℕ};
+    ghost use Rattle.std.specs.Ordering.{nat_cmp};
+    ghost use Rattle.nfs_model.specs.volume.Stripes as values;
+    ghost use Rattle.nfs_model.specs.volume.Codes.{coded_card};
+    ghost use Rattle.stripe_cards.specs.Chunks.{cards_of};
+    ghost use Rattle.stripe_cards.specs.Counts.{AreCounted};
+
+    ghost Value = { FinMap nat_cmp values.Card };
+
+    ghost coded = { maps.code coded_ℕ coded_card };
+
+    ghost view = { λ c. cards_of c.chunks.entries };
+
+    ghost invariant = { λ c. AreCounted c.touches (cards_of c.chunks.entries) };
+}
+
+impl Cards {
+    /// No card. It takes no memory.
+    pub fn new(alloc: Global) -> Cards
+        ensures { result ≡ empty }
+    {
+        Cards {
+            alloc,
+            chunks: BTreeMap::new(alloc),
+            kept: 0,
+            touches: no_touches(),
+        }
+    }
+
+    /// The card of an inode.
+    pub fn get(&self, fileid: Fileid) -> Option<Card>
+        ensures { option_map card_of result ≡ get self.now fileid.0 }
+    {
+        card_in(&self.chunks, fileid.0)
+    }
+
+    /// The touch of a file.
+    pub fn touch_of(&self, fileid: Fileid) -> Option<Moment>
+        ensures { option_map moment_of result ≡ touch_of (get self.now fileid.0) }
+    {
+        if self.touches[class_of(fileid.0)] == 0 {
+            return None;
+        }
+        touch_on(self.get(fileid))
+    }
+
+    /// Sets the card of a file to a size; the touch stays. Memory is needed only for a card that
+    /// isn't there, and where there is none for it nothing changes.
+    pub fn set_file(&mut self, fileid: Fileid, size: u64) -> Result<(), AllocError>
+        ensures ok { OnOk result (self.new
+            ≡ insert self.old fileid.0 (OfFile size (touch_of (get self.old fileid.0)))) }
+        ensures err { OnErr result (self.new ≡ self.old) }
+        ensures succeeds { IsSome (get self.old fileid.0) → IsOk result }
+    {
+        let touch = self.touch_of(fileid);
+        put(
+            &mut self.chunks,
+            self.alloc,
+            fileid.0,
+            Card::File { size, touch },
+        )
+    }
+
+    /// Sets the card of a directory. Memory is needed only for a card that isn't there, and where
+    /// there is none for it nothing changes.
+    pub fn set_directory(&mut self, fileid: Fileid) -> Result<(), AllocError>
+        ensures ok { OnOk result (self.new ≡ insert self.old fileid.0 OfFolder) }
+        ensures err { OnErr result (self.new ≡ self.old) }
+        ensures succeeds { IsSome (get self.old fileid.0) → IsOk result }
+    {
+        put(&mut self.chunks, self.alloc, fileid.0, Card::Directory)
+    }
+
+    /// Sets the size of a file whose card is there; the touch stays. It takes no memory.
+    pub fn set_size(&mut self, fileid: Fileid, size: u64)
+        requires { IsSome (get self.old fileid.0) }
+        ensures { self.new
+            ≡ insert self.old fileid.0 (OfFile size (touch_of (get self.old fileid.0))) }
+    {
+        resize_at(&mut self.chunks, fileid.0, size);
+    }
+
+    /// Sets the touch of a file to the later of it and a moment. It takes no memory.
+    pub fn touch(&mut self, fileid: Fileid, moment: Moment)
+        ensures { self.new ≡ changed_at (card_touched (moment_of moment)) fileid.0 self.old }
+    {
+        if touch_at(&mut self.chunks, fileid.0, moment) {
+            count_up(&mut self.touches, class_of(fileid.0));
+        }
+    }
+
+    /// Takes the touch of a file. It takes no memory.
+    pub fn take_touch(&mut self, fileid: Fileid) -> Option<Moment>
+        ensures touch { option_map moment_of result ≡ touch_of (get self.old fileid.0) }
+        ensures taken { self.new ≡ changed_at card_settled fileid.0 self.old }
+    {
+        let class = class_of(fileid.0);
+        if self.touches[class] == 0 {
+            return None;
+        }
+        let touch = take_touch_at(&mut self.chunks, fileid.0);
+        if touch.is_some() {
+            count_down(&mut self.touches, class);
+        }
+        touch
+    }
+
+    /// Removes the card of an inode. It takes no memory.
+    pub fn remove(&mut self, fileid: Fileid)
+        ensures { self.new ≡ remove self.old fileid.0 }
+    {
+        if remove_at(&mut self.chunks, &mut self.kept, fileid.0) {
+            count_down(&mut self.touches, class_of(fileid.0));
+        }
+    }
+}

@@ -1,0 +1,9 @@
+pub mod Roomy
+mod Sent
+mod Rows
+mod JoinedRows
+mod Scanned
+mod Adding
+mod Fitting
+mod Taken
+mod Ends

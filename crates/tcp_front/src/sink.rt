@@ -1,0 +1,71 @@
+//! Where what is read of a connection goes.
+
+ghost use Rattle.std.specs.Prelude.{OnOk, OnErr};
+ghost use Rattle.std.specs.Prelude.{◌≡◌, ◌≤◌, List, [], ◌∷◌, ◌++◌, Some, Bool, true, length};
+ghost use Rattle.nfs_model.specs.Home.{home};
+ghost use Rattle.nfs_model.specs.Tree as trees;
+ghost use Rattle.nfs_values.specs.Call.{call_of};
+ghost use Rattle.nfs_values.specs.Reply.{reply_of};
+ghost use Rattle.affinity.specs.Affinity.{affinity_of};
+ghost use Rattle.engine_feed.specs.Seen.{message_of};
+ghost use Rattle.engine_feed.specs.Sound.{IsAdmitted};
+ghost use Rattle.outboxes.specs.Boxes.{addressed, most_bytes};
+ghost use Rattle.outboxes.specs.Messages.{message, record_of};
+ghost use Rattle.tcp_front.specs.Arrivals.{Arrival, Waits, Answered};
+
+use engine_feed::OfferedCall;
+use nfs_values::{ConnectionNumber, Reply};
+use scheduler::Message;
+use std::alloc::AllocError;
+
+/// What takes the calls of a connection, to be run by workers, and the replies that need none.
+pub trait RecordSink {
+    // What came to it between the two, in order.
+    ghost came: { Self → List Arrival → Self → Type 0 };
+
+    // The layout by which the calls that it takes are at home.
+    ghost layout: { Self → trees.Layout };
+
+    // Whether there is room for what a record more comes to.
+    ghost room: { Self → Bool } = { λ _. true };
+
+    /// Whether there is room for what a record more comes to. It is asked by those who can wait
+    /// without a thread: to others all records are given.
+    fn has_room(&self) -> bool
+        ensures { result ≡ room self.now };
+
+    /// Admits a call that tries its home, and waits while there is no place for it.
+    fn admit(&mut self, message: Message<OfferedCall>) -> Result<(), AllocError>
+        requires admitted { IsAdmitted (layout self.old) message }
+        requires at_home { home (layout self.old) (call_of message.call)
+            ≡ Some (affinity_of message.affinity) }
+        requires short { message.room ≤ most_bytes }
+        ensures ok { OnOk result (came self.old (Waits (message_of message) ∷ []) self.new) }
+        ensures err { OnErr result (came self.old [] self.new) }
+        ensures layout { layout self.new ≡ layout self.old };
+
+    /// Takes a reply to a record that no worker answers.
+    fn answer(
+        &mut self,
+        connection: ConnectionNumber,
+        xid: u32,
+        reply: &Reply,
+    ) -> Result<(), AllocError>
+        requires { length (record_of (message xid (reply_of reply.now))) ≤ most_bytes }
+        ensures ok { OnOk result (came self.old
+            (Answered (addressed connection.0 (message xid (reply_of reply.now))) ∷ []) self.new) }
+        ensures err { OnErr result (came self.old [] self.new) }
+        ensures layout { layout self.new ≡ layout self.old };
+
+    /// Told when all records of one read were given, so that many are announced at once.
+    fn wake(&mut self)
+        ensures none { came self.old [] self.new }
+        ensures layout { layout self.new ≡ layout self.old };
+
+    ghost came_none: { (s : Self) → came s [] s };
+
+    ghost came_more: { (s t u : Self) (xs ys : List Arrival)
+        → came s xs t
+        → came t ys u
+        → came s (xs ++ ys) u };
+}

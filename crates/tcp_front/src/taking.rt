@@ -1,0 +1,144 @@
+//! Bytes whose records are given on.
+
+ghost use Rattle.std.specs.Prelude.{◌≡◌, ◌<◌, ◌≤◌, None, false, length, take};
+ghost use Rattle.affinity.specs.Layout.{layout_of};
+ghost use Rattle.tcp_front.specs.Arrivals.{most_records};
+ghost use Rattle.engine_feed.specs.Codec.{heard};
+ghost use Rattle.engine_feed.specs.Seen.{heard_of};
+ghost use Rattle.tcp_front.specs.Steps.{HasGiven, HasGivenRecord, HasTaken};
+
+use crate::giving::give;
+use crate::next_record::{Next, next_record};
+use crate::sink::RecordSink;
+use crate::stream::{MOST_RECORDS, Stopped, Stream};
+use affinity::Layout;
+use engine_feed::{Heard, RecordRead, read_record};
+use scheduler::Origin;
+
+/// Gives on a record under the next number.
+fn give_next<S: RecordSink>(
+    stream: &mut Stream,
+    sink: &mut S,
+    layout: &Layout,
+    heard: Heard,
+) -> Option<Stopped>
+    requires few { stream.old.records < most_records }
+    requires layout { S.layout sink.old ≡ layout_of layout.now }
+    ensures given { HasGiven S.came (layout_of layout.now) stream.old sink.old (heard_of heard)
+        result stream.new sink.new }
+    ensures layout { S.layout sink.new ≡ S.layout sink.old }
+{
+    let origin = Origin {
+        connection: stream.connection,
+        number: stream.records,
+        xid: heard.xid,
+    };
+    match give(stream.alloc, sink, layout, origin, heard.request) {
+        Err(_refused) => Some(Stopped::NoMemory),
+        Ok(()) => {
+            stream.records += 1;
+            if stream.records == MOST_RECORDS {
+                Some(Stopped::NumbersUsed)
+            } else {
+                None
+            }
+        }
+    }
+}
+
+/// Reads a whole record, and gives it on under the next number.
+fn give_record<S: RecordSink>(
+    stream: &mut Stream,
+    sink: &mut S,
+    layout: &Layout,
+    record: Vec<u8>,
+) -> Option<Stopped>
+    requires few { stream.old.records < most_records }
+    requires layout { S.layout sink.old ≡ layout_of layout.now }
+    ensures given { HasGivenRecord S.came (layout_of layout.now) stream.old sink.old
+        (heard record.items) result stream.new sink.new }
+    ensures layout { S.layout sink.new ≡ S.layout sink.old }
+{
+    match read_record(stream.alloc, record) {
+        RecordRead::Heard(heard) => give_next(stream, sink, layout, heard),
+        RecordRead::Undecoded(_xid) => Some(Stopped::NoMemory),
+        RecordRead::Fault(fault) => Some(Stopped::Fault(fault)),
+    }
+}
+
+/// Takes bytes up to the end of at most one record, which is given on.
+fn take_record<S: RecordSink>(
+    stream: &mut Stream,
+    sink: &mut S,
+    layout: &Layout,
+    bytes: &[u8],
+) -> (usize, Option<Stopped>)
+    requires few { stream.old.records < most_records }
+    requires layout { S.layout sink.old ≡ layout_of layout.now }
+    ensures within { result.0 ≤ length bytes.now }
+    ensures some { result.1 ≡ None → 0 < length bytes.now → 0 < result.0 }
+    ensures taken { HasTaken S.came (layout_of layout.now) stream.old sink.old
+        (take result.0 bytes.now) result.1 stream.new sink.new }
+    ensures layout { S.layout sink.new ≡ S.layout sink.old }
+{
+    let (taken, next) = next_record(&mut stream.reassembler, bytes);
+    match next {
+        Next::More => (taken, None),
+        Next::Record(record) => (taken, give_record(stream, sink, layout, record)),
+        Next::Stopped(stopped) => (taken, Some(stopped)),
+    }
+}
+
+/// Takes bytes, and gives on all records that they complete, or those before what stops it.
+pub(crate) fn take_all<S: RecordSink>(
+    stream: &mut Stream,
+    sink: &mut S,
+    layout: &Layout,
+    bytes: &[u8],
+) -> Option<Stopped>
+    requires few { stream.old.records < most_records }
+    requires layout { S.layout sink.old ≡ layout_of layout.now }
+    ensures taken { HasTaken S.came (layout_of layout.now) stream.old sink.old
+        bytes.now result stream.new sink.new }
+    ensures layout { S.layout sink.new ≡ S.layout sink.old }
+{
+    let mut taken = 0;
+    while taken < bytes.len() {
+        let (size, stopped) = take_record(stream, sink, layout, &bytes[taken..]);
+        match stopped {
+            None => taken += size,
+            Some(stopped) => return Some(stopped),
+        }
+    }
+    None
+}
+
+/// Takes bytes, and gives on the records that they complete, as long as the sink has room for one
+/// more. Answers how many it took. What it leaves where nothing stops it waits for room.
+pub fn take_some<S: RecordSink>(
+    stream: &mut Stream,
+    sink: &mut S,
+    layout: &Layout,
+    bytes: &[u8],
+) -> (usize, Option<Stopped>)
+    requires few { stream.old.records < most_records }
+    requires layout { S.layout sink.old ≡ layout_of layout.now }
+    ensures within { result.0 ≤ length bytes.now }
+    ensures taken { HasTaken S.came (layout_of layout.now) stream.old sink.old
+        (take result.0 bytes.now) result.1 stream.new sink.new }
+    ensures layout { S.layout sink.new ≡ S.layout sink.old }
+    ensures room { result.1 ≡ None → result.0 < length bytes.now → S.room sink.new ≡ false }
+{
+    let mut taken = 0;
+    while taken < bytes.len() {
+        if !sink.has_room() {
+            return (taken, None);
+        }
+        let (size, stopped) = take_record(stream, sink, layout, &bytes[taken..]);
+        match stopped {
+            None => taken += size,
+            Some(stopped) => return (taken + size, Some(stopped)),
+        }
+    }
+    (taken, None)
+}

@@ -1,6 +1,0 @@
-use Rattle.volume_logical.proofs.directories.Slots.{order-filled}
-use Rattle.volume_logical.proofs.directories.entries.Entries.append_page.Goals as goal
-
-pub append_fitting-requires : goal.append_fitting-requires
-append_fitting-requires c =
-    rw c.deref-2.ensures.value (order-filled c.self.inside.slots.items c.self.inside.order c.self.inside.next.0 c.self.invariant)

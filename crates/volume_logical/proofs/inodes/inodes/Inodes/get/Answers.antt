@@ -1,6 +1,0 @@
-use Rattle.std.proofs.Common.{sym}
-use Rattle.volume_logical.proofs.inodes.Tables.{get-found}
-use Rattle.volume_logical.proofs.inodes.inodes.Inodes.get.Goals as goal
-
-pub returns : goal.returns
-returns c = rw (c.look_up.ensures, ← c.self.view_is) (sym (get-found c.self.inside.by_fileid.entries c.args.fileid.0))

@@ -1,3 +1,0 @@
-pub mod sequences
-pub mod directories
-pub mod inodes

@@ -1,4 +1,0 @@
-pub mod Entries
-pub mod Slots
-pub mod Index
-pub mod Digits

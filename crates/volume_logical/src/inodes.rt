@@ -1,9 +1,0 @@
-//! Inodes of a volume: attributes and kinds by fileid.
-
-mod created;
-mod inode;
-mod inodes;
-
-pub use created::Created;
-pub use inode::{Inode, InodeKind, StoredAttributes};
-pub use inodes::Inodes;
