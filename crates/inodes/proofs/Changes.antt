@@ -1,21 +1,19 @@
 -- What the calls do to the values: each change of the table with the next fileid and the used count.
 use Rattle.std.proofs.Common.{◌≡◌, refl, sym, subst, ap, ◌∙◌, ℕ, ◌+◌, ◌-◌, ◌<◌, ◌≤◌, ◌==◌, ◌&&◌, Bool, true, false, cond, List, [], ◌∷◌, Option, Some, None, if◌then◌else◌, arith}
-use Rattle.std.specs.BTreeMap.{is_at}
-use Rattle.std.specs.Option.{option_map}
 use Rattle.std.specs.Ordering.{nat_cmp, eq_by_cmp}
 use Rattle.std.specs.Cmp.{nat_cmp_total}
-use Rattle.std.specs.FinMap.{get, insert, remove, empty, from_sorted, get-empty, get-insert, get-from_sorted, same_map, nat_cmp-IsAntisymmetric}
+use Rattle.std.specs.FinMap.{FinMap, get, insert, remove, empty, from_sorted, get-empty, get-insert, get-from_sorted, same_map, nat_cmp-IsAntisymmetric}
 use Rattle.std.proofs.lemmas.Bool.Decides.{nat_tests}
 use Rattle.std.proofs.lemmas.Map.Views.{exact_unsigned_eq}
 use Rattle.nfs_model.specs.Types.{Moment}
+use Rattle.nfs_model.specs.volume.Maps.{changed_value, changed_at}
 use Rattle.nfs_model.specs.volume.Inodes as values
 use Rattle.nfs_values.specs.declared.number.Fileid.{Fileid}
 use Rattle.nfs_model.specs.volume.Inodes.{IsInodes, InodesValue, filled_blocks, opening_inodes, root_inode}
 use Rattle.nfs_model.specs.volume.Inodes.{settled_inode, inode_settled, inode_replaced, inode_set, inode_created, inode_dropped, inode_unmade, used_without}
 use Rattle.nfs_model.specs.volume.lemmas.Inodes.{filled-within, inode-dropped-there}
 use Rattle.inodes.specs.declared.inode.Inode.{Inode}
-use Rattle.inodes.specs.Inode.{inode_value, kind_value, inode_map, inodes_value}
-use Rattle.inodes.proofs.Tables.{found, get-found, inserted, removed, replaced, unchanged, changed}
+use Rattle.inodes.specs.Inode.{inode_value, kind_value, inodes_value}
 
 -- what is equal to inodes is inodes
 pub kept : (v w : InodesValue) → v ≡ w → IsInodes w → IsInodes v
@@ -26,55 +24,59 @@ first-alone = same_map nat_cmp_total nat_cmp-IsAntisymmetric (insert empty 1 roo
     get-insert nat_cmp_total empty 1 root_inode q ∙ (ap (cond (eq_by_cmp nat_cmp q 1) (Some root_inode)) (get-empty nat_cmp q)
     ∙ sym (get-from_sorted nat_cmp ((1, root_inode) ∷ []) q tt)))
 
-pub opened : (new : List (ℕ × Inode)) (root : Inode) → inode_value root ≡ root_inode → ((q : ℕ) → found new q ≡ cond (is_at (nat_cmp 1) q) (Some root) None)
+pub opened : (first new : FinMap nat_cmp values.Inode) → first ≡ empty → new ≡ insert first 1 root_inode
     → inodes_value (record { 0 = 2 }) 0 new ≡ opening_inodes
-opened new root r h = ap (λ m. record { next = 2; used = 0; inodes = m }) (inserted [] new 1 root h ∙ (ap (insert empty 1) r ∙ first-alone))
+opened first new none h =
+    ap (λ m. record { next = 2; used = 0; inodes = m }) (h ∙ ap (λ m. insert m 1 root_inode) none ∙ first-alone)
 
-module _ (next : Fileid) (used : ℕ) (old new : List (ℕ × Inode)) where
-  pub created : (x : Inode) (blocks : ℕ) → blocks ≡ filled_blocks (kind_value x.kind)
-      → ((q : ℕ) → found new q ≡ cond (is_at (nat_cmp next.0) q) (Some x) (found old q))
+-- the next fileid has no inode
+pub none-next : (next : Fileid) (used : ℕ) (m : FinMap nat_cmp values.Inode) → IsInodes (inodes_value next used m) → get m next.0 ≡ None
+none-next next used m i = by (get m next.0) refl
+  where
+    by : (o : Option values.Inode) → get m next.0 ≡ o → o ≡ None
+    by None h = refl
+    by (Some x) h = let less = i.fileids next.0 x h in absurd (omega (arith, less))
+
+module _ (next : Fileid) (used : ℕ) (old new : FinMap nat_cmp values.Inode) where
+  pub created : (x : Inode) (blocks : ℕ) → blocks ≡ filled_blocks (kind_value x.kind) → new ≡ insert old next.0 (inode_value x)
       → inodes_value (record { 0 = next.0 + 1 }) (used + blocks) new ≡ inode_created (inode_value x) (inodes_value next used old)
-  created x blocks b h = λ i. record { next = next.0 + 1; used = used + b i; inodes = inserted old new next.0 x h i }
+  created x blocks b h = λ i. record { next = next.0 + 1; used = used + b i; inodes = h i }
 
-  pub settled : (k : ℕ) (touch : Option Moment)
-      → ((q : ℕ) → option_map inode_value (found new q)
-      ≡ (if q == k then option_map (λ (x : Inode). settled_inode touch (inode_value x)) (found old q) else option_map inode_value (found old q)))
+  pub settled : (k : ℕ) (touch : Option Moment) → new ≡ changed_at (settled_inode touch) k old
       → inodes_value next used new ≡ inode_settled k touch (inodes_value next used old)
-  settled k touch h = ap (λ m. record { next = next.0; used = used; inodes = m }) (changed (settled_inode touch) old new k h)
-
-  pub has : (k : ℕ) (o : Option Inode) → o ≡ found old k → get (inode_map old) k ≡ option_map inode_value o
-  has k o h = get-found old k ∙ ap (option_map inode_value) (sym h)
+  settled k touch h = ap (λ m. record { next = next.0; used = used; inodes = m }) h
 
   -- what is there is among the used blocks
-  pub within : (k : ℕ) (y : Inode) (blocks : ℕ) → IsInodes (inodes_value next used old) → Some y ≡ found old k
+  pub within : (k : ℕ) (y : Inode) (blocks : ℕ) → IsInodes (inodes_value next used old) → Some (inode_value y) ≡ get old k
       → blocks ≡ filled_blocks (kind_value y.kind) → blocks ≤ used
-  within k y blocks i h b = subst (λ n. n ≤ used) (sym b) (filled-within (inodes_value next used old) k (inode_value y) i (has k (Some y) h))
+  within k y blocks i h b = subst (λ n. n ≤ used) (sym b) (filled-within (inodes_value next used old) k (inode_value y) i (sym h))
 
-  pub set : (k : ℕ) (x y : Inode) (less more : ℕ) → less ≡ filled_blocks (kind_value y.kind) → more ≡ filled_blocks (kind_value x.kind) → Some y ≡ found old k
-      → ((q : ℕ) → found new q ≡ (if (q == k) && true then Some x else found old q))
+  pub set : (k : ℕ) (x y : Inode) (less more : ℕ) → less ≡ filled_blocks (kind_value y.kind) → more ≡ filled_blocks (kind_value x.kind)
+      → Some (inode_value y) ≡ get old k → new ≡ changed_at (λ _. inode_value x) k old
       → inodes_value next (used - less + more) new ≡ inode_set k (inode_value x) (inodes_value next used old)
   set k x y less more l m h f =
-      (λ i. record { next = next.0; used = used - l i + m i; inodes = replaced old new k x f i })
-      ∙ ap (λ o. inode_replaced o k (inode_value x) (inodes_value next used old)) (sym (has k (Some y) h))
+      let put : new ≡ insert old k (inode_value x) = f ∙ ap (λ o. changed_value (λ _. inode_value x) o k old) (sym h) in
+      (λ i. record { next = next.0; used = used - l i + m i; inodes = put i })
+      ∙ ap (λ o. inode_replaced o k (inode_value x) (inodes_value next used old)) h
 
-  pub set-nothing : (k : ℕ) (x : Inode) → None ≡ found old k → ((q : ℕ) → found new q ≡ (if (q == k) && false then Some x else found old q))
+  pub set-nothing : (k : ℕ) (x : Inode) → None ≡ get old k → new ≡ changed_at (λ _. inode_value x) k old
       → inodes_value next used new ≡ inode_set k (inode_value x) (inodes_value next used old)
   set-nothing k x h f =
-      ap (λ m. record { next = next.0; used = used; inodes = m }) (unchanged old new k x f)
-      ∙ ap (λ o. inode_replaced o k (inode_value x) (inodes_value next used old)) (sym (has k None h))
+      let same : new ≡ old = f ∙ ap (λ o. changed_value (λ _. inode_value x) o k old) (sym h) in
+      ap (λ m. record { next = next.0; used = used; inodes = m }) same
+      ∙ ap (λ o. inode_replaced o k (inode_value x) (inodes_value next used old)) h
 
-  pub dropped : (k : ℕ) (y : Inode) (less : ℕ) → less ≡ filled_blocks (kind_value y.kind) → Some y ≡ found old k
-      → ((q : ℕ) → found new q ≡ cond (is_at (nat_cmp k) q) None (found old q))
+  pub dropped : (k : ℕ) (y : Inode) (less : ℕ) → less ≡ filled_blocks (kind_value y.kind) → Some (inode_value y) ≡ get old k → new ≡ remove old k
       → inodes_value next (used - less) new ≡ inode_dropped k (inodes_value next used old)
   dropped k y less l h f =
-      (λ i. record { next = next.0; used = used - l i; inodes = removed old new k f i })
-      ∙ ap (λ o. record { next = next.0; used = used_without used o; inodes = remove (inode_map old) k }) (sym (has k (Some y) h))
+      (λ i. record { next = next.0; used = used - l i; inodes = f i })
+      ∙ ap (λ o. record { next = next.0; used = used_without used o; inodes = remove old k }) h
 
-  pub dropped-nothing : (k : ℕ) → None ≡ found old k → ((q : ℕ) → found new q ≡ cond (is_at (nat_cmp k) q) None (found old q))
+  pub dropped-nothing : (k : ℕ) → None ≡ get old k → new ≡ remove old k
       → inodes_value next used new ≡ inode_dropped k (inodes_value next used old)
   dropped-nothing k h f =
-      ap (λ m. record { next = next.0; used = used; inodes = m }) (removed old new k f)
-      ∙ ap (λ o. record { next = next.0; used = used_without used o; inodes = remove (inode_map old) k }) (sym (has k None h))
+      ap (λ m. record { next = next.0; used = used; inodes = m }) f
+      ∙ ap (λ o. record { next = next.0; used = used_without used o; inodes = remove old k }) h
 
 -- what is left without the inode made last
 pub unmade : (v w : InodesValue) (fileid : ℕ) → v.next ≡ fileid + 1 → w ≡ inode_dropped fileid v → record w { next = fileid } ≡ inode_unmade v

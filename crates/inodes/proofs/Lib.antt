@@ -1,3 +1,4 @@
-pub mod Tables
+pub mod Slots
+pub mod Chunked
 pub mod Few
 pub mod Changes

@@ -1,12 +1,10 @@
 -- Inodes as the values have them.
-use Rattle.std.specs.Prelude.{◌≡◌, ℕ, ◌<◌, ◌≤◌, ◌^◌, ◌==◌, List, map, Option, Some, if◌then◌else◌}
+use Rattle.std.specs.Prelude.{◌≡◌, ℕ, ◌<◌, ◌≤◌, ◌^◌, Option, Some}
 use Rattle.std.specs.Option.{option_map}
 use Rattle.std.specs.Ordering.{nat_cmp}
-use Rattle.std.specs.FinMap.{FinMap, from_entries, get, len}
-use Rattle.std.specs.BTreeMap as btree
+use Rattle.std.specs.FinMap.{FinMap, get, len}
 use Rattle.nfs_model.specs.Server.{Attributes, most_inodes}
 use Rattle.nfs_values.specs.Moment.{moment_of}
-use Rattle.nfs_values.specs.declared.moment.Moment.{Moment}
 use Rattle.nfs_values.specs.declared.number.Fileid.{Fileid}
 use Rattle.nfs_values.specs.declared.verifier.Verifier.{Verifier}
 use Rattle.nfs_model.specs.volume.Inodes as values
@@ -33,18 +31,12 @@ kind_value (Directory parent subdirectories) = values.Folder parent.0 subdirecto
 abbrev pub inode_value : Inode → values.Inode
 inode_value i = record { attributes = attributes_value i.attributes; kind = kind_value i.kind }
 
--- inodes by fileid
-abbrev pub inode_map : List (ℕ × Inode) → FinMap nat_cmp values.Inode
-inode_map es = from_entries (map (λ (e : ℕ × Inode). (e.0, inode_value e.1)) es)
+-- an inode as it is stored, if there is one
+abbrev pub stored : Option Inode → Option values.Inode
+stored inode = option_map inode_value inode
 
-abbrev pub inodes_value : Fileid → ℕ → List (ℕ × Inode) → InodesValue
-inodes_value next used es = record { next = next.0; used = used; inodes = inode_map es }
-
--- An inode of a map is settled, if it is there, and no other has changed.
-abbrev pub HasSettled : ℕ → Option Moment → btree.BTreeMap ℕ Inode → btree.BTreeMap ℕ Inode → Type 0
-HasSettled fileid touch old new = (q : ℕ) → option_map inode_value (btree.get nat_cmp new q)
-    ≡ (if q == fileid then option_map (λ (i : Inode). values.settled_inode (option_map moment_of touch) (inode_value i)) (btree.get nat_cmp old q)
-    else option_map inode_value (btree.get nat_cmp old q))
+abbrev pub inodes_value : Fileid → ℕ → FinMap nat_cmp values.Inode → InodesValue
+inodes_value next used inodes = record { next = next.0; used = used; inodes = inodes }
 
 -- There are at most 65,536 inodes, and the filled blocks of each are a u32, so that the used count is far below 2^63.
 pub record AreFew (v : InodesValue) : Type 0 where

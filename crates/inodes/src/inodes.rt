@@ -2,26 +2,17 @@
 
 ghost use Rattle.std.specs.Prelude.{
   ◌≡◌,
-  ◌==◌,
   ◌<◌,
   ◌^◌,
-  ◌&&◌,
   ◌+◌,
-  ◌-◌,
   true,
-  ℕ,
-  None,
-  Some,
   is_some,
   IfOk,
   OnOk,
   OnErr,
-  if◌then◌else◌,
 };
 ghost use Rattle.std.specs.Option.{option_map};
-ghost use Rattle.std.specs.Ordering.{nat_cmp};
 ghost use Rattle.std.specs.FinMap.{len};
-ghost use Rattle.std.specs.BTreeMap as btree;
 ghost use Rattle.nfs_model.specs.Server.{most_inodes};
 ghost use Rattle.nfs_values.specs.Moment.{moment_of};
 ghost use Rattle.nfs_model.specs.volume.Inodes.{
@@ -34,18 +25,18 @@ ghost use Rattle.nfs_model.specs.volume.Inodes.{
   inode_dropped,
   inode_unmade,
 };
-ghost use Rattle.inodes.specs.Inode.{inode_value, HasSettled};
+ghost use Rattle.inodes.specs.Inode.{inode_value};
 
 use crate::created::Created;
 use crate::inode::Inode;
+use crate::table::Table;
 use nfs_values::{Fileid, Moment};
 use std::alloc::{AllocError, Global};
-use std::collections::BTreeMap;
 use std::marker::Model;
 
 /// The inodes of a volume by fileid, the next fileid, and how many blocks are filled in all files.
 pub struct Inodes {
-    by_fileid: BTreeMap<u64, Inode>,
+    by_fileid: Table,
     next: Fileid,
     used: u64,
 }
@@ -70,10 +61,10 @@ impl Model for Inodes {
 
     ghost coded = { coded_inodes };
 
-    ghost view = { λ i. inodes_value i.next i.used i.by_fileid.entries };
+    ghost view = { λ i. inodes_value i.next i.used i.by_fileid };
 
-    ghost invariant = { λ i. IsInodes (inodes_value i.next i.used i.by_fileid.entries)
-        × AreFew (inodes_value i.next i.used i.by_fileid.entries) };
+    ghost invariant = { λ i. IsInodes (inodes_value i.next i.used i.by_fileid)
+        × AreFew (inodes_value i.next i.used i.by_fileid) };
 }
 
 impl Inodes {
@@ -81,8 +72,8 @@ impl Inodes {
     pub fn new(alloc: Global) -> Result<Inodes, AllocError>
         ensures { IfOk result (λ inodes. inodes ≡ opening_inodes) }
     {
-        let mut by_fileid = BTreeMap::new(alloc);
-        by_fileid.insert(Fileid::ROOT.0, Inode::ROOT)?;
+        let mut by_fileid = Table::new(alloc);
+        by_fileid.insert(Fileid::ROOT, Inode::ROOT)?;
         Ok(Inodes {
             by_fileid,
             next: Fileid(2),
@@ -94,7 +85,7 @@ impl Inodes {
     pub fn get(&self, fileid: Fileid) -> Option<Inode>
         ensures { option_map inode_value result ≡ inode_of self.now fileid.0 }
     {
-        look_up(&self.by_fileid, fileid)
+        self.by_fileid.get(fileid)
     }
 
     /// The number of inodes, at most 65,536.
@@ -124,14 +115,14 @@ impl Inodes {
     pub fn settle(&mut self, fileid: Fileid, touch: Option<Moment>)
         ensures { self.new ≡ inode_settled fileid.0 (option_map moment_of touch) self.old }
     {
-        settle_at(&mut self.by_fileid, fileid, touch);
+        self.by_fileid.settle(fileid, touch);
     }
 
     /// Replaces the inode of a fileid. Nothing changes where there is none. It takes no memory.
     pub fn set(&mut self, fileid: Fileid, inode: Inode)
         ensures { self.new ≡ inode_set fileid.0 (inode_value inode) self.old }
     {
-        if let Some(old) = replace(&mut self.by_fileid, fileid, inode) {
+        if let Some(old) = self.by_fileid.replace(fileid, inode) {
             let left = self.used - u64::from(old.kind.filled());
             self.used = left + u64::from(inode.kind.filled());
         }
@@ -147,7 +138,7 @@ impl Inodes {
         ensures err { OnErr result (self.new ≡ self.old) }
     {
         let fileid = self.next;
-        self.by_fileid.insert(fileid.0, inode)?;
+        self.by_fileid.insert(fileid, inode)?;
         self.next = Fileid(fileid.0 + 1);
         self.used += u64::from(inode.kind.filled());
         Ok(Created::of(fileid))
@@ -158,7 +149,7 @@ impl Inodes {
     pub fn drop_node(&mut self, fileid: Fileid)
         ensures { self.new ≡ inode_dropped fileid.0 self.old }
     {
-        if let Some(inode) = self.by_fileid.remove(&fileid.0) {
+        if let Some(inode) = self.by_fileid.remove(fileid) {
             self.used -= u64::from(inode.kind.filled());
         }
     }
@@ -174,32 +165,4 @@ impl Inodes {
         self.drop_node(fileid);
         self.next = fileid;
     }
-}
-
-/// The inode of a fileid.
-fn look_up(inodes: &BTreeMap<u64, Inode>, fileid: Fileid) -> Option<Inode>
-    ensures { result ≡ btree.get nat_cmp inodes.now fileid.0 }
-{
-    inodes.get(&fileid.0).copied()
-}
-
-/// Settles the inode of a fileid, if there is one.
-fn settle_at(inodes: &mut BTreeMap<u64, Inode>, fileid: Fileid, touch: Option<Moment>)
-    ensures { HasSettled fileid.0 touch inodes.old inodes.new }
-{
-    if let Some(inode) = inodes.get_mut(&fileid.0) {
-        *inode = inode.settled(touch);
-    }
-}
-
-/// Replaces the inode of a fileid, if there is one, and tells the old one.
-fn replace(inodes: &mut BTreeMap<u64, Inode>, fileid: Fileid, inode: Inode) -> Option<Inode>
-    ensures old { result ≡ btree.get nat_cmp inodes.old fileid.0 }
-    ensures others { (q : ℕ) → btree.get nat_cmp inodes.new q ≡
-        (if (q == fileid.0) && is_some result then Some inode else btree.get nat_cmp inodes.old q) }
-{
-    let place = inodes.get_mut(&fileid.0)?;
-    let old = *place;
-    *place = inode;
-    Some(old)
 }

@@ -1,9 +1,12 @@
 //! Inodes of a volume: attributes and kinds by fileid.
 #![tactic(auto)]
 
+mod chunk;
+mod chunks;
 mod created;
 mod inode;
 mod inodes;
+mod table;
 
 pub use created::Created;
 pub use inode::{Inode, InodeKind, StoredAttributes};

@@ -1,6 +1,7 @@
-use Rattle.std.proofs.Common.{sym}
-use Rattle.inodes.proofs.Tables.{get-found}
+use Rattle.std.proofs.Common.{ap, ◌∙◌}
+use Rattle.nfs_model.specs.volume.Inodes.{InodesValue}
+use Rattle.std.specs.FinMap.{get}
 use Rattle.inodes.proofs.inodes.Inodes.get.Goals as goal
 
 pub returns : goal.returns
-returns c = rw (c.look_up.ensures, ← c.self.view_is) (sym (get-found c.self.inside.by_fileid.entries c.args.fileid.0))
+returns c = c.get.ensures ∙ ap (λ (v : InodesValue). get v.inodes c.args.fileid.0) c.self.view_is

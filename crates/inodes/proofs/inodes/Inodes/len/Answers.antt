@@ -1,6 +1,7 @@
-use Rattle.std.proofs.Common.{sym}
-use Rattle.inodes.proofs.Tables.{len-found}
+use Rattle.std.proofs.Common.{ap, ◌∙◌}
+use Rattle.nfs_model.specs.volume.Inodes.{InodesValue}
+use Rattle.std.specs.FinMap.{len}
 use Rattle.inodes.proofs.inodes.Inodes.len.Goals as goal
 
 pub returns : goal.returns
-returns c = rw (c.len.ensures.len, ← c.self.view_is) (sym (len-found c.self.inside.by_fileid.entries c.len.ensures.ordered))
+returns c = c.len.ensures ∙ ap (λ (v : InodesValue). len v.inodes) c.self.view_is

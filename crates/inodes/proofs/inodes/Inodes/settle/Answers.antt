@@ -8,14 +8,14 @@ use Rattle.inodes.proofs.inodes.Inodes.settle.Goals as goal
 
 pub invariant_of-self : goal.invariant_of-self
 invariant_of-self c =
-    let old = inodes_value c.self.inside.next c.self.inside.used c.self.inside.by_fileid.entries in
+    let old = inodes_value c.self.inside.next c.self.inside.used c.self.inside.by_fileid in
     let touch = option_map moment_of c.args.touch in
-    let is = settled c.self.inside.next c.self.inside.used c.self.inside.by_fileid.entries c.settle_at.new.inodes.entries c.args.fileid.0 touch
-    c.settle_at.ensures in
+    let is = settled c.self.inside.next c.self.inside.used c.self.inside.by_fileid c.settle.new.self c.args.fileid.0 touch
+    c.settle.ensures in
     (kept _ _ is (settled-is old c.args.fileid.0 touch c.self.invariant.0), kept-few _ _ is (settled-few old c.args.fileid.0 touch c.self.invariant.1))
 
 pub returns : goal.returns
 returns c =
     rw (← c.self.view_is)
-    (settled c.self.inside.next c.self.inside.used c.self.inside.by_fileid.entries c.settle_at.new.inodes.entries c.args.fileid.0
-    (option_map moment_of c.args.touch) c.settle_at.ensures)
+    (settled c.self.inside.next c.self.inside.used c.self.inside.by_fileid c.settle.new.self c.args.fileid.0
+    (option_map moment_of c.args.touch) c.settle.ensures)

@@ -1,0 +1,126 @@
+//! Chunks of inodes.
+
+ghost use Rattle.std.specs.Prelude.{◌≡◌, ◌%◌, ◌<◌, ℕ, [], None, Some, is_some, IsTrue, IfOk};
+ghost use Rattle.std.specs.Option.{option_map};
+ghost use Rattle.inodes.specs.Inode.{inode_value, stored};
+ghost use Rattle.inodes.specs.Chunks.{chunk_inodes, slot_of, one_if, ChangesSlot, SetsSlot};
+ghost use Rattle.nfs_model.specs.volume.Inodes.{settled_inode};
+ghost use Rattle.nfs_values.specs.Moment.{moment_of};
+
+use crate::inode::Inode;
+use nfs_values::Moment;
+use std::alloc::{AllocError, Global};
+use std::marker::Model;
+
+/// The inodes of a chunk.
+pub const CHUNK_INODES: u64 = 16;
+
+/// The inodes of 16 fileids that follow one another, each at its fileid modulo 16.
+#[derive(Drop)]
+pub struct Chunk {
+    inodes: Box<[Option<Inode>; 16]>,
+    /// How many there are.
+    used: u64,
+}
+
+impl Model for Chunk {
+    ghost use Rattle.std.specs.Prelude.{◌≡◌, map, length};
+    ghost use Rattle.std.specs.Coded.{coded_list, coded_option};
+    ghost use Rattle.nfs_model.specs.volume.Codes.{coded_inode};
+    ghost use Rattle.inodes.specs.Inode.{stored};
+    ghost use Rattle.inodes.specs.Chunks.{Slots, chunk_inodes, used_in};
+
+    ghost Value = { Slots };
+
+    ghost coded = { coded_list (coded_option coded_inode) };
+
+    ghost view = { λ c. map stored c.inodes.value };
+
+    ghost invariant = { λ c. (length c.inodes.value ≡ chunk_inodes)
+        × (c.used ≡ used_in (map stored c.inodes.value)) };
+}
+
+/// The place of a fileid in its chunk.
+fn place(fileid: u64) -> usize
+    ensures place { result ≡ fileid % chunk_inodes }
+    ensures within { result < 16 }
+{
+    (fileid % CHUNK_INODES) as usize
+}
+
+/// How many inodes are stored in a place.
+fn count(inode: Option<Inode>) -> u64
+    ensures { result ≡ one_if (is_some (stored inode)) }
+{
+    match inode {
+        None => 0,
+        Some(_) => 1,
+    }
+}
+
+impl Chunk {
+    /// A chunk with one inode.
+    pub fn new(alloc: Global, fileid: u64, inode: Inode) -> Result<Chunk, AllocError>
+        ensures { IfOk result (SetsSlot fileid (Some (inode_value inode)) []) }
+    {
+        let mut inodes = Box::new(alloc, [None; 16])?;
+        inodes[place(fileid)] = Some(inode);
+        Ok(Chunk { inodes, used: 1 })
+    }
+
+    /// The inode of a fileid.
+    pub fn get(&self, fileid: u64) -> Option<Inode>
+        ensures { option_map inode_value result ≡ slot_of self.now fileid }
+    {
+        self.inodes[place(fileid)]
+    }
+
+    /// Whether no inode is there.
+    pub fn is_empty(&self) -> bool
+        ensures { IsTrue result → (q : ℕ) → slot_of self.now q ≡ None }
+    {
+        self.used == 0
+    }
+
+    /// Puts the inode of a fileid.
+    pub fn put(&mut self, fileid: u64, inode: Inode)
+        ensures { SetsSlot fileid (Some (inode_value inode)) self.old self.new }
+    {
+        let place = place(fileid);
+        let former = self.inodes[place];
+        self.inodes[place] = Some(inode);
+        self.used = self.used + 1 - count(former);
+    }
+
+    /// Takes the inode of a fileid, if it is there.
+    pub fn take(&mut self, fileid: u64) -> Option<Inode>
+        ensures inode { option_map inode_value result ≡ slot_of self.old fileid }
+        ensures gone { SetsSlot fileid None self.old self.new }
+    {
+        let place = place(fileid);
+        let former = self.inodes[place];
+        self.inodes[place] = None;
+        self.used -= count(former);
+        former
+    }
+
+    /// Replaces the inode of a fileid, if it is there, and tells the old one.
+    pub fn replace(&mut self, fileid: u64, inode: Inode) -> Option<Inode>
+        ensures old { option_map inode_value result ≡ slot_of self.old fileid }
+        ensures replaced { ChangesSlot (λ _. inode_value inode) fileid self.old self.new }
+    {
+        let old = self.get(fileid)?;
+        self.put(fileid, inode);
+        Some(old)
+    }
+
+    /// Settles the inode of a fileid, if it is there.
+    pub fn settle(&mut self, fileid: u64, touch: Option<Moment>)
+        ensures { ChangesSlot (settled_inode (option_map moment_of touch)) fileid
+            self.old self.new }
+    {
+        if let Some(inode) = self.get(fileid) {
+            self.put(fileid, inode.settled(touch));
+        }
+    }
+}

@@ -1,0 +1,126 @@
+//! Inodes by fileid.
+
+ghost use Rattle.std.specs.Prelude.{◌≡◌, ◌<◌, None, OnOk, OnErr};
+ghost use Rattle.std.specs.Option.{option_map};
+ghost use Rattle.std.specs.FinMap.{empty, get, insert, len, remove};
+ghost use Rattle.nfs_values.specs.Moment.{moment_of};
+ghost use Rattle.nfs_model.specs.Server.{most_inodes};
+ghost use Rattle.nfs_model.specs.volume.Inodes.{settled_inode};
+ghost use Rattle.nfs_model.specs.volume.Maps.{changed_at};
+ghost use Rattle.inodes.specs.Inode.{inode_value};
+
+use crate::chunks::{Chunks, inode_in, put, remove_at, replace_at, settle_at};
+use crate::inode::Inode;
+use nfs_values::{Fileid, Moment};
+use std::alloc::{AllocError, Global};
+use std::collections::BTreeMap;
+use std::marker::Model;
+
+/// A map from fileids to inodes, in chunks, so that a search reads few keys.
+pub struct Table {
+    alloc: Global,
+    chunks: Chunks,
+    /// The number of the chunk that is kept though it may be empty.
+    kept: u64,
+    /// How many inodes there are.
+    count: usize,
+}
+
+// By hand, so that crates above have no proof of the drop of each of its parts.
+impl Drop for Table {
+    fn drop(self) {
+        let Table {
+            alloc: _,
+            chunks: _,
+            kept: _,
+            count: _,
+        } = self;
+    }
+}
+
+impl Model for Table {
+    ghost use Rattle.std.specs.Prelude.{◌≡◌};
+    ghost use Rattle.std.specs.FinMap.{FinMap, len};
+    ghost use Rattle.std.specs.FinMap as maps;
+    ghost use Rattle.std.specs.Coded.{coded_ℕ};
+    ghost use Rattle.std.specs.Ordering.{nat_cmp};
+    ghost use Rattle.nfs_model.specs.volume.Inodes as values;
+    ghost use Rattle.nfs_model.specs.volume.Codes.{coded_inode};
+    ghost use Rattle.inodes.specs.Chunks.{inodes_of};
+
+    ghost Value = { FinMap nat_cmp values.Inode };
+
+    ghost coded = { maps.code coded_ℕ coded_inode };
+
+    ghost view = { λ t. inodes_of t.chunks.entries };
+
+    ghost invariant = { λ t. t.count ≡ len (inodes_of t.chunks.entries) };
+}
+
+impl Table {
+    /// No inode. It takes no memory.
+    pub fn new(alloc: Global) -> Table
+        ensures { result ≡ empty }
+    {
+        Table {
+            alloc,
+            chunks: BTreeMap::new(alloc),
+            kept: 0,
+            count: 0,
+        }
+    }
+
+    /// The inode of a fileid.
+    pub fn get(&self, fileid: Fileid) -> Option<Inode>
+        ensures { option_map inode_value result ≡ get self.now fileid.0 }
+    {
+        inode_in(&self.chunks, fileid.0)
+    }
+
+    /// How many inodes there are.
+    pub fn len(&self) -> usize
+        ensures { result ≡ len self.now }
+    {
+        self.count
+    }
+
+    /// Adds an inode under a fileid that has none. Where there is no memory for it nothing changes.
+    pub fn insert(&mut self, fileid: Fileid, inode: Inode) -> Result<(), AllocError>
+        requires room { len self.old < most_inodes }
+        requires absent { get self.old fileid.0 ≡ None }
+        ensures ok { OnOk result (self.new ≡ insert self.old fileid.0 (inode_value inode)) }
+        ensures err { OnErr result (self.new ≡ self.old) }
+    {
+        put(&mut self.chunks, self.alloc, fileid.0, inode)?;
+        self.count += 1;
+        Ok(())
+    }
+
+    /// Replaces the inode of a fileid, and tells the old one. Nothing changes where there is none.
+    /// It takes no memory.
+    pub fn replace(&mut self, fileid: Fileid, inode: Inode) -> Option<Inode>
+        ensures old { option_map inode_value result ≡ get self.old fileid.0 }
+        ensures replaced { self.new ≡ changed_at (λ _. inode_value inode) fileid.0 self.old }
+    {
+        replace_at(&mut self.chunks, fileid.0, inode)
+    }
+
+    /// A touch, if there is one, becomes the stored mtime and ctime of the inode of a fileid.
+    /// Nothing changes where there is none. It takes no memory.
+    pub fn settle(&mut self, fileid: Fileid, touch: Option<Moment>)
+        ensures { self.new
+            ≡ changed_at (settled_inode (option_map moment_of touch)) fileid.0 self.old }
+    {
+        settle_at(&mut self.chunks, fileid.0, touch);
+    }
+
+    /// Removes the inode of a fileid, if there is one, and tells it. It takes no memory.
+    pub fn remove(&mut self, fileid: Fileid) -> Option<Inode>
+        ensures inode { option_map inode_value result ≡ get self.old fileid.0 }
+        ensures gone { self.new ≡ remove self.old fileid.0 }
+    {
+        let inode = remove_at(&mut self.chunks, &mut self.kept, fileid.0)?;
+        self.count -= 1;
+        Some(inode)
+    }
+}
