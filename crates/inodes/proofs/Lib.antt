@@ -1,4 +1,2 @@
-pub mod Slots
-pub mod Chunked
 pub mod Few
 pub mod Changes

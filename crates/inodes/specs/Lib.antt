@@ -1,2 +1,1 @@
 pub mod Inode
-pub mod Chunks

@@ -3,22 +3,20 @@
 ghost use Rattle.std.specs.Prelude.{◌≡◌, ◌%◌, ◌<◌, ℕ, [], None, Some, is_some, IsTrue, IfOk};
 ghost use Rattle.std.specs.Option.{option_map};
 ghost use Rattle.inodes.specs.Inode.{inode_value, stored};
-ghost use Rattle.inodes.specs.Chunks.{chunk_inodes, slot_of, one_if, ChangesSlot, SetsSlot};
+ghost use Rattle.chunk_maps.specs.Chunks.{chunk_size, slot_of, one_if, ChangesSlot, SetsSlot};
 ghost use Rattle.nfs_model.specs.volume.Inodes.{settled_inode};
 ghost use Rattle.nfs_values.specs.Moment.{moment_of};
 
 use crate::inode::Inode;
+use chunk_maps::slot;
 use nfs_values::Moment;
 use std::alloc::{AllocError, Global};
 use std::marker::Model;
 
-/// The inodes of a chunk.
-pub const CHUNK_INODES: u64 = 16;
-
-/// The inodes of 16 fileids that follow one another, each at its fileid modulo 16.
+/// The inodes of 32 fileids that follow one another, each at its fileid modulo 32.
 #[derive(Drop)]
 pub struct Chunk {
-    inodes: Box<[Option<Inode>; 16]>,
+    inodes: Box<[Option<Inode>; 32]>,
     /// How many there are.
     used: u64,
 }
@@ -28,27 +26,20 @@ impl Model for Chunk {
     ghost use Rattle.std.specs.Coded.{coded_list, coded_option};
     ghost use Rattle.nfs_model.specs.volume.Codes.{coded_inode};
     ghost use Rattle.inodes.specs.Inode.{stored};
-    ghost use Rattle.inodes.specs.Chunks.{Slots, chunk_inodes, used_in};
+    ghost use Rattle.nfs_model.specs.volume.Inodes.{Inode};
+    ghost use Rattle.chunk_maps.specs.Chunks.{Slots, chunk_size, used_in};
 
-    ghost Value = { Slots };
+    ghost Value = { Slots Inode };
 
     ghost coded = { coded_list (coded_option coded_inode) };
 
     ghost view = { λ c. map stored c.inodes.value };
 
-    ghost invariant = { λ c. (length c.inodes.value ≡ chunk_inodes)
+    ghost invariant = { λ c. (length c.inodes.value ≡ chunk_size)
         × (c.used ≡ used_in (map stored c.inodes.value)) };
 }
 
-/// The place of a fileid in its chunk.
-fn place(fileid: u64) -> usize
-    ensures place { result ≡ fileid % chunk_inodes }
-    ensures within { result < 16 }
-{
-    (fileid % CHUNK_INODES) as usize
-}
-
-/// How many inodes are stored in a place.
+/// How many inodes a slot has.
 fn count(inode: Option<Inode>) -> u64
     ensures { result ≡ one_if (is_some (stored inode)) }
 {
@@ -63,8 +54,8 @@ impl Chunk {
     pub fn new(alloc: Global, fileid: u64, inode: Inode) -> Result<Chunk, AllocError>
         ensures { IfOk result (SetsSlot fileid (Some (inode_value inode)) []) }
     {
-        let mut inodes = Box::new(alloc, [None; 16])?;
-        inodes[place(fileid)] = Some(inode);
+        let mut inodes = Box::new(alloc, [None; 32])?;
+        inodes[slot(fileid)] = Some(inode);
         Ok(Chunk { inodes, used: 1 })
     }
 
@@ -72,7 +63,7 @@ impl Chunk {
     pub fn get(&self, fileid: u64) -> Option<Inode>
         ensures { option_map inode_value result ≡ slot_of self.now fileid }
     {
-        self.inodes[place(fileid)]
+        self.inodes[slot(fileid)]
     }
 
     /// Whether no inode is there.
@@ -86,9 +77,9 @@ impl Chunk {
     pub fn put(&mut self, fileid: u64, inode: Inode)
         ensures { SetsSlot fileid (Some (inode_value inode)) self.old self.new }
     {
-        let place = place(fileid);
-        let former = self.inodes[place];
-        self.inodes[place] = Some(inode);
+        let slot = slot(fileid);
+        let former = self.inodes[slot];
+        self.inodes[slot] = Some(inode);
         self.used = self.used + 1 - count(former);
     }
 
@@ -97,9 +88,9 @@ impl Chunk {
         ensures inode { option_map inode_value result ≡ slot_of self.old fileid }
         ensures gone { SetsSlot fileid None self.old self.new }
     {
-        let place = place(fileid);
-        let former = self.inodes[place];
-        self.inodes[place] = None;
+        let slot = slot(fileid);
+        let former = self.inodes[slot];
+        self.inodes[slot] = None;
         self.used -= count(former);
         former
     }

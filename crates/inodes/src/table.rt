@@ -46,15 +46,15 @@ impl Model for Table {
     ghost use Rattle.std.specs.Ordering.{nat_cmp};
     ghost use Rattle.nfs_model.specs.volume.Inodes as values;
     ghost use Rattle.nfs_model.specs.volume.Codes.{coded_inode};
-    ghost use Rattle.inodes.specs.Chunks.{inodes_of};
+    ghost use Rattle.chunk_maps.specs.Chunks.{values_of};
 
     ghost Value = { FinMap nat_cmp values.Inode };
 
     ghost coded = { maps.code coded_ℕ coded_inode };
 
-    ghost view = { λ t. inodes_of t.chunks.entries };
+    ghost view = { λ t. values_of t.chunks.entries };
 
-    ghost invariant = { λ t. t.count ≡ len (inodes_of t.chunks.entries) };
+    ghost invariant = { λ t. t.count ≡ len (values_of t.chunks.entries) };
 }
 
 impl Table {

@@ -2,7 +2,7 @@ use Rattle.std.proofs.Common.{sym, ap, ◌∙◌}
 use Rattle.std.specs.Ordering.{nat_cmp}
 use Rattle.std.specs.FinMap.{len, len-empty}
 use Rattle.nfs_model.specs.volume.Inodes as values
-use Rattle.inodes.proofs.Chunked.{no-chunks}
+use Rattle.chunk_maps.specs.ChunkLaws.{no-chunks}
 use Rattle.inodes.proofs.table.Table.new.Goals as goal
 
 pub invariant_of-result : goal.invariant_of-result

@@ -3,45 +3,45 @@ use Rattle.std.specs.Option.{option_map}
 use Rattle.std.specs.Ordering.{nat_cmp}
 use Rattle.std.specs.FinMap.{FinMap, get, len, remove}
 use Rattle.nfs_model.specs.volume.Inodes as values
-use Rattle.inodes.specs.Chunks.{inodes_of}
+use Rattle.chunk_maps.specs.Chunks.{values_of}
 use Rattle.inodes.specs.Inode.{inode_value}
-use Rattle.inodes.proofs.Chunked.{get-inodes_of, removed-inodes, len-gone, len-none, len-some}
+use Rattle.chunk_maps.specs.ChunkLaws.{get-values_of, removed-values, len-gone, len-none, len-some}
 use Rattle.inodes.proofs.table.Table.remove.Goals as goal
 
 pub invariant_of-self : goal.invariant_of-self
 invariant_of-self c =
-    let old = inodes_of c.self.inside.chunks.entries in
+    let old = values_of c.self.inside.chunks.entries in
     c.self.invariant
-    ∙ sym (ap (λ m. len m) (removed-inodes c.args.fileid.0 c.self.inside.chunks c.remove_at.new.chunks c.in_err-inode.ensures.gone)
-    ∙ len-none c.args.fileid.0 old (get-inodes_of c.self.inside.chunks c.args.fileid.0 ∙ sym c.in_err-inode.ensures.inode))
+    ∙ sym (ap (λ m. len m) (removed-values c.args.fileid.0 c.self.inside.chunks c.remove_at.new.chunks c.in_err-inode.ensures.gone)
+    ∙ len-none c.args.fileid.0 old (get-values_of c.self.inside.chunks c.args.fileid.0 ∙ sym c.in_err-inode.ensures.inode))
 
 pub overflow_sub-self : goal.overflow_sub-self
 overflow_sub-self c =
-    let some = len-some c.args.fileid.0 (inode_value c.in_ok-inode.inode) (inodes_of c.self.inside.chunks.entries)
-    (get-inodes_of c.self.inside.chunks c.args.fileid.0 ∙ sym c.in_ok-inode.ensures.inode) in
+    let some = len-some c.args.fileid.0 (inode_value c.in_ok-inode.inode) (values_of c.self.inside.chunks.entries)
+    (get-values_of c.self.inside.chunks c.args.fileid.0 ∙ sym c.in_ok-inode.ensures.inode) in
     omega (arith, some, c.self.invariant)
 
 pub invariant_of-self-2 : goal.invariant_of-self-2
 invariant_of-self-2 c =
-    let old = inodes_of c.self.inside.chunks.entries in
+    let old = values_of c.self.inside.chunks.entries in
     ap (λ n. n - 1) c.self.invariant
-    ∙ sym (ap (λ m. len m) (removed-inodes c.args.fileid.0 c.self.inside.chunks c.remove_at.new.chunks c.in_ok-inode.ensures.gone)
-    ∙ len-gone c.args.fileid.0 (inode_value c.in_ok-inode.inode) old (get-inodes_of c.self.inside.chunks c.args.fileid.0 ∙ sym c.in_ok-inode.ensures.inode))
+    ∙ sym (ap (λ m. len m) (removed-values c.args.fileid.0 c.self.inside.chunks c.remove_at.new.chunks c.in_ok-inode.ensures.gone)
+    ∙ len-gone c.args.fileid.0 (inode_value c.in_ok-inode.inode) old (get-values_of c.self.inside.chunks c.args.fileid.0 ∙ sym c.in_ok-inode.ensures.inode))
 
 pub returns-clause-inode : goal.returns-clause-inode
 returns-clause-inode c =
-    c.in_ok-inode.ensures.inode ∙ sym (get-inodes_of c.self.inside.chunks c.args.fileid.0) ∙ ap (λ m. get m c.args.fileid.0) c.self.view_is
+    c.in_ok-inode.ensures.inode ∙ sym (get-values_of c.self.inside.chunks c.args.fileid.0) ∙ ap (λ m. get m c.args.fileid.0) c.self.view_is
 
 pub returns-clause-gone : goal.returns-clause-gone
 returns-clause-gone c =
-    removed-inodes c.args.fileid.0 c.self.inside.chunks c.remove_at.new.chunks c.in_ok-inode.ensures.gone
+    removed-values c.args.fileid.0 c.self.inside.chunks c.remove_at.new.chunks c.in_ok-inode.ensures.gone
     ∙ ap (λ m. remove m c.args.fileid.0) c.self.view_is
 
 pub returns-in_err-inode-clause-inode : goal.returns-in_err-inode-clause-inode
 returns-in_err-inode-clause-inode c =
-    ap (option_map inode_value) c.from_residual.ensures ∙ c.in_err-inode.ensures.inode ∙ sym (get-inodes_of c.self.inside.chunks c.args.fileid.0) ∙ ap (λ m. get m c.args.fileid.0) c.self.view_is
+    ap (option_map inode_value) c.from_residual.ensures ∙ c.in_err-inode.ensures.inode ∙ sym (get-values_of c.self.inside.chunks c.args.fileid.0) ∙ ap (λ m. get m c.args.fileid.0) c.self.view_is
 
 pub returns-in_err-inode-clause-gone : goal.returns-in_err-inode-clause-gone
 returns-in_err-inode-clause-gone c =
-    removed-inodes c.args.fileid.0 c.self.inside.chunks c.remove_at.new.chunks c.in_err-inode.ensures.gone
+    removed-values c.args.fileid.0 c.self.inside.chunks c.remove_at.new.chunks c.in_err-inode.ensures.gone
     ∙ ap (λ m. remove m c.args.fileid.0) c.self.view_is

@@ -1,0 +1,3 @@
+pub mod Chunks
+pub mod ChunkLaws
+pub mod SlotLaws
