@@ -15,7 +15,8 @@ use Rattle.nfs_model.specs.volume.Maps.{changed_value, changed_at}
 use Rattle.nfs_model.specs.volume.lemmas.Numbered.{insert-same, insert-removed, removed-absent, remove-absent}
 use Rattle.nfs_model.specs.volume.Stripes.{Card, OfFile, OfFolder, touch_of, card_touched, card_settled}
 use Rattle.stripe_cards.specs.Cards.{card_resized}
-use Rattle.stripe_cards.specs.Counts.{is_untouched, one_if, touches_on, touched_in, AreCounted, one_more, one_less, ChangesCount}
+use Rattle.chunk_maps.specs.Chunks.{one_if}
+use Rattle.stripe_cards.specs.Counts.{is_untouched, touches_on, touched_in, AreCounted, one_more, one_less, ChangesCount}
 
 -- ---- the touches of a class
 

@@ -1,3 +1,2 @@
 pub mod Changed
 pub mod Counted
-pub mod Slots

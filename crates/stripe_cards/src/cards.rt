@@ -51,16 +51,16 @@ impl Model for Cards {
     ghost use Rattle.std.specs.Ordering.{nat_cmp};
     ghost use Rattle.nfs_model.specs.volume.Stripes as values;
     ghost use Rattle.nfs_model.specs.volume.Codes.{coded_card};
-    ghost use Rattle.stripe_cards.specs.Chunks.{cards_of};
+    ghost use Rattle.chunk_maps.specs.Chunks.{values_of};
     ghost use Rattle.stripe_cards.specs.Counts.{AreCounted};
 
     ghost Value = { FinMap nat_cmp values.Card };
 
     ghost coded = { maps.code coded_ℕ coded_card };
 
-    ghost view = { λ c. cards_of c.chunks.entries };
+    ghost view = { λ c. values_of c.chunks.entries };
 
-    ghost invariant = { λ c. AreCounted c.touches (cards_of c.chunks.entries) };
+    ghost invariant = { λ c. AreCounted c.touches (values_of c.chunks.entries) };
 }
 
 impl Cards {

@@ -5,17 +5,16 @@ ghost use Rattle.std.specs.Option.{option_map};
 ghost use Rattle.nfs_values.specs.Moment.{moment_of};
 ghost use Rattle.nfs_model.specs.volume.Stripes.{touch_of, card_touched, card_settled};
 ghost use Rattle.stripe_cards.specs.Cards.{card_of, card_resized, packed_card};
-ghost use Rattle.stripe_cards.specs.Chunks.{chunk_cards, slot_of, SetsSlot, ChangesSlot};
-ghost use Rattle.stripe_cards.specs.Counts.{is_untouched, one_if};
+ghost use Rattle.chunk_maps.specs.Chunks.{chunk_size, slot_of, SetsSlot, ChangesSlot};
+ghost use Rattle.chunk_maps.specs.Chunks.{one_if};
+ghost use Rattle.stripe_cards.specs.Counts.{is_untouched};
 
 use crate::card::{Card, is_untouched, resized, settled, touch_on, touched};
 use crate::packed::{Packed, pack, unpack};
+use chunk_maps::slot;
 use nfs_values::Moment;
 use std::alloc::{AllocError, Global};
 use std::marker::Model;
-
-/// The cards of a chunk.
-pub const CHUNK_CARDS: u64 = 32;
 
 /// The cards of 32 fileids that follow one another, each at its fileid modulo 32.
 #[derive(Drop)]
@@ -30,27 +29,20 @@ impl Model for Chunk {
     ghost use Rattle.std.specs.Coded.{coded_list, coded_option};
     ghost use Rattle.nfs_model.specs.volume.Codes.{coded_card};
     ghost use Rattle.stripe_cards.specs.Cards.{packed_card};
-    ghost use Rattle.stripe_cards.specs.Chunks.{Slots, chunk_cards, used_in};
+    ghost use Rattle.nfs_model.specs.volume.Stripes as values;
+    ghost use Rattle.chunk_maps.specs.Chunks.{Slots, chunk_size, used_in};
 
-    ghost Value = { Slots };
+    ghost Value = { Slots values.Card };
 
     ghost coded = { coded_list (coded_option coded_card) };
 
     ghost view = { λ c. map packed_card c.cards.value };
 
-    ghost invariant = { λ c. (length c.cards.value ≡ chunk_cards)
+    ghost invariant = { λ c. (length c.cards.value ≡ chunk_size)
         × (c.used ≡ used_in (map packed_card c.cards.value)) };
 }
 
-/// The place of a fileid in its chunk.
-fn place(fileid: u64) -> usize
-    ensures place { result ≡ fileid % chunk_cards }
-    ensures within { result < 32 }
-{
-    (fileid % CHUNK_CARDS) as usize
-}
-
-/// How many cards are stored in a place.
+/// How many cards a slot has.
 fn count(packed: Packed) -> u64
     ensures { result ≡ one_if (is_some (packed_card packed)) }
 {
@@ -68,7 +60,7 @@ impl Chunk {
         ensures { IfOk result (SetsSlot fileid (Some (card_of card)) []) }
     {
         let mut cards = Box::new(alloc, [Packed::Absent; 32])?;
-        cards[place(fileid)] = pack(card);
+        cards[slot(fileid)] = pack(card);
         Ok(Chunk { cards, used: 1 })
     }
 
@@ -76,7 +68,7 @@ impl Chunk {
     pub fn get(&self, fileid: u64) -> Option<Card>
         ensures { option_map card_of result ≡ slot_of self.now fileid }
     {
-        unpack(self.cards[place(fileid)])
+        unpack(self.cards[slot(fileid)])
     }
 
     /// Whether no card is there.
@@ -90,9 +82,9 @@ impl Chunk {
     pub fn put(&mut self, fileid: u64, card: Card)
         ensures { SetsSlot fileid (Some (card_of card)) self.old self.new }
     {
-        let place = place(fileid);
-        let former = self.cards[place];
-        self.cards[place] = pack(card);
+        let slot = slot(fileid);
+        let former = self.cards[slot];
+        self.cards[slot] = pack(card);
         self.used = self.used + 1 - count(former);
     }
 
@@ -101,9 +93,9 @@ impl Chunk {
         ensures card { option_map card_of result ≡ slot_of self.old fileid }
         ensures gone { SetsSlot fileid None self.old self.new }
     {
-        let place = place(fileid);
-        let former = self.cards[place];
-        self.cards[place] = Packed::Absent;
+        let slot = slot(fileid);
+        let former = self.cards[slot];
+        self.cards[slot] = Packed::Absent;
         self.used -= count(former);
         unpack(former)
     }

@@ -7,11 +7,12 @@ ghost use Rattle.std.specs.Ordering.{nat_cmp};
 ghost use Rattle.nfs_values.specs.Moment.{moment_of};
 ghost use Rattle.nfs_model.specs.volume.Stripes.{touch_of, card_touched, card_settled};
 ghost use Rattle.stripe_cards.specs.Cards.{card_of, card_resized};
-ghost use Rattle.stripe_cards.specs.Chunks.{chunk_cards, card_at, Puts, Changes, Removes, Same};
+ghost use Rattle.chunk_maps.specs.Chunks.{chunk_size, value_at, Puts, Changes, Removes, Same};
 ghost use Rattle.stripe_cards.specs.Counts.{is_untouched};
 
 use crate::card::{Card, touch_on};
-use crate::chunk::{CHUNK_CARDS, Chunk};
+use crate::chunk::Chunk;
+use chunk_maps::CHUNK_SIZE;
 use nfs_values::Moment;
 use std::alloc::{AllocError, Global};
 use std::collections::BTreeMap;
@@ -21,9 +22,9 @@ pub type Chunks = BTreeMap<u64, Chunk>;
 
 /// The card of a fileid.
 pub fn card_in(chunks: &Chunks, fileid: u64) -> Option<Card>
-    ensures { option_map card_of result ≡ card_at chunks.now fileid }
+    ensures { option_map card_of result ≡ value_at chunks.now fileid }
 {
-    match chunks.get(&(fileid / CHUNK_CARDS)) {
+    match chunks.get(&(fileid / CHUNK_SIZE)) {
         Some(chunk) => chunk.get(fileid),
         None => None,
     }
@@ -33,9 +34,9 @@ pub fn card_in(chunks: &Chunks, fileid: u64) -> Option<Card>
 pub fn put(chunks: &mut Chunks, alloc: Global, fileid: u64, card: Card) -> Result<(), AllocError>
     ensures ok { OnOk result (Puts fileid (card_of card) chunks.old chunks.new) }
     ensures err { OnErr result (Same chunks.old chunks.new) }
-    ensures succeeds { IsSome (card_at chunks.old fileid) → IsOk result }
+    ensures succeeds { IsSome (value_at chunks.old fileid) → IsOk result }
 {
-    match chunks.get_mut(&(fileid / CHUNK_CARDS)) {
+    match chunks.get_mut(&(fileid / CHUNK_SIZE)) {
         Some(chunk) => {
             chunk.put(fileid, card);
             Ok(())
@@ -46,12 +47,12 @@ pub fn put(chunks: &mut Chunks, alloc: Global, fileid: u64, card: Card) -> Resul
 
 /// Adds a chunk with one card.
 fn add_chunk(chunks: &mut Chunks, alloc: Global, fileid: u64, card: Card) -> Result<(), AllocError>
-    requires { btree.get nat_cmp chunks.old (fileid / chunk_cards) ≡ None }
+    requires { btree.get nat_cmp chunks.old (fileid / chunk_size) ≡ None }
     ensures ok { OnOk result (Puts fileid (card_of card) chunks.old chunks.new) }
     ensures err { OnErr result (Same chunks.old chunks.new) }
 {
     let chunk = Chunk::new(alloc, fileid, card)?;
-    chunks.insert(fileid / CHUNK_CARDS, chunk)?;
+    chunks.insert(fileid / CHUNK_SIZE, chunk)?;
     Ok(())
 }
 
@@ -59,7 +60,7 @@ fn add_chunk(chunks: &mut Chunks, alloc: Global, fileid: u64, card: Card) -> Res
 pub fn resize_at(chunks: &mut Chunks, fileid: u64, size: u64)
     ensures { Changes (card_resized size) fileid chunks.old chunks.new }
 {
-    if let Some(chunk) = chunks.get_mut(&(fileid / CHUNK_CARDS)) {
+    if let Some(chunk) = chunks.get_mut(&(fileid / CHUNK_SIZE)) {
         chunk.resize(fileid, size);
     }
 }
@@ -67,9 +68,9 @@ pub fn resize_at(chunks: &mut Chunks, fileid: u64, size: u64)
 /// Touches a card, if it is there, and tells whether it is the first touch of a file.
 pub fn touch_at(chunks: &mut Chunks, fileid: u64, moment: Moment) -> bool
     ensures touched { Changes (card_touched (moment_of moment)) fileid chunks.old chunks.new }
-    ensures first { result ≡ is_untouched (card_at chunks.old fileid) }
+    ensures first { result ≡ is_untouched (value_at chunks.old fileid) }
 {
-    match chunks.get_mut(&(fileid / CHUNK_CARDS)) {
+    match chunks.get_mut(&(fileid / CHUNK_SIZE)) {
         Some(chunk) => chunk.touch(fileid, moment),
         None => false,
     }
@@ -77,10 +78,10 @@ pub fn touch_at(chunks: &mut Chunks, fileid: u64, moment: Moment) -> bool
 
 /// Takes the touch of a card, if it is there.
 pub fn take_touch_at(chunks: &mut Chunks, fileid: u64) -> Option<Moment>
-    ensures touch { option_map moment_of result ≡ touch_of (card_at chunks.old fileid) }
+    ensures touch { option_map moment_of result ≡ touch_of (value_at chunks.old fileid) }
     ensures taken { Changes card_settled fileid chunks.old chunks.new }
 {
-    match chunks.get_mut(&(fileid / CHUNK_CARDS)) {
+    match chunks.get_mut(&(fileid / CHUNK_SIZE)) {
         Some(chunk) => chunk.take_touch(fileid),
         None => None,
     }
@@ -89,22 +90,22 @@ pub fn take_touch_at(chunks: &mut Chunks, fileid: u64) -> Option<Moment>
 /// Removes a card, if it is there, and tells whether it had a touch. A chunk whose last card goes
 /// is kept, and the one that was kept so far is freed.
 pub fn remove_at(chunks: &mut Chunks, kept: &mut u64, fileid: u64) -> bool
-    ensures touch { result ≡ is_some (touch_of (card_at chunks.old fileid)) }
+    ensures touch { result ≡ is_some (touch_of (value_at chunks.old fileid)) }
     ensures gone { Removes fileid chunks.old chunks.new }
 {
     let (card, is_empty) = take_at(chunks, fileid);
     if is_empty {
-        keep(chunks, kept, fileid / CHUNK_CARDS);
+        keep(chunks, kept, fileid / CHUNK_SIZE);
     }
     touch_on(card).is_some()
 }
 
 /// Takes a card, if it is there, and tells whether its chunk is empty then.
 fn take_at(chunks: &mut Chunks, fileid: u64) -> (Option<Card>, bool)
-    ensures card { option_map card_of result.0 ≡ card_at chunks.old fileid }
+    ensures card { option_map card_of result.0 ≡ value_at chunks.old fileid }
     ensures gone { Removes fileid chunks.old chunks.new }
 {
-    match chunks.get_mut(&(fileid / CHUNK_CARDS)) {
+    match chunks.get_mut(&(fileid / CHUNK_SIZE)) {
         Some(chunk) => {
             let card = chunk.take(fileid);
             (card, chunk.is_empty())
@@ -126,7 +127,7 @@ fn keep(chunks: &mut Chunks, kept: &mut u64, number: u64)
 
 /// Whether the chunk of a number is there, and empty.
 fn is_empty_at(chunks: &Chunks, number: u64) -> bool
-    ensures { IsTrue result → (q : ℕ) → q / chunk_cards ≡ number → card_at chunks.now q ≡ None }
+    ensures { IsTrue result → (q : ℕ) → q / chunk_size ≡ number → value_at chunks.now q ≡ None }
 {
     match chunks.get(&number) {
         Some(chunk) => chunk.is_empty(),

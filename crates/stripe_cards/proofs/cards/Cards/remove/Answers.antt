@@ -1,18 +1,18 @@
 use Rattle.std.proofs.Common.{is_some, sym, ap, subst, ◌∙◌}
 use Rattle.std.specs.FinMap.{remove}
 use Rattle.nfs_model.specs.volume.Stripes.{touch_of}
-use Rattle.stripe_cards.specs.Chunks.{cards_of}
+use Rattle.chunk_maps.specs.Chunks.{values_of}
 use Rattle.stripe_cards.specs.Counts.{one_less, AreCounted, ChangesCount}
-use Rattle.stripe_cards.proofs.Changed.{get-cards_of, removed-cards}
+use Rattle.chunk_maps.specs.ChunkLaws.{get-values_of, removed-values}
 use Rattle.stripe_cards.proofs.Counted.{counted-removed, counted-removed-down}
 use Rattle.stripe_cards.proofs.cards.Cards.remove.Goals as goal
 
 pub invariant_of-self : goal.invariant_of-self
 invariant_of-self c =
     let old = c.self.inside.chunks in
-    subst (AreCounted c.count_down.new.counts) (sym (removed-cards c.args.fileid.0 old c.remove_at.new.chunks c.remove_at.ensures.gone))
-    (counted-removed-down c.self.inside.touches (cards_of old.entries) c.args.fileid.0 c.count_down.new.counts
-    (ap (λ o. is_some (touch_of o)) (get-cards_of old c.args.fileid.0)
+    subst (AreCounted c.count_down.new.counts) (sym (removed-values c.args.fileid.0 old c.remove_at.new.chunks c.remove_at.ensures.gone))
+    (counted-removed-down c.self.inside.touches (values_of old.entries) c.args.fileid.0 c.count_down.new.counts
+    (ap (λ o. is_some (touch_of o)) (get-values_of old c.args.fileid.0)
     ∙ sym c.remove_at.ensures.touch ∙ c.if-remove_at.true)
     (subst (λ q. ChangesCount one_less q c.self.inside.touches c.count_down.new.counts) c.class_of.ensures.class c.count_down.ensures)
     c.self.invariant)
@@ -20,15 +20,15 @@ invariant_of-self c =
 pub invariant_of-self-else-remove_at : goal.invariant_of-self-else-remove_at
 invariant_of-self-else-remove_at c =
     let old = c.self.inside.chunks in
-    subst (AreCounted c.self.inside.touches) (sym (removed-cards c.args.fileid.0 old c.remove_at.new.chunks c.remove_at.ensures.gone))
-    (counted-removed c.self.inside.touches (cards_of old.entries) c.args.fileid.0 c.self.invariant)
+    subst (AreCounted c.self.inside.touches) (sym (removed-values c.args.fileid.0 old c.remove_at.new.chunks c.remove_at.ensures.gone))
+    (counted-removed c.self.inside.touches (values_of old.entries) c.args.fileid.0 c.self.invariant)
 
 pub returns-then-remove_at : goal.returns-then-remove_at
 returns-then-remove_at c =
-    removed-cards c.args.fileid.0 c.self.inside.chunks c.remove_at.new.chunks c.remove_at.ensures.gone
+    removed-values c.args.fileid.0 c.self.inside.chunks c.remove_at.new.chunks c.remove_at.ensures.gone
     ∙ ap (λ m. remove m c.args.fileid.0) c.self.view_is
 
 pub returns-else-remove_at : goal.returns-else-remove_at
 returns-else-remove_at c =
-    removed-cards c.args.fileid.0 c.self.inside.chunks c.remove_at.new.chunks c.remove_at.ensures.gone
+    removed-values c.args.fileid.0 c.self.inside.chunks c.remove_at.new.chunks c.remove_at.ensures.gone
     ∙ ap (λ m. remove m c.args.fileid.0) c.self.view_is
