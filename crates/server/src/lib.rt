@@ -12,6 +12,7 @@ mod fault;
 mod gathering;
 mod hearing;
 mod keys;
+mod late_word;
 mod mailbox;
 mod opening;
 mod options;

@@ -39,6 +39,11 @@ impl Patience {
         true
     }
 
+    /// Whether the refusals were so many that they are no longer waited out on the processor.
+    pub(crate) fn is_worn(self) -> bool {
+        self.refusals >= MOST_PAUSES
+    }
+
     /// Gives the processor away where there were many refusals, since who has what is wanted may
     /// not be running: at first for a moment, and then by a nap.
     pub(crate) fn give_way<R: Clock>(&mut self, rt: &R) {

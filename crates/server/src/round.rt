@@ -5,6 +5,7 @@ ghost use Rattle.server.specs.Lanes.{IsAtRest, Stays};
 
 use crate::common::Common;
 use crate::hearing::hear;
+use crate::late_word::LateWord;
 use crate::pace::Pace;
 use crate::socket::Socket;
 use crate::station::Station;
@@ -101,6 +102,23 @@ fn tell_left<R>(lane: &Lane<Socket, R>, pace: &mut Pace, common: &Common) {
     }
 }
 
+/// Makes turns under one grant, at most so many.
+fn run_some<R: Wait>(
+    lane: &mut Lane<Socket, R>,
+    pace: &Pace,
+    common: &Common,
+    moment: Moment,
+    most: usize,
+) -> Chained
+    ensures { Stays lane.old lane.new }
+{
+    let word = LateWord {
+        wanted: &common.wanted,
+        patience: pace.patience,
+    };
+    lane.turns(&Unwatched, &word, moment, most)
+}
+
 /// Makes turns until no message waits, or 64. Answers whether the last found none.
 fn run_calls<R: Wait>(
     lane: &mut Lane<Socket, R>,
@@ -116,7 +134,7 @@ fn run_calls<R: Wait>(
         if left == 0 || before == 0 && may_rest(lane, pace) {
             return false;
         }
-        let chained = lane.turns(&Unwatched, &common.wanted, moment, left.min(MOST_CHAINED));
+        let chained = run_some(lane, pace, common, moment, left.min(MOST_CHAINED));
         let finished = before.saturating_sub(lane.waiting());
         left = left.saturating_sub(finished.max(1));
         if finished > 0 {
