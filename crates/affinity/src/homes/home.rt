@@ -131,7 +131,7 @@ fn home_of_growth(volume: VolumeNumber, layout: &Layout) -> Option<Affinity>
 /// The affinity that a call of a route tries first; nothing for one that is on no state.
 fn home_of_route(route: Route<'_>, layout: &Layout) -> Option<Affinity>
     ensures home { option_map affinity_of result
-        ≡ home_of_route (layout_of layout.now) (route_of route) }
+        ≡ home_of_route (layout_of layout.now) (route_of route.entry) }
     ensures node { IfSome result (λ a. IsNode (layout_of layout.now) (affinity_of a)) }
 {
     match route {
