@@ -30,6 +30,7 @@ use Rattle.nfs_model.specs.Serial.Commit.{commit}
 use Rattle.nfs_model.specs.Serial.Census.{count_of, census}
 use Rattle.nfs_model.specs.Serial.Grow.{Grown, grow_volume, grow}
 use Rattle.nfs_model.specs.Serial.Step.{Step, stay, placed, on, on_two, serve, serial}
+use Rattle.nfs_model.specs.Serial.Absent.{absent_parts}
 use Rattle.nfs_model.specs.Serial.AtOnce.{answer_of_two, answer_without_home}
 use Rattle.rpc_msg.specs.Replies.{reply_record}
 use Rattle.rpc_msg.specs.Room.{lookup_room, read_room, readdir_room, change_room, made_room, results_room, reply_room, IsRoomy}
