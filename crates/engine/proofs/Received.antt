@@ -7,15 +7,13 @@ use Rattle.std.proofs.lemmas.Bool.{cases_eq}
 use Rattle.std.proofs.lemmas.List.{length-map, length-set, map-append, append_cancel_left}
 use Rattle.std.proofs.lemmas.Option.{slice_get_within}
 use Rattle.nfs_model.specs.Tree.{Layout, Affinity}
-use Rattle.nfs_model.specs.Home.{home, home_of_asked}
+use Rattle.nfs_model.specs.Home.{home_of_asked}
 use Rattle.nfs_model.specs.World as worlds
 use Rattle.nfs_model.specs.World.{Setup, World, all_running, changed_at}
 use Rattle.nfs_model.specs.Events.Feed.{Feeds, feeding}
 use Rattle.nfs_model.specs.Events.Refusals as events
 use Rattle.nfs_model.specs.Events.Refusals.{open_count, takes_input}
 use Rattle.nfs_values.specs.declared.call.Call.{Call}
-use Rattle.nfs_values.specs.declared.call.Call.TheVariants as calls
-use Rattle.nfs_values.specs.Call.{call_of}
 use Rattle.affinity.specs.Affinity.{affinity_of}
 use Rattle.scheduler.specs.declared.message.Message.{Message}
 use Rattle.depot_rule.specs.Sums.{total}
@@ -28,8 +26,7 @@ use Rattle.engine.specs.laws.Store.{StandsFor}
 use Rattle.engine.specs.laws.lemmas.Feeding.{WithoutHomeStays, all-append, fed-stands, feed-adds}
 use Rattle.desk.specs.Words.{books}
 use Rattle.service.specs.Jobs.{job_of, job_reply_of}
-use Rattle.service.specs.Running.{IsRunAt}
-use Rattle.rpc_msg.specs.Offered.{IsOffered}
+use Rattle.service.specs.lemmas.Homes.{at-home}
 use Rattle.engine_feed.specs.declared.stop.Stop.{Stop}
 use Rattle.engine_feed.specs.declared.state.ConnectionState.{ConnectionState}
 use Rattle.engine_feed.specs.declared.state.CallsState.{CallsState}
@@ -96,25 +93,6 @@ IsKnown n m = m.origin.connection.0 < n
 abbrev pub IsAtHome : Layout → worlds.Message → Type 0
 IsAtHome layout m = home_of_asked layout m.asked ≡ Some m.affinity
 
--- an offered call is run at its home
-offered-run : (layout : Layout) (call : Call) (node : Affinity) → IsOffered (call_of call) → home layout (call_of call) ≡ Some node → IsRunAt layout call node
-offered-run layout calls.Null node offered at = absurd cc
-offered-run layout (calls.GetAttributes handle) node offered at = (tt, at)
-offered-run layout (calls.SetAttributes handle set guard) node offered at = (tt, at)
-offered-run layout (calls.Lookup target) node offered at = (tt, at)
-offered-run layout (calls.Read handle offset count) node offered at = (tt, at)
-offered-run layout (calls.Write handle offset count bytes) node offered at = (tt, inl at)
-offered-run layout (calls.Create target mode) node offered at = (tt, at)
-offered-run layout (calls.MakeDirectory target set) node offered at = (tt, at)
-offered-run layout (calls.Remove target) node offered at = (tt, at)
-offered-run layout (calls.RemoveDirectory target) node offered at = (tt, at)
-offered-run layout (calls.Rename from to) node offered at = (tt, at)
-offered-run layout (calls.ReadDirectory directory cookie verifier count) node offered at = (tt, at)
-offered-run layout (calls.FilesystemStatus handle) node offered at = (tt, at)
-offered-run layout (calls.Commit handle) node offered at = (tt, at)
-offered-run layout calls.Census node offered at = (tt, at)
-offered-run layout (calls.Grow volume more) node offered at = (tt, at)
-
 placed-more : (layout : Layout) (n : ℕ) (ms : List (Message Call)) → AllByRecursion (IsAdmitted layout) ms → AllByRecursion (IsKnown n) ms
     → AllByRecursion (IsAtHome layout) (map message_of ms) → AllByRecursion (IsPlaced layout n) ms
 placed-more layout n [] admitted known at_home = tt
@@ -122,7 +100,7 @@ placed-more layout n (m ∷ ms) admitted known at_home = (
   record {
     admitted = admitted.0;
     known = known.0;
-    run = offered-run layout m.call (affinity_of m.affinity) admitted.0.offered at_home.0;
+    run = at-home layout m.call (affinity_of m.affinity) at_home.0;
   },
   placed-more layout n ms admitted.1 known.1 at_home.1,
 )

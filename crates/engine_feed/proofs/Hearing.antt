@@ -80,21 +80,7 @@ at-once calls calls' c c' origin call credential answer law h a f setup v k p =
 -- of a reply that tells of no volume
 room-bare : (call : types.Call) → reply_room 0 call ≤ reply_limit
 room-bare types.Null = omega arith
-room-bare (types.Getattr handle) = omega arith
-room-bare (types.Setattr handle set guard) = omega arith
-room-bare (types.Lookup directory name) = omega arith
-room-bare (types.Read handle offset count) = omega arith
-room-bare (types.Write handle offset count written) = omega arith
-room-bare (types.Create directory name mode) = omega arith
-room-bare (types.Mkdir directory name set) = omega arith
-room-bare (types.Remove directory name) = omega arith
-room-bare (types.Rmdir directory name) = omega arith
-room-bare (types.Rename from from_name to to_name) = omega arith
-room-bare (types.Readdir directory cookie verifier count) = omega arith
-room-bare (types.Fsstat handle) = omega arith
-room-bare (types.Commit handle) = omega arith
-room-bare types.Census = omega arith
-room-bare (types.Grow volume ranges) = omega arith
+room-bare call = omega arith
 
 pub at-once-fits : (layout : trees.Layout) (xid : ℕ) (call : types.Call) (answer : types.Answer)
     → answer ≡ answer_without_home layout call

@@ -6,11 +6,11 @@ use Rattle.std.specs.Coded.{Coded, Coded-set, codes, le_prop}
 use Rattle.std.proofs.Common.{inl, inr, ⊎_elim}
 use Rattle.std.proofs.Math.Logic.{∥∥₁_elim, ∥∥₁_map}
 use Rattle.std.proofs.Props.{props}
-use Rattle.nfs_model.specs.Home.{home, bytes_home, named_by, span_bytes, stripe_of_span}
+use Rattle.nfs_model.specs.Route.{Route, AtOnce, OfBytesWritten, route}
+use Rattle.nfs_model.specs.Home.{home_of_route, bytes_home, named_by, span_bytes, stripe_of_span}
 use Rattle.nfs_model.specs.Parts.{Hand, Empty, Fresh, Dead}
 use Rattle.nfs_model.specs.Server.{Named, most_bytes}
 use Rattle.nfs_model.specs.Tree.{Affinity, Layout, Serial, Aggregate, Volume, Logical, Stripe, Vbn, Range}
-use Rattle.nfs_model.specs.Types as types
 use Rattle.affinity.specs.Affinity.{affinity_of}
 use Rattle.affinity.specs.Tree.{IsNode}
 use Rattle.affinity.specs.declared.layout.Layout as layouts
@@ -20,9 +20,7 @@ use Rattle.depot_rule.specs.History.{listed}
 use Rattle.filer_state.specs.state.Opening.{AreOpening}
 use Rattle.filer_state.specs.state.Parcels.{FilerParcel}
 use Rattle.nfs_values.specs.Call.{call_of}
-use Rattle.nfs_values.specs.declared.call.Call.{Call}
-use Rattle.nfs_values.specs.declared.call.Call.TheVariants as calls
-use Rattle.workers.specs.Running.{IsRun, RunsAbove, RunsThere}
+use Rattle.workers.specs.Running.{IsOnState, LeadsTo, RunsAbove}
 use Rattle.workers.specs.shared_waiting.Passes.{IsOf}
 use Rattle.nfs_model.specs.volume.Codes.{coded_range, coded_stripe, coded_logical}
 use Rattle.workers.specs.Messages.{IsPlaced}
@@ -48,23 +46,9 @@ coded-parcel = Prim.hlevel (coded_range, coded_stripe, coded_logical, codes)
 opening-prop : {P : Type 0} (layout : Layout) (verifier : List ℕ) (f : ℕ → Option (FilerParcel P)) → IsProp (AreOpening layout verifier f)
 opening-prop layout verifier f = Prim.hlevel (coded-parcel, Coded-set, codes, props)
 
-is-run-prop : (call : Call) → IsProp (IsRun call)
-is-run-prop (calls.GetAttributes handle) = Prim.hlevel props
-is-run-prop (calls.SetAttributes handle set guard) = Prim.hlevel props
-is-run-prop (calls.Lookup target) = Prim.hlevel props
-is-run-prop (calls.Read handle offset count) = Prim.hlevel props
-is-run-prop (calls.Write handle offset count bytes) = Prim.hlevel props
-is-run-prop (calls.Create target mode) = Prim.hlevel props
-is-run-prop (calls.MakeDirectory target set) = Prim.hlevel props
-is-run-prop (calls.Remove target) = Prim.hlevel props
-is-run-prop (calls.RemoveDirectory target) = Prim.hlevel props
-is-run-prop (calls.Rename from to) = Prim.hlevel props
-is-run-prop (calls.ReadDirectory directory cookie verifier count) = Prim.hlevel props
-is-run-prop (calls.FilesystemStatus handle) = Prim.hlevel props
-is-run-prop (calls.Commit handle) = Prim.hlevel props
-is-run-prop calls.Census = Prim.hlevel props
-is-run-prop (calls.Grow volume more) = Prim.hlevel props
-is-run-prop call = Prim.hlevel props
+on-state-prop : (r : Route) → IsProp (IsOnState r)
+on-state-prop AtOnce = Prim.hlevel props
+on-state-prop r = Prim.hlevel props
 
 at-prop : (o : Option Affinity) (a : Affinity) → IsProp (o ≡ Some a)
 at-prop o a = Prim.hlevel (Coded-set, codes, props)
@@ -109,9 +93,9 @@ bytes-there layout (Some h) offset n (Aggregate a) t = first (at-prop (bytes_hom
 bytes-there layout (Some h) offset n (Vbn v) t = first (at-prop (bytes_home layout (Some h) offset n) (Vbn v)) (λ y. ⊎_elim (λ e. cc) (λ e. cc) y) t
 bytes-there layout (Some h) offset n (Range v r) t = first (at-prop (bytes_home layout (Some h) offset n) (Range v r)) (λ y. ⊎_elim (λ e. cc) (λ e. cc) y) t
 
-runs-there : (layout : Layout) (call : types.Call) (node : Affinity) → ∥ RunsThere layout call node ∥₁ → RunsThere layout call node
-runs-there layout (types.Write handle offset count written) node t = bytes-there layout (named_by layout handle) offset (min count most_bytes) node t
-runs-there layout call node t = ∥∥₁_elim t (at-prop (home layout call) node) (λ e. e)
+leads-to : (layout : Layout) (r : Route) (node : Affinity) → ∥ LeadsTo layout r node ∥₁ → LeadsTo layout r node
+leads-to layout (OfBytesWritten handle offset count) node t = bytes-there layout (named_by layout handle) offset (min count most_bytes) node t
+leads-to layout r node t = ∥∥₁_elim t (at-prop (home_of_route layout r) node) (λ e. e)
 
 -- ---- a message, a hand, a worker
 
@@ -119,8 +103,10 @@ placed : (layout : Layout) (m : Message) → ∥ IsPlaced layout m ∥₁ → Is
 placed layout m t =
     record {
       node = ∥∥₁_elim t (node-prop layout (affinity_of m.affinity)) (λ p. p.node);
-      run =
-          (∥∥₁_elim t (is-run-prop m.call) (λ p. p.run.0), runs-there layout (call_of m.call) (affinity_of m.affinity) (∥∥₁_map t (λ p. p.run.1)));
+      run = (
+        ∥∥₁_elim t (on-state-prop (route (call_of m.call))) (λ p. p.run.0),
+        leads-to layout (route (call_of m.call)) (affinity_of m.affinity) (∥∥₁_map t (λ p. p.run.1)),
+      );
       room = ∥∥₁_elim t le_prop (λ p. p.room);
     }
 

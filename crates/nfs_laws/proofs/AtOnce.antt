@@ -2,34 +2,54 @@
 use Rattle.std.proofs.Common.{◌≡◌, ℕ, zero, suc, Bool, true, false, List, [], ◌∷◌, length, Option, Some, None, is_some, slice_get, refl, sym, ap, ◌∙◌, subst}
 use Rattle.std.proofs.Common.{min, arith, ◌==◌, ◌&&◌, ◌<◌, if◌then◌else◌}
 use Rattle.std.proofs.lemmas.Bool.{ltb-true}
-use Rattle.nfs_model.specs.Types.{Moment, Credential, Call, Null, Getattr, Setattr, Lookup, Read, Write, Create, Mkdir, Remove, Rmdir, Rename, Readdir}
-use Rattle.nfs_model.specs.Types.{Fsstat, Commit, Census, Grow, Failed, CrossVolume, BadHandle, NoEntry, Success}
+use Rattle.nfs_model.specs.Types.{Moment, Credential, Call, Null, Rename, Census, Grow, Failed, CrossVolume, BadHandle, NoEntry, Success}
+use Rattle.nfs_model.specs.Route.{Route, AtOnce, OfNames, OfBytesRead, OfBytesWritten, OfTwoHandles, OfVolume, OfAggregate, OfEverything, handle_on, route}
 use Rattle.nfs_model.specs.Tree.{Layout, VolumeLayout, Affinity, Logical}
 use Rattle.nfs_model.specs.Server.{VolumeState, Server, Named, named_read, handle_of, most_bytes}
 use Rattle.nfs_model.specs.Serial.Rename.{rename}
-use Rattle.nfs_model.specs.Home.{home, logical_home, volume_home, bytes_home, grow_home, rename_home}
+use Rattle.nfs_model.specs.Home.{home, home_of_route, named_by, logical_home, volume_home, bytes_home, grow_home, rename_home}
 use Rattle.nfs_model.specs.Locate.{Effect, Located, located_in, located_by}
 use Rattle.nfs_model.specs.Serial.Step.{Step, serve, on, on_two, placed, stay}
 use Rattle.nfs_model.specs.Serial.AtOnce.{answer_of_two, answer_without_home}
 use Rattle.nfs_model.specs.Serial.Grow.{Grown, grow_volume}
 
-module _ (server : Server) (absent : ℕ) (run : VolumeState → ℕ → Effect) where
-  logical_answered : (h : Option Named) → logical_home h ≡ None → on server absent (located_by server.volumes h) run ≡ stay server (Failed BadHandle absent)
-  logical_answered None e = refl
-  logical_answered (Some h) e = absurd cc
+-- ---- one handle
 
-  volume_answered : (h : Option Named) → volume_home h ≡ None → on server absent (located_by server.volumes h) run ≡ stay server (Failed BadHandle absent)
-  volume_answered None e = refl
-  volume_answered (Some h) e = absurd cc
+no_logical : (h : Option Named) → logical_home h ≡ None → h ≡ None
+no_logical None e = refl
+no_logical (Some h) e = absurd cc
 
-  in_a_span : (b : Bool) (x y : Affinity) → (if b then Some x else Some y) ≡ None → ⊥
-  in_a_span true x y e = cc
-  in_a_span false x y e = cc
+no_volume : (h : Option Named) → volume_home h ≡ None → h ≡ None
+no_volume None e = refl
+no_volume (Some h) e = absurd cc
 
-  bytes_answered : (layout : Layout) (h : Option Named) (offset n : ℕ) → bytes_home layout h offset n ≡ None
-      → on server absent (located_by server.volumes h) run ≡ stay server (Failed BadHandle absent)
-  bytes_answered layout None offset n e = refl
-  bytes_answered layout (Some h) offset n e = absurd (in_a_span _ _ _ e)
+in_a_span : (b : Bool) (x y : Affinity) → (if b then Some x else Some y) ≡ None → ⊥
+in_a_span true x y e = cc
+in_a_span false x y e = cc
+
+no_bytes : (layout : Layout) (h : Option Named) (offset n : ℕ) → bytes_home layout h offset n ≡ None → h ≡ None
+no_bytes layout None offset n e = refl
+no_bytes layout (Some h) offset n e = absurd (in_a_span _ _ _ e)
+
+abbrev IsOnOneHandle : Route → Type 0
+IsOnOneHandle AtOnce = ⊥
+IsOnOneHandle (OfTwoHandles from to) = ⊥
+IsOnOneHandle (OfAggregate volume) = ⊥
+IsOnOneHandle OfEverything = ⊥
+IsOnOneHandle r = Unit {0}
+
+-- a route on one handle has no home just where the handle is bad
+bad_handle : (layout : Layout) (r : Route) → IsOnOneHandle r → home_of_route layout r ≡ None → named_by layout (handle_on r) ≡ None
+bad_handle layout (OfNames handle) one e = no_logical (named_by layout handle) e
+bad_handle layout (OfBytesRead handle offset count) one e = no_bytes layout (named_by layout handle) offset (min count most_bytes) e
+bad_handle layout (OfBytesWritten handle offset count) one e = no_bytes layout (named_by layout handle) offset (min count most_bytes) e
+bad_handle layout (OfVolume handle) one e = no_volume (named_by layout handle) e
+bad_handle layout r one e = absurd one
+
+bad_answered : (server : Server) (absent : ℕ) (run : VolumeState → ℕ → Effect) (h : Option Named) → h ≡ None
+    → on server absent (located_by server.volumes h) run ≡ stay server (Failed BadHandle absent)
+bad_answered server absent run None e = refl
+bad_answered server absent run (Some h) e = absurd cc
 
 -- ---- two handles
 
@@ -97,35 +117,23 @@ same_there (x ∷ xs) (y ∷ ys) zero e = refl
 same_there (x ∷ xs) (y ∷ ys) (suc i) e = same_there xs ys i (omega arith)
 
 module _ (layout : Layout) (server : Server) (credential : Credential) (moment : Moment) where
-  here : (F : Option Named → Option Affinity) (handle : List ℕ) → length layout.volumes ≡ length server.volumes
-      → F (handle_of (length layout.volumes) handle) ≡ None → F (handle_of (length server.volumes) handle) ≡ None
-  here F handle volumes e = subst (λ n. F (handle_of n handle) ≡ None) volumes e
+  bad_there : (r : Route) → IsOnOneHandle r → length layout.volumes ≡ length server.volumes → home_of_route layout r ≡ None
+      → handle_of (length server.volumes) (handle_on r) ≡ None
+  bad_there r one volumes e = subst (λ n. handle_of n (handle_on r) ≡ None) volumes (bad_handle layout r one e)
 
   -- A call without a home affinity reads no state and changes nothing.
   pub without_home_stays : (call : Call) → length layout.volumes ≡ length server.volumes → home layout call ≡ None
       → serve server call credential moment ≡ stay server (answer_without_home layout call)
   without_home_stays Null n e = refl
-  without_home_stays (Getattr handle) n e = logical_answered server _ _ _ (here logical_home handle n e)
-  without_home_stays (Setattr handle set guard) n e = logical_answered server _ _ _ (here logical_home handle n e)
-  without_home_stays (Lookup directory name) n e = logical_answered server _ _ _ (here logical_home directory n e)
-  without_home_stays (Read handle offset count) n e = bytes_answered server _ _ layout _ offset _
-      (here (λ h. bytes_home layout h offset (min count most_bytes)) handle n e)
-  without_home_stays (Write handle offset count written) n e = bytes_answered server _ _ layout _ offset _
-      (here (λ h. bytes_home layout h offset (min count most_bytes)) handle n e)
-  without_home_stays (Create directory name mode) n e = logical_answered server _ _ _ (here logical_home directory n e)
-  without_home_stays (Mkdir directory name set) n e = logical_answered server _ _ _ (here logical_home directory n e)
-  without_home_stays (Remove directory name) n e = logical_answered server _ _ _ (here logical_home directory n e)
-  without_home_stays (Rmdir directory name) n e = logical_answered server _ _ _ (here logical_home directory n e)
   without_home_stays (Rename from from_name to to_name) n e =
       two_answered server 4 (rename from_name to_name moment) (handle_of (length server.volumes) from) (handle_of (length server.volumes) to)
       (good server.volumes from) (good server.volumes to)
       (subst (λ k. rename_home (handle_of k from) (handle_of k to) ≡ None) n e)
       ∙ ap (λ k. stay server (answer_of_two 4 (handle_of k from) (handle_of k to))) (sym n)
-  without_home_stays (Readdir directory cookie verifier count) n e = logical_answered server _ _ _ (here logical_home directory n e)
-  without_home_stays (Fsstat handle) n e = volume_answered server _ _ _ (here volume_home handle n e)
-  without_home_stays (Commit handle) n e = logical_answered server _ _ _ (here logical_home handle n e)
   without_home_stays Census n e = absurd cc
   without_home_stays (Grow volume ranges) n e =
       ap (λ (g : Grown). record { reply = Success g.answer; server = g.server })
       (grow_answered server volume ranges (slice_get layout.volumes volume) (slice_get server.volumes volume)
       (same_there layout.volumes server.volumes volume n) e)
+  without_home_stays call n e =
+      bad_answered server _ _ (handle_of (length server.volumes) (handle_on (route call))) (bad_there (route call) tt n e)

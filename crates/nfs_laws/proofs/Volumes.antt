@@ -3,25 +3,15 @@ use Rattle.std.proofs.Common.{◌≡◌, ℕ, suc, ◌+◌, ◌*◌, Bool, true,
 use Rattle.std.proofs.Common.{if◌then◌else◌, nat_lt}
 use Rattle.std.specs.Prelude.{slice_index_or}
 use Rattle.std.proofs.lemmas.List.{length-set}
-use Rattle.nfs_model.specs.Types.{Moment, Credential, Call, Null, Getattr, Setattr, Lookup, Read, Write, Create, Mkdir, Remove, Rmdir, Rename, Readdir}
-use Rattle.nfs_model.specs.Types.{Fsstat, Commit, Census, Grow, Asked, Ask, Refused, Undecoded, Answer, Failed, GrowDone, Invalid, TooBig, NoSpace}
+use Rattle.nfs_model.specs.Types.{Moment, Credential, Call, Null, Rename, Census, Grow, Asked, Ask, Refused, Undecoded, Answer, Failed, GrowDone}
+use Rattle.nfs_model.specs.Types.{Invalid, TooBig, NoSpace}
+use Rattle.nfs_model.specs.Route.{handle_on, route}
 use Rattle.nfs_model.specs.Tree.{Layout, VolumeLayout}
 use Rattle.nfs_model.specs.Server.{VolumeState, Server, opening_volumes}
-use Rattle.nfs_model.specs.Locate.{Effect, Fails, Tells, Changes, Located, locate, on_name}
+use Rattle.nfs_model.specs.Locate.{Effect, Fails, Tells, Changes, Located, locate}
+use Rattle.nfs_model.specs.Serial.Absent.{absent_parts}
 use Rattle.nfs_model.specs.Serial.Grow.{Grown, grown, grow_volume}
-use Rattle.nfs_model.specs.Serial.Getattr.{getattr}
-use Rattle.nfs_model.specs.Serial.Setattr.{setattr}
-use Rattle.nfs_model.specs.Serial.Lookup.{lookup}
-use Rattle.nfs_model.specs.Serial.Read.{read}
-use Rattle.nfs_model.specs.Serial.Write.{write}
-use Rattle.nfs_model.specs.Serial.Create.{create}
-use Rattle.nfs_model.specs.Serial.Mkdir.{mkdir}
-use Rattle.nfs_model.specs.Serial.Remove.{remove_name}
-use Rattle.nfs_model.specs.Serial.Rmdir.{rmdir}
 use Rattle.nfs_model.specs.Serial.Rename.{rename}
-use Rattle.nfs_model.specs.Serial.Readdir.{readdir}
-use Rattle.nfs_model.specs.Serial.Fsstat.{fsstat}
-use Rattle.nfs_model.specs.Serial.Commit.{commit}
 use Rattle.nfs_model.specs.Serial.Step.{Step, placed, stay, on, on_two, serve, serial}
 use Rattle.nfs_model.specs.Home.{home_of_asked}
 use Rattle.nfs_model.specs.Replay.{FinishedCall, step_of, server_after}
@@ -73,22 +63,10 @@ module _ (server : Server) where
 
   serve_counts : (call : Call) (credential : Credential) (moment : Moment) → volumes_in (serve server call credential moment).server ≡ volumes_in server
   serve_counts Null credential moment = refl
-  serve_counts (Getattr handle) credential moment = on_counts 0 (locate server handle) getattr
-  serve_counts (Setattr handle set guard) credential moment = on_counts 2 (locate server handle) (setattr set guard moment)
-  serve_counts (Lookup directory name) credential moment = on_counts 1 (locate server directory) (on_name name moment lookup)
-  serve_counts (Read handle offset count) credential moment = on_counts 1 (locate server handle) (read offset count)
-  serve_counts (Write handle offset count written) credential moment =
-      on_counts 2 (locate server handle) (write (record { offset = offset; count = count; written = written; moment = moment }))
-  serve_counts (Create directory name mode) credential moment = on_counts 2 (locate server directory) (on_name name moment (create mode credential))
-  serve_counts (Mkdir directory name set) credential moment = on_counts 2 (locate server directory) (on_name name moment (mkdir set credential))
-  serve_counts (Remove directory name) credential moment = on_counts 2 (locate server directory) (on_name name moment remove_name)
-  serve_counts (Rmdir directory name) credential moment = on_counts 2 (locate server directory) (on_name name moment rmdir)
   serve_counts (Rename from from_name to to_name) credential moment = two_counts 4 (locate server from) (locate server to) (rename from_name to_name moment)
-  serve_counts (Readdir directory cookie verifier count) credential moment = on_counts 1 (locate server directory) (readdir cookie verifier count)
-  serve_counts (Fsstat handle) credential moment = on_counts 1 (locate server handle) fsstat
-  serve_counts (Commit handle) credential moment = on_counts 2 (locate server handle) commit
   serve_counts Census credential moment = refl
   serve_counts (Grow volume ranges) credential moment = grow_counts volume (slice_get server.volumes volume) ranges
+  serve_counts call credential moment = on_counts (absent_parts call) (locate server (handle_on (route call))) _
 
   -- a call on the serial server keeps the number of volumes
   pub serial_counts : (asked : Asked) (moment : Moment) (starved : Bool) → volumes_in (serial server asked moment starved).server ≡ volumes_in server

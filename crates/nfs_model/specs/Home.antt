@@ -2,12 +2,12 @@
 -- of the state.
 use Rattle.std.specs.Prelude.{ℕ, ◌+◌, ◌-◌, ◌/◌, ◌%◌, min, ◌==◌, ◌||◌, List, length, Option, Some, None}
 use Rattle.std.specs.Prelude.{slice_get, if◌then◌else◌}
-use Rattle.nfs_model.specs.Types.{Call, Null, Getattr, Setattr, Lookup, Read, Write, Create, Mkdir, Remove}
-use Rattle.nfs_model.specs.Types.{Rmdir, Rename, Readdir, Fsstat, Commit, Census, Grow, Asked, Ask, Refused}
-use Rattle.nfs_model.specs.Types.{Undecoded}
+use Rattle.nfs_model.specs.Types.{Call, Asked, Ask, Refused, Undecoded}
 use Rattle.nfs_model.specs.Tree.{Layout, VolumeLayout, Affinity, Serial, Aggregate, Volume, Logical, Stripe}
 use Rattle.nfs_model.specs.Tree.{stripes_of}
 use Rattle.nfs_model.specs.Server.{Named, handle_of, most_bytes}
+use Rattle.nfs_model.specs.Route.{Route, AtOnce, OfNames, OfBytesRead, OfBytesWritten, OfTwoHandles}
+use Rattle.nfs_model.specs.Route.{OfVolume, OfAggregate, OfEverything, route}
 
 -- the bytes of a span: 64 blocks, which lie in one stripe
 abbrev pub span_bytes : ℕ
@@ -49,26 +49,22 @@ abbrev pub grow_home : Option VolumeLayout → Option Affinity
 grow_home None = None
 grow_home (Some v) = Some (Aggregate v.aggregate)
 
+-- the affinity of a route; none for one that is on no state
+abbrev pub home_of_route : Layout → Route → Option Affinity
+home_of_route layout AtOnce = None
+home_of_route layout (OfNames handle) = logical_home (named_by layout handle)
+home_of_route layout (OfBytesRead handle offset count) =
+    bytes_home layout (named_by layout handle) offset (min count most_bytes)
+home_of_route layout (OfBytesWritten handle offset count) =
+    bytes_home layout (named_by layout handle) offset (min count most_bytes)
+home_of_route layout (OfTwoHandles from to) = rename_home (named_by layout from) (named_by layout to)
+home_of_route layout (OfVolume handle) = volume_home (named_by layout handle)
+home_of_route layout (OfAggregate volume) = grow_home (slice_get layout.volumes volume)
+home_of_route layout OfEverything = Some Serial
+
 -- the affinity of a call; none for a call that reads no state
 abbrev pub home : Layout → Call → Option Affinity
-home layout Null = None
-home layout (Getattr handle) = logical_home (named_by layout handle)
-home layout (Setattr handle set guard) = logical_home (named_by layout handle)
-home layout (Lookup directory name) = logical_home (named_by layout directory)
-home layout (Read handle offset count) =
-    bytes_home layout (named_by layout handle) offset (min count most_bytes)
-home layout (Write handle offset count written) =
-    bytes_home layout (named_by layout handle) offset (min count most_bytes)
-home layout (Create directory name mode) = logical_home (named_by layout directory)
-home layout (Mkdir directory name set) = logical_home (named_by layout directory)
-home layout (Remove directory name) = logical_home (named_by layout directory)
-home layout (Rmdir directory name) = logical_home (named_by layout directory)
-home layout (Rename from from_name to to_name) = rename_home (named_by layout from) (named_by layout to)
-home layout (Readdir directory cookie verifier count) = logical_home (named_by layout directory)
-home layout (Fsstat handle) = volume_home (named_by layout handle)
-home layout (Commit handle) = logical_home (named_by layout handle)
-home layout Census = Some Serial
-home layout (Grow volume ranges) = grow_home (slice_get layout.volumes volume)
+home layout call = home_of_route layout (route call)
 
 -- the affinity of what a record asks; a refusal has none
 abbrev pub home_of_asked : Layout → Asked → Option Affinity

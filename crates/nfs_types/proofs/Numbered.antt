@@ -1,9 +1,7 @@
 -- A procedure is known by its numbers.
 use Rattle.std.proofs.Common.{◌≡◌, refl, sym, ap, ◌∙◌, ℕ, ◌&&◌, eqb, Option, Some, find}
 use Rattle.nfs_values.specs.declared.procedure.Procedure.{Procedure}
-use Rattle.nfs_values.specs.declared.procedure.Procedure.TheVariants.{Null, GetAttributes, SetAttributes, Lookup, Read, Write, Create, MakeDirectory}
-use Rattle.nfs_values.specs.declared.procedure.Procedure.TheVariants.{Remove, RemoveDirectory, Rename, ReadDirectory, FilesystemStatus, Commit, AdminNull}
-use Rattle.nfs_values.specs.declared.procedure.Procedure.TheVariants.{Census, Grow}
+use Rattle.nfs_values.specs.declared.procedure.Procedure.TheVariants.{Null}
 use Rattle.nfs_values.specs.Procedure.{all_procedures, numbers_of}
 
 -- the first procedure with these numbers
@@ -12,22 +10,7 @@ numbered n = find (λ (p : Procedure). eqb (numbers_of p).0 n.0 && eqb (numbers_
 
 found : (p : Procedure) → numbered (numbers_of p) ≡ Some p
 found Null = refl
-found GetAttributes = refl
-found SetAttributes = refl
-found Lookup = refl
-found Read = refl
-found Write = refl
-found Create = refl
-found MakeDirectory = refl
-found Remove = refl
-found RemoveDirectory = refl
-found Rename = refl
-found ReadDirectory = refl
-found FilesystemStatus = refl
-found Commit = refl
-found AdminNull = refl
-found Census = refl
-found Grow = refl
+found p = refl
 
 same : (p q : Procedure) → Some p ≡ Some q → p ≡ q
 same p q h = cc

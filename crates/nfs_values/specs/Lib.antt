@@ -9,5 +9,6 @@ pub mod Set
 pub mod Procedure
 pub mod Bytes
 pub mod Call
+pub mod Route
 pub mod Answer
 pub mod Reply

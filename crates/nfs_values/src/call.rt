@@ -1,9 +1,15 @@
 //! What calls ask.
 
+ghost use Rattle.std.specs.Prelude.{◌≡◌};
+ghost use Rattle.nfs_model.specs.Route.{route};
+ghost use Rattle.nfs_values.specs.Call.{call_of};
+ghost use Rattle.nfs_values.specs.Route.{route_of};
+
 use crate::bytes::BytesToWrite;
 use crate::handle::FileHandle;
 use crate::moment::Moment;
 use crate::number::{Cookie, VolumeNumber};
+use crate::route::Route;
 use crate::set::{CreateMode, SetAttributes};
 use crate::target::Target;
 use crate::verifier::Verifier;
@@ -112,6 +118,62 @@ impl Drop for Call {
                 volume: _,
                 ranges: _,
             } => {}
+        }
+    }
+}
+
+impl Call {
+    /// What it is on, by which it is known where it may run.
+    pub fn route(&self) -> Route<'_>
+        ensures { route_of result ≡ route (call_of self.now) }
+    {
+        match self {
+            Call::Null => Route::AtOnce,
+            Call::GetAttributes { handle } => Route::Names { handle },
+            Call::SetAttributes { handle, .. } => Route::Names { handle },
+            Call::Lookup(target) => Route::Names {
+                handle: &target.directory,
+            },
+            Call::Read {
+                handle,
+                offset,
+                count,
+            } => Route::BytesRead {
+                handle,
+                offset: *offset,
+                count: *count,
+            },
+            Call::Write {
+                handle,
+                offset,
+                count,
+                ..
+            } => Route::BytesWritten {
+                handle,
+                offset: *offset,
+                count: *count,
+            },
+            Call::Create { target, .. } => Route::Names {
+                handle: &target.directory,
+            },
+            Call::MakeDirectory { target, .. } => Route::Names {
+                handle: &target.directory,
+            },
+            Call::Remove(target) => Route::Names {
+                handle: &target.directory,
+            },
+            Call::RemoveDirectory(target) => Route::Names {
+                handle: &target.directory,
+            },
+            Call::Rename { from, to } => Route::TwoHandles {
+                from: &from.directory,
+                to: &to.directory,
+            },
+            Call::ReadDirectory { directory, .. } => Route::Names { handle: directory },
+            Call::FilesystemStatus { handle } => Route::Volume { handle },
+            Call::Commit { handle } => Route::Names { handle },
+            Call::Census => Route::Everything,
+            Call::Grow { volume, .. } => Route::Aggregate { volume: *volume },
         }
     }
 }

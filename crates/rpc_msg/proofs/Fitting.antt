@@ -30,6 +30,7 @@ use Rattle.nfs_model.specs.Serial.Commit.{commit}
 use Rattle.nfs_model.specs.Serial.Census.{count_of, census}
 use Rattle.nfs_model.specs.Serial.Grow.{Grown, grow_volume, grow}
 use Rattle.nfs_model.specs.Serial.Step.{Step, stay, placed, on, on_two, serve, serial}
+use Rattle.nfs_model.specs.Serial.Absent.{absent_parts}
 use Rattle.nfs_model.specs.Serial.AtOnce.{answer_of_two, answer_without_home}
 use Rattle.rpc_msg.specs.Replies.{reply_record}
 use Rattle.rpc_msg.specs.Room.{lookup_room, read_room, readdir_room, change_room, made_room, results_room, reply_room, IsRoomy}
@@ -456,23 +457,10 @@ two_at_once (Some from) (Some to) = record { bytes = omega (arith, failed_size m
 
 answer_at_once : (volumes : ℕ) (layout : Layout) (call : model.Call) → Takes (results_room volumes call) (answer_without_home layout call)
 answer_at_once volumes layout model.Null = record { bytes = omega arith }
-answer_at_once volumes layout (model.Getattr handle) = at_once volumes (model.Getattr handle) model.BadHandle 0 (omega arith)
-answer_at_once volumes layout (model.Setattr handle set guard) = at_once volumes (model.Setattr handle set guard) model.BadHandle 2 (omega arith)
-answer_at_once volumes layout (model.Lookup directory name) = at_once volumes (model.Lookup directory name) model.BadHandle 1 (omega arith)
-answer_at_once volumes layout (model.Read handle offset count) = at_once volumes (model.Read handle offset count) model.BadHandle 1 (omega arith)
-answer_at_once volumes layout (model.Write handle offset count written) =
-    at_once volumes (model.Write handle offset count written) model.BadHandle 2 (omega arith)
-answer_at_once volumes layout (model.Create directory name mode) = at_once volumes (model.Create directory name mode) model.BadHandle 2 (omega arith)
-answer_at_once volumes layout (model.Mkdir directory name set) = at_once volumes (model.Mkdir directory name set) model.BadHandle 2 (omega arith)
-answer_at_once volumes layout (model.Remove directory name) = at_once volumes (model.Remove directory name) model.BadHandle 2 (omega arith)
-answer_at_once volumes layout (model.Rmdir directory name) = at_once volumes (model.Rmdir directory name) model.BadHandle 2 (omega arith)
 answer_at_once volumes layout (model.Rename from from_name to to_name) = two_at_once (named_by layout from) (named_by layout to)
-answer_at_once volumes layout (model.Readdir directory cookie verifier count) =
-    at_once volumes (model.Readdir directory cookie verifier count) model.BadHandle 1 (omega arith)
-answer_at_once volumes layout (model.Fsstat handle) = at_once volumes (model.Fsstat handle) model.BadHandle 1 (omega arith)
-answer_at_once volumes layout (model.Commit handle) = at_once volumes (model.Commit handle) model.BadHandle 2 (omega arith)
 answer_at_once volumes layout model.Census = record { bytes = omega arith }
 answer_at_once volumes layout (model.Grow volume ranges) = at_once volumes (model.Grow volume ranges) model.NoEntry 0 (omega arith)
+answer_at_once volumes layout call = at_once volumes call model.BadHandle (absent_parts call) (omega arith)
 
 pub reply_at_once_fits : (volumes : ℕ) (layout : Layout) (call : model.Call) (xid : ℕ)
     → length (reply_record xid (model.Success (answer_without_home layout call))) ≤ reply_room volumes call

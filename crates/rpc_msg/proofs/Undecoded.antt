@@ -7,8 +7,7 @@ use Rattle.xdr.specs.lemmas.Steps.{bind_ok, ok_is}
 use Rattle.nfs_model.specs.Types as model
 use Rattle.nfs_model.specs.Serial.Starve.{has_bytes}
 use Rattle.nfs_values.specs.declared.procedure.Procedure.{Procedure}
-use Rattle.nfs_values.specs.declared.procedure.Procedure.TheVariants.{Null, GetAttributes, SetAttributes, Lookup, Read, Write, Create, MakeDirectory, Remove}
-use Rattle.nfs_values.specs.declared.procedure.Procedure.TheVariants.{RemoveDirectory, Rename, ReadDirectory, FilesystemStatus, Commit, AdminNull, Census, Grow}
+use Rattle.nfs_values.specs.declared.procedure.Procedure.TheVariants.{Null}
 use Rattle.nfs_types.specs.Arguments.{arguments_shape, call_from, asked, takes_memory}
 use Rattle.nfs_types.specs.lemmas.Exact.{asked_is}
 use Rattle.rpc_msg.specs.declared.record.Request.TheVariants as requests
@@ -19,22 +18,7 @@ use Rattle.rpc_msg.specs.Seen.{Tells}
 -- a procedure takes memory just for a call with a name or data
 bytes_from : (procedure : Procedure) (v : Value (arguments_shape procedure)) → has_bytes (call_from procedure v) ≡ takes_memory procedure
 bytes_from Null v = refl
-bytes_from GetAttributes v = refl
-bytes_from SetAttributes v = refl
-bytes_from Lookup v = refl
-bytes_from Read v = refl
-bytes_from Write v = refl
-bytes_from Create v = refl
-bytes_from MakeDirectory v = refl
-bytes_from Remove v = refl
-bytes_from RemoveDirectory v = refl
-bytes_from Rename v = refl
-bytes_from ReadDirectory v = refl
-bytes_from FilesystemStatus v = refl
-bytes_from Commit v = refl
-bytes_from AdminNull v = refl
-bytes_from Census v = refl
-bytes_from Grow v = refl
+bytes_from procedure v = refl
 
 asked_has_bytes : (procedure : Procedure) (bytes : List ℕ) (call : model.Call) → asked procedure bytes ≡ Ok call → has_bytes call ≡ takes_memory procedure
 asked_has_bytes procedure bytes call e =

@@ -3,7 +3,8 @@ use Rattle.std.specs.Prelude.{◌≡◌, ◌⊎◌, ℕ, ◌<◌, min, Bool, tru
 use Rattle.nfs_model.specs.Types as types
 use Rattle.nfs_model.specs.Types.{Ask, Credential, Moment, Stale}
 use Rattle.nfs_model.specs.Tree.{Layout, Affinity, Volume, Logical, stripes_of}
-use Rattle.nfs_model.specs.Home.{home, named_by}
+use Rattle.nfs_model.specs.Route.{Route, AtOnce, OfBytesRead, OfBytesWritten, OfVolume, OfAggregate, OfEverything, route}
+use Rattle.nfs_model.specs.Home.{home_of_route, named_by}
 use Rattle.nfs_model.specs.Locate.{Effect, Fails, on_name}
 use Rattle.nfs_model.specs.Serial.Getattr.{getattr}
 use Rattle.nfs_model.specs.Serial.Setattr.{setattr}
@@ -25,9 +26,7 @@ use Rattle.affinity.specs.Tree.{IsNode}
 use Rattle.nfs_values.specs.Call.{call_of}
 use Rattle.nfs_values.specs.Reply.{reply_of}
 use Rattle.nfs_values.specs.declared.call.Call.{Call}
-use Rattle.nfs_values.specs.declared.call.Call.TheVariants.{GetAttributes, SetAttributes, Lookup, Read, Write, Create, MakeDirectory}
-use Rattle.nfs_values.specs.declared.call.Call.TheVariants.{Remove, RemoveDirectory, Rename, ReadDirectory}
-use Rattle.nfs_values.specs.declared.call.Call.TheVariants.{FilesystemStatus, Commit, Census, Grow}
+use Rattle.nfs_values.specs.declared.call.Call.TheVariants.{GetAttributes, Lookup, Read, ReadDirectory, Commit}
 use Rattle.nfs_model.specs.volume.Stripes.{StripeValue}
 use Rattle.filer_state.specs.state.Calls.{VolumeCall, LieIn, handle_in}
 use Rattle.filer_state.specs.state.Parcels.{FilerParcel}
@@ -44,33 +43,34 @@ outcome_of (Moved affinity) = works.Moved (affinity_of affinity)
 
 -- ---- what is run
 
--- The calls on a volume, which their handle names: all of names and attributes, READ, WRITE, FSSTAT, and COMMIT.
-abbrev pub IsRunOnVolume : Call → Type 0
-IsRunOnVolume (GetAttributes handle) = Unit {0}
-IsRunOnVolume (SetAttributes handle set guard) = Unit {0}
-IsRunOnVolume (Lookup target) = Unit {0}
-IsRunOnVolume (Read handle offset count) = Unit {0}
-IsRunOnVolume (Write handle offset count bytes) = Unit {0}
-IsRunOnVolume (Create target mode) = Unit {0}
-IsRunOnVolume (MakeDirectory target set) = Unit {0}
-IsRunOnVolume (Remove target) = Unit {0}
-IsRunOnVolume (RemoveDirectory target) = Unit {0}
-IsRunOnVolume (Rename from to) = Unit {0}
-IsRunOnVolume (ReadDirectory directory cookie verifier count) = Unit {0}
-IsRunOnVolume (FilesystemStatus handle) = Unit {0}
-IsRunOnVolume (Commit handle) = Unit {0}
-IsRunOnVolume call = ⊥
+-- a route on one volume, which its handle names
+abbrev pub IsOnVolume : Route → Type 0
+IsOnVolume AtOnce = ⊥
+IsOnVolume (OfAggregate volume) = ⊥
+IsOnVolume OfEverything = ⊥
+IsOnVolume r = Unit {0}
 
--- those of them that are run under Logical
+-- one that may lead under Logical: all of them but that of the whole volume
+abbrev pub IsInLogical : Route → Type 0
+IsInLogical (OfVolume handle) = ⊥
+IsInLogical r = IsOnVolume r
+
+-- a route on some state
+abbrev pub IsOnState : Route → Type 0
+IsOnState AtOnce = ⊥
+IsOnState r = Unit {0}
+
+-- the calls on a volume, which their handle names: all of names and attributes, READ, WRITE and FSSTAT
+abbrev pub IsRunOnVolume : Call → Type 0
+IsRunOnVolume call = IsOnVolume (route (call_of call))
+
+-- those of them that are run under Logical: all but FSSTAT
 abbrev pub IsRunInLogical : Call → Type 0
-IsRunInLogical (FilesystemStatus handle) = ⊥
-IsRunInLogical call = IsRunOnVolume call
+IsRunInLogical call = IsInLogical (route (call_of call))
 
 -- the calls that are run: those on a volume, CENSUS and GROW
 abbrev pub IsRun : Call → Type 0
-IsRun Census = Unit {0}
-IsRun (Grow volume more) = Unit {0}
-IsRun call = IsRunOnVolume call
+IsRun call = IsOnState (route (call_of call))
 
 -- those under Logical that change nothing
 abbrev pub is_told : Call → Bool
@@ -136,11 +136,15 @@ abbrev pub RunsAbove : Option Named → Affinity → Type 0
 RunsAbove None node = ⊥
 RunsAbove (Some named) node = (node ≡ Logical named.volume) ⊎ (node ≡ Volume named.volume)
 
--- a call is run at its home, a WRITE above it too
+-- a route leads to its home, that of bytes which are written above it too
+abbrev pub LeadsTo : Layout → Route → Affinity → Type 0
+LeadsTo layout (OfBytesWritten handle offset count) node =
+    (home_of_route layout (OfBytesWritten handle offset count) ≡ Some node) ⊎ RunsAbove (named_by layout handle) node
+LeadsTo layout r node = home_of_route layout r ≡ Some node
+
+-- a call is run where its route leads: at its home, a WRITE above it too
 abbrev pub RunsThere : Layout → types.Call → Affinity → Type 0
-RunsThere layout (types.Write handle offset count written) node =
-    (home layout (types.Write handle offset count written) ≡ Some node) ⊎ RunsAbove (named_by layout handle) node
-RunsThere layout call node = home layout call ≡ Some node
+RunsThere layout call node = LeadsTo layout (route call) node
 
 -- a call that is run is run at this node: Logical of a volume, the stripe in which its bytes lie, Volume, the Aggregate of GROW's
 -- volume, or Serial
@@ -162,11 +166,15 @@ pub record IsStripeOf (layout : Layout) (v i : ℕ) (s : StripeValue) : Type 0 w
   pub there : i < s.stripes
   pub count : s.stripes ≡ stripes_of layout v
 
--- the bytes that a call is on, of the file that it names, lie in the i-th stripe; other calls than READ and WRITE are on none
+-- the bytes that a route is of, of the file that it names, lie in the i-th stripe; other routes are of none
+abbrev pub HasBytesIn : ℕ → ℕ → ℕ → Route → Type 0
+HasBytesIn stripes i fileid (OfBytesRead handle offset count) = LieIn stripes i fileid offset (min count most_bytes)
+HasBytesIn stripes i fileid (OfBytesWritten handle offset count) = LieIn stripes i fileid offset (min count most_bytes)
+HasBytesIn stripes i fileid r = ⊥
+
+-- those of a READ or a WRITE; other calls are on none
 abbrev pub BytesLieIn : ℕ → ℕ → ℕ → types.Call → Type 0
-BytesLieIn stripes i fileid (types.Read handle offset count) = LieIn stripes i fileid offset (min count most_bytes)
-BytesLieIn stripes i fileid (types.Write handle offset count written) = LieIn stripes i fileid offset (min count most_bytes)
-BytesLieIn stripes i fileid call = ⊥
+BytesLieIn stripes i fileid call = HasBytesIn stripes i fileid (route call)
 
 -- ---- by parcels
 

@@ -1,16 +1,19 @@
 //! What the handles of calls name.
 
-ghost use Rattle.std.specs.Prelude.{◌≡◌};
+ghost use Rattle.std.specs.Prelude.{◌≡◌, option_map};
 ghost use Rattle.nfs_model.specs.Home.{named_by};
+ghost use Rattle.nfs_model.specs.Route.{handle_on};
 ghost use Rattle.affinity.specs.Affinity.{affinity_of};
 ghost use Rattle.affinity.specs.Layout.{layout_of};
 ghost use Rattle.nfs_values.specs.Call.{call_of};
+ghost use Rattle.nfs_values.specs.Handle.{named_of};
+ghost use Rattle.nfs_values.specs.Route.{route_of};
 ghost use Rattle.filer_state.specs.state.Calls.{handle_in};
-ghost use Rattle.service.specs.Running.{fileid_in, IsRunIn, IsRunOnVolume};
+ghost use Rattle.service.specs.Running.{fileid_in, IsRunIn};
 
 use affinity::homes::named_by;
 use affinity::{Affinity, Layout};
-use nfs_values::{Call, FileHandle, Fileid};
+use nfs_values::{Call, Fileid, Named, Route};
 
 /// The fileid that the handle of a call on a volume names, the first of RENAME's, where the call is
 /// run at this node.
@@ -19,31 +22,23 @@ pub(crate) fn fileid_here(layout: &Layout, affinity: Affinity, call: &Call) -> F
     ensures { result.0
         ≡ fileid_in (named_by (layout_of layout.now) (handle_in (call_of call.now))) }
 {
-    match named_by(handle_of(call), layout) {
+    match named_on(call.route(), layout) {
         Some(named) => named.fileid,
         None => unreachable!(),
     }
 }
 
-/// The handle of a call on a volume that is run, the first of RENAME's.
-fn handle_of(call: &Call) -> &FileHandle
-    requires { IsRunOnVolume call.now }
-    ensures { result.now ≡ handle_in (call_of call.now) }
+/// What the handle of a route names, the first of two; nothing where it is bad, or there is none.
+fn named_on(route: Route<'_>, layout: &Layout) -> Option<Named>
+    ensures { option_map named_of result
+        ≡ named_by (layout_of layout.now) (handle_on (route_of route.entry)) }
 {
-    match call {
-        Call::GetAttributes { handle } => handle,
-        Call::SetAttributes { handle, .. } => handle,
-        Call::Lookup(target) => &target.directory,
-        Call::Read { handle, .. } => handle,
-        Call::Write { handle, .. } => handle,
-        Call::Create { target, .. } => &target.directory,
-        Call::MakeDirectory { target, .. } => &target.directory,
-        Call::Remove(target) => &target.directory,
-        Call::RemoveDirectory(target) => &target.directory,
-        Call::Rename { from, .. } => &from.directory,
-        Call::ReadDirectory { directory, .. } => directory,
-        Call::FilesystemStatus { handle } => handle,
-        Call::Commit { handle } => handle,
-        _ => unreachable!(),
+    match route {
+        Route::Names { handle } => named_by(handle, layout),
+        Route::BytesRead { handle, .. } => named_by(handle, layout),
+        Route::BytesWritten { handle, .. } => named_by(handle, layout),
+        Route::TwoHandles { from, .. } => named_by(from, layout),
+        Route::Volume { handle } => named_by(handle, layout),
+        Route::AtOnce | Route::Aggregate { .. } | Route::Everything => None,
     }
 }

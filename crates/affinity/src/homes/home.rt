@@ -2,18 +2,19 @@
 
 ghost use Rattle.std.specs.Prelude.{◌≡◌, ◌==◌, ◌+◌, ◌-◌, ◌/◌, ◌<◌, length, min, option_map};
 ghost use Rattle.std.specs.Prelude.{slice_get, IfSome};
-ghost use Rattle.nfs_model.specs.Home.{home, bytes_home, grow_home, logical_home};
+ghost use Rattle.nfs_model.specs.Home.{home, bytes_home, grow_home, home_of_route, logical_home};
 ghost use Rattle.nfs_model.specs.Home.{named_by, rename_home, span_bytes, stripe_of_span};
 ghost use Rattle.nfs_model.specs.Home.{volume_home};
 ghost use Rattle.nfs_values.specs.Call.{call_of};
 ghost use Rattle.nfs_values.specs.Handle.{named_of};
+ghost use Rattle.nfs_values.specs.Route.{route_of};
 ghost use Rattle.affinity.specs.Affinity.{affinity_of};
 ghost use Rattle.affinity.specs.Layout.{layout_of};
 ghost use Rattle.affinity.specs.Tree.{IsNode};
 
 use crate::{Affinity, Layout};
 use byteorder::{BigEndian, ByteOrder};
-use nfs_values::{Call, FileHandle, Fileid, Named, VolumeNumber};
+use nfs_values::{Call, FileHandle, Fileid, Named, Route, VolumeNumber};
 
 /// The bytes of a span, which lie in one stripe.
 const SPAN: u64 = 262_144;
@@ -106,7 +107,7 @@ fn home_of_renaming(from: &FileHandle, to: &FileHandle, layout: &Layout) -> Opti
 }
 
 /// Where a call on a whole volume is at home.
-fn home_of_status(handle: &FileHandle, layout: &Layout) -> Option<Affinity>
+fn home_of_volume(handle: &FileHandle, layout: &Layout) -> Option<Affinity>
     ensures home { option_map affinity_of result
         ≡ volume_home (named_by (layout_of layout.now) handle.now) }
     ensures node { IfSome result (λ a. IsNode (layout_of layout.now) (affinity_of a)) }
@@ -127,37 +128,36 @@ fn home_of_growth(volume: VolumeNumber, layout: &Layout) -> Option<Affinity>
     Some(Affinity::Aggregate(layout.aggregate_of(volume.0)))
 }
 
+/// The affinity that a call of a route tries first; nothing for one that is on no state.
+fn home_of_route(route: Route<'_>, layout: &Layout) -> Option<Affinity>
+    ensures home { option_map affinity_of result
+        ≡ home_of_route (layout_of layout.now) (route_of route.entry) }
+    ensures node { IfSome result (λ a. IsNode (layout_of layout.now) (affinity_of a)) }
+{
+    match route {
+        Route::AtOnce => None,
+        Route::Names { handle } => home_of_names(handle, layout),
+        Route::BytesRead {
+            handle,
+            offset,
+            count,
+        } => home_of_bytes(handle, offset, count, layout),
+        Route::BytesWritten {
+            handle,
+            offset,
+            count,
+        } => home_of_bytes(handle, offset, count, layout),
+        Route::TwoHandles { from, to } => home_of_renaming(from, to, layout),
+        Route::Volume { handle } => home_of_volume(handle, layout),
+        Route::Aggregate { volume } => home_of_growth(volume, layout),
+        Route::Everything => Some(Affinity::Serial),
+    }
+}
+
 /// The affinity that a call tries first; nothing for a call that is answered without one.
 pub fn home_of(call: &Call, layout: &Layout) -> Option<Affinity>
     ensures home { option_map affinity_of result ≡ home (layout_of layout.now) (call_of call.now) }
     ensures node { IfSome result (λ a. IsNode (layout_of layout.now) (affinity_of a)) }
 {
-    match call {
-        Call::Null => None,
-        Call::GetAttributes { handle }
-        | Call::SetAttributes { handle, .. }
-        | Call::Commit { handle } => home_of_names(handle, layout),
-        Call::Lookup(target) | Call::Remove(target) | Call::RemoveDirectory(target) => {
-            home_of_names(&target.directory, layout)
-        }
-        Call::Create { target, .. } | Call::MakeDirectory { target, .. } => {
-            home_of_names(&target.directory, layout)
-        }
-        Call::Rename { from, to } => home_of_renaming(&from.directory, &to.directory, layout),
-        Call::ReadDirectory { directory, .. } => home_of_names(directory, layout),
-        Call::Read {
-            handle,
-            offset,
-            count,
-        }
-        | Call::Write {
-            handle,
-            offset,
-            count,
-            ..
-        } => home_of_bytes(handle, *offset, *count, layout),
-        Call::FilesystemStatus { handle } => home_of_status(handle, layout),
-        Call::Census => Some(Affinity::Serial),
-        Call::Grow { volume, .. } => home_of_growth(*volume, layout),
-    }
+    home_of_route(call.route(), layout)
 }

@@ -1,10 +1,10 @@
 -- What a call on a handle comes to on the one volume that the handle names: what a handler promises. That the whole server does the
 -- same follows.
 use Rattle.std.specs.Prelude.{◌≡◌, ◌⊎◌, ℕ, ◌+◌, ◌-◌, ◌/◌, Bool, true, IsTrue, List, [], length, Option, Some, None, slice_get}
-use Rattle.nfs_model.specs.Types.{Call, Getattr, Setattr, Lookup, Read, Write, Create, Mkdir, Remove, Rmdir, Rename, Readdir, Fsstat, Commit}
-use Rattle.nfs_model.specs.Types.{Credential, Moment, Ask, Answer, Failed, Success, SystemError}
+use Rattle.nfs_model.specs.Types.{Call, Write, Credential, Moment, Ask, Answer, Failed, Success, SystemError}
 use Rattle.nfs_model.specs.Tree.{Layout, Affinity}
 use Rattle.nfs_model.specs.Server.{Server, VolumeState, handle_of, block_size}
+use Rattle.nfs_model.specs.Route.{handle_on, route}
 use Rattle.nfs_model.specs.Home.{span_bytes}
 use Rattle.nfs_model.specs.Locate.{Effect, Fails, Tells, Changes, Located, locate}
 use Rattle.nfs_model.specs.Serial.Absent.{absent_parts}
@@ -23,20 +23,7 @@ use Rattle.filer_state.specs.state.Deeds.{IsHomeOrAbove, outcome_of}
 
 -- the handle by which a call comes to its volume: its only one, or the first
 abbrev pub handle_in : Call → List ℕ
-handle_in (Getattr handle) = handle
-handle_in (Setattr handle set guard) = handle
-handle_in (Lookup directory name) = directory
-handle_in (Read handle offset count) = handle
-handle_in (Write handle offset count written) = handle
-handle_in (Create directory name mode) = directory
-handle_in (Mkdir directory name set) = directory
-handle_in (Remove directory name) = directory
-handle_in (Rmdir directory name) = directory
-handle_in (Rename from from_name to to_name) = from
-handle_in (Readdir directory cookie verifier count) = directory
-handle_in (Fsstat handle) = handle
-handle_in (Commit handle) = handle
-handle_in other = []
+handle_in call = handle_on (route call)
 
 -- what is asked of a volume under a node: the call, the fileid that its handle names there, and the serial server's procedure for it
 pub record VolumeCall : Type 0 where

@@ -6,28 +6,12 @@ use Rattle.xdr.specs.lemmas.Items.{IsBytes}
 use Rattle.xdr.specs.lemmas.Shapes.{all_found, all_again}
 use Rattle.nfs_model.specs.Types as model
 use Rattle.nfs_values.specs.declared.procedure.Procedure.{Procedure}
-use Rattle.nfs_values.specs.declared.procedure.Procedure.TheVariants.{Null, GetAttributes, SetAttributes, Lookup, Read, Write, Create, MakeDirectory, Remove}
-use Rattle.nfs_values.specs.declared.procedure.Procedure.TheVariants.{RemoveDirectory, Rename, ReadDirectory, FilesystemStatus, Commit, AdminNull, Census, Grow}
+use Rattle.nfs_values.specs.declared.procedure.Procedure.TheVariants.{Null}
 use Rattle.nfs_types.specs.Arguments.{arguments_shape, call_from, Asks, asked_by, asked}
 
 pub asked_is : (procedure : Procedure) (bytes : List ℕ) → asked procedure bytes ≡ asked_by (arguments_shape procedure) (call_from procedure) bytes
 asked_is Null bytes = refl
-asked_is GetAttributes bytes = refl
-asked_is SetAttributes bytes = refl
-asked_is Lookup bytes = refl
-asked_is Read bytes = refl
-asked_is Write bytes = refl
-asked_is Create bytes = refl
-asked_is MakeDirectory bytes = refl
-asked_is Remove bytes = refl
-asked_is RemoveDirectory bytes = refl
-asked_is Rename bytes = refl
-asked_is ReadDirectory bytes = refl
-asked_is FilesystemStatus bytes = refl
-asked_is Commit bytes = refl
-asked_is AdminNull bytes = refl
-asked_is Census bytes = refl
-asked_is Grow bytes = refl
+asked_is procedure bytes = refl
 
 pub asked_found : (procedure : Procedure) (bytes : List ℕ) (call : model.Call) → IsBytes bytes → asked procedure bytes ≡ Ok call → Asks procedure bytes call
 asked_found procedure bytes call fits e =

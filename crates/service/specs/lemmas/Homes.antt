@@ -5,7 +5,8 @@ use Rattle.std.proofs.lemmas.Bool.{eqb-true}
 use Rattle.std.specs.Prelude.{◌==◌, ◌||◌, min, if◌then◌else◌, zero, suc, List, [], ◌∷◌, length, is_some, slice_get}
 use Rattle.nfs_model.specs.Tree.{Layout, VolumeLayout, Affinity, Serial, Aggregate, Volume, Logical, Stripe, aggregate_in, aggregate_of, stripes_of}
 use Rattle.nfs_model.specs.Server.{Named, most_bytes}
-use Rattle.nfs_model.specs.Home.{home, logical_home, volume_home, bytes_home, rename_home, grow_home, named_by, span_bytes, stripe_of_span}
+use Rattle.nfs_model.specs.Route.{Route, AtOnce, OfNames, OfBytesRead, OfBytesWritten, OfTwoHandles, OfVolume, OfAggregate, OfEverything, handle_on, route}
+use Rattle.nfs_model.specs.Home.{home, home_of_route, logical_home, volume_home, bytes_home, rename_home, grow_home, named_by, span_bytes, stripe_of_span}
 use Rattle.nfs_model.specs.Work.{volume_above}
 use Rattle.nfs_values.specs.Call.{call_of}
 use Rattle.nfs_values.specs.declared.call.Call.{Call}
@@ -16,7 +17,7 @@ use Rattle.affinity.specs.declared.affinity.Kind.TheVariants as kinds
 use Rattle.parcels.specs.Sets.{volume_around}
 use Rattle.filer_state.specs.state.Calls.{LieIn, handle_in}
 use Rattle.service_data.specs.HomeLemmas.{home-lies}
-use Rattle.service.specs.Running.{IsRun, IsRunAt, IsRunIn, RunsAbove, BytesLieIn, fileid_in}
+use Rattle.service.specs.Running.{IsOnState, IsOnVolume, IsRunAt, IsRunIn, IsRunOnVolume, LeadsTo, RunsAbove, BytesLieIn, HasBytesIn, fileid_in}
 
 -- what its handle names, the first of RENAME's: a fileid of the node's volume; and what the node is
 pub record IsNodeOf (named : Option Named) (a : Affinity) : Type 0 where
@@ -73,24 +74,20 @@ at-above None a above = absurd above
 at-above (Some n) a above =
     ⊎_elim (λ (e : a ≡ Logical n.volume). of-logical n a (sym e)) (λ (e : a ≡ Volume n.volume). of-volume n a (sym e)) above
 
-pub run-home : (layout : Layout) (call : Call) (a : Affinity) → IsRunIn layout call a → IsNodeOf (named_by layout (handle_in (call_of call))) a
-run-home layout (calls.GetAttributes handle) a at = at-logical (named_by layout handle) a at.1
-run-home layout (calls.SetAttributes handle set guard) a at = at-logical (named_by layout handle) a at.1
-run-home layout (calls.Lookup target) a at = at-logical (named_by layout target.directory) a at.1
-run-home layout (calls.Read handle offset count) a at = at-bytes layout (named_by layout handle) offset (min count most_bytes) a at.1
-run-home layout (calls.Write handle offset count bytes) a at =
+-- a route on a volume leads to a node of what its handle names
+pub leads-within : (layout : Layout) (r : Route) (a : Affinity) → IsOnVolume r → LeadsTo layout r a → IsNodeOf (named_by layout (handle_on r)) a
+leads-within layout (OfNames handle) a on at = at-logical (named_by layout handle) a at
+leads-within layout (OfBytesRead handle offset count) a on at = at-bytes layout (named_by layout handle) offset (min count most_bytes) a at
+leads-within layout (OfBytesWritten handle offset count) a on at =
     let named = named_by layout handle in
     ⊎_elim (λ (e : bytes_home layout named offset (min count most_bytes) ≡ Some a). at-bytes layout named offset (min count most_bytes) a e)
-    (λ (above : RunsAbove named a). at-above named a above) at.1
-run-home layout (calls.Create target mode) a at = at-logical (named_by layout target.directory) a at.1
-run-home layout (calls.MakeDirectory target set) a at = at-logical (named_by layout target.directory) a at.1
-run-home layout (calls.Remove target) a at = at-logical (named_by layout target.directory) a at.1
-run-home layout (calls.RemoveDirectory target) a at = at-logical (named_by layout target.directory) a at.1
-run-home layout (calls.Rename from to) a at = at-both (named_by layout from.directory) (named_by layout to.directory) a at.1
-run-home layout (calls.ReadDirectory directory cookie verifier count) a at = at-logical (named_by layout directory) a at.1
-run-home layout (calls.FilesystemStatus handle) a at = at-volume (named_by layout handle) a at.1
-run-home layout (calls.Commit handle) a at = at-logical (named_by layout handle) a at.1
-run-home layout call a at = absurd at.0
+    (λ (above : RunsAbove named a). at-above named a above) at
+leads-within layout (OfTwoHandles from to) a on at = at-both (named_by layout from) (named_by layout to) a at
+leads-within layout (OfVolume handle) a on at = at-volume (named_by layout handle) a at
+leads-within layout r a on at = absurd on
+
+pub run-home : (layout : Layout) (call : Call) (a : Affinity) → IsRunIn layout call a → IsNodeOf (named_by layout (handle_in (call_of call))) a
+run-home layout call a at = leads-within layout (route (call_of call)) a at.0 at.1
 
 -- its handle is good
 pub run-named : (layout : Layout) (call : Call) (a : Affinity) → IsRunIn layout call a → named_by layout (handle_in (call_of call)) ≡ None → ⊥
@@ -114,53 +111,50 @@ no-grow layout v a at within =
 no-census : (a : Affinity) → Some Serial ≡ Some a → is_some (volume_above a) ≡ true → ⊥
 no-census a at within = let is : a ≡ Serial = cc in let none : is_some (volume_above a) ≡ false = ap (λ (b : Affinity). is_some (volume_above b)) is in cc
 
--- a call that is run at a node of a volume is one on the volume
+-- a route that leads to a node of a volume is on the volume
+on-volume : (layout : Layout) (r : Route) (a : Affinity) → is_some (volume_above a) ≡ true → LeadsTo layout r a → IsOnVolume r
+on-volume layout AtOnce a within at = let no : ⊥ = cc in no
+on-volume layout (OfAggregate volume) a within at = no-grow layout volume a at within
+on-volume layout OfEverything a within at = no-census a at within
+on-volume layout r a within at = tt
+
+-- and so is a call that is run there
 pub run-in : (layout : Layout) (call : Call) (a : Affinity) → is_some (volume_above a) ≡ true → IsRunAt layout call a → IsRunIn layout call a
-run-in layout (calls.Grow volume more) a within at = absurd (no-grow layout volume.0 a at.1 within)
-run-in layout calls.Census a within at = absurd (no-census a at.1 within)
-run-in layout call a within at = at
+run-in layout call a within at = (on-volume layout (route (call_of call)) a within at.1, at.1)
 
 -- ---- where it is run
 
--- a call that is run so far is run at its home
-pub at-home : (layout : Layout) (call : Call) (a : Affinity) → IsRun call → home layout (call_of call) ≡ Some a → IsRunAt layout call a
-at-home layout (calls.GetAttributes handle) a run at = (tt, at)
-at-home layout (calls.SetAttributes handle set guard) a run at = (tt, at)
-at-home layout (calls.Lookup target) a run at = (tt, at)
-at-home layout (calls.Read handle offset count) a run at = (tt, at)
-at-home layout (calls.Write handle offset count bytes) a run at = (tt, inl at)
-at-home layout (calls.Create target mode) a run at = (tt, at)
-at-home layout (calls.MakeDirectory target set) a run at = (tt, at)
-at-home layout (calls.Remove target) a run at = (tt, at)
-at-home layout (calls.RemoveDirectory target) a run at = (tt, at)
-at-home layout (calls.Rename from to) a run at = (tt, at)
-at-home layout (calls.ReadDirectory directory cookie verifier count) a run at = (tt, at)
-at-home layout (calls.FilesystemStatus handle) a run at = (tt, at)
-at-home layout (calls.Commit handle) a run at = (tt, at)
-at-home layout calls.Census a run at = (tt, at)
-at-home layout (calls.Grow volume more) a run at = (tt, at)
-at-home layout call a run at = absurd run
+-- a route that has a home is on some state, and leads there
+leads-home : (layout : Layout) (r : Route) (a : Affinity) → home_of_route layout r ≡ Some a → IsOnState r × LeadsTo layout r a
+leads-home layout AtOnce a at = absurd cc
+leads-home layout (OfBytesWritten handle offset count) a at = (tt, inl at)
+leads-home layout r a at = (tt, at)
 
--- GROW on an Aggregate, CENSUS on Serial, each other call on a node of a volume
-run-on : (layout : Layout) (call : Call) (a : Affinity) → IsRunAt layout call a → (kind_of a ≡ kinds.Aggregate) ⊎ ((a ≡ Serial) ⊎ IsRunIn layout call a)
-run-on layout (calls.Grow volume more) a at = inl (grown-on (slice_get layout.volumes volume.0) a at.1).0
-run-on layout calls.Census a at = inr (inl cc)
-run-on layout call a at = inr (inr at)
+-- a call is run at its home
+pub at-home : (layout : Layout) (call : Call) (a : Affinity) → home layout (call_of call) ≡ Some a → IsRunAt layout call a
+at-home layout call a at = leads-home layout (route (call_of call)) a at
+
+-- that of an aggregate leads to an Aggregate, that of everything to Serial, each other to a node of a volume
+leads-on : (layout : Layout) (r : Route) (a : Affinity) → LeadsTo layout r a → (kind_of a ≡ kinds.Aggregate) ⊎ ((a ≡ Serial) ⊎ IsOnVolume r)
+leads-on layout AtOnce a at = absurd cc
+leads-on layout (OfAggregate volume) a at = inl (grown-on (slice_get layout.volumes volume) a at).0
+leads-on layout OfEverything a at = inr (inl cc)
+leads-on layout r a at = inr (inr tt)
 
 -- a call is run on no node of another kind
 pub not-here : (layout : Layout) (a : Affinity) (call : Call) → IsRunAt layout call a → (kind : Kind) → kind_of a ≡ kind
     → kind ≢ kinds.VolumeLogical → kind ≢ kinds.Stripe → kind ≢ kinds.Volume → kind ≢ kinds.Aggregate → kind ≢ kinds.Serial → ⊥
 not-here layout a call at kind of logical stripe volume aggregate serial =
     ⊎_elim (λ (e : kind_of a ≡ kinds.Aggregate). aggregate (sym of ∙ e))
-    (λ (within : (a ≡ Serial) ⊎ IsRunIn layout call a).
+    (λ (within : (a ≡ Serial) ⊎ IsRunOnVolume call).
     ⊎_elim (λ (e : a ≡ Serial). serial (sym of ∙ ap kind_of e))
-    (λ (on_volume : IsRunIn layout call a).
+    (λ (on_volume : IsRunOnVolume call).
     ⊎_elim (λ (e : kind_of a ≡ kinds.VolumeLogical). logical (sym of ∙ e))
     (λ (others : (kind_of a ≡ kinds.Stripe) ⊎ (kind_of a ≡ kinds.Volume)).
     ⊎_elim (λ (e : kind_of a ≡ kinds.Stripe). stripe (sym of ∙ e)) (λ (e : kind_of a ≡ kinds.Volume). volume (sym of ∙ e)) others)
-    (run-home layout call a on_volume).kind)
+    (run-home layout call a (on_volume, at.1)).kind)
     within)
-    (run-on layout call a at)
+    (leads-on layout (route (call_of call)) a at.1)
 
 -- on an Aggregate only GROW of a volume that the layout puts there
 pub only-grows : (layout : Layout) (call : Call) (g : ℕ) → IsRunAt layout call (Aggregate g)
@@ -207,27 +201,27 @@ no-bytes-volume layout (Some h) offset n v e = by ((n == 0) || (offset / span_by
     by true is = cc
     by false is = cc
 
+abbrev ReachesVolume : Route → Type 0
+ReachesVolume (OfBytesWritten handle offset count) = Unit {0}
+ReachesVolume (OfVolume handle) = Unit {0}
+ReachesVolume r = ⊥
+
+leads-volume : (layout : Layout) (r : Route) (v : ℕ) → LeadsTo layout r (Volume v) → ReachesVolume r
+leads-volume layout AtOnce v at = let no : ⊥ = cc in no
+leads-volume layout (OfNames handle) v at = not-volume (named_by layout handle) v at
+leads-volume layout (OfBytesRead handle offset count) v at = no-bytes-volume layout (named_by layout handle) offset (min count most_bytes) v at
+leads-volume layout (OfTwoHandles from to) v at =
+    not-volume (named_by layout from) v (both-there (named_by layout from) (named_by layout to) (Volume v) at).0
+leads-volume layout (OfAggregate volume) v at = no-grow layout volume (Volume v) at refl
+leads-volume layout OfEverything v at = let no : ⊥ = cc in no
+leads-volume layout r v at = tt
+
 pub only-writes : (layout : Layout) (call : Call) (v : ℕ) → IsRunAt layout call (Volume v)
     → ((handle : _) (offset count : ℕ) (bytes : _) → call ≡ calls.Write handle offset count bytes → ⊥)
     → ((handle : _) → call ≡ calls.FilesystemStatus handle → ⊥) → ⊥
-only-writes layout (calls.GetAttributes handle) v at no_write no_space = not-volume (named_by layout handle) v at.1
-only-writes layout (calls.SetAttributes handle set guard) v at no_write no_space = not-volume (named_by layout handle) v at.1
-only-writes layout (calls.Lookup target) v at no_write no_space = not-volume (named_by layout target.directory) v at.1
-only-writes layout (calls.Read handle offset count) v at no_write no_space =
-    no-bytes-volume layout (named_by layout handle) offset (min count most_bytes) v at.1
 only-writes layout (calls.Write handle offset count bytes) v at no_write no_space = no_write handle offset count bytes refl
-only-writes layout (calls.Create target mode) v at no_write no_space = not-volume (named_by layout target.directory) v at.1
-only-writes layout (calls.MakeDirectory target set) v at no_write no_space = not-volume (named_by layout target.directory) v at.1
-only-writes layout (calls.Remove target) v at no_write no_space = not-volume (named_by layout target.directory) v at.1
-only-writes layout (calls.RemoveDirectory target) v at no_write no_space = not-volume (named_by layout target.directory) v at.1
-only-writes layout (calls.Rename from to) v at no_write no_space =
-    not-volume (named_by layout from.directory) v (both-there (named_by layout from.directory) (named_by layout to.directory) (Volume v) at.1).0
-only-writes layout (calls.ReadDirectory directory cookie verifier count) v at no_write no_space = not-volume (named_by layout directory) v at.1
 only-writes layout (calls.FilesystemStatus handle) v at no_write no_space = no_space handle refl
-only-writes layout calls.Census v at no_write no_space = let no : ⊥ = cc in no
-only-writes layout (calls.Commit handle) v at no_write no_space = not-volume (named_by layout handle) v at.1
-only-writes layout (calls.Grow volume more) v at no_write no_space = no-grow layout volume.0 (Volume v) at.1 refl
-only-writes layout call v at no_write no_space = absurd at.0
+only-writes layout call v at no_write no_space = leads-volume layout (route (call_of call)) v at.1
 
 -- in a stripe, only one on bytes that lie in it
 not-stripe : (named : Option Named) (v i : ℕ) → logical_home named ≡ Some (Stripe v i) → ⊥
@@ -251,27 +245,23 @@ lies-there layout (Some h) offset n v i stripes e many some =
     let volume : h.volume ≡ v = cc in
     (home-lies layout h offset n v i stripes e (many ∙ sym (ap (stripes_of layout) volume)) some).2
 
-pub bytes-lie : (layout : Layout) (call : Call) (v i stripes : ℕ) → IsRunAt layout call (Stripe v i) → stripes ≡ stripes_of layout v → i < stripes
-    → BytesLieIn stripes i (fileid_in (named_by layout (handle_in (call_of call)))) (call_of call)
-bytes-lie layout (calls.GetAttributes handle) v i stripes at many there = not-stripe (named_by layout handle) v i at.1
-bytes-lie layout (calls.SetAttributes handle set guard) v i stripes at many there = not-stripe (named_by layout handle) v i at.1
-bytes-lie layout (calls.Lookup target) v i stripes at many there = not-stripe (named_by layout target.directory) v i at.1
-bytes-lie layout (calls.Read handle offset count) v i stripes at many there =
-    lies-there layout (named_by layout handle) offset (min count most_bytes) v i stripes at.1 many (omega arith)
-bytes-lie layout (calls.Write handle offset count bytes) v i stripes at many there =
+leads-stripe : (layout : Layout) (r : Route) (v i stripes : ℕ) → LeadsTo layout r (Stripe v i) → stripes ≡ stripes_of layout v → i < stripes
+    → HasBytesIn stripes i (fileid_in (named_by layout (handle_on r))) r
+leads-stripe layout AtOnce v i stripes at many there = let no : ⊥ = cc in no
+leads-stripe layout (OfNames handle) v i stripes at many there = not-stripe (named_by layout handle) v i at
+leads-stripe layout (OfBytesRead handle offset count) v i stripes at many there =
+    lies-there layout (named_by layout handle) offset (min count most_bytes) v i stripes at many (omega arith)
+leads-stripe layout (OfBytesWritten handle offset count) v i stripes at many there =
     let named = named_by layout handle in
     ⊎_elim (λ (e : bytes_home layout named offset (min count most_bytes) ≡ Some (Stripe v i)).
     lies-there layout named offset (min count most_bytes) v i stripes e many (omega (arith, there)))
-    (λ (above : RunsAbove named (Stripe v i)). absurd (no-stripe-above named v i above)) at.1
-bytes-lie layout (calls.Create target mode) v i stripes at many there = not-stripe (named_by layout target.directory) v i at.1
-bytes-lie layout (calls.MakeDirectory target set) v i stripes at many there = not-stripe (named_by layout target.directory) v i at.1
-bytes-lie layout (calls.Remove target) v i stripes at many there = not-stripe (named_by layout target.directory) v i at.1
-bytes-lie layout (calls.RemoveDirectory target) v i stripes at many there = not-stripe (named_by layout target.directory) v i at.1
-bytes-lie layout (calls.Rename from to) v i stripes at many there =
-    not-stripe (named_by layout from.directory) v i (both-there (named_by layout from.directory) (named_by layout to.directory) (Stripe v i) at.1).0
-bytes-lie layout (calls.ReadDirectory directory cookie verifier count) v i stripes at many there = not-stripe (named_by layout directory) v i at.1
-bytes-lie layout (calls.FilesystemStatus handle) v i stripes at many there = no-volume-stripe (named_by layout handle) v i at.1
-bytes-lie layout calls.Census v i stripes at many there = let no : ⊥ = cc in no
-bytes-lie layout (calls.Commit handle) v i stripes at many there = not-stripe (named_by layout handle) v i at.1
-bytes-lie layout (calls.Grow volume more) v i stripes at many there = no-grow layout volume.0 (Stripe v i) at.1 refl
-bytes-lie layout call v i stripes at many there = absurd at.0
+    (λ (above : RunsAbove named (Stripe v i)). absurd (no-stripe-above named v i above)) at
+leads-stripe layout (OfTwoHandles from to) v i stripes at many there =
+    not-stripe (named_by layout from) v i (both-there (named_by layout from) (named_by layout to) (Stripe v i) at).0
+leads-stripe layout (OfVolume handle) v i stripes at many there = no-volume-stripe (named_by layout handle) v i at
+leads-stripe layout (OfAggregate volume) v i stripes at many there = no-grow layout volume (Stripe v i) at refl
+leads-stripe layout OfEverything v i stripes at many there = let no : ⊥ = cc in no
+
+pub bytes-lie : (layout : Layout) (call : Call) (v i stripes : ℕ) → IsRunAt layout call (Stripe v i) → stripes ≡ stripes_of layout v → i < stripes
+    → BytesLieIn stripes i (fileid_in (named_by layout (handle_in (call_of call)))) (call_of call)
+bytes-lie layout call v i stripes at many there = leads-stripe layout (route (call_of call)) v i stripes at.1 many there

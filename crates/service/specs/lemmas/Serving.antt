@@ -8,7 +8,8 @@ use Rattle.nfs_model.specs.Types as types
 use Rattle.nfs_model.specs.Types.{Ask, Credential, Moment}
 use Rattle.nfs_model.specs.Tree.{Layout, Affinity, Serial, Aggregate, Volume, Logical, Stripe, Vbn, Range, path, begins, aggregate_of, stripes_of}
 use Rattle.nfs_model.specs.Server.{Server, Named, VolumeState, handle_of, most_bytes}
-use Rattle.nfs_model.specs.Home.{bytes_home, rename_home, named_by, span_bytes, stripe_of_span}
+use Rattle.nfs_model.specs.Route.{Route, OfBytesWritten, route}
+use Rattle.nfs_model.specs.Home.{bytes_home, home_of_route, rename_home, named_by, span_bytes, stripe_of_span}
 use Rattle.nfs_model.specs.Locate.{located_in, located_by, locate}
 use Rattle.nfs_model.specs.Serial.Absent.{absent_parts}
 use Rattle.nfs_model.specs.Serial.Rename.{rename}
@@ -38,7 +39,7 @@ use Rattle.filer_state.specs.laws.lemmas.Kinds.{stripe-step, logical-step, volum
 use Rattle.filer_state.specs.laws.lemmas.Running.{runs-by}
 use Rattle.filer_state.specs.laws.lemmas.SeenSets.{stripe-seen, logical-seen, volume-seen}
 use Rattle.filer_state.specs.laws.lemmas.Steps.{laid-out, get-some}
-use Rattle.service.specs.Running.{IsRunAt, IsRunIn, RunsAbove, IsStripeOf, MovesOn, call_on, fileid_in, other_in, procedure}
+use Rattle.service.specs.Running.{IsRunAt, IsRunIn, LeadsTo, RunsAbove, IsStripeOf, MovesOn, call_on, fileid_in, other_in, procedure}
 use Rattle.service.specs.lemmas.Homes.{IsNodeOf, at-logical, both-there, run-home, run-in}
 
 -- ---- a call that is run is a call on its volume
@@ -69,29 +70,20 @@ over-bytes layout (Some h) offset n a above = by ((n == 0) || (offset / span_byt
         (stripe_of_span layout h (offset / span_bytes), refl, over-volume layout h.volume (i ∷ []) a above)
     by false = (Logical h.volume, refl, over-volume layout h.volume [] a above)
 
--- a call is run at its home or above it
-pub run-tried : (layout : Layout) (call : Call) (credential : Credential) (a : Affinity) → IsRunAt layout call a
-    → IsHomeOrAbove layout (Ask (call_of call) credential) a
-run-tried layout (calls.Write handle offset count bytes) credential a at =
+-- a route leads to its home or above it
+leads-tried : (layout : Layout) (r : Route) (a : Affinity) → LeadsTo layout r a
+    → (home : Affinity) × (home_of_route layout r ≡ Some home) × IsTrue (covers layout a home)
+leads-tried layout (OfBytesWritten handle offset count) a at =
     let named = named_by layout handle in
     let n : ℕ = min count most_bytes in
     ⊎_elim (λ (e : bytes_home layout named offset n ≡ Some a). (a, e, begins-self (path layout a)))
-    (λ (above : RunsAbove named a). over-bytes layout named offset n a above) at.1
-run-tried layout (calls.GetAttributes handle) credential a at = (a, at.1, begins-self (path layout a))
-run-tried layout (calls.SetAttributes handle set guard) credential a at = (a, at.1, begins-self (path layout a))
-run-tried layout (calls.Lookup target) credential a at = (a, at.1, begins-self (path layout a))
-run-tried layout (calls.Read handle offset count) credential a at = (a, at.1, begins-self (path layout a))
-run-tried layout (calls.Create target mode) credential a at = (a, at.1, begins-self (path layout a))
-run-tried layout (calls.MakeDirectory target set) credential a at = (a, at.1, begins-self (path layout a))
-run-tried layout (calls.Remove target) credential a at = (a, at.1, begins-self (path layout a))
-run-tried layout (calls.RemoveDirectory target) credential a at = (a, at.1, begins-self (path layout a))
-run-tried layout (calls.Rename from to) credential a at = (a, at.1, begins-self (path layout a))
-run-tried layout (calls.ReadDirectory directory cookie verifier count) credential a at = (a, at.1, begins-self (path layout a))
-run-tried layout (calls.FilesystemStatus handle) credential a at = (a, at.1, begins-self (path layout a))
-run-tried layout calls.Census credential a at = (a, at.1, begins-self (path layout a))
-run-tried layout (calls.Commit handle) credential a at = (a, at.1, begins-self (path layout a))
-run-tried layout (calls.Grow volume more) credential a at = (a, at.1, begins-self (path layout a))
-run-tried layout call credential a at = absurd at.0
+    (λ (above : RunsAbove named a). over-bytes layout named offset n a above) at
+leads-tried layout r a at = (a, at, begins-self (path layout a))
+
+-- a call is run at its home or above it
+pub run-tried : (layout : Layout) (call : Call) (credential : Credential) (a : Affinity) → IsRunAt layout call a
+    → IsHomeOrAbove layout (Ask (call_of call) credential) a
+run-tried layout call credential a at = leads-tried layout (route (call_of call)) a at.1
 
 -- what it names on a server of this layout
 located-there : (layout : Layout) (server : Server) (volume : VolumeState) (v fileid : ℕ) (handle : List ℕ) → length server.volumes ≡ length layout.volumes
@@ -146,44 +138,11 @@ pub run-is-call : (layout : Layout) (call : Call) (credential : Credential) (mom
     → IsCallOn layout (volume_around a) (call_on layout a credential moment (call_of call)) credential moment
 run-is-call layout (calls.Rename from to) credential moment a at =
     on-both layout a from.directory from.name to.directory to.name credential moment at.1 (run-tried layout (calls.Rename from to) credential a at)
-run-is-call layout (calls.GetAttributes handle) credential moment a at =
-    on-handle layout a (types.Getattr handle) credential moment (run-home layout (calls.GetAttributes handle) a at)
-    (run-tried layout (calls.GetAttributes handle) credential a at) (λ server. refl)
-run-is-call layout (calls.SetAttributes handle set guard) credential moment a at =
-    on-handle layout a (call_of (calls.SetAttributes handle set guard)) credential moment (run-home layout (calls.SetAttributes handle set guard) a at)
-    (run-tried layout (calls.SetAttributes handle set guard) credential a at) (λ server. refl)
-run-is-call layout (calls.Lookup target) credential moment a at =
-    on-handle layout a (call_of (calls.Lookup target)) credential moment (run-home layout (calls.Lookup target) a at)
-    (run-tried layout (calls.Lookup target) credential a at) (λ server. refl)
-run-is-call layout (calls.Read handle offset count) credential moment a at =
-    on-handle layout a (types.Read handle offset count) credential moment (run-home layout (calls.Read handle offset count) a at)
-    (run-tried layout (calls.Read handle offset count) credential a at) (λ server. refl)
-run-is-call layout (calls.Write handle offset count bytes) credential moment a at =
-    on-handle layout a (call_of (calls.Write handle offset count bytes)) credential moment (run-home layout (calls.Write handle offset count bytes) a at)
-    (run-tried layout (calls.Write handle offset count bytes) credential a at) (λ server. refl)
-run-is-call layout (calls.Create target mode) credential moment a at =
-    on-handle layout a (call_of (calls.Create target mode)) credential moment (run-home layout (calls.Create target mode) a at)
-    (run-tried layout (calls.Create target mode) credential a at) (λ server. refl)
-run-is-call layout (calls.MakeDirectory target set) credential moment a at =
-    on-handle layout a (call_of (calls.MakeDirectory target set)) credential moment (run-home layout (calls.MakeDirectory target set) a at)
-    (run-tried layout (calls.MakeDirectory target set) credential a at) (λ server. refl)
-run-is-call layout (calls.Remove target) credential moment a at =
-    on-handle layout a (call_of (calls.Remove target)) credential moment (run-home layout (calls.Remove target) a at)
-    (run-tried layout (calls.Remove target) credential a at) (λ server. refl)
-run-is-call layout (calls.RemoveDirectory target) credential moment a at =
-    on-handle layout a (call_of (calls.RemoveDirectory target)) credential moment (run-home layout (calls.RemoveDirectory target) a at)
-    (run-tried layout (calls.RemoveDirectory target) credential a at) (λ server. refl)
-run-is-call layout (calls.ReadDirectory directory cookie verifier count) credential moment a at =
-    on-handle layout a (call_of (calls.ReadDirectory directory cookie verifier count)) credential moment
-    (run-home layout (calls.ReadDirectory directory cookie verifier count) a at)
-    (run-tried layout (calls.ReadDirectory directory cookie verifier count) credential a at) (λ server. refl)
-run-is-call layout (calls.FilesystemStatus handle) credential moment a at =
-    on-handle layout a (types.Fsstat handle) credential moment (run-home layout (calls.FilesystemStatus handle) a at)
-    (run-tried layout (calls.FilesystemStatus handle) credential a at) (λ server. refl)
-run-is-call layout (calls.Commit handle) credential moment a at =
-    on-handle layout a (types.Commit handle) credential moment (run-home layout (calls.Commit handle) a at)
-    (run-tried layout (calls.Commit handle) credential a at) (λ server. refl)
-run-is-call layout call credential moment a at = absurd at.0
+run-is-call layout calls.Null credential moment a at = absurd at.0
+run-is-call layout calls.Census credential moment a at = absurd at.0
+run-is-call layout (calls.Grow volume more) credential moment a at = absurd at.0
+run-is-call layout call credential moment a at =
+    on-handle layout a (call_of call) credential moment (run-home layout call a at) (run-tried layout call credential a at) (λ server. refl)
 
 -- ---- the run
 
@@ -321,21 +280,7 @@ moved-there layout a credential moment (calls.Write handle offset count bytes) t
       node-above layout v other (node-within layout a v here.above there) up,
       (tt, inr (subst (λ (named : Option Named). RunsAbove named other) (sym here.names) up)),
     )
-moved-there layout a credential moment (calls.GetAttributes handle) there at p other e = absurd cc
-moved-there layout a credential moment (calls.SetAttributes handle set guard) there at p other e = absurd cc
-moved-there layout a credential moment (calls.Lookup target) there at p other e = absurd cc
-moved-there layout a credential moment (calls.Read handle offset count) there at p other e = absurd cc
-moved-there layout a credential moment (calls.Create target mode) there at p other e = absurd cc
-moved-there layout a credential moment (calls.MakeDirectory target set) there at p other e = absurd cc
-moved-there layout a credential moment (calls.Remove target) there at p other e = absurd cc
-moved-there layout a credential moment (calls.RemoveDirectory target) there at p other e = absurd cc
-moved-there layout a credential moment (calls.Rename from to) there at p other e = absurd cc
-moved-there layout a credential moment (calls.ReadDirectory directory cookie verifier count) there at p other e = absurd cc
-moved-there layout a credential moment (calls.FilesystemStatus handle) there at p other e = absurd cc
-moved-there layout a credential moment (calls.Commit handle) there at p other e = absurd cc
-moved-there layout a credential moment calls.Census there at p other e = absurd cc
-moved-there layout a credential moment (calls.Grow volume more) there at p other e = absurd cc
-moved-there layout a credential moment call there at p other e = absurd at.0
+moved-there layout a credential moment call there at p other e = absurd cc
 
 -- a call that was run on a part of its volume is run where it moves
 pub moves-on : {S : Type 0} (layout : Layout) (v : ℕ) (lens : Lens VolumeContents S) (a b : Affinity) → b ≡ a → (call : Call)

@@ -85,21 +85,7 @@ module _ (setup : Setup) (home : Affinity) where
   call-moves : (store : Store) (a b : Affinity) (call : Call) → move_of_call store a call ≡ Some b → IsAbove a → IsAbove b
   call-moves store a b (types.Write handle offset count written) moved above =
       if-moves (parts_at store.parts (volume_above a)) a b (ready_at (locate store.server handle) offset count (length written)) moved above
-  call-moves store a b types.Null moved above = absurd cc
-  call-moves store a b (types.Getattr handle) moved above = absurd cc
-  call-moves store a b (types.Setattr handle set guard) moved above = absurd cc
-  call-moves store a b (types.Lookup directory name) moved above = absurd cc
-  call-moves store a b (types.Read handle offset count) moved above = absurd cc
-  call-moves store a b (types.Create directory name mode) moved above = absurd cc
-  call-moves store a b (types.Mkdir directory name set) moved above = absurd cc
-  call-moves store a b (types.Remove directory name) moved above = absurd cc
-  call-moves store a b (types.Rmdir directory name) moved above = absurd cc
-  call-moves store a b (types.Rename from from_name to to_name) moved above = absurd cc
-  call-moves store a b (types.Readdir directory cookie verifier count) moved above = absurd cc
-  call-moves store a b (types.Fsstat handle) moved above = absurd cc
-  call-moves store a b (types.Commit handle) moved above = absurd cc
-  call-moves store a b types.Census moved above = absurd cc
-  call-moves store a b (types.Grow volume ranges) moved above = absurd cc
+  call-moves store a b call moved above = absurd cc
 
 -- where a task moves is above its home
 pub moves-up : (setup : Setup) (store : Store) (task : Task) (to : Affinity) → move_of store task ≡ Some to

@@ -2,12 +2,11 @@
 use Rattle.std.proofs.Common.{◌≡◌, ℕ, zero, suc, ◌+◌, ◌-◌, ◌==◌, ◌||◌, ◌/◌, ◌%◌, IsTrue, List, [], ◌∷◌, length, Option, Some, None, refl, sym, ap}
 use Rattle.std.proofs.Common.{◌∙◌, subst, arith}
 use Rattle.std.specs.Prelude.{min, slice_get, is_some, if◌then◌else◌}
-use Rattle.nfs_model.specs.Types.{Call, Null, Getattr, Setattr, Lookup, Read, Write, Create, Mkdir, Remove, Rmdir, Rename, Readdir, Fsstat, Commit}
-use Rattle.nfs_model.specs.Types.{Census, Grow}
 use Rattle.nfs_model.specs.Types.{Asked, Ask, Refused, Undecoded}
 use Rattle.nfs_model.specs.Tree.{Layout, VolumeLayout, Affinity, Serial, Aggregate, Volume, Logical, Stripe, Vbn, Range, path, begins, aggregate_in}
 use Rattle.nfs_model.specs.Server.{Named, handle_of, most_bytes}
-use Rattle.nfs_model.specs.Home.{home, home_of_asked, named_by, logical_home, volume_home, bytes_home, rename_home, grow_home, span_bytes}
+use Rattle.nfs_model.specs.Route.{Route, AtOnce, OfNames, OfBytesRead, OfBytesWritten, OfTwoHandles, OfVolume, OfAggregate, OfEverything, route}
+use Rattle.nfs_model.specs.Home.{home_of_route, home_of_asked, named_by, logical_home, volume_home, bytes_home, rename_home, grow_home, span_bytes}
 use Rattle.nfs_model.specs.Parts.{most_ranges}
 use Rattle.affinity.specs.Alike.{AreAlike}
 use Rattle.filer_state.specs.state.Parcels.{FilerParcel}
@@ -55,29 +54,21 @@ module _ (l m : Layout) (s : AreAlike l m) where
   bytes-same (Some h) offset n = ap (λ (k : ℕ). if (n == 0) || (offset / span_bytes == (offset + n - 1) / span_bytes)
       then Some (Stripe h.volume ((h.fileid + offset / span_bytes) % k)) else Some (Logical h.volume)) (s.stripes h.volume)
 
-  pub home-same : (call : Call) → home l call ≡ home m call
-  home-same Null = refl
-  home-same (Getattr handle) = ap logical_home (named-same handle)
-  home-same (Setattr handle set guard) = ap logical_home (named-same handle)
-  home-same (Lookup directory name) = ap logical_home (named-same directory)
-  home-same (Read handle offset count) =
+  pub route-home-same : (r : Route) → home_of_route l r ≡ home_of_route m r
+  route-home-same AtOnce = refl
+  route-home-same (OfNames handle) = ap logical_home (named-same handle)
+  route-home-same (OfBytesRead handle offset count) =
       ap (λ h. bytes_home l h offset (min count most_bytes)) (named-same handle) ∙ bytes-same (named_by m handle) offset (min count most_bytes)
-  home-same (Write handle offset count written) =
+  route-home-same (OfBytesWritten handle offset count) =
       ap (λ h. bytes_home l h offset (min count most_bytes)) (named-same handle) ∙ bytes-same (named_by m handle) offset (min count most_bytes)
-  home-same (Create directory name mode) = ap logical_home (named-same directory)
-  home-same (Mkdir directory name set) = ap logical_home (named-same directory)
-  home-same (Remove directory name) = ap logical_home (named-same directory)
-  home-same (Rmdir directory name) = ap logical_home (named-same directory)
-  home-same (Rename from from_name to to_name) = λ j. rename_home (named-same from j) (named-same to j)
-  home-same (Readdir directory cookie verifier count) = ap logical_home (named-same directory)
-  home-same (Fsstat handle) = ap volume_home (named-same handle)
-  home-same (Commit handle) = ap logical_home (named-same handle)
-  home-same Census = refl
-  home-same (Grow volume ranges) = grow-same (slice_get l.volumes volume) (slice_get m.volumes volume)
+  route-home-same (OfTwoHandles from to) = λ j. rename_home (named-same from j) (named-same to j)
+  route-home-same (OfVolume handle) = ap volume_home (named-same handle)
+  route-home-same (OfAggregate volume) = grow-same (slice_get l.volumes volume) (slice_get m.volumes volume)
       (both-found l.volumes m.volumes volume s.volumes) (s.aggregate volume)
+  route-home-same OfEverything = refl
 
   pub home-of-asked-same : (asked : Asked) → home_of_asked l asked ≡ home_of_asked m asked
-  home-of-asked-same (Ask call credential) = home-same call
+  home-of-asked-same (Ask call credential) = route-home-same (route call)
   home-of-asked-same (Refused reply) = refl
   home-of-asked-same Undecoded = refl
 

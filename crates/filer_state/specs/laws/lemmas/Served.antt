@@ -2,8 +2,7 @@
 use Rattle.std.proofs.Common.{◌≡◌, ℕ, zero, suc, ◌<◌, Bool, true, false, IsTrue, List, [], ◌∷◌, length, map, Some, refl, sym, ap, ◌∙◌, subst, arith}
 use Rattle.std.specs.Prelude.{slice_get, slice_set}
 use Rattle.std.proofs.lemmas.List.{length-map}
-use Rattle.nfs_model.specs.Types.{Call, Null, Getattr, Setattr, Lookup, Read, Write, Create, Mkdir, Remove, Rmdir, Rename, Readdir, Fsstat, Commit}
-use Rattle.nfs_model.specs.Types.{Census, Grow}
+use Rattle.nfs_model.specs.Types.{Call, Write, Grow}
 use Rattle.nfs_model.specs.Types.{Credential, Moment, Reply, Success}
 use Rattle.nfs_model.specs.Tree.{Layout}
 use Rattle.nfs_model.specs.Server as servers
@@ -110,22 +109,8 @@ move-by : (store : Store) (q : VolumeCall) (p : VolumeContents) → locate store
 move-by store q p located parts = by q.call located
   where
     by : (call : Call) → locate store.server (handle_in call) ≡ Some (located_on q p) → move_of_call store q.node call ≡ move_of_located call q p
-    by Null e = refl
-    by (Getattr handle) e = refl
-    by (Setattr handle set guard) e = refl
-    by (Lookup directory name) e = refl
-    by (Read handle offset count) e = refl
     by (Write handle offset count written) e = λ j. move_if (parts j) q.node (ready_at (e j) offset count (length written))
-    by (Create directory name mode) e = refl
-    by (Mkdir directory name set) e = refl
-    by (Remove directory name) e = refl
-    by (Rmdir directory name) e = refl
-    by (Rename from from_name to to_name) e = refl
-    by (Readdir directory cookie verifier count) e = refl
-    by (Fsstat handle) e = refl
-    by (Commit handle) e = refl
-    by Census e = refl
-    by (Grow volume ranges) e = refl
+    by call e = refl
 
 -- a call with a handle isn't GROW, so it changes the parts of the volume above its node
 changes-above : (volumes : ℕ) (q : VolumeCall) (named : Named) → handle_of volumes (handle_in q.call) ≡ Some named
@@ -133,22 +118,8 @@ changes-above : (volumes : ℕ) (q : VolumeCall) (named : Named) → handle_of v
 changes-above volumes q named good = by q.call good
   where
     by : (call : Call) → handle_of volumes (handle_in call) ≡ Some named → changed_volume call q.node ≡ volume_above q.node
-    by Null e = refl
-    by (Getattr handle) e = refl
-    by (Setattr handle set guard) e = refl
-    by (Lookup directory name) e = refl
-    by (Read handle offset count) e = refl
-    by (Write handle offset count written) e = refl
-    by (Create directory name mode) e = refl
-    by (Mkdir directory name set) e = refl
-    by (Remove directory name) e = refl
-    by (Rmdir directory name) e = refl
-    by (Rename from from_name to to_name) e = refl
-    by (Readdir directory cookie verifier count) e = refl
-    by (Fsstat handle) e = refl
-    by (Commit handle) e = refl
-    by Census e = refl
     by (Grow volume ranges) e = absurd cc
+    by call e = refl
 
 module _ (layout : Layout) (v : ℕ) (q : VolumeCall) (connection number xid : ℕ) (credential : Credential) (moment : Moment)
     (is : IsCallOn layout v q credential moment)
