@@ -1,5 +1,6 @@
 -- What came and what ended, list by list.
-use Rattle.std.proofs.Common.{◌≡◌, ◌≢◌, ◌==◌, ℕ, ◌+◌, Bool, true, false, if◌then◌else◌, List, [], ◌∷◌, ◌++◌, Option, Some, None, refl, sym, ap, ◌∙◌, length, ne_eqb, arith}
+use Rattle.std.proofs.Common.{◌≡◌, ◌≢◌, ◌==◌, ℕ, ◌+◌, Bool, true, false, if◌then◌else◌, List, [], ◌∷◌, ◌++◌, Option, Some, None, refl, sym, ap, ◌∙◌}
+use Rattle.std.proofs.Common.{length, ne_eqb, arith}
 use Rattle.nfs_model.specs.Home.{home_of_asked}
 use Rattle.nfs_model.specs.Tree.{Affinity, Layout}
 use Rattle.nfs_model.specs.World.{Heard}

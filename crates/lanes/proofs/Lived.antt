@@ -1,5 +1,6 @@
 -- The story of a lane, call by call.
-use Rattle.std.proofs.Common.{◌≡◌, ◌≢◌, ◌==◌, ◌<◌, ◌≤◌, ℕ, ◌+◌, ◌*◌, Bool, true, false, if◌then◌else◌, List, [], ◌∷◌, ◌++◌, map, length, Option, Some, None, refl, sym, ap, subst, ◌∙◌, append_assoc, append-nil, cond, ne_eqb, arith}
+use Rattle.std.proofs.Common.{◌≡◌, ◌≢◌, ◌==◌, ◌<◌, ◌≤◌, ℕ, ◌+◌, ◌*◌, Bool, true, false, if◌then◌else◌, List, [], ◌∷◌, ◌++◌, map, length, Option}
+use Rattle.std.proofs.Common.{Some, None, refl, sym, ap, subst, ◌∙◌, append_assoc, append-nil, cond, ne_eqb, arith}
 use Rattle.std.specs.FinMap.{get}
 use Rattle.std.proofs.Math.Arith.{lt_of_le-ne}
 use Rattle.std.proofs.lemmas.Bool.{eqb-false}
@@ -20,7 +21,8 @@ use Rattle.lanes.specs.declared.connection.Connection.{Connection}
 use Rattle.lanes.specs.Connections.{number_of}
 use Rattle.lanes.specs.Intakes.{all_put, answered_of}
 use Rattle.lanes.specs.Reading.{Reads}
-use Rattle.lanes.specs.Story.{of_connection, Ending, Served, AtOnce, said_by, replies_to, served_of, at_once_of, served_in, number_at, IsServed, Life, Open, Closed, HasLived, Story}
+use Rattle.lanes.specs.Story.{of_connection, Ending, Served, AtOnce, said_by, replies_to, served_of, at_once_of, served_in, number_at, IsServed}
+use Rattle.lanes.specs.Story.{Life, Open, Closed, HasLived, Story}
 use Rattle.lanes.specs.Writing.{Writes}
 use Rattle.lanes.specs.lemmas.Coming.{calls-append, answered-append}
 use Rattle.lanes.proofs.Lists.{of-append, of-own, of-other, arrivals-append, served-append, at-once-append, entries-append}
@@ -199,8 +201,11 @@ module _ {D : Type 0} (unread written : D → Option (List ℕ)) (layout : Layou
           (λ d. there k (lt_of_le-ne (omega (arith, few)) d) d);
       known = λ other d at. either other key ((k : ℕ) × (k < s.opened + 1) × (lives' k ≡ Open other))
           (λ e. (s.opened, omega arith, changed-here s.lives s.opened (Open key) ∙ ap Open (sym e)))
-          (λ n. let f = s.known other d (sym (sets.1 other n) ∙ at) in
-          (f.0, (let few = f.1 in omega (arith, few)), changed-there s.lives s.opened (Open key) f.0 (λ e. let few = f.1 in absurd (omega (arith, few, e))) ∙ f.2));
+          (λ n. let f = s.known other d (sym (sets.1 other n) ∙ at) in (
+            f.0,
+            (let few = f.1 in omega (arith, few)),
+            changed-there s.lives s.opened (Open key) f.0 (λ e. let few = f.1 in absurd (omega (arith, few, e))) ∙ f.2,
+          ));
       only = λ n h. s.only n (λ k few. h k (omega (arith, few)));
     }
       where
@@ -258,7 +263,8 @@ module _ {D : Type 0} (unread written : D → Option (List ℕ)) (layout : Layou
       is-open = (s.known key c was).2
 
       own-life : HasLived unread written layout s.came s.endings boxes slots (number_at lane lanes place) (Open key)
-      own-life = subst (λ (x : Life D). HasLived unread written layout s.came s.endings boxes slots (number_at lane lanes place) x) is-open (s.each place placed)
+      own-life = subst (λ (x : Life D). HasLived unread written layout s.came s.endings boxes slots (number_at lane lanes place) x) is-open
+          (s.each place placed)
 
       own-same : own-life.0 ≡ c
       own-same = some-is own-life.0 c (sym own-life.2 ∙ was)

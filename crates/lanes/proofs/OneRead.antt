@@ -1,5 +1,6 @@
 -- One read of a connection, by its answer.
-use Rattle.std.proofs.Common.{◌≡◌, ◌+◌, ◌<◌, ℕ, Bool, true, false, List, [], ◌∷◌, ◌++◌, length, take, Option, Some, None, refl, sym, ap, subst, ◌∙◌, append-nil, arith}
+use Rattle.std.proofs.Common.{◌≡◌, ◌+◌, ◌<◌, ℕ, Bool, true, false, List, [], ◌∷◌, ◌++◌, length, take, Option, Some, None, refl, sym, ap, subst, ◌∙◌}
+use Rattle.std.proofs.Common.{append-nil, arith}
 use Rattle.std.proofs.KnownBytes.{Consumes-kept, Consumes-nil, Keeps-refl}
 use Rattle.std.specs.Io.KnownBytes.{Consumes, IsAtEnd, Keeps}
 use Rattle.nfs_model.specs.Tree.{Layout}
@@ -106,27 +107,27 @@ module _ {D S : Type 0} (unread written : D → Option (List ℕ)) (came : S →
     same = same;
   }
 
-  pub read-kept : (new : Connection D) (sink' : S) → old.stopped ≡ None → 0 < length (kept_of old) → new.device ≡ old.device
+  pub read-kept : (new : Connection D) (sink' : S) → old.stopped ≡ None → room sink ≡ true → 0 < length (kept_of old) → new.device ≡ old.device
       → HasCut came room layout old.stream sink (kept_of old) new.stopped new.stream sink' (kept_of new) → HasSameWriting old new
       → HasRead unread written came room layout old sink size cames.Cut new sink'
-  read-kept new sink' none some device h same =
+  read-kept new sink' none roomy some device h same =
       read-cut new sink' cames.Cut [] none
       (subst (λ (l : List ℕ). HasCut came room layout old.stream sink l new.stopped new.stream sink' (kept_of new)) (sym (append-nil old.kept)) h)
       (subst (λ (x : D). Consumes (unread (now_of old)) (unread x) []) (ap (λ (x : Watched D). x.device) (sym device))
       (Consumes-nil (unread (now_of old))))
       (subst (λ (x : D). Keeps (written (now_of old)) (written x)) (ap (λ (x : Watched D). x.device) (sym device))
       (Keeps-refl (written (now_of old))))
-      (none, some, device) same
+      (none, roomy, some, device) same
 
-  pub read-new : (new : Connection D) (sink' : S) (n : ℕ) (read : List ℕ) → old.stopped ≡ None → old.kept ≡ [] → 0 < n
+  pub read-new : (new : Connection D) (sink' : S) (n : ℕ) (read : List ℕ) → old.stopped ≡ None → room sink ≡ true → old.kept ≡ [] → 0 < n
       → HasCut came room layout old.stream sink read new.stopped new.stream sink' (kept_of new)
       → Consumes (unread (now_of old)) (unread (now_of new)) read → Keeps (written (now_of old)) (written (now_of new))
       → HasCalled old.device size (tolds.Moved n) new.device → HasSameWriting old new
       → HasRead unread written came room layout old sink size (cames.Read n) new sink'
-  read-new new sink' n read none empty some h taken apart called same =
+  read-new new sink' n read none roomy empty some h taken apart called same =
       read-cut new sink' (cames.Read n) read none
       (subst (λ (l : List ℕ). HasCut came room layout old.stream sink (l ++ read) new.stopped new.stream sink' (kept_of new)) (sym empty) h)
-      taken apart ((none, empty), called, some) same
+      taken apart ((none, empty), roomy, called, some) same
 
 pub took-none : (a b : Option (List ℕ)) → Keeps a b → Consumes a b []
 took-none a b k = Consumes-kept a a b [] (Consumes-nil a) k

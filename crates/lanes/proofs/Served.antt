@@ -1,5 +1,6 @@
 -- What is known of one connection, as the lane goes on.
-use Rattle.std.proofs.Common.{◌≡◌, ◌≢◌, ◌==◌, ◌<◌, ◌≤◌, ℕ, ◌+◌, Bool, true, false, if◌then◌else◌, List, [], ◌∷◌, ◌++◌, map, Option, Some, None, option_map, refl, sym, ap, subst, ◌∙◌, append_assoc, append-nil, ne_eqb, arith}
+use Rattle.std.proofs.Common.{◌≡◌, ◌≢◌, ◌==◌, ◌<◌, ◌≤◌, ℕ, ◌+◌, Bool, true, false, if◌then◌else◌, List, [], ◌∷◌, ◌++◌, map, Option, Some, None}
+use Rattle.std.proofs.Common.{option_map, refl, sym, ap, subst, ◌∙◌, append_assoc, append-nil, ne_eqb, arith}
 use Rattle.std.specs.FinMap.{get}
 use Rattle.std.proofs.lemmas.Bool.{eqb-false}
 use Rattle.std.proofs.lemmas.Map.Views.{exact_unsigned_eq}
@@ -48,7 +49,8 @@ module _ {D : Type 0} (unread written : D → Option (List ℕ)) (layout : Layou
         n : ℕ
         n = number_of c
 
-        found : get (put a boxes).waiting n ≡ (if n == a.connection then option_map (with_last a.message) (get boxes.waiting a.connection) else get boxes.waiting n)
+        found : get (put a boxes).waiting n
+            ≡ (if n == a.connection then option_map (with_last a.message) (get boxes.waiting a.connection) else get boxes.waiting n)
         found = get-changed_at (with_last a.message) a.connection boxes.waiting n
 
         with_box : (waiting' : List ReplyMessage) → get (put a boxes).waiting n ≡ Some waiting'

@@ -1,5 +1,6 @@
 -- What each call of a lane leaves: its story, and both passes.
-use Rattle.std.proofs.Common.{◌≡◌, ◌≢◌, ◌<◌, ◌≤◌, ℕ, ◌+◌, ◌*◌, ◌^◌, List, [], ◌∷◌, ◌++◌, map, Option, Some, None, Result, Ok, Err, refl, sym, ap, subst, ◌∙◌, append-nil, cond, ne_eqb, arith}
+use Rattle.std.proofs.Common.{◌≡◌, ◌≢◌, ◌<◌, ◌≤◌, ℕ, ◌+◌, ◌*◌, ◌^◌, List, [], ◌∷◌, ◌++◌, map, Option, Some, None, Result, Ok, Err, refl, sym, ap}
+use Rattle.std.proofs.Common.{subst, ◌∙◌, append-nil, cond, ne_eqb, arith}
 use Rattle.std.specs.Prelude.{IsSome}
 use Rattle.std.specs.FinMap as maps
 use Rattle.std.proofs.Math.Logic.{∥∥₁_map}
@@ -27,7 +28,7 @@ use Rattle.workers.specs.declared.tend.TendRefusal.{TendRefusal}
 use Rattle.workers.specs.Balance.{FilerEntry, Passed, Weight, by_entry, by_key}
 use Rattle.workers.specs.Chains.{puts, DidAll, EndsBy, HasPutAll, HasTurnedOn}
 use Rattle.workers.specs.Turns.{HasDoneFrom, HasFinished, IsEntryOf, Standing, HasShareOf, job_of_message}
-use Rattle.workers.specs.Words.{entries_in, passed}
+use Rattle.workers.specs.Words.{entries_in, passed, IsSameWorker}
 use Rattle.workers.specs.declared.message.Message.{Message}
 use Rattle.workers.specs.declared.shared_waiting.pass.Pass.{Pass}
 use Rattle.workers.specs.declared.chained.Chained.{Chained}
@@ -44,7 +45,8 @@ use Rattle.tcp_front.specs.declared.stream.Stream.{Stream}
 use Rattle.tcp_front.specs.Arrivals.{Arrival}
 use Rattle.lanes.specs.Connections.{flagged, number_of, owing}
 use Rattle.lanes.specs.Intakes.{HasTakenIn, has_room_in}
-use Rattle.lanes.specs.Lanes.{Closes, Flagged, HasBoth, ReadsOn, ReadsUnder, WritesUnder, owing_in}
+use Rattle.lanes.specs.Lanes.{Closes, Flagged, ReadsOn, ReadsUnder, WritesUnder, owing_in}
+use Rattle.lanes.specs.Queues.{HasBoth}
 use Rattle.lanes.specs.Reading.{Cuts, HasRead, Reads}
 use Rattle.lanes.specs.Story.{Ending, Served, answer_to, said_by, served_in, with_served, Story}
 use Rattle.lanes.specs.Writing.{HasWritten, Writes}
@@ -189,7 +191,8 @@ module _ {D : Type 0} (unread written : D → Option (List ℕ)) (layout : Layou
 module _ {D : Type 0} (unread written : D → Option (List ℕ)) (layout : Layout) (lane lanes : ℕ) (entries : List FilerEntry) where
   close-told : (slab slab' : Slab (Connection D)) (key : ℕ) (o : Option (Connection D)) → get slab key ≡ o → (messages : List Message)
       (boxes boxes' : Boxes) (device : Option D) → Closes slab key boxes o device slab' boxes'
-      → ∥ Story unread written layout lane lanes entries messages boxes (get slab) ∥₁ → ∥ Story unread written layout lane lanes entries messages boxes' (get slab') ∥₁
+      → ∥ Story unread written layout lane lanes entries messages boxes (get slab) ∥₁
+      → ∥ Story unread written layout lane lanes entries messages boxes' (get slab') ∥₁
   close-told slab slab' key None is messages boxes boxes' device (_, same, boxes_same) t =
       subst (λ (s : Slab (Connection D)). ∥ Story unread written layout lane lanes entries messages boxes' (get s) ∥₁) (sym same)
       (subst (λ (b : Boxes). ∥ Story unread written layout lane lanes entries messages b (get slab) ∥₁) (sym boxes_same) t)
@@ -198,7 +201,8 @@ module _ {D : Type 0} (unread written : D → Option (List ℕ)) (layout : Layou
 
   pub closed-told : (slab slab' : Slab (Connection D)) (key : ℕ) (messages : List Message) (boxes boxes' : Boxes) (device : Option D)
       → Closes slab key boxes (get slab key) device slab' boxes'
-      → ∥ Story unread written layout lane lanes entries messages boxes (get slab) ∥₁ → ∥ Story unread written layout lane lanes entries messages boxes' (get slab') ∥₁
+      → ∥ Story unread written layout lane lanes entries messages boxes (get slab) ∥₁
+      → ∥ Story unread written layout lane lanes entries messages boxes' (get slab') ∥₁
   closed-told slab slab' key messages boxes boxes' device h t = close-told slab slab' key (get slab key) refl messages boxes boxes' device h t
 
 -- ---- turns
@@ -206,7 +210,8 @@ module _ {D : Type 0} (unread written : D → Option (List ℕ)) (layout : Layou
 -- a pass by which nothing was put
 pub put-kept : {D : Type 0} (unread written : D → Option (List ℕ)) (layout : Layout) (lane lanes : ℕ) (entries : List FilerEntry) (boxes : Boxes)
     (slots : ℕ → Option (Connection D)) (p p' : Pass Message layouts.Layout) → known p' ≡ known p
-    → ∥ Story unread written layout lane lanes entries (known p).put boxes slots ∥₁ → ∥ Story unread written layout lane lanes entries (known p').put boxes slots ∥₁
+    → ∥ Story unread written layout lane lanes entries (known p).put boxes slots ∥₁
+    → ∥ Story unread written layout lane lanes entries (known p').put boxes slots ∥₁
 put-kept unread written layout lane lanes entries boxes slots p p' e t =
     subst (λ (v : Passed). ∥ Story unread written layout lane lanes entries v.put boxes slots ∥₁) (sym e) t
 
@@ -300,7 +305,8 @@ module _ {D : Type 0} (unread written : D → Option (List ℕ)) (layout : Layou
   answers-told (Err why) answer h = ap (λ v. served_in (entries_of v)) h.1
 
   pub tends-told : (tend : Tend) (answer : Result Tended TendRefusal) → Tends layout before tend answer after
-      → ∥ Story unread written layout lane lanes (entries_in before) messages boxes slots ∥₁ → ∥ Story unread written layout lane lanes (entries_in after) messages boxes slots ∥₁
+      → ∥ Story unread written layout lane lanes (entries_in before) messages boxes slots ∥₁
+      → ∥ Story unread written layout lane lanes (entries_in after) messages boxes slots ∥₁
   tends-told tend answer h t =
       tended-told (entries_in before) (entries_in after) (answers-told (call_of layout tend (hand_in before)) answer h) t
 
@@ -322,7 +328,7 @@ module _ {D R : Type 0} (unread written : D → Option (List ℕ)) (layout : Lay
   keep-under : (slab slab' : Slab (Connection D)) (key : ℕ) (o : Option (Connection D)) (sink sink' : Intake R) (size : ℕ) (result : Came)
       → ReadsUnder unread written layout slab key o sink size result slab' sink'
       → (sink'.filer.value ≡ sink.filer.value) × (sink'.queue ≡ sink.queue) × ((known sink'.pass).picked ≡ (known sink.pass).picked)
-      × HasShareOf (known sink.pass) (known sink'.pass)
+      × HasShareOf (known sink.pass) (known sink'.pass) × IsSameWorker sink.worker sink'.worker
   keep-under slab slab' key None sink sink' size result h = (
     ap (λ (s : Intake R). s.filer.value) h.2,
     ap (λ (s : Intake R). s.queue) h.2,
@@ -332,14 +338,20 @@ module _ {D R : Type 0} (unread written : D → Option (List ℕ)) (layout : Lay
       ap (λ (s : Intake R). (known s.pass).halvings) h.2,
       ap (λ (s : Intake R). (known s.pass).key) h.2,
     ),
+    record {
+      seat = ap (λ (s : Intake R). s.worker.seat) h.2;
+      pass = ap (λ (s : Intake R). passed s.worker) h.2;
+      hand = ap (λ (s : Intake R). s.worker.hand) h.2;
+      kept = ap (λ (s : Intake R). s.worker.kept) h.2;
+    },
   )
   keep-under slab slab' key (Some c) sink sink' size result (after, now, on) =
-      let k = on.read.given in (k.filer_is, k.queue_is, k.picked, k.share)
+      let k = on.read.given in (k.filer_is, k.queue_is, k.picked, k.share, k.same)
 
   pub reads-keep : (slab slab' : Slab (Connection D)) (key : ℕ) (sink sink' : Intake R) (size : ℕ) (result : Came)
       → ReadsUnder unread written layout slab key (get slab key) sink size result slab' sink'
       → (sink'.filer.value ≡ sink.filer.value) × (sink'.queue ≡ sink.queue) × ((known sink'.pass).picked ≡ (known sink.pass).picked)
-      × HasShareOf (known sink.pass) (known sink'.pass)
+      × HasShareOf (known sink.pass) (known sink'.pass) × IsSameWorker sink.worker sink'.worker
   reads-keep slab slab' key sink sink' size result h = keep-under slab slab' key (get slab key) sink sink' size result h
 
 module _ {D : Type 0} (unread written : D → Option (List ℕ)) where

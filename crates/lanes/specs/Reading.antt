@@ -1,5 +1,5 @@
 -- How the reading of a connection stands, and what one call does to it.
-use Rattle.std.specs.Prelude.{◌≡◌, ◌≢◌, ℕ, ◌<◌, Bool, false, List, [], ◌++◌, length, Option, Some, None}
+use Rattle.std.specs.Prelude.{◌≡◌, ◌≢◌, ℕ, ◌<◌, Bool, true, false, List, [], ◌++◌, length, Option, Some, None}
 use Rattle.std.specs.Io.KnownBytes.{Consumes, IsAtEnd, Keeps}
 use Rattle.nfs_model.specs.Tree.{Layout}
 use Rattle.nfs_model.specs.World.{Heard}
@@ -52,13 +52,13 @@ IsReady c = (c.stopped ≡ None) × (c.kept ≡ [])
 -- What a call did to the device, by its answer: it was called once, with a block of this size, and answered just that;
 -- or it wasn't called, since the reading had stopped, the sink had no room, or there were kept bytes to be cut.
 abbrev pub IsTold : {D : Type 0} → (D → Option (List ℕ)) → Bool → ℕ → Came → Connection D → Connection D → Type 0
-IsTold unread room size (cames.Read n) old new = IsReady old × HasCalled old.device size (tolds.Moved n) new.device × (0 < n)
-IsTold unread room size cames.Cut old new = (old.stopped ≡ None) × (0 < length (kept_of old)) × (new.device ≡ old.device)
+IsTold unread room size (cames.Read n) old new = IsReady old × (room ≡ true) × HasCalled old.device size (tolds.Moved n) new.device × (0 < n)
+IsTold unread room size cames.Cut old new = (old.stopped ≡ None) × (room ≡ true) × (0 < length (kept_of old)) × (new.device ≡ old.device)
 IsTold unread room size cames.Full old new = (old.stopped ≡ None) × (room ≡ false) × (new ≡ old)
-IsTold unread room size cames.Blocked old new = IsReady old × HasCalled old.device size tolds.Blocked new.device
+IsTold unread room size cames.Blocked old new = IsReady old × (room ≡ true) × HasCalled old.device size tolds.Blocked new.device
 IsTold unread room size cames.End old new =
-    IsReady old × HasCalled old.device size (tolds.Moved 0) new.device × IsAtEnd (unread (now_of new))
-IsTold unread room size cames.Failed old new = IsReady old × HasCalled old.device size tolds.Failed new.device
+    IsReady old × (room ≡ true) × HasCalled old.device size (tolds.Moved 0) new.device × IsAtEnd (unread (now_of new))
+IsTold unread room size cames.Failed old new = IsReady old × (room ≡ true) × HasCalled old.device size tolds.Failed new.device
 IsTold unread room size cames.Stopped old new = IsStopped old × (new ≡ old)
 
 -- the writing stands as it did

@@ -104,11 +104,11 @@ module _ (next step : ℕ) (old new : Waits) where
       → boxes_of next step new ≡ put (record { connection = k; message = m }) (boxes_of next step old)
   puts k m h = ap (λ w. record { next = next; step = step; waiting = w }) (changes (with_last m) k h)
 
-  -- the same, of an answer
-  pub puts-answer : (k : ℕ) (said : ReplyMessage) (a : Addressed) → addressed k said ≡ a
+  -- the same, of a record and where it goes
+  pub puts-addressed : (k : ℕ) (said : ReplyMessage) (a : Addressed) → addressed k said ≡ a
       → ((q : ℕ) → found new q ≡ (if q == k then option_map (with_last said) (found old q) else found old q))
       → boxes_of next step new ≡ put a (boxes_of next step old)
-  puts-answer k said a e h = puts k said h ∙ ap (λ (x : Addressed). put x (boxes_of next step old)) e
+  puts-addressed k said a e h = puts k said h ∙ ap (λ (x : Addressed). put x (boxes_of next step old)) e
 
   pub takes : (k : ℕ)
       → ((q : ℕ) → found new q ≡ (if q == k then option_map (drop 1) (found old q) else found old q))

@@ -1,7 +1,7 @@
 //! What waits to be written to connections: reply records, in order, for each one that is open.
 #![tactic(auto)]
 
-mod answer;
+mod addressed_record;
 mod chain;
 mod lanes;
 mod link;
@@ -12,7 +12,7 @@ mod refusal;
 mod room;
 mod said;
 
-pub use answer::Answer;
+pub use addressed_record::AddressedRecord;
 pub use lanes::lanes_are_apart;
 pub use outboxes::Outboxes;
 pub use record::Record;

@@ -29,7 +29,7 @@ ghost use Rattle.outboxes.specs.Messages.{message, record_of};
 ghost use Rattle.outboxes.specs.Tables.{HasChanged};
 ghost use Rattle.outboxes.specs.declared.refusal.OpenRefusal.TheVariants as refusals;
 
-use crate::answer::Answer;
+use crate::addressed_record::AddressedRecord;
 use crate::chain::Link;
 use crate::link::{blank, write};
 use crate::outbox::Outbox;
@@ -107,7 +107,8 @@ impl Outboxes {
         }
     }
 
-    /// Opens a connection, for which nothing waits. Numbers rise, so that none is given twice. `Full` where 64 are open or 2^62 numbers were given.
+    /// Opens a connection, for which nothing waits. Numbers rise, so that none is given twice. `Full`
+    /// where 64 are open or 2^62 numbers were given.
     pub fn open(&mut self) -> Result<ConnectionNumber, OpenRefusal>
         ensures number { IfOk result (λ connection. connection.0 ≡ self.old.next) }
         ensures fresh { get self.old.waiting self.old.next ≡ None }
@@ -143,12 +144,12 @@ impl Outboxes {
         let _closed = self.by_number.remove(&connection.0);
     }
 
-    /// Puts an answer behind what waits for its connection. Nothing changes where that isn't
-    /// open. It takes no memory.
-    pub fn put(&mut self, answer: Answer)
-        ensures { self.new ≡ put answer self.old }
+    /// Puts a record behind what waits for its connection. Nothing changes where that isn't open.
+    /// It takes no memory.
+    pub fn put(&mut self, reply: AddressedRecord)
+        ensures { self.new ≡ put reply self.old }
     {
-        let (connection, link) = answer.into_parts();
+        let (connection, link) = reply.into_parts();
         put_into(&mut self.by_number, connection, link);
     }
 

@@ -138,7 +138,8 @@ fn join_all<D: Device + Drop, R: Wait + Drop>(
     ensures calls { (weight : Weight) → calls_in weight result
         ≡ calls_in weight remains + total (admitted_by weight) lanes.items }
     ensures entries { (weight : FilerEntry → ℕ)
-        → total weight (entries_of (view result.seat)) ≡ total weight (entries_of (view remains.seat))
+        → total weight (entries_of (view result.seat))
+        ≡ total weight (entries_of (view remains.seat))
         + total (finished_by weight) lanes.items }
 {
     while let Some(lane) = lanes.pop() {

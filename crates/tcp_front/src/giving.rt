@@ -1,6 +1,6 @@
 //! Records that are given on: calls to be run, and replies that need no worker.
 
-ghost use Rattle.std.specs.Prelude.{◌≡◌, ◌≤◌, [], ◌∷◌, length, OnOk, OnErr};
+ghost use Rattle.std.specs.Prelude.{◌≡◌, ◌≤◌, [], ◌∷◌, true, length, OnOk, OnErr};
 ghost use Rattle.nfs_model.specs.Serial.AtOnce.{answer_without_home};
 ghost use Rattle.nfs_model.specs.Types as types;
 ghost use Rattle.nfs_values.specs.Call.{call_of};
@@ -54,7 +54,8 @@ fn give_call<S: RecordSink>(
     call: OfferedCall,
     credential: Credential,
 ) -> Result<(), AllocError>
-    requires { S.layout sink.old ≡ layout_of layout.now }
+    requires room { S.room sink.old ≡ true }
+    requires layout { S.layout sink.old ≡ layout_of layout.now }
     ensures ok { OnOk result (S.came sink.old (given_of (layout_of layout.now) origin
         (types.Ask (call_of call) (credential_of credential))) sink.new) }
     ensures err { OnErr result (S.came sink.old [] sink.new) }
@@ -95,7 +96,8 @@ pub(crate) fn give<S: RecordSink>(
     origin: Origin,
     request: Request,
 ) -> Result<(), AllocError>
-    requires { S.layout sink.old ≡ layout_of layout.now }
+    requires room { S.room sink.old ≡ true }
+    requires layout { S.layout sink.old ≡ layout_of layout.now }
     ensures ok { OnOk result
         (S.came sink.old (given_of (layout_of layout.now) origin (asked_of request)) sink.new) }
     ensures err { OnErr result (S.came sink.old [] sink.new) }

@@ -1,6 +1,6 @@
 //! The loop over a reader.
 
-ghost use Rattle.std.specs.Prelude.{◌≡◌, ◌<◌, length, IfOk};
+ghost use Rattle.std.specs.Prelude.{◌≡◌, ◌<◌, true, length, IfOk};
 ghost use Rattle.affinity.specs.Layout.{layout_of};
 ghost use Rattle.tcp_front.specs.Counts.{may_fail};
 ghost use Rattle.tcp_front.specs.Reading.{HasRead};
@@ -42,7 +42,7 @@ fn end_of(stopped: Stopped) -> ReadEnd
 /// Reads a connection to its end, with a block for what one read gives: the calls of its records
 /// are admitted under their homes, in order and each once, and records that need no worker are
 /// answered (RFC 5531 sections 9 and 11). All records of one read are given on before the sink is
-/// told of them.
+/// told of them. The sink always has room: where it has no place for a call it waits for one.
 pub fn read_loop_in<W: Wait, R: Read, S: RecordSink>(
     rt: &W,
     alloc: Global,
@@ -54,6 +54,7 @@ pub fn read_loop_in<W: Wait, R: Read, S: RecordSink>(
 ) -> ReadEnd
     requires room { may_fail reader.old }
     requires some { 0 < length block.old }
+    requires always { (s : S) → S.room s ≡ true }
     requires layout { S.layout sink.old ≡ layout_of layout.now }
     ensures { HasRead R.remaining S.came (layout_of layout.now) connection.0 reader.old sink.old
         result reader.new sink.new }
@@ -90,6 +91,7 @@ pub fn read_loop<W: Wait, R: Read, S: RecordSink>(
     sink: &mut S,
 ) -> ReadEnd
     requires room { may_fail reader.old }
+    requires always { (s : S) → S.room s ≡ true }
     requires layout { S.layout sink.old ≡ layout_of layout.now }
     ensures { HasRead R.remaining S.came (layout_of layout.now) connection.0 reader.old sink.old
         result reader.new sink.new }

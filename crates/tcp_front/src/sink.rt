@@ -26,16 +26,18 @@ pub trait RecordSink {
     // The layout by which the calls that it takes are at home.
     ghost layout: { Self → trees.Layout };
 
-    // Whether there is room for what a record more comes to.
+    // Whether there is room for what a record more comes to. One that waits for it always has.
     ghost room: { Self → Bool } = { λ _. true };
 
-    /// Whether there is room for what a record more comes to. It is asked by those who can wait
-    /// without a thread: to others all records are given.
+    /// Whether there is room for what a record more comes to. Who can wait without a thread asks
+    /// before it gives on a record.
     fn has_room(&self) -> bool
         ensures { result ≡ room self.now };
 
-    /// Admits a call that tries its home, and waits while there is no place for it.
+    /// Admits a call that tries its home. There is room for it, so that it is refused only for want
+    /// of memory.
     fn admit(&mut self, message: Message<OfferedCall>) -> Result<(), AllocError>
+        requires room { room self.old ≡ true }
         requires admitted { IsAdmitted (layout self.old) message }
         requires at_home { home (layout self.old) (call_of message.call)
             ≡ Some (affinity_of message.affinity) }

@@ -1,6 +1,6 @@
 //! Bytes whose records are given on.
 
-ghost use Rattle.std.specs.Prelude.{◌≡◌, ◌<◌, ◌≤◌, None, false, length, take};
+ghost use Rattle.std.specs.Prelude.{◌≡◌, ◌<◌, ◌≤◌, None, true, false, length, take};
 ghost use Rattle.affinity.specs.Layout.{layout_of};
 ghost use Rattle.tcp_front.specs.Arrivals.{most_records};
 ghost use Rattle.engine_feed.specs.Codec.{heard};
@@ -22,6 +22,7 @@ fn give_next<S: RecordSink>(
     layout: &Layout,
     heard: Heard,
 ) -> Option<Stopped>
+    requires room { S.room sink.old ≡ true }
     requires few { stream.old.records < most_records }
     requires layout { S.layout sink.old ≡ layout_of layout.now }
     ensures given { HasGiven S.came (layout_of layout.now) stream.old sink.old (heard_of heard)
@@ -53,6 +54,7 @@ fn give_record<S: RecordSink>(
     layout: &Layout,
     record: Vec<u8>,
 ) -> Option<Stopped>
+    requires room { S.room sink.old ≡ true }
     requires few { stream.old.records < most_records }
     requires layout { S.layout sink.old ≡ layout_of layout.now }
     ensures given { HasGivenRecord S.came (layout_of layout.now) stream.old sink.old
@@ -73,6 +75,7 @@ fn take_record<S: RecordSink>(
     layout: &Layout,
     bytes: &[u8],
 ) -> (usize, Option<Stopped>)
+    requires room { S.room sink.old ≡ true }
     requires few { stream.old.records < most_records }
     requires layout { S.layout sink.old ≡ layout_of layout.now }
     ensures within { result.0 ≤ length bytes.now }
@@ -89,13 +92,15 @@ fn take_record<S: RecordSink>(
     }
 }
 
-/// Takes bytes, and gives on all records that they complete, or those before what stops it.
+/// Takes bytes, and gives on all records that they complete, or those before what stops it, to a
+/// sink that always has room.
 pub(crate) fn take_all<S: RecordSink>(
     stream: &mut Stream,
     sink: &mut S,
     layout: &Layout,
     bytes: &[u8],
 ) -> Option<Stopped>
+    requires always { (s : S) → S.room s ≡ true }
     requires few { stream.old.records < most_records }
     requires layout { S.layout sink.old ≡ layout_of layout.now }
     ensures taken { HasTaken S.came (layout_of layout.now) stream.old sink.old

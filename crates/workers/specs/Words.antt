@@ -72,6 +72,17 @@ entries_in w = entries_of (seat_view w)
 abbrev pub seats_in : Worker → ℕ
 seats_in w = depots.splits_left w.seat + 1
 
+-- a worker takes its messages from this queue
+abbrev pub TakesFrom : SharedWaiting Message Layout → Worker → Type 0
+TakesFrom queue w = IsOf queue w.pass
+
+-- It is the same, but for how it uses its queue: so are its seat, what its pass has put and picked, what is in its hand and what it keeps.
+pub record IsSameWorker (before after : Worker) : Type 0 where
+  pub seat : after.seat ≡ before.seat
+  pub pass : passed after ≡ passed before
+  pub hand : after.hand ≡ before.hand
+  pub kept : after.kept ≡ before.kept
+
 -- a batch is of a volume of the layout, and of a range of it
 abbrev pub IsHandIn : trees.Layout → Hand → Type 0
 IsHandIn layout Empty = Unit {0}

@@ -3,8 +3,9 @@
 ghost use Rattle.std.specs.Prelude.{List, [], ◌∷◌, ◌++◌};
 ghost use Rattle.outboxes.specs.Boxes.{Addressed};
 
+use crate::answer::Answer;
 use affinity::Affinity;
-use outboxes::{Answer, Outboxes};
+use outboxes::Outboxes;
 use std::sync::atomic::{AtomicBool, Ordering};
 
 /// What came of turns one after the other, of which each but the last finished a call.
@@ -64,7 +65,7 @@ impl AnswerSink for Outboxes {
     ghost took = { HasPutAll };
 
     fn take_answer(&mut self, answer: Answer) {
-        self.put(answer);
+        answer.put_into(self);
     }
 
     ghost took_none = { put_none };

@@ -10,10 +10,11 @@ ghost use Rattle.workers.specs.Links.{HasRoom, IsEntryFor};
 ghost use Rattle.workers.specs.Messages.{message_in, IsOfCall};
 ghost use Rattle.workers.specs.Turns.{job_of_message};
 
+use crate::answer::Answer;
 use crate::envelope::Envelope;
 use crate::telling::let_go;
 use nfs_values::Moment;
-use outboxes::{Answer, Room};
+use outboxes::Room;
 use scheduler::Origin;
 use service::{Job, JobReply};
 

@@ -2,6 +2,8 @@
 //! turns. A worker's type keeps the balance of what it picked, finished, put back and keeps.
 #![tactic(auto)]
 
+mod admitting;
+mod answer;
 mod chained;
 mod chaining;
 mod counting;
@@ -30,6 +32,7 @@ mod worked;
 mod worker;
 mod working;
 
+pub use answer::Answer;
 pub use chained::{AnswerSink, Chained, Hint, Wanted};
 pub use envelope::Envelope;
 pub use message::Message;

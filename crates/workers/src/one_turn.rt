@@ -38,8 +38,8 @@ impl Worker {
     ghost use Rattle.workers.specs.Turns.{Did, HasShareOf};
     ghost use Rattle.workers.specs.Words.{layout_in, passed, seats_in, IsAt, IsIn};
 
-    /// Tries the call of the message that is kept, or else of the one that waits longest in a queue:
-    /// begins it on what it tries, runs it, and finishes it or puts it back.
+    /// Tries the call of the message that is kept, or else of the one that waits longest in a
+    /// queue: begins it on what it tries, runs it, and finishes it or puts it back.
     pub fn turn_in<R: Wait, G: Gate>(
         &mut self,
         filer: &Filer,

@@ -17,6 +17,7 @@ ghost use Rattle.workers.specs.Messages.{IsPlaced};
 ghost use Rattle.workers.specs.Turns.{filer_behaviour, job_of_message, HasServed};
 ghost use Rattle.workers.specs.Words.{layout_in, verifier_in, IsReady};
 
+use crate::answer::Answer;
 use crate::entering::{answered, enter};
 use crate::envelope::Envelope;
 use crate::granted::{Ended, Ran, place_of, run};
@@ -29,7 +30,6 @@ use depot::Seat;
 use desk::{NodeGrant, ParcelKinds, TaskNode, finish_node, put_back_node};
 use filer_state::Files;
 use nfs_values::Moment;
-use outboxes::Answer;
 use parcels::{
     AggregateNode, LogicalNode, Node, Parcel, RangeNode, SerialNode, StripeNode, VbnNode,
     VolumeNode,

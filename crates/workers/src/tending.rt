@@ -206,8 +206,8 @@ impl Worker {
         }
     }
 
-    /// A tend of a worker of the filer's own queue. Answers how many blocks are in the hand then, or
-    /// were put down.
+    /// A tend of a worker of the filer's own queue. Answers how many blocks are in the hand then,
+    /// or were put down.
     pub fn tend_turn(self, filer: &Filer, tend: Tend) -> (Worker, Result<u32, TendRefusal>)
         requires { IsIn filer.now self }
         ensures inside { IsIn filer.now result.0 }

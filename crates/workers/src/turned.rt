@@ -1,10 +1,10 @@
 //! What comes of turns, and who looks on.
 
+use crate::answer::Answer;
 use crate::envelope::Envelope;
 use affinity::Affinity;
 use depot::Refusal;
 use nfs_values::ConnectionNumber;
-use outboxes::Answer;
 
 /// What came of a turn.
 pub enum Turn {

@@ -213,8 +213,8 @@ impl Worker {
         }
     }
 
-    /// This worker with one of its seats less, and a second one with that seat and a pass of a queue
-    /// of its own. The second has done nothing, carries nothing and keeps nothing.
+    /// This worker with one of its seats less, and a second one with that seat and a pass of a
+    /// queue of its own. The second has done nothing, carries nothing and keeps nothing.
     pub fn split_with(
         self,
         filer: &Filer,

@@ -4,12 +4,13 @@ ghost use Rattle.std.specs.Prelude.{◌≡◌};
 ghost use Rattle.outboxes.specs.Boxes.{put};
 ghost use Rattle.workers.specs.Works.{IsToldAs};
 
+use crate::answer::Answer;
 use crate::shared::Filer;
 use crate::turned::{Gate, Turn};
 use crate::worked::Worked;
 use crate::worker::Worker;
 use nfs_values::{ConnectionNumber, Moment};
-use outboxes::{Answer, Outboxes};
+use outboxes::Outboxes;
 use std::sync::Wait;
 
 /// Puts an answer behind what waits for its connection. Answers which that is.
@@ -18,7 +19,7 @@ fn deliver(outboxes: &mut Outboxes, answer: Answer) -> ConnectionNumber
     ensures put { outboxes.new ≡ put answer outboxes.old }
 {
     let connection = answer.connection();
-    outboxes.put(answer);
+    answer.put_into(outboxes);
     connection
 }
 

@@ -130,7 +130,8 @@ impl<T: Fitting<K> + Drop, K: Drop> SharedWaiting<T, K> {
         self.queue.len_as::<Picks, R>(rt, &mut pass.seat)
     }
 
-    /// `count` for who has two passes: how many there were by both, if these are all that there are.
+    /// `count` for who has two passes: how many there were by both, if these are all that there
+    /// are.
     pub fn count_beside<R: Wait>(
         &self,
         rt: &R,

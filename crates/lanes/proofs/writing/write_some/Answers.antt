@@ -10,7 +10,8 @@ pub returns-then-is_empty-2 : goal.returns-then-is_empty-2
 returns-then-is_empty-2 g c =
     parts g.D.Device.unread g.D.Device.written c.args.connection.0 c.args.device.now c.write_rest-then-is_empty-2.new.device c.args.outboxes.now
     c.join.new.outboxes (Some c.in-Some.record) c.make_ready.new.buffer.items c.join.new.buffer.items c.args.rest.now c.write_rest-then-is_empty-2.new.rest
-    c.in-Some.ensures c.make_ready.ensures (c.is_empty.ensures.0 c.if-not-is_empty.false) c.write_rest-then-is_empty-2.result c.of.result c.of.ensures c.write_rest-then-is_empty-2.ensures.sent
+    c.in-Some.ensures c.make_ready.ensures (c.is_empty.ensures.0 c.if-not-is_empty.false) c.write_rest-then-is_empty-2.result c.of.result
+    c.of.ensures c.write_rest-then-is_empty-2.ensures.sent
     c.write_rest-then-is_empty-2.ensures.asks
 
 pub returns-else-is_empty-2 : goal.returns-else-is_empty-2

@@ -1,9 +1,9 @@
-use Rattle.outboxes.proofs.Tables.{puts-answer}
+use Rattle.outboxes.proofs.Tables.{puts-addressed}
 use Rattle.outboxes.proofs.outboxes.Outboxes.put.Goals as goal
 
 pub returns : goal.returns
 returns c =
     rw (← c.self.view_is)
-    (puts-answer c.self.inside.next c.self.inside.step c.self.inside.by_number.entries c.put_into.new.outboxes.entries c.into_parts-link.result.0.0
+    (puts-addressed c.self.inside.next c.self.inside.step c.self.inside.by_number.entries c.put_into.new.outboxes.entries c.into_parts-link.result.0.0
     c.into_parts-link.result.1.value.said
-    c.args.answer c.into_parts-link.ensures.is c.put_into.ensures)
+    c.args.reply c.into_parts-link.ensures.is c.put_into.ensures)

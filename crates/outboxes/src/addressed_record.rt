@@ -1,4 +1,4 @@
-//! Replies on their way.
+//! Reply records on their way.
 
 ghost use Rattle.std.specs.Prelude.{◌≡◌, ◌≤◌, length};
 ghost use Rattle.nfs_values.specs.Reply.{reply_of};
@@ -10,14 +10,14 @@ use crate::room::Room;
 use nfs_values::{ConnectionNumber, Reply};
 use std::marker::Model;
 
-/// A reply to a call, on its way to the call's connection, in the room that the call's message
-/// brought. It has no `Drop`: who has one must put it into the outboxes.
-pub struct Answer {
+/// The record of a reply, on its way to a connection, in the room that was got for it. It has no
+/// `Drop`: who has one must put it into the outboxes.
+pub struct AddressedRecord {
     connection: ConnectionNumber,
     link: Box<Link>,
 }
 
-impl Model for Answer {
+impl Model for AddressedRecord {
     ghost use Rattle.std.specs.Prelude.{◌≡◌};
     ghost use Rattle.outboxes.specs.Boxes.{Addressed, addressed};
     ghost use Rattle.outboxes.specs.Messages.{record_of};
@@ -29,16 +29,21 @@ impl Model for Answer {
     ghost invariant = { λ a. a.link.value.bytes.items ≡ record_of a.link.value.said };
 }
 
-impl Answer {
+impl AddressedRecord {
     /// The reply to a call of this xid, whose record fits the room. The record is written here,
-    /// so that who puts the answer moves no bytes; those of a READ aren't copied, and the reply has
-    /// none left.
-    pub fn new(connection: ConnectionNumber, xid: u32, reply: &mut Reply, room: Room) -> Answer
+    /// so that who puts it moves no bytes; those of a READ aren't copied, and the reply has none
+    /// left.
+    pub fn new(
+        connection: ConnectionNumber,
+        xid: u32,
+        reply: &mut Reply,
+        room: Room,
+    ) -> AddressedRecord
         requires { length (record_of (message xid (reply_of reply.old))) ≤ room }
         ensures { result ≡ addressed connection.0 (message xid (reply_of reply.old)) }
     {
         let link = room.write(xid, reply);
-        Answer { connection, link }
+        AddressedRecord { connection, link }
     }
 
     /// The connection that it goes to.
@@ -60,7 +65,7 @@ impl Answer {
         ensures is { addressed result.0.0 result.1.value.said ≡ self }
         ensures written { result.1.value.bytes.items ≡ record_of result.1.value.said }
     {
-        let Answer { connection, link } = self;
+        let AddressedRecord { connection, link } = self;
         (connection, link)
     }
 }
