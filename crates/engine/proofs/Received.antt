@@ -29,7 +29,6 @@ use Rattle.engine.specs.laws.lemmas.Feeding.{WithoutHomeStays, all-append, fed-s
 use Rattle.desk.specs.Words.{books}
 use Rattle.service.specs.Jobs.{job_of, job_reply_of}
 use Rattle.service.specs.Running.{IsRunAt}
-use Rattle.rpc_msg.specs.Offered.{IsOffered}
 use Rattle.engine_feed.specs.declared.stop.Stop.{Stop}
 use Rattle.engine_feed.specs.declared.state.ConnectionState.{ConnectionState}
 use Rattle.engine_feed.specs.declared.state.CallsState.{CallsState}
@@ -96,24 +95,24 @@ IsKnown n m = m.origin.connection.0 < n
 abbrev pub IsAtHome : Layout → worlds.Message → Type 0
 IsAtHome layout m = home_of_asked layout m.asked ≡ Some m.affinity
 
--- an offered call is run at its home
-offered-run : (layout : Layout) (call : Call) (node : Affinity) → IsOffered (call_of call) → home layout (call_of call) ≡ Some node → IsRunAt layout call node
-offered-run layout calls.Null node offered at = absurd cc
-offered-run layout (calls.GetAttributes handle) node offered at = (tt, at)
-offered-run layout (calls.SetAttributes handle set guard) node offered at = (tt, at)
-offered-run layout (calls.Lookup target) node offered at = (tt, at)
-offered-run layout (calls.Read handle offset count) node offered at = (tt, at)
-offered-run layout (calls.Write handle offset count bytes) node offered at = (tt, inl at)
-offered-run layout (calls.Create target mode) node offered at = (tt, at)
-offered-run layout (calls.MakeDirectory target set) node offered at = (tt, at)
-offered-run layout (calls.Remove target) node offered at = (tt, at)
-offered-run layout (calls.RemoveDirectory target) node offered at = (tt, at)
-offered-run layout (calls.Rename from to) node offered at = (tt, at)
-offered-run layout (calls.ReadDirectory directory cookie verifier count) node offered at = (tt, at)
-offered-run layout (calls.FilesystemStatus handle) node offered at = (tt, at)
-offered-run layout (calls.Commit handle) node offered at = (tt, at)
-offered-run layout calls.Census node offered at = (tt, at)
-offered-run layout (calls.Grow volume more) node offered at = (tt, at)
+-- a call is run at its home
+run-at-home : (layout : Layout) (call : Call) (node : Affinity) → home layout (call_of call) ≡ Some node → IsRunAt layout call node
+run-at-home layout calls.Null node at = absurd cc
+run-at-home layout (calls.GetAttributes handle) node at = (tt, at)
+run-at-home layout (calls.SetAttributes handle set guard) node at = (tt, at)
+run-at-home layout (calls.Lookup target) node at = (tt, at)
+run-at-home layout (calls.Read handle offset count) node at = (tt, at)
+run-at-home layout (calls.Write handle offset count bytes) node at = (tt, inl at)
+run-at-home layout (calls.Create target mode) node at = (tt, at)
+run-at-home layout (calls.MakeDirectory target set) node at = (tt, at)
+run-at-home layout (calls.Remove target) node at = (tt, at)
+run-at-home layout (calls.RemoveDirectory target) node at = (tt, at)
+run-at-home layout (calls.Rename from to) node at = (tt, at)
+run-at-home layout (calls.ReadDirectory directory cookie verifier count) node at = (tt, at)
+run-at-home layout (calls.FilesystemStatus handle) node at = (tt, at)
+run-at-home layout (calls.Commit handle) node at = (tt, at)
+run-at-home layout calls.Census node at = (tt, at)
+run-at-home layout (calls.Grow volume more) node at = (tt, at)
 
 placed-more : (layout : Layout) (n : ℕ) (ms : List (Message Call)) → AllByRecursion (IsAdmitted layout) ms → AllByRecursion (IsKnown n) ms
     → AllByRecursion (IsAtHome layout) (map message_of ms) → AllByRecursion (IsPlaced layout n) ms
@@ -122,7 +121,7 @@ placed-more layout n (m ∷ ms) admitted known at_home = (
   record {
     admitted = admitted.0;
     known = known.0;
-    run = offered-run layout m.call (affinity_of m.affinity) admitted.0.offered at_home.0;
+    run = run-at-home layout m.call (affinity_of m.affinity) at_home.0;
   },
   placed-more layout n ms admitted.1 known.1 at_home.1,
 )

@@ -1,8 +1,7 @@
 //! What records ask, and calls that are finished.
 
-use crate::asked::OfferedCall;
 use affinity::Affinity;
-use nfs_values::{Credential, Moment, Refusal};
+use nfs_values::{Call, Credential, Moment, Refusal};
 use scheduler::Origin;
 
 /// What a record asks.
@@ -10,7 +9,7 @@ use scheduler::Origin;
 pub enum Request {
     /// A call, and whom it acts for.
     Call {
-        call: OfferedCall,
+        call: Call,
         credential: Credential,
     },
     /// A call message that is refused.

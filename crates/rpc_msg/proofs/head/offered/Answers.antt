@@ -5,6 +5,6 @@ use Rattle.rpc_msg.proofs.head.offered.Goals as goal
 
 pub returns-in-None : goal.returns-in-None
 returns-in-None c =
-    let none = none_numbered c.args.program c.args.number (c.in-None.ensures.none refl) in
+    let none = none_numbered c.args.offer c.args.program c.args.number (c.in-None.ensures.none refl) in
     let program = c.version_of.ensures in
     search (rules, nat_tests)
