@@ -8,10 +8,7 @@ use scheduler::Origin;
 #[derive(Drop)]
 pub enum Request {
     /// A call, and whom it acts for.
-    Call {
-        call: Call,
-        credential: Credential,
-    },
+    Call { call: Call, credential: Credential },
     /// A call message that is refused.
     Refused(Refusal),
 }

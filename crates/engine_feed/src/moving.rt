@@ -16,10 +16,7 @@ use scheduler::laws::nodes_have_queues;
 use scheduler::{Message, NoSuchCall};
 
 /// Takes the message at a place of the list, which runs from now on.
-pub(crate) fn begin(
-    calls: &mut CallsState,
-    place: usize,
-) -> Result<Message<Call>, NoSuchCall>
+pub(crate) fn begin(calls: &mut CallsState, place: usize) -> Result<Message<Call>, NoSuchCall>
     requires { AreSound calls.old }
     ensures begun { IfOk result (λ m. HasBegun calls.old place m calls.new) }
     ensures none { IsErr result ↔ (length (messages_of calls.old) ≤ place) }
@@ -45,12 +42,7 @@ pub(crate) fn put_back(calls: &mut CallsState, message: Message<Call>)
 }
 
 /// Keeps the entry of a message that ran.
-pub(crate) fn leave(
-    calls: &mut CallsState,
-    message: Message<Call>,
-    moment: Moment,
-    starved: bool,
-)
+pub(crate) fn leave(calls: &mut CallsState, message: Message<Call>, moment: Moment, starved: bool)
     requires sound { AreSound calls.old }
     requires runs { 0 < running_count calls.old }
     ensures left { HasLeft calls.old (finished_message message (moment_of moment) starved)

@@ -55,7 +55,9 @@ impl Offer {
     pub fn has_program(self, program: u32) -> bool
         ensures { result ≡ offers_program self program }
     {
-        Procedure::ALL.iter().any(|p| self.has(*p) && p.program() == program)
+        Procedure::ALL
+            .iter()
+            .any(|p| self.has(*p) && p.program() == program)
     }
 
     /// The procedure of this number in this program, where it is offered.

@@ -119,7 +119,7 @@ pub procedure_found : (offer : Offer) (program version number : ℕ) (p : Proced
     → (version_by offer program ≡ Some version) × ((numbers_of p).0 ≡ program) × ((numbers_of p).1 ≡ number) × (offers offer p ≡ true)
 procedure_found offer program version number p e =
     let o = of_version_ok (version_by offer program) version (find (is_numbered program number) (procedures_by offer)) p e in
-    let t = both_true (eqb (numbers_of p).0 program) (eqb (numbers_of p).1 number) (find_is (is_numbered program number) procedures_by offer p o.1) in
+    let t = both_true (eqb (numbers_of p).0 program) (eqb (numbers_of p).1 number) (find_is (is_numbered program number) (procedures_by offer) p o.1) in
     (o.0, eqb-true _ _ t.0, eqb-true _ _ t.1, subst (FoundIs (offers offer)) o.1 (found_is (offers offer) (is_numbered program number) all_procedures))
 
 -- ---- the body
@@ -197,7 +197,7 @@ module _ (offer : Offer) where
       let w = then_ok (whole (read auth_shape c.0.1)) (from_verifier n.0 c.0) body c.2 in
       let ws = found auth_shape c.0.1 w.0 cs.splits.rest_fits (whole_ok (read auth_shape c.0.1) w.0 w.1) in
       let p = then_ok (procedure_by offer program version number) (λ p. Ok (record { procedure = p; credential = c.0.0; arguments = w.0.1 })) body w.2 in
-      let ps = procedure_found program version number p.0 p.1 in
+      let ps = procedure_found offer program version number p.0 p.1 in
       let made : Body = record { procedure = p.0; credential = c.0.0; arguments = w.0.1 } in
       let cred : Value auth_shape = (flavor, cs.body) in
       let size_is : size ≡ length cs.body = sym cs.size_is in

@@ -15,7 +15,8 @@ pub use fault::RecordFault;
 pub use head::{Head, read_call, read_call_of};
 pub use laws::{
     arguments_are_spelled, call_heads_are_exact, credentials_are_spelled, faults_are_spelled,
-    record_faults, records_are_decoded, records_are_spelled, refusals_fit, replies_fit, servers_are_roomy, versions_are_spelled,
+    record_faults, records_are_decoded, records_are_spelled, refusals_fit, replies_fit,
+    servers_are_roomy, versions_are_spelled,
 };
 pub use nfs_values::Procedure as Served;
 pub use record::{Heard, Request, read_record, read_record_of};

@@ -51,11 +51,7 @@ fn decode(
 
 /// Reads a whole record (RFC 5531 section 9). Only names take memory: the data of a WRITE stay in
 /// the record.
-pub fn read_record_of(
-    alloc: Global,
-    record: Vec<u8>,
-    offer: Offer,
-) -> Result<Heard, RecordFault>
+pub fn read_record_of(alloc: Global, record: Vec<u8>, offer: Offer) -> Result<Heard, RecordFault>
     ensures { Hears result (heard_by offer record.items) }
 {
     match read_call_of(&record, offer) {
