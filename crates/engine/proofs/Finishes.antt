@@ -126,7 +126,7 @@ module _ (s : State) (sound : IsSoundEngine s) (i : ℕ) (r : Running) (o : Outc
 
     -- its message may wait again
     pub again_admitted : IsAdmitted (layout_in s.calls) (again r a)
-    again_admitted = record { offered = ready.0.admitted.offered; node = moves.0; room = ready.0.admitted.room }
+    again_admitted = record { node = moves.0; room = ready.0.admitted.room }
 
     module _ (new : State) (h : IsChanged s new i ran done_with) (connections : held_in new ≡ held_in s)
         (keyed : AreKeyed new.connections.items new.slab) (opened : slab_len new.slab ≡ slab_len s.slab) (kept : IsKept new.desk)

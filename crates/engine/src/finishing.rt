@@ -2,13 +2,11 @@
 
 ghost use Rattle.std.specs.Prelude.{◌≡◌, ◌+◌, ◌≤◌, ◌<◌, length, Some, slice_get};
 ghost use Rattle.nfs_model.specs.Events.Refusals as event;
-ghost use Rattle.nfs_values.specs.Call.{call_of};
 ghost use Rattle.nfs_values.specs.Moment.{moment_of};
 ghost use Rattle.nfs_values.specs.Reply.{reply_of};
 ghost use Rattle.desk.specs.laws.Calls.{MayFinish, HasFinished};
 ghost use Rattle.desk.specs.Words.{books, machine_in, IsKept};
 ghost use Rattle.engine_feed.specs.Codec.{reply_record};
-ghost use Rattle.rpc_msg.specs.Offered.{IsOffered};
 ghost use Rattle.engine_feed.specs.Seen.{owed_by, layout_in, running_count, finished_message};
 ghost use Rattle.engine_feed.specs.Sound.{IsAdmitted};
 ghost use Rattle.engine_feed.specs.Words.{HasLeft};
@@ -26,7 +24,7 @@ use crate::state::State;
 use crate::worker::{Running, WorkerRun, run_at, take_run};
 use affinity::Affinity;
 use desk::{Desk, ParcelKinds};
-use engine_feed::{Calls, OfferedCall, OpenConnection};
+use engine_feed::{Calls, OpenConnection};
 use nfs_values::{Moment, Reply};
 use scheduler::{Message, Origin};
 use service::{Asked, Job, JobReply, Outcome, ServedCall, Service};
@@ -68,7 +66,6 @@ fn end_on(
     starved: bool,
 ) -> (Running, Reply)
     requires kept { IsKept desk.old }
-    requires offered { IsOffered (call_of running.message.call) }
     requires may { MayFinish (machine_in desk.old) (books desk.old) worker
         (job_made running starved) (answer_made reply) }
     ensures kept { IsKept desk.new }
@@ -85,10 +82,7 @@ fn end_on(
         affinity,
         room,
     } = message;
-    let asked = Asked::Call {
-        call: call.into_call(),
-        credential,
-    };
+    let asked = Asked::Call { call, credential };
     let job = Job::Serve(served(origin, asked, affinity, moment, starved));
     let answer = JobReply::Replied(reply);
     enter(desk, worker, &job, &answer);
@@ -104,7 +98,6 @@ fn end_on(
         ) => (call, reply),
         _ => unreachable!(),
     };
-    let call = OfferedCall::new(call);
     let message = Message {
         origin,
         call,

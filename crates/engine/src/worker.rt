@@ -7,8 +7,7 @@ ghost use Rattle.nfs_model.specs.Events.Refusals.{is_idle, has_empty_hand};
 ghost use Rattle.engine.specs.Seen.{worker_seen};
 ghost use Rattle.engine.specs.Workers.{RunSet, RunTaken, HandSet, HandTaken};
 
-use engine_feed::OfferedCall;
-use nfs_values::Moment;
+use nfs_values::{Call, Moment};
 use parcels::Hand;
 use scheduler::Message;
 use service::{BatchInHand, Outcome};
@@ -17,7 +16,7 @@ use std::mem;
 /// A message that a worker has begun.
 #[derive(Drop)]
 pub struct Running {
-    pub message: Message<OfferedCall>,
+    pub message: Message<Call>,
     pub moment: Moment,
 }
 

@@ -59,7 +59,7 @@ fn run_on(
 {
     let call = Run {
         alloc,
-        call: running.message.call.as_call(),
+        call: &running.message.call,
         credential: running.message.credential,
         moment: running.moment,
     };

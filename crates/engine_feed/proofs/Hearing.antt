@@ -24,7 +24,7 @@ use Rattle.engine_feed.specs.declared.state.ConnectionState.{ConnectionState}
 use Rattle.engine_feed.specs.declared.state.CallsState.{CallsState}
 use Rattle.engine_feed.specs.Codec.{reply_record}
 use Rattle.engine_feed.specs.lemmas.Codec.{reply_record_is}
-use Rattle.engine_feed.specs.Offered.{reply_limit}
+use Rattle.engine_feed.specs.Limit.{reply_limit}
 use Rattle.engine_feed.specs.Seen.{connection_of, layout_in, waiting_of, finished_of, message_of, entry_at}
 use Rattle.engine_feed.specs.Words.{Finishes, Waits, HasHeard}
 use Rattle.engine_feed.specs.lemmas.Lists.{put-same}

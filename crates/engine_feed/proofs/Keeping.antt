@@ -6,7 +6,7 @@ use Rattle.nfs_values.specs.declared.call.Call.{Call}
 use Rattle.scheduler.specs.declared.message.Message.{Message}
 use Rattle.engine_feed.specs.declared.state.ConnectionState.{ConnectionState}
 use Rattle.engine_feed.specs.declared.state.CallsState.{CallsState}
-use Rattle.engine_feed.specs.Offered.{reply_limit}
+use Rattle.engine_feed.specs.Limit.{reply_limit}
 use Rattle.engine_feed.specs.Seen.{owed_by, layout_in, messages_of, running_count}
 use Rattle.engine_feed.specs.Sound.{IsInStep, IsSoundConnection, AreSound, IsRoomier, IsWrittenTo, KeepsEntry}
 use Rattle.engine_feed.specs.Sound.{IsAnswered}

@@ -4,12 +4,11 @@ use Rattle.std.specs.Prelude.{◌==◌}
 use Rattle.std.proofs.lemmas.Bool.Decides.{nat_tests}
 use Rattle.nfs_model.specs.World.{Heard, IsDecoded}
 use Rattle.nfs_model.specs.Types as types
-use Rattle.rpc_msg.specs.Offered.{IsOffered}
-use Rattle.rpc_msg.specs.Records as records
+use Rattle.nfs_values.specs.Offer.{basic}
 use Rattle.rpc_msg.specs.Replies as replies
 use Rattle.rpc_msg.specs.Room.{refusal_room}
-use Rattle.engine_feed.specs.Offered.{reply_limit}
-use Rattle.rpc_msg.specs.lemmas.Hearing.{fault_of_record, record_is_decoded, record_asks_offered}
+use Rattle.engine_feed.specs.Limit.{reply_limit}
+use Rattle.rpc_msg.specs.lemmas.Hearing.{fault_of_record, record_is_decoded}
 use Rattle.rpc_msg.specs.Seen as told
 use Rattle.rpc_msg.specs.declared.fault.RecordFault.{RecordFault}
 use Rattle.rpc_msg.specs.declared.fault.RecordFault.TheVariants as faults
@@ -24,16 +23,10 @@ not_eleven n (inr e) = grind (arith, nat_tests)
 
 -- a record's fault isn't a header's
 pub not-too-long : (bytes : List ℕ) (number : ℕ) → heard bytes ≡ Err number → (number == 11) ≡ false
-not-too-long bytes number e = not_eleven number (fault_of_record bytes number (sym (heard_is bytes) ∙ e))
+not-too-long bytes number e = not_eleven number (fault_of_record basic bytes number (sym (heard_is bytes) ∙ e))
 
 pub heard-decoded : (bytes : List ℕ) (h : Heard) → heard bytes ≡ Ok h → IsDecoded h.asked
-heard-decoded bytes h e = record_is_decoded bytes h (sym (heard_is bytes) ∙ e)
-
--- ---- with the procedures that are served
-
-pub heard-is-offered : (bytes : List ℕ) (xid : ℕ) (call : types.Call) (credential : types.Credential)
-    → records.heard bytes ≡ Ok (record { xid = xid; asked = types.Ask call credential }) → IsOffered call
-heard-is-offered bytes xid call credential e = record_asks_offered bytes (record { xid = xid; asked = types.Ask call credential }) e
+heard-decoded bytes h e = record_is_decoded basic bytes h (sym (heard_is bytes) ∙ e)
 
 -- ---- what was read
 

@@ -1,6 +1,6 @@
 pub mod Codec
 pub mod Numbers
-pub mod Offered
+pub mod Limit
 pub mod Streams
 pub mod Seen
 pub mod Records

@@ -20,8 +20,7 @@ use Rattle.engine_feed.specs.declared.state.Arrival.TheVariants as arrivals
 use Rattle.engine_feed.specs.declared.state.ConnectionState.{ConnectionState}
 use Rattle.engine_feed.specs.declared.state.CallsState.{CallsState}
 use Rattle.engine_feed.specs.Numbers.{fault_number}
-use Rattle.rpc_msg.specs.Offered.{IsOffered}
-use Rattle.engine_feed.specs.Offered.{reply_limit}
+use Rattle.engine_feed.specs.Limit.{reply_limit}
 use Rattle.engine_feed.specs.Seen.{heard_of, layout_in, pending}
 use Rattle.engine_feed.specs.Streams.{scan_stream, IsQuiet, Completes}
 
@@ -41,9 +40,8 @@ pub record IsSoundConnection (c : ConnectionState) : Type 0 where
 
 -- ---- calls
 
--- The call of a message is offered, it tries a node of the layout, and it keeps the room of its reply.
+-- A message tries a node of the layout, and it keeps the room of its reply.
 pub record IsAdmitted (layout : Layout) (m : Message Call) : Type 0 where
-  pub offered : IsOffered (call_of m.call)
   pub node : IsNode layout (affinity_of m.affinity)
   pub room : m.room ≡ reply_room (length layout.volumes) (call_of m.call)
 

@@ -4,6 +4,8 @@ use Rattle.rpc_record.specs.Machine.{State}
 use Rattle.rpc_record.specs.Records.{Records, HasFault, HasNoFault}
 use Rattle.rpc_record.specs.Stream.{read_stream}
 use Rattle.nfs_model.specs.World.{Heard, Scanned, Codec}
+use Rattle.nfs_values.specs.declared.offer.Offer.{Offer}
+use Rattle.rpc_msg.specs.Records.{heard_by}
 use Rattle.engine_feed.specs.Codec.{heard, reply_record}
 
 -- a header that brings a record above the limit
@@ -17,8 +19,12 @@ served_of [] fault = record { served = []; fault = fault }
 served_of (Ok h ∷ others) fault = record { served = h ∷ (served_of others fault).served; fault = (served_of others fault).fault }
 served_of (Err number ∷ others) fault = record { served = []; fault = Some number }
 
+-- a stream, by what each record is heard as
+abbrev pub scan_with : (List ℕ → Result Heard ℕ) → List ℕ → Scanned
+scan_with hear stream = served_of (map hear (read_stream stream).records) (fault_at (read_stream stream).at)
+
 abbrev pub scan_stream : List ℕ → Scanned
-scan_stream stream = served_of (map heard (read_stream stream).records) (fault_at (read_stream stream).at)
+scan_stream stream = scan_with heard stream
 
 -- whether a header in the rest is at fault, told as 11
 abbrev pub IsFaultOf : List ℕ → Option ℕ → Type 0
@@ -48,5 +54,11 @@ pub record Completes (stream taken : List ℕ) (scanned : Scanned) : Type 0 wher
   pub quiet : IsQuiet stream front
   pub complete : scan_stream (stream ++ taken) ≡ scanned
 
+-- ---- codecs
+
 abbrev pub codec : Codec
 codec = record { scan = scan_stream; reply_record = reply_record }
+
+-- of any offer
+abbrev pub codec_by : Offer → Codec
+codec_by offer = record { scan = scan_with (heard_by offer); reply_record = reply_record }

@@ -15,7 +15,7 @@ use Rattle.engine_feed.specs.declared.stop.Stop.{Stop}
 use Rattle.engine_feed.specs.declared.state.ConnectionState.{ConnectionState}
 use Rattle.engine_feed.specs.declared.state.CallsState.{CallsState}
 use Rattle.engine_feed.specs.Numbers.{stop_number}
-use Rattle.engine_feed.specs.Offered.{reply_limit}
+use Rattle.engine_feed.specs.Limit.{reply_limit}
 use Rattle.engine_feed.specs.Seen.{connection_of, owed_by, layout_in, messages_of, message_of, finished_of, running_count}
 use Rattle.engine_feed.specs.Streams.{scan_stream, codec}
 use Rattle.engine_feed.specs.Within.{IsSetup, Shows, IsPartOf, with_calls, with_part}

@@ -7,20 +7,19 @@ ghost use Rattle.nfs_values.specs.Call.{call_of};
 ghost use Rattle.nfs_values.specs.Credential.{credential_of};
 ghost use Rattle.nfs_values.specs.Reply.{refusal_of, reply_of};
 ghost use Rattle.engine_feed.specs.Codec.{reply_record};
-ghost use Rattle.engine_feed.specs.Offered.{reply_limit};
+ghost use Rattle.engine_feed.specs.Limit.{reply_limit};
 ghost use Rattle.engine_feed.specs.Seen.{asked_of, layout_in, pending, entry_at};
 ghost use Rattle.engine_feed.specs.Sound.{IsSoundConnection, AreSound, IsAdmitted};
 ghost use Rattle.engine_feed.specs.Sound.{HasRoomToReply, HaveRoomToAdmit};
 ghost use Rattle.engine_feed.specs.Words.{HasHeard, Finishes, Waits, Keeps};
 
-use crate::asked::OfferedCall;
 use crate::at_once::answer_at_once;
 use crate::finishing::{keep_entry, write_reply};
 use crate::message::Request;
 use crate::state::{CallsState, ConnectionState};
 use affinity::homes::home_of;
 use nfs_laws::laws::without_home_stays;
-use nfs_values::{Credential, Moment, Refusal, Reply};
+use nfs_values::{Call, Credential, Moment, Refusal, Reply};
 use rpc_msg::{refusals_fit, replies_fit, room_of_reply};
 use scheduler::laws::nodes_have_queues;
 use scheduler::{Message, Origin};
@@ -88,7 +87,7 @@ pub(crate) fn starve(connection: &mut ConnectionState, calls: &mut CallsState, o
 }
 
 /// Lets a message of a connection wait, which keeps the room of its reply.
-fn wait(connection: &mut ConnectionState, calls: &mut CallsState, message: Message<OfferedCall>)
+fn wait(connection: &mut ConnectionState, calls: &mut CallsState, message: Message<Call>)
     requires connection { IsSoundConnection connection.old }
     requires calls { AreSound calls.old }
     requires admitted { IsAdmitted (layout_in calls.old) message }
@@ -109,7 +108,7 @@ fn admit_call(
     connection: &mut ConnectionState,
     calls: &mut CallsState,
     origin: Origin,
-    call: OfferedCall,
+    call: Call,
     credential: Credential,
 )
     requires connection { IsSoundConnection connection.old }
@@ -121,9 +120,9 @@ fn admit_call(
         (types.Ask (call_of call) (credential_of credential)) false calls.new connection.new }
     ensures keeps { Keeps calls.old connection.old origin.connection.0 calls.new connection.new }
 {
-    match home_of(call.as_call(), &calls.layout) {
+    match home_of(&call, &calls.layout) {
         Some(affinity) => {
-            let room = room_of_reply(call.as_call(), calls.layout.volume_count() as u32);
+            let room = room_of_reply(&call, calls.layout.volume_count() as u32);
             let message = Message {
                 origin,
                 call,

@@ -8,17 +8,16 @@ ghost use Rattle.nfs_values.specs.Answer.{answer_of};
 ghost use Rattle.nfs_values.specs.Call.{call_of};
 ghost use Rattle.nfs_values.specs.declared.answer.Answer.TheVariants.{Rename};
 
-use crate::asked::OfferedCall;
 use affinity::Layout;
 use affinity::homes::named_by;
 use nfs_values::{Answer, Call, FileHandle, Status};
 use std::alloc::Global;
 
 /// What a call without an affinity is answered under a layout.
-pub fn answer_at_once(alloc: Global, call: &OfferedCall, layout: &Layout) -> Answer
+pub fn answer_at_once(alloc: Global, call: &Call, layout: &Layout) -> Answer
     ensures { answer_of result ≡ answer_without_home (layout_of layout.now) (call_of call.now) }
 {
-    match call.as_call() {
+    match call {
         Call::Null => Answer::Null,
         Call::GetAttributes { .. } => Answer::GetAttributes(Err(Status::BadHandle)),
         Call::SetAttributes { .. } => Answer::SetAttributes(Err(Status::BadHandle)),

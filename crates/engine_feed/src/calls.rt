@@ -1,12 +1,11 @@
 //! Calls on their way: waiting, running and finished.
 
-use crate::asked::OfferedCall;
 use crate::connection::OpenConnection;
 use crate::message::FinishedCall;
 use crate::moving::{begin, leave, put_back, reply_to};
 use crate::state::CallsState;
 use affinity::{Affinity, Layout};
-use nfs_values::{Moment, Reply};
+use nfs_values::{Call, Moment, Reply};
 use scheduler::{Message, NoSuchCall, Waiting};
 use std::alloc::{AllocError, Global};
 use std::marker::Model;
@@ -108,7 +107,7 @@ impl Calls {
     }
 
     /// Takes the message at a place of the list, which runs from now on.
-    pub fn begin(&mut self, place: usize) -> Result<Message<OfferedCall>, NoSuchCall>
+    pub fn begin(&mut self, place: usize) -> Result<Message<Call>, NoSuchCall>
         ensures begun { IfOk result (λ m. HasBegun self.old place m self.new) }
         ensures none { IsErr result ↔ (length (messages_of self.old) ≤ place) }
         ensures err { OnErr result (self.new ≡ self.old) }
@@ -117,7 +116,7 @@ impl Calls {
     }
 
     /// Lets a message that ran wait again, after all others.
-    pub fn put_back(&mut self, message: Message<OfferedCall>)
+    pub fn put_back(&mut self, message: Message<Call>)
         requires runs { 0 < running_count self.old }
         requires admitted { IsAdmitted (layout_in self.old) message }
         ensures { HasPutBack self.old message self.new }
@@ -129,7 +128,7 @@ impl Calls {
     /// kept for it. It answers how many bytes were written.
     pub fn finish(
         &mut self,
-        message: Message<OfferedCall>,
+        message: Message<Call>,
         moment: Moment,
         on: &mut OpenConnection,
         reply: &Reply,
@@ -157,7 +156,7 @@ impl Calls {
     }
 
     /// Finishes a message that ran, whose connection isn't open.
-    pub fn finish_unseen(&mut self, message: Message<OfferedCall>, moment: Moment, starved: bool)
+    pub fn finish_unseen(&mut self, message: Message<Call>, moment: Moment, starved: bool)
         requires runs { 0 < running_count self.old }
         ensures finishes { FinishesUnseen self.old
             (finished_message message (moment_of moment) starved) self.new }

@@ -4,7 +4,6 @@
 
 mod admitting;
 mod arrival;
-mod asked;
 mod at_once;
 mod calls;
 mod connection;
@@ -18,7 +17,6 @@ mod reply;
 mod state;
 mod stop;
 
-pub use asked::OfferedCall;
 pub use at_once::answer_at_once;
 pub use calls::Calls;
 pub use connection::OpenConnection;

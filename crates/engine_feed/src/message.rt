@@ -1,18 +1,14 @@
 //! What records ask, and calls that are finished.
 
-use crate::asked::OfferedCall;
 use affinity::Affinity;
-use nfs_values::{Credential, Moment, Refusal};
+use nfs_values::{Call, Credential, Moment, Refusal};
 use scheduler::Origin;
 
 /// What a record asks.
 #[derive(Drop)]
 pub enum Request {
     /// A call, and whom it acts for.
-    Call {
-        call: OfferedCall,
-        credential: Credential,
-    },
+    Call { call: Call, credential: Credential },
     /// A call message that is refused.
     Refused(Refusal),
 }

@@ -8,19 +8,15 @@ ghost use Rattle.engine_feed.specs.Seen.{layout_in, messages_of, running_count, 
 ghost use Rattle.engine_feed.specs.Sound.{IsSoundConnection, AreSound, IsAdmitted, HasReplied};
 ghost use Rattle.engine_feed.specs.Words.{HasBegun, HasPutBack, HasLeft};
 
-use crate::asked::OfferedCall;
 use crate::finishing::{keep_entry, write_reply};
 use crate::message::Request;
 use crate::state::{CallsState, ConnectionState};
-use nfs_values::{Moment, Reply};
+use nfs_values::{Call, Moment, Reply};
 use scheduler::laws::nodes_have_queues;
 use scheduler::{Message, NoSuchCall};
 
 /// Takes the message at a place of the list, which runs from now on.
-pub(crate) fn begin(
-    calls: &mut CallsState,
-    place: usize,
-) -> Result<Message<OfferedCall>, NoSuchCall>
+pub(crate) fn begin(calls: &mut CallsState, place: usize) -> Result<Message<Call>, NoSuchCall>
     requires { AreSound calls.old }
     ensures begun { IfOk result (λ m. HasBegun calls.old place m calls.new) }
     ensures none { IsErr result ↔ (length (messages_of calls.old) ≤ place) }
@@ -33,7 +29,7 @@ pub(crate) fn begin(
 }
 
 /// Lets a message that ran wait again, after all others.
-pub(crate) fn put_back(calls: &mut CallsState, message: Message<OfferedCall>)
+pub(crate) fn put_back(calls: &mut CallsState, message: Message<Call>)
     requires sound { AreSound calls.old }
     requires runs { 0 < running_count calls.old }
     requires admitted { IsAdmitted (layout_in calls.old) message }
@@ -46,12 +42,7 @@ pub(crate) fn put_back(calls: &mut CallsState, message: Message<OfferedCall>)
 }
 
 /// Keeps the entry of a message that ran.
-pub(crate) fn leave(
-    calls: &mut CallsState,
-    message: Message<OfferedCall>,
-    moment: Moment,
-    starved: bool,
-)
+pub(crate) fn leave(calls: &mut CallsState, message: Message<Call>, moment: Moment, starved: bool)
     requires sound { AreSound calls.old }
     requires runs { 0 < running_count calls.old }
     ensures left { HasLeft calls.old (finished_message message (moment_of moment) starved)

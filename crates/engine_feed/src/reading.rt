@@ -4,7 +4,6 @@ ghost use Rattle.std.specs.Prelude.{◌≡◌};
 ghost use Rattle.engine_feed.specs.Codec.{heard};
 ghost use Rattle.engine_feed.specs.Records.{IsReadAs, fault_of};
 
-use crate::asked::OfferedCall;
 use crate::message::{Heard, Request};
 use crate::stop::StreamFault;
 use std::alloc::Global;
@@ -37,10 +36,7 @@ pub fn read_record(alloc: Global, record: Vec<u8>) -> RecordRead
         Ok(rpc_msg::Heard { xid, request }) => match request {
             rpc_msg::Request::Call { call, credential } => RecordRead::Heard(Heard {
                 xid,
-                request: Request::Call {
-                    call: OfferedCall::new(call),
-                    credential,
-                },
+                request: Request::Call { call, credential },
             }),
             rpc_msg::Request::Refused(refusal) => RecordRead::Heard(Heard {
                 xid,

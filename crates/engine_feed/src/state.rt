@@ -2,10 +2,10 @@
 
 ghost use Rattle.std.specs.Prelude.{◌≡◌, ◌≤◌};
 
-use crate::asked::OfferedCall;
 use crate::message::{FinishedCall, Heard};
 use crate::stop::StreamFault;
 use affinity::Layout;
+use nfs_values::Call;
 use rpc_record::Reassembler;
 use scheduler::Waiting;
 use std::alloc::Global;
@@ -13,7 +13,7 @@ use std::alloc::Global;
 /// How many messages may wait or run.
 pub(crate) const PLACES: usize = 1_024;
 
-/// The most bytes of the reply record of a call that is offered, or of a record that is refused.
+/// The most bytes of the reply record of a call, or of a record that is refused.
 pub(crate) const REPLY_LIMIT: usize = 65_584;
 
 /// A connection that is open.
@@ -52,7 +52,7 @@ pub(crate) enum Arrival {
 #[derive(Drop)]
 pub(crate) struct CallsState {
     pub(crate) layout: Layout,
-    pub(crate) waiting: Waiting<OfferedCall>,
+    pub(crate) waiting: Waiting<Call>,
     /// How many were begun and are neither finished nor put back.
     pub(crate) running: usize,
     /// It has room for all that wait or run.

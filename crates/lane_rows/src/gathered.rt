@@ -5,8 +5,7 @@ ghost use Rattle.affinity.specs.Layout.{layout_of};
 ghost use Rattle.lane_rows.specs.Gathering.{HasGathered, gathered_none, gathered_more};
 
 use affinity::Layout;
-use engine_feed::OfferedCall;
-use nfs_values::{ConnectionNumber, Reply};
+use nfs_values::{Call, ConnectionNumber, Reply};
 use outboxes::Outboxes;
 use scheduler::Message;
 use std::alloc::{AllocError, Global};
@@ -16,7 +15,7 @@ use tcp_front::RecordSink;
 #[derive(Drop)]
 pub struct Gathered {
     pub layout: Layout,
-    pub calls: Vec<Message<OfferedCall>>,
+    pub calls: Vec<Message<Call>>,
     pub outboxes: Outboxes,
     /// How many records it has room for.
     pub places: usize,
@@ -69,7 +68,7 @@ impl RecordSink for Gathered {
         self.has_place
     }
 
-    fn admit(&mut self, message: Message<OfferedCall>) -> Result<(), AllocError> {
+    fn admit(&mut self, message: Message<Call>) -> Result<(), AllocError> {
         self.calls.push(message)?;
         self.fill();
         Ok(())

@@ -8,7 +8,6 @@ ghost use Rattle.lanes.specs.Queues.{HasBoth, IsCounted};
 use crate::due::Due;
 use crate::placing::put_last;
 use affinity::{Kind, Layout};
-use engine_feed::OfferedCall;
 use nfs_values::{Call, ConnectionNumber, Reply};
 use outboxes::Outboxes;
 use scheduler::Message;
@@ -65,11 +64,11 @@ impl<R> Intake<R> {
 
 /// Whether a call may change which blocks of its volume are in files or free, so that there may be
 /// something to tend after it. A WRITE on a stripe may not, unless it moves.
-fn may_leave_blocks(message: &Message<OfferedCall>) -> bool {
+fn may_leave_blocks(message: &Message<Call>) -> bool {
     if message.affinity.kind() == Kind::Stripe {
         return false;
     }
-    match message.call.as_call() {
+    match &message.call {
         Call::SetAttributes { .. }
         | Call::Write { .. }
         | Call::Create { .. }
@@ -94,7 +93,7 @@ impl<R: Wait> RecordSink for Intake<R> {
         self.waiting < self.most && self.owed.room < MOST_OWED
     }
 
-    fn admit(&mut self, message: Message<OfferedCall>) -> Result<(), AllocError> {
+    fn admit(&mut self, message: Message<Call>) -> Result<(), AllocError> {
         let room = message.room;
         let leaving = u64::from(may_leave_blocks(&message));
         let message = in_room(self.alloc, message)?;

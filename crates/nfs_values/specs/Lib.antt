@@ -7,6 +7,7 @@ pub mod Status
 pub mod Attributes
 pub mod Set
 pub mod Procedure
+pub mod Offer
 pub mod Bytes
 pub mod Call
 pub mod Route

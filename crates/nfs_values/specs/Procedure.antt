@@ -1,4 +1,4 @@
-use Rattle.std.specs.Prelude.{ℕ, Bool, true, false, List, [], ◌∷◌}
+use Rattle.std.specs.Prelude.{ℕ, List, [], ◌∷◌}
 use Rattle.nfs_values.specs.declared.procedure.Procedure.{Procedure}
 use Rattle.nfs_values.specs.declared.procedure.Procedure.TheVariants.{Null, GetAttributes, SetAttributes, Lookup, Read, Write, Create, MakeDirectory, Remove}
 use Rattle.nfs_values.specs.declared.procedure.Procedure.TheVariants.{RemoveDirectory, Rename, ReadDirectory, FilesystemStatus, Commit, AdminNull, Census, Grow}
@@ -28,22 +28,22 @@ numbers_of AdminNull = (0x20000001, 0)
 numbers_of Census = (0x20000001, 1)
 numbers_of Grow = (0x20000001, 2)
 
--- the procedures that are offered so far
-abbrev pub is_offered : Procedure → Bool
-is_offered Null = true
-is_offered GetAttributes = true
-is_offered SetAttributes = true
-is_offered Lookup = true
-is_offered Read = true
-is_offered Write = true
-is_offered Create = true
-is_offered MakeDirectory = true
-is_offered Remove = true
-is_offered RemoveDirectory = true
-is_offered Rename = true
-is_offered ReadDirectory = true
-is_offered FilesystemStatus = true
-is_offered Commit = true
-is_offered AdminNull = true
-is_offered Census = true
-is_offered Grow = true
+-- its place among all
+abbrev pub place_of : Procedure → ℕ
+place_of Null = 0
+place_of GetAttributes = 1
+place_of SetAttributes = 2
+place_of Lookup = 3
+place_of Read = 4
+place_of Write = 5
+place_of Create = 6
+place_of MakeDirectory = 7
+place_of Remove = 8
+place_of RemoveDirectory = 9
+place_of Rename = 10
+place_of ReadDirectory = 11
+place_of FilesystemStatus = 12
+place_of Commit = 13
+place_of AdminNull = 14
+place_of Census = 15
+place_of Grow = 16

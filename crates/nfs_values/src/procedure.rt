@@ -1,6 +1,6 @@
 //! The procedures of the programs.
 
-ghost use Rattle.std.specs.Prelude.{◌≡◌, ◌≢◌, true, IfSome, None};
+ghost use Rattle.std.specs.Prelude.{◌≡◌, ◌≢◌, ◌<◌, IfSome, None};
 
 /// The program number of NFS (RFC 1813 section 2.2).
 pub const NFS_PROGRAM: u32 = 100003;
@@ -48,7 +48,7 @@ pub enum Procedure {
 }
 
 impl Procedure {
-    ghost use Rattle.nfs_values.specs.Procedure.{is_offered, numbers_of};
+    ghost use Rattle.nfs_values.specs.Procedure.{numbers_of, place_of};
     ghost use Rattle.nfs_values.specs.declared.procedure.Procedure.{Procedure as Known};
 
     /// The procedure of this number in this program, offered or not.
@@ -78,41 +78,42 @@ impl Procedure {
         }
     }
 
-    /// Whether calls of the procedure are answered.
-    pub fn is_offered(self) -> bool
-        ensures { result ≡ is_offered self }
+    /// All of them.
+    pub(crate) const ALL: [Procedure; 17] = [
+        Procedure::Null,
+        Procedure::GetAttributes,
+        Procedure::SetAttributes,
+        Procedure::Lookup,
+        Procedure::Read,
+        Procedure::Write,
+        Procedure::Create,
+        Procedure::MakeDirectory,
+        Procedure::Remove,
+        Procedure::RemoveDirectory,
+        Procedure::Rename,
+        Procedure::ReadDirectory,
+        Procedure::FilesystemStatus,
+        Procedure::Commit,
+        Procedure::AdminNull,
+        Procedure::Census,
+        Procedure::Grow,
+    ];
+
+    /// The number of its program.
+    pub fn program(self) -> u32
+        ensures { result ≡ (numbers_of self).0 }
     {
-        matches!(
-            self,
-            Procedure::Null
-                | Procedure::GetAttributes
-                | Procedure::SetAttributes
-                | Procedure::Lookup
-                | Procedure::Read
-                | Procedure::Write
-                | Procedure::Create
-                | Procedure::MakeDirectory
-                | Procedure::Remove
-                | Procedure::RemoveDirectory
-                | Procedure::Rename
-                | Procedure::ReadDirectory
-                | Procedure::FilesystemStatus
-                | Procedure::Commit
-                | Procedure::AdminNull
-                | Procedure::Census
-                | Procedure::Grow
-        )
+        match self {
+            Procedure::AdminNull | Procedure::Census | Procedure::Grow => ADMIN_PROGRAM,
+            _ => NFS_PROGRAM,
+        }
     }
 
-    /// The procedure of this number in this program that is offered.
-    pub fn of(program: u32, number: u32) -> Option<Procedure>
-        ensures found { IfSome result
-            (λ p. (numbers_of p ≡ (program, number)) × (is_offered p ≡ true)) }
-        ensures none { result ≡ None
-            → (p : Known)
-            → is_offered p ≡ true
-            → numbers_of p ≢ (program, number) }
+    /// Its place among all of them.
+    pub(crate) fn place(self) -> usize
+        ensures place { result ≡ place_of self }
+        ensures within { result < 17 }
     {
-        Procedure::known(program, number).filter(|p| p.is_offered())
+        self as usize
     }
 }

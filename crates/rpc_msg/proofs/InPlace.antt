@@ -5,9 +5,10 @@ use Rattle.std.proofs.lemmas.List.{length-append, drop_at}
 use Rattle.xdr.specs.Shape.{word, flag, spelling}
 use Rattle.xdr.specs.lemmas.Items.{IsBytes}
 use Rattle.nfs_model.specs.Types as model
+use Rattle.nfs_values.specs.declared.offer.Offer.{Offer}
 use Rattle.nfs_values.specs.declared.procedure.Procedure.{Procedure}
 use Rattle.nfs_values.specs.Procedure.{numbers_of}
-use Rattle.rpc_msg.specs.Heads.{Call, head_of}
+use Rattle.rpc_msg.specs.Heads.{Call, head_by}
 use Rattle.rpc_msg.specs.Calls.{call_shape, call_value}
 use Rattle.rpc_msg.specs.Replies.{accepted, message, reply_bytes}
 use Rattle.rpc_msg.proofs.Spelled.{call_found}
@@ -17,10 +18,10 @@ pub record End (record_bytes arguments : List ℕ) (len : ℕ) : Type 0 where
   pub fits : length arguments ≤ len
   pub there : drop (len - length arguments) record_bytes ≡ arguments
 
-pub arguments-end : (bytes : List ℕ) (xid : ℕ) (p : Procedure) (who : model.Credential) (arguments : List ℕ) (len : ℕ) → IsBytes bytes
-    → head_of bytes ≡ Call xid p who arguments → len ≡ length bytes → End bytes arguments len
-arguments-end bytes xid p who arguments len fits e is =
-    let c = call_found bytes xid p who arguments fits e in
+pub arguments-end : (offer : Offer) (bytes : List ℕ) (xid : ℕ) (p : Procedure) (who : model.Credential) (arguments : List ℕ) (len : ℕ) → IsBytes bytes
+    → head_by offer bytes ≡ Call xid p who arguments → len ≡ length bytes → End bytes arguments len
+arguments-end offer bytes xid p who arguments len fits e is =
+    let c = call_found offer bytes xid p who arguments fits e in
     let head : List ℕ = spelling call_shape (call_value xid (numbers_of p) c.version c.cred c.verf) in
     let size : length bytes ≡ length (head ++ arguments) = ap (λ (l : List ℕ). length l) c.bytes_are in
     let parts = length-append head arguments in

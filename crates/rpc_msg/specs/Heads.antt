@@ -6,8 +6,10 @@ use Rattle.xdr.specs.declared.fault.Fault.TheVariants.{Short}
 use Rattle.xdr.specs.Shape.{Shape, Word, Fixed, Opaque, Array, Value}
 use Rattle.xdr.specs.Reading.{Reads, read, all_of}
 use Rattle.nfs_model.specs.Types as model
+use Rattle.nfs_values.specs.declared.offer.Offer.{Offer}
 use Rattle.nfs_values.specs.declared.procedure.Procedure.{Procedure}
-use Rattle.nfs_values.specs.Procedure.{all_procedures, is_offered, numbers_of}
+use Rattle.nfs_values.specs.Offer.{basic, offers, offers_program}
+use Rattle.nfs_values.specs.Procedure.{all_procedures, numbers_of}
 use Rattle.nfs_types.specs.Shapes.{◌&◌}
 use Rattle.rpc_msg.specs.Replies.{auth_shape}
 
@@ -90,13 +92,17 @@ credential_at flavor size bytes =
 
 -- ---- 6. the procedure (section 9); before it stands verf, an opaque_auth (section 8.2)
 
--- the version of a program that is offered: NFS (RFC 1813 section 2.2) and the admin program (our profile)
-abbrev pub version_of : ℕ → Option ℕ
-version_of program = if program == 100003 then Some 3 else if program == 536870913 then Some 1 else None
+-- the version of a program: NFS (RFC 1813 section 2.2) and the admin program (our profile)
+abbrev pub known_version : ℕ → Option ℕ
+known_version program = if program == 100003 then Some 3 else if program == 536870913 then Some 1 else None
 
--- the procedures that are offered so far
-abbrev pub procedures : List Procedure
-procedures = filter is_offered all_procedures
+-- where a procedure of it is offered
+abbrev pub version_by : Offer → ℕ → Option ℕ
+version_by offer program = if offers_program offer program then known_version program else None
+
+-- the procedures that are offered
+abbrev pub procedures_by : Offer → List Procedure
+procedures_by offer = filter (offers offer) all_procedures
 
 abbrev pub is_numbered : ℕ → ℕ → Procedure → Bool
 is_numbered program number procedure = ((numbers_of procedure).0 == program) && ((numbers_of procedure).1 == number)
@@ -111,8 +117,8 @@ abbrev pub of_version : Option ℕ → ℕ → Option Procedure → Result Proce
 of_version None version procedure = Err (Refuse model.ProgramUnavailable)
 of_version (Some offered) version procedure = if version == offered then available procedure else Err (Refuse (model.ProgramMismatch offered offered))
 
-abbrev pub procedure_of : ℕ → ℕ → ℕ → Result Procedure Stop
-procedure_of program version number = of_version (version_of program) version (find (is_numbered program number) procedures)
+abbrev pub procedure_by : Offer → ℕ → ℕ → ℕ → Result Procedure Stop
+procedure_by offer program version number = of_version (version_by offer program) version (find (is_numbered program number) (procedures_by offer))
 
 -- ---- the whole head
 
@@ -123,13 +129,13 @@ pub record Body : Type 0 where
   pub arguments : List ℕ
 
 -- call_body (section 9) in the order of the checks. The fifth is verf, whose content is ignored.
-abbrev pub body_at : List ℕ → Result Body Stop
-body_at bytes =
+abbrev pub body_by : Offer → List ℕ → Result Body Stop
+body_by offer bytes =
     version_at bytes
     >>= λ rest. whole (read numbers_shape rest)
     >>= λ n. credential_at n.0.1.1.1.0 n.0.1.1.1.1 n.1
     >>= λ c. whole (read auth_shape c.1)
-    >>= λ v. procedure_of n.0.0 n.0.1.0 n.0.1.1.0
+    >>= λ v. procedure_by offer n.0.0 n.0.1.0 n.0.1.1.0
     >>= λ p. Ok (record { procedure = p; credential = c.0; arguments = v.1 })
 
 -- what a record's head says
@@ -143,9 +149,14 @@ under xid (Ok body) = Call xid body.procedure body.credential body.arguments
 under xid (Err (Refuse reply)) = Refused xid reply
 under xid (Err Incomplete) = Faulty 12
 
-abbrev pub head_from : Result (ℕ × List ℕ) ℕ → Head
-head_from (Ok m) = under m.0 (body_at m.1)
-head_from (Err number) = Faulty number
+abbrev pub head_from : Offer → Result (ℕ × List ℕ) ℕ → Head
+head_from offer (Ok m) = under m.0 (body_by offer m.1)
+head_from offer (Err number) = Faulty number
+
+abbrev pub head_by : Offer → List ℕ → Head
+head_by offer bytes = head_from offer (xid_at bytes)
+
+-- ---- with the basic offer
 
 abbrev pub head_of : List ℕ → Head
-head_of bytes = head_from (xid_at bytes)
+head_of bytes = head_by basic bytes

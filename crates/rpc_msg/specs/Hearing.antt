@@ -3,14 +3,16 @@ use Rattle.std.specs.Prelude.{◌≡◌, ◌≢◌, ℕ, ◌+◌, ◌≤◌, ◌
 use Rattle.xdr.specs.Shape.{Shape, Word, Fixed, Value, Fits, Spells, padding, spelling}
 use Rattle.nfs_model.specs.Types as model
 use Rattle.nfs_model.specs.World.{Heard}
+use Rattle.nfs_values.specs.declared.offer.Offer.{Offer}
 use Rattle.nfs_values.specs.declared.procedure.Procedure.{Procedure}
-use Rattle.nfs_values.specs.Procedure.{is_offered, numbers_of}
+use Rattle.nfs_values.specs.Offer.{basic, offers}
+use Rattle.nfs_values.specs.Procedure.{numbers_of}
 use Rattle.nfs_types.specs.Arguments.{Asks}
 use Rattle.nfs_types.specs.Shapes.{◌&◌}
 use Rattle.rpc_msg.specs.Replies.{auth_shape}
-use Rattle.rpc_msg.specs.Heads.{numbers_shape, auth_sys_shape, version_of}
-use Rattle.rpc_msg.specs.Records.{heard}
-use Rattle.rpc_msg.specs.Calls.{ActsFor, IsCall, call_shape, call_value}
+use Rattle.rpc_msg.specs.Heads.{numbers_shape, auth_sys_shape, version_by}
+use Rattle.rpc_msg.specs.Records.{heard_by}
+use Rattle.rpc_msg.specs.Calls.{ActsFor, IsCallBy, call_shape, call_value}
 
 -- ---- beginnings
 
@@ -97,75 +99,75 @@ pub record HasBadCredential (bytes : List ℕ) (xid : ℕ) : Type 0 where
   pub bad : IsBadBody (flavor_of numbers) (size_of numbers) rest
 
 -- the program isn't offered: PROG_UNAVAIL (section 9)
-pub record IsOfNoProgram (bytes : List ℕ) (xid : ℕ) : Type 0 where
+pub record IsOfNoProgramBy (offer : Offer) (bytes : List ℕ) (xid : ℕ) : Type 0 where
   pub program : ℕ
   pub version : ℕ
   pub number : ℕ
   pub who : model.Credential
   pub arguments : List ℕ
   pub head : IsHead bytes xid program version number who arguments
-  pub none : version_of program ≡ None
+  pub none : version_by offer program ≡ None
 
 -- another version of the program is offered: PROG_MISMATCH (section 9)
-pub record IsOfAnotherVersion (bytes : List ℕ) (xid offered : ℕ) : Type 0 where
+pub record IsOfAnotherVersionBy (offer : Offer) (bytes : List ℕ) (xid offered : ℕ) : Type 0 where
   pub program : ℕ
   pub version : ℕ
   pub number : ℕ
   pub who : model.Credential
   pub arguments : List ℕ
   pub head : IsHead bytes xid program version number who arguments
-  pub served_is : version_of program ≡ Some offered
+  pub served_is : version_by offer program ≡ Some offered
   pub other : version ≢ offered
 
 -- no procedure of the number is offered: PROC_UNAVAIL (section 9)
-pub record IsOfNoProcedure (bytes : List ℕ) (xid : ℕ) : Type 0 where
+pub record IsOfNoProcedureBy (offer : Offer) (bytes : List ℕ) (xid : ℕ) : Type 0 where
   pub program : ℕ
   pub version : ℕ
   pub number : ℕ
   pub who : model.Credential
   pub arguments : List ℕ
   pub head : IsHead bytes xid program version number who arguments
-  pub served_is : version_of program ≡ Some version
-  pub none : (p : Procedure) → is_offered p ≡ true → numbers_of p ≢ (program, number)
+  pub served_is : version_by offer program ≡ Some version
+  pub none : (p : Procedure) → offers offer p ≡ true → numbers_of p ≢ (program, number)
 
 -- The arguments are no spelling, or bytes are left: GARBAGE_ARGS (section 9).
-pub record HasGarbage (bytes : List ℕ) (xid : ℕ) : Type 0 where
+pub record HasGarbageBy (offer : Offer) (bytes : List ℕ) (xid : ℕ) : Type 0 where
   pub procedure : Procedure
   pub who : model.Credential
   pub arguments : List ℕ
-  pub head : IsCall bytes xid procedure who arguments
+  pub head : IsCallBy offer bytes xid procedure who arguments
   pub none : (call : model.Call) → Asks procedure arguments call → ⊥
 
 -- ---- calls
 
 -- the record asks a call for a user
-pub record IsAsking (bytes : List ℕ) (xid : ℕ) (call : model.Call) (who : model.Credential) : Type 0 where
+pub record IsAskingBy (offer : Offer) (bytes : List ℕ) (xid : ℕ) (call : model.Call) (who : model.Credential) : Type 0 where
   pub procedure : Procedure
   pub arguments : List ℕ
-  pub head : IsCall bytes xid procedure who arguments
+  pub head : IsCallBy offer bytes xid procedure who arguments
   pub asks : Asks procedure arguments call
 
 -- ---- all together
 
-abbrev pub IsRefusedWith : List ℕ → ℕ → model.Reply → Type 0
-IsRefusedWith bytes xid (model.RpcMismatch low high) = (low ≡ 2) × (high ≡ 2) × IsOfAnotherRpc bytes xid
-IsRefusedWith bytes xid (model.AuthError number) = ((number ≡ 1) × HasBadCredential bytes xid) ⊎ ((number ≡ 2) × HasAnotherFlavor bytes xid)
-IsRefusedWith bytes xid model.ProgramUnavailable = IsOfNoProgram bytes xid
-IsRefusedWith bytes xid (model.ProgramMismatch low high) = (low ≡ high) × IsOfAnotherVersion bytes xid low
-IsRefusedWith bytes xid model.ProcedureUnavailable = IsOfNoProcedure bytes xid
-IsRefusedWith bytes xid model.GarbageArguments = HasGarbage bytes xid
-IsRefusedWith bytes xid model.SystemError = ⊥
-IsRefusedWith bytes xid (model.Success answer) = ⊥
+abbrev pub IsRefusedWithBy : Offer → List ℕ → ℕ → model.Reply → Type 0
+IsRefusedWithBy offer bytes xid (model.RpcMismatch low high) = (low ≡ 2) × (high ≡ 2) × IsOfAnotherRpc bytes xid
+IsRefusedWithBy offer bytes xid (model.AuthError number) = ((number ≡ 1) × HasBadCredential bytes xid) ⊎ ((number ≡ 2) × HasAnotherFlavor bytes xid)
+IsRefusedWithBy offer bytes xid model.ProgramUnavailable = IsOfNoProgramBy offer bytes xid
+IsRefusedWithBy offer bytes xid (model.ProgramMismatch low high) = (low ≡ high) × IsOfAnotherVersionBy offer bytes xid low
+IsRefusedWithBy offer bytes xid model.ProcedureUnavailable = IsOfNoProcedureBy offer bytes xid
+IsRefusedWithBy offer bytes xid model.GarbageArguments = HasGarbageBy offer bytes xid
+IsRefusedWithBy offer bytes xid model.SystemError = ⊥
+IsRefusedWithBy offer bytes xid (model.Success answer) = ⊥
 
-abbrev pub Says : List ℕ → ℕ → model.Asked → Type 0
-Says bytes xid (model.Ask call who) = IsAsking bytes xid call who
-Says bytes xid (model.Refused reply) = IsRefusedWith bytes xid reply
-Says bytes xid model.Undecoded = ⊥
+abbrev pub SaysBy : Offer → List ℕ → ℕ → model.Asked → Type 0
+SaysBy offer bytes xid (model.Ask call who) = IsAskingBy offer bytes xid call who
+SaysBy offer bytes xid (model.Refused reply) = IsRefusedWithBy offer bytes xid reply
+SaysBy offer bytes xid model.Undecoded = ⊥
 
 -- what a record is heard as, or the number of its fault
-abbrev pub IsHeardAs : List ℕ → Result Heard ℕ → Type 0
-IsHeardAs bytes (Ok h) = Says bytes h.xid h.asked
-IsHeardAs bytes (Err number) = ((number ≡ 12) × IsIncomplete bytes) ⊎ ((number ≡ 13) × IsNoCall bytes)
+abbrev pub IsHeardBy : Offer → List ℕ → Result Heard ℕ → Type 0
+IsHeardBy offer bytes (Ok h) = SaysBy offer bytes h.xid h.asked
+IsHeardBy offer bytes (Err number) = ((number ≡ 12) × IsIncomplete bytes) ⊎ ((number ≡ 13) × IsNoCall bytes)
 
 -- ---- what laws say
 
@@ -177,9 +179,35 @@ abbrev pub Exactly : Type 0 → Type 0 → Type 0
 Exactly a b = (a → b) × (b → a)
 
 -- the record is refused with this reply
-abbrev pub Refuses : List ℕ → ℕ → model.Reply → Type 0
-Refuses bytes xid reply = heard bytes ≡ Ok (record { xid = xid; asked = model.Refused reply })
+abbrev pub RefusesBy : Offer → List ℕ → ℕ → model.Reply → Type 0
+RefusesBy offer bytes xid reply = heard_by offer bytes ≡ Ok (record { xid = xid; asked = model.Refused reply })
 
 -- the record asks this call
+abbrev pub AsksForBy : Offer → List ℕ → ℕ → model.Call → model.Credential → Type 0
+AsksForBy offer bytes xid call who = heard_by offer bytes ≡ Ok (record { xid = xid; asked = model.Ask call who })
+
+-- ---- with the basic offer
+
+abbrev pub IsOfNoProgram : List ℕ → ℕ → Type 0
+IsOfNoProgram bytes xid = IsOfNoProgramBy basic bytes xid
+
+abbrev pub IsOfAnotherVersion : List ℕ → ℕ → ℕ → Type 0
+IsOfAnotherVersion bytes xid offered = IsOfAnotherVersionBy basic bytes xid offered
+
+abbrev pub IsOfNoProcedure : List ℕ → ℕ → Type 0
+IsOfNoProcedure bytes xid = IsOfNoProcedureBy basic bytes xid
+
+abbrev pub HasGarbage : List ℕ → ℕ → Type 0
+HasGarbage bytes xid = HasGarbageBy basic bytes xid
+
+abbrev pub IsAsking : List ℕ → ℕ → model.Call → model.Credential → Type 0
+IsAsking bytes xid call who = IsAskingBy basic bytes xid call who
+
+abbrev pub IsHeardAs : List ℕ → Result Heard ℕ → Type 0
+IsHeardAs bytes r = IsHeardBy basic bytes r
+
+abbrev pub Refuses : List ℕ → ℕ → model.Reply → Type 0
+Refuses bytes xid reply = RefusesBy basic bytes xid reply
+
 abbrev pub AsksFor : List ℕ → ℕ → model.Call → model.Credential → Type 0
-AsksFor bytes xid call who = heard bytes ≡ Ok (record { xid = xid; asked = model.Ask call who })
+AsksFor bytes xid call who = AsksForBy basic bytes xid call who

@@ -3,7 +3,6 @@ pub mod Given
 pub mod Room
 pub mod Heads
 pub mod Calls
-pub mod Offered
 pub mod Records
 pub mod Hearing
 pub mod Seen

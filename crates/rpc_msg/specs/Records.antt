@@ -3,8 +3,10 @@ use Rattle.std.specs.Prelude.{ℕ, List, Result, Ok, Err}
 use Rattle.xdr.specs.declared.fault.Fault.{Fault as Unread}
 use Rattle.nfs_model.specs.Types as model
 use Rattle.nfs_model.specs.World.{Heard}
+use Rattle.nfs_values.specs.declared.offer.Offer.{Offer}
+use Rattle.nfs_values.specs.Offer.{basic}
 use Rattle.nfs_types.specs.Arguments.{asked}
-use Rattle.rpc_msg.specs.Heads.{Head, Call, Refused, Faulty, head_of}
+use Rattle.rpc_msg.specs.Heads.{Head, Call, Refused, Faulty, head_by}
 
 -- the call, or GARBAGE_ARGS where its arguments are no spelling or bytes are left
 abbrev pub asked_by : model.Credential → Result model.Call Unread → model.Asked
@@ -17,5 +19,9 @@ heard_from (Refused xid reply) = Ok (record { xid = xid; asked = model.Refused r
 heard_from (Faulty number) = Err number
 
 -- what a record asks under its xid, or the number of its fault
+abbrev pub heard_by : Offer → List ℕ → Result Heard ℕ
+heard_by offer bytes = heard_from (head_by offer bytes)
+
+-- with the basic offer
 abbrev pub heard : List ℕ → Result Heard ℕ
-heard bytes = heard_from (head_of bytes)
+heard bytes = heard_by basic bytes

@@ -5,8 +5,8 @@ ghost use Rattle.xdr.specs.Shape.{Word, Pair};
 ghost use Rattle.xdr.specs.Reading.{read};
 ghost use Rattle.nfs_values.specs.Credential.{credential_of};
 ghost use Rattle.rpc_msg.specs.Replies.{auth_shape};
-ghost use Rattle.rpc_msg.specs.Heads.{body_at, head_of, numbers_shape, procedure_of, version_at};
-ghost use Rattle.rpc_msg.specs.Heads.{version_of, whole, xid_at};
+ghost use Rattle.rpc_msg.specs.Heads.{body_by, head_by, head_of, numbers_shape, procedure_by};
+ghost use Rattle.rpc_msg.specs.Heads.{version_at, version_by, whole, xid_at};
 ghost use Rattle.rpc_msg.specs.Seen.{Says, auth_value, body_of, fault_number, head_seen};
 ghost use Rattle.rpc_msg.specs.Seen.{numbers_value, stop_of, with_rest};
 
@@ -14,7 +14,7 @@ use crate::credential::read_credential;
 use crate::fault::RecordFault;
 use crate::items::{opaque, word};
 use crate::stop::Stop;
-use nfs_values::{ADMIN_PROGRAM, Credential, NFS_PROGRAM, Procedure, Refusal};
+use nfs_values::{ADMIN_PROGRAM, Credential, NFS_PROGRAM, Offer, Procedure, Refusal};
 
 /// The type of a message that is a call (msg_type, RFC 5531 section 9).
 const CALL: u32 = 0;
@@ -117,10 +117,13 @@ fn read_auth(bytes: &[u8]) -> Result<((u32, &[u8]), &[u8]), Stop>
     Ok(((flavor, body), rest))
 }
 
-/// The version that is offered of a program.
-fn version_of(program: u32) -> Option<u32>
-    ensures { result ≡ version_of program }
+/// The version of a program, where a procedure of it is offered.
+fn version_of(offer: Offer, program: u32) -> Option<u32>
+    ensures { result ≡ version_by offer program }
 {
+    if !offer.has_program(program) {
+        return None;
+    }
     match program {
         NFS_PROGRAM => Some(NFS_VERSION),
         ADMIN_PROGRAM => Some(ADMIN_VERSION),
@@ -129,10 +132,10 @@ fn version_of(program: u32) -> Option<u32>
 }
 
 /// The procedure of this number in this version of a program.
-fn offered(program: u32, version: u32, number: u32) -> Result<Procedure, Stop>
-    ensures { Says (λ p. p) stop_of result (procedure_of program version number) }
+fn offered(offer: Offer, program: u32, version: u32, number: u32) -> Result<Procedure, Stop>
+    ensures { Says (λ p. p) stop_of result (procedure_by offer program version number) }
 {
-    let Some(offered) = version_of(program) else {
+    let Some(offered) = version_of(offer, program) else {
         return Err(Stop::Refuse(Refusal::ProgramUnavailable));
     };
     if version != offered {
@@ -141,21 +144,21 @@ fn offered(program: u32, version: u32, number: u32) -> Result<Procedure, Stop>
             high: offered,
         }));
     }
-    match Procedure::of(program, number) {
+    match offer.procedure(program, number) {
         Some(procedure) => Ok(procedure),
         None => Err(Stop::Refuse(Refusal::ProcedureUnavailable)),
     }
 }
 
 /// The head of a call, behind its message type.
-fn read_call_body(bytes: &[u8]) -> Result<Body<'_>, Stop>
-    ensures { Says body_of stop_of result (body_at bytes.now) }
+fn read_call_body(bytes: &[u8], offer: Offer) -> Result<Body<'_>, Stop>
+    ensures { Says body_of stop_of result (body_by offer bytes.now) }
 {
     let rest = read_version(bytes)?;
     let (numbers, rest) = read_numbers(rest)?;
     let (credential, rest) = read_credential(numbers.flavor, numbers.size, rest)?;
     let (_verifier, arguments) = read_auth(rest)?;
-    let procedure = offered(numbers.program, numbers.version, numbers.procedure)?;
+    let procedure = offered(offer, numbers.program, numbers.version, numbers.procedure)?;
     Ok(Body {
         procedure,
         credential,
@@ -165,15 +168,15 @@ fn read_call_body(bytes: &[u8]) -> Result<Body<'_>, Stop>
 
 /// Reads the head of a record, without memory. The first of the checks that applies decides: the
 /// number and type of the message, the version of RPC, the credential, the verifier, and the
-/// program, version and procedure.
-pub fn read_call(bytes: &[u8]) -> Head<'_>
-    ensures { head_seen result ≡ head_of bytes.now }
+/// program, version and procedure, by what is offered.
+pub fn read_call_of(bytes: &[u8], offer: Offer) -> Head<'_>
+    ensures { head_seen result ≡ head_by offer bytes.now }
 {
     let (xid, rest) = match read_xid(bytes) {
         Ok(found) => found,
         Err(fault) => return Head::Fault(fault),
     };
-    match read_call_body(rest) {
+    match read_call_body(rest, offer) {
         Ok(
             Body {
                 procedure,
@@ -189,4 +192,11 @@ pub fn read_call(bytes: &[u8]) -> Head<'_>
         Err(Stop::Refuse(reply)) => Head::Refuse { xid, reply },
         Err(Stop::Incomplete) => Head::Fault(RecordFault::BadHeader),
     }
+}
+
+/// Reads the head of a record by the basic offer.
+pub fn read_call(bytes: &[u8]) -> Head<'_>
+    ensures { head_seen result ≡ head_of bytes.now }
+{
+    read_call_of(bytes, Offer::basic())
 }

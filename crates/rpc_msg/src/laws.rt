@@ -1,19 +1,23 @@
-//! What holds of every record and of every reply.
+//! What holds of every record and of every reply. What is said of `heard` is said of the basic
+//! offer, and in a clause `any..` of every offer.
 
 ghost use Rattle.std.specs.Prelude.{◌≡◌, ◌⊎◌, ℕ, Bool, ◌≤◌, ◌<◌, List, length, Result, Ok, Err};
 ghost use Rattle.std.specs.Prelude.{slice_index};
 ghost use Rattle.nfs_model.specs.Types as model;
 ghost use Rattle.nfs_model.specs.World.{Heard, IsDecoded};
-ghost use Rattle.rpc_msg.specs.Offered.{AsksOffered};
+ghost use Rattle.nfs_values.specs.declared.offer.Offer.{Offer};
 ghost use Rattle.nfs_values.specs.declared.procedure.Procedure.{Procedure};
-ghost use Rattle.rpc_msg.specs.Heads.{Call, head_of};
-ghost use Rattle.rpc_msg.specs.Calls.{IsCall};
+ghost use Rattle.rpc_msg.specs.Heads.{Call, head_by, head_of};
+ghost use Rattle.rpc_msg.specs.Calls.{IsCall, IsCallBy};
 ghost use Rattle.rpc_msg.specs.Hearing.{AreBytes, AsksFor, Exactly, HasAnotherFlavor};
 ghost use Rattle.rpc_msg.specs.Hearing.{HasBadCredential, HasGarbage, IsAsking};
 ghost use Rattle.rpc_msg.specs.Hearing.{IsHeardAs, IsIncomplete, IsNoCall, IsOfAnotherRpc};
 ghost use Rattle.rpc_msg.specs.Hearing.{IsOfAnotherVersion, IsOfNoProcedure};
 ghost use Rattle.rpc_msg.specs.Hearing.{IsOfNoProgram, Refuses};
-ghost use Rattle.rpc_msg.specs.Records.{heard};
+ghost use Rattle.rpc_msg.specs.Hearing.{AsksForBy, HasGarbageBy, IsAskingBy, IsHeardBy};
+ghost use Rattle.rpc_msg.specs.Hearing.{IsOfAnotherVersionBy, IsOfNoProcedureBy};
+ghost use Rattle.rpc_msg.specs.Hearing.{IsOfNoProgramBy, RefusesBy};
+ghost use Rattle.rpc_msg.specs.Records.{heard, heard_by};
 ghost use Rattle.rpc_msg.specs.Replies.{reply_record, IsRefusal};
 ghost use Rattle.rpc_msg.specs.Room.{IsRoomy, refusal_room, reply_room};
 ghost use Rattle.nfs_model.specs.Server.{Server, opening};
@@ -55,12 +59,19 @@ pub fn refusals_fit()
     ensures room { (reply : model.Reply) (xid : ℕ)
         → IsRefusal reply
         → length (reply_record xid reply) ≤ refusal_room }
+    ensures any_refuses { (offer : Offer) (bytes : List ℕ) (h : Heard) (reply : model.Reply)
+        → heard_by offer bytes ≡ Ok h
+        → h.asked ≡ model.Refused reply
+        → IsRefusal reply }
 {}
 
 /// A record is no call by fault 12 or 13.
 pub fn record_faults()
-    ensures { (bytes : List ℕ) (number : ℕ)
+    ensures basic { (bytes : List ℕ) (number : ℕ)
         → heard bytes ≡ Err number
+        → (number ≡ 12) ⊎ (number ≡ 13) }
+    ensures any { (offer : Offer) (bytes : List ℕ) (number : ℕ)
+        → heard_by offer bytes ≡ Err number
         → (number ≡ 12) ⊎ (number ≡ 13) }
 {}
 
@@ -72,6 +83,13 @@ pub fn records_are_spelled()
         → AreBytes bytes
         → IsHeardAs bytes r
         → heard bytes ≡ r }
+    ensures any_found { (offer : Offer) (bytes : List ℕ)
+        → AreBytes bytes
+        → IsHeardBy offer bytes (heard_by offer bytes) }
+    ensures any_again { (offer : Offer) (bytes : List ℕ) (r : Result Heard ℕ)
+        → AreBytes bytes
+        → IsHeardBy offer bytes r
+        → heard_by offer bytes ≡ r }
 {}
 
 /// A record is fault 12 exactly where its head isn't all there, and fault 13 exactly where it is
@@ -83,6 +101,12 @@ pub fn faults_are_spelled()
     ensures no_call { (bytes : List ℕ)
         → AreBytes bytes
         → Exactly (heard bytes ≡ Err 13) (IsNoCall bytes) }
+    ensures any_incomplete { (offer : Offer) (bytes : List ℕ)
+        → AreBytes bytes
+        → Exactly (heard_by offer bytes ≡ Err 12) (IsIncomplete bytes) }
+    ensures any_no_call { (offer : Offer) (bytes : List ℕ)
+        → AreBytes bytes
+        → Exactly (heard_by offer bytes ≡ Err 13) (IsNoCall bytes) }
 {}
 
 /// AUTH_BADCRED exactly where the credential's body is bad, and AUTH_REJECTEDCRED exactly where
@@ -94,6 +118,12 @@ pub fn credentials_are_spelled()
     ensures rejected { (bytes : List ℕ) (xid : ℕ)
         → AreBytes bytes
         → Exactly (Refuses bytes xid (model.AuthError 2)) (HasAnotherFlavor bytes xid) }
+    ensures any_bad { (offer : Offer) (bytes : List ℕ) (xid : ℕ)
+        → AreBytes bytes
+        → Exactly (RefusesBy offer bytes xid (model.AuthError 1)) (HasBadCredential bytes xid) }
+    ensures any_rejected { (offer : Offer) (bytes : List ℕ) (xid : ℕ)
+        → AreBytes bytes
+        → Exactly (RefusesBy offer bytes xid (model.AuthError 2)) (HasAnotherFlavor bytes xid) }
 {}
 
 /// RPC_MISMATCH, PROG_UNAVAIL, PROG_MISMATCH and PROC_UNAVAIL, each exactly where the head names
@@ -112,6 +142,21 @@ pub fn versions_are_spelled()
     ensures procedure { (bytes : List ℕ) (xid : ℕ)
         → AreBytes bytes
         → Exactly (Refuses bytes xid model.ProcedureUnavailable) (IsOfNoProcedure bytes xid) }
+    ensures any_rpc { (offer : Offer) (bytes : List ℕ) (xid : ℕ)
+        → AreBytes bytes
+        → Exactly (RefusesBy offer bytes xid (model.RpcMismatch 2 2)) (IsOfAnotherRpc bytes xid) }
+    ensures any_program { (offer : Offer) (bytes : List ℕ) (xid : ℕ)
+        → AreBytes bytes
+        → Exactly (RefusesBy offer bytes xid model.ProgramUnavailable)
+        (IsOfNoProgramBy offer bytes xid) }
+    ensures any_version { (offer : Offer) (bytes : List ℕ) (xid offered : ℕ)
+        → AreBytes bytes
+        → Exactly (RefusesBy offer bytes xid (model.ProgramMismatch offered offered))
+        (IsOfAnotherVersionBy offer bytes xid offered) }
+    ensures any_procedure { (offer : Offer) (bytes : List ℕ) (xid : ℕ)
+        → AreBytes bytes
+        → Exactly (RefusesBy offer bytes xid model.ProcedureUnavailable)
+        (IsOfNoProcedureBy offer bytes xid) }
 {}
 
 /// GARBAGE_ARGS exactly where the arguments are no spelling or bytes are left, and a call exactly
@@ -123,20 +168,24 @@ pub fn arguments_are_spelled()
     ensures call { (bytes : List ℕ) (xid : ℕ) (call : model.Call) (who : model.Credential)
         → AreBytes bytes
         → Exactly (AsksFor bytes xid call who) (IsAsking bytes xid call who) }
+    ensures any_garbage { (offer : Offer) (bytes : List ℕ) (xid : ℕ)
+        → AreBytes bytes
+        → Exactly (RefusesBy offer bytes xid model.GarbageArguments)
+        (HasGarbageBy offer bytes xid) }
+    ensures any_call { (offer : Offer) (bytes : List ℕ) (xid : ℕ) (call : model.Call)
+        (who : model.Credential)
+        → AreBytes bytes
+        → Exactly (AsksForBy offer bytes xid call who) (IsAskingBy offer bytes xid call who) }
 {}
 
 /// A record asks a call or is refused.
 pub fn records_are_decoded()
-    ensures { (bytes : List ℕ) (h : Heard)
+    ensures basic { (bytes : List ℕ) (h : Heard)
         → heard bytes ≡ Ok h
         → IsDecoded h.asked }
-{}
-
-/// A record asks nothing but what is offered.
-pub fn records_ask_offered_calls()
-    ensures { (bytes : List ℕ) (h : Heard)
-        → heard bytes ≡ Ok h
-        → AsksOffered h.asked }
+    ensures any { (offer : Offer) (bytes : List ℕ) (h : Heard)
+        → heard_by offer bytes ≡ Ok h
+        → IsDecoded h.asked }
 {}
 
 /// A head says a call exactly where the bytes spell one that is offered, and then its arguments.
@@ -150,4 +199,13 @@ pub fn call_heads_are_exact()
         (arguments : List ℕ)
         → IsCall bytes xid procedure who arguments
         → head_of bytes ≡ Call xid procedure who arguments }
+    ensures any_found { (offer : Offer) (bytes : List ℕ) (xid : ℕ) (procedure : Procedure)
+        (who : model.Credential) (arguments : List ℕ)
+        → AreBytes bytes
+        → head_by offer bytes ≡ Call xid procedure who arguments
+        → IsCallBy offer bytes xid procedure who arguments }
+    ensures any_again { (offer : Offer) (bytes : List ℕ) (xid : ℕ) (procedure : Procedure)
+        (who : model.Credential) (arguments : List ℕ)
+        → IsCallBy offer bytes xid procedure who arguments
+        → head_by offer bytes ≡ Call xid procedure who arguments }
 {}

@@ -12,13 +12,13 @@ mod room;
 mod stop;
 
 pub use fault::RecordFault;
-pub use head::{Head, read_call};
+pub use head::{Head, read_call, read_call_of};
 pub use laws::{
     arguments_are_spelled, call_heads_are_exact, credentials_are_spelled, faults_are_spelled,
-    record_faults, records_are_decoded, records_are_spelled, records_ask_offered_calls,
-    refusals_fit, replies_fit, servers_are_roomy, versions_are_spelled,
+    record_faults, records_are_decoded, records_are_spelled, refusals_fit, replies_fit,
+    servers_are_roomy, versions_are_spelled,
 };
 pub use nfs_values::Procedure as Served;
-pub use record::{Heard, Request, read_record};
+pub use record::{Heard, Request, read_record, read_record_of};
 pub use reply::{move_reply_record, size_of_reply, write_reply, write_reply_record};
 pub use room::{REFUSAL_ROOM, room_of_reply};

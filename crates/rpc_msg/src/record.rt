@@ -3,13 +3,13 @@
 ghost use Rattle.std.specs.Prelude.{◌≤◌, length, drop};
 ghost use Rattle.nfs_values.specs.Credential.{credential_of};
 ghost use Rattle.rpc_msg.specs.Heads.{Call as Asks};
-ghost use Rattle.rpc_msg.specs.Records.{heard, heard_from};
+ghost use Rattle.rpc_msg.specs.Records.{heard, heard_by, heard_from};
 ghost use Rattle.rpc_msg.specs.Seen.{Hears, Tells};
 
 use crate::fault::RecordFault;
-use crate::head::{Head, read_call};
+use crate::head::{Head, read_call_of};
 use nfs_types::{Bad, decode_in_place};
-use nfs_values::{Call, Credential, Procedure, Refusal};
+use nfs_values::{Call, Credential, Offer, Procedure, Refusal};
 use std::alloc::Global;
 
 /// What a record asks.
@@ -51,10 +51,10 @@ fn decode(
 
 /// Reads a whole record (RFC 5531 section 9). Only names take memory: the data of a WRITE stay in
 /// the record.
-pub fn read_record(alloc: Global, record: Vec<u8>) -> Result<Heard, RecordFault>
-    ensures { Hears result (heard record.items) }
+pub fn read_record_of(alloc: Global, record: Vec<u8>, offer: Offer) -> Result<Heard, RecordFault>
+    ensures { Hears result (heard_by offer record.items) }
 {
-    match read_call(&record) {
+    match read_call_of(&record, offer) {
         Head::Call {
             xid,
             procedure,
@@ -73,4 +73,11 @@ pub fn read_record(alloc: Global, record: Vec<u8>) -> Result<Heard, RecordFault>
         }),
         Head::Fault(fault) => Err(fault),
     }
+}
+
+/// Reads a whole record by the basic offer.
+pub fn read_record(alloc: Global, record: Vec<u8>) -> Result<Heard, RecordFault>
+    ensures { Hears result (heard record.items) }
+{
+    read_record_of(alloc, record, Offer::basic())
 }

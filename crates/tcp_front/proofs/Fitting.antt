@@ -16,15 +16,15 @@ refused-fits xid reply fits =
     let same = ap (λ (l : List ℕ). length l) (record_is xid reply) in
     omega (arith, same, fits)
 
-pub at-once-fits : (layout : Layout) (xid : ℕ) (call : Call) (asked : Call) (answer : types.Answer) (volumes room : ℕ)
-    → answer ≡ answer_without_home layout (call_of call) → asked ≡ call → volumes ≡ length layout.volumes
+pub at-once-fits : (layout : Layout) (xid : ℕ) (call : Call) (answer : types.Answer) (volumes room : ℕ)
+    → answer ≡ answer_without_home layout (call_of call) → volumes ≡ length layout.volumes
     → length (reply_record xid (types.Success (answer_without_home layout (call_of call)))) ≤ reply_room
     (length layout.volumes) (call_of call)
-    → room ≡ reply_room volumes (call_of asked) → room ≤ 65584 + 20 * volumes → volumes ≤ 8
+    → room ≡ reply_room volumes (call_of call) → room ≤ 65584 + 20 * volumes → volumes ≤ 8
     → length (record_of (message xid (types.Success answer))) ≤ most_bytes
-at-once-fits layout xid call asked answer volumes room e a v fits r most few =
+at-once-fits layout xid call answer volumes room e v fits r most few =
     let there = ap (λ (x : types.Answer). length (record_of (message xid (types.Success x)))) e in
     let same = ap (λ (l : List ℕ). length l) (record_is xid (types.Success (answer_without_home layout (call_of call)))) in
     let rooms : room ≡ reply_room (length layout.volumes) (call_of call) =
-    r ∙ ap (λ (n : ℕ). reply_room n (call_of asked)) v ∙ ap (λ (k : Call). reply_room (length layout.volumes) (call_of k)) a in
+    r ∙ ap (λ (n : ℕ). reply_room n (call_of call)) v in
     omega (arith, there, same, fits, rooms, most, few)

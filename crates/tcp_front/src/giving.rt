@@ -16,8 +16,8 @@ ghost use Rattle.tcp_front.specs.Steps.{given_of};
 use crate::sink::RecordSink;
 use affinity::Layout;
 use affinity::homes::home_of;
-use engine_feed::{OfferedCall, Request, answer_at_once};
-use nfs_values::{Credential, Refusal, Reply};
+use engine_feed::{Request, answer_at_once};
+use nfs_values::{Call, Credential, Refusal, Reply};
 use rpc_msg::{refusals_fit, replies_fit, room_of_reply};
 use scheduler::{Message, Origin};
 use std::alloc::{AllocError, Global};
@@ -29,7 +29,7 @@ fn answer_now<S: RecordSink>(
     sink: &mut S,
     layout: &Layout,
     origin: Origin,
-    call: &OfferedCall,
+    call: &Call,
 ) -> Result<(), AllocError>
     requires { length (record_of (message origin.xid
         (types.Success (answer_without_home (layout_of layout.now) (call_of call.now)))))
@@ -51,7 +51,7 @@ fn give_call<S: RecordSink>(
     sink: &mut S,
     layout: &Layout,
     origin: Origin,
-    call: OfferedCall,
+    call: Call,
     credential: Credential,
 ) -> Result<(), AllocError>
     requires room { S.room sink.old ≡ true }
@@ -61,8 +61,8 @@ fn give_call<S: RecordSink>(
     ensures err { OnErr result (S.came sink.old [] sink.new) }
     ensures layout { S.layout sink.new ≡ S.layout sink.old }
 {
-    let room = room_of_reply(call.as_call(), layout.volume_count() as u32);
-    match home_of(call.as_call(), layout) {
+    let room = room_of_reply(&call, layout.volume_count() as u32);
+    match home_of(&call, layout) {
         Some(affinity) => sink.admit(Message {
             origin,
             call,

@@ -11,13 +11,13 @@ ghost use Rattle.outboxes.specs.Boxes.{most_bytes};
 ghost use Rattle.workers.specs.Messages.{IsPlaced};
 ghost use Rattle.tcp_front.specs.Admitted.{seen_of};
 
-use engine_feed::OfferedCall;
+use nfs_values::Call;
 use outboxes::Room;
 use std::alloc::{AllocError, Global};
 use workers::{Envelope, Message};
 
 /// The call of a message, with the room of its reply.
-fn with_room(message: scheduler::Message<OfferedCall>, room: Room) -> Message
+fn with_room(message: scheduler::Message<Call>, room: Room) -> Message
     requires { room ≡ message.room }
     ensures seen { seen_of result ≡ message_of message }
     ensures placed { (layout : trees.Layout)
@@ -27,7 +27,7 @@ fn with_room(message: scheduler::Message<OfferedCall>, room: Room) -> Message
 {
     Message {
         origin: message.origin,
-        call: message.call.into_call(),
+        call: message.call,
         credential: message.credential,
         affinity: message.affinity,
         room,
@@ -37,7 +37,7 @@ fn with_room(message: scheduler::Message<OfferedCall>, room: Room) -> Message
 /// The call of a message, in memory of its own and with new room for its reply.
 pub fn in_room(
     alloc: Global,
-    message: scheduler::Message<OfferedCall>,
+    message: scheduler::Message<Call>,
 ) -> Result<Envelope, AllocError>
     requires { message.room ≤ most_bytes }
     ensures seen { IfOk result (λ m. seen_of m ≡ message_of message) }

@@ -13,8 +13,7 @@ ghost use Rattle.outboxes.specs.Boxes.{addressed, most_bytes};
 ghost use Rattle.outboxes.specs.Messages.{message, record_of};
 ghost use Rattle.tcp_front.specs.Arrivals.{Arrival, Waits, Answered};
 
-use engine_feed::OfferedCall;
-use nfs_values::{ConnectionNumber, Reply};
+use nfs_values::{Call, ConnectionNumber, Reply};
 use scheduler::Message;
 use std::alloc::AllocError;
 
@@ -36,7 +35,7 @@ pub trait RecordSink {
 
     /// Admits a call that tries its home. There is room for it, so that it is refused only for want
     /// of memory.
-    fn admit(&mut self, message: Message<OfferedCall>) -> Result<(), AllocError>
+    fn admit(&mut self, message: Message<Call>) -> Result<(), AllocError>
         requires room { room self.old ≡ true }
         requires admitted { IsAdmitted (layout self.old) message }
         requires at_home { home (layout self.old) (call_of message.call)

@@ -1,22 +1,15 @@
--- What records may ask.
-use Rattle.std.proofs.Common.{◌≡◌, ℕ, true, false, cond, eqb, List, Result, Ok, Err, ◌⊎◌, refl, sym, subst, inl, inr}
+-- By which faults records are none, and that what they ask is decoded.
+use Rattle.std.proofs.Common.{◌≡◌, ℕ, true, false, cond, eqb, List, Result, Ok, Err, ◌⊎◌, refl, subst, inl, inr}
 use Rattle.xdr.specs.declared.fault.Fault.{Fault as Unread}
-use Rattle.xdr.specs.Shape.{Word, Value}
-use Rattle.xdr.specs.Reading.{◌>>=◌, Reads, read, all_of}
+use Rattle.xdr.specs.Shape.{Word}
+use Rattle.xdr.specs.Reading.{Reads, read}
 use Rattle.nfs_model.specs.Types as model
 use Rattle.nfs_model.specs.World.{Heard, IsDecoded}
-use Rattle.rpc_msg.specs.Offered.{AsksOffered}
-use Rattle.nfs_values.specs.declared.procedure.Procedure.{Procedure}
-use Rattle.nfs_values.specs.declared.procedure.Procedure.TheVariants.{Null, GetAttributes, SetAttributes, Lookup, Read, Write, Create, MakeDirectory}
-use Rattle.nfs_values.specs.declared.procedure.Procedure.TheVariants.{Remove, RemoveDirectory, Rename, ReadDirectory, FilesystemStatus, Commit, AdminNull}
-use Rattle.nfs_values.specs.declared.procedure.Procedure.TheVariants.{Census, Grow}
-use Rattle.nfs_values.specs.Procedure.{is_offered}
-use Rattle.nfs_types.specs.Arguments.{asked, arguments_shape, call_from}
+use Rattle.nfs_values.specs.declared.offer.Offer.{Offer}
+use Rattle.nfs_types.specs.Arguments.{asked}
 use Rattle.nfs_types.specs.Shapes.{◌&◌}
-use Rattle.nfs_types.specs.lemmas.Exact.{asked_is}
-use Rattle.rpc_msg.specs.Heads.{Stop, Incomplete, Refuse, Body, Head, Call, Refused, Faulty, xid_of, body_at, under, head_from, head_of}
-use Rattle.rpc_msg.specs.Records.{asked_by, heard_from, heard}
-use Rattle.rpc_msg.specs.lemmas.Serving.{HeadServes, head_serves}
+use Rattle.rpc_msg.specs.Heads.{Stop, Incomplete, Refuse, Body, Head, Call, Refused, Faulty, xid_of, body_by, under, head_from, head_by}
+use Rattle.rpc_msg.specs.Records.{asked_by, heard_from, heard_by}
 
 -- ---- faults
 
@@ -31,12 +24,12 @@ under_fault xid (Ok body) = tt
 under_fault xid (Err (Refuse reply)) = tt
 under_fault xid (Err Incomplete) = inl refl
 
-xid_fault : (r : Reads (ℕ × ℕ)) → FaultIs (head_from (xid_of r))
-xid_fault (Ok m) = elim (eqb m.0.1 0) as (λ b. FaultIs (head_from (cond b (Ok (m.0.0, m.1)) (Err 13)))) [
-  | true ↦ under_fault m.0.0 (body_at m.1)
+xid_fault : (offer : Offer) (r : Reads (ℕ × ℕ)) → FaultIs (head_from offer (xid_of r))
+xid_fault offer (Ok m) = elim (eqb m.0.1 0) as (λ b. FaultIs (head_from offer (cond b (Ok (m.0.0, m.1)) (Err 13)))) [
+  | true ↦ under_fault m.0.0 (body_by offer m.1)
   | false ↦ inr refl
 ]
-xid_fault (Err fault) = inl refl
+xid_fault offer (Err fault) = inl refl
 
 heard_fault : (head : Head) → FaultIs head → (number : ℕ) → heard_from head ≡ Err number → (number ≡ 12) ⊎ (number ≡ 13)
 heard_fault (Call xid procedure credential arguments) f number e = absurd cc
@@ -45,42 +38,14 @@ heard_fault (Faulty n) f number e =
     let same : n ≡ number = cc in
     subst (λ (m : ℕ). (m ≡ 12) ⊎ (m ≡ 13)) same f
 
-pub fault_of_record : (bytes : List ℕ) (number : ℕ) → heard bytes ≡ Err number → (number ≡ 12) ⊎ (number ≡ 13)
-fault_of_record bytes = heard_fault (head_of bytes) (xid_fault (read (Word & Word) bytes))
+pub fault_of_record : (offer : Offer) (bytes : List ℕ) (number : ℕ) → heard_by offer bytes ≡ Err number → (number ≡ 12) ⊎ (number ≡ 13)
+fault_of_record offer bytes = heard_fault (head_by offer bytes) (xid_fault offer (read (Word & Word) bytes))
 
 -- ---- what is asked
 
 asks_decoded : (credential : model.Credential) (r : Result model.Call Unread) → IsDecoded (asked_by credential r)
 asks_decoded credential (Ok call) = tt
 asks_decoded credential (Err fault) = tt
-
--- with a procedure that is offered
-asks_offered : (procedure : Procedure) → is_offered procedure ≡ true → (credential : model.Credential) (r : Result (Value (arguments_shape procedure)) Unread)
-    → AsksOffered (asked_by credential (r >>= λ v. Ok (call_from procedure v)))
-asks_offered procedure offered credential (Err fault) = tt
-asks_offered Null offered credential (Ok v) = tt
-asks_offered GetAttributes offered credential (Ok v) = tt
-asks_offered SetAttributes offered credential (Ok v) = tt
-asks_offered Lookup offered credential (Ok v) = tt
-asks_offered Read offered credential (Ok v) = tt
-asks_offered Write offered credential (Ok v) = tt
-asks_offered Create offered credential (Ok v) = tt
-asks_offered MakeDirectory offered credential (Ok v) = tt
-asks_offered Remove offered credential (Ok v) = tt
-asks_offered RemoveDirectory offered credential (Ok v) = tt
-asks_offered Rename offered credential (Ok v) = tt
-asks_offered ReadDirectory offered credential (Ok v) = tt
-asks_offered FilesystemStatus offered credential (Ok v) = tt
-asks_offered Commit offered credential (Ok v) = tt
-asks_offered AdminNull offered credential (Ok v) = tt
-asks_offered Census offered credential (Ok v) = tt
-asks_offered Grow offered credential (Ok v) = tt
-
-asked_offered : (procedure : Procedure) → is_offered procedure ≡ true → (credential : model.Credential) (bytes : List ℕ)
-    → AsksOffered (asked_by credential (asked procedure bytes))
-asked_offered procedure offered credential bytes =
-    subst (λ (r : Result model.Call Unread). AsksOffered (asked_by credential r)) (sym (asked_is procedure bytes))
-    (asks_offered procedure offered credential (all_of (arguments_shape procedure) bytes))
 
 -- what holds of what is asked, where it is told
 abbrev pub told : Heard → Result Heard ℕ
@@ -96,13 +61,5 @@ decoded (Call xid procedure credential arguments) h e = same_heard IsDecoded _ h
 decoded (Refused xid reply) h e = same_heard IsDecoded _ h e tt
 decoded (Faulty number) h e = absurd cc
 
-pub record_is_decoded : (bytes : List ℕ) (h : Heard) → heard bytes ≡ Ok h → IsDecoded h.asked
-record_is_decoded bytes = decoded (head_of bytes)
-
-offering : (head : Head) (h : Heard) → HeadServes head → heard_from head ≡ Ok h → AsksOffered h.asked
-offering (Call xid procedure credential arguments) h s e = same_heard AsksOffered _ h e (asked_offered procedure s credential arguments)
-offering (Refused xid reply) h s e = same_heard AsksOffered _ h e tt
-offering (Faulty number) h s e = absurd cc
-
-pub record_asks_offered : (bytes : List ℕ) (h : Heard) → heard bytes ≡ Ok h → AsksOffered h.asked
-record_asks_offered bytes h = offering (head_of bytes) h (head_serves (read (Word & Word) bytes))
+pub record_is_decoded : (offer : Offer) (bytes : List ℕ) (h : Heard) → heard_by offer bytes ≡ Ok h → IsDecoded h.asked
+record_is_decoded offer bytes = decoded (head_by offer bytes)

@@ -1,13 +1,15 @@
 -- The procedures that are offered, by their numbers.
-use Rattle.std.proofs.Common.{◌≡◌, ◌≢◌, ℕ, Bool, true, false, cond, ◌&&◌, eqb, List, [], ◌∷◌, Option, Some, None, find, refl, subst}
+use Rattle.std.proofs.Common.{◌≡◌, ◌≢◌, ℕ, Bool, true, false, cond, ◌&&◌, eqb, List, [], ◌∷◌, Option, Some, None, find, refl, sym, ap, subst, ◌∙◌}
 use Rattle.std.specs.List.{filter}
 use Rattle.std.proofs.lemmas.Bool.{eqb-true}
+use Rattle.nfs_values.specs.declared.offer.Offer.{Offer}
 use Rattle.nfs_values.specs.declared.procedure.Procedure.{Procedure}
 use Rattle.nfs_values.specs.declared.procedure.Procedure.TheVariants.{Null, GetAttributes, SetAttributes, Lookup, Read, Write, Create, MakeDirectory}
 use Rattle.nfs_values.specs.declared.procedure.Procedure.TheVariants.{Remove, RemoveDirectory, Rename, ReadDirectory, FilesystemStatus, Commit, AdminNull}
 use Rattle.nfs_values.specs.declared.procedure.Procedure.TheVariants.{Census, Grow}
-use Rattle.nfs_values.specs.Procedure.{all_procedures, is_offered, numbers_of}
-use Rattle.rpc_msg.specs.Heads.{is_numbered, procedures}
+use Rattle.nfs_values.specs.Offer.{offers}
+use Rattle.nfs_values.specs.Procedure.{all_procedures, numbers_of}
+use Rattle.rpc_msg.specs.Heads.{is_numbered, procedures_by}
 
 -- ---- what is found among those that are kept
 
@@ -51,33 +53,72 @@ unequal true false h = refl
 unequal true true h = absurd (h refl refl)
 
 -- no procedure that is offered has the numbers
-pub none_numbered : (program number : ℕ) → ((p : Procedure) → is_offered p ≡ true → numbers_of p ≢ (program, number))
-    → find (is_numbered program number) procedures ≡ None
-none_numbered program number h =
-    find-none is_offered (is_numbered program number) all_procedures (λ p s.
+pub none_numbered : (offer : Offer) (program number : ℕ) → ((p : Procedure) → offers offer p ≡ true → numbers_of p ≢ (program, number))
+    → find (is_numbered program number) (procedures_by offer) ≡ None
+none_numbered offer program number h =
+    find-none (offers offer) (is_numbered program number) all_procedures (λ p s.
     unequal (eqb (numbers_of p).0 program) (eqb (numbers_of p).1 number)
     (λ e d. h p s (same_pair (numbers_of p) program number (eqb-true _ _ e) (eqb-true _ _ d))))
 
--- one that is offered is found by its numbers
-pub find_again : (p : Procedure) → is_offered p ≡ true → find (is_numbered (numbers_of p).0 (numbers_of p).1) procedures ≡ Some p
-find_again Null s = refl
-find_again GetAttributes s = refl
-find_again SetAttributes s = refl
-find_again Lookup s = refl
-find_again Read s = refl
-find_again Write s = refl
-find_again Create s = refl
-find_again MakeDirectory s = refl
-find_again Remove s = refl
-find_again RemoveDirectory s = refl
-find_again Rename s = refl
-find_again ReadDirectory s = refl
-find_again FilesystemStatus s = refl
-find_again Commit s = refl
-find_again AdminNull s = refl
-find_again Census s = refl
-find_again Grow s = refl
+-- the first procedure with these numbers
+abbrev numbered : ℕ × ℕ → Option Procedure
+numbered n = find (is_numbered n.0 n.1) all_procedures
 
-pub some_numbered : (program number : ℕ) (p : Procedure) → numbers_of p ≡ (program, number) → is_offered p ≡ true
-    → find (is_numbered program number) procedures ≡ Some p
-some_numbered program number p e s = subst (λ (n : ℕ × ℕ). find (is_numbered n.0 n.1) procedures ≡ Some p) e (find_again p s)
+found_again : (p : Procedure) → numbered (numbers_of p) ≡ Some p
+found_again Null = refl
+found_again GetAttributes = refl
+found_again SetAttributes = refl
+found_again Lookup = refl
+found_again Read = refl
+found_again Write = refl
+found_again Create = refl
+found_again MakeDirectory = refl
+found_again Remove = refl
+found_again RemoveDirectory = refl
+found_again Rename = refl
+found_again ReadDirectory = refl
+found_again FilesystemStatus = refl
+found_again Commit = refl
+found_again AdminNull = refl
+found_again Census = refl
+found_again Grow = refl
+
+same_some : (p q : Procedure) → Some p ≡ Some q → p ≡ q
+same_some p q h = cc
+
+pub both_true : (a b : Bool) → (a && b) ≡ true → (a ≡ true) × (b ≡ true)
+both_true true b e = (refl, e)
+both_true false b e = absurd cc
+
+-- two procedures of the same numbers are one
+one_numbered : (p q : Procedure) → is_numbered (numbers_of p).0 (numbers_of p).1 q ≡ true → q ≡ p
+one_numbered p q e =
+    let t = both_true (eqb (numbers_of q).0 (numbers_of p).0) (eqb (numbers_of q).1 (numbers_of p).1) e in
+    let same = same_pair (numbers_of q) (numbers_of p).0 (numbers_of p).1 (eqb-true _ _ t.0) (eqb-true _ _ t.1) in
+    same_some q p (sym (found_again q) ∙ ap numbered same ∙ found_again p)
+
+-- ---- what is found and kept
+
+kept_after : (test : Procedure → Bool) (b : Bool) (q : Procedure) (others : List Procedure) (p : Procedure) → test q ≡ false → find test others ≡ Some p
+    → find test (cond b (q ∷ others) others) ≡ Some p
+kept_after test true q others p e h = rw e h
+kept_after test false q others p e h = h
+
+module _ (keep test : Procedure → Bool) (p : Procedure) (kept : keep p ≡ true) (only : (q : Procedure) → test q ≡ true → q ≡ p) where
+  kept_first : (b : Bool) (q : Procedure) (ps : List Procedure) → test q ≡ b → cond b (Some q) (find test ps) ≡ Some p
+      → (find test ps ≡ Some p → find test (filter keep ps) ≡ Some p) → find test (filter keep (q ∷ ps)) ≡ Some p
+  kept_first true q ps e h more = let same : q ≡ p = only q e in rw (same, kept) (rw (← same, e) refl)
+  kept_first false q ps e h more = kept_after test (keep q) q (filter keep ps) p e (more h)
+
+  -- the one that passes a test is found among those that are kept
+  found_kept : (ps : List Procedure) → find test ps ≡ Some p → find test (filter keep ps) ≡ Some p
+  found_kept [] h = absurd cc
+  found_kept (q ∷ ps) h = kept_first (test q) q ps refl h (found_kept ps)
+
+-- one that is offered is found by its numbers
+pub find_again : (offer : Offer) (p : Procedure) → offers offer p ≡ true → find (is_numbered (numbers_of p).0 (numbers_of p).1) (procedures_by offer) ≡ Some p
+find_again offer p s = found_kept (offers offer) (is_numbered (numbers_of p).0 (numbers_of p).1) p s (one_numbered p) all_procedures (found_again p)
+
+pub some_numbered : (offer : Offer) (program number : ℕ) (p : Procedure) → numbers_of p ≡ (program, number) → offers offer p ≡ true
+    → find (is_numbered program number) (procedures_by offer) ≡ Some p
+some_numbered offer program number p e s = subst (λ (n : ℕ × ℕ). find (is_numbered n.0 n.1) (procedures_by offer) ≡ Some p) e (find_again offer p s)

@@ -6,6 +6,7 @@ use Rattle.xdr.specs.Shape.{Word, Fixed, Value}
 use Rattle.xdr.specs.Reading.{Reads, read, all_of}
 use Rattle.nfs_model.specs.Types as model
 use Rattle.nfs_model.specs.World.{Heard}
+use Rattle.nfs_values.specs.declared.offer.Offer.{Offer}
 use Rattle.nfs_values.specs.declared.procedure.Procedure.{Procedure}
 use Rattle.nfs_values.specs.declared.reply.Refusal.{Refusal}
 use Rattle.nfs_values.specs.declared.reply.Refusal.TheVariants as refusals
@@ -14,10 +15,10 @@ use Rattle.nfs_types.specs.Arguments.{asked}
 use Rattle.nfs_types.specs.Shapes.{◌&◌}
 use Rattle.rpc_msg.specs.Replies.{auth_shape, reply_record, IsRefusal}
 use Rattle.rpc_msg.specs.Heads.{◌>>=◌, Stop, Incomplete, Refuse, Body, Head, Call, Refused, Faulty, whole, version_at, numbers_shape, auth_sys_shape, body_of}
-use Rattle.rpc_msg.specs.Heads.{user_of, acting, credential_at, version_of, procedures, is_numbered, available, of_version, procedure_of, body_at, under}
-use Rattle.rpc_msg.specs.Heads.{xid_of, head_from, head_of}
+use Rattle.rpc_msg.specs.Heads.{user_of, acting, credential_at, version_by, procedures_by, is_numbered, available, of_version, procedure_by, body_by, under}
+use Rattle.rpc_msg.specs.Heads.{xid_of, head_from, head_by}
 use Rattle.rpc_msg.specs.Room.{refusal_room}
-use Rattle.rpc_msg.specs.Records.{asked_by, heard_from, heard}
+use Rattle.rpc_msg.specs.Records.{asked_by, heard_from, heard_by}
 use Rattle.rpc_msg.specs.lemmas.Hearing.{same_heard}
 
 -- where a call isn't offered, the reply refuses it
@@ -69,13 +70,13 @@ credential_sound flavor size bytes =
 version_sound : (bytes : List ℕ) → StopsByRefusal (version_at bytes)
 version_sound bytes = then_sound (whole (read Word bytes)) _ (whole_sound (read Word bytes)) (λ v. if_sound (eqb v.0 2) _ _ tt tt)
 
-call_sound : (bytes : List ℕ) → StopsByRefusal (body_at bytes)
-call_sound bytes =
+call_sound : (offer : Offer) (bytes : List ℕ) → StopsByRefusal (body_by offer bytes)
+call_sound offer bytes =
     then_sound (version_at bytes) _ (version_sound bytes) (λ rest.
     then_sound (whole (read numbers_shape rest)) _ (whole_sound (read numbers_shape rest)) (λ n.
     then_sound (credential_at n.0.1.1.1.0 n.0.1.1.1.1 n.1) _ (credential_sound n.0.1.1.1.0 n.0.1.1.1.1 n.1) (λ c.
     then_sound (whole (read auth_shape c.1)) _ (whole_sound (read auth_shape c.1)) (λ v.
-    then_sound (procedure_of n.0.0 n.0.1.0 n.0.1.1.0) _ (of_version_sound (version_of n.0.0) n.0.1.0 (find (is_numbered n.0.0 n.0.1.1.0) procedures))
+    then_sound (procedure_by offer n.0.0 n.0.1.0 n.0.1.1.0) _ (of_version_sound (version_by offer n.0.0) n.0.1.0 (find (is_numbered n.0.0 n.0.1.1.0) (procedures_by offer)))
     (λ p. tt)))))
 
 -- ---- the head and the record
@@ -90,12 +91,12 @@ under_sound xid (Ok body) s = tt
 under_sound xid (Err Incomplete) s = tt
 under_sound xid (Err (Refuse reply)) s = s
 
-head_sound : (r : Reads (ℕ × ℕ)) → HeadIsSound (head_from (xid_of r))
-head_sound (Ok m) = elim (eqb m.0.1 0) as (λ b. HeadIsSound (head_from (cond b (Ok (m.0.0, m.1)) (Err 13)))) [
-  | true ↦ under_sound m.0.0 (body_at m.1) (call_sound m.1)
+head_sound : (offer : Offer) (r : Reads (ℕ × ℕ)) → HeadIsSound (head_from offer (xid_of r))
+head_sound offer (Ok m) = elim (eqb m.0.1 0) as (λ b. HeadIsSound (head_from offer (cond b (Ok (m.0.0, m.1)) (Err 13)))) [
+  | true ↦ under_sound m.0.0 (body_by offer m.1) (call_sound offer m.1)
   | false ↦ tt
 ]
-head_sound (Err fault) = tt
+head_sound offer (Err fault) = tt
 
 -- a reply that is asked to be given refuses
 abbrev AskedRefuses : model.Asked → Type 0
@@ -112,8 +113,8 @@ heard_refuses (Call xid procedure credential arguments) h s e = same_heard Asked
 heard_refuses (Refused xid reply) h s e = same_heard AskedRefuses _ h e s
 heard_refuses (Faulty number) h s e = absurd cc
 
-pub refusal_refuses : (bytes : List ℕ) (h : Heard) (reply : model.Reply) → heard bytes ≡ Ok h → h.asked ≡ model.Refused reply → IsRefusal reply
-refusal_refuses bytes h reply e r = subst AskedRefuses r (heard_refuses (head_of bytes) h (head_sound (read (Word & Word) bytes)) e)
+pub refusal_refuses : (offer : Offer) (bytes : List ℕ) (h : Heard) (reply : model.Reply) → heard_by offer bytes ≡ Ok h → h.asked ≡ model.Refused reply → IsRefusal reply
+refusal_refuses offer bytes h reply e r = subst AskedRefuses r (heard_refuses (head_by offer bytes) h (head_sound offer (read (Word & Word) bytes)) e)
 
 pub refusal_fits : (reply : model.Reply) (xid : ℕ) → IsRefusal reply → length (reply_record xid reply) ≤ refusal_room
 refusal_fits (model.Success answer) xid r = absurd r

@@ -1,22 +1,21 @@
 use Rattle.std.proofs.Common.{sym, subst}
-use Rattle.nfs_values.specs.declared.call.Call.{Call}
 use Rattle.nfs_values.specs.Credential.{credential_of}
 use Rattle.nfs_values.specs.Moment.{moment_of}
 use Rattle.filer_state.specs.declared.files.Files.{Files}
 use Rattle.desk.specs.laws.Books.{now}
-use Rattle.desk.specs.laws.Calls.{MayWork, HasWorked}
+use Rattle.desk.specs.laws.Calls.{HasWorked}
 use Rattle.desk.specs.Words.{books}
 use Rattle.engine.specs.laws.Store.{FilerBooks}
 use Rattle.service.specs.declared.job.Job.{Job}
 use Rattle.service.specs.declared.job.JobReply.{JobReply}
-use Rattle.service.specs.Running.{AsksFor, HasRun}
+use Rattle.service.specs.Running.{HasRun}
 use Rattle.engine.specs.counts.Counts.{IsCounted}
 use Rattle.engine.proofs.Counted.{may-recount, recounted}
 use Rattle.engine.proofs.working.run_on.Goals as goal
 
 pub work-outcome-requires-clause-may : goal.work-outcome-requires-clause-may
 work-outcome-requires-clause-may c =
-    subst (λ (x : Call). MayWork (AsksFor x) (books c.args.desk.now) c.args.worker) (sym c.as_call.ensures.value) c.requires.may
+    c.requires.may
 
 pub recount-requires-clause-may : goal.recount-requires-clause-may
 recount-requires-clause-may c =
@@ -29,8 +28,7 @@ returns-clause-worked c =
     subst (λ (b : FilerBooks Files Job JobReply).
     HasWorked (HasRun r.message.call (credential_of r.message.credential) (moment_of r.moment)) (books c.args.desk.now) c.args.worker c.work-outcome.result b)
     (sym c.recount.ensures.same)
-    (subst (λ (x : Call). HasWorked (HasRun x (credential_of r.message.credential) (moment_of r.moment)) (books c.args.desk.now) c.args.worker
-    c.work-outcome.result (books c.work-outcome.new.self)) c.as_call.ensures.value c.work-outcome.ensures.worked)
+    c.work-outcome.ensures.worked
 
 pub returns-clause-counted : goal.returns-clause-counted
 returns-clause-counted c =

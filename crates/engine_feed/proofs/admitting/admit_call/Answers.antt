@@ -1,7 +1,5 @@
 use Rattle.std.proofs.Common.{refl, sym, ap, ◌∙◌}
 use Rattle.std.specs.Prelude.{option_map}
-use Rattle.nfs_model.specs.Home.{home}
-use Rattle.nfs_values.specs.declared.call.Call.{Call}
 use Rattle.nfs_values.specs.Answer.{answer_of}
 use Rattle.nfs_values.specs.Call.{call_of}
 use Rattle.nfs_values.specs.Credential.{credential_of}
@@ -18,14 +16,12 @@ answer-requires-clause-short c =
 
 pub returns-in-Some-clause-admitted : goal.returns-in-Some-clause-admitted
 returns-in-Some-clause-admitted c =
-    let layout = layout_in c.args.calls.now in
     waits c.args.calls.now c.wait.new.calls c.args.connection.now c.wait.new.connection _ _ c.wait.ensures.waits refl
-    (ap (λ (k : Call). home layout (call_of k)) (sym c.as_call.ensures.value) ∙ sym c.home_of.ensures.home ∙ ap (option_map affinity_of) c.in-Some.is)
+    (sym c.home_of.ensures.home ∙ ap (option_map affinity_of) c.in-Some.is)
 
 pub returns-in-None-clause-admitted : goal.returns-in-None-clause-admitted
 returns-in-None-clause-admitted c =
-    let layout = layout_in c.args.calls.now in
     at-once c.args.calls.now c.answer.new.calls c.args.connection.now c.answer.new.connection c.args.origin (call_of c.args.call)
     (credential_of c.args.credential) (answer_of c.answer_at_once.result) c.without_home_stays.ensures
-    (ap (λ (k : Call). home layout (call_of k)) (sym c.as_call.ensures.value) ∙ sym c.home_of.ensures.home ∙ ap (option_map affinity_of) c.in-None.is)
+    (sym c.home_of.ensures.home ∙ ap (option_map affinity_of) c.in-None.is)
     c.answer_at_once.ensures c.answer.ensures.finishes

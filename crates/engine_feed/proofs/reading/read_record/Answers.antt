@@ -1,8 +1,5 @@
 use Rattle.std.proofs.Common.{Result, Ok, Err, sym, ap, subst, ◌∙◌}
 use Rattle.nfs_model.specs.Types as types
-use Rattle.nfs_values.specs.declared.call.Call.{Call}
-use Rattle.nfs_values.specs.Call.{call_of}
-use Rattle.nfs_values.specs.Credential.{credential_of}
 use Rattle.rpc_msg.specs.declared.fault.RecordFault.{RecordFault}
 use Rattle.rpc_msg.specs.declared.record.Heard.{Heard}
 use Rattle.rpc_msg.specs.declared.record.Request.{Request}
@@ -11,7 +8,7 @@ use Rattle.rpc_msg.specs.Seen.{Hears, Tells}
 use Rattle.engine_feed.specs.declared.stop.StreamFault.{StreamFault}
 use Rattle.engine_feed.specs.Numbers.{fault_number}
 use Rattle.engine_feed.specs.lemmas.Codec.{heard_is}
-use Rattle.engine_feed.proofs.Records.{numbers-same, heard-is-offered}
+use Rattle.engine_feed.proofs.Records.{numbers-same}
 use Rattle.engine_feed.proofs.reading.read_record.Goals as goal
 
 pub returns-in-Err : goal.returns-in-Err
@@ -20,20 +17,12 @@ returns-in-Err c =
     let h = subst (λ (r : Result Heard RecordFault). Hears r (records.heard bytes)) c.in-Err.is c.read_record.ensures in
     heard_is bytes ∙ h ∙ ap (λ n. Err n) (sym (numbers-same _)) ∙ ap (λ (f : StreamFault). Err (fault_number f)) (sym c.stream_fault.ensures)
 
-pub new-requires : goal.new-requires
-new-requires c =
-    let bytes = c.args.record.items in
-    let h = subst (λ (r : Result Heard RecordFault). Hears r (records.heard bytes)) c.in-Ok.is c.read_record.ensures in
-    let q = subst (λ (r : Request). Tells c.in-Ok.field-0.xid r (records.heard bytes)) c.in-Call.is h in
-    heard-is-offered bytes c.in-Ok.field-0.xid (call_of c.in-Call.call) (credential_of c.in-Call.credential) q
-
 pub returns-in-Call : goal.returns-in-Call
 returns-in-Call c =
     let bytes = c.args.record.items in
     let h = subst (λ (r : Result Heard RecordFault). Hears r (records.heard bytes)) c.in-Ok.is c.read_record.ensures in
     let q = subst (λ (r : Request). Tells c.in-Ok.field-0.xid r (records.heard bytes)) c.in-Call.is h in
-    heard_is bytes ∙ q ∙ ap (λ (k : Call). Ok (record { xid = c.in-Ok.field-0.xid; asked = types.Ask (call_of k) (credential_of c.in-Call.credential) }))
-    (sym c.new.ensures)
+    heard_is bytes ∙ q
 
 pub returns-in-Refused : goal.returns-in-Refused
 returns-in-Refused c =

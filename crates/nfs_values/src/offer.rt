@@ -1,0 +1,74 @@
+//! Which procedures are offered.
+
+ghost use Rattle.std.specs.Prelude.{◌≡◌, ◌≢◌, true, false, IfSome, None};
+
+use crate::procedure::Procedure;
+
+/// Which procedures are offered: a set of them. A call of another is refused, as one of a number
+/// that no procedure has (PROC_UNAVAIL, RFC 5531 section 9).
+#[derive(Clone, Copy)]
+pub struct Offer {
+    /// Of each procedure, at its place, whether it is offered.
+    has: [bool; 17],
+}
+
+impl Offer {
+    ghost use Rattle.nfs_values.specs.Offer.{basic, offers, offers_program};
+    ghost use Rattle.nfs_values.specs.Procedure.{numbers_of};
+    ghost use Rattle.nfs_values.specs.declared.procedure.Procedure.{Procedure as Known};
+
+    /// The offer of `replay` and `serve`: every procedure.
+    pub fn basic() -> Offer
+        ensures { result ≡ basic }
+    {
+        Offer { has: [true; 17] }
+    }
+
+    /// The offer with this procedure too.
+    pub fn with(self, procedure: Procedure) -> Offer
+        ensures this { offers result procedure ≡ true }
+        ensures others { (p : Known) → p ≢ procedure → offers result p ≡ offers self p }
+    {
+        let Offer { mut has } = self;
+        has[procedure.place()] = true;
+        Offer { has }
+    }
+
+    /// The offer without this procedure.
+    pub fn without(self, procedure: Procedure) -> Offer
+        ensures this { offers result procedure ≡ false }
+        ensures others { (p : Known) → p ≢ procedure → offers result p ≡ offers self p }
+    {
+        let Offer { mut has } = self;
+        has[procedure.place()] = false;
+        Offer { has }
+    }
+
+    /// Whether this procedure is offered.
+    pub fn has(self, procedure: Procedure) -> bool
+        ensures { result ≡ offers self procedure }
+    {
+        self.has[procedure.place()]
+    }
+
+    /// Whether any procedure of this program is offered.
+    pub fn has_program(self, program: u32) -> bool
+        ensures { result ≡ offers_program self program }
+    {
+        Procedure::ALL
+            .iter()
+            .any(|p| self.has(*p) && p.program() == program)
+    }
+
+    /// The procedure of this number in this program, where it is offered.
+    pub fn procedure(self, program: u32, number: u32) -> Option<Procedure>
+        ensures found { IfSome result
+            (λ p. (numbers_of p ≡ (program, number)) × (offers self p ≡ true)) }
+        ensures none { result ≡ None
+            → (p : Known)
+            → offers self p ≡ true
+            → numbers_of p ≢ (program, number) }
+    {
+        Procedure::known(program, number).filter(|p| self.has(*p))
+    }
+}
