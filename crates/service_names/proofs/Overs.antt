@@ -6,20 +6,20 @@ use Rattle.nfs_model.specs.Serial.Create.{is_verifier}
 use Rattle.nfs_model.specs.volume.Inodes.{InodeKind, RegularFile}
 use Rattle.filer_state.specs.changes.Named.{fails, unless_fault, HeldNaming, HeldNode}
 use Rattle.filer_state.specs.changes.Attributes.{node_changed, node_fault}
-use Rattle.filer_state.specs.changes.Making.{create_upon, there_shown, there_set}
+use Rattle.filer_state.specs.changes.Making.{create_existing, there_shown, there_set}
 
 module _ (n : HeldNaming) (child : HeldNode) (kind : InodeKind) (size filled : ℕ) (kept : Option (List ℕ)) (is : kind ≡ RegularFile size filled kept) where
   -- an exclusive one, by whether the verifier is the same
   pub exclusive-upon : (verifier : List ℕ) (b : Bool) → is_verifier kept verifier ≡ b
-      → create_upon n (Exclusive verifier) child kind ≡ (if b then there_shown n child else fails Exists n.set)
+      → create_existing n (Exclusive verifier) child kind ≡ (if b then there_shown n child else fails Exists n.set)
   exclusive-upon verifier b e =
-      ap (λ k. create_upon n (Exclusive verifier) child k) is
+      ap (λ k. create_existing n (Exclusive verifier) child k) is
       ∙ ap (λ (x : Bool). if x then there_shown n child else fails Exists n.set) e
 
   -- an unchecked one, by what hinders
   pub unchecked-upon : (set : SetAttributes) (o : Option Status) → node_fault child.fileid set None child.inode n.set ≡ o
-      → create_upon n (Unchecked set) child kind
+      → create_existing n (Unchecked set) child kind
       ≡ unless_fault o n.set (there_set n child.fileid (node_changed child.fileid set n.moment child.inode n.set))
   unchecked-upon set o e =
-      ap (λ k. create_upon n (Unchecked set) child k) is
+      ap (λ k. create_existing n (Unchecked set) child k) is
       ∙ ap (λ (x : Option Status). unless_fault x n.set (there_set n child.fileid (node_changed child.fileid set n.moment child.inode n.set))) e

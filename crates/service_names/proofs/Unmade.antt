@@ -21,9 +21,9 @@ use Rattle.filer_state.specs.state.Sets.{FilerLogical, FilerStripe, stripe_value
 use Rattle.filer_state.specs.laws.lemmas.Each.{each-same, each-map, each-index, get-there}
 use Rattle.filer_state.specs.changes.NodesMade.{card_made, directories_made, node_made}
 use Rattle.filer_state.specs.changes.Making.{making_of}
-use Rattle.service_names.specs.declared.within.Within.{Within}
+use Rattle.service_names.specs.declared.parent.Parent.{Parent}
 use Rattle.service_names.specs.Cards.{InFirst, place_dropped, DiffersByCard, HasCard, IsDropped}
-use Rattle.service_names.specs.Making.{MayMake, naming_within, inode_dated, without_directory, node_unmade}
+use Rattle.service_names.specs.Making.{MayMake, naming_in_parent, inode_dated, without_directory, node_unmade}
 use Rattle.service_names.specs.Changing.{with_inodes, with_directories}
 use Rattle.service_names.proofs.Dropped.{first-alike}
 use Rattle.service_names.proofs.Putting.{same-places, there}
@@ -82,13 +82,13 @@ module _ {P : Type 0} where
 
 -- ---- a node
 
-module _ {P : Type 0} (within : Within) (name : List ℕ) (old : FilerLogical P) (may : MayMake (naming_within within name (logical_before old))) (made : Inode)
+module _ {P : Type 0} (parent : Parent) (name : List ℕ) (old : FilerLogical P) (may : MayMake (naming_in_parent parent name (logical_before old))) (made : Inode)
     (f : ℕ) (is : f ≡ old.own.inodes.next) where
   abbrev n : ℕ
   n = old.own.stripes
 
   abbrev d : ℕ
-  d = within.fileid.0
+  d = parent.fileid.0
 
   abbrev was : ℕ → StripeValue
   was i = stripe_value (placed old.stripes.at i)
@@ -166,16 +166,16 @@ module _ {P : Type 0} (within : Within) (name : List ℕ) (old : FilerLogical P)
       pub all-made : (title : List ℕ) → title ≡ name
           → two.own ≡ with_directories (changed_at (added title f) d (directories_made made.kind f one.own.directories)) one.own
           → InFirst (HasCard made.kind f) one.own.stripes one.stripes.at two.stripes.at
-          → three.own ≡ with_inodes (inode_set d (inode_dated (naming_within within name (logical_before old)).inode made.kind
-          (naming_within within name (logical_before old)).moment) two.own.inodes) two.own
-          → logical_after old three ≡ node_made (making_of (naming_within within name (logical_before old)) made) (logical_before old)
+          → three.own ≡ with_inodes (inode_set d (inode_dated (naming_in_parent parent name (logical_before old)).inode made.kind
+          (naming_in_parent parent name (logical_before old)).moment) two.own.inodes) two.own
+          → logical_after old three ≡ node_made (making_of (naming_in_parent parent name (logical_before old)) made) (logical_before old)
       all-made title titled tied cards set = λ j. record { own = own j; stripes = placed_now j }
         where
           dated : Inode
-          dated = inode_dated (naming_within within name (logical_before old)).inode made.kind (naming_within within name (logical_before old)).moment
+          dated = inode_dated (naming_in_parent parent name (logical_before old)).inode made.kind (naming_in_parent parent name (logical_before old)).moment
 
           entries : DirectoryValue
-          entries = (naming_within within name (logical_before old)).entries
+          entries = (naming_in_parent parent name (logical_before old)).entries
 
           entered : changed_at (added title f) d (directories_made made.kind f old.own.directories)
               ≡ changed_value (added name f) (Some entries) d (directories_made made.kind f old.own.directories)
@@ -184,7 +184,7 @@ module _ {P : Type 0} (within : Within) (name : List ℕ) (old : FilerLogical P)
               ∙ ap (λ o. changed_value (added name f) o d (directories_made made.kind f old.own.directories))
               (made-get made.kind f old.own d apart-of ∙ may.entered)
 
-          own : three.own ≡ (node_made (making_of (naming_within within name (logical_before old)) made) (logical_before old)).own
+          own : three.own ≡ (node_made (making_of (naming_in_parent parent name (logical_before old)) made) (logical_before old)).own
           own =
               set ∙ ap (λ (l : LogicalValue). with_inodes (inode_set d dated l.inodes) l) tied
               ∙ ap (λ (l : LogicalValue). with_inodes (inode_set d dated l.inodes)

@@ -14,11 +14,11 @@ use Rattle.filer_state.specs.state.Tree.{stripe_at}
 use Rattle.filer_state.specs.changes.NodesMade.{folders_in, with_subdirectories}
 use Rattle.filer_state.specs.changes.Named.{HeldNaming}
 use Rattle.service_names.specs.Naming.{naming_in}
-use Rattle.service_names.specs.declared.within.Within.{Within}
+use Rattle.service_names.specs.declared.parent.Parent.{Parent}
 
 -- a name in the directory of a call
-abbrev pub naming_within : Within → List ℕ → LogicalSet → HeldNaming
-naming_within w name s = naming_in w.volume.0 w.fileid.0 (inode_value w.inode) name (moment_of w.moment) s
+abbrev pub naming_in_parent : Parent → List ℕ → LogicalSet → HeldNaming
+naming_in_parent w name s = naming_in w.volume.0 w.fileid.0 (inode_value w.inode) name (moment_of w.moment) s
 
 -- without the directory of a fileid
 abbrev pub without_directory : ℕ → LogicalValue → LogicalValue

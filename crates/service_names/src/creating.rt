@@ -17,9 +17,9 @@ ghost use Rattle.service_names.specs.Making.{Makes};
 ghost use Rattle.service_names.specs.Promises.{Creates, MakesDirectory};
 
 use crate::child::{child_at, directory_named, is_dots};
+use crate::existing::create_existing;
 use crate::making_new::{create_new, make_new};
-use crate::upon::create_upon;
-use crate::within::Within;
+use crate::parent::Parent;
 use filer_state::Files;
 use filer_state::changes::making_calls_are_right;
 use nfs_values::{
@@ -116,15 +116,15 @@ fn file_created(
     if is_dots(name) {
         return Ok(Err(Status::Exists));
     }
-    let within = Within {
+    let parent = Parent {
         volume,
         fileid: directory,
         inode,
         moment,
     };
     match child_at(held, directory, name) {
-        Some(child) => Ok(create_upon(held, within, child, mode)),
-        None => create_new(alloc, held, within, name, mode, credential),
+        Some(child) => Ok(create_existing(held, parent, child, mode)),
+        None => create_new(alloc, held, parent, name, mode, credential),
     }
 }
 
@@ -159,7 +159,7 @@ fn directory_made(
     if is_dots(name) {
         return Ok(Err(Status::Exists));
     }
-    let within = Within {
+    let parent = Parent {
         volume,
         fileid: directory,
         inode,
@@ -167,6 +167,6 @@ fn directory_made(
     };
     match child_at(held, directory, name) {
         Some(_) => Ok(Err(Status::Exists)),
-        None => make_new(alloc, held, within, name, set, credential),
+        None => make_new(alloc, held, parent, name, set, credential),
     }
 }

@@ -38,7 +38,7 @@ ghost use Rattle.service_names.specs.Cards.{InFirst, DiffersByCard, HasCard, IsD
 ghost use Rattle.service_names.specs.Changing.{with_directories, with_inodes};
 ghost use Rattle.service_names.specs.Making.{
   MayMake,
-  naming_within,
+  naming_in_parent,
   inode_dated,
   without_directory,
   node_unmade,
@@ -48,8 +48,8 @@ ghost use Rattle.service_names.specs.Shown.{HasFewLinks};
 use crate::cards::{drop_cards, put_cards};
 use crate::child::directory_change;
 use crate::node::Node;
+use crate::parent::Parent;
 use crate::showing::shown;
-use crate::within::Within;
 use directories::Directory;
 use filer_state::Files;
 use inodes::{Created, Inode, InodeKind, StoredAttributes};
@@ -62,30 +62,30 @@ use std::alloc::{AllocError, Global};
 pub(crate) fn make_told(
     alloc: Global,
     held: &mut LogicalHeld<Files>,
-    within: Within,
+    parent: Parent,
     name: &[u8],
     made: Inode,
 ) -> Result<MakeResults, AllocError>
-    requires may { MayMake (naming_within within name.now (logical_before held.old)) }
+    requires may { MayMake (naming_in_parent parent name.now (logical_before held.old)) }
     requires empty { filled_blocks (kind_value made.kind) ≡ 0 }
     requires links { HasFewLinks (kind_value made.kind) }
     ensures told { IfOk result (λ told. made_told told ≡ (held_made
-        (naming_within within name.now (logical_before held.old)) (inode_value made)).answer) }
+        (naming_in_parent parent name.now (logical_before held.old)) (inode_value made)).answer) }
     ensures set { OnOk result (logical_after held.old held.new ≡ (held_made
-        (naming_within within name.now (logical_before held.old)) (inode_value made)).set) }
+        (naming_in_parent parent name.now (logical_before held.old)) (inode_value made)).set) }
     ensures alike { logical_alike held.old held.new }
     ensures err { OnErr result (held.new ≡ held.old) }
 {
-    let fileid = make_node(alloc, held, within, name, made)?;
-    let volume = within.volume;
+    let fileid = make_node(alloc, held, parent, name, made)?;
+    let volume = parent.volume;
     let directory = Node {
-        fileid: within.fileid,
-        inode: within.inode,
+        fileid: parent.fileid,
+        inode: parent.inode,
     };
     Ok(MakeResults {
         handle: FileHandle::naming(Named { volume, fileid }),
         object: shown(volume, fileid, made, None),
-        directory: directory_change(volume, directory, dated(within, made.kind)),
+        directory: directory_change(volume, directory, dated(parent, made.kind)),
     })
 }
 
@@ -94,15 +94,15 @@ pub(crate) fn make_told(
 fn make_node(
     alloc: Global,
     held: &mut LogicalHeld<Files>,
-    within: Within,
+    parent: Parent,
     name: &[u8],
     made: Inode,
 ) -> Result<Fileid, AllocError>
-    requires may { MayMake (naming_within within name.now (logical_before held.old)) }
+    requires may { MayMake (naming_in_parent parent name.now (logical_before held.old)) }
     requires empty { filled_blocks (kind_value made.kind) ≡ 0 }
     ensures fileid { IfOk result (λ fileid. fileid.0 ≡ held.old.own.inodes.next) }
     ensures ok { OnOk result (logical_after held.old held.new ≡ node_made
-        (making_of (naming_within within name.now (logical_before held.old)) (inode_value made))
+        (making_of (naming_in_parent parent name.now (logical_before held.old)) (inode_value made))
         (logical_before held.old)) }
     ensures alike { logical_alike held.old held.new }
     ensures err { OnErr result (held.new ≡ held.old) }
@@ -110,9 +110,9 @@ fn make_node(
     let name = Name::copied(alloc, name)?;
     let created = create_inode(held, made)?;
     let fileid = created.fileid();
-    match tie(alloc, held, within.fileid, name, fileid, made.kind) {
+    match tie(alloc, held, parent.fileid, name, fileid, made.kind) {
         Ok(()) => {
-            set_directory(held, within, made.kind);
+            set_directory(held, parent, made.kind);
             Ok(created.keep())
         }
         Err(error) => {
@@ -231,34 +231,34 @@ fn drop_inode(held: &mut LogicalHeld<Files>, created: Created)
 }
 
 /// Sets the inode of a directory in which a node of a kind is made.
-fn set_directory(held: &mut LogicalHeld<Files>, within: Within, made: InodeKind)
-    requires { IfSome (subdirectories_in (kind_value within.inode.kind))
+fn set_directory(held: &mut LogicalHeld<Files>, parent: Parent, made: InodeKind)
+    requires { IfSome (subdirectories_in (kind_value parent.inode.kind))
         (λ subdirectories. subdirectories < most_inodes) }
-    ensures own { held.new.own ≡ with_inodes (inode_set within.fileid.0
-        (inode_dated (inode_value within.inode) (kind_value made) (moment_of within.moment))
+    ensures own { held.new.own ≡ with_inodes (inode_set parent.fileid.0
+        (inode_dated (inode_value parent.inode) (kind_value made) (moment_of parent.moment))
         held.old.own.inodes) held.old.own }
     ensures stripes { held.new.stripes ≡ held.old.stripes }
 {
-    let changed = dated(within, made);
-    held.own.get_mut().inodes.set(within.fileid, changed);
+    let changed = dated(parent, made);
+    held.own.get_mut().inodes.set(parent.fileid, changed);
 }
 
 /// The inode of a directory in which a node of a kind is made: both times are the moment's, and a
 /// directory is one more subdirectory.
-fn dated(within: Within, made: InodeKind) -> Inode
-    requires { IfSome (subdirectories_in (kind_value within.inode.kind))
+fn dated(parent: Parent, made: InodeKind) -> Inode
+    requires { IfSome (subdirectories_in (kind_value parent.inode.kind))
         (λ subdirectories. subdirectories < most_inodes) }
-    ensures { inode_value result ≡ inode_dated (inode_value within.inode) (kind_value made)
-        (moment_of within.moment) }
+    ensures { inode_value result ≡ inode_dated (inode_value parent.inode) (kind_value made)
+        (moment_of parent.moment) }
 {
     let attributes = StoredAttributes {
-        mtime: within.moment,
-        ctime: within.moment,
-        ..within.inode.attributes
+        mtime: parent.moment,
+        ctime: parent.moment,
+        ..parent.inode.attributes
     };
     Inode {
         attributes,
-        kind: with_child(within.inode.kind, made),
+        kind: with_child(parent.inode.kind, made),
     }
 }
 

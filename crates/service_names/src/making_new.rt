@@ -16,12 +16,12 @@ ghost use Rattle.filer_state.specs.changes.Making.{
   mkdir_by,
   mkdir_check,
 };
-ghost use Rattle.service_names.specs.Making.{MayMake, naming_within, Makes};
+ghost use Rattle.service_names.specs.Making.{MayMake, naming_in_parent, Makes};
 
 use crate::attributes::{has_bad_time, is_past};
 use crate::making::make_told;
 use crate::new_inodes::{asked_attributes, file_inode, folder_inode};
-use crate::within::Within;
+use crate::parent::Parent;
 use filer_state::Files;
 use nfs_values::{CreateMode, Credential, MakeResults, SetAttributes, Status};
 use parcels::LogicalHeld;
@@ -35,21 +35,21 @@ const MOST_INODES: usize = 65_536;
 pub(crate) fn create_new(
     alloc: Global,
     held: &mut LogicalHeld<Files>,
-    within: Within,
+    parent: Parent,
     name: &[u8],
     mode: &CreateMode,
     credential: Credential,
 ) -> Result<Result<MakeResults, Status>, AllocError>
     requires may { is_full_set (logical_before held.old) ≡ false
-        → MayMake (naming_within within name.now (logical_before held.old)) }
+        → MayMake (naming_in_parent parent name.now (logical_before held.old)) }
     ensures told { IfOk result (λ told. answer_of (Create told)
-        ≡ (create_by (naming_within within name.now (logical_before held.old)) (mode_of mode.now)
+        ≡ (create_by (naming_in_parent parent name.now (logical_before held.old)) (mode_of mode.now)
         (credential_of credential) None).answer) }
     ensures set { OnOk result (logical_after held.old held.new
-        ≡ (create_by (naming_within within name.now (logical_before held.old)) (mode_of mode.now)
+        ≡ (create_by (naming_in_parent parent name.now (logical_before held.old)) (mode_of mode.now)
         (credential_of credential) None).set) }
     ensures would { OnErr result (Makes (create_by
-        (naming_within within name.now (logical_before held.old)) (mode_of mode.now)
+        (naming_in_parent parent name.now (logical_before held.old)) (mode_of mode.now)
         (credential_of credential) None).answer) }
     ensures alike { logical_alike held.old held.new }
     ensures err { OnErr result (held.new ≡ held.old) }
@@ -57,8 +57,8 @@ pub(crate) fn create_new(
     if let Some(fault) = create_fault(held, &asked_attributes(mode)) {
         return Ok(Err(fault));
     }
-    let made = file_inode(mode, credential, within.moment);
-    let told = make_told(alloc, held, within, name, made)?;
+    let made = file_inode(mode, credential, parent.moment);
+    let told = make_told(alloc, held, parent, name, made)?;
     Ok(Ok(told))
 }
 
@@ -67,21 +67,21 @@ pub(crate) fn create_new(
 pub(crate) fn make_new(
     alloc: Global,
     held: &mut LogicalHeld<Files>,
-    within: Within,
+    parent: Parent,
     name: &[u8],
     set: &SetAttributes,
     credential: Credential,
 ) -> Result<Result<MakeResults, Status>, AllocError>
     requires may { is_full_set (logical_before held.old) ≡ false
-        → MayMake (naming_within within name.now (logical_before held.old)) }
+        → MayMake (naming_in_parent parent name.now (logical_before held.old)) }
     ensures told { IfOk result (λ told. answer_of (MakeDirectory told)
-        ≡ (mkdir_by (naming_within within name.now (logical_before held.old)) (set_of set.now)
+        ≡ (mkdir_by (naming_in_parent parent name.now (logical_before held.old)) (set_of set.now)
         (credential_of credential) None).answer) }
     ensures set { OnOk result (logical_after held.old held.new
-        ≡ (mkdir_by (naming_within within name.now (logical_before held.old)) (set_of set.now)
+        ≡ (mkdir_by (naming_in_parent parent name.now (logical_before held.old)) (set_of set.now)
         (credential_of credential) None).set) }
     ensures would { OnErr result (Makes (mkdir_by
-        (naming_within within name.now (logical_before held.old)) (set_of set.now)
+        (naming_in_parent parent name.now (logical_before held.old)) (set_of set.now)
         (credential_of credential) None).answer) }
     ensures alike { logical_alike held.old held.new }
     ensures err { OnErr result (held.new ≡ held.old) }
@@ -89,8 +89,8 @@ pub(crate) fn make_new(
     if let Some(fault) = mkdir_fault(held, set) {
         return Ok(Err(fault));
     }
-    let made = folder_inode(within.fileid, set, credential, within.moment);
-    let told = make_told(alloc, held, within, name, made)?;
+    let made = folder_inode(parent.fileid, set, credential, parent.moment);
+    let told = make_told(alloc, held, parent, name, made)?;
     Ok(Ok(told))
 }
 

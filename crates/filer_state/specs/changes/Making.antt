@@ -73,19 +73,19 @@ there_set n fileid new = record {
 }
 
 -- the name is there: GUARDED is EXIST; EXCLUSIVE answers a file of the same verifier; UNCHECKED sets a file
-abbrev pub create_upon : HeldNaming → CreateMode → HeldNode → InodeKind → LogicalAnswer
-create_upon n (Guarded set) child kind = fails Exists n.set
-create_upon n (Unchecked set) child (Folder parent subdirectories) = fails Exists n.set
-create_upon n (Exclusive verifier) child (Folder parent subdirectories) = fails Exists n.set
-create_upon n (Exclusive verifier) child (RegularFile size filled kept) =
+abbrev pub create_existing : HeldNaming → CreateMode → HeldNode → InodeKind → LogicalAnswer
+create_existing n (Guarded set) child kind = fails Exists n.set
+create_existing n (Unchecked set) child (Folder parent subdirectories) = fails Exists n.set
+create_existing n (Exclusive verifier) child (Folder parent subdirectories) = fails Exists n.set
+create_existing n (Exclusive verifier) child (RegularFile size filled kept) =
     if is_verifier kept verifier then there_shown n child else fails Exists n.set
-create_upon n (Unchecked set) child (RegularFile size filled kept) =
+create_existing n (Unchecked set) child (RegularFile size filled kept) =
     unless_fault (node_fault child.fileid set None child.inode n.set) n.set
     (there_set n child.fileid (node_changed child.fileid set n.moment child.inode n.set))
 
 -- by whether the name is there
 abbrev pub create_by : HeldNaming → CreateMode → Credential → Option HeldNode → LogicalAnswer
-create_by n mode credential (Some child) = create_upon n mode child child.inode.kind
+create_by n mode credential (Some child) = create_existing n mode child child.inode.kind
 create_by n mode credential None =
     unless_fault (create_check (asked_attributes mode) n.set) n.set (held_made n (file_inode mode credential n.moment))
 

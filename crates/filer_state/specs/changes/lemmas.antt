@@ -4,7 +4,7 @@ pub mod Setting
 pub mod Setattr
 pub mod Making
 pub mod Creating
-pub mod Upon
+pub mod Existing
 pub mod Makes
 pub mod Gone
 pub mod Remove

@@ -25,8 +25,8 @@ use Rattle.filer_state.specs.changes.NameAnswers.{entries_of}
 use Rattle.filer_state.specs.changes.Making.{is_full_set}
 use Rattle.filer_state.specs.changes.Named.{node_at, node_there}
 use Rattle.filer_state.specs.changes.lemmas.Named.{entry-there}
-use Rattle.service_names.specs.declared.within.Within.{Within}
-use Rattle.service_names.specs.Making.{MayMake, naming_within}
+use Rattle.service_names.specs.declared.parent.Parent.{Parent}
+use Rattle.service_names.specs.Making.{MayMake, naming_in_parent}
 
 shown-some : (o : Option Card) (q : Option Inode) → option_map size_shown o ≡ option_map (λ (i : Inode). size_in i.kind) q → parent_directory q ≡ Some root
     → IsSome o
@@ -70,7 +70,7 @@ volume-absent p well d inode name there folder none = by (found (entries_of p.lo
     by (Some e) is h =
         absurd (entry-there p well d name (entries_of p.logical d) entered e is (no-inode e.fileid (get p.logical.inodes.inodes e.fileid) h))
 
-module _ (p : VolumeContents) (hands hands' : List Hand) (made : ℕ) (few : made < too_many) (sound : IsSound p hands made) (w : Within) (name : List ℕ) where
+module _ (p : VolumeContents) (hands hands' : List Hand) (made : ℕ) (few : made < too_many) (sound : IsSound p hands made) (w : Parent) (name : List ℕ) where
   abbrev well : WellFormed p
   well = sound.well_formed
 
@@ -92,7 +92,7 @@ module _ (p : VolumeContents) (hands hands' : List Hand) (made : ℕ) (few : mad
       grind (arith, nat_tests, same, most, left)
 
   volume-may : get p.logical.inodes.inodes d ≡ Some inode → is_folder (Some inode) ≡ true → fileid_found (entries_of p.logical d) name ≡ None
-      → is_full_set (logical_lens.of p) ≡ false → MayMake (naming_within w name (logical_lens.of p))
+      → is_full_set (logical_lens.of p) ≡ false → MayMake (naming_in_parent w name (logical_lens.of p))
   volume-may there folder absent room =
       let entered : get p.logical.directories d ≡ Some (entries_of p.logical d) =
       entered-by (get p.logical.directories d) (well.logical.named.folders d ∙ ap is_folder there ∙ folder) in
@@ -119,12 +119,12 @@ module _ (p : VolumeContents) (hands hands' : List Hand) (made : ℕ) (few : mad
       }
 
 -- a directory may get a node under a name that it doesn't have, where an inode is left
-pub whole-may : (v : ℕ) (set : LogicalSet) → HasVolume v logical_lens [] set → (w : Within) (name : List ℕ)
+pub whole-may : (v : ℕ) (set : LogicalSet) → HasVolume v logical_lens [] set → (w : Parent) (name : List ℕ)
     → get set.own.inodes.inodes w.fileid.0 ≡ Some (inode_value w.inode) → is_folder (Some (inode_value w.inode)) ≡ true
-    → fileid_found (entries_of set.own w.fileid.0) name ≡ None → is_full_set set ≡ false → MayMake (naming_within w name set)
+    → fileid_found (entries_of set.own w.fileid.0) name ≡ None → is_full_set set ≡ false → MayMake (naming_in_parent w name set)
 whole-may v set whole w name =
     subst (λ (s : LogicalSet). get s.own.inodes.inodes w.fileid.0 ≡ Some (inode_value w.inode) → is_folder (Some (inode_value w.inode)) ≡ true
-    → fileid_found (entries_of s.own w.fileid.0) name ≡ None → is_full_set s ≡ false → MayMake (naming_within w name s)) whole.4
+    → fileid_found (entries_of s.own w.fileid.0) name ≡ None → is_full_set s ≡ false → MayMake (naming_in_parent w name s)) whole.4
     (volume-may whole.0 whole.1 whole.2 whole.3 whole.6 whole.8 w name)
 
 pub whole-absent : (v : ℕ) (set : LogicalSet) → HasVolume v logical_lens [] set → (d : ℕ) (inode : Inode) (name : List ℕ)

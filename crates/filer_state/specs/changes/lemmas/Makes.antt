@@ -32,7 +32,7 @@ use Rattle.filer_state.specs.changes.Laws.{create_call, mkdir_call, create_done,
 use Rattle.filer_state.specs.changes.lemmas.Named.{RightAs, done-right, naming_held, naming_seen, IsDirectoryHere, named-right, child-right}
 use Rattle.filer_state.specs.changes.lemmas.Making.{SaysNothing, failure-right}
 use Rattle.filer_state.specs.changes.lemmas.Creating.{file-right, folder-right}
-use Rattle.filer_state.specs.changes.lemmas.Upon.{there-as}
+use Rattle.filer_state.specs.changes.lemmas.Existing.{there-as}
 
 -- ---- CREATE
 

@@ -20,13 +20,13 @@ create_new-requires c = record {
       (sym c.in-None.ensures.node));
 }
 
-pub create_upon-requires-clause-may : goal.create_upon-requires-clause-may
-create_upon-requires-clause-may c =
+pub create_existing-requires-clause-may : goal.create_existing-requires-clause-may
+create_existing-requires-clause-may c =
     whole-may-be-set c.args.volume.0 (logical_before c.args.held.now) c.requires.whole c.in-Some.child.fileid.0 (inode_value c.in-Some.child.inode)
     c.in-Some.ensures.there
 
-pub create_upon-requires-clause-links : goal.create_upon-requires-clause-links
-create_upon-requires-clause-links c =
+pub create_existing-requires-clause-links : goal.create_existing-requires-clause-links
+create_existing-requires-clause-links c =
     whole-links c.args.volume.0 (logical_before c.args.held.now) c.requires.whole c.args.directory.0 (inode_value c.in-Ok.inode) c.in-Ok.ensures.there
 
 pub returns-in-None-clause-absent : goal.returns-in-None-clause-absent

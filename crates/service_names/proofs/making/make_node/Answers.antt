@@ -10,7 +10,7 @@ use Rattle.service_names.proofs.making.make_node.Goals as goal
 
 pub unmake-requires-clause-last : goal.unmake-requires-clause-last
 unmake-requires-clause-last c =
-    was-last c.args.within c.args.name.now c.args.held.now c.requires.may (inode_value c.args.made) c.fileid-fileid.result.0
+    was-last c.args.parent c.args.name.now c.args.held.now c.requires.may (inode_value c.args.made) c.fileid-fileid.result.0
     (c.fileid-fileid.ensures ∙ c.in_ok-created.ensures.fileid) c.create_inode.new.held c.tie.new.held c.in_ok-created.ensures.ok
     c.create_inode.ensures.stripes c.tie.ensures.others c.in-Err.ensures.err
     ∙ ap (λ (q : ℕ). q + 1) c.fileid-fileid.ensures
@@ -18,13 +18,13 @@ unmake-requires-clause-last c =
 pub unmake-requires-clause-made : goal.unmake-requires-clause-made
 unmake-requires-clause-made c =
     subst (λ (q : ℕ). is_some (inode_of c.tie.new.held.own.inodes q) ≡ true) c.fileid-fileid.ensures
-    (was-made c.args.within c.args.name.now c.args.held.now c.requires.may (inode_value c.args.made) c.fileid-fileid.result.0
+    (was-made c.args.parent c.args.name.now c.args.held.now c.requires.may (inode_value c.args.made) c.fileid-fileid.result.0
     (c.fileid-fileid.ensures ∙ c.in_ok-created.ensures.fileid) c.create_inode.new.held c.tie.new.held c.in_ok-created.ensures.ok
     c.create_inode.ensures.stripes c.tie.ensures.others c.in-Err.ensures.err)
 
 pub returns-in-Ok-clause-ok : goal.returns-in-Ok-clause-ok
 returns-in-Ok-clause-ok c =
-    all-made c.args.within c.args.name.now c.args.held.now c.requires.may (inode_value c.args.made) c.fileid-fileid.result.0
+    all-made c.args.parent c.args.name.now c.args.held.now c.requires.may (inode_value c.args.made) c.fileid-fileid.result.0
     (c.fileid-fileid.ensures ∙ c.in_ok-created.ensures.fileid) c.create_inode.new.held c.tie.new.held c.in_ok-created.ensures.ok
     c.create_inode.ensures.stripes c.tie.ensures.others
     c.set_directory.new.held c.set_directory.ensures.stripes c.in_ok-name.name c.in_ok-name.ensures.name
@@ -32,14 +32,14 @@ returns-in-Ok-clause-ok c =
 
 pub returns-in-Ok-clause-alike : goal.returns-in-Ok-clause-alike
 returns-in-Ok-clause-alike c =
-    places-alike c.args.within c.args.name.now c.args.held.now c.requires.may (inode_value c.args.made) c.fileid-fileid.result.0
+    places-alike c.args.parent c.args.name.now c.args.held.now c.requires.may (inode_value c.args.made) c.fileid-fileid.result.0
     (c.fileid-fileid.ensures ∙ c.in_ok-created.ensures.fileid) c.create_inode.new.held c.tie.new.held c.in_ok-created.ensures.ok
     c.create_inode.ensures.stripes c.tie.ensures.others
     c.set_directory.new.held c.set_directory.ensures.stripes
 
 pub returns-in-Err-clause-err : goal.returns-in-Err-clause-err
 returns-in-Err-clause-err c =
-    all-back c.args.within c.args.name.now c.args.held.now c.requires.may (inode_value c.args.made) c.fileid-fileid.result.0
+    all-back c.args.parent c.args.name.now c.args.held.now c.requires.may (inode_value c.args.made) c.fileid-fileid.result.0
     (c.fileid-fileid.ensures ∙ c.in_ok-created.ensures.fileid) c.create_inode.new.held c.tie.new.held c.in_ok-created.ensures.ok
     c.create_inode.ensures.stripes c.tie.ensures.others
     c.in-Err.ensures.err c.unmake.new.held (c.unmake.ensures.own ∙ ap (λ (q : ℕ). node_unmade q c.tie.new.held.own) (sym c.fileid-fileid.ensures))

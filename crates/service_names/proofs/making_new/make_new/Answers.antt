@@ -4,7 +4,7 @@ use Rattle.nfs_values.specs.Moment.{moment_of}
 use Rattle.nfs_values.specs.Set.{set_of}
 use Rattle.filer_state.specs.state.Sets.{logical_before}
 use Rattle.filer_state.specs.changes.Making.{mkdir_check, folder_inode}
-use Rattle.service_names.specs.Making.{naming_within}
+use Rattle.service_names.specs.Making.{naming_in_parent}
 use Rattle.service_names.proofs.News.{would-make, mkdir-not-full}
 use Rattle.service_names.proofs.Tying.{on-err}
 use Rattle.service_names.proofs.making_new.make_new.Goals as goal
@@ -17,6 +17,6 @@ pub returns-in_err-told-clause-would : goal.returns-in_err-told-clause-would
 returns-in_err-told-clause-would c =
     let set = logical_before c.args.held.now in
     on-err c.from_residual.result
-    (would-make (mkdir_check (set_of c.args.set.now) set) (naming_within c.args.within c.args.name.now set)
-    (folder_inode c.args.within.fileid.0 (set_of c.args.set.now) (credential_of c.args.credential) (moment_of c.args.within.moment))
+    (would-make (mkdir_check (set_of c.args.set.now) set) (naming_in_parent c.args.parent c.args.name.now set)
+    (folder_inode c.args.parent.fileid.0 (set_of c.args.set.now) (credential_of c.args.credential) (moment_of c.args.parent.moment))
     (sym c.in_default.ensures))

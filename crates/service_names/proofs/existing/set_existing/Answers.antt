@@ -9,20 +9,20 @@ use Rattle.inodes.specs.Inode.{kind_value, inode_value}
 use Rattle.filer_state.specs.state.Changes.{LogicalAnswer, shown_inode}
 use Rattle.filer_state.specs.state.Sets.{logical_before}
 use Rattle.filer_state.specs.changes.Named.{directory_change}
-use Rattle.service_names.specs.Making.{naming_within}
+use Rattle.service_names.specs.Making.{naming_in_parent}
 use Rattle.service_names.specs.Naming.{node_value}
 use Rattle.service_names.proofs.Overs.{unchecked-upon}
-use Rattle.service_names.proofs.upon.set_upon.Goals as goal
+use Rattle.service_names.proofs.existing.set_existing.Goals as goal
 
 pub returns-in_default-clause-told : goal.returns-in_default-clause-told
 returns-in_default-clause-told c = λ name.
-    let v = c.args.within.volume.0 in
+    let v = c.args.parent.volume.0 in
     let q = c.args.child.fileid.0 in
     let set = logical_before c.args.held.now in
-    let n = naming_within c.args.within name set in
+    let n = naming_in_parent c.args.parent name set in
     let kept = option_map (λ (x : Verifier). x.0) c.in-RegularFile.verifier in
     c.there.ensures name set
-    ∙ ap (λ (i : Inode). MadeDone (handle_bytes v q) (shown_inode v q i None) (directory_change n (inode_value c.args.within.inode)))
+    ∙ ap (λ (i : Inode). MadeDone (handle_bytes v q) (shown_inode v q i None) (directory_change n (inode_value c.args.parent.inode)))
     c.set_node-inode.ensures.inode
     ∙ sym (ap (λ (a : LogicalAnswer). a.answer) (unchecked-upon n (node_value c.args.child) (kind_value c.args.child.inode.kind)
     c.in-RegularFile.size c.in-RegularFile.filled kept (ap kind_value c.in-RegularFile.is) (set_of c.args.set.now) None (sym c.in_default.ensures)))

@@ -14,10 +14,10 @@ ghost use Rattle.inodes.specs.Inode.{inode_value, kind_value};
 ghost use Rattle.filer_state.specs.state.Changes.{shown_inode};
 ghost use Rattle.filer_state.specs.state.Lenses.{LogicalSet};
 ghost use Rattle.filer_state.specs.state.Sets.{logical_before, logical_after};
-ghost use Rattle.filer_state.specs.changes.Making.{create_upon};
+ghost use Rattle.filer_state.specs.changes.Making.{create_existing};
 ghost use Rattle.filer_state.specs.changes.Named.{directory_change};
 ghost use Rattle.service_names.specs.Changing.{MayBeSet};
-ghost use Rattle.service_names.specs.Making.{naming_within};
+ghost use Rattle.service_names.specs.Making.{naming_in_parent};
 ghost use Rattle.service_names.specs.Naming.{node_value};
 ghost use Rattle.service_names.specs.Shown.{HasFewLinks};
 
@@ -25,10 +25,10 @@ use crate::attributes::set_fault;
 use crate::child::directory_change;
 use crate::naming::is_same_name;
 use crate::node::Node;
+use crate::parent::Parent;
 use crate::setting::set_node;
 use crate::showing::shown;
 use crate::touches::latest_touch;
-use crate::within::Within;
 use filer_state::Files;
 use inodes::InodeKind;
 use nfs_values::{
@@ -38,44 +38,44 @@ use parcels::LogicalHeld;
 
 /// CREATE where the name is there: EXIST if it is guarded, or for a directory; an exclusive one
 /// answers the file of its verifier, and an unchecked one sets the file. It takes no memory.
-pub(crate) fn create_upon(
+pub(crate) fn create_existing(
     held: &mut LogicalHeld<Files>,
-    within: Within,
+    parent: Parent,
     child: Node,
     mode: &CreateMode,
 ) -> Result<MakeResults, Status>
     requires may { MayBeSet child.fileid.0 (logical_before held.old) }
-    requires links { HasFewLinks (kind_value within.inode.kind) }
+    requires links { HasFewLinks (kind_value parent.inode.kind) }
     ensures told { (name : List ℕ) → answer_of (Create result)
-        ≡ (create_upon (naming_within within name (logical_before held.old)) (mode_of mode.now)
+        ≡ (create_existing (naming_in_parent parent name (logical_before held.old)) (mode_of mode.now)
         (node_value child) (kind_value child.inode.kind)).answer }
     ensures set { (name : List ℕ) → logical_after held.old held.new
-        ≡ (create_upon (naming_within within name (logical_before held.old)) (mode_of mode.now)
+        ≡ (create_existing (naming_in_parent parent name (logical_before held.old)) (mode_of mode.now)
         (node_value child) (kind_value child.inode.kind)).set }
     ensures alike { logical_alike held.old held.new }
 {
     match mode {
         CreateMode::Guarded(_) => Err(Status::Exists),
-        CreateMode::Unchecked(set) => set_upon(held, within, child, set),
-        CreateMode::Exclusive(verifier) => tell_upon(held, within, child, *verifier),
+        CreateMode::Unchecked(set) => set_existing(held, parent, child, set),
+        CreateMode::Exclusive(verifier) => tell_existing(held, parent, child, *verifier),
     }
 }
 
 /// An unchecked CREATE where the name is there: EXIST for a directory; a file is set as SETATTR
 /// does without a guard.
-fn set_upon(
+fn set_existing(
     held: &mut LogicalHeld<Files>,
-    within: Within,
+    parent: Parent,
     child: Node,
     set: &SetAttributes,
 ) -> Result<MakeResults, Status>
     requires may { MayBeSet child.fileid.0 (logical_before held.old) }
-    requires links { HasFewLinks (kind_value within.inode.kind) }
+    requires links { HasFewLinks (kind_value parent.inode.kind) }
     ensures told { (name : List ℕ) → answer_of (Create result)
-        ≡ (create_upon (naming_within within name (logical_before held.old))
+        ≡ (create_existing (naming_in_parent parent name (logical_before held.old))
         (Unchecked (set_of set.now)) (node_value child) (kind_value child.inode.kind)).answer }
     ensures set { (name : List ℕ) → logical_after held.old held.new
-        ≡ (create_upon (naming_within within name (logical_before held.old))
+        ≡ (create_existing (naming_in_parent parent name (logical_before held.old))
         (Unchecked (set_of set.now)) (node_value child) (kind_value child.inode.kind)).set }
     ensures alike { logical_alike held.old held.new }
 {
@@ -85,38 +85,38 @@ fn set_upon(
             if let Some(fault) = set_fault(held, child.fileid, child.inode, set, None) {
                 return Err(fault);
             }
-            let inode = set_node(held, child.fileid, child.inode, set, within.moment);
+            let inode = set_node(held, child.fileid, child.inode, set, parent.moment);
             let changed = Node {
                 fileid: child.fileid,
                 inode,
             };
-            Ok(there(within, changed, None))
+            Ok(there(parent, changed, None))
         }
     }
 }
 
 /// An exclusive CREATE where the name is there: EXIST unless it is a file that was created with the
 /// verifier.
-fn tell_upon(
+fn tell_existing(
     held: &LogicalHeld<Files>,
-    within: Within,
+    parent: Parent,
     child: Node,
     verifier: Verifier,
 ) -> Result<MakeResults, Status>
     requires few { held.now.own.stripes ≤ 16 }
-    requires links { HasFewLinks (kind_value within.inode.kind) }
+    requires links { HasFewLinks (kind_value parent.inode.kind) }
     ensures told { (name : List ℕ) → answer_of (Create result)
-        ≡ (create_upon (naming_within within name (logical_before held.now))
+        ≡ (create_existing (naming_in_parent parent name (logical_before held.now))
         (Exclusive verifier.0) (node_value child) (kind_value child.inode.kind)).answer }
     ensures set { (name : List ℕ) → logical_before held.now
-        ≡ (create_upon (naming_within within name (logical_before held.now))
+        ≡ (create_existing (naming_in_parent parent name (logical_before held.now))
         (Exclusive verifier.0) (node_value child) (kind_value child.inode.kind)).set }
 {
     match child.inode.kind {
         InodeKind::Directory { .. } => Err(Status::Exists),
         InodeKind::RegularFile { verifier: kept, .. } => {
             if is_verifier(kept, verifier) {
-                return Ok(there(within, child, latest_touch(held, child.fileid)));
+                return Ok(there(parent, child, latest_touch(held, child.fileid)));
             }
             Err(Status::Exists)
         }
@@ -134,19 +134,19 @@ fn is_verifier(kept: Option<Verifier>, verifier: Verifier) -> bool
 }
 
 /// A node that is there, in a directory that doesn't change.
-fn there(within: Within, child: Node, touch: Option<Moment>) -> MakeResults
-    requires links { HasFewLinks (kind_value within.inode.kind) }
+fn there(parent: Parent, child: Node, touch: Option<Moment>) -> MakeResults
+    requires links { HasFewLinks (kind_value parent.inode.kind) }
     requires child { HasFewLinks (kind_value child.inode.kind) }
     ensures { (name : List ℕ) (s : LogicalSet) → made_told result
-        ≡ MadeDone (handle_bytes within.volume.0 child.fileid.0)
-        (shown_inode within.volume.0 child.fileid.0 (inode_value child.inode)
+        ≡ MadeDone (handle_bytes parent.volume.0 child.fileid.0)
+        (shown_inode parent.volume.0 child.fileid.0 (inode_value child.inode)
         (option_map moment_of touch))
-        (directory_change (naming_within within name s) (inode_value within.inode)) }
+        (directory_change (naming_in_parent parent name s) (inode_value parent.inode)) }
 {
-    let volume = within.volume;
+    let volume = parent.volume;
     let directory = Node {
-        fileid: within.fileid,
-        inode: within.inode,
+        fileid: parent.fileid,
+        inode: parent.inode,
     };
     MakeResults {
         handle: FileHandle::naming(Named {
@@ -154,6 +154,6 @@ fn there(within: Within, child: Node, touch: Option<Moment>) -> MakeResults
             fileid: child.fileid,
         }),
         object: shown(volume, child.fileid, child.inode, touch),
-        directory: directory_change(volume, directory, within.inode),
+        directory: directory_change(volume, directory, parent.inode),
     }
 }

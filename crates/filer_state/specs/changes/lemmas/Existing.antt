@@ -26,7 +26,7 @@ use Rattle.filer_state.specs.laws.lemmas.Steps.{sound-later}
 use Rattle.filer_state.specs.nodes.Laws.{WeighAlike}
 use Rattle.filer_state.specs.changes.Named.{HeldNaming, HeldNode, fails, unless_fault}
 use Rattle.filer_state.specs.changes.Attributes.{NodeSet, node_changed, node_fault}
-use Rattle.filer_state.specs.changes.Making.{there_shown, there_set, create_upon}
+use Rattle.filer_state.specs.changes.Making.{there_shown, there_set, create_existing}
 use Rattle.filer_state.specs.changes.Laws.{create_call}
 use Rattle.filer_state.specs.changes.lemmas.Named.{RightAs, naming_held, naming_seen, IsDirectoryHere, IsChildHere, before-shown}
 use Rattle.filer_state.specs.changes.lemmas.Setting.{fault-is, IsNodeSet, node-set}
@@ -142,7 +142,7 @@ module _ (handle : List ℕ) (node : Affinity) (mode : CreateMode) (credential :
   by-verifier true = there-right
   by-verifier false = failure Exists
 
-  by-kind : (asked : CreateMode) (kind : InodeKind) → child.inode.kind ≡ kind → Right (create_upon h asked child kind)
+  by-kind : (asked : CreateMode) (kind : InodeKind) → child.inode.kind ≡ kind → Right (create_existing h asked child kind)
       (create_over n asked child.fileid (node_by p.stripes (get p.logical.directories child.fileid) child.fileid child.inode.attributes kind))
   by-kind (Guarded set) (RegularFile size filled verifier) is = failure Exists
   by-kind (Guarded set) (Folder up subdirectories) is = failure Exists
@@ -161,5 +161,5 @@ module _ (handle : List ℕ) (node : Affinity) (mode : CreateMode) (credential :
       (upon-right set)
 
   -- the name is there
-  pub there-as : Right (create_upon h mode child child.inode.kind) (create_over n mode child.fileid was)
+  pub there-as : Right (create_existing h mode child child.inode.kind) (create_over n mode child.fileid was)
   there-as = by-kind mode child.inode.kind refl
