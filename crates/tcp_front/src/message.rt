@@ -35,10 +35,7 @@ fn with_room(message: scheduler::Message<Call>, room: Room) -> Message
 }
 
 /// The call of a message, in memory of its own and with new room for its reply.
-pub fn in_room(
-    alloc: Global,
-    message: scheduler::Message<Call>,
-) -> Result<Envelope, AllocError>
+pub fn in_room(alloc: Global, message: scheduler::Message<Call>) -> Result<Envelope, AllocError>
     requires { message.room ≤ most_bytes }
     ensures seen { IfOk result (λ m. seen_of m ≡ message_of message) }
     ensures placed { IfOk result (λ m. (layout : trees.Layout)
