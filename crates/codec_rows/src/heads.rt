@@ -1,8 +1,8 @@
 //! Heads of calls. Whole heads with their replies, and those at fault, stand in `command_rows`.
 
 use crate::bytes::{bytes_of, holds};
-use nfs_values::{Call, Offer, Refusal};
-use rpc_msg::{Head, Request, Served, read_call, read_call_of, read_record, read_record_of};
+use nfs_values::{Call, Refusal};
+use rpc_msg::{Head, Request, Served, read_call, read_record};
 use std::mem;
 
 #[test]
@@ -52,49 +52,5 @@ fn admin_mismatch(rt: HostRuntime) {
         }
     );
     mem::forget(head);
-    holds(&rt, is_refused);
-}
-
-#[test]
-fn commit_left_out(rt: HostRuntime) {
-    let offer = Offer::basic().without(Served::Commit);
-    let words = [9, 0, 2, 0x000186a3, 3, 0x15, 0, 0, 0, 0];
-    let commit = bytes_of(&rt, &words);
-    let head = read_call_of(&commit, offer);
-    let is_refused = matches!(
-        &head,
-        Head::Refuse {
-            xid: 9,
-            reply: Refusal::ProcedureUnavailable
-        }
-    );
-    mem::forget(head);
-    holds(&rt, is_refused);
-    let head = read_call_of(&commit, offer.with(Served::Commit));
-    let is_call = matches!(
-        &head,
-        Head::Call {
-            procedure: Served::Commit,
-            ..
-        }
-    );
-    mem::forget(head);
-    holds(&rt, is_call);
-}
-
-#[test]
-fn admin_left_out(rt: HostRuntime) {
-    let offer = Offer::basic()
-        .without(Served::AdminNull)
-        .without(Served::Census)
-        .without(Served::Grow);
-    let null = bytes_of(&rt, &[9, 0, 2, 0x20000001, 1, 0, 0, 0, 0, 0]);
-    let heard = read_record_of(rt.alloc(), null, offer).ok();
-    let heard = heard.expect(&rt, "a fault");
-    let is_refused = matches!(
-        &heard.request,
-        Request::Refused(Refusal::ProgramUnavailable)
-    );
-    mem::forget(heard);
     holds(&rt, is_refused);
 }
