@@ -6,7 +6,7 @@ use Rattle.std.specs.List.{AllByRecursion}
 use Rattle.std.proofs.lemmas.Bool.{cases_eq}
 use Rattle.std.proofs.lemmas.List.{length-map, length-set, map-append, append_cancel_left}
 use Rattle.std.proofs.lemmas.Option.{slice_get_within}
-use Rattle.nfs_model.specs.Tree.{Layout, Affinity}
+use Rattle.nfs_model.specs.Tree.{Layout}
 use Rattle.nfs_model.specs.Home.{home_of_asked}
 use Rattle.nfs_model.specs.World as worlds
 use Rattle.nfs_model.specs.World.{Setup, World, all_running, changed_at}
