@@ -1,6 +1,6 @@
 -- How many messages wait in a queue of which both passes are known.
 use Rattle.std.proofs.Common.{◌≡◌, ◌<◌, ◌≤◌, ℕ, ◌+◌, List, [], ◌∷◌, ◌++◌, length, length-append, refl, sym, ap, subst, ◌∙◌, arith}
-use Rattle.std.specs.Prelude.{⊥, Option, Some, None}
+use Rattle.std.specs.Prelude.{Option, Some, None}
 use Rattle.crossbeam_queue.specs.Fifo.{Held}
 use Rattle.affinity.specs.declared.layout.Layout as layouts
 use Rattle.depot_rule.specs.Sums.{total}

@@ -1,6 +1,6 @@
 //! Messages that are put into a queue which has a place for them.
 
-ghost use Rattle.std.specs.Prelude.{◌≡◌, ⊥};
+ghost use Rattle.std.specs.Prelude.{◌≡◌};
 ghost use Rattle.crossbeam_queue.specs.Fifo.{Held};
 ghost use Rattle.workers.specs.shared_waiting.Balance.{added, both, FitsIn, Leaves};
 ghost use Rattle.workers.specs.shared_waiting.Passes.{known, IsOf};

@@ -2,7 +2,18 @@ use Rattle.std.proofs.Common.{refl, rules}
 use Rattle.workers.specs.Words.{entries_in, layout_in}
 use Rattle.workers.specs.shared_waiting.Passes.{known}
 use Rattle.lanes.proofs.Lived.{story-begins}
+use Rattle.lanes.proofs.Counted.{counted-none}
 use Rattle.lanes.proofs.lane.Lane.new.Goals as goal
+
+pub invariant_of-result : goal.invariant_of-result
+invariant_of-result g c = record {
+  of = c.requires.of;
+  layout = search rules;
+  takes = c.requires.inside.pass;
+  both = c.requires.both;
+  counted = counted-none c.args.pass c.args.worker c.requires.nothing.0 c.requires.nothing.1 c.requires.nothing.2 c.args.worker.balance;
+  few = search rules;
+}
 
 pub invariant_of-result-2 : goal.invariant_of-result-2
 invariant_of-result-2 g c = record {
