@@ -1,5 +1,4 @@
 pub mod Told
-pub mod Queues
 pub mod Rests
 pub mod Connections
 pub mod Taking

@@ -1,12 +1,10 @@
 //! Where the records of a lane's connections go.
 
-ghost use Rattle.std.specs.Prelude.{◌≡◌, ◌≤◌, Some};
+ghost use Rattle.std.specs.Prelude.{◌≡◌, Some};
 ghost use Rattle.workers.specs.shared_waiting.Passes.{known, IsOf};
-ghost use Rattle.workers.specs.Words.{layout_in, layout_known, TakesFrom};
-ghost use Rattle.lanes.specs.Queues.{HasBoth, IsCounted};
+ghost use Rattle.workers.specs.Words.{layout_in, layout_known};
 
 use crate::due::Due;
-use crate::placing::put_last;
 use affinity::{Kind, Layout};
 use nfs_values::{Call, ConnectionNumber, Reply};
 use outboxes::Outboxes;
@@ -17,13 +15,12 @@ use std::sync::Wait;
 use tcp_front::RecordSink;
 use tcp_front::message::in_room;
 use workers::shared_waiting::{Pass, SharedWaiting};
-use workers::{Envelope, Filer, Worker};
+use workers::{Envelope, Filer};
 
 /// The most room of the replies that are owed to one connection while it is read.
 pub(crate) const MOST_OWED: usize = 1_048_576;
 
-/// The queue of a lane, with both passes that there are of it, and the lane's outboxes. Its own
-/// pass only admits; its worker's picks.
+/// The queue and the outboxes of a lane. Its pass only admits.
 #[derive(Drop)]
 pub struct Intake<R> {
     pub(crate) rt: R,
@@ -32,10 +29,8 @@ pub struct Intake<R> {
     pub(crate) filer: Snapshot<Filer>,
     pub(crate) queue: SharedWaiting<Envelope, Layout>,
     pub(crate) pass: Pass<Envelope, Layout>,
-    pub(crate) worker: Worker,
     pub(crate) outboxes: Outboxes,
-    /// How many messages were admitted and not finished: those in the queue, and the one that the
-    /// worker keeps, if it keeps one.
+    /// How many messages were admitted and not finished.
     pub(crate) waiting: usize,
     /// How many may be.
     pub(crate) most: usize,
@@ -45,10 +40,6 @@ pub struct Intake<R> {
     pub(crate) leaving: u64,
     pub ghost of: { IsOf queue pass },
     pub ghost layout: { layout_known (known pass) ≡ Some (layout_in filer.value) },
-    pub ghost takes: { TakesFrom queue worker },
-    pub ghost both: { HasBoth pass worker },
-    pub ghost counted: { IsCounted pass worker waiting },
-    pub ghost few: { most ≤ 1024 },
 }
 
 impl<R> Intake<R> {
@@ -97,17 +88,18 @@ impl<R: Wait> RecordSink for Intake<R> {
         let room = message.room;
         let leaving = u64::from(may_leave_blocks(&message));
         let message = in_room(self.alloc, message)?;
-        put_last(
-            &self.queue,
-            &mut self.pass,
-            &mut self.worker,
-            &self.rt,
-            message,
-        );
-        self.waiting += 1;
-        self.owed.add(room);
-        self.leaving = self.leaving.wrapping_add(leaving);
-        Ok(())
+        match self.queue.admit(&self.rt, &mut self.pass, message) {
+            Ok(()) => {
+                self.waiting = self.waiting.saturating_add(1);
+                self.owed.add(room);
+                self.leaving = self.leaving.wrapping_add(leaving);
+                Ok(())
+            }
+            Err(message) => {
+                drop(message);
+                Err(AllocError)
+            }
+        }
     }
 
     fn answer(

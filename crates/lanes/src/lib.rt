@@ -10,7 +10,6 @@ mod due;
 mod intake;
 mod joining;
 mod lane;
-mod placing;
 mod reading;
 mod rest;
 mod told;

@@ -1,21 +1,12 @@
 //! Turns of a lane.
 
 ghost use Rattle.std.specs.Prelude.{◌≡◌};
-ghost use Rattle.workers.specs.Tends.{kept_in};
-ghost use Rattle.lanes.specs.Queues.{count_kept};
 
 use crate::device::Device;
 use crate::lane::Lane;
 use nfs_values::Moment;
 use std::sync::Wait;
-use workers::{Chained, Gate, Hint, Worker};
-
-/// How many messages a worker keeps.
-fn kept_by(worker: &Worker) -> usize
-    ensures { result ≡ count_kept (kept_in worker.now) }
-{
-    usize::from(worker.keeps_message())
-}
+use workers::{Chained, Gate, Hint};
 
 impl<D: Device, R: Wait> Lane<D, R> {
     ghost use Rattle.workers.specs.declared.chained.Chained.TheVariants.{Idle};
@@ -23,7 +14,7 @@ impl<D: Device, R: Wait> Lane<D, R> {
     ghost use Rattle.workers.specs.Chains.{turns_at_most, HasDoneFew, HasPutAll, HasTurnedOn};
     ghost use Rattle.workers.specs.Turns.{standing_of};
     ghost use Rattle.workers.specs.Words.{layout_in, seat_view, seats_in};
-    ghost use Rattle.lanes.specs.Queues.{HasNoneLeft};
+    ghost use Rattle.lanes.specs.Lanes.{HasNoneLeft};
     ghost use Rattle.lanes.specs.Words.{boxes_in, connections_in, filer_in, identity_in};
     ghost use Rattle.lanes.specs.Words.{pass_in, worker_in};
 
@@ -51,7 +42,7 @@ impl<D: Device, R: Wait> Lane<D, R> {
         ensures identity { identity_in self.new ≡ identity_in self.old }
     {
         let filer = &*self.filer;
-        let chained = self.intake.worker.turns_beside(
+        let chained = self.worker.turns_beside(
             filer,
             &self.intake.queue,
             &mut self.intake.pass,
@@ -62,13 +53,13 @@ impl<D: Device, R: Wait> Lane<D, R> {
             most,
             &mut self.intake.outboxes,
         );
-        let queued = self.intake.worker.count_beside(
+        let queued = self.worker.count_beside(
             filer,
             &self.intake.queue,
             &mut self.intake.pass,
             &self.intake.rt,
         );
-        self.intake.waiting = queued + kept_by(&self.intake.worker);
+        self.intake.waiting = queued + usize::from(self.worker.keeps_message());
         chained
     }
 }

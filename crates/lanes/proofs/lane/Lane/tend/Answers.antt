@@ -15,7 +15,7 @@ pub tend_in-requires : goal.tend_in-requires
 tend_in-requires g c =
     let l = c.args.self.now in
     let same : c.deref.result.now ≡ arc_value l.filer = search rules in
-    subst (λ (f : Filer). IsAt f l.intake.queue l.intake.worker) (sym same) (at-inside (arc_value l.filer) l.intake.queue l.intake.worker l.inside)
+    subst (λ (f : Filer). IsAt f l.intake.queue l.worker) (sym same) (at-inside (arc_value l.filer) l.intake.queue l.worker l.inside)
 
 pub invariant_of-self-2 : goal.invariant_of-self-2
 invariant_of-self-2 g c =
@@ -24,9 +24,11 @@ invariant_of-self-2 g c =
     record {
       filer_is = l.filer_is;
       inside = ∣ subst (λ (f : Filer). IsAt f l.intake.queue c.tend_in.new.self) same c.tend_in.ensures.inside ∣₁;
+      both = both-kept l.intake.pass l.intake.pass l.worker c.tend_in.new.self (refl, refl, refl)
+          (ap (λ v. v.share) c.tend_in.ensures.pass, ap (λ v. v.halvings) c.tend_in.ensures.pass, ap (λ v. v.key) c.tend_in.ensures.pass) l.both;
       picked = l.picked;
-      story = tends-told _ _ (layout_in (arc_value l.filer)) l.index l.count (known l.intake.pass).put l.intake.outboxes _ l.intake.worker
+      story = tends-told _ _ (layout_in (arc_value l.filer)) l.index l.count (known l.intake.pass).put l.intake.outboxes _ l.worker
           c.tend_in.new.self c.args.tend c.tend_in.result
-          (subst (λ (f : Filer). Tends (layout_in f) l.intake.worker c.args.tend c.tend_in.result c.tend_in.new.self) same
+          (subst (λ (f : Filer). Tends (layout_in f) l.worker c.args.tend c.tend_in.result c.tend_in.new.self) same
           c.tend_in.ensures.tends) l.story;
     }
