@@ -7,7 +7,6 @@ mod beside;
 #[cfg(test)]
 mod chained;
 #[cfg(test)]
-#[cfg(test)]
 mod gathered;
 #[cfg(test)]
 mod laned;
