@@ -1,1 +1,3 @@
 pub mod Gathering
+pub mod Moving
+pub mod Written

@@ -1,10 +1,12 @@
 //! A lane that serves connections to their ends, call by call in one thread.
 
+ghost use Rattle.std.specs.Prelude.{Some, IfSome};
 ghost use Rattle.server.specs.Lanes.{Stays};
+ghost use Rattle.lane_rows.specs.Written.{WasWritten};
 
-use crate::memory::Memory;
+use crate::memory::{Flow, Memory};
 use crate::opening::{MemoryLane, open_lanes};
-use crate::rows::{MANY, bytes_of, device, layout};
+use crate::rows::{MANY, bytes_of, device, layout, narrow_device};
 use crate::texts::{
     CUT, GETATTR, GETATTR_REPLY, NO_PROGRAM, NO_PROGRAM_REPLY, NULL, NULL_IN_TWO, NULL_REPLY,
     TOO_LONG,
@@ -85,18 +87,40 @@ pub(crate) fn write_all<R: Wait>(
     Sent::Blocked
 }
 
+/// Closes a connection. Of its device, which comes back, it is known what it was written: a
+/// beginning of the records of the replies to the connection.
+fn take_back<R: Wait>(lane: &mut MemoryLane<R>, key: usize) -> Option<Memory>
+    ensures stays { Stays lane.old lane.new }
+    ensures written { IfSome result
+        (λ device. ∥ WasWritten (λ m. Some m.taken.items) lane.old key device ∥₁) }
+{
+    lane.close(key)
+}
+
+/// Closes a connection, to which just the first bytes of these words were written, so many.
+pub(crate) fn close_after<R: Wait>(
+    rt: &(impl Abort + AllocGlobal),
+    lane: &mut MemoryLane<R>,
+    key: usize,
+    wanted: &[&[u32]],
+    bytes: usize,
+)
+    ensures { Stays lane.old lane.new }
+{
+    let device = take_back(lane, key).expect(rt, "an open connection");
+    let wanted = bytes_of(rt, wanted);
+    let bytes = bytes.min(wanted.len());
+    assert!(rt; device.taken.as_slice() == &wanted[..bytes]);
+}
+
 /// Closes a connection, to which just these words were written.
 pub(crate) fn close<R: Wait>(
     rt: &(impl Abort + AllocGlobal),
     lane: &mut MemoryLane<R>,
     key: usize,
     wanted: &[&[u32]],
-)
-    ensures { Stays lane.old lane.new }
-{
-    let device = lane.close(key).expect(rt, "an open connection");
-    let wanted = bytes_of(rt, wanted);
-    assert!(rt; device.taken.as_slice() == wanted.as_slice());
+) {
+    close_after(rt, lane, key, wanted, usize::MAX);
 }
 
 /// Takes a lane apart, in whose queue so many messages wait.
@@ -111,10 +135,9 @@ pub(crate) fn part<R: Abort + Wait + Copy + Drop>(rt: R, lane: MemoryLane<R>, wa
     assert!(&rt; queue.count(&rt, &mut pass) == waiting);
 }
 
-/// Two connections of which so many bytes move at once are read, their calls run, and the replies
-/// written. What needs no worker is answered first.
-fn whole<R: Abort + AllocGlobal + Wait + Copy + Drop>(rt: R, size: usize) {
-    let mut lane = lane(rt);
+/// Two connections of a lane, of which so many bytes move at once, are read, their calls run, and
+/// the replies written. What needs no worker is answered first.
+fn serve<R: Abort + AllocGlobal + Wait + Copy + Drop>(rt: R, mut lane: MemoryLane<R>, size: usize) {
     let one = device(&rt, &[&NULL, &GETATTR, &NO_PROGRAM], size, MANY);
     let one = open(&rt, &mut lane, one);
     let other = device(&rt, &[&GETATTR, &NULL_IN_TWO], size, MANY);
@@ -138,10 +161,54 @@ fn whole<R: Abort + AllocGlobal + Wait + Copy + Drop>(rt: R, size: usize) {
     part(rt, lane, 0);
 }
 
+/// How many bytes the replies of the longer connection have.
+const ANSWERED: usize = 172;
+
 #[test]
-fn a_lane_serves_each_cut(rt: HostRuntime) {
-    for size in 1..=70 {
-        whole(rt, size);
+fn two_lanes_serve_each_cut(rt: HostRuntime) {
+    for size in 1..=ANSWERED {
+        let (first, second) = open_lanes(rt, layout(&rt, 1));
+        serve(rt, first, size);
+        serve(rt, second, size);
+    }
+}
+
+/// The replies to a GETATTR, a NULL call and a GETATTR: what needs no worker is answered first.
+const ANSWERS: [&[u32]; 3] = [&NULL_REPLY, &GETATTR_REPLY, &GETATTR_REPLY];
+
+/// A connection of a lane whose device gives so many bytes of three records, which end at 60, 104
+/// and 164 bytes, and then would wait: just the whole ones are answered.
+fn serve_given<R: Abort + AllocGlobal + Wait + Copy + Drop>(
+    rt: R,
+    mut lane: MemoryLane<R>,
+    gives: usize,
+) {
+    let (given, all) = (Flow::until(gives), Flow::by(4096));
+    let device = narrow_device(&rt, &[&GETATTR, &NULL, &GETATTR], MANY, given, all);
+    let key = open(&rt, &mut lane, device);
+    let mut block = [0; 256];
+    assert!(&rt; lane.read(key, &mut block) == Came::Blocked);
+    let came = lane.read(key, &mut block);
+    assert!(&rt; (came == Came::Blocked) == (gives == 0));
+    let (calls, answers) = match gives {
+        0..60 => (0, &ANSWERS[..0]),
+        60..104 => (1, &ANSWERS[1..2]),
+        104..164 => (1, &ANSWERS[..2]),
+        _ => (2, &ANSWERS[..]),
+    };
+    assert!(&rt; lane.waiting() == calls);
+    assert!(&rt; run_all(&mut lane) == calls);
+    assert!(&rt; write_all(&rt, &mut lane, key) == Sent::All);
+    close(&rt, &mut lane, key, answers);
+    part(rt, lane, 0);
+}
+
+#[test]
+fn two_lanes_answer_what_is_given(rt: HostRuntime) {
+    for gives in 0..=164 {
+        let (first, second) = open_lanes(rt, layout(&rt, 1));
+        serve_given(rt, first, gives);
+        serve_given(rt, second, gives);
     }
 }
 

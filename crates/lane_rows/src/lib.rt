@@ -1,5 +1,5 @@
 //! Connections and lanes that read and write over a device in memory, whole and cut anywhere, with
-//! bytes typed from the standards.
+//! bytes typed from the standards; and lanes that are put together and closed.
 #![tactic(auto)]
 
 #[cfg(test)]
@@ -7,6 +7,7 @@ mod beside;
 #[cfg(test)]
 mod chained;
 #[cfg(test)]
+mod closing;
 #[cfg(test)]
 mod gathered;
 #[cfg(test)]

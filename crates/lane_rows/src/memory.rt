@@ -1,28 +1,26 @@
-//! A device in memory that moves few bytes at once, would wait at each second call, and fails.
+//! A device in memory that moves few bytes at once, would wait at each second call and after so
+//! many bytes, and fails. It tells its bytes.
+
+ghost use Rattle.std.specs.Prelude.{◌≡◌, ◌≤◌, length, take, drop, vec_len};
+ghost use Rattle.lane_rows.specs.Moving.{IsWithin};
 
 use lanes::{Device, Told};
 
-/// What it gives, and what it took.
+/// How often a device is called until it fails. It would wait at each second call.
 #[derive(Drop)]
-pub(crate) struct Memory {
-    pub(crate) unread: Vec<u8>,
-    pub(crate) given: usize,
-    pub(crate) taken: Vec<u8>,
-    /// At most so many bytes at once.
-    pub(crate) size: usize,
+pub(crate) struct Calls {
+    pub(crate) left: usize,
     /// Whether it would wait at the next call.
     pub(crate) is_waiting: bool,
-    /// After so many calls it fails.
-    pub(crate) calls: usize,
 }
 
-impl Memory {
+impl Calls {
     /// Whether it fails at this call.
     fn fails(&mut self) -> bool {
-        if self.calls == 0 {
+        if self.left == 0 {
             return true;
         }
-        self.calls -= 1;
+        self.left -= 1;
         false
     }
 
@@ -33,32 +31,107 @@ impl Memory {
     }
 }
 
-impl Device for Memory {
-    fn read_now(&mut self, block: &mut [u8]) -> Told {
-        if self.fails() {
-            return Told::Failed;
+/// How many bytes move one way.
+#[derive(Drop)]
+pub(crate) struct Flow {
+    /// At most so many at once.
+    pub(crate) size: usize,
+    /// So many until it would wait for good.
+    pub(crate) left: usize,
+}
+
+impl Flow {
+    /// So many bytes at once.
+    pub(crate) fn by(size: usize) -> Flow {
+        Flow {
+            size,
+            left: usize::MAX,
         }
-        if self.waits() {
+    }
+
+    /// So many bytes until it would wait for good.
+    pub(crate) fn until(left: usize) -> Flow {
+        Flow {
+            size: usize::MAX,
+            left,
+        }
+    }
+
+    /// Moves what it may of so many bytes.
+    fn take(&mut self, most: usize) -> Told
+        ensures { IsWithin result most }
+    {
+        let size = self.size.min(self.left).min(most);
+        if size == 0 && most > 0 {
             return Told::Blocked;
         }
-        let rest = &self.unread[self.given.min(self.unread.len())..];
-        let size = self.size.min(block.len()).min(rest.len());
-        block[..size].copy_from_slice(&rest[..size]);
-        self.given = self.given.saturating_add(size);
+        self.left -= size;
         Told::Moved(size)
+    }
+}
+
+/// What it gives, and what it took.
+#[derive(Drop)]
+pub(crate) struct Memory {
+    pub(crate) stream: Vec<u8>,
+    pub(crate) given: usize,
+    pub(crate) taken: Vec<u8>,
+    pub(crate) calls: Calls,
+    pub(crate) gives: Flow,
+    pub(crate) takes: Flow,
+    pub(crate) ghost within: { given ≤ vec_len stream },
+}
+
+/// Fills the first bytes of a block with as many of these.
+fn fill(block: &mut [u8], bytes: &[u8], size: usize)
+    requires block { size ≤ length block.old }
+    requires bytes { size ≤ length bytes.now }
+    ensures len { length block.new ≡ length block.old }
+    ensures first { take size block.new ≡ take size bytes.now }
+{
+    block[..size].copy_from_slice(&bytes[..size]);
+}
+
+impl Device for Memory {
+    ghost use Rattle.std.specs.Prelude.{Some};
+
+    ghost unread = { λ m. Some (drop m.given m.stream.items) };
+
+    ghost written = { λ m. Some m.taken.items };
+
+    fn read_now(&mut self, block: &mut [u8]) -> Told {
+        if self.calls.fails() {
+            return Told::Failed;
+        }
+        if self.calls.waits() {
+            return Told::Blocked;
+        }
+        let rest = &self.stream[self.given..];
+        match self.gives.take(block.len().min(rest.len())) {
+            Told::Moved(size) => {
+                fill(block, rest, size);
+                self.given += size;
+                Told::Moved(size)
+            }
+            Told::Blocked => Told::Blocked,
+            Told::Failed => Told::Failed,
+        }
     }
 
     fn write_now(&mut self, bytes: &[u8]) -> Told {
-        if self.fails() {
+        if self.calls.fails() {
             return Told::Failed;
         }
-        if self.waits() {
+        if self.calls.waits() {
             return Told::Blocked;
         }
-        let size = self.size.min(bytes.len());
-        match self.taken.extend_from_slice(&bytes[..size]) {
-            Ok(()) => Told::Moved(size),
-            Err(_refused) => Told::Failed,
+        match self.takes.take(bytes.len()) {
+            Told::Moved(size) => match self.taken.extend_from_slice(&bytes[..size]) {
+                Ok(()) => Told::Moved(size),
+                Err(_refused) => Told::Failed,
+            },
+            Told::Blocked => Told::Blocked,
+            Told::Failed => Told::Failed,
         }
     }
 }

@@ -1,5 +1,9 @@
 //! Lanes of a filer, over devices in memory.
 
+ghost use Rattle.std.specs.Prelude.{◌≡◌, vec_len};
+ghost use Rattle.std.specs.Arc.{arc_value};
+ghost use Rattle.server.specs.Lanes.{AreLanesOf};
+
 use crate::memory::Memory;
 use affinity::Layout;
 use lanes::Lane;
@@ -14,10 +18,14 @@ pub(crate) type MemoryLane<R> = Lane<Memory, R>;
 pub(crate) fn open_both<R>(rt: R, layout: Layout) -> (Arc<Filer>, Vec<MemoryLane<R>>)
 where
     R: Abort + AllocGlobal + Copy + Drop,
+    ensures lanes { AreLanesOf (arc_value result.0) result.1.items }
+    ensures count { vec_len result.1 ≡ 2 }
 {
     let room = Vec::with_capacity(rt.alloc(), 2).expect(&rt, "no memory");
-    let opened = server::open_lanes(rt, rt.alloc(), layout, [9; 8], 2, room).ok();
-    opened.expect(&rt, "no memory")
+    match server::open_lanes(rt, rt.alloc(), layout, [9; 8], 2, room) {
+        Ok(opened) => opened,
+        Err(_refused) => panic!(&rt; "no memory"),
+    }
 }
 
 /// Both lanes of a filer, the first first.

@@ -4,7 +4,7 @@ ghost use Rattle.std.specs.Prelude.{◌≡◌};
 ghost use Rattle.affinity.specs.Layout.{layout_of};
 
 use crate::gathered::Gathered;
-use crate::memory::Memory;
+use crate::memory::{Calls, Flow, Memory};
 use crate::texts::{
     GETATTR, NO_PROGRAM, NO_PROGRAM_REPLY, NULL, NULL_IN_TWO, NULL_REPLY, TOO_LONG,
 };
@@ -49,6 +49,27 @@ fn sink(rt: &(impl Abort + AllocGlobal), layout: &Layout, places: usize) -> Gath
     sink
 }
 
+/// A device of a stream, with what it gives and takes, which fails after so many calls.
+pub(crate) fn narrow_device(
+    rt: &(impl Abort + AllocGlobal),
+    stream: &[&[u32]],
+    calls: usize,
+    gives: Flow,
+    takes: Flow,
+) -> Memory {
+    Memory {
+        stream: bytes_of(rt, stream),
+        given: 0,
+        taken: Vec::new(rt.alloc()),
+        calls: Calls {
+            left: calls,
+            is_waiting: false,
+        },
+        gives,
+        takes,
+    }
+}
+
 /// A device of a stream, of which so many bytes move at once, and which fails after so many calls.
 pub(crate) fn device(
     rt: &(impl Abort + AllocGlobal),
@@ -56,14 +77,7 @@ pub(crate) fn device(
     size: usize,
     calls: usize,
 ) -> Memory {
-    Memory {
-        unread: bytes_of(rt, stream),
-        given: 0,
-        taken: Vec::new(rt.alloc()),
-        size,
-        is_waiting: false,
-        calls,
-    }
+    narrow_device(rt, stream, calls, Flow::by(size), Flow::by(size))
 }
 
 /// A connection over such a device.
