@@ -71,8 +71,11 @@ intake-send R r = declared_send (Intake.the_type R) (
         (
           search (pass.the_send, envelope-send, sendable) depth 20,
           (
-            search (outboxes-send, sendable) depth 20,
-            (search sendable depth 20, (search sendable depth 20, (search (due.the_send, sendable) depth 20, (search sendable depth 20, tt)))),
+            search (worker-send, sendable) depth 20,
+            (
+              search (outboxes-send, sendable) depth 20,
+              (search sendable depth 20, (search sendable depth 20, (search (due.the_send, sendable) depth 20, (search sendable depth 20, tt)))),
+            ),
           ),
         ),
       ),
@@ -89,7 +92,7 @@ lane-send D R G d r = declared_send (Lane.the_type D R G) (
       search (filer-send, filer-sync, crosses, sendable) depth 20,
       (
         search (intake-send, r, sendable) depth 20,
-        (search (worker-send, sendable) depth 20, (slab.the_send _ _ _ (connection-send D d) send frees, tt)),
+        (slab.the_send _ _ _ (connection-send D d) send frees, tt),
       ),
     ),
   ),

@@ -18,13 +18,13 @@ use Rattle.workers.specs.declared.shared_waiting.pass.Pass.{Pass}
 use Rattle.workers.specs.declared.worker.Worker.{Worker}
 use Rattle.workers.specs.shared_waiting.Balance.{IsWhole, Leaves, both}
 use Rattle.workers.specs.shared_waiting.Passes.{known}
-use Rattle.lanes.specs.Lanes.{HasBoth, HasNoneLeft}
+use Rattle.lanes.specs.Queues.{HasBoth, HasNoneLeft}
 
 none-weighs : (items : List Message) → length items ≡ 0 → (weigh : Message → ℕ) → total weigh items ≡ 0
 none-weighs [] e weigh = refl
 none-weighs (x ∷ xs) e weigh = absurd (omega (arith, e))
 
-turned-round : (x y h k : ℕ) → x + y ≡ 2 ^ (h + k) → y + x ≡ 2 ^ (k + h)
+pub turned-round : (x y h k : ℕ) → x + y ≡ 2 ^ (h + k) → y + x ≡ 2 ^ (k + h)
 turned-round x y h k e =
     let a : y + x ≡ x + y = omega arith in
     let b : h + k ≡ k + h = omega arith in a ∙ e ∙ ap (λ n. 2 ^ n) b

@@ -11,3 +11,5 @@ pub mod Inside
 pub mod Fitting
 pub mod Steps
 pub mod Idle
+pub mod Counted
+pub mod Same

@@ -1,6 +1,6 @@
 -- What each call of a lane leaves: its story, and both passes.
-use Rattle.std.proofs.Common.{◌≡◌, ◌≢◌, ◌<◌, ◌≤◌, ℕ, ◌+◌, ◌*◌, ◌^◌, List, [], ◌∷◌, ◌++◌, map, Option, Some, None, Result, Ok, Err}
-use Rattle.std.proofs.Common.{refl, sym, ap, subst, ◌∙◌, append-nil, cond, ne_eqb, arith}
+use Rattle.std.proofs.Common.{◌≡◌, ◌≢◌, ◌<◌, ◌≤◌, ℕ, ◌+◌, ◌*◌, ◌^◌, List, [], ◌∷◌, ◌++◌, map, Option, Some, None, Result, Ok, Err, refl, sym, ap}
+use Rattle.std.proofs.Common.{subst, ◌∙◌, append-nil, cond, ne_eqb, arith}
 use Rattle.std.specs.Prelude.{IsSome}
 use Rattle.std.specs.FinMap as maps
 use Rattle.std.proofs.Math.Logic.{∥∥₁_map}
@@ -28,7 +28,7 @@ use Rattle.workers.specs.declared.tend.TendRefusal.{TendRefusal}
 use Rattle.workers.specs.Balance.{FilerEntry, Passed, Weight, by_entry, by_key}
 use Rattle.workers.specs.Chains.{puts, DidAll, EndsBy, HasPutAll, HasTurnedOn}
 use Rattle.workers.specs.Turns.{HasDoneFrom, HasFinished, IsEntryOf, Standing, HasShareOf, job_of_message}
-use Rattle.workers.specs.Words.{entries_in, passed}
+use Rattle.workers.specs.Words.{entries_in, passed, IsSameWorker}
 use Rattle.workers.specs.declared.message.Message.{Message}
 use Rattle.workers.specs.declared.shared_waiting.pass.Pass.{Pass}
 use Rattle.workers.specs.declared.chained.Chained.{Chained}
@@ -45,7 +45,8 @@ use Rattle.tcp_front.specs.declared.stream.Stream.{Stream}
 use Rattle.tcp_front.specs.Arrivals.{Arrival}
 use Rattle.lanes.specs.Connections.{flagged, number_of, owing}
 use Rattle.lanes.specs.Intakes.{HasTakenIn, has_room_in}
-use Rattle.lanes.specs.Lanes.{Closes, Flagged, HasBoth, ReadsOn, ReadsUnder, WritesUnder, owing_in}
+use Rattle.lanes.specs.Lanes.{Closes, Flagged, ReadsOn, ReadsUnder, WritesUnder, owing_in}
+use Rattle.lanes.specs.Queues.{HasBoth}
 use Rattle.lanes.specs.Reading.{Cuts, HasRead, Reads}
 use Rattle.lanes.specs.Story.{Ending, Served, answer_to, said_by, served_in, with_served, Story}
 use Rattle.lanes.specs.Writing.{HasWritten, Writes}
@@ -327,7 +328,7 @@ module _ {D R : Type 0} (unread written : D → Option (List ℕ)) (layout : Lay
   keep-under : (slab slab' : Slab (Connection D)) (key : ℕ) (o : Option (Connection D)) (sink sink' : Intake R) (size : ℕ) (result : Came)
       → ReadsUnder unread written layout slab key o sink size result slab' sink'
       → (sink'.filer.value ≡ sink.filer.value) × (sink'.queue ≡ sink.queue) × ((known sink'.pass).picked ≡ (known sink.pass).picked)
-      × HasShareOf (known sink.pass) (known sink'.pass)
+      × HasShareOf (known sink.pass) (known sink'.pass) × IsSameWorker sink.worker sink'.worker
   keep-under slab slab' key None sink sink' size result h = (
     ap (λ (s : Intake R). s.filer.value) h.2,
     ap (λ (s : Intake R). s.queue) h.2,
@@ -337,14 +338,20 @@ module _ {D R : Type 0} (unread written : D → Option (List ℕ)) (layout : Lay
       ap (λ (s : Intake R). (known s.pass).halvings) h.2,
       ap (λ (s : Intake R). (known s.pass).key) h.2,
     ),
+    record {
+      seat = ap (λ (s : Intake R). s.worker.seat) h.2;
+      pass = ap (λ (s : Intake R). passed s.worker) h.2;
+      hand = ap (λ (s : Intake R). s.worker.hand) h.2;
+      kept = ap (λ (s : Intake R). s.worker.kept) h.2;
+    },
   )
   keep-under slab slab' key (Some c) sink sink' size result (after, now, on) =
-      let k = on.read.given in (k.filer_is, k.queue_is, k.picked, k.share)
+      let k = on.read.given in (k.filer_is, k.queue_is, k.picked, k.share, k.same)
 
   pub reads-keep : (slab slab' : Slab (Connection D)) (key : ℕ) (sink sink' : Intake R) (size : ℕ) (result : Came)
       → ReadsUnder unread written layout slab key (get slab key) sink size result slab' sink'
       → (sink'.filer.value ≡ sink.filer.value) × (sink'.queue ≡ sink.queue) × ((known sink'.pass).picked ≡ (known sink.pass).picked)
-      × HasShareOf (known sink.pass) (known sink'.pass)
+      × HasShareOf (known sink.pass) (known sink'.pass) × IsSameWorker sink.worker sink'.worker
   reads-keep slab slab' key sink sink' size result h = keep-under slab slab' key (get slab key) sink sink' size result h
 
 module _ {D : Type 0} (unread written : D → Option (List ℕ)) where

@@ -9,7 +9,9 @@ use Rattle.workers.specs.declared.shared.Filer.{Filer}
 use Rattle.workers.specs.declared.shared_waiting.pass.Pass.{Pass}
 use Rattle.workers.specs.declared.shared_waiting.pass.SharedWaiting.{SharedWaiting}
 use Rattle.workers.specs.shared_waiting.Passes.{known}
+use Rattle.workers.specs.declared.worker.Worker.{Worker}
 use Rattle.workers.specs.Turns.{HasShareOf}
+use Rattle.workers.specs.Words.{IsSameWorker}
 use Rattle.lanes.specs.declared.intake.Intake.{Intake}
 
 -- the replies among what came
@@ -25,23 +27,25 @@ all_put (a ∷ xs) b = all_put xs (put a b)
 
 -- The calls among these were put into the queue, in order and each once, and the replies into the outboxes, in order; nothing
 -- else was.
-pub record Takes (filer : Filer) (queue : SharedWaiting Message Layout) (pass : Pass Message Layout) (boxes : Boxes)
-    (came : List Arrival) (filer' : Filer) (queue' : SharedWaiting Message Layout) (pass' : Pass Message Layout)
-    (boxes' : Boxes) : Type 0 where
+pub record Takes (filer : Filer) (queue : SharedWaiting Message Layout) (pass : Pass Message Layout) (worker : Worker)
+    (boxes : Boxes) (came : List Arrival) (filer' : Filer) (queue' : SharedWaiting Message Layout)
+    (pass' : Pass Message Layout) (worker' : Worker) (boxes' : Boxes) : Type 0 where
   pub filer_is : filer' ≡ filer
   pub queue_is : queue' ≡ queue
   pub put : map seen_of (known pass').put ≡ map seen_of (known pass).put ++ calls_of came
   pub picked : (known pass').picked ≡ (known pass).picked
   pub share : HasShareOf (known pass) (known pass')
+  pub same : IsSameWorker worker worker'
   pub boxes_are : boxes' ≡ all_put (answered_of came) boxes
 
 abbrev pub HasTakenIn : {R : Type 0} → Intake R → List Arrival → Intake R → Type 0
-HasTakenIn s came t = Takes s.filer.value s.queue s.pass s.outboxes came t.filer.value t.queue t.pass t.outboxes
+HasTakenIn s came t =
+    Takes s.filer.value s.queue s.pass s.worker s.outboxes came t.filer.value t.queue t.pass t.worker t.outboxes
 
 -- the most room of the replies that are owed to one connection while it is read
 abbrev pub most_owed : ℕ
 most_owed = 1048576
 
--- a message more may wait, and the connection may be owed more
+-- a message more may wait, of those that a lane may have, and the connection may be owed more
 abbrev pub has_room_in : {R : Type 0} → Intake R → Bool
 has_room_in s = nat_lt s.waiting s.most && nat_lt s.owed.room most_owed

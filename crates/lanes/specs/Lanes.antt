@@ -1,16 +1,8 @@
 -- What the calls of a lane do.
 use Rattle.std.specs.Prelude.{◌≡◌, ◌≢◌, ℕ, Bool, List, [], Option, Some, None, Result, Ok, Err}
 use Rattle.slab.specs.Slab.{Slab, get, Updates, with_value}
-use Rattle.affinity.specs.declared.layout.Layout as layouts
 use Rattle.nfs_model.specs.Tree.{Layout}
 use Rattle.outboxes.specs.Boxes.{Boxes, shut, opened}
-use Rattle.workers.specs.declared.message.Message.{Message}
-use Rattle.workers.specs.declared.shared_waiting.pass.Pass.{Pass}
-use Rattle.depot_rule.specs.Sums.{total}
-use Rattle.workers.specs.shared_waiting.Balance.{IsWhole, both}
-use Rattle.workers.specs.shared_waiting.Passes.{known}
-use Rattle.workers.specs.declared.worker.Worker.{Worker}
-use Rattle.workers.specs.Words.{passed}
 use Rattle.lanes.specs.declared.connection.Connection.{Connection}
 use Rattle.lanes.specs.declared.connection.Flags.{Flags}
 use Rattle.lanes.specs.declared.due.Due.{Due}
@@ -23,15 +15,6 @@ use Rattle.lanes.specs.Connections.{flagged, now_of, number_of, owing}
 use Rattle.lanes.specs.Intakes.{HasTakenIn, has_room_in}
 use Rattle.lanes.specs.Reading.{HasRead}
 use Rattle.lanes.specs.Writing.{HasWritten}
-
--- both passes of a queue, which nobody else has
-abbrev pub HasBoth : Pass Message layouts.Layout → Worker → Type 0
-HasBoth pass worker = IsWhole (both (known pass) (passed worker)) × ((known pass).key ≡ (passed worker).key)
-
--- what was put into the queue by these was picked, each message as often
-abbrev pub HasNoneLeft : Pass Message layouts.Layout → Worker → Type 0
-HasNoneLeft pass worker = (weigh : Message → ℕ)
-    → total weigh (both (known pass) (passed worker)).put ≡ total weigh (both (known pass) (passed worker)).picked
 
 -- with another count of what is owed to the connection that is read
 abbrev pub owing_in : {R : Type 0} → Due → Intake R → Intake R

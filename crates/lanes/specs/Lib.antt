@@ -1,4 +1,5 @@
 pub mod Told
+pub mod Queues
 pub mod Rests
 pub mod Connections
 pub mod Taking

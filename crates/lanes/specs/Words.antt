@@ -39,7 +39,7 @@ module _ {D R : Type 0} {G : devices.Ghosts D} where
   place_in lane = (lane.index, lane.count)
 
   abbrev pub worker_in : Lane D R G → Worker
-  worker_in lane = lane.worker
+  worker_in lane = lane.intake.worker
 
   -- where what its connections read goes
   abbrev pub intake_in : Lane D R G → Intake R

@@ -1,10 +1,12 @@
 //! Where the records of a lane's connections go.
 
-ghost use Rattle.std.specs.Prelude.{◌≡◌, Some};
+ghost use Rattle.std.specs.Prelude.{◌≡◌, ◌≤◌, Some};
 ghost use Rattle.workers.specs.shared_waiting.Passes.{known, IsOf};
-ghost use Rattle.workers.specs.Words.{layout_in, layout_known};
+ghost use Rattle.workers.specs.Words.{layout_in, layout_known, TakesFrom};
+ghost use Rattle.lanes.specs.Queues.{HasBoth, IsCounted};
 
 use crate::due::Due;
+use crate::placing::put_last;
 use affinity::{Kind, Layout};
 use nfs_values::{Call, ConnectionNumber, Reply};
 use outboxes::Outboxes;
@@ -15,12 +17,13 @@ use std::sync::Wait;
 use tcp_front::RecordSink;
 use tcp_front::message::in_room;
 use workers::shared_waiting::{Pass, SharedWaiting};
-use workers::{Envelope, Filer};
+use workers::{Envelope, Filer, Worker};
 
 /// The most room of the replies that are owed to one connection while it is read.
 pub(crate) const MOST_OWED: usize = 1_048_576;
 
-/// The queue and the outboxes of a lane. Its pass only admits.
+/// The queue of a lane, with both passes that there are of it, and the lane's outboxes. Its own
+/// pass only admits; its worker's picks.
 #[derive(Drop)]
 pub struct Intake<R> {
     pub(crate) rt: R,
@@ -29,8 +32,10 @@ pub struct Intake<R> {
     pub(crate) filer: Snapshot<Filer>,
     pub(crate) queue: SharedWaiting<Envelope, Layout>,
     pub(crate) pass: Pass<Envelope, Layout>,
+    pub(crate) worker: Worker,
     pub(crate) outboxes: Outboxes,
-    /// How many messages were admitted and not finished.
+    /// How many messages were admitted and not finished: those in the queue, and the one that the
+    /// worker keeps, if it keeps one.
     pub(crate) waiting: usize,
     /// How many may be.
     pub(crate) most: usize,
@@ -40,6 +45,10 @@ pub struct Intake<R> {
     pub(crate) leaving: u64,
     pub ghost of: { IsOf queue pass },
     pub ghost layout: { layout_known (known pass) ≡ Some (layout_in filer.value) },
+    pub ghost takes: { TakesFrom queue worker },
+    pub ghost both: { HasBoth pass worker },
+    pub ghost counted: { IsCounted pass worker waiting },
+    pub ghost few: { most ≤ 1024 },
 }
 
 impl<R> Intake<R> {
@@ -88,18 +97,17 @@ impl<R: Wait> RecordSink for Intake<R> {
         let room = message.room;
         let leaving = u64::from(may_leave_blocks(&message));
         let message = in_room(self.alloc, message)?;
-        match self.queue.admit(&self.rt, &mut self.pass, message) {
-            Ok(()) => {
-                self.waiting = self.waiting.saturating_add(1);
-                self.owed.add(room);
-                self.leaving = self.leaving.wrapping_add(leaving);
-                Ok(())
-            }
-            Err(message) => {
-                drop(message);
-                Err(AllocError)
-            }
-        }
+        put_last(
+            &self.queue,
+            &mut self.pass,
+            &mut self.worker,
+            &self.rt,
+            message,
+        );
+        self.waiting += 1;
+        self.owed.add(room);
+        self.leaving = self.leaving.wrapping_add(leaving);
+        Ok(())
     }
 
     fn answer(

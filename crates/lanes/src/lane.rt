@@ -5,7 +5,6 @@ ghost use Rattle.slab.specs.Slab.{get};
 ghost use Rattle.std.specs.Arc.{arc_value};
 ghost use Rattle.workers.specs.shared_waiting.Passes.{known};
 ghost use Rattle.workers.specs.Words.{entries_in, layout_in, IsAt};
-ghost use Rattle.lanes.specs.Lanes.{HasBoth};
 ghost use Rattle.lanes.specs.Story.{Story};
 
 mod closing;
@@ -23,7 +22,7 @@ use crate::intake::Intake;
 pub use parting::LaneParts;
 use slab::Slab;
 use std::sync::Arc;
-use workers::{Filer, Worker};
+use workers::Filer;
 
 /// One thread's connections, with the queue of their calls, the worker that runs these, and the
 /// outboxes of the replies. Its type says what it has done in its whole life: what came of the
@@ -35,12 +34,11 @@ pub struct Lane<D: Device, R> {
     pub(crate) count: usize,
     pub(crate) filer: Arc<Filer>,
     pub(crate) intake: Intake<R>,
-    pub(crate) worker: Worker,
     pub(crate) connections: Slab<Connection<D>>,
     pub ghost filer_is: { intake.filer.value ≡ arc_value filer },
-    pub ghost inside: { ∥ IsAt (arc_value filer) intake.queue worker ∥₁ },
-    pub ghost both: { HasBoth intake.pass worker },
+    pub ghost inside: { ∥ IsAt (arc_value filer) intake.queue intake.worker ∥₁ },
     pub ghost picked: { (known intake.pass).picked ≡ [] },
     pub ghost story: { ∥ Story D.unread D.written (layout_in (arc_value filer)) index count
-        (entries_in worker) (known intake.pass).put intake.outboxes (get connections) ∥₁ },
+        (entries_in intake.worker) (known intake.pass).put intake.outboxes
+        (get connections) ∥₁ },
 }

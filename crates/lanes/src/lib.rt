@@ -10,6 +10,7 @@ mod due;
 mod intake;
 mod joining;
 mod lane;
+mod placing;
 mod reading;
 mod rest;
 mod told;

@@ -1,7 +1,7 @@
 -- Queues of lanes that begin.
 use Rattle.std.specs.Prelude.{◌≡◌, [], Some}
 use Rattle.affinity.specs.declared.layout.Layout.{Layout}
-use Rattle.lanes.specs.Lanes.{HasBoth}
+use Rattle.lanes.specs.Queues.{HasBoth}
 use Rattle.server.specs.declared.opening.Queue.{Queue}
 use Rattle.workers.specs.declared.message.Message.{Message}
 use Rattle.workers.specs.declared.shared.Filer.{Filer}

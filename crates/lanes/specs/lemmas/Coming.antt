@@ -29,6 +29,7 @@ taken_none s =
       put = sym (append-nil (map seen_of (known s.pass).put));
       picked = refl;
       share = (refl, refl, refl);
+      same = record { seat = refl; pass = refl; hand = refl; kept = refl };
       boxes_are = refl;
     }
 
@@ -42,6 +43,12 @@ taken_more s t u xs ys f g =
           ∙ ap (λ ms. map seen_of (known s.pass).put ++ ms) (sym (calls-append xs ys));
       picked = g.picked ∙ f.picked;
       share = (g.share.0 ∙ f.share.0, g.share.1 ∙ f.share.1, g.share.2 ∙ f.share.2);
+      same = record {
+        seat = g.same.seat ∙ f.same.seat;
+        pass = g.same.pass ∙ f.same.pass;
+        hand = g.same.hand ∙ f.same.hand;
+        kept = g.same.kept ∙ f.same.kept;
+      };
       boxes_are =
           g.boxes_are ∙ ap (all_put (answered_of ys)) f.boxes_are ∙ sym (all-put-append (answered_of xs) (answered_of ys) s.outboxes)
           ∙ ap (λ l. all_put l s.outboxes) (sym (answered-append xs ys));

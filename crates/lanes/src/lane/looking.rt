@@ -34,7 +34,7 @@ impl<D: Device, R> Lane<D, R> {
     pub fn worker(&self) -> &Worker
         ensures { result.now ≡ worker_in self.now }
     {
-        &self.worker
+        &self.intake.worker
     }
 
     /// How many calls that may leave blocks to tend were admitted, wrapping at 2^64.

@@ -25,7 +25,8 @@ impl<D: Device, R> Lane<D, R> {
     ghost use Rattle.workers.specs.shared_waiting.Passes.{known, IsOf};
     ghost use Rattle.workers.specs.Words.{entries_in, layout_in, layout_known, IsAt};
     ghost use Rattle.lanes.specs.Connections.{now_of};
-    ghost use Rattle.lanes.specs.Lanes.{HasBoth, Opens};
+    ghost use Rattle.lanes.specs.Lanes.{Opens};
+    ghost use Rattle.lanes.specs.Queues.{HasBoth};
     ghost use Rattle.lanes.specs.Words.{boxes_in, connections_in, filer_in, identity_in, pass_in};
     ghost use Rattle.lanes.specs.Words.{worker_in};
 
@@ -63,6 +64,7 @@ impl<D: Device, R> Lane<D, R> {
                 filer: Snapshot::of(&*filer),
                 queue,
                 pass,
+                worker,
                 outboxes: Outboxes::of_lane(alloc, lane, lanes),
                 waiting: 0,
                 most: PLACES / lanes,
@@ -70,7 +72,6 @@ impl<D: Device, R> Lane<D, R> {
                 leaving: 0,
             },
             filer,
-            worker,
             connections: Slab::new(alloc),
         }
     }

@@ -18,7 +18,7 @@ impl<D: Device + Drop, R: Drop> Lane<D, R> {
     ghost use Rattle.std.specs.Prelude.{◌≡◌, []};
     ghost use Rattle.workers.specs.shared_waiting.Passes.{known, IsOf};
     ghost use Rattle.workers.specs.Words.{IsAt};
-    ghost use Rattle.lanes.specs.Lanes.{HasBoth};
+    ghost use Rattle.lanes.specs.Queues.{HasBoth};
     ghost use Rattle.lanes.specs.Words.{filer_in, pass_in, queue_in, worker_in, HasStory};
 
     /// What is left of a lane, whose connections are closed with that. Its life stays known.
@@ -37,7 +37,6 @@ impl<D: Device + Drop, R: Drop> Lane<D, R> {
             count: _,
             filer: _,
             intake,
-            worker,
             connections: _,
         } = self;
         let Intake {
@@ -46,6 +45,7 @@ impl<D: Device + Drop, R: Drop> Lane<D, R> {
             filer: _,
             queue,
             pass,
+            worker,
             outboxes: _,
             waiting: _,
             most: _,

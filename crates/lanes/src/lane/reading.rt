@@ -55,6 +55,7 @@ fn read_under<D: Device, R: Wait>(
 impl<D: Device, R: Wait> Lane<D, R> {
     ghost use Rattle.lanes.specs.Words.{connections_in, filer_in, identity_in, intake_in};
     ghost use Rattle.lanes.specs.Words.{worker_in};
+    ghost use Rattle.workers.specs.Words.{seats_in, IsSameWorker};
 
     /// Goes on reading the connection of a key (`Connection::read`): what its records come to is
     /// admitted or answered. Where there is none, nothing is done, as where its reading stopped.
@@ -63,7 +64,8 @@ impl<D: Device, R: Wait> Lane<D, R> {
         ensures read { ReadsUnder D.unread D.written (layout_in (filer_in self.old))
             (connections_in self.old) key (get (connections_in self.old) key) (intake_in self.old)
             (length block.old) result (connections_in self.new) (intake_in self.new) }
-        ensures worker { worker_in self.new ≡ worker_in self.old }
+        ensures worker { IsSameWorker (worker_in self.old) (worker_in self.new) }
+        ensures seats { seats_in (worker_in self.new) ≡ seats_in (worker_in self.old) }
         ensures filer { filer_in self.new ≡ filer_in self.old }
         ensures identity { identity_in self.new ≡ identity_in self.old }
     {

@@ -26,6 +26,8 @@ impl<D: Device, R> Lane<D, R> {
         ensures filer { filer_in self.new ≡ filer_in self.old }
         ensures identity { identity_in self.new ≡ identity_in self.old }
     {
-        self.worker.tend_in(&self.filer, &self.intake.queue, tend)
+        self.intake
+            .worker
+            .tend_in(&self.filer, &self.intake.queue, tend)
     }
 }

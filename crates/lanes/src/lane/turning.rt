@@ -1,12 +1,77 @@
 //! Turns of a lane.
 
 ghost use Rattle.std.specs.Prelude.{◌≡◌};
+ghost use Rattle.workers.specs.Tends.{kept_in};
+ghost use Rattle.lanes.specs.Queues.{count_kept};
 
 use crate::device::Device;
+use crate::intake::Intake;
 use crate::lane::Lane;
 use nfs_values::Moment;
 use std::sync::Wait;
-use workers::{Chained, Gate, Hint};
+use workers::{Chained, Filer, Gate, Hint, Worker};
+
+/// How many messages a worker keeps.
+fn kept_by(worker: &Worker) -> usize
+    ensures { result ≡ count_kept (kept_in worker.now) }
+{
+    usize::from(worker.keeps_message())
+}
+
+impl<R: Wait> Intake<R> {
+    ghost use Rattle.std.specs.Prelude.{◌≤◌, []};
+    ghost use Rattle.depot_rule.specs.Sums.{total};
+    ghost use Rattle.workers.specs.declared.chained.Chained.TheVariants.{Idle};
+    ghost use Rattle.workers.specs.shared_waiting.Passes.{known};
+    ghost use Rattle.workers.specs.Balance.{Weight, by_entry, by_key};
+    ghost use Rattle.workers.specs.Chains.{turns_at_most, HasDoneFew, HasPutAll, HasTurnedOn};
+    ghost use Rattle.workers.specs.Turns.{standing_of};
+    ghost use Rattle.workers.specs.Words.{entries_in, layout_in, seat_view, seats_in, IsAt};
+    ghost use Rattle.lanes.specs.Queues.{HasNoneLeft};
+
+    /// Turns of its worker, whose answers are put into its outboxes, and a count of what waits.
+    fn turns<G: Gate, H: Hint>(
+        &mut self,
+        filer: &Filer,
+        gate: &G,
+        hint: &H,
+        moment: Moment,
+        most: usize,
+    ) -> Chained
+        requires inside { IsAt filer.now self.old.queue self.old.worker }
+        requires picked { (known self.old.pass).picked ≡ [] }
+        ensures inside { IsAt filer.now self.new.queue self.new.worker }
+        ensures turned { HasTurnedOn HasPutAll (layout_in filer.now)
+            (standing_of self.old.worker) moment self.old.outboxes result
+            self.new.outboxes (standing_of self.new.worker) }
+        ensures few { HasDoneFew (turns_at_most most) (seat_view self.old.worker)
+            (seat_view self.new.worker) }
+        ensures idle { result ≡ Idle → HasNoneLeft self.new.pass self.new.worker }
+        ensures once { (weight : Weight) → total (by_entry weight) (entries_in self.new.worker)
+            ≤ total (by_key weight) (known self.old.pass).put }
+        ensures pass { known self.new.pass ≡ known self.old.pass }
+        ensures seats { seats_in self.new.worker ≡ seats_in self.old.worker }
+        ensures queue { self.new.queue ≡ self.old.queue }
+        ensures filer { self.new.filer.value ≡ self.old.filer.value }
+    {
+        let chained = self.worker.turns_beside(
+            filer,
+            &self.queue,
+            &mut self.pass,
+            &self.rt,
+            gate,
+            hint,
+            moment,
+            most,
+            &mut self.outboxes,
+        );
+        let queued = self
+            .worker
+            .count_beside(filer, &self.queue, &mut self.pass, &self.rt);
+        self.waiting = queued + kept_by(&self.worker);
+        chained
+    }
+}
 
 impl<D: Device, R: Wait> Lane<D, R> {
     ghost use Rattle.workers.specs.declared.chained.Chained.TheVariants.{Idle};
@@ -14,7 +79,7 @@ impl<D: Device, R: Wait> Lane<D, R> {
     ghost use Rattle.workers.specs.Chains.{turns_at_most, HasDoneFew, HasPutAll, HasTurnedOn};
     ghost use Rattle.workers.specs.Turns.{standing_of};
     ghost use Rattle.workers.specs.Words.{layout_in, seat_view, seats_in};
-    ghost use Rattle.lanes.specs.Lanes.{HasNoneLeft};
+    ghost use Rattle.lanes.specs.Queues.{HasNoneLeft};
     ghost use Rattle.lanes.specs.Words.{boxes_in, connections_in, filer_in, identity_in};
     ghost use Rattle.lanes.specs.Words.{pass_in, worker_in};
 
@@ -41,25 +106,6 @@ impl<D: Device, R: Wait> Lane<D, R> {
         ensures filer { filer_in self.new ≡ filer_in self.old }
         ensures identity { identity_in self.new ≡ identity_in self.old }
     {
-        let filer = &*self.filer;
-        let chained = self.worker.turns_beside(
-            filer,
-            &self.intake.queue,
-            &mut self.intake.pass,
-            &self.intake.rt,
-            gate,
-            hint,
-            moment,
-            most,
-            &mut self.intake.outboxes,
-        );
-        let queued = self.worker.count_beside(
-            filer,
-            &self.intake.queue,
-            &mut self.intake.pass,
-            &self.intake.rt,
-        );
-        self.intake.waiting = queued + usize::from(self.worker.keeps_message());
-        chained
+        self.intake.turns(&self.filer, gate, hint, moment, most)
     }
 }

@@ -1,10 +1,24 @@
+use Rattle.std.proofs.Common.{◌≡◌, ◌<◌, ap, sym, ◌∙◌, rules}
+use Rattle.workers.specs.Balance.{Passed}
 use Rattle.workers.specs.shared_waiting.Passes.{known}
 use Rattle.workers.specs.Words.{layout_in}
+use Rattle.lanes.proofs.Counted.{counted-more, not-full}
 use Rattle.lanes.proofs.Fitting.{fits-by}
+use Rattle.lanes.proofs.Same.{same-rights}
+use Rattle.lanes.proofs.Steps.{both-kept}
 use Rattle.lanes.proofs.intake.IntakeRecordSink.admit.Goals as goal
 
-pub admit-requires-clause-fits : goal.admit-requires-clause-fits
-admit-requires-clause-fits g c =
+pub put_last-requires-clause-key : goal.put_last-requires-clause-key
+put_last-requires-clause-key g c = sym c.args.self.now.both.1
+
+pub put_last-requires-clause-fits : goal.put_last-requires-clause-fits
+put_last-requires-clause-fits g c =
     let layout = layout_in c.args.self.now.filer.value in
     fits-by layout (known c.args.self.now.pass) c.in_ok-message.message c.args.self.now.layout
     (c.in_ok-message.ensures.placed layout c.requires.admitted c.requires.at_home)
+
+pub put_last-requires-clause-place : goal.put_last-requires-clause-place
+put_last-requires-clause-place g c =
+    let s = c.args.self.now in
+    let less : s.waiting < s.most = search rules in
+    not-full s.pass s.worker s.waiting s.most s.both s.counted less s.few

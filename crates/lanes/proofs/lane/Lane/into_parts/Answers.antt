@@ -5,7 +5,7 @@ use Rattle.lanes.proofs.lane.Lane.into_parts.Goals as goal
 pub returns-clause-inside : goal.returns-clause-inside
 returns-clause-inside g c =
     let l = c.args.self in
-    at-inside (arc_value l.filer) l.intake.queue l.worker l.inside
+    at-inside (arc_value l.filer) l.intake.queue l.intake.worker l.inside
 
 pub returns-clause-told : goal.returns-clause-told
 returns-clause-told g c = c.args.self.story

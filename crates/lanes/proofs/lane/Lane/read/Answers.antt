@@ -1,12 +1,16 @@
-use Rattle.std.proofs.Common.{refl, sym, ap, subst, ◌∙◌, rules}
+use Rattle.std.proofs.Common.{refl, sym, ap, subst, ◌∙◌, List, rules}
+use Rattle.std.proofs.Math.Logic.{∥∥₁_map}
 use Rattle.std.specs.Arc.{arc_value}
 use Rattle.affinity.specs.declared.layout.Layout.{Layout}
-use Rattle.workers.specs.Words.{entries_in, layout_in, IsAt}
+use Rattle.slab.specs.Slab.{get}
+use Rattle.workers.specs.Balance.{FilerEntry}
+use Rattle.workers.specs.Words.{entries_in, layout_in}
 use Rattle.workers.specs.shared_waiting.Passes.{known}
 use Rattle.workers.specs.declared.message.Message.{Message}
-use Rattle.workers.specs.declared.shared.Filer.{Filer}
 use Rattle.workers.specs.declared.shared_waiting.pass.SharedWaiting.{SharedWaiting}
-use Rattle.lanes.proofs.Steps.{both-kept, share-same, reads-keep, reads-told}
+use Rattle.lanes.specs.Story.{Story}
+use Rattle.lanes.proofs.Same.{same-entries, same-inside, same-seats}
+use Rattle.lanes.proofs.Steps.{reads-keep, reads-told}
 use Rattle.lanes.proofs.lane.Lane.read.Goals as goal
 
 pub invariant_of-self : goal.invariant_of-self
@@ -14,13 +18,15 @@ invariant_of-self g c =
     let l = c.args.self.now in
     let k = reads-keep _ _ _ l.connections c.read_under.new.connections c.args.key l.intake c.read_under.new.intake _
     c.read_under.result c.read_under.ensures in
+    let i = c.read_under.new.intake in
     record {
       filer_is = k.0 ∙ l.filer_is;
-      inside = subst (λ (q : SharedWaiting Message Layout). ∥ IsAt (arc_value l.filer) q l.worker ∥₁) (sym k.1) l.inside;
-      both = both-kept l.intake.pass c.read_under.new.intake.pass l.worker l.worker k.3 (share-same l.worker) l.both;
+      inside = ∥∥₁_map l.inside (same-inside (arc_value l.filer) l.intake.queue i.queue l.intake.worker i.worker k.4 i.takes);
       picked = k.2 ∙ l.picked;
-      story = reads-told _ _ (layout_in (arc_value l.filer)) l.index l.count (entries_in l.worker) _ l.connections c.read_under.new.connections
-          c.args.key l.intake c.read_under.new.intake _ c.read_under.result (search rules) c.read_under.ensures l.story;
+      story = subst (λ (es : List FilerEntry). ∥ Story g.D.Device.unread g.D.Device.written (layout_in (arc_value l.filer)) l.index l.count es
+          (known i.pass).put i.outboxes (get c.read_under.new.connections) ∥₁) (sym (same-entries l.intake.worker i.worker k.4))
+          (reads-told _ _ (layout_in (arc_value l.filer)) l.index l.count (entries_in l.intake.worker) _ l.connections
+          c.read_under.new.connections c.args.key l.intake i _ c.read_under.result (search rules) c.read_under.ensures l.story);
     }
 
 pub returns-clause-identity : goal.returns-clause-identity
@@ -29,3 +35,16 @@ returns-clause-identity g c =
     let k = reads-keep _ _ _ l.connections c.read_under.new.connections c.args.key l.intake c.read_under.new.intake _
     c.read_under.result c.read_under.ensures in
     ap (λ (q : SharedWaiting Message Layout). ((l.index, l.count), q)) k.1
+
+pub returns-clause-worker : goal.returns-clause-worker
+returns-clause-worker g c =
+    let l = c.args.self.now in
+    (reads-keep _ _ _ l.connections c.read_under.new.connections c.args.key l.intake c.read_under.new.intake _
+    c.read_under.result c.read_under.ensures).4
+
+pub returns-clause-seats : goal.returns-clause-seats
+returns-clause-seats g c =
+    let l = c.args.self.now in
+    let k = reads-keep _ _ _ l.connections c.read_under.new.connections c.args.key l.intake c.read_under.new.intake _
+    c.read_under.result c.read_under.ensures in
+    same-seats l.intake.worker c.read_under.new.intake.worker k.4

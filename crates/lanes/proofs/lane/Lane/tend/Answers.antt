@@ -7,6 +7,7 @@ use Rattle.workers.specs.shared_waiting.Passes.{known}
 use Rattle.workers.specs.declared.message.Message.{Message}
 use Rattle.workers.specs.declared.shared.Filer.{Filer}
 use Rattle.workers.specs.declared.shared_waiting.pass.SharedWaiting.{SharedWaiting}
+use Rattle.lanes.proofs.Counted.{counted-same}
 use Rattle.lanes.proofs.Inside.{at-inside}
 use Rattle.lanes.proofs.Steps.{both-kept, tends-told}
 use Rattle.lanes.proofs.lane.Lane.tend.Goals as goal
@@ -15,20 +16,31 @@ pub tend_in-requires : goal.tend_in-requires
 tend_in-requires g c =
     let l = c.args.self.now in
     let same : c.deref.result.now ≡ arc_value l.filer = search rules in
-    subst (λ (f : Filer). IsAt f l.intake.queue l.worker) (sym same) (at-inside (arc_value l.filer) l.intake.queue l.worker l.inside)
+    subst (λ (f : Filer). IsAt f l.intake.queue l.intake.worker) (sym same) (at-inside (arc_value l.filer) l.intake.queue l.intake.worker l.inside)
 
-pub invariant_of-self-2 : goal.invariant_of-self-2
-invariant_of-self-2 g c =
+pub invariant_of-self : goal.invariant_of-self
+invariant_of-self g c =
     let l = c.args.self.now in
+    let i = l.intake in
+    let w = c.tend_in.new.self in
     let same : c.deref.result.now ≡ arc_value l.filer = search rules in
-    record {
-      filer_is = l.filer_is;
-      inside = ∣ subst (λ (f : Filer). IsAt f l.intake.queue c.tend_in.new.self) same c.tend_in.ensures.inside ∣₁;
-      both = both-kept l.intake.pass l.intake.pass l.worker c.tend_in.new.self (refl, refl, refl)
-          (ap (λ v. v.share) c.tend_in.ensures.pass, ap (λ v. v.halvings) c.tend_in.ensures.pass, ap (λ v. v.key) c.tend_in.ensures.pass) l.both;
-      picked = l.picked;
-      story = tends-told _ _ (layout_in (arc_value l.filer)) l.index l.count (known l.intake.pass).put l.intake.outboxes _ l.worker
-          c.tend_in.new.self c.args.tend c.tend_in.result
-          (subst (λ (f : Filer). Tends (layout_in f) l.worker c.args.tend c.tend_in.result c.tend_in.new.self) same
-          c.tend_in.ensures.tends) l.story;
-    }
+    (
+      (
+        i.of,
+        (i.layout, (c.tend_in.ensures.inside.pass,
+        (both-kept i.pass i.pass i.worker w (refl, refl, refl)
+            (ap (λ v. v.share) c.tend_in.ensures.pass, ap (λ v. v.halvings) c.tend_in.ensures.pass, ap (λ v. v.key) c.tend_in.ensures.pass)
+            i.both,
+        (counted-same i.pass i.pass i.worker w i.waiting refl c.tend_in.ensures.pass c.tend_in.ensures.kept i.counted, (i.few, tt))))),
+      ),
+      (
+        l.filer_is,
+        (∣ subst (λ (f : Filer). IsAt f l.intake.queue c.tend_in.new.self) same c.tend_in.ensures.inside ∣₁,
+        (l.picked,
+        (tends-told _ _ (layout_in (arc_value l.filer)) l.index l.count (known l.intake.pass).put l.intake.outboxes _ l.intake.worker
+            c.tend_in.new.self c.args.tend c.tend_in.result
+            (subst (λ (f : Filer). Tends (layout_in f) l.intake.worker c.args.tend c.tend_in.result c.tend_in.new.self) same
+            c.tend_in.ensures.tends) l.story,
+        tt))),
+      ),
+    )

@@ -1,0 +1,42 @@
+-- A worker that is the same but for how it uses its queue.
+use Rattle.std.proofs.Common.{◌≡◌, ◌+◌, ℕ, Option, Some, sym, ap, subst}
+use Rattle.std.specs.Prelude.{IfSome}
+use Rattle.affinity.specs.declared.layout.Layout as layouts
+use Rattle.depot.specs.Words as depots
+use Rattle.depot.specs.Words.{IsSeatHere}
+use Rattle.depot_rule.specs.History.{entries_of}
+use Rattle.nfs_model.specs.Parts.{Hand}
+use Rattle.workers.specs.declared.message.Message.{Message}
+use Rattle.workers.specs.declared.shared.Filer.{Filer}
+use Rattle.workers.specs.declared.shared_waiting.pass.SharedWaiting.{SharedWaiting}
+use Rattle.workers.specs.declared.worker.Worker.{Worker}
+use Rattle.workers.specs.Balance.{Passed}
+use Rattle.workers.specs.Messages.{IsPlaced}
+use Rattle.workers.specs.Turns.{HasShareOf}
+use Rattle.workers.specs.Words.{entries_in, layout_in, layout_known, passed, seats_in, verifier_in, HasOpened, IsAt, IsHandIn, IsSameWorker}
+use Rattle.workers.specs.Words.{TakesFrom}
+
+pub same-entries : (w w' : Worker) → IsSameWorker w w' → entries_in w' ≡ entries_in w
+same-entries w w' s = ap (λ x. entries_of (depots.view x)) s.seat
+
+pub same-seats : (w w' : Worker) → IsSameWorker w w' → seats_in w' ≡ seats_in w
+same-seats w w' s = ap (λ x. depots.splits_left x + 1) s.seat
+
+pub same-rights : (w w' : Worker) → IsSameWorker w w' → HasShareOf (passed w) (passed w')
+same-rights w w' s = (
+  ap (λ (v : Passed). v.share) s.pass,
+  ap (λ (v : Passed). v.halvings) s.pass,
+  ap (λ (v : Passed). v.key) s.pass,
+)
+
+pub same-inside : (filer : Filer) (queue queue' : SharedWaiting Message layouts.Layout) (w w' : Worker) → IsSameWorker w w'
+    → TakesFrom queue' w' → IsAt filer queue w → IsAt filer queue' w'
+same-inside filer queue queue' w w' s takes i =
+    record {
+      seat = subst (λ x. IsSeatHere filer.depot x) (sym s.seat) i.seat;
+      opened = subst (λ x. HasOpened (layout_in filer) (verifier_in filer) (depots.view x)) (sym s.seat) i.opened;
+      pass = takes;
+      layout = subst (λ (v : Passed). layout_known v ≡ Some (layout_in filer)) (sym s.pass) i.layout;
+      hand = subst (λ (h : Hand). IsHandIn (layout_in filer) h) (sym s.hand) i.hand;
+      kept = subst (λ (o : Option Message). IfSome o (IsPlaced (layout_in filer))) (sym s.kept) i.kept;
+    }
