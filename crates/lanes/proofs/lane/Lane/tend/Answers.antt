@@ -23,24 +23,36 @@ invariant_of-self g c =
     let l = c.args.self.now in
     let i = l.intake in
     let w = c.tend_in.new.self in
-    let same : c.deref.result.now ≡ arc_value l.filer = search rules in
-    (
+    let same : c.deref.result.now ≡ arc_value l.filer = search rules in (
       (
         i.of,
-        (i.layout, (c.tend_in.ensures.inside.pass,
-        (both-kept i.pass i.pass i.worker w (refl, refl, refl)
-            (ap (λ v. v.share) c.tend_in.ensures.pass, ap (λ v. v.halvings) c.tend_in.ensures.pass, ap (λ v. v.key) c.tend_in.ensures.pass)
-            i.both,
-        (counted-same i.pass i.pass i.worker w i.waiting refl c.tend_in.ensures.pass c.tend_in.ensures.kept i.counted, (i.few, tt))))),
+        (
+          i.layout,
+          (
+            c.tend_in.ensures.inside.pass,
+            (
+              both-kept i.pass i.pass i.worker w (refl, refl, refl)
+                  (ap (λ v. v.share) c.tend_in.ensures.pass, ap (λ v. v.halvings) c.tend_in.ensures.pass, ap (λ v. v.key) c.tend_in.ensures.pass)
+                  i.both,
+              (counted-same i.pass i.pass i.worker w i.waiting refl c.tend_in.ensures.pass c.tend_in.ensures.kept i.counted, (i.few, tt)),
+            ),
+          ),
+        ),
       ),
       (
         l.filer_is,
-        (∣ subst (λ (f : Filer). IsAt f l.intake.queue c.tend_in.new.self) same c.tend_in.ensures.inside ∣₁,
-        (l.picked,
-        (tends-told _ _ (layout_in (arc_value l.filer)) l.index l.count (known l.intake.pass).put l.intake.outboxes _ l.intake.worker
-            c.tend_in.new.self c.args.tend c.tend_in.result
-            (subst (λ (f : Filer). Tends (layout_in f) l.intake.worker c.args.tend c.tend_in.result c.tend_in.new.self) same
-            c.tend_in.ensures.tends) l.story,
-        tt))),
+        (
+          ∣ subst (λ (f : Filer). IsAt f l.intake.queue c.tend_in.new.self) same c.tend_in.ensures.inside ∣₁,
+          (
+            l.picked,
+            (
+              tends-told _ _ (layout_in (arc_value l.filer)) l.index l.count (known l.intake.pass).put l.intake.outboxes _ l.intake.worker
+                  c.tend_in.new.self c.args.tend c.tend_in.result
+                  (subst (λ (f : Filer). Tends (layout_in f) l.intake.worker c.args.tend c.tend_in.result c.tend_in.new.self) same
+                  c.tend_in.ensures.tends) l.story,
+              tt,
+            ),
+          ),
+        ),
       ),
     )
