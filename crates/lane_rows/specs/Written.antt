@@ -9,7 +9,7 @@ use Rattle.lanes.specs.declared.lane.Lane.{Lane}
 use Rattle.lanes.specs.Connections.{now_of, number_of}
 use Rattle.lanes.specs.Story.{Ending, replies_to, served_in, served_of}
 use Rattle.lanes.specs.Words.{connections_in, worker_in}
-use Rattle.workers.specs.Words.{entries_in}
+use Rattle.turns.specs.Words.{entries_in}
 
 -- Under this key of a lane a connection was open, over this device. The bytes that the device took since then are a beginning of the records
 -- of the replies to that connection, in order and each once, among what had ended: the calls that the lane's worker had finished, and what

@@ -10,7 +10,7 @@ use lanes::{Came, Sent};
 use nfs_values::Moment;
 use std::process::Abort;
 use std::sync::Wait;
-use workers::{Chained, Hint, Unwatched, Wanted};
+use turns::{Chained, Hint, Unwatched, Wanted};
 
 /// Makes at most so many turns, which finish so many calls. What the last came to.
 fn turns<R: Wait>(

@@ -2,7 +2,7 @@
 
 ghost use Rattle.std.specs.Prelude.{◌≡◌, ◌≤◌, ◌+◌, [], vec_len, vec_capacity};
 ghost use Rattle.server.specs.Lanes.{AreLanesOf, Stays};
-ghost use Rattle.workers.specs.declared.shared.Filer as filers;
+ghost use Rattle.turns.specs.declared.shared.Filer as filers;
 
 use crate::laned::close_after;
 use crate::memory::Flow;
@@ -14,7 +14,7 @@ use nfs_values::Moment;
 use server::{FilerEnd, Room, end};
 use std::process::Abort;
 use std::sync::Wait;
-use workers::{Unwatched, Wanted};
+use turns::{Unwatched, Wanted};
 
 /// How many bytes the replies have, to a NULL call and to a GETATTR.
 const REPLIES: usize = 144;

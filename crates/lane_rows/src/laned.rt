@@ -16,7 +16,7 @@ use nfs_values::{Moment, VolumeNumber};
 use std::process::Abort;
 use std::sync::Wait;
 use std::thread;
-use workers::{Chained, Gate, Tend, TendRefusal, Tended, Unwatched, Wanted};
+use turns::{Chained, Gate, Tend, TendRefusal, Tended, Unwatched, Wanted};
 
 /// The first of two lanes. The other is dropped.
 pub(crate) fn lane<R: Abort + AllocGlobal + Wait + Copy + Drop>(rt: R) -> MemoryLane<R> {

@@ -11,7 +11,7 @@ use std::sync::Wait;
 use std::sync::atomic::{AtomicBool, Ordering};
 use std::thread;
 use std::thread::Threads;
-use workers::{Gate, Place, Stage};
+use turns::{Gate, Place, Stage};
 
 /// The xid of the READ that is held.
 const HELD: u32 = 7;

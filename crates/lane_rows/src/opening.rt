@@ -9,7 +9,7 @@ use affinity::Layout;
 use lanes::Lane;
 use std::process::Abort;
 use std::sync::Arc;
-use workers::Filer;
+use turns::Filer;
 
 /// A lane of devices in memory.
 pub(crate) type MemoryLane<R> = Lane<Memory, R>;

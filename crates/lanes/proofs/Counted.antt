@@ -5,15 +5,15 @@ use Rattle.crossbeam_queue.specs.Fifo.{Held}
 use Rattle.affinity.specs.declared.layout.Layout as layouts
 use Rattle.depot_rule.specs.Sums.{total}
 use Rattle.depot_rule.specs.lemmas.Sums.{total-append}
-use Rattle.workers.specs.Balance.{Passed, Weight, by_key, by_entry, by_kept, FilerEntry, IsEven}
-use Rattle.workers.specs.Turns.{Standing, standing_of}
-use Rattle.workers.specs.Tends.{kept_in}
-use Rattle.workers.specs.Words.{entries_in, passed, IsSameWorker}
-use Rattle.workers.specs.declared.message.Message.{Message}
-use Rattle.workers.specs.declared.shared_waiting.pass.Pass.{Pass}
-use Rattle.workers.specs.declared.worker.Worker.{Worker}
-use Rattle.workers.specs.shared_waiting.Balance.{IsWhole, Leaves, added, both}
-use Rattle.workers.specs.shared_waiting.Passes.{known}
+use Rattle.turns.specs.Balance.{Passed, Weight, by_key, by_entry, by_kept, FilerEntry, IsEven}
+use Rattle.turns.specs.Turns.{Standing, standing_of}
+use Rattle.turns.specs.Tends.{kept_in}
+use Rattle.turns.specs.Words.{entries_in, passed, IsSameWorker}
+use Rattle.turns.specs.declared.message.Message.{Message}
+use Rattle.turns.specs.declared.shared_waiting.pass.Pass.{Pass}
+use Rattle.turns.specs.declared.worker.Worker.{Worker}
+use Rattle.turns.specs.shared_waiting.Balance.{IsWhole, Leaves, added, both}
+use Rattle.turns.specs.shared_waiting.Passes.{known}
 use Rattle.lanes.specs.Queues.{HasBoth, IsCounted, count_kept}
 use Rattle.lanes.proofs.Idle.{turned-round}
 

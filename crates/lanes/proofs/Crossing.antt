@@ -10,11 +10,11 @@ use Rattle.outboxes.specs.contracts.record.Record as Record
 use Rattle.outboxes.specs.contracts.record.Record.TheInside as RecordInside
 use Rattle.outboxes.specs.contracts.said.Said as Said
 use Rattle.outboxes.specs.contracts.said.Said.TheInside as SaidInside
-use Rattle.workers.proofs.crossings.Outboxes.{outboxes-send}
-use Rattle.workers.proofs.crossings.Structs.{struct-send}
-use Rattle.workers.proofs.Crossing.{envelope-send, worker-send, filer-send, filer-sync}
-use Rattle.workers.proofs.shared_waiting.pass.Pass.TheSendSync as pass
-use Rattle.workers.proofs.shared_waiting.pass.SharedWaiting.TheSendSync as waiting
+use Rattle.turns.proofs.crossings.Outboxes.{outboxes-send}
+use Rattle.turns.proofs.crossings.Structs.{struct-send}
+use Rattle.turns.proofs.Crossing.{envelope-send, worker-send, filer-send, filer-sync}
+use Rattle.turns.proofs.shared_waiting.pass.Pass.TheSendSync as pass
+use Rattle.turns.proofs.shared_waiting.pass.SharedWaiting.TheSendSync as waiting
 use Rattle.lanes.proofs.backlog.Backlog.TheSendSync as backlog
 use Rattle.lanes.proofs.connection.Flags.TheSendSync as flags
 use Rattle.lanes.proofs.due.Due.TheSendSync as due

@@ -4,11 +4,11 @@ use Rattle.std.specs.Prelude.{option_map}
 use Rattle.nfs_model.specs.Tree as trees
 use Rattle.affinity.specs.declared.layout.Layout.{Layout}
 use Rattle.affinity.specs.Layout.{layout_of}
-use Rattle.workers.specs.shared_waiting.Balance.{FitsIn}
-use Rattle.workers.specs.Balance.{Passed}
-use Rattle.workers.specs.Messages.{IsPlaced, Fits}
-use Rattle.workers.specs.Words.{layout_known}
-use Rattle.workers.specs.declared.message.Message.{Message}
+use Rattle.turns.specs.shared_waiting.Balance.{FitsIn}
+use Rattle.turns.specs.Balance.{Passed}
+use Rattle.turns.specs.Messages.{IsPlaced, Fits}
+use Rattle.turns.specs.Words.{layout_known}
+use Rattle.turns.specs.declared.message.Message.{Message}
 
 -- what is placed in a layout fits a queue of that layout
 pub fits-by : (layout : trees.Layout) (v : Passed) (m : Message) → layout_known v ≡ Some layout → IsPlaced layout m → FitsIn Fits v.key m

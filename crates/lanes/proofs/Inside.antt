@@ -14,20 +14,20 @@ use Rattle.nfs_model.specs.Tree.{Affinity, Layout, Serial, Aggregate, Volume, Lo
 use Rattle.affinity.specs.Affinity.{affinity_of}
 use Rattle.affinity.specs.Tree.{IsNode}
 use Rattle.affinity.specs.declared.layout.Layout as layouts
-use Rattle.workers.specs.declared.shared_waiting.pass.SharedWaiting.{SharedWaiting}
+use Rattle.turns.specs.declared.shared_waiting.pass.SharedWaiting.{SharedWaiting}
 use Rattle.depot.specs.Words.{IsSeatHere}
 use Rattle.depot_rule.specs.History.{listed}
 use Rattle.filer_state.specs.state.Opening.{AreOpening}
 use Rattle.filer_state.specs.state.Parcels.{FilerParcel}
 use Rattle.nfs_values.specs.Call.{call_of}
-use Rattle.workers.specs.Running.{IsOnState, LeadsTo, RunsAbove}
-use Rattle.workers.specs.shared_waiting.Passes.{IsOf}
+use Rattle.turns.specs.Running.{IsOnState, LeadsTo, RunsAbove}
+use Rattle.turns.specs.shared_waiting.Passes.{IsOf}
 use Rattle.nfs_model.specs.volume.Codes.{coded_range, coded_stripe, coded_logical}
-use Rattle.workers.specs.Messages.{IsPlaced}
-use Rattle.workers.specs.Words.{layout_in, layout_known, verifier_in, seat_view, passed, HasOpened, IsHandIn, IsAt}
-use Rattle.workers.specs.declared.message.Message.{Message}
-use Rattle.workers.specs.declared.shared.Filer.{Filer}
-use Rattle.workers.specs.declared.worker.Worker.{Worker}
+use Rattle.turns.specs.Messages.{IsPlaced}
+use Rattle.turns.specs.Words.{layout_in, layout_known, verifier_in, seat_view, passed, HasOpened, IsHandIn, IsAt}
+use Rattle.turns.specs.declared.message.Message.{Message}
+use Rattle.turns.specs.declared.shared.Filer.{Filer}
+use Rattle.turns.specs.declared.worker.Worker.{Worker}
 
 -- ---- facts that can be shown in one way
 

@@ -13,8 +13,8 @@ use Rattle.nfs_model.specs.World.{Heard}
 use Rattle.nfs_model.specs.volume.lemmas.Numbered.{itself, get-insert_at}
 use Rattle.outboxes.specs.Boxes.{Addressed, Boxes, opened, put, shut}
 use Rattle.outboxes.specs.Messages.{ReplyMessage}
-use Rattle.workers.specs.Balance.{FilerEntry, Weight, by_entry, by_key}
-use Rattle.workers.specs.declared.message.Message.{Message}
+use Rattle.turns.specs.Balance.{FilerEntry, Weight, by_entry, by_key}
+use Rattle.turns.specs.declared.message.Message.{Message}
 use Rattle.tcp_front.specs.Admitted.{calls_of, seen_of}
 use Rattle.tcp_front.specs.Arrivals.{Arrival, arrivals}
 use Rattle.lanes.specs.declared.connection.Connection.{Connection}

@@ -9,9 +9,9 @@ use Rattle.outboxes.specs.Messages.{ReplyMessage}
 use Rattle.filer_state.specs.state.Jobs as jobs
 use Rattle.service.specs.declared.job.Job.{Job}
 use Rattle.service.specs.declared.job.Job.TheVariants.{Serve, Inner}
-use Rattle.workers.specs.Balance.{FilerEntry, Weight, by_entry, by_job, by_key}
-use Rattle.workers.specs.Jobs.{job_reply_of}
-use Rattle.workers.specs.declared.message.Message.{Message}
+use Rattle.turns.specs.Balance.{FilerEntry, Weight, by_entry, by_job, by_key}
+use Rattle.turns.specs.Jobs.{job_reply_of}
+use Rattle.turns.specs.declared.message.Message.{Message}
 use Rattle.tcp_front.specs.Admitted.{calls_of, seen_of}
 use Rattle.tcp_front.specs.Arrivals.{Arrival, Waits, Answered}
 use Rattle.lanes.specs.Intakes.{answered_of}

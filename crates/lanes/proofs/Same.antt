@@ -6,15 +6,15 @@ use Rattle.depot.specs.Words as depots
 use Rattle.depot.specs.Words.{IsSeatHere}
 use Rattle.depot_rule.specs.History.{entries_of}
 use Rattle.nfs_model.specs.Parts.{Hand}
-use Rattle.workers.specs.declared.message.Message.{Message}
-use Rattle.workers.specs.declared.shared.Filer.{Filer}
-use Rattle.workers.specs.declared.shared_waiting.pass.SharedWaiting.{SharedWaiting}
-use Rattle.workers.specs.declared.worker.Worker.{Worker}
-use Rattle.workers.specs.Balance.{Passed}
-use Rattle.workers.specs.Messages.{IsPlaced}
-use Rattle.workers.specs.Turns.{HasShareOf}
-use Rattle.workers.specs.Words.{entries_in, layout_in, layout_known, passed, seats_in, verifier_in, HasOpened, IsAt, IsHandIn, IsSameWorker}
-use Rattle.workers.specs.Words.{TakesFrom}
+use Rattle.turns.specs.declared.message.Message.{Message}
+use Rattle.turns.specs.declared.shared.Filer.{Filer}
+use Rattle.turns.specs.declared.shared_waiting.pass.SharedWaiting.{SharedWaiting}
+use Rattle.turns.specs.declared.worker.Worker.{Worker}
+use Rattle.turns.specs.Balance.{Passed}
+use Rattle.turns.specs.Messages.{IsPlaced}
+use Rattle.turns.specs.Turns.{HasShareOf}
+use Rattle.turns.specs.Words.{entries_in, layout_in, layout_known, passed, seats_in, verifier_in, HasOpened, IsAt, IsHandIn, IsSameWorker}
+use Rattle.turns.specs.Words.{TakesFrom}
 
 pub same-entries : (w w' : Worker) → IsSameWorker w w' → entries_in w' ≡ entries_in w
 same-entries w w' s = ap (λ x. entries_of (depots.view x)) s.seat

@@ -20,21 +20,21 @@ use Rattle.outboxes.specs.Boxes.{Addressed, addressed, Boxes, put, shut, opened}
 use Rattle.outboxes.specs.Messages.{ReplyMessage, message}
 use Rattle.service.specs.declared.job.Job.{Job}
 use Rattle.service.specs.declared.job.Job.TheVariants.{Serve, Inner}
-use Rattle.workers.specs.Jobs.{job_of, job_reply_of}
-use Rattle.workers.specs.Tends.{Answers, Tends, call_of, hand_in}
-use Rattle.workers.specs.declared.tend.Tend.{Tend}
-use Rattle.workers.specs.declared.tend.Tended.{Tended}
-use Rattle.workers.specs.declared.tend.TendRefusal.{TendRefusal}
-use Rattle.workers.specs.Balance.{FilerEntry, Passed, Weight, by_entry, by_key}
-use Rattle.workers.specs.Chains.{puts, DidAll, EndsBy, HasPutAll, HasTurnedOn}
-use Rattle.workers.specs.Turns.{HasDoneFrom, HasFinished, IsEntryOf, Standing, HasShareOf, job_of_message}
-use Rattle.workers.specs.Words.{entries_in, passed, IsSameWorker}
-use Rattle.workers.specs.declared.message.Message.{Message}
-use Rattle.workers.specs.declared.shared_waiting.pass.Pass.{Pass}
-use Rattle.workers.specs.declared.chained.Chained.{Chained}
-use Rattle.workers.specs.declared.chained.Chained.TheVariants as chains
-use Rattle.workers.specs.declared.worker.Worker.{Worker}
-use Rattle.workers.specs.shared_waiting.Passes.{known}
+use Rattle.turns.specs.Jobs.{job_of, job_reply_of}
+use Rattle.turns.specs.Tends.{Answers, Tends, call_of, hand_in}
+use Rattle.turns.specs.declared.tend.Tend.{Tend}
+use Rattle.turns.specs.declared.tend.Tended.{Tended}
+use Rattle.turns.specs.declared.tend.TendRefusal.{TendRefusal}
+use Rattle.turns.specs.Balance.{FilerEntry, Passed, Weight, by_entry, by_key}
+use Rattle.turns.specs.Chains.{puts, DidAll, EndsBy, HasPutAll, HasTurnedOn}
+use Rattle.turns.specs.Turns.{HasDoneFrom, HasFinished, IsEntryOf, Standing, HasShareOf, job_of_message}
+use Rattle.turns.specs.Words.{entries_in, passed, IsSameWorker}
+use Rattle.turns.specs.declared.message.Message.{Message}
+use Rattle.turns.specs.declared.shared_waiting.pass.Pass.{Pass}
+use Rattle.turns.specs.declared.chained.Chained.{Chained}
+use Rattle.turns.specs.declared.chained.Chained.TheVariants as chains
+use Rattle.turns.specs.declared.worker.Worker.{Worker}
+use Rattle.turns.specs.shared_waiting.Passes.{known}
 use Rattle.lanes.specs.declared.connection.Connection.{Connection}
 use Rattle.lanes.specs.declared.connection.Flags.{Flags}
 use Rattle.lanes.specs.declared.intake.Intake.{Intake}

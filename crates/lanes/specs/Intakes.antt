@@ -4,14 +4,14 @@ use Rattle.affinity.specs.declared.layout.Layout.{Layout}
 use Rattle.outboxes.specs.Boxes.{Addressed, Boxes, put}
 use Rattle.tcp_front.specs.Admitted.{calls_of, seen_of}
 use Rattle.tcp_front.specs.Arrivals.{Arrival, Waits, Answered}
-use Rattle.workers.specs.declared.message.Message.{Message}
-use Rattle.workers.specs.declared.shared.Filer.{Filer}
-use Rattle.workers.specs.declared.shared_waiting.pass.Pass.{Pass}
-use Rattle.workers.specs.declared.shared_waiting.pass.SharedWaiting.{SharedWaiting}
-use Rattle.workers.specs.shared_waiting.Passes.{known}
-use Rattle.workers.specs.declared.worker.Worker.{Worker}
-use Rattle.workers.specs.Turns.{HasShareOf}
-use Rattle.workers.specs.Words.{IsSameWorker}
+use Rattle.turns.specs.declared.message.Message.{Message}
+use Rattle.turns.specs.declared.shared.Filer.{Filer}
+use Rattle.turns.specs.declared.shared_waiting.pass.Pass.{Pass}
+use Rattle.turns.specs.declared.shared_waiting.pass.SharedWaiting.{SharedWaiting}
+use Rattle.turns.specs.shared_waiting.Passes.{known}
+use Rattle.turns.specs.declared.worker.Worker.{Worker}
+use Rattle.turns.specs.Turns.{HasShareOf}
+use Rattle.turns.specs.Words.{IsSameWorker}
 use Rattle.lanes.specs.declared.intake.Intake.{Intake}
 
 -- the replies among what came

@@ -2,13 +2,13 @@
 use Rattle.std.specs.Prelude.{◌≡◌, ℕ, ◌+◌, length, Option, Some, None}
 use Rattle.affinity.specs.declared.layout.Layout as layouts
 use Rattle.depot_rule.specs.Sums.{total}
-use Rattle.workers.specs.declared.message.Message.{Message}
-use Rattle.workers.specs.declared.shared_waiting.pass.Pass.{Pass}
-use Rattle.workers.specs.declared.worker.Worker.{Worker}
-use Rattle.workers.specs.shared_waiting.Balance.{IsWhole, both}
-use Rattle.workers.specs.shared_waiting.Passes.{known}
-use Rattle.workers.specs.Tends.{kept_in}
-use Rattle.workers.specs.Words.{passed}
+use Rattle.turns.specs.declared.message.Message.{Message}
+use Rattle.turns.specs.declared.shared_waiting.pass.Pass.{Pass}
+use Rattle.turns.specs.declared.worker.Worker.{Worker}
+use Rattle.turns.specs.shared_waiting.Balance.{IsWhole, both}
+use Rattle.turns.specs.shared_waiting.Passes.{known}
+use Rattle.turns.specs.Tends.{kept_in}
+use Rattle.turns.specs.Words.{passed}
 
 -- both passes of a queue, which nobody else has
 abbrev pub HasBoth : Pass Message layouts.Layout → Worker → Type 0

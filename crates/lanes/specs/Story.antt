@@ -9,9 +9,9 @@ use Rattle.outboxes.specs.Messages.{ReplyMessage, message}
 use Rattle.filer_state.specs.state.Jobs as jobs
 use Rattle.service.specs.declared.job.Job.{Job}
 use Rattle.service.specs.declared.job.Job.TheVariants.{Serve, Inner}
-use Rattle.workers.specs.Jobs.{job_reply_of}
-use Rattle.workers.specs.Balance.{FilerEntry, Weight, by_entry, by_key}
-use Rattle.workers.specs.declared.message.Message as workers
+use Rattle.turns.specs.Jobs.{job_reply_of}
+use Rattle.turns.specs.Balance.{FilerEntry, Weight, by_entry, by_key}
+use Rattle.turns.specs.declared.message.Message as workers
 use Rattle.tcp_front.specs.Admitted.{calls_of, seen_of}
 use Rattle.tcp_front.specs.Arrivals.{Arrival, Waits, Answered, arrivals}
 use Rattle.lanes.specs.declared.connection.Connection.{Connection}

@@ -4,13 +4,13 @@ use Rattle.std.specs.Arc.{arc_value}
 use Rattle.slab.specs.Slab.{Slab, get}
 use Rattle.affinity.specs.declared.layout.Layout.{Layout}
 use Rattle.outboxes.specs.Boxes.{Boxes}
-use Rattle.workers.specs.declared.message.Message.{Message}
-use Rattle.workers.specs.declared.shared.Filer.{Filer}
-use Rattle.workers.specs.declared.shared_waiting.pass.Pass.{Pass}
-use Rattle.workers.specs.declared.shared_waiting.pass.SharedWaiting.{SharedWaiting}
-use Rattle.workers.specs.declared.worker.Worker.{Worker}
-use Rattle.workers.specs.shared_waiting.Passes.{known}
-use Rattle.workers.specs.Words.{entries_in, layout_in}
+use Rattle.turns.specs.declared.message.Message.{Message}
+use Rattle.turns.specs.declared.shared.Filer.{Filer}
+use Rattle.turns.specs.declared.shared_waiting.pass.Pass.{Pass}
+use Rattle.turns.specs.declared.shared_waiting.pass.SharedWaiting.{SharedWaiting}
+use Rattle.turns.specs.declared.worker.Worker.{Worker}
+use Rattle.turns.specs.shared_waiting.Passes.{known}
+use Rattle.turns.specs.Words.{entries_in, layout_in}
 use Rattle.lanes.specs.declared.connection.Connection.{Connection}
 use Rattle.lanes.specs.declared.device.Device as devices
 use Rattle.lanes.specs.declared.intake.Intake.{Intake}

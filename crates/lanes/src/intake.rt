@@ -1,8 +1,8 @@
 //! Where the records of a lane's connections go.
 
 ghost use Rattle.std.specs.Prelude.{◌≡◌, ◌≤◌, Some};
-ghost use Rattle.workers.specs.shared_waiting.Passes.{known, IsOf};
-ghost use Rattle.workers.specs.Words.{layout_in, layout_known, TakesFrom};
+ghost use Rattle.turns.specs.shared_waiting.Passes.{known, IsOf};
+ghost use Rattle.turns.specs.Words.{layout_in, layout_known, TakesFrom};
 ghost use Rattle.lanes.specs.Queues.{HasBoth, IsCounted};
 
 use crate::due::Due;
@@ -16,8 +16,8 @@ use std::snapshot::Snapshot;
 use std::sync::Wait;
 use tcp_front::RecordSink;
 use tcp_front::message::in_room;
-use workers::shared_waiting::{Pass, SharedWaiting};
-use workers::{Envelope, Filer, Worker};
+use turns::shared_waiting::{Pass, SharedWaiting};
+use turns::{Envelope, Filer, Worker};
 
 /// The most room of the replies that are owed to one connection while it is read.
 pub(crate) const MOST_OWED: usize = 1_048_576;

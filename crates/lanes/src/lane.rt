@@ -3,8 +3,8 @@
 ghost use Rattle.std.specs.Prelude.{◌≡◌, []};
 ghost use Rattle.slab.specs.Slab.{get};
 ghost use Rattle.std.specs.Arc.{arc_value};
-ghost use Rattle.workers.specs.shared_waiting.Passes.{known};
-ghost use Rattle.workers.specs.Words.{entries_in, layout_in, IsAt};
+ghost use Rattle.turns.specs.shared_waiting.Passes.{known};
+ghost use Rattle.turns.specs.Words.{entries_in, layout_in, IsAt};
 ghost use Rattle.lanes.specs.Story.{Story};
 
 mod closing;
@@ -22,7 +22,7 @@ use crate::intake::Intake;
 pub use parting::LaneParts;
 use slab::Slab;
 use std::sync::Arc;
-use workers::Filer;
+use turns::Filer;
 
 /// One thread's connections, with the queue of their calls, the worker that runs these, and the
 /// outboxes of the replies. Its type says what it has done in its whole life: what came of the

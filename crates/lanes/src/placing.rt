@@ -2,15 +2,15 @@
 
 ghost use Rattle.std.specs.Prelude.{◌≡◌};
 ghost use Rattle.crossbeam_queue.specs.Fifo.{Held};
-ghost use Rattle.workers.specs.shared_waiting.Balance.{added, both, FitsIn, Leaves};
-ghost use Rattle.workers.specs.shared_waiting.Passes.{known, IsOf};
-ghost use Rattle.workers.specs.Messages.{Fits};
-ghost use Rattle.workers.specs.Words.{passed, IsSameWorker, TakesFrom};
+ghost use Rattle.turns.specs.shared_waiting.Balance.{added, both, FitsIn, Leaves};
+ghost use Rattle.turns.specs.shared_waiting.Passes.{known, IsOf};
+ghost use Rattle.turns.specs.Messages.{Fits};
+ghost use Rattle.turns.specs.Words.{passed, IsSameWorker, TakesFrom};
 
 use affinity::Layout;
 use std::sync::Wait;
-use workers::shared_waiting::{Pass, SharedWaiting};
-use workers::{Envelope, Worker};
+use turns::shared_waiting::{Pass, SharedWaiting};
+use turns::{Envelope, Worker};
 
 /// Puts a message by one of two passes, which are all that there are. As both know, the queue has
 /// a place.

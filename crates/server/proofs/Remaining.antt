@@ -6,16 +6,16 @@ use Rattle.depot.specs.Words.{view, splits_left, IsSeatHere}
 use Rattle.depot_rule.specs.History.{entries_of}
 use Rattle.depot_rule.specs.Sums.{total}
 use Rattle.depot_rule.specs.lemmas.Sums.{total-append}
-use Rattle.workers.specs.Apart.{AreOf}
-use Rattle.workers.specs.Balance.{FilerEntry, Passed, Weight, by_entry, by_key, by_kept, IsEven}
-use Rattle.workers.specs.Words.{entries_in, layout_in, seats_in, verifier_in, HasOpened, IsAt}
-use Rattle.workers.specs.declared.message.Message.{Message}
-use Rattle.workers.specs.declared.parts.WorkerParts.{WorkerParts}
-use Rattle.workers.specs.declared.shared.Filer.{Filer}
-use Rattle.workers.specs.declared.shared_waiting.pass.SharedWaiting.{SharedWaiting}
-use Rattle.workers.specs.declared.worker.Worker.{Worker}
-use Rattle.workers.specs.shared_waiting.Balance.{both}
-use Rattle.server.proofs.pool.Joins.{kept-once}
+use Rattle.turns.specs.Apart.{AreOf}
+use Rattle.turns.specs.Balance.{FilerEntry, Passed, Weight, by_entry, by_key, by_kept, IsEven}
+use Rattle.turns.specs.Words.{entries_in, layout_in, seats_in, verifier_in, HasOpened, IsAt}
+use Rattle.turns.specs.declared.message.Message.{Message}
+use Rattle.turns.specs.declared.parts.WorkerParts.{WorkerParts}
+use Rattle.turns.specs.declared.shared.Filer.{Filer}
+use Rattle.turns.specs.declared.shared_waiting.pass.SharedWaiting.{SharedWaiting}
+use Rattle.turns.specs.declared.worker.Worker.{Worker}
+use Rattle.turns.specs.shared_waiting.Balance.{both}
+use Rattle.workers.proofs.Joins.{kept-once}
 
 -- ---- a worker's parts
 

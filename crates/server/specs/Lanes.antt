@@ -5,12 +5,12 @@ use Rattle.lanes.specs.Words.{filer_in, identity_in, place_in, put_in, waiting_i
 use Rattle.lanes.specs.declared.device.Device as devices
 use Rattle.lanes.specs.declared.lane.Lane.{Lane}
 use Rattle.nfs_model.specs.Events.Refusals.{is_empty_hand}
-use Rattle.server.specs.declared.pool.tending.Tending.{Tending}
-use Rattle.server.specs.pool.Rests.{may_sleep}
-use Rattle.workers.specs.Tends.{hand_in}
-use Rattle.workers.specs.declared.shared.Filer.{Filer}
-use Rattle.workers.specs.Balance.{FilerEntry, Weight, by_key}
-use Rattle.workers.specs.Words.{entries_in, layout_in, seats_in}
+use Rattle.workers.specs.declared.tending.Tending.{Tending}
+use Rattle.workers.specs.Rests.{may_sleep}
+use Rattle.turns.specs.Tends.{hand_in}
+use Rattle.turns.specs.declared.shared.Filer.{Filer}
+use Rattle.turns.specs.Balance.{FilerEntry, Weight, by_key}
+use Rattle.turns.specs.Words.{entries_in, layout_in, seats_in}
 
 -- the places of so many lanes: of each which it is, from 0, and how many there are
 abbrev pub places_below : ℕ → ℕ → List (ℕ × ℕ)

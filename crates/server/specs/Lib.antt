@@ -7,4 +7,3 @@ pub mod Threads
 pub mod Ends
 pub mod Asked
 pub mod Numbers
-pub mod pool

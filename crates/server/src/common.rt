@@ -2,7 +2,7 @@
 
 use crate::ends::Ends;
 use crate::untended::Untended;
-use workers::Wanted;
+use turns::Wanted;
 
 /// What the threads of a server share.
 pub(crate) struct Common {

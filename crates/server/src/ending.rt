@@ -7,11 +7,11 @@ ghost use Rattle.server.specs.Lanes.{AreLanesOf};
 ghost use Rattle.server.specs.Rooms.{lanes_for};
 
 use crate::gathering::gather_lanes;
-use crate::pool::{Ended, Left, close};
 use crate::room::Room;
 use lanes::{Device, Lane};
 use std::sync::{Arc, Wait};
-use workers::Filer;
+use turns::Filer;
+use workers::{Ended, Left, close};
 
 /// What is left of a filer whose lanes have ended.
 #[derive(Drop)]

@@ -3,9 +3,9 @@
 ghost use Rattle.std.specs.Prelude.{◌≡◌};
 ghost use Rattle.server.specs.Faults.{fault_of_start, fault_of_serving};
 
-use crate::pool::StartRefusal;
 use crate::serve_fault::ServeFault;
 use std::alloc::AllocError;
+use workers::StartRefusal;
 
 /// Why a server ends before its work is done.
 #[derive(Clone, Copy, PartialEq, Eq, Debug)]

@@ -2,7 +2,7 @@
 
 use crate::patience::Patience;
 use affinity::Affinity;
-use workers::{Hint, Wanted};
+use turns::{Hint, Wanted};
 
 /// The word that a lane leaves where it was refused a node: only once it no longer waits its
 /// refusals out on the processor. Until then who has the node goes on with its own calls, and finds

@@ -1,5 +1,5 @@
 //! A filer with the threads of its lanes: opened, served to the connections of a listener, stopped
-//! and closed; and the pool of its workers.
+//! and closed.
 #![tactic(auto)]
 
 mod accepting;
@@ -18,7 +18,6 @@ mod opening;
 mod options;
 mod pace;
 mod patience;
-pub mod pool;
 mod remains;
 mod room;
 mod round;

@@ -1,12 +1,12 @@
 //! What the accept loop leaves for a lane's thread.
 
-use crate::pool::StartRefusal;
 use mio::{Poll, Token, Waker};
 use std::alloc::Global;
 use std::mem;
 use std::net::TcpStream;
 use std::sync::atomic::{AtomicBool, AtomicU64, Ordering};
 use std::sync::{Mutex, Wait};
+use workers::StartRefusal;
 
 /// The token of the waker. No connection has it for a key.
 const WAKER: Token = Token(usize::MAX);

@@ -13,8 +13,8 @@ use lanes::{Device, Lane};
 use std::alloc::{AllocError, Global};
 use std::rt::Clock;
 use std::sync::Arc;
-use workers::shared_waiting::{Pass, SharedWaiting};
-use workers::{Envelope, Filer, Worker};
+use turns::shared_waiting::{Pass, SharedWaiting};
+use turns::{Envelope, Filer, Worker};
 
 /// The ranges by which the volumes may grow.
 const SPARE: u32 = 16;

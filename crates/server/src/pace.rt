@@ -3,9 +3,9 @@
 ghost use Rattle.std.specs.Prelude.{◌<◌};
 
 use crate::patience::Patience;
-use crate::pool::{Tending, time_now};
 use nfs_values::Moment;
 use std::rt::Clock;
+use workers::{Tending, time_now};
 
 /// How often in a row a call may move before the lane waits as for what another has.
 const MOST_MOVES: u32 = 2;

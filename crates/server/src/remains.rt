@@ -2,10 +2,10 @@
 
 ghost use Rattle.depot.specs.Words.{view, HasNoGrant};
 ghost use Rattle.depot_rule.specs.History.{entries_of, AreHands};
-ghost use Rattle.workers.specs.Jobs.{job_takes, job_gives};
+ghost use Rattle.turns.specs.Jobs.{job_takes, job_gives};
 
 use depot::Seat;
-use workers::{BatchInHand, Envelope, Service};
+use turns::{BatchInHand, Envelope, Service};
 
 /// What is left of lanes: their seats as one, the batches in their hands, the messages that they
 /// kept and those that waited in their queues. The batches are all that the seat's calls took and

@@ -3,7 +3,7 @@
 ghost use Rattle.std.specs.Prelude.{◌≡◌, ◌≤◌, ◌*◌, [], IfOk, vec_capacity};
 
 use std::alloc::{AllocError, Global};
-use workers::{BatchInHand, Envelope};
+use turns::{BatchInHand, Envelope};
 
 /// The most messages that wait in a lane's queue.
 const MOST_WAITING: usize = 1024;

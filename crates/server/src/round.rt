@@ -16,7 +16,7 @@ use nfs_values::Moment;
 use std::rt::Clock;
 use std::sync::Wait;
 use std::time::Duration;
-use workers::{Chained, Unwatched};
+use turns::{Chained, Unwatched};
 
 /// The most turns of a round.
 const MOST_TURNS: usize = 64;

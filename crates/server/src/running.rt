@@ -12,7 +12,7 @@ ghost use Rattle.server.specs.Lanes.{by_identity, seats_of, IsLaneOf};
 ghost use Rattle.server.specs.Threads.{identity_for, seats_for, AreOfThreads};
 ghost use Rattle.server.specs.Threads.{AreThreadsOf, IsTaskFor};
 ghost use Rattle.server.specs.declared.socket.Socket as sockets;
-ghost use Rattle.workers.specs.declared.shared.Filer as filers;
+ghost use Rattle.turns.specs.declared.shared.Filer as filers;
 
 use crate::accepting::accept_all;
 use crate::common::Common;
@@ -34,7 +34,7 @@ use std::net::{Net, SocketAddr, TcpListener};
 use std::rt::Clock;
 use std::sync::{Arc, Wait};
 use std::thread::Threads;
-use workers::Filer;
+use turns::Filer;
 
 /// A filer whose lanes run, and room for the lanes that come back and for what they leave.
 #[derive(Drop)]

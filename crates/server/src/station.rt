@@ -6,11 +6,11 @@ use crate::common::Common;
 use crate::keys::Keys;
 use crate::mailbox::Mailbox;
 use crate::pace::Pace;
-use crate::pool::StartRefusal;
 use mio::{Events, Poll};
 use std::alloc::{AllocError, Global};
 use std::net::{Net, TcpStream};
 use std::sync::Arc;
+use workers::StartRefusal;
 
 /// The most bytes of one read, and of one write of replies that are joined.
 const BLOCK: usize = 262_144;

@@ -3,14 +3,14 @@
 ghost use Rattle.std.specs.Prelude.{◌≡◌};
 ghost use Rattle.lanes.specs.Words.{filer_in, worker_in};
 ghost use Rattle.server.specs.Lanes.{Stays};
-ghost use Rattle.server.specs.declared.pool.tending.Found as found;
-ghost use Rattle.server.specs.pool.Rests.{may_sleep, HasTended};
-ghost use Rattle.workers.specs.Words.{layout_in};
+ghost use Rattle.workers.specs.declared.tending.Found as found;
+ghost use Rattle.workers.specs.Rests.{may_sleep, HasTended};
+ghost use Rattle.turns.specs.Words.{layout_in};
 
 use crate::pace::Pace;
-use crate::pool::{Found, found_by};
 use crate::socket::Socket;
 use lanes::Lane;
+use workers::{Found, found_by};
 
 /// Makes the next tend of a lane, and counts it.
 pub(crate) fn tend<R>(lane: &mut Lane<Socket, R>, pace: &mut Pace)

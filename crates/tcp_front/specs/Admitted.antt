@@ -7,7 +7,7 @@ use Rattle.nfs_values.specs.Call.{call_of}
 use Rattle.nfs_values.specs.Credential.{credential_of}
 use Rattle.affinity.specs.Affinity.{affinity_of}
 use Rattle.tcp_front.specs.Arrivals.{Arrival, Waits, Answered}
-use Rattle.workers.specs.declared.message.Message.{Message}
+use Rattle.turns.specs.declared.message.Message.{Message}
 
 -- a message to workers, without its room
 abbrev pub seen_of : Message → worlds.Message

@@ -8,13 +8,13 @@ ghost use Rattle.affinity.specs.Affinity.{affinity_of};
 ghost use Rattle.engine_feed.specs.Seen.{message_of};
 ghost use Rattle.engine_feed.specs.Sound.{IsAdmitted};
 ghost use Rattle.outboxes.specs.Boxes.{most_bytes};
-ghost use Rattle.workers.specs.Messages.{IsPlaced};
+ghost use Rattle.turns.specs.Messages.{IsPlaced};
 ghost use Rattle.tcp_front.specs.Admitted.{seen_of};
 
 use nfs_values::Call;
 use outboxes::Room;
 use std::alloc::{AllocError, Global};
-use workers::{Envelope, Message};
+use turns::{Envelope, Message};
 
 /// The call of a message, with the room of its reply.
 fn with_room(message: scheduler::Message<Call>, room: Room) -> Message

@@ -1,16 +1,8 @@
-mod Called
-mod Replayed
-mod Grants
-mod Runs
-mod Served
-mod Entered
-mod Linked
-mod Few
-mod Chains
-mod Turning
-mod Started
-mod Batches
-mod Added
-mod Ran
-mod Carrying
-pub mod Crossing
+pub mod Handed
+mod Crossing
+pub mod Lists
+mod Portions
+mod Drained
+pub mod Joins
+mod Sharing
+mod Closes

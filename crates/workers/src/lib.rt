@@ -1,45 +1,39 @@
-//! Workers, each with a seat of one depot and a pass of one queue: what they share, and their
-//! turns. A worker's type keeps the balance of what it picked, finished, put back and keeps.
+//! A pool: threads, each of which runs a worker of one filer, until they are stopped. Its workers
+//! are split from the first, and in the end put together again, with what is left and the filer's
+//! one history.
 #![tactic(auto)]
 
-mod admitting;
-mod answer;
-mod chained;
-mod chaining;
-mod counting;
-pub mod crossings;
-mod entering;
-mod envelope;
-mod granted;
-mod inner;
-mod linking;
-mod making;
-mod message;
-mod one_turn;
-mod opening;
-mod parts;
-mod queueing;
+mod carried;
+mod closing;
+mod collecting;
+mod draining;
+mod ended;
+mod everything;
+mod gathered;
+mod joining;
+mod left;
+mod moments;
+mod pool;
+mod refusal;
+mod room;
+mod round;
 mod serving;
-mod shared;
-pub mod shared_waiting;
+mod splits;
 mod starting;
-mod telling;
-mod tend;
+mod stop_word;
+mod task;
 mod tending;
-mod turned;
-mod turns;
-mod worked;
-mod worker;
-mod working;
 
-pub use answer::Answer;
-pub use chained::{AnswerSink, Chained, Hint, Wanted};
-pub use envelope::Envelope;
-pub use message::Message;
-pub use parts::WorkerParts;
-pub use service::{BatchInHand, Service};
-pub use shared::Filer;
-pub use tend::{Tend, TendRefusal, Tended};
-pub use turned::{Gate, Place, Stage, Turn, Unwatched};
-pub use worked::Worked;
-pub use worker::Worker;
+pub use carried::{push_batch, push_kept};
+pub use closing::close;
+pub use draining::drain_behind;
+pub use ended::Ended;
+pub use everything::gather;
+pub use left::Left;
+pub use moments::{share_millisecond, time_now};
+pub use outboxes::Outboxes;
+pub use pool::Pool;
+pub use refusal::StartRefusal;
+pub use room::Room;
+pub use tending::{Found, Tending, found_by};
+pub use turns::{Answer, Filer, Gate, Place, Turn, Unwatched, Worker};

@@ -1,147 +1,37 @@
-//! A message on a seat, from begin to end.
+//! The loop of a worker's thread.
 
-ghost use Rattle.std.specs.Prelude.{◌≡◌, ◌≤◌, length};
-ghost use Rattle.affinity.specs.Numbers.{number_of};
-ghost use Rattle.nfs_values.specs.Reply.{reply_of};
-ghost use Rattle.nfs_values.specs.declared.reply.Reply.{Reply};
-ghost use Rattle.parcels.specs.Exact.{kind_in};
-ghost use Rattle.depot.specs.Grants.{entry_of, IsFinished};
-ghost use Rattle.depot.specs.Words.{view, splits_left, IsNodeOf, IsSeatHere};
-ghost use Rattle.desk.specs.Any.{node_lent};
-ghost use Rattle.desk.specs.laws.Backing.{CanFinish};
-ghost use Rattle.outboxes.specs.Boxes.{addressed};
-ghost use Rattle.outboxes.specs.Messages as replies;
-ghost use Rattle.outboxes.specs.Messages.{record_of};
-ghost use Rattle.service.specs.declared.job.JobReply.TheVariants.{Replied};
-ghost use Rattle.workers.specs.Messages.{IsPlaced};
-ghost use Rattle.workers.specs.Turns.{filer_behaviour, job_of_message, HasServed};
-ghost use Rattle.workers.specs.Words.{layout_in, verifier_in, IsReady};
+ghost use Rattle.workers.specs.Heirs.{IsHeir};
+ghost use Rattle.turns.specs.Words.{IsIn};
 
-use crate::answer::Answer;
-use crate::entering::{answered, enter};
-use crate::envelope::Envelope;
-use crate::granted::{Ended, Ran, place_of, run};
-use crate::linking::has_eight;
-use crate::shared::Filer;
-use crate::telling::starved;
-use crate::turned::{Gate, Served, Stage};
-use affinity::Kind;
-use depot::Seat;
-use desk::{NodeGrant, ParcelKinds, TaskNode, finish_node, put_back_node};
-use filer_state::Files;
+use crate::moments::time_now;
+use crate::round::{RoundState, round};
+use crate::stop_word::StopWord;
 use nfs_values::Moment;
-use parcels::{
-    AggregateNode, LogicalNode, Node, Parcel, RangeNode, SerialNode, StripeNode, VbnNode,
-    VolumeNode,
-};
-use rpc_msg::{replies_fit, servers_are_roomy};
-use service::{JobReply, Service};
+use std::rt::Clock;
+use std::sync::Wait;
+use turns::{Filer, Gate, Worker};
 
-/// Ends a message's call by its entry, and answers it.
-fn answer<N: Node<Parcel<Files>>>(
+/// Runs a worker, round for round, until its thread is told to stop.
+pub(crate) fn serve<R: Wait + Clock, G: Gate>(
+    rt: &R,
     filer: &Filer,
-    seat: &mut Seat<Service>,
-    grant: NodeGrant<Parcel<Files>, N>,
-    message: Envelope,
-    moment: Moment,
-    told: &mut JobReply,
-    starved: bool,
-) -> Answer
-    requires seat { IsSeatHere filer.now.depot seat.old }
-    requires can { let L = layout_in filer.now in
-        CanFinish kind_in filer_behaviour L (view seat.old) (node_lent L grant)
-        (job_of_message message moment starved) told.old }
-    requires room { (reply : Reply) × (told.old ≡ Replied reply)
-        × (length (record_of (replies.message message.origin.xid (reply_of reply)))
-        ≤ message.room) }
-    ensures seat { IsSeatHere filer.now.depot seat.new }
-    ensures splits { splits_left seat.new ≡ splits_left seat.old }
-    ensures finished { let L = layout_in filer.now in let l = node_lent L grant in
-        IsFinished filer_behaviour (view seat.old) (number_of L l.affinity)
-        (entry_of L l.affinity l.parcels
-        (job_of_message message moment starved) told.old) (view seat.new) }
-    ensures answer { (reply : Reply) → told.old ≡ Replied reply
-        → result ≡ addressed message.origin.connection.0
-        (replies.message message.origin.xid (reply_of reply)) }
-{
-    let entry = enter(message, moment, starved);
-    finish_node::<Service, N>(&filer.depot, seat, grant, &entry.job, told);
-    answered(entry, told)
-}
-
-/// Begins the call of a message on what it tries, a node of this kind, runs it, and ends it.
-#[inline(never)]
-fn serve_on<N: TaskNode<Parcel<Files>, ParcelKinds>, G: Gate>(
-    filer: &Filer,
-    seat: &mut Seat<Service>,
-    message: Envelope,
-    moment: Moment,
+    stop: &StopWord,
     gate: &G,
-) -> Served
-    requires seat { IsSeatHere filer.now.depot seat.old }
-    requires ready { IsReady (layout_in filer.now) (verifier_in filer.now) (view seat.old) }
-    requires placed { IsPlaced (layout_in filer.now) message }
-    requires kind { IsNodeOf (layout_in filer.now) N.KIND message.affinity }
-    ensures seat { IsSeatHere filer.now.depot seat.new }
-    ensures splits { splits_left seat.new ≡ splits_left seat.old }
-    ensures ready { IsReady (layout_in filer.now) (verifier_in filer.now) (view seat.new) }
-    ensures served { HasServed (layout_in filer.now)
-        (view seat.old) message moment result (view seat.new) }
+    worker: Worker,
+) -> Worker
+    requires { IsIn filer.now worker }
+    ensures inside { IsIn filer.now result }
+    ensures heir { IsHeir worker result }
 {
-    replies_fit();
-    servers_are_roomy();
-    has_eight(filer.verifier.0);
-    let mut message = message;
-    let place = place_of(message.origin(), Stage::Ended);
-    let mut told = starved();
-    let Ran { grant, outcome } = match run::<N, G>(filer, seat, &message, moment, gate, &mut told) {
-        Ok(ran) => ran,
-        Err(refusal) => return Served::Refused(message, refusal),
-    };
-    match outcome {
-        Ended::Replied => {
-            let answer = answer(filer, seat, grant, message, moment, &mut told, false);
-            gate.pass(place);
-            Served::Done(answer)
+    let mut worker = worker;
+    let mut state = RoundState::new();
+    let mut moment = Moment::START;
+    for _ in rt.forever() {
+        if stop.is_set() {
+            break;
         }
-        Ended::Starved => {
-            let answer = answer(filer, seat, grant, message, moment, &mut told, true);
-            gate.pass(place);
-            Served::Done(answer)
-        }
-        Ended::Moved(affinity) => {
-            put_back_node::<Service, N>(&filer.depot, seat, grant);
-            gate.pass(place);
-            message.readdress(affinity);
-            Served::Moved(message)
-        }
+        moment = time_now(rt, moment);
+        worker = round(rt, filer, gate, worker, moment, &mut state);
     }
-}
-
-/// Begins the call of a message on what it tries, runs it, and ends it.
-pub(crate) fn serve<G: Gate>(
-    filer: &Filer,
-    seat: &mut Seat<Service>,
-    message: Envelope,
-    moment: Moment,
-    gate: &G,
-) -> Served
-    requires seat { IsSeatHere filer.now.depot seat.old }
-    requires ready { IsReady (layout_in filer.now) (verifier_in filer.now) (view seat.old) }
-    requires placed { IsPlaced (layout_in filer.now) message }
-    ensures seat { IsSeatHere filer.now.depot seat.new }
-    ensures splits { splits_left seat.new ≡ splits_left seat.old }
-    ensures ready { IsReady (layout_in filer.now) (verifier_in filer.now) (view seat.new) }
-    ensures served { HasServed (layout_in filer.now)
-        (view seat.old) message moment result (view seat.new) }
-{
-    match message.affinity().kind() {
-        Kind::Range => serve_on::<RangeNode, G>(filer, seat, message, moment, gate),
-        Kind::VolumeVbn => serve_on::<VbnNode, G>(filer, seat, message, moment, gate),
-        Kind::Stripe => serve_on::<StripeNode, G>(filer, seat, message, moment, gate),
-        Kind::VolumeLogical => serve_on::<LogicalNode, G>(filer, seat, message, moment, gate),
-        Kind::Volume => serve_on::<VolumeNode, G>(filer, seat, message, moment, gate),
-        Kind::Aggregate => serve_on::<AggregateNode, G>(filer, seat, message, moment, gate),
-        Kind::Serial => serve_on::<SerialNode, G>(filer, seat, message, moment, gate),
-    }
+    worker
 }

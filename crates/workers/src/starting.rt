@@ -1,59 +1,93 @@
-//! The first worker of a filer or of a queue.
+//! Threads that are started.
 
-use crate::envelope::Envelope;
-use crate::shared::Filer;
-use crate::shared_waiting::{Pass, SharedWaiting};
-use crate::worker::Worker;
-use affinity::Layout;
-use depot::Seat;
-use service::Service;
+ghost use Rattle.std.specs.Prelude.{◌≡◌, ◌≤◌, ◌+◌, ℕ, [], All, None, IfOk};
+ghost use Rattle.std.specs.Prelude.{vec_len, vec_capacity};
+ghost use Rattle.std.specs.Arc.{arc_value};
+ghost use Rattle.depot_rule.specs.Sums.{total};
+ghost use Rattle.workers.specs.Threads.{started_with, ServesIn};
+ghost use Rattle.turns.specs.declared.worker.Worker.{Worker};
+ghost use Rattle.turns.specs.Words.{IsIn};
 
-impl Worker {
-    ghost use Rattle.std.specs.Prelude.{◌≡◌, ◌+◌, None, Some};
-    ghost use Rattle.depot.specs.Words.{view, splits_left, IsSeatHere};
-    ghost use Rattle.nfs_model.specs.Parts as parts;
-    ghost use Rattle.workers.specs.shared_waiting.Passes.{known, IsOf};
-    ghost use Rattle.workers.specs.Words.{layout_in, layout_known, passed, seat_view, seats_in};
-    ghost use Rattle.workers.specs.Words.{verifier_in, HasDoneNothing, IsAt, IsIn, IsReady};
+use crate::refusal::StartRefusal;
+use crate::stop_word::StopWord;
+use crate::task::{Task, Thread, start_one};
+use std::alloc::AllocError;
+use std::rt::Clock;
+use std::sync::{Arc, Wait};
+use std::thread::Threads;
+use turns::{Filer, Gate, Worker};
 
-    /// A worker with a filer's first seat, as `Filer::new` answers it, and a pass of a queue of the
-    /// filer's layout. It has done nothing, carries nothing and keeps nothing.
-    pub fn start(
-        filer: &Filer,
-        queue: &SharedWaiting<Envelope, Layout>,
-        seat: Seat<Service>,
-        pass: Pass<Envelope, Layout>,
-    ) -> Worker
-        requires seat { IsSeatHere filer.now.depot seat }
-        requires ready { IsReady (layout_in filer.now) (verifier_in filer.now) (view seat) }
-        requires pass { IsOf queue.now pass }
-        requires layout { layout_known (known pass) ≡ Some (layout_in filer.now) }
-        requires nothing { HasDoneNothing (view seat) (known pass) }
-        ensures inside { IsAt filer.now queue.now result }
-        ensures seat { seat_view result ≡ view seat }
-        ensures seats { seats_in result ≡ splits_left seat + 1 }
-        ensures pass { passed result ≡ known pass }
-        ensures hand { result.hand ≡ parts.Empty }
-        ensures kept { result.kept ≡ None }
-    {
-        Worker::new(seat, pass)
+/// What a thread has beside its worker.
+fn share<G: Gate + Clone>(
+    filer: &Arc<Filer>,
+    stop: &Arc<StopWord>,
+    gate: &G,
+) -> Result<(Arc<Filer>, Arc<StopWord>, G), AllocError>
+    ensures { IfOk result (λ shared. arc_value shared.0 ≡ arc_value filer.now) }
+{
+    Ok((filer.clone()?, stop.clone()?, gate.clone()?))
+}
+
+/// Starts a thread for a worker.
+fn start_next<R, G>(
+    rt: R,
+    filer: &Arc<Filer>,
+    stop: &Arc<StopWord>,
+    gate: &G,
+    worker: Worker,
+) -> Result<Thread, StartRefusal>
+where
+    R: Threads + Wait + Clock + Copy + Drop + Send + 'static,
+    G: Gate + Clone + Drop + Send + 'static,
+    requires { IsIn (arc_value filer.now) worker }
+    ensures { IfOk result (λ thread. ServesIn (arc_value filer.now) thread
+        × (started_with thread ≡ worker)) }
+{
+    match share(filer, stop, gate) {
+        Ok((filer, stop, gate)) => {
+            let task = Task {
+                filer,
+                stop,
+                worker,
+            };
+            start_one(rt, gate, task)
+        }
+        Err(_refused) => Err(StartRefusal::NoMemory),
     }
+}
 
-    /// A worker with a filer's first seat and pass, as `Filer::new` answers them. It has done
-    /// nothing, carries nothing and keeps nothing.
-    pub fn first(filer: &Filer, seat: Seat<Service>, pass: Pass<Envelope, Layout>) -> Worker
-        requires seat { IsSeatHere filer.now.depot seat }
-        requires ready { IsReady (layout_in filer.now) (verifier_in filer.now) (view seat) }
-        requires pass { IsOf filer.now.waiting pass }
-        requires layout { layout_known (known pass) ≡ Some (layout_in filer.now) }
-        requires nothing { HasDoneNothing (view seat) (known pass) }
-        ensures inside { IsIn filer.now result }
-        ensures seat { seat_view result ≡ view seat }
-        ensures seats { seats_in result ≡ splits_left seat + 1 }
-        ensures pass { passed result ≡ known pass }
-        ensures hand { result.hand ≡ parts.Empty }
-        ensures kept { result.kept ≡ None }
-    {
-        Worker::start(filer, &filer.waiting, seat, pass)
+/// Starts a thread for each of the workers, the last first, up to one for which none can be
+/// started.
+pub(crate) fn start_all<R, G>(
+    rt: R,
+    filer: &Arc<Filer>,
+    stop: &Arc<StopWord>,
+    gate: &G,
+    workers: &mut Vec<Worker>,
+    threads: &mut Vec<Thread>,
+) -> Option<StartRefusal>
+where
+    R: Threads + Wait + Clock + Copy + Drop + Send + 'static,
+    G: Gate + Clone + Drop + Send + 'static,
+    requires inside { All (IsIn (arc_value filer.now)) workers.old.items }
+    requires serve { All (ServesIn (arc_value filer.now)) threads.old.items }
+    requires room { vec_len threads.old + vec_len workers.old ≤ vec_capacity threads.old }
+    ensures serve { All (ServesIn (arc_value filer.now)) threads.new.items }
+    ensures len { vec_len threads.new + vec_len workers.new
+        ≤ vec_len threads.old + vec_len workers.old }
+    ensures room { vec_capacity workers.new ≡ vec_capacity workers.old }
+    ensures none { result ≡ None → workers.new.items ≡ [] }
+    ensures all { result ≡ None
+        → vec_len threads.new ≡ vec_len threads.old + vec_len workers.old }
+    ensures each { result ≡ None → (f : Worker → ℕ)
+        → total (λ thread. f (started_with thread)) threads.new.items
+        ≡ total (λ thread. f (started_with thread)) threads.old.items + total f workers.old.items }
+{
+    while let Some(worker) = workers.pop() {
+        match start_next(rt, filer, stop, gate, worker) {
+            Ok(thread) => threads.push_reserved(thread),
+            Err(refusal) => return Some(refusal),
+        }
     }
+    None
 }

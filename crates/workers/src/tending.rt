@@ -1,225 +1,132 @@
-//! What a worker does without a message.
+//! What a worker does without a message, and when its thread may sleep.
 
-ghost use Rattle.std.specs.Prelude.{◌≡◌, length, nat_lt, Ok, Err, MatchResult};
-ghost use Rattle.affinity.specs.Layout.{layout_of};
-ghost use Rattle.nfs_model.specs.Events.Refusals.{is_empty_hand};
-ghost use Rattle.nfs_model.specs.Parts.{batch_in};
-ghost use Rattle.service.specs.Jobs.{inner_of, job_reply_of};
-ghost use Rattle.workers.specs.Carries.{hand_after, HasMovedBatch, IsToldAs, IsToldOf, NamesBatch};
-ghost use Rattle.workers.specs.Tends.{call_of, call_to_put};
-ghost use Rattle.workers.specs.Words.{IsHandIn};
+ghost use Rattle.std.specs.Prelude.{◌≡◌};
+ghost use Rattle.workers.specs.Heirs.{IsHeir};
+ghost use Rattle.workers.specs.Rests.{found_by, may_sleep, HasTended};
+ghost use Rattle.turns.specs.Words.{layout_in, IsIn};
 
-use crate::envelope::Envelope;
-use crate::shared::Filer;
-use crate::shared_waiting::SharedWaiting;
-use crate::tend::{Carried, Tend, TendRefusal, Tended};
-use crate::worker::Worker;
-use affinity::Layout;
-use nfs_values::VolumeNumber;
-use parcels::Hand;
-use service::{BatchInHand, InnerCall, JobReply};
+use turns::{Filer, Tend, TendRefusal, Tended, Worker};
 
-/// The ranges of a volume, in use or not.
-const RANGES: u32 = 16;
+/// The tends that look at all there is of one volume: at each of its 16 ranges a fetch, with a
+/// cull before it.
+const TENDS_OF_VOLUME: usize = 32;
 
-/// Whether a hand is empty.
-fn is_empty(hand: &BatchInHand) -> bool
-    ensures { result ≡ is_empty_hand hand.now }
-{
-    match hand.hand() {
-        Hand::Empty => true,
-        Hand::Fresh { .. } => false,
-        Hand::Dead { .. } => false,
-    }
+/// What a tend found.
+#[derive(Clone, Copy)]
+pub enum Found {
+    /// It moved blocks.
+    Blocks,
+    /// There was nothing to do.
+    Nothing,
+    /// There was no memory to put down what is in the hand.
+    NoMemory,
+    /// Another has what it would look at.
+    Busy,
 }
 
-/// Whether a volume is there.
-fn has_volume(layout: &Layout, volume: VolumeNumber) -> bool
-    ensures { result ≡ nat_lt volume.0 (length (layout_of layout.now).volumes) }
-{
-    (volume.0 as usize) < layout.volume_count()
+/// What a worker's tends came to.
+#[derive(Clone, Copy)]
+pub struct Tending {
+    /// How many were made with an empty hand, wrapping at 2^64.
+    pub made: u64,
+    /// How many in a row, up to now, moved no block. It stops at the last value. Who has a node
+    /// that a tend found taken looks there itself, or rings when its call is finished.
+    pub unchanged: usize,
+    /// Whether the last lacked memory.
+    pub starved: bool,
 }
 
-/// The call that puts down what is in a hand.
-fn put_call(hand: &BatchInHand) -> Result<InnerCall, TendRefusal>
-    requires { (layout : _) × IsHandIn layout hand.now }
-    ensures { MatchResult result
-        (λ call. call_to_put hand.now ≡ Ok (inner_of call))
-        (λ refusal. call_to_put hand.now ≡ Err refusal) }
+/// What a tend found, by its answer.
+pub fn found_by(answer: Result<Tended, TendRefusal>) -> Found
+    ensures { result ≡ found_by answer }
 {
-    match hand.hand() {
-        Hand::Empty => Err(TendRefusal::HandEmpty),
-        Hand::Fresh { volume, batch: _ } => Ok(InnerCall::Deliver {
-            volume: VolumeNumber(*volume),
-        }),
-        Hand::Dead { volume, batch } => match batch.range() {
-            Some(range) => Ok(InnerCall::Free {
-                volume: VolumeNumber(*volume),
-                range,
-            }),
-            None => unreachable!(),
-        },
-    }
-}
-
-/// The inner call of a tend with what is in the hand, or why there is none.
-fn call_of(layout: &Layout, hand: &BatchInHand, tend: Tend) -> Result<InnerCall, TendRefusal>
-    requires { IsHandIn (layout_of layout.now) hand.now }
-    ensures { let asked = call_of (layout_of layout.now) tend hand.now in MatchResult result
-        (λ call. asked ≡ Ok (inner_of call))
-        (λ refusal. asked ≡ Err refusal) }
-{
-    match tend {
-        Tend::Fetch { volume, range } => {
-            if !is_empty(hand) {
-                return Err(TendRefusal::HandFull);
+    match answer {
+        Ok(tended) => {
+            if tended.count() == 0 {
+                Found::Nothing
+            } else {
+                Found::Blocks
             }
-            if !has_volume(layout, volume) {
-                return Err(TendRefusal::NoSuchRange);
-            }
-            if range >= RANGES {
-                return Err(TendRefusal::NoSuchRange);
-            }
-            Ok(InnerCall::Fetch { volume, range })
         }
-        Tend::Cull { volume } => {
-            if !is_empty(hand) {
-                return Err(TendRefusal::HandFull);
-            }
-            if !has_volume(layout, volume) {
-                return Err(TendRefusal::NoSuchRange);
-            }
-            Ok(InnerCall::Cull { volume })
-        }
-        Tend::PutDown => put_call(hand),
+        Err(TendRefusal::Busy { .. }) => Found::Busy,
+        Err(TendRefusal::NoMemory) => Found::NoMemory,
+        Err(TendRefusal::Worn) => Found::Nothing,
+        Err(TendRefusal::HandFull) => Found::Nothing,
+        Err(TendRefusal::HandEmpty) => Found::Nothing,
+        Err(TendRefusal::NoSuchRange) => Found::Nothing,
     }
 }
 
-/// How many blocks are in a hand: at most 64.
-fn blocks_in(hand: &BatchInHand) -> u32
-    ensures { result ≡ length (batch_in hand.now) }
+impl Tending {
+    ghost use Rattle.workers.specs.Rests.{IsCounted};
+
+    /// None was made.
+    pub fn new() -> Tending
+        ensures { result.unchanged ≡ 0 }
+    {
+        Tending {
+            made: 0,
+            unchanged: 0,
+            starved: false,
+        }
+    }
+
+    /// A call was finished, and may have left something to tend.
+    pub fn begin_anew(&mut self)
+        ensures { self.new ≡ record self.old { unchanged = 0 } }
+    {
+        self.unchanged = 0;
+    }
+
+    /// Counts a tend, which was made with an empty hand or not.
+    pub fn count(&mut self, empty: bool, found: Found)
+        ensures { IsCounted self.old empty found self.new }
+    {
+        if empty {
+            self.made = self.made.wrapping_add(1);
+        }
+        match found {
+            Found::Blocks => {
+                self.unchanged = 0;
+                self.starved = false;
+            }
+            Found::Nothing => {
+                self.unchanged = self.unchanged.saturating_add(1);
+                self.starved = false;
+            }
+            Found::NoMemory => {
+                self.unchanged = self.unchanged.saturating_add(1);
+                self.starved = true;
+            }
+            Found::Busy => {
+                self.unchanged = self.unchanged.saturating_add(1);
+                self.starved = false;
+            }
+        }
+    }
+
+    /// Whether the thread of the worker may sleep: in a row, tends over all volumes and ranges
+    /// moved nothing, and no batch is in its hand, or there was no memory to put it down.
+    pub fn may_sleep(&self, filer: &Filer, worker: &Worker) -> bool
+        ensures { result ≡ may_sleep (layout_in filer.now) worker.now self.now }
+    {
+        let all = filer.depot().layout().volume_count() * TENDS_OF_VOLUME;
+        self.unchanged >= all && (self.starved || worker.has_empty_hand())
+    }
+}
+
+/// Makes the worker's next tend, and counts it.
+pub(crate) fn tend(filer: &Filer, worker: Worker, tending: &mut Tending) -> (Worker, Found)
+    requires { IsIn filer.now worker }
+    ensures inside { IsIn filer.now result.0 }
+    ensures heir { IsHeir worker result.0 }
+    ensures tended { HasTended (layout_in filer.now)
+        worker tending.old result.1 result.0 tending.new }
 {
-    match hand.hand() {
-        Hand::Empty => 0,
-        Hand::Fresh { volume: _, batch } => batch.len() as u32,
-        Hand::Dead { volume: _, batch } => batch.len() as u32,
-    }
-}
-
-/// What is in the hand after an inner call with this reply, and what is told of it.
-fn told(reply: JobReply) -> (BatchInHand, Tended)
-    requires { NamesBatch (job_reply_of reply) }
-    ensures hand { result.0 ≡ hand_after (job_reply_of reply) }
-    ensures told { IsToldAs (job_reply_of reply) result.1 }
-{
-    match reply {
-        JobReply::Took(hand) => {
-            let count = blocks_in(&hand);
-            (hand, Tended::InHand { count })
-        }
-        JobReply::Gave(hand) => {
-            let count = blocks_in(&hand);
-            (BatchInHand::new(Hand::Empty), Tended::PutDown { count })
-        }
-        JobReply::Replied(_reply) => unreachable!(),
-        JobReply::Surveyed(_counts) => unreachable!(),
-    }
-}
-
-/// What is in the hand after an inner call, and what its tend answers.
-pub(crate) fn answer(carried: Carried) -> (BatchInHand, Result<Tended, TendRefusal>)
-    requires { HasMovedBatch carried }
-    ensures { IsToldOf carried result.0 result.1 }
-{
-    match carried {
-        Carried::Done(reply) => {
-            let (hand, tended) = told(reply);
-            (hand, Ok(tended))
-        }
-        Carried::Refused(hand, refusal) => (hand, Err(refusal)),
-    }
-}
-
-impl Worker {
-    ghost use Rattle.std.specs.Option.{is_some};
-    ghost use Rattle.workers.specs.Tends.{hand_in, kept_in, IsNextTend, Tends, TendsTo};
-    ghost use Rattle.workers.specs.Words.{layout_in, passed, seats_in, IsAt, IsIn};
-
-    /// What is in the worker's hand.
-    pub fn hand(&self) -> &BatchInHand
-        ensures { result.now ≡ hand_in self.now }
-    {
-        &self.hand
-    }
-
-    /// Whether the worker's hand is empty.
-    pub fn has_empty_hand(&self) -> bool
-        ensures { result ≡ is_empty_hand (hand_in self.now) }
-    {
-        is_empty(&self.hand)
-    }
-
-    /// Whether the worker keeps a message, for which the queue had no place.
-    pub fn keeps_message(&self) -> bool
-        ensures { result ≡ is_some (kept_in self.now) }
-    {
-        self.kept.is_some()
-    }
-
-    /// The tend after a turn without a message, where so many were made with an empty hand: what is
-    /// in the hand is put down, else culls and fetches take turns, over all volumes, and the
-    /// fetches of a volume over its ranges.
-    pub fn next_tend(&self, filer: &Filer, made: u64) -> Tend
-        ensures { IsNextTend (length (layout_in filer.now).volumes) made
-            (hand_in self.now) result }
-    {
-        if !self.has_empty_hand() {
-            return Tend::PutDown;
-        }
-        let volumes = filer.depot.layout().volume_count() as u64;
-        let volume = VolumeNumber((made / 2 % volumes) as u32);
-        if made % 2 == 0 {
-            return Tend::Cull { volume };
-        }
-        let range = (made / (2 * volumes) % u64::from(RANGES)) as u32;
-        Tend::Fetch { volume, range }
-    }
-
-    /// Fetches, culls or puts down: begins the inner call on its node, runs it, and finishes it or
-    /// puts it back. It waits for nobody, and leaves the queue of the worker's messages.
-    pub fn tend_in(
-        &mut self,
-        filer: &Filer,
-        queue: &SharedWaiting<Envelope, Layout>,
-        tend: Tend,
-    ) -> Result<Tended, TendRefusal>
-        requires { IsAt filer.now queue.now self.old }
-        ensures inside { IsAt filer.now queue.now self.new }
-        ensures tends { Tends (layout_in filer.now) self.old tend result self.new }
-        ensures pass { passed self.new ≡ passed self.old }
-        ensures kept { kept_in self.new ≡ kept_in self.old }
-        ensures seats { seats_in self.new ≡ seats_in self.old }
-    {
-        match call_of(filer.depot.layout(), &self.hand, tend) {
-            Ok(call) => self.carry(filer, queue, call),
-            Err(refusal) => Err(refusal),
-        }
-    }
-
-    /// A tend of a worker of the filer's own queue. Answers how many blocks are in the hand then,
-    /// or were put down.
-    pub fn tend_turn(self, filer: &Filer, tend: Tend) -> (Worker, Result<u32, TendRefusal>)
-        requires { IsIn filer.now self }
-        ensures inside { IsIn filer.now result.0 }
-        ensures tends { TendsTo (layout_in filer.now) self tend result.1 result.0 }
-        ensures pass { passed result.0 ≡ passed self }
-        ensures kept { kept_in result.0 ≡ kept_in self }
-        ensures seats { seats_in result.0 ≡ seats_in self }
-    {
-        let mut worker = self;
-        match worker.tend_in(filer, &filer.waiting, tend) {
-            Ok(tended) => (worker, Ok(tended.count())),
-            Err(refusal) => (worker, Err(refusal)),
-        }
-    }
+    let mut worker = worker;
+    let empty = worker.has_empty_hand();
+    let next = worker.next_tend(filer, tending.made);
+    let found = found_by(worker.tend_in(filer, filer.waiting(), next));
+    tending.count(empty, found);
+    (worker, found)
 }

@@ -3,7 +3,7 @@ use Rattle.std.proofs.Common.{◌≡◌, refl, sym, ap, ◌∙◌, List, [], ◌
 use Rattle.outboxes.specs.Boxes.{Addressed, Boxes, put}
 use Rattle.tcp_front.specs.Admitted.{calls_of, seen_of}
 use Rattle.tcp_front.specs.Arrivals.{Arrival, Waits, Answered}
-use Rattle.workers.specs.shared_waiting.Passes.{known}
+use Rattle.turns.specs.shared_waiting.Passes.{known}
 use Rattle.lanes.specs.declared.intake.Intake.{Intake}
 use Rattle.lanes.specs.Intakes.{answered_of, all_put, HasTakenIn}
 

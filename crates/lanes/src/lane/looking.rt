@@ -3,7 +3,7 @@
 use crate::device::Device;
 use crate::intake::MOST_OWED;
 use crate::lane::Lane;
-use workers::{Filer, Worker};
+use turns::{Filer, Worker};
 
 impl<D: Device, R> Lane<D, R> {
     ghost use Rattle.std.specs.Prelude.{◌≡◌};

@@ -11,8 +11,8 @@ use slab::Slab;
 use std::alloc::Global;
 use std::snapshot::Snapshot;
 use std::sync::Arc;
-use workers::shared_waiting::{Pass, SharedWaiting};
-use workers::{Envelope, Filer, Worker};
+use turns::shared_waiting::{Pass, SharedWaiting};
+use turns::{Envelope, Filer, Worker};
 
 /// How many messages all lanes hold together.
 const PLACES: usize = 1024;
@@ -22,8 +22,8 @@ impl<D: Device, R> Lane<D, R> {
     ghost use Rattle.std.specs.Arc.{arc_value};
     ghost use Rattle.outboxes.specs.Boxes.{AreOfLane};
     ghost use Rattle.slab.specs.Slab.{get};
-    ghost use Rattle.workers.specs.shared_waiting.Passes.{known, IsOf};
-    ghost use Rattle.workers.specs.Words.{entries_in, layout_in, layout_known, IsAt};
+    ghost use Rattle.turns.specs.shared_waiting.Passes.{known, IsOf};
+    ghost use Rattle.turns.specs.Words.{entries_in, layout_in, layout_known, IsAt};
     ghost use Rattle.lanes.specs.Connections.{now_of};
     ghost use Rattle.lanes.specs.Lanes.{Opens};
     ghost use Rattle.lanes.specs.Queues.{HasBoth};

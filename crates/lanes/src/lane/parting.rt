@@ -4,8 +4,8 @@ use crate::device::Device;
 use crate::intake::Intake;
 use crate::lane::Lane;
 use affinity::Layout;
-use workers::shared_waiting::{Pass, SharedWaiting};
-use workers::{Envelope, Worker};
+use turns::shared_waiting::{Pass, SharedWaiting};
+use turns::{Envelope, Worker};
 
 /// The worker of a lane, its queue, and the pass that only admitted.
 pub struct LaneParts {
@@ -16,8 +16,8 @@ pub struct LaneParts {
 
 impl<D: Device + Drop, R: Drop> Lane<D, R> {
     ghost use Rattle.std.specs.Prelude.{◌≡◌, []};
-    ghost use Rattle.workers.specs.shared_waiting.Passes.{known, IsOf};
-    ghost use Rattle.workers.specs.Words.{IsAt};
+    ghost use Rattle.turns.specs.shared_waiting.Passes.{known, IsOf};
+    ghost use Rattle.turns.specs.Words.{IsAt};
     ghost use Rattle.lanes.specs.Queues.{HasBoth};
     ghost use Rattle.lanes.specs.Words.{filer_in, pass_in, queue_in, worker_in, HasStory};
 

@@ -3,7 +3,7 @@
 ghost use Rattle.std.specs.Prelude.{◌≡◌, ◌<◌, length};
 ghost use Rattle.affinity.specs.Layout.{layout_of};
 ghost use Rattle.slab.specs.Slab.{get};
-ghost use Rattle.workers.specs.Words.{layout_in};
+ghost use Rattle.turns.specs.Words.{layout_in};
 ghost use Rattle.lanes.specs.Lanes.{ReadsOn, ReadsUnder};
 
 use crate::connection::Connection;
@@ -55,7 +55,7 @@ fn read_under<D: Device, R: Wait>(
 impl<D: Device, R: Wait> Lane<D, R> {
     ghost use Rattle.lanes.specs.Words.{connections_in, filer_in, identity_in, intake_in};
     ghost use Rattle.lanes.specs.Words.{worker_in};
-    ghost use Rattle.workers.specs.Words.{seats_in, IsSameWorker};
+    ghost use Rattle.turns.specs.Words.{seats_in, IsSameWorker};
 
     /// Goes on reading the connection of a key (`Connection::read`): what its records come to is
     /// admitted or answered. Where there is none, nothing is done, as where its reading stopped.

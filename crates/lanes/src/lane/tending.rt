@@ -4,14 +4,14 @@ ghost use Rattle.std.specs.Prelude.{◌≡◌};
 
 use crate::device::Device;
 use crate::lane::Lane;
-use workers::{Tend, TendRefusal, Tended};
+use turns::{Tend, TendRefusal, Tended};
 
 impl<D: Device, R> Lane<D, R> {
     ghost use Rattle.lanes.specs.Words.{boxes_in, connections_in, filer_in, identity_in};
     ghost use Rattle.lanes.specs.Words.{pass_in, worker_in};
-    ghost use Rattle.workers.specs.shared_waiting.Passes.{known};
-    ghost use Rattle.workers.specs.Tends.{kept_in, Tends};
-    ghost use Rattle.workers.specs.Words.{layout_in, passed, seats_in};
+    ghost use Rattle.turns.specs.shared_waiting.Passes.{known};
+    ghost use Rattle.turns.specs.Tends.{kept_in, Tends};
+    ghost use Rattle.turns.specs.Words.{layout_in, passed, seats_in};
 
     /// Does something with the batch of block numbers in its worker's hand (`Worker::tend_in`).
     pub fn tend(&mut self, tend: Tend) -> Result<Tended, TendRefusal>

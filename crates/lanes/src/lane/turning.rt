@@ -1,7 +1,7 @@
 //! Turns of a lane.
 
 ghost use Rattle.std.specs.Prelude.{◌≡◌};
-ghost use Rattle.workers.specs.Tends.{kept_in};
+ghost use Rattle.turns.specs.Tends.{kept_in};
 ghost use Rattle.lanes.specs.Queues.{count_kept};
 
 use crate::device::Device;
@@ -9,7 +9,7 @@ use crate::intake::Intake;
 use crate::lane::Lane;
 use nfs_values::Moment;
 use std::sync::Wait;
-use workers::{Chained, Filer, Gate, Hint, Worker};
+use turns::{Chained, Filer, Gate, Hint, Worker};
 
 /// How many messages a worker keeps.
 fn kept_by(worker: &Worker) -> usize
@@ -21,12 +21,12 @@ fn kept_by(worker: &Worker) -> usize
 impl<R: Wait> Intake<R> {
     ghost use Rattle.std.specs.Prelude.{◌≤◌, []};
     ghost use Rattle.depot_rule.specs.Sums.{total};
-    ghost use Rattle.workers.specs.declared.chained.Chained.TheVariants.{Idle};
-    ghost use Rattle.workers.specs.shared_waiting.Passes.{known};
-    ghost use Rattle.workers.specs.Balance.{Weight, by_entry, by_key};
-    ghost use Rattle.workers.specs.Chains.{turns_at_most, HasDoneFew, HasPutAll, HasTurnedOn};
-    ghost use Rattle.workers.specs.Turns.{standing_of};
-    ghost use Rattle.workers.specs.Words.{entries_in, layout_in, seat_view, seats_in, IsAt};
+    ghost use Rattle.turns.specs.declared.chained.Chained.TheVariants.{Idle};
+    ghost use Rattle.turns.specs.shared_waiting.Passes.{known};
+    ghost use Rattle.turns.specs.Balance.{Weight, by_entry, by_key};
+    ghost use Rattle.turns.specs.Chains.{turns_at_most, HasDoneFew, HasPutAll, HasTurnedOn};
+    ghost use Rattle.turns.specs.Turns.{standing_of};
+    ghost use Rattle.turns.specs.Words.{entries_in, layout_in, seat_view, seats_in, IsAt};
     ghost use Rattle.lanes.specs.Queues.{HasNoneLeft};
 
     /// Turns of its worker, whose answers are put into its outboxes, and a count of what waits.
@@ -74,11 +74,11 @@ impl<R: Wait> Intake<R> {
 }
 
 impl<D: Device, R: Wait> Lane<D, R> {
-    ghost use Rattle.workers.specs.declared.chained.Chained.TheVariants.{Idle};
-    ghost use Rattle.workers.specs.shared_waiting.Passes.{known};
-    ghost use Rattle.workers.specs.Chains.{turns_at_most, HasDoneFew, HasPutAll, HasTurnedOn};
-    ghost use Rattle.workers.specs.Turns.{standing_of};
-    ghost use Rattle.workers.specs.Words.{layout_in, seat_view, seats_in};
+    ghost use Rattle.turns.specs.declared.chained.Chained.TheVariants.{Idle};
+    ghost use Rattle.turns.specs.shared_waiting.Passes.{known};
+    ghost use Rattle.turns.specs.Chains.{turns_at_most, HasDoneFew, HasPutAll, HasTurnedOn};
+    ghost use Rattle.turns.specs.Turns.{standing_of};
+    ghost use Rattle.turns.specs.Words.{layout_in, seat_view, seats_in};
     ghost use Rattle.lanes.specs.Queues.{HasNoneLeft};
     ghost use Rattle.lanes.specs.Words.{boxes_in, connections_in, filer_in, identity_in};
     ghost use Rattle.lanes.specs.Words.{pass_in, worker_in};

@@ -28,7 +28,7 @@ fn write_under<D: Device>(
 }
 
 impl<D: Device, R> Lane<D, R> {
-    ghost use Rattle.workers.specs.shared_waiting.Passes.{known};
+    ghost use Rattle.turns.specs.shared_waiting.Passes.{known};
     ghost use Rattle.lanes.specs.Words.{boxes_in, connections_in, filer_in, identity_in};
     ghost use Rattle.lanes.specs.Words.{pass_in, worker_in};
 

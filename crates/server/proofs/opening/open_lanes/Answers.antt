@@ -1,18 +1,18 @@
 use Rattle.std.proofs.Common.{◌≡◌, ◌∙◌, ℕ, suc, ◌+◌, length, ap, arith, subst, sym}
 use Rattle.std.specs.Arc.{arc_value}
 use Rattle.depot.specs.Words.{IsSeatHere}
-use Rattle.workers.specs.declared.shared.Filer.{Filer}
-use Rattle.workers.specs.declared.worker.Worker.{Worker}
-use Rattle.workers.specs.shared_waiting.Balance.{both, IsWhole}
-use Rattle.workers.specs.shared_waiting.Passes.{known}
-use Rattle.workers.specs.Balance.{Passed}
-use Rattle.workers.specs.Words.{seats_in, IsAt}
+use Rattle.turns.specs.declared.shared.Filer.{Filer}
+use Rattle.turns.specs.declared.worker.Worker.{Worker}
+use Rattle.turns.specs.shared_waiting.Balance.{both, IsWhole}
+use Rattle.turns.specs.shared_waiting.Passes.{known}
+use Rattle.turns.specs.Balance.{Passed}
+use Rattle.turns.specs.Words.{seats_in, IsAt}
 use Rattle.lanes.specs.Words.{Identity}
 use Rattle.server.specs.Lanes.{by_place, places, places_below, seats_of, IsLaneOf}
 use Rattle.depot_rule.specs.Sums.{total}
 use Rattle.server.specs.Queues.{IsNewQueue}
-use Rattle.server.proofs.pool.Handed.{all-pushed}
-use Rattle.server.proofs.pool.Lists.{total-last}
+use Rattle.workers.proofs.Handed.{all-pushed}
+use Rattle.workers.proofs.Lists.{total-last}
 use Rattle.server.proofs.opening.open_lanes.Goals as goal
 
 one-place : (weigh : ℕ × ℕ → ℕ) (count n : ℕ) → total weigh (places_below count (n + 1)) ≡ weigh (n, count) + total weigh (places_below count n)

@@ -2,7 +2,7 @@ use Rattle.std.proofs.Common.{◌≡◌, ◌≤◌, ◌+◌, ℕ, [], All, vec_l
 use Rattle.std.specs.Arc.{arc_value}
 use Rattle.depot_rule.specs.Sums.{total}
 use Rattle.lanes.specs.Queues.{HasBoth}
-use Rattle.workers.specs.Words.{entries_in, seats_in, IsAt}
+use Rattle.turns.specs.Words.{entries_in, seats_in, IsAt}
 use Rattle.server.specs.Lanes.{by_place, places_below, seats_of, IsLaneOf}
 use Rattle.server.proofs.opening.open_lanes.Given as goal
 

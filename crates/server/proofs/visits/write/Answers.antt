@@ -1,6 +1,6 @@
 use Rattle.std.proofs.Common.{◌∙◌, ap}
-use Rattle.workers.specs.declared.worker.Worker.{Worker}
-use Rattle.workers.specs.Words.{seats_in}
+use Rattle.turns.specs.declared.worker.Worker.{Worker}
+use Rattle.turns.specs.Words.{seats_in}
 use Rattle.server.proofs.visits.write.Goals as goal
 
 pub returns-in-All : goal.returns-in-All

@@ -2,12 +2,12 @@ use Rattle.std.proofs.Common.{◌≡◌, ◌≤◌, refl, sym, ap, subst, ◌∙
 use Rattle.crossbeam_queue.specs.Fifo.{Held}
 use Rattle.depot_rule.specs.History.{entries_of}
 use Rattle.depot_rule.specs.Sums.{total}
-use Rattle.workers.specs.Balance.{Passed, Weight, by_entry, by_key}
-use Rattle.workers.specs.Chains.{turns_at_most, HasDoneFew, HasPutAll, HasTurnedOn}
-use Rattle.workers.specs.Turns.{HasShareOf, Standing, standing_of}
-use Rattle.workers.specs.Words.{layout_in, layout_known, passed, seat_view}
-use Rattle.workers.specs.shared_waiting.Balance.{both, Leaves}
-use Rattle.workers.specs.shared_waiting.Passes.{known}
+use Rattle.turns.specs.Balance.{Passed, Weight, by_entry, by_key}
+use Rattle.turns.specs.Chains.{turns_at_most, HasDoneFew, HasPutAll, HasTurnedOn}
+use Rattle.turns.specs.Turns.{HasShareOf, Standing, standing_of}
+use Rattle.turns.specs.Words.{layout_in, layout_known, passed, seat_view}
+use Rattle.turns.specs.shared_waiting.Balance.{both, Leaves}
+use Rattle.turns.specs.shared_waiting.Passes.{known}
 use Rattle.lanes.proofs.Counted.{counted-anew}
 use Rattle.lanes.proofs.Idle.{finished-once, idle-same, none-left}
 use Rattle.lanes.proofs.Steps.{both-kept, same-share}

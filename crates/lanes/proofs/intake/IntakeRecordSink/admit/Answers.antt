@@ -1,7 +1,7 @@
 use Rattle.std.proofs.Common.{◌≡◌, ◌<◌, ap, sym, ◌∙◌, rules}
-use Rattle.workers.specs.Balance.{Passed}
-use Rattle.workers.specs.shared_waiting.Passes.{known}
-use Rattle.workers.specs.Words.{layout_in}
+use Rattle.turns.specs.Balance.{Passed}
+use Rattle.turns.specs.shared_waiting.Passes.{known}
+use Rattle.turns.specs.Words.{layout_in}
 use Rattle.lanes.proofs.Counted.{counted-more, not-full}
 use Rattle.lanes.proofs.Fitting.{fits-by}
 use Rattle.lanes.proofs.Same.{same-rights}

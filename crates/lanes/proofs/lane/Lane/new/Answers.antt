@@ -1,6 +1,6 @@
 use Rattle.std.proofs.Common.{refl, rules}
-use Rattle.workers.specs.Words.{entries_in, layout_in}
-use Rattle.workers.specs.shared_waiting.Passes.{known}
+use Rattle.turns.specs.Words.{entries_in, layout_in}
+use Rattle.turns.specs.shared_waiting.Passes.{known}
 use Rattle.lanes.proofs.Lived.{story-begins}
 use Rattle.lanes.proofs.Counted.{counted-none}
 use Rattle.lanes.proofs.lane.Lane.new.Goals as goal

@@ -1,0 +1,64 @@
+-- What the threads of a filer share, and what a worker takes with it, may cross threads.
+use denote.Param.Send.{IsSend, IsSync, sendable, view_send}
+use denote.Param.SendFields.{declared_send, declared_sync}
+use Rattle.std.proofs.Crossing.{crosses, Box-send}
+use Rattle.depot.proofs.depot.Depot.TheSendSync as depot
+use Rattle.depot.proofs.seats.Seat.TheSendSync as seat
+use Rattle.nfs_values.proofs.verifier.Verifier.TheSendSync as verifier
+use Rattle.parcels.proofs.family.Parcel.TheSendSync as parcel
+use Rattle.filer_state.proofs.range.RangeParcel.TheSendSync as range
+use Rattle.filer_state.proofs.stripe.StripeParcel.TheSendSync as stripe
+use Rattle.service.proofs.batch.BatchInHand.TheSendSync as batch
+use Rattle.service.proofs.job.Job.TheSendSync as job
+use Rattle.service.specs.contracts.job.Job as Job
+use Rattle.turns.proofs.shared_waiting.pass.Pass.TheSendSync as pass
+use Rattle.turns.proofs.shared_waiting.pass.SharedWaiting.TheSendSync as waiting
+use Rattle.turns.specs.contracts.envelope.Envelope as Envelope
+use Rattle.turns.specs.contracts.envelope.Envelope.TheInside as EnvelopeInside
+use Rattle.turns.specs.contracts.shared.Filer as Filer
+use Rattle.turns.specs.contracts.worker.Worker as Worker
+use Rattle.turns.proofs.crossings.Structs.{struct-send}
+use Rattle.turns.proofs.crossings.Outboxes.{room-send, outboxes-send}
+use Rattle.turns.proofs.crossings.Parcels.{logical-parcel-send}
+
+job-send : IsSend Job.the_row
+job-send = search (job.the_send, sendable) depth 20
+
+envelope-inside-send : IsSend EnvelopeInside.the_row
+envelope-inside-send = struct-send EnvelopeInside.the_type (Box-send Job.the_row job-send, (room-send, tt))
+
+pub envelope-send : IsSend Envelope.the_row
+envelope-send = view_send EnvelopeInside.the_row _ _ _ _ envelope-inside-send
+
+pub worker-send : IsSend Worker.the_row
+worker-send = declared_send Worker.the_type (
+  search (seat.the_send, sendable) depth 20,
+  (
+    search (pass.the_send, envelope-send, sendable) depth 20,
+    (search (batch.the_send, sendable) depth 20, (search (envelope-send, crosses, sendable) depth 20, tt)),
+  ),
+)
+
+pub filer-send : IsSend Filer.the_row
+filer-send = declared_send Filer.the_type (
+  search (crosses, sendable),
+  (
+    search (verifier.the_send, sendable),
+    (
+      search (depot.the_send, parcel.the_send, range.the_send, stripe.the_send, logical-parcel-send, crosses, sendable) depth 20,
+      (search (waiting.the_send, envelope-send, sendable), (search (outboxes-send, crosses, sendable), tt)),
+    ),
+  ),
+)
+
+pub filer-sync : IsSync Filer.the_row
+filer-sync = declared_sync Filer.the_type (
+  search (crosses, sendable) depth 20,
+  (
+    search (verifier.the_sync, sendable) depth 20,
+    (
+      search (depot.the_sync, parcel.the_send, range.the_send, stripe.the_send, logical-parcel-send, crosses, sendable) depth 20,
+      (search (waiting.the_sync, envelope-send, sendable) depth 20, (search (outboxes-send, crosses, sendable) depth 20, tt)),
+    ),
+  ),
+)

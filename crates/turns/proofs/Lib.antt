@@ -1,0 +1,16 @@
+mod Called
+mod Replayed
+mod Grants
+mod Runs
+mod Served
+mod Entered
+mod Linked
+mod Few
+mod Chains
+mod Turning
+mod Started
+mod Batches
+mod Added
+mod Ran
+mod Carrying
+pub mod Crossing

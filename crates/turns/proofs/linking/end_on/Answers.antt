@@ -1,0 +1,26 @@
+use Rattle.std.proofs.Common.{[], ◌∷◌, refl, sym, subst}
+use Rattle.affinity.specs.Numbers.{number_of}
+use Rattle.depot.specs.Grants.{entry_of, IsFinished}
+use Rattle.depot.specs.Words.{view}
+use Rattle.desk.specs.Any.{node_lent}
+use Rattle.outboxes.specs.Boxes.{Addressed}
+use Rattle.service.specs.declared.job.Job.{Job}
+use Rattle.turns.specs.declared.linking.Tried.{Tried}
+use Rattle.turns.specs.Links.{HasEnded}
+use Rattle.turns.specs.Turns.{filer_behaviour}
+use Rattle.turns.specs.Words.{layout_in}
+use Rattle.turns.proofs.linking.end_on.Goals as goal
+
+pub returns-in-Entered-clause-ended : goal.returns-in-Entered-clause-ended
+returns-in-Entered-clause-ended g c =
+    let took = g.S.AnswerSink.took in
+    let L = layout_in c.args.filer.now in
+    let l = node_lent L c.args.grant in
+    let w = view c.args.seat.now in
+    let u = view c.finish_node.new.seat in
+    subst (λ (t : Tried). HasEnded took L w l t c.args.told.now c.args.sink.now u c.in-Entered.next c.take_answer.new.self) (sym c.in-Entered.is) (
+      subst (λ (j : Job). IsFinished filer_behaviour w (number_of L l.affinity) (entry_of L l.affinity l.parcels j c.args.told.now) u) c.deref.ensures
+          c.finish_node.ensures.finished,
+      refl,
+      λ reply is. subst (λ (a : Addressed). took c.args.sink.now (a ∷ []) c.take_answer.new.self) (c.answered.ensures reply is) c.take_answer.ensures,
+    )

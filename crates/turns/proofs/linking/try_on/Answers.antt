@@ -1,0 +1,56 @@
+use Rattle.std.proofs.Common.{true, false, refl, subst}
+use Rattle.nfs_values.specs.declared.reply.Refusal.TheVariants.{SystemError}
+use Rattle.nfs_values.specs.declared.reply.Reply.TheVariants.{Refused}
+use Rattle.desk.specs.Any.{node_lent}
+use Rattle.service.specs.declared.outcome.Outcome.{Outcome}
+use Rattle.turns.specs.Runs.{HasRunFrom}
+use Rattle.turns.specs.Words.{layout_in}
+use Rattle.turns.proofs.Runs.{moved-so, replied-so, starved-so}
+use Rattle.turns.proofs.linking.try_on.Goals as goal
+
+pub returns-in-Replied : goal.returns-in-Replied
+returns-in-Replied g c =
+    let to = c.run_on.ensures.ran in
+    let says = replied-so to.outcome c.run_on.result c.run_on.new.told to.says c.in-Replied.is in record {
+      ran = (
+        refl,
+        record {
+          outcome = to.outcome;
+          reply = says.0;
+          starved = false;
+          is = says.1;
+          ran = to.ran;
+          entry = c.enter.ensures;
+          told = says.2;
+        },
+      );
+    }
+
+pub returns-in-Starved : goal.returns-in-Starved
+returns-in-Starved g c =
+    let to = c.run_on.ensures.ran in
+    let says = starved-so to.outcome c.run_on.result c.run_on.new.told to.says c.in-Starved.is in record {
+      ran = (
+        refl,
+        record {
+          outcome = to.outcome;
+          reply = Refused SystemError;
+          starved = true;
+          is = (says.0, refl);
+          ran = to.ran;
+          entry = c.enter-in-Starved.ensures;
+          told = says.1;
+        },
+      );
+    }
+
+pub returns-in-Moved : goal.returns-in-Moved
+returns-in-Moved g c =
+    let L = layout_in c.args.filer.now in
+    let to = c.run_on.ensures.ran in
+    let says = moved-so to.outcome c.run_on.result c.run_on.new.told to.says c.in-Moved.affinity c.in-Moved.is in record {
+      ran = (
+        refl,
+        subst (λ (o : Outcome). HasRunFrom L c.args.message c.args.moment (node_lent L c.args.grant.now) o (node_lent L c.run_on.new.grant)) says to.ran,
+      );
+    }

@@ -1,0 +1,40 @@
+use Rattle.std.proofs.Common.{sym, subst}
+use Rattle.affinity.specs.Numbers.{number_of}
+use Rattle.parcels.specs.Exact.{kind_in}
+use Rattle.depot.specs.Grants.{entry_of, IsFinished}
+use Rattle.depot.specs.Words.{view}
+use Rattle.desk.specs.Any.{node_lent}
+use Rattle.desk.specs.laws.Backing.{CanFinish}
+use Rattle.service.specs.declared.job.Job.{Job}
+use Rattle.turns.specs.Turns.{filer_behaviour}
+use Rattle.turns.specs.Words.{layout_in}
+use Rattle.turns.proofs.Entered.{entry-answer, entry-can, entry-finished, entry-room}
+use Rattle.turns.proofs.serving.answer.Goals as goal
+
+pub finish_node-requires-clause-can : goal.finish_node-requires-clause-can
+finish_node-requires-clause-can g c =
+    let L = layout_in c.args.filer.now in
+    let l = node_lent L c.args.grant in
+    let w = view c.args.seat.now in
+    subst (λ (j : Job). CanFinish kind_in filer_behaviour L w l j c.args.told.now) (sym c.deref.ensures)
+    (entry-can c.args.message c.args.moment c.args.starved c.enter-entry.result c.enter-entry.ensures c.args.told.now L w l c.requires.can)
+
+pub answered-requires : goal.answered-requires
+answered-requires g c =
+    entry-room c.args.message c.args.moment c.args.starved c.enter-entry.result c.enter-entry.ensures c.args.told.now c.requires.room.0
+    c.requires.room.1 c.requires.room.2
+
+pub returns-clause-finished : goal.returns-clause-finished
+returns-clause-finished g c =
+    let L = layout_in c.args.filer.now in
+    let l = node_lent L c.args.grant in
+    let w = view c.args.seat.now in
+    let u = view c.finish_node.new.seat in
+    entry-finished c.args.message c.args.moment c.args.starved c.enter-entry.result c.enter-entry.ensures c.args.told.now L w l u
+    (subst (λ (j : Job). IsFinished filer_behaviour w (number_of L l.affinity) (entry_of L l.affinity l.parcels j c.args.told.now) u) c.deref.ensures
+    c.finish_node.ensures.finished)
+
+pub returns-clause-answer : goal.returns-clause-answer
+returns-clause-answer g c reply is =
+    entry-answer c.args.message c.args.moment c.args.starved c.enter-entry.result c.enter-entry.ensures reply c.answered.result
+    (c.answered.ensures reply is)

@@ -1,0 +1,17 @@
+pub mod Messages
+pub mod Balance
+pub mod Words
+pub mod Turns
+pub mod Chains
+pub mod Runs
+pub mod Links
+pub mod Apart
+pub mod Works
+pub mod Logs
+pub mod lemmas
+pub mod Tends
+pub mod Carries
+pub use Rattle.service.specs.Jobs
+pub use Rattle.service.specs.Running
+pub use Rattle.service.specs.Hands
+pub mod shared_waiting

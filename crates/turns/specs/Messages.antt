@@ -1,0 +1,78 @@
+-- Messages to workers.
+use Rattle.std.specs.Prelude.{◌≤◌, ℕ, length}
+use Rattle.nfs_model.specs.Tree as trees
+use Rattle.nfs_values.specs.Call.{call_of}
+use Rattle.nfs_values.specs.declared.call.Call.{Call}
+use Rattle.nfs_values.specs.declared.call.Call.TheVariants as calls
+use Rattle.nfs_values.specs.declared.credential.Credential.{Credential}
+use Rattle.affinity.specs.declared.affinity.Affinity.{Affinity}
+use Rattle.affinity.specs.declared.affinity.Affinity.TheVariants as affinities
+use Rattle.affinity.specs.declared.layout.Layout.{Layout}
+use Rattle.affinity.specs.Affinity.{affinity_of}
+use Rattle.affinity.specs.Layout.{layout_of}
+use Rattle.affinity.specs.Tree.{IsNode}
+use Rattle.rpc_msg.specs.Room.{reply_room}
+use Rattle.service.specs.Running.{IsRunAt}
+use Rattle.service.specs.declared.job.Asked.{Asked}
+use Rattle.service.specs.declared.job.Asked.TheVariants as asks
+use Rattle.service.specs.declared.job.Job.{Job}
+use Rattle.service.specs.declared.job.Job.TheVariants.{Serve, Inner}
+use Rattle.service.specs.declared.job.ServedCall.{ServedCall}
+use Rattle.turns.specs.declared.message.Message.{Message}
+
+-- ---- the entry of a call
+
+-- it asks for a call, and is not a record that was refused nor one that couldn't be decoded
+abbrev pub IsCall : Asked → Type 0
+IsCall (asks.Call call credential) = Unit {0}
+IsCall (asks.Refused refusal) = ⊥
+IsCall asks.Undecoded = ⊥
+
+abbrev pub IsOfCall : Job → Type 0
+IsOfCall (Serve s) = IsCall s.asked
+IsOfCall (Inner call) = ⊥
+
+-- its call; where it asks for none, this has no meaning
+abbrev pub call_in : Asked → Call
+call_in (asks.Call call credential) = call
+call_in (asks.Refused refusal) = calls.Null
+call_in asks.Undecoded = calls.Null
+
+abbrev pub credential_in : Asked → Credential
+credential_in (asks.Call call credential) = credential
+credential_in (asks.Refused refusal) = record { uid = 0; gid = 0 }
+credential_in asks.Undecoded = record { uid = 0; gid = 0 }
+
+-- the message of a call, with this room for its reply
+abbrev pub message_of_call : ServedCall → ℕ → Message
+message_of_call s room = record {
+  origin = record { connection = s.connection; number = s.number; xid = s.xid };
+  call = call_in s.asked;
+  credential = credential_in s.asked;
+  affinity = s.affinity;
+  room = room;
+}
+
+-- the message of an entry; where that is of no call, this has no meaning
+abbrev pub message_in : Job → ℕ → Message
+message_in (Serve s) room = message_of_call s room
+message_in (Inner call) room = record {
+  origin = record { connection = record { 0 = 0 }; number = 0; xid = 0 };
+  call = calls.Null;
+  credential = record { uid = 0; gid = 0 };
+  affinity = affinities.Serial;
+  room = room;
+}
+
+-- a message tries a node of the layout at which its call is run, and each reply to the call fits its room
+pub record IsPlaced (layout : trees.Layout) (m : Message) : Type 0 where
+  pub node : IsNode layout (affinity_of m.affinity)
+  pub run : IsRunAt layout m.call (affinity_of m.affinity)
+  pub room : reply_room (length layout.volumes) (call_of m.call) ≤ m.room
+
+-- it tries another node
+abbrev pub readdressed : Affinity → Message → Message
+readdressed to m = record m { affinity = to }
+
+abbrev pub Fits : Layout → Message → Type 0
+Fits layout m = IsPlaced (layout_of layout) m

@@ -1,0 +1,98 @@
+-- What a worker does without a message, on the batch of block numbers in its hand (our profile).
+use Rattle.std.specs.Prelude.{◌≡◌, ℕ, ◌*◌, ◌/◌, ◌%◌, ◌&&◌, nat_lt, length, Option, Result, Ok, Err, if◌then◌else◌}
+use Rattle.nfs_model.specs.Tree.{Layout}
+use Rattle.nfs_model.specs.Parts.{Hand, Empty, Fresh, Dead, most_ranges, range_of}
+use Rattle.nfs_model.specs.Events.Refusals.{is_empty_hand}
+use Rattle.filer_state.specs.state.Jobs as jobs
+use Rattle.filer_state.specs.state.Jobs.{InnerCall, JobReply}
+use Rattle.turns.specs.declared.message.Message.{Message}
+use Rattle.turns.specs.declared.tend.Tend.{Tend}
+use Rattle.turns.specs.declared.tend.Tend.TheVariants.{Fetch, Cull, PutDown}
+use Rattle.turns.specs.declared.tend.Tended.{Tended}
+use Rattle.turns.specs.declared.tend.Tended.TheVariants as tendeds
+use Rattle.turns.specs.declared.tend.TendRefusal.{TendRefusal}
+use Rattle.turns.specs.declared.tend.TendRefusal.TheVariants.{Busy, Worn, HandFull, HandEmpty, NoSuchRange, NoMemory}
+use Rattle.turns.specs.declared.worker.Worker.{Worker}
+use Rattle.turns.specs.Carries.{Carries, IsRefusedFor, hand_after, IsToldAs}
+use Rattle.turns.specs.Words.{seat_view, entries_in}
+
+-- ---- of a worker
+
+-- the batch that it carries
+abbrev pub hand_in : Worker → Hand
+hand_in w = w.hand
+
+-- the message that it keeps
+abbrev pub kept_in : Worker → Option Message
+kept_in w = w.kept
+
+-- ---- which inner call it is
+
+-- a fresh batch comes into the stock of its volume, a dead one is free in its range
+abbrev pub call_to_put : Hand → Result InnerCall TendRefusal
+call_to_put Empty = Err HandEmpty
+call_to_put (Fresh volume blocks) = Ok (jobs.Deliver volume)
+call_to_put (Dead volume blocks) = Ok (jobs.Free volume (range_of blocks))
+
+-- The inner call of a tend with what is in the hand, or why there is none: a batch comes into an empty hand alone, and from a
+-- volume and a range of the layout.
+abbrev pub call_of : Layout → Tend → Hand → Result InnerCall TendRefusal
+call_of layout (Fetch volume range) hand =
+    if is_empty_hand hand
+    then (if nat_lt volume.0 (length layout.volumes) && nat_lt range most_ranges then Ok (jobs.Fetch volume.0 range) else Err NoSuchRange)
+    else Err HandFull
+call_of layout (Cull volume) hand =
+    if is_empty_hand hand
+    then (if nat_lt volume.0 (length layout.volumes) then Ok (jobs.Cull volume.0) else Err NoSuchRange)
+    else Err HandFull
+call_of layout PutDown hand = call_to_put hand
+
+-- ---- what comes of it
+
+-- one entry was made, of the inner call, with what was in the hand; its reply says what is in the hand then, and how many blocks moved
+pub record HasTended (layout : Layout) (before : Worker) (call : InnerCall) (tended : Tended) (after : Worker) : Type 0 where
+  pub reply : JobReply
+  pub carries : Carries layout (seat_view before) call (hand_in before) reply (seat_view after)
+  pub hand : hand_in after ≡ hand_after reply
+  pub told : IsToldAs reply tended
+
+-- What a tend did by its answer, where this is its inner call, or there is none. A refused one made no entry and left the hand;
+-- where there is no inner call, nothing was tried.
+abbrev pub Answers : Layout → Worker → Result InnerCall TendRefusal → Result Tended TendRefusal → Worker → Type 0
+Answers layout before (Ok call) (Ok tended) after = HasTended layout before call tended after
+Answers layout before (Ok call) (Err refusal) after =
+    (entries_in after ≡ entries_in before) × (hand_in after ≡ hand_in before) × IsRefusedFor layout (seat_view before) call refusal (seat_view after)
+Answers layout before (Err why) answer after = (answer ≡ Err why) × (seat_view after ≡ seat_view before) × (hand_in after ≡ hand_in before)
+
+abbrev pub Tends : Layout → Worker → Tend → Result Tended TendRefusal → Worker → Type 0
+Tends layout before tend answer after = Answers layout before (call_of layout tend (hand_in before)) answer after
+
+-- ---- numbers
+
+-- how many blocks moved
+abbrev pub blocks_moved : Tended → ℕ
+blocks_moved (tendeds.InHand count) = count
+blocks_moved (tendeds.PutDown count) = count
+
+-- what a tend did by the count that it answers: so many blocks are in the hand, or were put down
+abbrev pub TendsTo : Layout → Worker → Tend → Result ℕ TendRefusal → Worker → Type 0
+TendsTo layout before tend (Ok count) after = (tended : Tended) × Tends layout before tend (Ok tended) after × (count ≡ blocks_moved tended)
+TendsTo layout before tend (Err refusal) after = Tends layout before tend (Err refusal) after
+
+abbrev pub tend_refusal_number : TendRefusal → ℕ
+tend_refusal_number (Busy at word) = 21
+tend_refusal_number Worn = 22
+tend_refusal_number HandFull = 33
+tend_refusal_number HandEmpty = 34
+tend_refusal_number NoSuchRange = 41
+tend_refusal_number NoMemory = 90
+
+-- ---- which tend is next
+
+-- With a batch in the hand it is put down. With an empty one, after so many such tends, a cull is next or a fetch, in turn: each two
+-- of them are of the next volume, and once round the volumes, the fetches are of the next range.
+abbrev pub IsNextTend : (volumes made : ℕ) → Hand → Tend → Type 0
+IsNextTend volumes made Empty (Cull volume) = (made % 2 ≡ 0) × (volume.0 ≡ made / 2 % volumes)
+IsNextTend volumes made Empty (Fetch volume range) = (made % 2 ≡ 1) × (volume.0 ≡ made / 2 % volumes) × (range ≡ made / (2 * volumes) % most_ranges)
+IsNextTend volumes made Empty PutDown = ⊥
+IsNextTend volumes made hand tend = tend ≡ PutDown

@@ -1,0 +1,67 @@
+//! Entries that are to be made, and the answers that follow.
+
+ghost use Rattle.std.specs.Prelude.{◌≡◌, ℕ};
+ghost use Rattle.nfs_values.specs.Reply.{reply_of};
+ghost use Rattle.nfs_values.specs.declared.reply.Reply.{Reply};
+ghost use Rattle.outboxes.specs.Boxes.{addressed};
+ghost use Rattle.outboxes.specs.Messages as replies;
+ghost use Rattle.service.specs.declared.job.JobReply.TheVariants.{Replied};
+ghost use Rattle.turns.specs.Links.{HasRoom, IsEntryFor};
+ghost use Rattle.turns.specs.Messages.{message_in, IsOfCall};
+ghost use Rattle.turns.specs.Turns.{job_of_message};
+
+use crate::answer::Answer;
+use crate::envelope::Envelope;
+use crate::telling::let_go;
+use nfs_values::Moment;
+use outboxes::Room;
+use scheduler::Origin;
+use service::{Job, JobReply};
+
+/// The call of an entry, and what its answer needs.
+pub(crate) struct Entry {
+    pub(crate) origin: Origin,
+    pub(crate) job: Box<Job>,
+    pub(crate) room: Room,
+}
+
+/// When an entry's call ran, and whether memory ran out.
+fn stamp(job: &mut Job, moment: Moment, starved: bool)
+    requires { IsOfCall job.old }
+    ensures { (room : ℕ) → job.new ≡ job_of_message (message_in job.old room) moment starved }
+{
+    match job {
+        Job::Serve(served) => {
+            served.moment = moment;
+            served.starved = starved;
+        }
+        Job::Inner(_call) => unreachable!(),
+    }
+}
+
+/// The entry of a message's call.
+pub(crate) fn enter(message: Envelope, moment: Moment, starved: bool) -> Entry
+    ensures { IsEntryFor message moment starved result }
+{
+    let origin = message.origin();
+    let Envelope { mut job, room } = message;
+    stamp(&mut *job, moment, starved);
+    Entry { origin, job, room }
+}
+
+/// The answer of an entry, of which this was told.
+pub(crate) fn answered(entry: Entry, told: &mut JobReply) -> Answer
+    requires { HasRoom entry told.old }
+    ensures { (reply : Reply) → told.old ≡ Replied reply
+        → result ≡ addressed entry.origin.connection.0
+        (replies.message entry.origin.xid (reply_of reply)) }
+{
+    let Entry { origin, job, room } = entry;
+    let_go(job);
+    match told {
+        JobReply::Replied(reply) => Answer::new(origin.connection, origin.xid, reply, room),
+        JobReply::Took(_took) => unreachable!(),
+        JobReply::Gave(_gave) => unreachable!(),
+        JobReply::Surveyed(_counts) => unreachable!(),
+    }
+}

@@ -1,0 +1,119 @@
+//! Messages in memory of their own.
+
+ghost use Rattle.std.specs.Prelude.{◌≡◌, IfOk};
+ghost use Rattle.turns.specs.Messages.{readdressed};
+
+use crate::message::Message;
+use crate::shared_waiting::Fitting;
+use affinity::{Affinity, Layout};
+use nfs_values::{Call, Credential, Moment};
+use outboxes::Room;
+use scheduler::Origin;
+use service::{Asked, Job, ServedCall};
+use std::alloc::{AllocError, Global};
+use std::marker::Model;
+
+/// A message. What it asks stands in memory of its own, as the entry of its call will have it, so
+/// that it isn't moved any more; and what travels through queues and turns is small.
+#[derive(Drop)]
+pub struct Envelope {
+    pub(crate) job: Box<Job>,
+    pub(crate) room: Room,
+}
+
+impl Model for Envelope {
+    ghost use Rattle.turns.specs.declared.message.Message.{Message};
+    ghost use Rattle.turns.specs.Messages.{message_in, IsOfCall};
+
+    ghost Value = { Message };
+
+    ghost view = { λ e. message_in e.job.value e.room };
+
+    ghost invariant = { λ e. IsOfCall e.job.value };
+}
+
+impl Fitting<Layout> for Envelope {
+    ghost use Rattle.turns.specs.Messages.{Fits};
+
+    ghost fits = { Fits };
+}
+
+impl Envelope {
+    /// A message in memory of its own.
+    pub fn new(alloc: Global, message: Message) -> Result<Envelope, AllocError>
+        ensures { IfOk result (λ envelope. envelope ≡ message) }
+    {
+        let Message {
+            origin,
+            call,
+            credential,
+            affinity,
+            room,
+        } = message;
+        let job = Job::Serve(ServedCall {
+            connection: origin.connection,
+            number: origin.number,
+            xid: origin.xid,
+            asked: Asked::Call { call, credential },
+            affinity,
+            moment: Moment::START,
+            starved: false,
+        });
+        match Box::new(alloc, job) {
+            Ok(job) => Ok(Envelope { job, room }),
+            Err(refused) => {
+                drop(refused);
+                Err(AllocError)
+            }
+        }
+    }
+
+    /// The record that its call came in.
+    pub fn origin(&self) -> Origin
+        ensures { result ≡ self.now.origin }
+    {
+        match &*self.job {
+            Job::Serve(served) => Origin {
+                connection: served.connection,
+                number: served.number,
+                xid: served.xid,
+            },
+            Job::Inner(_call) => unreachable!(),
+        }
+    }
+
+    /// What it tries.
+    pub(crate) fn affinity(&self) -> Affinity
+        ensures { result ≡ self.now.affinity }
+    {
+        match &*self.job {
+            Job::Serve(served) => served.affinity,
+            Job::Inner(_call) => unreachable!(),
+        }
+    }
+
+    /// Its call, and whom that acts for.
+    pub(crate) fn asked(&self) -> (&Call, Credential)
+        ensures call { result.0.now ≡ self.now.call }
+        ensures credential { result.1 ≡ self.now.credential }
+    {
+        match &*self.job {
+            Job::Serve(served) => match &served.asked {
+                Asked::Call { call, credential } => (call, *credential),
+                Asked::Refused(_refusal) => unreachable!(),
+                Asked::Undecoded => unreachable!(),
+            },
+            Job::Inner(_call) => unreachable!(),
+        }
+    }
+
+    /// It tries another node.
+    pub(crate) fn readdress(&mut self, to: Affinity)
+        ensures { self.new ≡ readdressed to self.old }
+    {
+        match &mut *self.job {
+            Job::Serve(served) => served.affinity = to,
+            Job::Inner(_call) => unreachable!(),
+        }
+    }
+}

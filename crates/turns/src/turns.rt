@@ -1,0 +1,109 @@
+//! A worker's turns one after the other.
+
+use crate::chained::{AnswerSink, Chained, Hint, leave_word};
+use crate::chaining::{ServedAll, serve_all};
+use crate::envelope::Envelope;
+use crate::shared::Filer;
+use crate::shared_waiting::{Pass, SharedWaiting};
+use crate::turned::Gate;
+use crate::worker::Worker;
+use affinity::Layout;
+use nfs_values::Moment;
+use std::sync::Wait;
+
+impl Worker {
+    ghost use Rattle.std.specs.Prelude.{◌≡◌};
+    ghost use Rattle.crossbeam_queue.specs.Fifo.{Held};
+    ghost use Rattle.turns.specs.declared.chained.Chained.TheVariants.{Idle};
+    ghost use Rattle.turns.specs.shared_waiting.Balance.{both, Leaves};
+    ghost use Rattle.turns.specs.shared_waiting.Passes.{known, IsOf};
+    ghost use Rattle.turns.specs.Chains.{turns_at_most, HasDoneFew, HasTriedAll, HasTurnedOn};
+    ghost use Rattle.turns.specs.Turns.{standing_of, HasShareOf};
+    ghost use Rattle.turns.specs.Words.{layout_in, passed, seat_view, seats_in, IsAt};
+
+    /// Tries the message that is kept, if one is, and then those that wait and try the same node,
+    /// at most so many. What is kept then: the last where it isn't finished, or else one that was
+    /// picked and tries another node.
+    fn try_all<R: Wait, G: Gate, H: Hint, S: AnswerSink>(
+        &mut self,
+        filer: &Filer,
+        queue: &SharedWaiting<Envelope, Layout>,
+        rt: &R,
+        gate: &G,
+        hint: &H,
+        moment: Moment,
+        most: usize,
+        sink: &mut S,
+    ) -> Chained
+        requires { IsAt filer.now queue.now self.old }
+        ensures inside { IsAt filer.now queue.now self.new }
+        ensures tried { HasTriedAll S.took (layout_in filer.now) (standing_of self.old) moment
+            sink.old result sink.new (standing_of self.new) }
+        ensures few { HasDoneFew (turns_at_most most) (seat_view self.old) (seat_view self.new) }
+        ensures share { HasShareOf (passed self.old) (passed self.new) }
+        ensures seats { seats_in self.new ≡ seats_in self.old }
+        ensures hand { self.new.hand ≡ self.old.hand }
+    {
+        let message = match self.kept.take() {
+            Some(message) => message,
+            None => return Chained::Idle,
+        };
+        let ServedAll { kept, chained } = serve_all(
+            filer,
+            &mut self.seat,
+            queue,
+            rt,
+            &mut self.pass,
+            message,
+            moment,
+            gate,
+            hint,
+            most,
+            sink,
+        );
+        self.kept = kept;
+        chained
+    }
+
+    /// Turns for who has another pass of the queue beside: the call of the message that is kept, or
+    /// else of the one that waits longest, and then, under the same grant, those of the messages
+    /// after it that try the same node, at most so many. The answers go into a sink. A message that
+    /// was picked and tries another node is kept, for the next turn. Where the node was refused, a
+    /// hint is left to who has it; and where one is left here, no more is picked. Where no message
+    /// is found, none waits by both passes, and so none at all where nobody else has a pass.
+    pub fn turns_beside<R: Wait, G: Gate, H: Hint, S: AnswerSink>(
+        &mut self,
+        filer: &Filer,
+        queue: &SharedWaiting<Envelope, Layout>,
+        other: &mut Pass<Envelope, Layout>,
+        rt: &R,
+        gate: &G,
+        hint: &H,
+        moment: Moment,
+        most: usize,
+        sink: &mut S,
+    ) -> Chained
+        requires inside { IsAt filer.now queue.now self.old }
+        requires other { IsOf queue.now other.old }
+        requires key { (known other.old).key ≡ (passed self.old).key }
+        ensures inside { IsAt filer.now queue.now self.new }
+        ensures other { IsOf queue.now other.new × (known other.new ≡ known other.old) }
+        ensures turned { HasTurnedOn S.took (layout_in filer.now) (standing_of self.old) moment
+            sink.old result sink.new (standing_of self.new) }
+        ensures few { HasDoneFew (turns_at_most most) (seat_view self.old) (seat_view self.new) }
+        ensures none { result ≡ Idle
+            → Held 0 (Leaves (both (passed self.old) (known other.old))) }
+        ensures share { HasShareOf (passed self.old) (passed self.new) }
+        ensures seats { seats_in self.new ≡ seats_in self.old }
+        ensures hand { self.new.hand ≡ self.old.hand }
+    {
+        self.pick_beside(filer, queue, other, rt);
+        let chained = self.try_all(filer, queue, rt, gate, hint, moment, most, sink);
+        if chained.is_done() {
+            return chained;
+        }
+        leave_word(hint, chained);
+        self.put(filer, queue, rt);
+        chained
+    }
+}

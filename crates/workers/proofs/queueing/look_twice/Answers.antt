@@ -1,6 +1,0 @@
-use Rattle.workers.specs.shared_waiting.Passes.{known}
-use Rattle.workers.proofs.Turning.{placed-by}
-use Rattle.workers.proofs.queueing.look_twice.Goals as goal
-
-pub returns-in-Some-clause-placed : goal.returns-in-Some-clause-placed
-returns-in-Some-clause-placed g c layout is = placed-by layout (known c.args.pass.now) c.in-Some.message is c.in-Some.ensures.rule.1

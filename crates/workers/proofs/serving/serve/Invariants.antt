@@ -1,0 +1,7 @@
+use Rattle.std.proofs.Common.{◌<◌}
+use Rattle.workers.specs.Heirs.{IsHeir}
+use Rattle.turns.specs.Words.{IsIn}
+use Rattle.workers.proofs.serving.serve.Given as goal
+
+abbrev pub invariant-loop : goal.invariant-loop
+invariant-loop g l = (l.moment.nanoseconds < 1000000000) × IsIn l.filer l.worker × IsHeir l.fn.worker l.worker

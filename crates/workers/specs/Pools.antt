@@ -1,0 +1,36 @@
+-- What a pool has.
+use Rattle.std.specs.Prelude.{◌≡◌, ◌≤◌, ◌+◌, ◌^◌, ℕ, List, length}
+use Rattle.std.specs.Arc.{arc_value}
+use Rattle.depot_rule.specs.Sums.{total}
+use Rattle.workers.specs.declared.pool.Pool.{Pool}
+use Rattle.workers.specs.Shares.{FilerPass, entries_by, picks_by, puts_by, share_in}
+use Rattle.workers.specs.Threads.{Thread, seats_with, share_with, started_with}
+use Rattle.turns.specs.shared_waiting.Balance.{part}
+use Rattle.turns.specs.shared_waiting.Passes.{known}
+use Rattle.turns.specs.Balance.{FilerEntry}
+use Rattle.turns.specs.declared.message.Message.{Message}
+use Rattle.turns.specs.declared.shared.Filer.{Filer}
+
+-- its threads
+abbrev pub threads_of : Pool → List Thread
+threads_of pool = pool.threads.items
+
+-- the filer whose calls they run
+abbrev pub filer_of : Pool → Filer
+filer_of pool = arc_value pool.filer
+
+-- Each of so many threads was started with a worker. Between them these had all the seats of one seat and all the share of one pass in
+-- the right to know the queue, and what the seat had finished, and the pass had put and picked, each once: so their seats and passes
+-- are this seat and this pass, or split from them, and none is left over.
+pub record HasBetween (splits : ℕ) (finished : List FilerEntry) (pass : FilerPass) (many : ℕ) (pool : Pool) : Type 0 where
+  pub count : length (threads_of pool) ≡ many
+  pub seats : total seats_with (threads_of pool) ≡ splits + 1
+  pub share : (k : ℕ) → (known pass).halvings + many ≤ k → total (share_with k) (threads_of pool) ≡ part k (known pass)
+  pub entries : (weigh : FilerEntry → ℕ) → total (λ (t : Thread). entries_by weigh (started_with t)) (threads_of pool) ≡ total weigh finished
+  pub put : (weigh : Message → ℕ) → total (λ (t : Thread). puts_by weigh (started_with t)) (threads_of pool) ≡ total weigh (known pass).put
+  pub picked : (weigh : Message → ℕ) → total (λ (t : Thread). picks_by weigh (started_with t)) (threads_of pool) ≡ total weigh (known pass).picked
+
+-- no pass is missing: the shares with which the workers were started, and those of these passes, are the whole
+abbrev pub HasAllWith : Pool → List FilerPass → Type 0
+HasAllWith pool passes = (level : ℕ)
+    × ((k : ℕ) → level ≤ k → total (share_with k) (threads_of pool) + total (share_in k) passes ≡ 2 ^ k)

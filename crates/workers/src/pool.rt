@@ -1,0 +1,176 @@
+//! A pool.
+
+ghost use Rattle.std.specs.Prelude.{◌≡◌, ◌≤◌, [], All, IfOk, vec_len, vec_capacity};
+ghost use Rattle.std.specs.Arc.{arc_value};
+ghost use Rattle.depot_rule.specs.Sums.{total};
+ghost use Rattle.workers.specs.Threads.{seats_with, ServesIn};
+
+use crate::collecting::collect;
+use crate::everything::gather;
+use crate::left::Left;
+use crate::refusal::StartRefusal;
+use crate::room::Room;
+use crate::splits::{first_worker, split_workers};
+use crate::starting::start_all;
+use crate::stop_word::StopWord;
+use crate::task::Thread;
+use affinity::Layout;
+use depot::Seat;
+use std::alloc::{AllocError, Global};
+use std::rt::Clock;
+use std::sync::{Arc, Wait};
+use std::thread::Threads;
+use turns::shared_waiting::Pass;
+use turns::{Envelope, Filer, Gate, Service, Worker};
+
+/// The most threads of a pool.
+const MOST_THREADS: usize = 64;
+
+/// Threads, each of which runs a worker of a filer, and room for all that they leave. They have all
+/// seats of the filer's depot between them. Dropped without `stop`, they run on.
+pub struct Pool {
+    filer: Arc<Filer>,
+    stop: Arc<StopWord>,
+    threads: Vec<Thread>,
+    workers: Vec<Worker>,
+    room: Room,
+    ghost none_back: { workers.items ≡ [] },
+    ghost for_all: { vec_len threads ≤ vec_capacity workers },
+    ghost serve: { All (ServesIn (arc_value filer)) threads.items },
+    ghost seats: { total seats_with threads.items ≡ 64 },
+}
+
+// By hand, so that crates above have no proof of the drop of each of its parts.
+impl Drop for Pool {
+    fn drop(self) {
+        let Pool {
+            filer: _,
+            stop: _,
+            threads: _,
+            workers: _,
+            room: _,
+        } = self;
+    }
+}
+
+/// What a pool has beside its workers.
+#[derive(Drop)]
+struct Supplies {
+    filer: Arc<Filer>,
+    stop: Arc<StopWord>,
+    threads: Vec<Thread>,
+    workers: Vec<Worker>,
+    room: Room,
+}
+
+/// What a pool has beside its workers, before it starts.
+fn supply(alloc: Global, filer: &Arc<Filer>) -> Result<Supplies, AllocError>
+    ensures filer { IfOk result (λ s. arc_value s.filer ≡ arc_value filer.now) }
+    ensures none { IfOk result (λ s. (s.threads.items ≡ []) × (s.workers.items ≡ [])) }
+    ensures room { IfOk result (λ s. (64 ≤ vec_capacity s.threads)
+        × (64 ≤ vec_capacity s.workers)) }
+{
+    let Ok(stop) = Arc::new(alloc, StopWord::new()) else {
+        return Err(AllocError);
+    };
+    Ok(Supplies {
+        filer: filer.clone()?,
+        stop,
+        threads: Vec::with_capacity(alloc, MOST_THREADS)?,
+        workers: Vec::with_capacity(alloc, MOST_THREADS)?,
+        room: Room::new(alloc)?,
+    })
+}
+
+impl Pool {
+    ghost use Rattle.std.specs.Prelude.{◌<◌, None, Some};
+    ghost use Rattle.depot.specs.Words.{view, splits_left, HasNoGrant, IsSeatHere};
+    ghost use Rattle.depot_rule.specs.History.{entries_of, AreHands};
+    ghost use Rattle.workers.specs.Gathered.{calls_by, IsLeftOf};
+    ghost use Rattle.workers.specs.Pools.{filer_of, HasBetween, HasAllWith};
+    ghost use Rattle.workers.specs.Shares.{put_by, picked_by};
+    ghost use Rattle.turns.specs.Balance.{IsEven, Weight};
+    ghost use Rattle.turns.specs.Jobs.{job_takes, job_gives};
+    ghost use Rattle.turns.specs.Words.{layout_in, layout_known, verifier_in, HasOpened};
+    ghost use Rattle.turns.specs.shared_waiting.Passes.{known, IsOf};
+
+    /// Starts 1 to 64 threads, each with a worker. Their seats and passes are the seat and the pass
+    /// that are handed in, or split from these, and none is left over. Where a thread can't be
+    /// started all that were have ended; of the filer nothing can be done then but to drop it.
+    pub fn start<R, G>(
+        rt: R,
+        alloc: Global,
+        filer: &Arc<Filer>,
+        gate: &G,
+        seat: Seat<Service>,
+        pass: Pass<Envelope, Layout>,
+        count: usize,
+    ) -> Result<Pool, StartRefusal>
+    where
+        R: Threads + Wait + Clock + Copy + Drop + Send + 'static,
+        G: Gate + Clone + Drop + Send + 'static,
+        requires count { (0 < count) × (count ≤ 64) }
+        requires seat { IsSeatHere (arc_value filer.now).depot seat
+            × (splits_left seat ≡ 63) }
+        requires opened { HasOpened (layout_in (arc_value filer.now))
+            (verifier_in (arc_value filer.now)) (view seat) }
+        requires pass { IsOf (arc_value filer.now).waiting pass
+            × (layout_known (known pass) ≡ Some (layout_in (arc_value filer.now))) }
+        requires balance { IsEven (known pass) (entries_of (view seat)) None }
+        requires in_hand { AreHands job_takes job_gives (entries_of (view seat)) [] }
+        requires none_open { HasNoGrant seat }
+        ensures filer { IfOk result (λ pool. filer_of pool ≡ arc_value filer.now) }
+        ensures workers { IfOk result
+            (λ pool. HasBetween (splits_left seat) (entries_of (view seat)) pass count pool) }
+    {
+        let Ok(supplies) = supply(alloc, filer) else {
+            return Err(StartRefusal::NoMemory);
+        };
+        let Supplies {
+            filer: shared,
+            stop,
+            mut threads,
+            workers,
+            room,
+        } = supplies;
+        let worker = first_worker(filer, seat, pass);
+        let mut workers = split_workers(filer, worker, count, workers);
+        match start_all(rt, filer, &stop, gate, &mut workers, &mut threads) {
+            None => Ok(Pool {
+                filer: shared,
+                stop,
+                threads,
+                workers,
+                room,
+            }),
+            Some(refusal) => {
+                stop.set();
+                let _lost = collect(&rt, threads, workers);
+                Err(refusal)
+            }
+        }
+    }
+
+    /// Stops the threads, and gathers what their workers leave. With the passes of those that only
+    /// put messages the workers have the whole right to know the queue: what was put by these very
+    /// passes is, as often, finished, kept or there.
+    pub fn stop<R: Threads + Wait>(self, rt: &R, passes: Vec<Pass<Envelope, Layout>>) -> Left
+        requires passes { All (IsOf (filer_of self).waiting) passes.items }
+        requires whole { HasAllWith self passes.items }
+        requires readers { (weight : Weight) → total (picked_by weight) passes.items ≡ 0 }
+        ensures left { IsLeftOf (filer_of self) result }
+        ensures calls { (weight : Weight)
+            → total (put_by weight) passes.items ≡ calls_by weight result }
+    {
+        let Pool {
+            filer,
+            stop,
+            threads,
+            workers,
+            room,
+        } = self;
+        stop.set();
+        let workers = collect(rt, threads, workers);
+        gather(&filer, rt, workers, passes, room)
+    }
+}
