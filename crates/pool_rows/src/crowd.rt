@@ -8,7 +8,7 @@ use crate::calls::call;
 use crate::ending::{end, stop};
 use crate::opening::{Volumes, open};
 use crate::putting::{FilerPass, put_made, record_of};
-use crate::replies::{connect, replies};
+use crate::replies::replies;
 use crate::running::{Running, start};
 use nfs_values::ConnectionNumber;
 use std::alloc::Global;
@@ -89,6 +89,7 @@ fn put_both<R: Threads + Wait + Sync>(
         pool,
         first,
         second,
+        mail,
     } = running;
     let (first, second) = put_beside(rt, alloc, &filer, (first, one), (second, other));
     let running = Running {
@@ -96,6 +97,7 @@ fn put_both<R: Threads + Wait + Sync>(
         pool,
         first: first.0,
         second: second.0,
+        mail,
     };
     (running, first.1 + second.1)
 }
@@ -115,19 +117,18 @@ where
     requires some { 0 < threads }
     requires fit { threads ≤ 64 }
 {
-    let Ok(opened) = open(alloc, Volumes::Mixed) else {
+    let Ok(opened) = open(&rt, alloc, Volumes::Mixed) else {
         return None;
     };
-    let running = start(rt, alloc, opened, &Unwatched, threads)?;
-    let one = connect(&rt, &running.filer)?;
-    let other = connect(&rt, &running.filer)?;
+    let mut running = start(rt, alloc, opened, &Unwatched, threads)?;
+    let one = running.mail.open(&rt)?;
+    let other = running.mail.open(&rt)?;
     let (running, put) = put_both(&rt, alloc, running, one, other);
-    let Ok(stopped) = stop(&rt, alloc, running) else {
+    let Ok((stopped, mut mail)) = stop(&rt, alloc, running) else {
         return None;
     };
     let most = EACH as usize + 1;
-    let answered = replies(&rt, &stopped.filer, one, most)
-        + replies(&rt, &stopped.filer, other, most);
+    let answered = replies(&rt, &mut mail, one, most) + replies(&rt, &mut mail, other, most);
     let ended = end(stopped)?;
     Some(Came {
         put: put as usize,

@@ -5,6 +5,7 @@ ghost use Rattle.std.specs.Arc.{arc_value};
 ghost use Rattle.workers.specs.Gathered.{IsLeftOf};
 ghost use Rattle.pool_rows.specs.Threads.{IsRunning};
 
+use crate::mail::Mail;
 use crate::putting::FilerPass;
 use crate::running::Running;
 use workers::{Ended, Left, close};
@@ -32,25 +33,26 @@ fn list_passes(
     Ok(passes)
 }
 
-/// Stops the workers, and gathers what is left.
+/// Stops the workers, and gathers what is left. The outboxes are there still.
 pub(crate) fn stop<R: Threads + Wait>(
     rt: &R,
     alloc: Global,
     running: Running,
-) -> Result<Stopped, AllocError>
+) -> Result<(Stopped, Mail), AllocError>
     requires { IsRunning (arc_value running.filer) running.pool running.first running.second }
-    ensures { IfOk result (λ stopped. IsLeftOf (arc_value stopped.filer) stopped.left) }
+    ensures { IfOk result (λ made. IsLeftOf (arc_value made.0.filer) made.0.left) }
 {
     let Running {
         filer,
         pool,
         first,
         second,
+        mail,
     } = running;
     match list_passes(alloc, first, second) {
         Ok(passes) => {
-            let left = pool.stop(rt, passes);
-            Ok(Stopped { filer, left })
+            let (left, _lent) = pool.stop(rt, passes);
+            Ok((Stopped { filer, left }, mail))
         }
         Err(refused) => Err(refused),
     }

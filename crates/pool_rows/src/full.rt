@@ -9,9 +9,10 @@ ghost use Rattle.turns.specs.Words.{IsIn};
 use crate::calls::{ROOT, create, handle};
 use crate::ending::end;
 use crate::leaving::leave_alone;
-use crate::opening::{Volumes, open_filer};
+use crate::mail::Mail;
+use crate::opening::{Volumes, open_filer, open_mail};
 use crate::putting::{FilerPass, put_made, record_of};
-use crate::replies::{LOOKS, connect};
+use crate::replies::LOOKS;
 use crate::turns::came::Came;
 use crate::turns::turning::put_answer;
 use nfs_values::{BytesToWrite, Call, ConnectionNumber, Moment};
@@ -114,7 +115,13 @@ impl Gate for Letting<'_> {
 }
 
 /// A turn of a worker; its answer is put.
-fn take_turn<R: Wait, G: Gate>(rt: &R, filer: &Filer, worker: Worker, gate: &G) -> (Worker, Came)
+fn take_turn<R: Wait, G: Gate>(
+    rt: &R,
+    filer: &Filer,
+    mail: &mut Mail,
+    worker: Worker,
+    gate: &G,
+) -> (Worker, Came)
     requires { IsIn filer.now worker }
     ensures { IsStill filer.now worker result.0 }
 {
@@ -123,7 +130,7 @@ fn take_turn<R: Wait, G: Gate>(rt: &R, filer: &Filer, worker: Worker, gate: &G) 
         nanoseconds: 0,
     };
     let (worker, turn) = worker.turn(filer, rt, gate, moment);
-    (worker, put_answer(rt, filer, turn))
+    (worker, put_answer(rt, mail, turn))
 }
 
 /// A turn in whose midst another puts a message into the place that is free then.
@@ -131,6 +138,7 @@ fn take_turn_beside<R: Threads + Wait + Sync>(
     rt: &R,
     alloc: Global,
     filer: &Filer,
+    mail: &mut Mail,
     worker: Worker,
     pass: FilerPass,
     connection: ConnectionNumber,
@@ -152,7 +160,7 @@ fn take_turn_beside<R: Threads + Wait + Sync>(
         move || -> (Worker, Came)
             requires { IsIn filer.now worker }
             ensures { IsStill filer.entry.now worker result.0 }
-        { take_turn(rt, filer, worker, &Letting { late }) },
+        { take_turn(rt, filer, mail, worker, &Letting { late }) },
     )
 }
 
@@ -160,6 +168,7 @@ fn take_turn_beside<R: Threads + Wait + Sync>(
 #[derive(Drop)]
 struct Full {
     filer: Arc<Filer>,
+    mail: Mail,
     worker: Worker,
     first: FilerPass,
     second: FilerPass,
@@ -171,6 +180,7 @@ fn fill_up<R: Wait>(
     rt: &R,
     alloc: Global,
     filer: &Filer,
+    mail: &mut Mail,
     worker: Worker,
     mut pass: FilerPass,
     connection: ConnectionNumber,
@@ -182,7 +192,7 @@ fn fill_up<R: Wait>(
 {
     let origin = record_of(connection, 0);
     let was_put = put_made(rt, alloc, filer, &mut pass, origin, call_of(alloc, 0));
-    let (worker, came) = take_turn(rt, filer, worker, &Unwatched);
+    let (worker, came) = take_turn(rt, filer, mail, worker, &Unwatched);
     let is_full = fill(rt, alloc, filer, &mut pass, connection);
     let is_made = was_put && came == Came::Done(connection, 0);
     (worker, pass, is_made && is_full)
@@ -196,13 +206,19 @@ fn make_full<R: Wait>(rt: &R, alloc: Global) -> Option<Full>
     let Ok((filer, worker, first, second)) = open_filer(alloc, Volumes::Alike) else {
         return None;
     };
-    let connection = connect(rt, &filer)?;
-    let (worker, first, is_full) = fill_up(rt, alloc, &filer, worker, first, connection);
+    let Ok(mut mail) = open_mail(rt, alloc) else {
+        return None;
+    };
+    let connection = mail.open(rt)?;
+    let (worker, first, is_full) = fill_up(
+        rt, alloc, &filer, &mut mail, worker, first, connection,
+    );
     if !is_full {
         return None;
     }
     Some(Full {
         filer,
+        mail,
         worker,
         first,
         second,
@@ -218,16 +234,18 @@ fn turn_beside<R: Threads + Wait + Sync>(rt: &R, alloc: Global, full: Full) -> (
 {
     let Full {
         filer,
+        mut mail,
         worker,
         first,
         second,
         connection,
     } = full;
     let ((first, was_put), (worker, came)) = take_turn_beside(
-        rt, alloc, &filer, worker, first, connection,
+        rt, alloc, &filer, &mut mail, worker, first, connection,
     );
     let full = Full {
         filer,
+        mail,
         worker,
         first,
         second,
@@ -243,14 +261,16 @@ fn turn<R: Wait>(rt: &R, full: Full) -> (Full, Came)
 {
     let Full {
         filer,
+        mut mail,
         worker,
         first,
         second,
         connection,
     } = full;
-    let (worker, came) = take_turn(rt, &filer, worker, &Unwatched);
+    let (worker, came) = take_turn(rt, &filer, &mut mail, worker, &Unwatched);
     let full = Full {
         filer,
+        mail,
         worker,
         first,
         second,
@@ -265,6 +285,7 @@ fn leave_full<R: Wait>(rt: &R, alloc: Global, full: Full) -> Option<Ended>
 {
     let Full {
         filer,
+        mail: _,
         worker,
         first,
         second,

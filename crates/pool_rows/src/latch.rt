@@ -5,8 +5,9 @@ ghost use Rattle.pool_rows.specs.Threads.{HasPut, IsReaderOf};
 use crate::calls::{ROOT, create, handle};
 use crate::ending::{end, stop};
 use crate::opening::{Volumes, open};
+use crate::mail::Mail;
 use crate::putting::{FilerPass, put, put_made, record_of};
-use crate::replies::{LOOKS, awaited, connect, is_ok};
+use crate::replies::{LOOKS, awaited, is_ok};
 use crate::running::start;
 use nfs_values::{Call, ConnectionNumber};
 use outboxes::Record;
@@ -94,6 +95,7 @@ fn make_file<R: Wait>(
     alloc: Global,
     filer: &Filer,
     pass: &mut FilerPass,
+    mail: &mut Mail,
     connection: ConnectionNumber,
 ) -> Option<Record>
     requires { IsReaderOf filer.now pass.old }
@@ -101,7 +103,7 @@ fn make_file<R: Wait>(
 {
     let origin = record_of(connection, MADE);
     put_made(rt, alloc, filer, pass, origin, create(alloc, 0, 0));
-    awaited(rt, filer, connection)
+    awaited(rt, mail, connection)
 }
 
 /// Reads a file of volume 0, and in the midst of that asks for the attributes of volume 1's root.
@@ -110,6 +112,7 @@ fn meet<R: Wait>(
     alloc: Global,
     filer: &Filer,
     pass: &mut FilerPass,
+    mail: &mut Mail,
     seen: &Seen,
     one: ConnectionNumber,
     other: ConnectionNumber,
@@ -117,7 +120,7 @@ fn meet<R: Wait>(
     requires { IsReaderOf filer.now pass.old }
     ensures { HasPut filer.now pass.old pass.new }
 {
-    make_file(rt, alloc, filer, pass, one)?;
+    make_file(rt, alloc, filer, pass, mail, one)?;
     let read = Call::Read {
         handle: handle(0, 2),
         offset: 0,
@@ -129,8 +132,8 @@ fn meet<R: Wait>(
         handle: handle(1, ROOT),
     };
     put(rt, alloc, filer, pass, record_of(other, BESIDE), get);
-    let got = awaited(rt, filer, other)?;
-    let read = awaited(rt, filer, one)?;
+    let got = awaited(rt, mail, other)?;
+    let read = awaited(rt, mail, one)?;
     Some(Came {
         was_beside: seen.was_beside.load(Ordering::SeqCst),
         read: is_ok(&read),
@@ -144,22 +147,23 @@ where
     R: Threads + Wait + Clock + Copy + Drop + Send + 'static,
 {
     let latch = Latch::new(alloc).ok()?;
-    let Ok(opened) = open(alloc, Volumes::Alike) else {
+    let Ok(opened) = open(&rt, alloc, Volumes::Alike) else {
         return None;
     };
     let mut running = start(rt, alloc, opened, &latch, 2)?;
-    let filer = &running.filer;
-    let (one, other) = (connect(&rt, filer)?, connect(&rt, filer)?);
+    let one = running.mail.open(&rt)?;
+    let other = running.mail.open(&rt)?;
     let came = meet(
         &rt,
         alloc,
-        filer,
+        &running.filer,
         &mut running.first,
+        &mut running.mail,
         &latch.seen,
         one,
         other,
     );
-    let Ok(stopped) = stop(&rt, alloc, running) else {
+    let Ok((stopped, _mail)) = stop(&rt, alloc, running) else {
         return None;
     };
     let ended = end(stopped)?;

@@ -16,6 +16,8 @@ mod latch;
 #[cfg(test)]
 mod leaving;
 #[cfg(test)]
+mod mail;
+#[cfg(test)]
 mod opening;
 #[cfg(test)]
 mod putting;

@@ -4,22 +4,27 @@ ghost use Rattle.std.specs.Prelude.{IfOk};
 ghost use Rattle.std.specs.Arc.{arc_value};
 ghost use Rattle.depot.specs.Words.{view, splits_left, IsSeatHere};
 ghost use Rattle.pool_rows.specs.Threads.{IsOpened, IsUnstarted};
+ghost use Rattle.turns.specs.SharedOutboxes.{IsOf};
 
+use crate::mail::Mail;
 use crate::putting::FilerPass;
 use affinity::{AggregateSpec, Layout, VolumeSpec};
 use depot::Seat;
 use std::alloc::{AllocError, Global};
-use std::sync::Arc;
-use turns::{Filer, Service, Worker};
+use std::sync::{Arc, Wait};
+use turns::{Filer, OutboxesPass, Service, SharedOutboxes, Worker};
 
 /// The write verifier of each filer.
 const VERIFIER: [u8; 8] = [9; 8];
 
 /// A filer with its only seat and a pass, before any worker runs, and the passes of two who put
-/// messages.
+/// messages; its outboxes, with a pass for its workers and one for who looks on.
 #[derive(Drop)]
 pub(crate) struct Opened {
     pub(crate) filer: Arc<Filer>,
+    pub(crate) outboxes: Arc<SharedOutboxes>,
+    pub(crate) lent: OutboxesPass,
+    pub(crate) mail: Mail,
     pub(crate) seat: Seat<Service>,
     pub(crate) pass: FilerPass,
     pub(crate) first: FilerPass,
@@ -54,17 +59,58 @@ fn layout(alloc: Global, volumes: Volumes) -> Result<Layout, AllocError> {
     }
 }
 
+/// Outboxes of no connection, with two passes of them.
+fn open_outboxes<R: Wait>(
+    rt: &R,
+    alloc: Global,
+) -> Result<(Arc<SharedOutboxes>, OutboxesPass, OutboxesPass), AllocError>
+    ensures { IfOk result (λ made. IsOf (arc_value made.0) made.1 × IsOf (arc_value made.0) made.2) }
+{
+    let (outboxes, pass) = SharedOutboxes::new(rt, alloc)?;
+    let (first, second) = outboxes.split_pass(pass);
+    Ok((Arc::new(alloc, outboxes)?, first, second))
+}
+
+/// Outboxes of no connection.
+pub(crate) fn open_mail<R: Wait>(rt: &R, alloc: Global) -> Result<Mail, AllocError> {
+    let (outboxes, pass, _other) = open_outboxes(rt, alloc)?;
+    Ok(Mail { outboxes, pass })
+}
+
+/// The same for two.
+pub(crate) fn open_mails<R: Wait>(rt: &R, alloc: Global) -> Result<(Mail, Mail), AllocError> {
+    let (outboxes, pass, other) = open_outboxes(rt, alloc)?;
+    let second = Mail {
+        outboxes: outboxes.clone()?,
+        pass: other,
+    };
+    Ok((Mail { outboxes, pass }, second))
+}
+
 /// A filer before any worker runs.
-pub(crate) fn open(alloc: Global, volumes: Volumes) -> Result<Opened, AllocError>
+pub(crate) fn open<R: Wait>(
+    rt: &R,
+    alloc: Global,
+    volumes: Volumes,
+) -> Result<Opened, AllocError>
     ensures seat { IfOk result (λ o. IsSeatHere (arc_value o.filer).depot o.seat) }
     ensures opened { IfOk result (λ o. IsUnstarted (arc_value o.filer) (view o.seat)
         (splits_left o.seat) o.pass o.first o.second) }
+    ensures lent { IfOk result (λ o. IsOf (arc_value o.outboxes) o.lent) }
 {
+    let (outboxes, lent, second) = open_outboxes(rt, alloc)?;
+    let mail = Mail {
+        outboxes: outboxes.clone()?,
+        pass: second,
+    };
     let (filer, seat, pass) = Filer::new(alloc, layout(alloc, volumes)?, VERIFIER)?;
     let (pass, rest) = filer.waiting().split_pass(pass);
     let (first, second) = filer.waiting().split_pass(rest);
     Ok(Opened {
         filer: Arc::new(alloc, filer)?,
+        outboxes,
+        lent,
+        mail,
         seat,
         pass,
         first,

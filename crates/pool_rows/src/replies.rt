@@ -2,31 +2,26 @@
 
 ghost use Rattle.std.specs.Prelude.{◌≤◌};
 
+use crate::mail::Mail;
 use nfs_values::ConnectionNumber;
 use outboxes::Record;
 use std::sync::Wait;
 use std::thread;
-use turns::Filer;
 
 /// How often it is looked whether something has come.
 pub(crate) const LOOKS: usize = 10_000_000;
 
-/// Opens a connection.
-pub(crate) fn connect<R: Wait>(rt: &R, filer: &Filer) -> Option<ConnectionNumber> {
-    filer.outboxes().lock(rt).open().ok()
-}
-
 /// How many replies wait for a connection, counted up to so many. They are taken.
 pub(crate) fn replies<R: Wait>(
     rt: &R,
-    filer: &Filer,
+    mail: &mut Mail,
     connection: ConnectionNumber,
     most: usize,
 ) -> usize
     ensures { result ≤ most }
 {
     for count in 0..most {
-        if filer.outboxes().lock(rt).take(connection).is_none() {
+        if mail.take(rt, connection).is_none() {
             return count;
         }
     }
@@ -36,11 +31,11 @@ pub(crate) fn replies<R: Wait>(
 /// The next reply for a connection, once it has come: `None` where it hasn't after so many looks.
 pub(crate) fn awaited<R: Wait>(
     rt: &R,
-    filer: &Filer,
+    mail: &mut Mail,
     connection: ConnectionNumber,
 ) -> Option<Record> {
     for _ in 0..LOOKS {
-        let taken = filer.outboxes().lock(rt).take(connection);
+        let taken = mail.take(rt, connection);
         if taken.is_some() {
             return taken;
         }

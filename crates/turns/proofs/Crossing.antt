@@ -16,6 +16,7 @@ use Rattle.turns.proofs.shared_waiting.pass.SharedWaiting.TheSendSync as waiting
 use Rattle.turns.specs.contracts.envelope.Envelope as Envelope
 use Rattle.turns.specs.contracts.envelope.Envelope.TheInside as EnvelopeInside
 use Rattle.turns.specs.contracts.shared.Filer as Filer
+use Rattle.turns.specs.contracts.shared_outboxes.SharedOutboxes as SharedOutboxes
 use Rattle.turns.specs.contracts.worker.Worker as Worker
 use Rattle.turns.proofs.crossings.Structs.{struct-send}
 use Rattle.turns.proofs.crossings.Outboxes.{room-send, outboxes-send}
@@ -46,7 +47,7 @@ filer-send = declared_send Filer.the_type (
     search (verifier.the_send, sendable),
     (
       search (depot.the_send, parcel.the_send, range.the_send, stripe.the_send, logical-parcel-send, crosses, sendable) depth 20,
-      (search (waiting.the_send, envelope-send, sendable), (search (outboxes-send, crosses, sendable), tt)),
+      (search (waiting.the_send, envelope-send, sendable), tt),
     ),
   ),
 )
@@ -58,7 +59,15 @@ filer-sync = declared_sync Filer.the_type (
     search (verifier.the_sync, sendable) depth 20,
     (
       search (depot.the_sync, parcel.the_send, range.the_send, stripe.the_send, logical-parcel-send, crosses, sendable) depth 20,
-      (search (waiting.the_sync, envelope-send, sendable) depth 20, (search (outboxes-send, crosses, sendable) depth 20, tt)),
+      (search (waiting.the_sync, envelope-send, sendable) depth 20, tt),
     ),
   ),
 )
+
+-- ---- the outboxes that threads share
+
+pub shared-outboxes-send : IsSend SharedOutboxes.the_row
+shared-outboxes-send = declared_send SharedOutboxes.the_type (search (waiting.the_send, outboxes-send, crosses, sendable) depth 20, tt)
+
+pub shared-outboxes-sync : IsSync SharedOutboxes.the_row
+shared-outboxes-sync = declared_sync SharedOutboxes.the_type (search (waiting.the_sync, outboxes-send, crosses, sendable) depth 20, tt)

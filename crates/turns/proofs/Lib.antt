@@ -13,4 +13,6 @@ mod Batches
 mod Added
 mod Ran
 mod Carrying
+mod Lent
+mod Working
 pub mod Crossing

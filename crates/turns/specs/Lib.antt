@@ -15,3 +15,4 @@ pub use Rattle.service.specs.Jobs
 pub use Rattle.service.specs.Running
 pub use Rattle.service.specs.Hands
 pub mod shared_waiting
+pub mod SharedOutboxes

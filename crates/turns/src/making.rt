@@ -8,11 +8,9 @@ use crate::worker::Worker;
 use affinity::Layout;
 use depot::{Depot, Seat};
 use nfs_values::Verifier;
-use outboxes::Outboxes;
 use parcels::Hand;
 use service::{BatchInHand, Service};
 use std::alloc::{AllocError, Global};
-use std::sync::Mutex;
 
 impl Filer {
     ghost use Rattle.std.specs.Prelude.{◌≡◌, Some, IfOk};
@@ -56,13 +54,6 @@ impl Filer {
         ensures { result.now ≡ self.now.waiting }
     {
         &self.waiting
-    }
-
-    /// The replies that wait for its connections.
-    pub fn outboxes(&self) -> &Mutex<Outboxes>
-        ensures { result.now ≡ self.now.outboxes }
-    {
-        &self.outboxes
     }
 }
 

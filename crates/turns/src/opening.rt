@@ -15,11 +15,9 @@ use affinity::Layout;
 use depot::{Depot, Seat};
 use filer_state::opening_parcels;
 use nfs_values::Verifier;
-use outboxes::Outboxes;
 use parcels::SerialNode;
 use service::Service;
 use std::alloc::{AllocError, Global};
-use std::sync::Mutex;
 
 /// A filer of a layout, with the write verifier of the run (writeverf3, RFC 1813 section 3.3.7),
 /// and its first seat and pass: each is the only one, and has done nothing.
@@ -49,7 +47,6 @@ pub(crate) fn open(
         verifier,
         depot,
         waiting,
-        outboxes: Mutex::new(Outboxes::new(alloc)),
     };
     Ok((filer, seat, pass))
 }

@@ -5,19 +5,15 @@ use crate::shared_waiting::SharedWaiting;
 use affinity::Layout;
 use depot::Depot;
 use nfs_values::Verifier;
-use outboxes::Outboxes;
 use service::Service;
 use std::alloc::Global;
-use std::sync::Mutex;
 
-/// A filer: the parcels of a layout, the messages that wait for its workers, and the replies that
-/// wait for its connections.
+/// A filer: the parcels of a layout, and the messages that wait for its workers.
 pub struct Filer {
     pub(crate) alloc: Global,
     pub(crate) verifier: Verifier,
     pub(crate) depot: Depot<Service>,
     pub(crate) waiting: SharedWaiting<Envelope, Layout>,
-    pub(crate) outboxes: Mutex<Outboxes>,
 }
 
 // By hand, so that crates above have no proof of the drop of each of its parts.
@@ -28,7 +24,6 @@ impl Drop for Filer {
             verifier: _,
             depot: _,
             waiting: _,
-            outboxes: _,
         } = self;
     }
 }
@@ -45,7 +40,6 @@ impl Filer {
             verifier: _,
             depot,
             waiting: _,
-            outboxes: _,
         } = self;
         depot
     }

@@ -1,37 +1,49 @@
 //! A worker's turn, to the outboxes.
 
 ghost use Rattle.std.specs.Prelude.{◌≡◌};
-ghost use Rattle.outboxes.specs.Boxes.{put};
-ghost use Rattle.turns.specs.Works.{IsToldAs};
+ghost use Rattle.turns.specs.SharedOutboxes.{IsOf};
+ghost use Rattle.turns.specs.Works.{HasPutAnswer, IsToldAs};
+ghost use Rattle.turns.specs.shared_waiting.Passes.{known};
 
 use crate::answer::Answer;
 use crate::shared::Filer;
+use crate::shared_outboxes::{OutboxesPass, SharedOutboxes};
 use crate::turned::{Gate, Turn};
 use crate::worked::Worked;
 use crate::worker::Worker;
 use nfs_values::{ConnectionNumber, Moment};
-use outboxes::Outboxes;
 use std::sync::Wait;
 
 /// Puts an answer behind what waits for its connection. Answers which that is.
-fn deliver(outboxes: &mut Outboxes, answer: Answer) -> ConnectionNumber
+fn deliver<R: Wait>(
+    outboxes: &SharedOutboxes,
+    rt: &R,
+    pass: &mut OutboxesPass,
+    answer: Answer,
+) -> ConnectionNumber
+    requires { IsOf outboxes.now pass.old }
+    ensures of { IsOf outboxes.now pass.new }
     ensures connection { result.0 ≡ answer.connection }
-    ensures put { outboxes.new ≡ put answer outboxes.old }
+    ensures put { HasPutAnswer (known pass.old) answer (known pass.new) }
 {
     let connection = answer.connection();
-    answer.put_into(outboxes);
+    outboxes.put(rt, pass, answer);
     connection
 }
 
 /// What is told of a turn, whose answer is put if there is one.
-fn put_answer<R: Wait>(filer: &Filer, rt: &R, turn: Turn) -> Worked
-    ensures { IsToldAs turn result }
+fn put_answer<R: Wait>(
+    outboxes: &SharedOutboxes,
+    rt: &R,
+    pass: &mut OutboxesPass,
+    turn: Turn,
+) -> Worked
+    requires { IsOf outboxes.now pass.old }
+    ensures of { IsOf outboxes.now pass.new }
+    ensures told { IsToldAs turn (known pass.old) result (known pass.new) }
 {
     match turn {
-        Turn::Done(answer) => {
-            let mut outboxes = filer.outboxes.lock(rt);
-            Worked::Done(deliver(&mut outboxes, answer))
-        }
+        Turn::Done(answer) => Worked::Done(deliver(outboxes, rt, pass, answer)),
         Turn::Moved => Worked::Moved,
         Turn::Busy { node, word } => Worked::Busy { node, word },
         Turn::Worn => Worked::Worn,
@@ -40,28 +52,34 @@ fn put_answer<R: Wait>(filer: &Filer, rt: &R, turn: Turn) -> Worked
 }
 
 impl Worker {
-    ghost use Rattle.std.specs.Prelude.{◌≡◌};
+    ghost use Rattle.turns.specs.SharedOutboxes.{HasLentShareOf};
     ghost use Rattle.turns.specs.Turns.{HasShareOf};
     ghost use Rattle.turns.specs.Words.{layout_in, passed, seats_in, IsIn};
     ghost use Rattle.turns.specs.Works.{HasWorked};
 
-    /// A turn whose answer, if there is one, is put behind what waits for its connection in the
-    /// filer's outboxes. What lies under their lock no clause can tell, once it is given back.
+    /// A turn whose answer, if there is one, is put behind what waits for its connection: by the
+    /// pass the outboxes are taken out, and given back with this answer put.
     pub fn worker_turn<R: Wait, G: Gate>(
         self,
         filer: &Filer,
+        outboxes: &SharedOutboxes,
+        pass: &mut OutboxesPass,
         rt: &R,
         gate: &G,
         moment: Moment,
     ) -> (Worker, Worked)
-        requires { IsIn filer.now self }
+        requires inside { IsIn filer.now self }
+        requires of { IsOf outboxes.now pass.old }
         ensures inside { IsIn filer.now result.0 }
-        ensures worked { HasWorked (layout_in filer.now) self moment result.1 result.0 }
+        ensures of { IsOf outboxes.now pass.new }
+        ensures worked { HasWorked (layout_in filer.now) self moment (known pass.old)
+            result.1 result.0 (known pass.new) }
+        ensures lent { HasLentShareOf (known pass.old) (known pass.new) }
         ensures share { HasShareOf (passed self) (passed result.0) }
         ensures seats { seats_in result.0 ≡ seats_in self }
         ensures hand { result.0.hand ≡ self.hand }
     {
         let (worker, turn) = self.turn(filer, rt, gate, moment);
-        (worker, put_answer(filer, rt, turn))
+        (worker, put_answer(outboxes, rt, pass, turn))
     }
 }

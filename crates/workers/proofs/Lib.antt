@@ -6,3 +6,4 @@ mod Drained
 pub mod Joins
 mod Sharing
 mod Closes
+mod Lending

@@ -4,12 +4,14 @@ use Rattle.std.specs.Arc.{arc_value}
 use Rattle.depot_rule.specs.Sums.{total}
 use Rattle.workers.specs.declared.pool.Pool.{Pool}
 use Rattle.workers.specs.Shares.{FilerPass, entries_by, picks_by, puts_by, share_in}
-use Rattle.workers.specs.Threads.{Thread, seats_with, share_with, started_with}
+use Rattle.workers.specs.Threads.{Thread, lent_share_with, seats_with, share_with, started_with, HasLentBack}
 use Rattle.turns.specs.shared_waiting.Balance.{part}
 use Rattle.turns.specs.shared_waiting.Passes.{known}
 use Rattle.turns.specs.Balance.{FilerEntry}
 use Rattle.turns.specs.declared.message.Message.{Message}
 use Rattle.turns.specs.declared.shared.Filer.{Filer}
+use Rattle.turns.specs.declared.shared_outboxes.SharedOutboxes.{SharedOutboxes}
+use Rattle.turns.specs.SharedOutboxes.{OutboxesPass}
 
 -- its threads
 abbrev pub threads_of : Pool → List Thread
@@ -17,7 +19,11 @@ threads_of pool = pool.threads.items
 
 -- the filer whose calls they run
 abbrev pub filer_of : Pool → Filer
-filer_of pool = arc_value pool.filer
+filer_of pool = arc_value pool.commons.filer
+
+-- the outboxes that they put their answers into
+abbrev pub outboxes_of : Pool → SharedOutboxes
+outboxes_of pool = arc_value pool.commons.outboxes
 
 -- Each of so many threads was started with a worker. Between them these had all the seats of one seat and all the share of one pass in
 -- the right to know the queue, and what the seat had finished, and the pass had put and picked, each once: so their seats and passes
@@ -34,3 +40,12 @@ pub record HasBetween (splits : ℕ) (finished : List FilerEntry) (pass : FilerP
 abbrev pub HasAllWith : Pool → List FilerPass → Type 0
 HasAllWith pool passes = (level : ℕ)
     × ((k : ℕ) → level ≤ k → total (share_with k) (threads_of pool) + total (share_in k) passes ≡ 2 ^ k)
+
+-- So many threads, and the pool, have between them all that one pass had of the right to know the outboxes.
+abbrev pub HasLentBetween : OutboxesPass → ℕ → Pool → Type 0
+HasLentBetween pass many pool = (k : ℕ) → (known pass).halvings + many ≤ k
+    → part k (known pool.pass) + total (lent_share_with k) (threads_of pool) ≡ part k (known pass)
+
+-- all that they have, in one pass
+abbrev pub HasLentAllOf : Pool → OutboxesPass → Type 0
+HasLentAllOf pool pass = HasLentBack pool.pass (threads_of pool) pass

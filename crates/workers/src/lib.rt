@@ -6,6 +6,7 @@
 mod carried;
 mod closing;
 mod collecting;
+mod commons;
 mod draining;
 mod ended;
 mod everything;
@@ -15,6 +16,7 @@ mod left;
 mod moments;
 mod patience;
 mod pool;
+mod pool_worker;
 mod refusal;
 mod room;
 mod round;

@@ -3,9 +3,11 @@
 ghost use Rattle.std.specs.Prelude.{◌≡◌, ◌≤◌, [], All, IfOk, vec_len, vec_capacity};
 ghost use Rattle.std.specs.Arc.{arc_value};
 ghost use Rattle.depot_rule.specs.Sums.{total};
-ghost use Rattle.workers.specs.Threads.{seats_with, ServesIn};
+ghost use Rattle.workers.specs.Threads.{seats_with, PutsInto, ServesIn};
+ghost use Rattle.turns.specs.SharedOutboxes.{IsOf};
 
 use crate::collecting::collect;
+use crate::commons::Commons;
 use crate::everything::gather;
 use crate::left::Left;
 use crate::refusal::StartRefusal;
@@ -21,22 +23,25 @@ use std::rt::Clock;
 use std::sync::{Arc, Wait};
 use std::thread::Threads;
 use turns::shared_waiting::Pass;
-use turns::{Envelope, Filer, Gate, Service, Worker};
+use turns::{Envelope, Filer, Gate, OutboxesPass, Service, SharedOutboxes, Worker};
 
 /// The most threads of a pool.
 const MOST_THREADS: usize = 64;
 
 /// Threads, each of which runs a worker of a filer, and room for all that they leave. They have all
-/// seats of the filer's depot between them. Dropped without `stop`, they run on.
+/// seats of the filer's depot between them, and put their answers into the same outboxes. Dropped
+/// without `stop`, they run on.
 pub struct Pool {
-    filer: Arc<Filer>,
-    stop: Arc<StopWord>,
+    commons: Commons,
     threads: Vec<Thread>,
     workers: Vec<Worker>,
+    pass: OutboxesPass,
     room: Room,
     ghost none_back: { workers.items ≡ [] },
     ghost for_all: { vec_len threads ≤ vec_capacity workers },
-    ghost serve: { All (ServesIn (arc_value filer)) threads.items },
+    ghost serve: { All (ServesIn (arc_value commons.filer)) threads.items },
+    ghost put: { All (PutsInto (arc_value commons.outboxes)) threads.items },
+    ghost of: { IsOf (arc_value commons.outboxes) pass },
     ghost seats: { total seats_with threads.items ≡ 64 },
 }
 
@@ -44,10 +49,10 @@ pub struct Pool {
 impl Drop for Pool {
     fn drop(self) {
         let Pool {
-            filer: _,
-            stop: _,
+            commons: _,
             threads: _,
             workers: _,
+            pass: _,
             room: _,
         } = self;
     }
@@ -56,16 +61,20 @@ impl Drop for Pool {
 /// What a pool has beside its workers.
 #[derive(Drop)]
 struct Supplies {
-    filer: Arc<Filer>,
-    stop: Arc<StopWord>,
+    commons: Commons,
     threads: Vec<Thread>,
     workers: Vec<Worker>,
     room: Room,
 }
 
 /// What a pool has beside its workers, before it starts.
-fn supply(alloc: Global, filer: &Arc<Filer>) -> Result<Supplies, AllocError>
-    ensures filer { IfOk result (λ s. arc_value s.filer ≡ arc_value filer.now) }
+fn supply(
+    alloc: Global,
+    filer: &Arc<Filer>,
+    outboxes: &Arc<SharedOutboxes>,
+) -> Result<Supplies, AllocError>
+    ensures filer { IfOk result (λ s. arc_value s.commons.filer ≡ arc_value filer.now) }
+    ensures outboxes { IfOk result (λ s. arc_value s.commons.outboxes ≡ arc_value outboxes.now) }
     ensures none { IfOk result (λ s. (s.threads.items ≡ []) × (s.workers.items ≡ [])) }
     ensures room { IfOk result (λ s. (64 ≤ vec_capacity s.threads)
         × (64 ≤ vec_capacity s.workers)) }
@@ -73,9 +82,13 @@ fn supply(alloc: Global, filer: &Arc<Filer>) -> Result<Supplies, AllocError>
     let Ok(stop) = Arc::new(alloc, StopWord::new()) else {
         return Err(AllocError);
     };
-    Ok(Supplies {
+    let commons = Commons {
         filer: filer.clone()?,
+        outboxes: outboxes.clone()?,
         stop,
+    };
+    Ok(Supplies {
+        commons,
         threads: Vec::with_capacity(alloc, MOST_THREADS)?,
         workers: Vec::with_capacity(alloc, MOST_THREADS)?,
         room: Room::new(alloc)?,
@@ -87,23 +100,28 @@ impl Pool {
     ghost use Rattle.depot.specs.Words.{view, splits_left, HasNoGrant, IsSeatHere};
     ghost use Rattle.depot_rule.specs.History.{entries_of, AreHands};
     ghost use Rattle.workers.specs.Gathered.{calls_by, IsLeftOf};
-    ghost use Rattle.workers.specs.Pools.{filer_of, HasBetween, HasAllWith};
+    ghost use Rattle.workers.specs.Pools.{filer_of, outboxes_of, HasBetween, HasAllWith};
+    ghost use Rattle.workers.specs.Pools.{HasLentAllOf, HasLentBetween};
     ghost use Rattle.workers.specs.Shares.{put_by, picked_by};
     ghost use Rattle.turns.specs.Balance.{IsEven, Weight};
     ghost use Rattle.turns.specs.Jobs.{job_takes, job_gives};
     ghost use Rattle.turns.specs.Words.{layout_in, layout_known, verifier_in, HasOpened};
-    ghost use Rattle.turns.specs.shared_waiting.Passes.{known, IsOf};
+    ghost use Rattle.turns.specs.shared_waiting.Passes as queues;
+    ghost use Rattle.turns.specs.shared_waiting.Passes.{known};
 
     /// Starts 1 to 64 threads, each with a worker. Their seats and passes are the seat and the pass
-    /// that are handed in, or split from these, and none is left over. Where a thread can't be
-    /// started all that were have ended; of the filer nothing can be done then but to drop it.
+    /// that are handed in, or split from these, and none is left over; so are the passes by which
+    /// they put their answers into the outboxes, of which the pool keeps one. Where a thread can't
+    /// be started all that were have ended; of the filer nothing can be done then but to drop it.
     pub fn start<R, G>(
         rt: R,
         alloc: Global,
         filer: &Arc<Filer>,
+        outboxes: &Arc<SharedOutboxes>,
         gate: &G,
         seat: Seat<Service>,
         pass: Pass<Envelope, Layout>,
+        lent: OutboxesPass,
         count: usize,
     ) -> Result<Pool, StartRefusal>
     where
@@ -114,38 +132,40 @@ impl Pool {
             × (splits_left seat ≡ 63) }
         requires opened { HasOpened (layout_in (arc_value filer.now))
             (verifier_in (arc_value filer.now)) (view seat) }
-        requires pass { IsOf (arc_value filer.now).waiting pass
+        requires pass { queues.IsOf (arc_value filer.now).waiting pass
             × (layout_known (known pass) ≡ Some (layout_in (arc_value filer.now))) }
+        requires lent { IsOf (arc_value outboxes.now) lent }
         requires balance { IsEven (known pass) (entries_of (view seat)) None }
         requires in_hand { AreHands job_takes job_gives (entries_of (view seat)) [] }
         requires none_open { HasNoGrant seat }
         ensures filer { IfOk result (λ pool. filer_of pool ≡ arc_value filer.now) }
         ensures workers { IfOk result
             (λ pool. HasBetween (splits_left seat) (entries_of (view seat)) pass count pool) }
+        ensures outboxes { IfOk result (λ pool. outboxes_of pool ≡ arc_value outboxes.now) }
+        ensures lent { IfOk result (HasLentBetween lent count) }
     {
-        let Ok(supplies) = supply(alloc, filer) else {
+        let Ok(supplies) = supply(alloc, filer, outboxes) else {
             return Err(StartRefusal::NoMemory);
         };
         let Supplies {
-            filer: shared,
-            stop,
+            commons,
             mut threads,
             workers,
             room,
         } = supplies;
         let worker = first_worker(filer, seat, pass);
         let mut workers = split_workers(filer, worker, count, workers);
-        match start_all(rt, filer, &stop, gate, &mut workers, &mut threads) {
-            None => Ok(Pool {
-                filer: shared,
-                stop,
+        match start_all(rt, &commons, gate, &mut workers, lent, &mut threads) {
+            (pass, None) => Ok(Pool {
+                commons,
                 threads,
                 workers,
+                pass,
                 room,
             }),
-            Some(refusal) => {
-                stop.set();
-                let _lost = collect(&rt, threads, workers);
+            (pass, Some(refusal)) => {
+                commons.stop.set();
+                let _lost = collect(&rt, &commons.outboxes, pass, threads, workers);
                 Err(refusal)
             }
         }
@@ -153,24 +173,31 @@ impl Pool {
 
     /// Stops the threads, and gathers what their workers leave. With the passes of those that only
     /// put messages the workers have the whole right to know the queue: what was put by these very
-    /// passes is, as often, finished, kept or there.
-    pub fn stop<R: Threads + Wait>(self, rt: &R, passes: Vec<Pass<Envelope, Layout>>) -> Left
-        requires passes { All (IsOf (filer_of self).waiting) passes.items }
+    /// passes is, as often, finished, kept or there. The pass of the outboxes comes back, with all
+    /// that the pool had of the right to know these.
+    pub fn stop<R: Threads + Wait>(
+        self,
+        rt: &R,
+        passes: Vec<Pass<Envelope, Layout>>,
+    ) -> (Left, OutboxesPass)
+        requires passes { All (queues.IsOf (filer_of self).waiting) passes.items }
         requires whole { HasAllWith self passes.items }
         requires readers { (weight : Weight) → total (picked_by weight) passes.items ≡ 0 }
-        ensures left { IsLeftOf (filer_of self) result }
+        ensures left { IsLeftOf (filer_of self) result.0 }
         ensures calls { (weight : Weight)
-            → total (put_by weight) passes.items ≡ calls_by weight result }
+            → total (put_by weight) passes.items ≡ calls_by weight result.0 }
+        ensures of { IsOf (outboxes_of self) result.1 }
+        ensures lent { HasLentAllOf self result.1 }
     {
         let Pool {
-            filer,
-            stop,
+            commons,
             threads,
             workers,
+            pass,
             room,
         } = self;
-        stop.set();
-        let workers = collect(rt, threads, workers);
-        gather(&filer, rt, workers, passes, room)
+        commons.stop.set();
+        let (workers, pass) = collect(rt, &commons.outboxes, pass, threads, workers);
+        (gather(&commons.filer, rt, workers, passes, room), pass)
     }
 }

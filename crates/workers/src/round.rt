@@ -1,7 +1,9 @@
 //! A round of a worker's thread.
 
 ghost use Rattle.workers.specs.Heirs.{IsHeir};
+ghost use Rattle.turns.specs.SharedOutboxes.{HasLentShareOf, IsOf};
 ghost use Rattle.turns.specs.Words.{IsIn};
+ghost use Rattle.turns.specs.shared_waiting.Passes.{known};
 
 use crate::patience::Patience;
 use crate::tending::{Found, Tending, tend};
@@ -9,7 +11,7 @@ use nfs_values::Moment;
 use std::rt::Clock;
 use std::sync::Wait;
 use std::time::Duration;
-use turns::{Filer, Gate, Worked, Worker};
+use turns::{Filer, Gate, OutboxesPass, SharedOutboxes, Worked, Worker};
 
 /// How long a thread naps that found nothing to do, in milliseconds.
 const NAP: u64 = 1;
@@ -71,16 +73,21 @@ fn rest<R: Clock>(rt: &R, filer: &Filer, worker: Worker, state: &mut RoundState)
 pub(crate) fn round<R: Wait + Clock, G: Gate>(
     rt: &R,
     filer: &Filer,
+    outboxes: &SharedOutboxes,
     gate: &G,
     worker: Worker,
+    pass: &mut OutboxesPass,
     moment: Moment,
     state: &mut RoundState,
 ) -> Worker
-    requires { IsIn filer.now worker }
+    requires inside { IsIn filer.now worker }
+    requires of { IsOf outboxes.now pass.old }
     ensures inside { IsIn filer.now result }
+    ensures of { IsOf outboxes.now pass.new }
     ensures heir { IsHeir worker result }
+    ensures lent { HasLentShareOf (known pass.old) (known pass.new) }
 {
-    let (worker, worked) = worker.worker_turn(filer, rt, gate, moment);
+    let (worker, worked) = worker.worker_turn(filer, outboxes, pass, rt, gate, moment);
     match worked {
         Worked::Done(_connection) => {
             state.patience = Patience::new();

@@ -1,29 +1,33 @@
 //! The loop of a worker's thread.
 
-ghost use Rattle.workers.specs.Heirs.{IsHeir};
-ghost use Rattle.turns.specs.Words.{IsIn};
+ghost use Rattle.workers.specs.Heirs.{IsPoolHeir, ServesAt};
 
 use crate::moments::time_now;
+use crate::pool_worker::PoolWorker;
 use crate::round::{RoundState, round};
 use crate::stop_word::StopWord;
 use nfs_values::Moment;
 use std::rt::Clock;
 use std::sync::Wait;
-use turns::{Filer, Gate, Worker};
+use turns::{Filer, Gate, SharedOutboxes};
 
 /// Runs a worker, round for round, until its thread is told to stop.
 pub(crate) fn serve<R: Wait + Clock, G: Gate>(
     rt: &R,
     filer: &Filer,
+    outboxes: &SharedOutboxes,
     stop: &StopWord,
     gate: &G,
-    worker: Worker,
-) -> Worker
-    requires { IsIn filer.now worker }
-    ensures inside { IsIn filer.now result }
-    ensures heir { IsHeir worker result }
+    work: PoolWorker,
+) -> PoolWorker
+    requires { ServesAt filer.now outboxes.now work }
+    ensures at { ServesAt filer.now outboxes.now result }
+    ensures heir { IsPoolHeir work result }
 {
-    let mut worker = worker;
+    let PoolWorker {
+        mut worker,
+        mut pass,
+    } = work;
     let mut state = RoundState::new();
     let mut moment = Moment::START;
     for _ in rt.forever() {
@@ -31,7 +35,7 @@ pub(crate) fn serve<R: Wait + Clock, G: Gate>(
             break;
         }
         moment = time_now(rt, moment);
-        worker = round(rt, filer, gate, worker, moment, &mut state);
+        worker = round(rt, filer, outboxes, gate, worker, &mut pass, moment, &mut state);
     }
-    worker
+    PoolWorker { worker, pass }
 }

@@ -2,57 +2,55 @@
 
 ghost use Rattle.std.specs.Prelude.{◌≡◌, IfOk};
 ghost use Rattle.std.specs.Arc.{arc_value};
-ghost use Rattle.workers.specs.Heirs.{IsHeir};
-ghost use Rattle.turns.specs.Words.{IsIn};
+ghost use Rattle.workers.specs.Heirs.{IsPoolHeir, ServesAt};
 
+use crate::commons::Commons;
+use crate::pool_worker::PoolWorker;
 use crate::refusal::StartRefusal;
 use crate::serving::serve;
-use crate::stop_word::StopWord;
 use std::rt::Clock;
 use std::snapshot::Snapshot;
 use std::sync::{Arc, Wait};
 use std::thread;
 use std::thread::{Promise, PromisedHandle, Threads};
-use turns::{Filer, Gate, Worker};
+use turns::{Filer, Gate, SharedOutboxes};
 
 /// A worker, and what it shares with others.
 #[derive(Drop)]
 pub(crate) struct Task {
-    pub(crate) filer: Arc<Filer>,
-    pub(crate) stop: Arc<StopWord>,
-    pub(crate) worker: Worker,
+    pub(crate) commons: Commons,
+    pub(crate) work: PoolWorker,
 }
 
 /// The worker that comes back is of the same filer, and has the seats and the share of the right
-/// to know the queue that this one has.
+/// to know the queue that this one has; and its pass is of the same outboxes, with as much of the
+/// right to know these.
 #[derive(Drop)]
 pub struct Serves {
     pub filer: Snapshot<Arc<Filer>>,
-    pub worker: Snapshot<Worker>,
+    pub outboxes: Snapshot<Arc<SharedOutboxes>>,
+    pub work: Snapshot<PoolWorker>,
 }
 
-impl Promise<Worker> for Serves {
+impl Promise<PoolWorker> for Serves {
     ghost use Rattle.std.specs.Arc.{arc_value};
-    ghost use Rattle.workers.specs.Heirs.{IsHeir};
-    ghost use Rattle.turns.specs.Words.{IsIn};
+    ghost use Rattle.workers.specs.Heirs.{IsPoolHeir, ServesAt};
 
-    ghost kept_by = { λ p w. IsIn (arc_value p.filer.value) w × IsHeir p.worker.value w };
+    ghost kept_by = { λ p w. ServesAt (arc_value p.filer.value) (arc_value p.outboxes.value) w
+        × IsPoolHeir p.work.value w };
 }
 
 /// A thread that runs a worker, and gives it back.
-pub(crate) type Thread = PromisedHandle<Worker, Serves>;
+pub(crate) type Thread = PromisedHandle<PoolWorker, Serves>;
 
 /// Runs the worker until its thread is told to stop.
-fn run<R: Wait + Clock, G: Gate>(rt: &R, gate: &G, task: Task) -> Worker
-    requires { IsIn (arc_value task.filer) task.worker }
-    ensures { IsIn (arc_value task.filer) result × IsHeir task.worker result }
+fn run<R: Wait + Clock, G: Gate>(rt: &R, gate: &G, task: Task) -> PoolWorker
+    requires { ServesAt (arc_value task.commons.filer) (arc_value task.commons.outboxes) task.work }
+    ensures at { ServesAt (arc_value task.commons.filer) (arc_value task.commons.outboxes) result }
+    ensures heir { IsPoolHeir task.work result }
 {
-    let Task {
-        filer,
-        stop,
-        worker,
-    } = task;
-    serve(rt, &filer, &stop, gate, worker)
+    let Task { commons, work } = task;
+    serve(rt, &commons.filer, &commons.outboxes, &commons.stop, gate, work)
 }
 
 /// Starts a thread for a worker, where one can be made.
@@ -60,20 +58,25 @@ pub(crate) fn start_one<R, G>(rt: R, gate: G, task: Task) -> Result<Thread, Star
 where
     R: Threads + Wait + Clock + Copy + Drop + Send + 'static,
     G: Gate + Drop + Send + 'static,
-    requires { IsIn (arc_value task.filer) task.worker }
-    ensures { IfOk result (λ thread. (thread.promise.filer.value ≡ task.filer)
-        × (thread.promise.worker.value ≡ task.worker)) }
+    requires { ServesAt (arc_value task.commons.filer) (arc_value task.commons.outboxes) task.work }
+    ensures filer { IfOk result (λ thread. thread.promise.filer.value ≡ task.commons.filer) }
+    ensures outboxes { IfOk result
+        (λ thread. thread.promise.outboxes.value ≡ task.commons.outboxes) }
+    ensures work { IfOk result (λ thread. thread.promise.work.value ≡ task.work) }
 {
     let promise = Serves {
-        filer: Snapshot::of(&task.filer),
-        worker: Snapshot::of(&task.worker),
+        filer: Snapshot::of(&task.commons.filer),
+        outboxes: Snapshot::of(&task.commons.outboxes),
+        work: Snapshot::of(&task.work),
     };
     let started = thread::spawn_with(
         &rt,
         promise,
-        move || -> Worker
-            requires { IsIn (arc_value task.filer) task.worker }
-            ensures { IsIn (arc_value task.filer) result × IsHeir task.worker result }
+        move || -> PoolWorker
+            requires { ServesAt (arc_value task.commons.filer) (arc_value task.commons.outboxes)
+                task.work }
+            ensures { ServesAt (arc_value task.commons.filer) (arc_value task.commons.outboxes)
+                result × IsPoolHeir task.work result }
         {
             let task = task;
             run(&rt, &gate, task)

@@ -1,13 +1,15 @@
 //! A worker of a filer.
 
+use crate::mail::Mail;
 use std::marker::Model;
 use turns::{Filer, Worker};
 
-/// A worker, with the filer that it is of. Its value is what is in its hand.
+/// A worker, with the filer that it is of, and its outboxes. Its value is what is in its hand.
 #[derive(Drop)]
 pub(crate) struct FilerWorker<'a> {
     pub(crate) filer: &'a Filer,
     pub(crate) worker: Worker,
+    pub(crate) mail: Mail,
 }
 
 impl<'a> Model for FilerWorker<'a> {

@@ -94,7 +94,7 @@ fn filled<'a, R: Abort + AllocGlobal + Wait>(
             same(rt, &came, &wanted);
             worker = next;
         }
-        drop(worker.filer.outboxes().lock(rt).take(connection));
+        drop(worker.mail.take(rt, connection));
     }
     worker
 }
@@ -137,7 +137,7 @@ fn overwritten<'a, R: Abort + AllocGlobal + Wait>(
 /// Looks at the replies to both overwrites.
 fn replied<R: Abort + AllocGlobal + Wait>(
     rt: &R,
-    worker: &FilerWorker,
+    worker: &mut FilerWorker,
     connection: ConnectionNumber,
     writes: [Write; 2],
 ) {
@@ -145,7 +145,7 @@ fn replied<R: Abort + AllocGlobal + Wait>(
     let results = [0, 0, 0, 1, 2, 0x0909_0909, 0x0909_0909];
     for xid in [inner.xid, outer.xid] {
         let words: [&[u32]; 3] = [&[mark(52), xid], &ACCEPTED, &results];
-        answered(rt, worker.filer, connection, &words);
+        answered(rt, worker, connection, &words);
     }
 }
 
@@ -162,14 +162,12 @@ fn shown<'a, R: Abort + AllocGlobal + Wait>(
     reader: &mut Reader<'a>,
     connection: ConnectionNumber,
 ) -> FilerWorker<'a> {
-    let filer = worker.filer;
     let call = Call::GetAttributes {
         handle: handle(0, 2),
     };
-    let worker = served(rt, worker, reader, record_of(connection, 6), at(10), call);
+    let mut worker = served(rt, worker, reader, record_of(connection, 6), at(10), call);
     let words: [&[u32]; 4] = [&[mark(112), 6], &ACCEPTED, &[0], &SHOWN];
-    answered(rt, filer, connection, &words);
-    let mut worker = worker;
+    answered(rt, &mut worker, connection, &words);
     for (xid, offset, end, byte) in [(7, 0, 0, 0x6300_0000), (8, SECOND_SPAN, 1, 0x6400_0000)] {
         let call = Call::Read {
             handle: handle(0, 2),
@@ -178,7 +176,7 @@ fn shown<'a, R: Abort + AllocGlobal + Wait>(
         };
         worker = served(rt, worker, reader, record_of(connection, xid), at(10), call);
         let words: [&[u32]; 3] = [&[mark(48), xid], &ACCEPTED, &[0, 0, 1, end, 1, byte]];
-        answered(rt, filer, connection, &words);
+        answered(rt, &mut worker, connection, &words);
     }
     worker
 }
@@ -188,15 +186,15 @@ fn overwrites<R: Abort + AllocGlobal + Wait>(rt: &R, writes: [Write; 2]) {
     let opened = open_filer(rt.alloc(), Volumes::Alike);
     let (filer, worker, pass, _other) = opened.expect(rt, "no memory");
     let Started {
-        first,
+        mut first,
         second,
         mut reader,
-    } = start_workers(&filer, worker, pass);
-    let connection = open(rt, &filer);
+    } = start_workers(rt, rt.alloc(), &filer, worker, pass).expect(rt, "no memory");
+    let connection = open(rt, &mut first);
     let first = created(rt, first, &mut reader, connection);
     let first = filled(rt, first, &mut reader, connection);
-    let first = overwritten(rt, (first, second), &mut reader, connection, writes);
-    replied(rt, &first, connection, writes);
+    let mut first = overwritten(rt, (first, second), &mut reader, connection, writes);
+    replied(rt, &mut first, connection, writes);
     let first = shown(rt, first, &mut reader, connection);
     mem::forget((first, reader));
     mem::forget(filer);

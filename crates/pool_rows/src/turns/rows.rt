@@ -21,7 +21,7 @@ use std::fmt::Debug;
 use std::mem;
 use std::process::Abort;
 use std::sync::{Mutex, Wait};
-use turns::{Filer, Tend, Unwatched};
+use turns::{Tend, Unwatched};
 
 /// A moment of whole seconds.
 pub(crate) const fn at(seconds: u32) -> Moment {
@@ -45,20 +45,18 @@ pub(crate) fn same<T: PartialEq + Debug>(rt: &impl Abort, found: &T, wanted: &T)
 }
 
 /// Opens a connection.
-pub(crate) fn open<R: Abort + Wait>(rt: &R, filer: &Filer) -> ConnectionNumber {
-    let number = filer.outboxes().lock(rt).open().ok();
-    number.expect(rt, "no connection")
+pub(crate) fn open<R: Abort + Wait>(rt: &R, worker: &mut FilerWorker) -> ConnectionNumber {
+    worker.mail.open(rt).expect(rt, "no connection")
 }
 
 /// Looks whether the record that waits longest for a connection has these words.
 pub(crate) fn answered<R: Abort + AllocGlobal + Wait>(
     rt: &R,
-    filer: &Filer,
+    worker: &mut FilerWorker,
     connection: ConnectionNumber,
     words: &[&[u32]],
 ) {
-    let taken = filer.outboxes().lock(rt).take(connection);
-    let record = taken.expect(rt, "no record");
+    let record = worker.mail.take(rt, connection).expect(rt, "no record");
     let wanted = bytes_of(rt, words);
     assert_eq!(rt; record.as_slice(), &wanted[..]);
 }
@@ -89,21 +87,21 @@ fn finished_call(rt: HostRuntime) {
         "no memory",
     );
     let Started {
-        first,
+        mut first,
         second,
         mut reader,
-    } = start_workers(&filer, worker, pass);
-    let connection = open(&rt, &filer);
+    } = start_workers(&rt, rt.alloc(), &filer, worker, pass).expect(&rt, "no memory");
+    let connection = open(&rt, &mut first);
     let origin = record_of(connection, 7);
     let call = Call::GetAttributes {
         handle: handle(0, 1),
     };
     let first = served(&rt, first, &mut reader, origin, at(4), call);
-    let (first, idle) = first.turn(&rt, &Unwatched, at(5));
+    let (mut first, idle) = first.turn(&rt, &Unwatched, at(5));
     same(&rt, &idle, &Came::Idle);
     let shown = root_shown(0, 0o755, 0);
     let words: [&[u32]; 4] = [&[mark(112), 7], &ACCEPTED, &[0], &shown];
-    answered(&rt, &filer, connection, &words);
+    answered(&rt, &mut first, connection, &words);
     mem::forget((first, second, reader));
     mem::forget(filer);
 }
@@ -119,8 +117,8 @@ pub(crate) fn created<'a, R: Abort + AllocGlobal + Wait>(
         target: in_root(rt, b"f"),
         mode: CreateMode::Unchecked(UNSET),
     };
-    let worker = served(rt, worker, reader, record_of(connection, 1), at(1), call);
-    drop(worker.filer.outboxes().lock(rt).take(connection));
+    let mut worker = served(rt, worker, reader, record_of(connection, 1), at(1), call);
+    drop(worker.mail.take(rt, connection));
     worker
 }
 
@@ -147,11 +145,11 @@ fn written<'a, R: Abort + AllocGlobal + Wait>(
         same(rt, &came, &Came::Moved);
         worker = next;
     }
-    let (worker, came) = worker.turn(rt, &Unwatched, at(2));
+    let (mut worker, came) = worker.turn(rt, &Unwatched, at(2));
     same(rt, &came, &Came::Done(connection, 2));
     let results = [0, 0, 0, 4, 2, 0x0909_0909, 0x0909_0909];
     let words: [&[u32]; 3] = [&[mark(52), 2], &ACCEPTED, &results];
-    answered(rt, worker.filer, connection, &words);
+    answered(rt, &mut worker, connection, &words);
     worker
 }
 
@@ -164,11 +162,11 @@ fn moved_message(rt: HostRuntime) {
         "no memory",
     );
     let Started {
-        first,
+        mut first,
         second,
         mut reader,
-    } = start_workers(&filer, worker, pass);
-    let connection = open(&rt, &filer);
+    } = start_workers(&rt, rt.alloc(), &filer, worker, pass).expect(&rt, "no memory");
+    let connection = open(&rt, &mut first);
     let first = created(&rt, first, &mut reader, connection);
     let first = written(&rt, first, &mut reader, connection, 2);
     mem::forget((first, second, reader));
@@ -184,11 +182,11 @@ fn two_workers(rt: HostRuntime) {
         "no memory",
     );
     let Started {
-        first,
+        mut first,
         second,
         mut reader,
-    } = start_workers(&filer, worker, pass);
-    let connection = open(&rt, &filer);
+    } = start_workers(&rt, rt.alloc(), &filer, worker, pass).expect(&rt, "no memory");
+    let connection = open(&rt, &mut first);
     for xid in 1..3 {
         let call = Call::GetAttributes {
             handle: handle(0, 1),
@@ -265,11 +263,11 @@ fn tends(rt: HostRuntime) {
         "no memory",
     );
     let Started {
-        first,
+        mut first,
         second,
         mut reader,
-    } = start_workers(&filer, worker, pass);
-    let connection = open(&rt, &filer);
+    } = start_workers(&rt, rt.alloc(), &filer, worker, pass).expect(&rt, "no memory");
+    let connection = open(&rt, &mut first);
     let fetching = [
         (fetch(0, 0), Ok(64)),
         (fetch(0, 0), Err(33)),
@@ -326,28 +324,27 @@ fn try_root<'a, R: Abort + AllocGlobal + Wait>(
     connection: ConnectionNumber,
     volume: u32,
 ) -> FilerWorker<'a> {
-    let filer = worker.filer;
     let start = Some(Moment::START);
     // A mode keeps its low 12 bits.
     let call = mode_set(volume, 1, 0o70_700, start);
     let origin = record_of(connection, 1);
-    let worker = served(rt, worker, reader, origin, at(5), call);
+    let mut worker = served(rt, worker, reader, origin, at(5), call);
     let after = root_shown(volume, 0o700, 5);
     let before = [0, 1, 0, 4_096, 0, 0, 0, 0, 1];
     let words: [&[u32]; 4] = [&[mark(144), 1], &ACCEPTED, &before, &after];
-    answered(rt, filer, connection, &words);
+    answered(rt, &mut worker, connection, &words);
     let call = mode_set(volume, 1, 0, start);
     let origin = record_of(connection, 2);
-    let worker = served(rt, worker, reader, origin, at(6), call);
+    let mut worker = served(rt, worker, reader, origin, at(6), call);
     let words: [&[u32]; 3] = [&[mark(36), 2], &ACCEPTED, &[10_002, 0, 0]];
-    answered(rt, filer, connection, &words);
+    answered(rt, &mut worker, connection, &words);
     let call = Call::GetAttributes {
         handle: handle(volume, 1),
     };
     let origin = record_of(connection, 3);
-    let worker = served(rt, worker, reader, origin, at(7), call);
+    let mut worker = served(rt, worker, reader, origin, at(7), call);
     let words: [&[u32]; 4] = [&[mark(112), 3], &ACCEPTED, &[0], &after];
-    answered(rt, filer, connection, &words);
+    answered(rt, &mut worker, connection, &words);
     worker
 }
 
@@ -359,20 +356,20 @@ fn modes_of_roots(rt: HostRuntime) {
         "no memory",
     );
     let Started {
-        first,
+        mut first,
         second,
         mut reader,
-    } = start_workers(&filer, worker, pass);
-    let connection = open(&rt, &filer);
+    } = start_workers(&rt, rt.alloc(), &filer, worker, pass).expect(&rt, "no memory");
+    let connection = open(&rt, &mut first);
     let mut worker = first;
     for volume in 0..2 {
         worker = try_root(&rt, worker, &mut reader, connection, volume);
     }
     let origin = record_of(connection, 4);
     let call = mode_set(1, 5, 0, None);
-    let worker = served(&rt, worker, &mut reader, origin, at(8), call);
+    let mut worker = served(&rt, worker, &mut reader, origin, at(8), call);
     let words: [&[u32]; 3] = [&[mark(36), 4], &ACCEPTED, &[70, 0, 0]];
-    answered(&rt, &filer, connection, &words);
+    answered(&rt, &mut worker, connection, &words);
     let call = Call::GetAttributes {
         handle: handle(2, 1),
     };

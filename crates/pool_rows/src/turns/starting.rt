@@ -4,9 +4,12 @@ ghost use Rattle.std.specs.Prelude.{◌<◌};
 ghost use Rattle.pool_rows.specs.Threads.{IsReaderOf};
 ghost use Rattle.turns.specs.Words.{seats_in, IsIn};
 
+use crate::opening::open_mails;
 use crate::putting::FilerPass;
 use crate::turns::filer_worker::FilerWorker;
 use crate::turns::reader::Reader;
+use std::alloc::{AllocError, Global};
+use std::sync::Wait;
 use turns::{Filer, Worker};
 
 /// Two workers, and who puts messages for them.
@@ -18,21 +21,30 @@ pub(crate) struct Started<'a> {
 }
 
 /// Two workers of one, and who puts messages for them.
-pub(crate) fn start_workers<'a>(filer: &'a Filer, worker: Worker, pass: FilerPass) -> Started<'a>
+pub(crate) fn start_workers<'a, R: Wait>(
+    rt: &R,
+    alloc: Global,
+    filer: &'a Filer,
+    worker: Worker,
+    pass: FilerPass,
+) -> Result<Started<'a>, AllocError>
     requires inside { IsIn filer.now worker }
     requires some { 1 < seats_in worker }
     requires reader { IsReaderOf filer.now pass }
 {
+    let (mail, other) = open_mails(rt, alloc)?;
     let (first, second) = worker.split(filer);
-    Started {
+    Ok(Started {
         first: FilerWorker {
             filer,
             worker: first,
+            mail,
         },
         second: FilerWorker {
             filer,
             worker: second,
+            mail: other,
         },
         reader: Reader { filer, pass },
-    }
+    })
 }

@@ -2,6 +2,7 @@
 
 ghost use Rattle.turns.specs.Running.{IsRun};
 
+use crate::mail::Mail;
 use crate::putting::put;
 use crate::turns::came::Came;
 use crate::turns::filer_worker::FilerWorker;
@@ -10,14 +11,14 @@ use nfs_values::{Call, Moment};
 use scheduler::Origin;
 use std::alloc::Global;
 use std::sync::Wait;
-use turns::{Filer, Gate, Tend, TendRefusal, Turn};
+use turns::{Gate, Tend, TendRefusal, Turn};
 
 /// Puts the answer of a turn.
-pub(crate) fn put_answer<R: Wait>(rt: &R, filer: &Filer, turn: Turn) -> Came {
+pub(crate) fn put_answer<R: Wait>(rt: &R, mail: &mut Mail, turn: Turn) -> Came {
     match turn {
         Turn::Done(answer) => {
             let came = Came::Done(answer.connection(), answer.xid());
-            answer.put_into(&mut filer.outboxes().lock(rt));
+            mail.put(rt, answer);
             came
         }
         Turn::Moved => Came::Moved,
@@ -44,16 +45,38 @@ impl<'a> FilerWorker<'a> {
         gate: &G,
         moment: Moment,
     ) -> (FilerWorker<'a>, Came) {
-        let FilerWorker { filer, worker } = self;
+        let FilerWorker {
+            filer,
+            worker,
+            mut mail,
+        } = self;
         let (worker, turn) = worker.turn(filer, rt, gate, moment);
-        let came = put_answer(rt, filer, turn);
-        (FilerWorker { filer, worker }, came)
+        let came = put_answer(rt, &mut mail, turn);
+        (
+            FilerWorker {
+                filer,
+                worker,
+                mail,
+            },
+            came,
+        )
     }
 
     /// A tend.
     pub(crate) fn tend(self, tend: Tend) -> (FilerWorker<'a>, Result<u32, TendRefusal>) {
-        let FilerWorker { filer, worker } = self;
+        let FilerWorker {
+            filer,
+            worker,
+            mail,
+        } = self;
         let (worker, answer) = worker.tend_turn(filer, tend);
-        (FilerWorker { filer, worker }, answer)
+        (
+            FilerWorker {
+                filer,
+                worker,
+                mail,
+            },
+            answer,
+        )
     }
 }

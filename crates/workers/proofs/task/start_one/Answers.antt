@@ -4,8 +4,7 @@ use denote.Param.{copied, param}
 use denote.Param.Send.{sendable, param_send, arg_send}
 use denote.Param.SendFields.{declared_send}
 use denote.Struct.Tuple.{type_at}
-use Rattle.turns.proofs.Crossing.{worker-send}
-use Rattle.workers.proofs.Crossing.{task-send}
+use Rattle.workers.proofs.Crossing.{pool-worker-send, task-send}
 use Rattle.workers.specs.contracts.task.Task as Task
 use Rattle.workers.proofs.task.start_one.Goals as goal
 use Rattle.workers.proofs.task.start_one.Lts as lts
@@ -21,4 +20,4 @@ pub spawn_with-started-requires-send-T : goal.spawn_with-started-requires-send-T
 spawn_with-started-requires-send-T g c κs within =
     param_send 3 (lts.arg-2-3 g.row.R g.row.G g.R.laws g.G.laws g.R.copy g.R.Threads-dict g.R.Wait-dict g.R.Clock-dict g.R.Clone-dict g.G.Gate-dict
     g.G.Destruct-dict κs)
-    (search (worker-send, sendable) depth 20)
+    (search (pool-worker-send, sendable) depth 20)

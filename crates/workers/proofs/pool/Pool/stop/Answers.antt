@@ -13,8 +13,8 @@ use Rattle.workers.proofs.pool.Pool.stop.Goals as goal
 pub gather-requires-clause-workers : goal.gather-requires-clause-workers
 gather-requires-clause-workers g c =
     let pool = c.args.self in
-    let f = arc_value pool.filer in
-    subst (λ (x : Filer). All (IsIn x) c.collect-workers.result.items) (sym c.deref-2.ensures)
+    let f = arc_value pool.commons.filer in
+    subst (λ (x : Filer). All (IsIn x) c.collect-workers.result.0.items) (sym c.deref-2.ensures)
     (c.collect-workers.ensures.inside f pool.serve (subst (All (IsIn f)) (sym pool.none_back) (All-nil (IsIn f))))
 
 pub gather-requires-clause-passes : goal.gather-requires-clause-passes
