@@ -14,5 +14,5 @@ mod Added
 mod Ran
 mod Carrying
 mod Lent
-mod Working
+mod Told
 pub mod Crossing

@@ -155,15 +155,16 @@ impl Pool {
         } = supplies;
         let worker = first_worker(filer, seat, pass);
         let mut workers = split_workers(filer, worker, count, workers);
-        match start_all(rt, &commons, gate, &mut workers, lent, &mut threads) {
-            (pass, None) => Ok(Pool {
+        let (pass, refusal) = start_all(rt, &commons, gate, &mut workers, lent, &mut threads);
+        match refusal {
+            None => Ok(Pool {
                 commons,
                 threads,
                 workers,
                 pass,
                 room,
             }),
-            (pass, Some(refusal)) => {
+            Some(refusal) => {
                 commons.stop.set();
                 let _lost = collect(&rt, &commons.outboxes, pass, threads, workers);
                 Err(refusal)

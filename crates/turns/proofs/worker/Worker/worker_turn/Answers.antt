@@ -1,7 +1,7 @@
 use Rattle.turns.specs.Words.{layout_in}
 use Rattle.turns.specs.shared_waiting.Passes.{known}
-use Rattle.turns.proofs.Working.{has-worked, has-share}
-use Rattle.turns.proofs.working.Worker.worker_turn.Goals as goal
+use Rattle.turns.proofs.Told.{has-worked, has-share}
+use Rattle.turns.proofs.worker.Worker.worker_turn.Goals as goal
 
 pub returns-clause-worked : goal.returns-clause-worked
 returns-clause-worked g c =
