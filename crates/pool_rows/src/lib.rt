@@ -12,6 +12,8 @@ mod ending;
 #[cfg(test)]
 mod full;
 #[cfg(test)]
+mod in_turn;
+#[cfg(test)]
 mod latch;
 #[cfg(test)]
 mod leaving;
@@ -25,5 +27,3 @@ mod putting;
 mod replies;
 #[cfg(test)]
 mod running;
-#[cfg(test)]
-mod turns;

@@ -19,11 +19,11 @@ threads_of pool = pool.threads.items
 
 -- the filer whose calls they run
 abbrev pub filer_of : Pool → Filer
-filer_of pool = arc_value pool.commons.filer
+filer_of pool = arc_value pool.filer
 
 -- the outboxes that they put their answers into
 abbrev pub outboxes_of : Pool → SharedOutboxes
-outboxes_of pool = arc_value pool.commons.outboxes
+outboxes_of pool = arc_value pool.outboxes
 
 -- Each of so many threads was started with a worker. Between them these had all the seats of one seat and all the share of one pass in
 -- the right to know the queue, and what the seat had finished, and the pass had put and picked, each once: so their seats and passes

@@ -32,16 +32,18 @@ const MOST_THREADS: usize = 64;
 /// seats of the filer's depot between them, and put their answers into the same outboxes. Dropped
 /// without `stop`, they run on.
 pub struct Pool {
-    commons: Commons,
+    filer: Arc<Filer>,
+    outboxes: Arc<SharedOutboxes>,
+    stop: Arc<StopWord>,
     threads: Vec<Thread>,
     workers: Vec<Worker>,
     pass: OutboxesPass,
     room: Room,
     ghost none_back: { workers.items ≡ [] },
     ghost for_all: { vec_len threads ≤ vec_capacity workers },
-    ghost serve: { All (ServesIn (arc_value commons.filer)) threads.items },
-    ghost put: { All (PutsInto (arc_value commons.outboxes)) threads.items },
-    ghost of: { IsOf (arc_value commons.outboxes) pass },
+    ghost serve: { All (ServesIn (arc_value filer)) threads.items },
+    ghost put: { All (PutsInto (arc_value outboxes)) threads.items },
+    ghost of: { IsOf (arc_value outboxes) pass },
     ghost seats: { total seats_with threads.items ≡ 64 },
 }
 
@@ -49,7 +51,9 @@ pub struct Pool {
 impl Drop for Pool {
     fn drop(self) {
         let Pool {
-            commons: _,
+            filer: _,
+            outboxes: _,
+            stop: _,
             threads: _,
             workers: _,
             pass: _,
@@ -157,13 +161,22 @@ impl Pool {
         let mut workers = split_workers(filer, worker, count, workers);
         let (pass, refusal) = start_all(rt, &commons, gate, &mut workers, lent, &mut threads);
         match refusal {
-            None => Ok(Pool {
-                commons,
-                threads,
-                workers,
-                pass,
-                room,
-            }),
+            None => {
+                let Commons {
+                    filer,
+                    outboxes,
+                    stop,
+                } = commons;
+                Ok(Pool {
+                    filer,
+                    outboxes,
+                    stop,
+                    threads,
+                    workers,
+                    pass,
+                    room,
+                })
+            }
             Some(refusal) => {
                 commons.stop.set();
                 let _lost = collect(&rt, &commons.outboxes, pass, threads, workers);
@@ -191,14 +204,16 @@ impl Pool {
         ensures lent { HasLentAllOf self result.1 }
     {
         let Pool {
-            commons,
+            filer,
+            outboxes,
+            stop,
             threads,
             workers,
             pass,
             room,
         } = self;
-        commons.stop.set();
-        let (workers, pass) = collect(rt, &commons.outboxes, pass, threads, workers);
-        (gather(&commons.filer, rt, workers, passes, room), pass)
+        stop.set();
+        let (workers, pass) = collect(rt, &outboxes, pass, threads, workers);
+        (gather(&filer, rt, workers, passes, room), pass)
     }
 }

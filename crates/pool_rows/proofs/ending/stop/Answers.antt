@@ -21,4 +21,4 @@ stop-left-requires-clause-readers g c weight =
     passes-read (arc_value r.filer) r.pool r.first r.second c.requires c.in-Ok.passes.items c.in-Ok.ensures weight
 
 pub returns-in-Ok : goal.returns-in-Ok
-returns-in-Ok g c = subst (λ (f : Filer). IsLeftOf f c.stop-left.result) c.requires.same c.stop-left.ensures.left
+returns-in-Ok g c = subst (λ (f : Filer). IsLeftOf f c.stop-left.result.0) c.requires.same c.stop-left.ensures.left

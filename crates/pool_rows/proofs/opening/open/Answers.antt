@@ -10,11 +10,11 @@ use Rattle.pool_rows.proofs.Wholes.{unstarted}
 use Rattle.pool_rows.proofs.opening.open.Goals as goal
 
 pub returns-clause-seat : goal.returns-clause-seat
-returns-clause-seat c =
+returns-clause-seat g c =
     subst (λ (f : Filer). IsSeatHere f.depot c.in_ok-filer.seat) (sym c.in_ok-new.ensures.ok) c.in_ok-filer.ensures.seat
 
 pub returns-clause-opened : goal.returns-clause-opened
-returns-clause-opened c =
+returns-clause-opened g c =
     let seat = c.in_ok-filer.seat in
     let pass = c.split_pass-pass.result.0 in
     let first = c.split_pass-first.result.0 in

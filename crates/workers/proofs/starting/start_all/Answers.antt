@@ -1,11 +1,12 @@
-use Rattle.std.proofs.Common.{◌∙◌, ap, arith}
+use Rattle.std.proofs.Common.{◌∙◌, ap, arith, subst}
 use Rattle.std.specs.Arc.{arc_value}
 use Rattle.workers.specs.Threads.{lent_share_with, started_with, PutsInto, ServesIn}
 use Rattle.workers.specs.declared.pool_worker.PoolWorker.{PoolWorker}
 use Rattle.workers.proofs.Handed.{handed, all-pushed, all-popped}
 use Rattle.workers.proofs.Lending.{lent-halves}
 use Rattle.workers.proofs.Lists.{total-last}
-use Rattle.turns.specs.SharedOutboxes.{Lent}
+use Rattle.turns.specs.declared.shared_outboxes.SharedOutboxes.{SharedOutboxes}
+use Rattle.turns.specs.SharedOutboxes.{Lent, IsOf}
 use Rattle.turns.specs.Words.{IsIn}
 use Rattle.turns.specs.shared_waiting.Balance.{part}
 use Rattle.turns.specs.shared_waiting.Passes.{known}
@@ -37,7 +38,7 @@ loop-worker-preserved g c =
     let j = i.halvings in
     record {
       inside = (all-popped (IsIn filer) all rest x was i.inside).0;
-      of = s.ensures.of.0;
+      of = subst (λ (o : SharedOutboxes). IsOf o s.result.0) c.deref.ensures s.ensures.of.0;
       serve = all-pushed (ServesIn filer) ts us t is i.serve c.in-Ok.ensures.serve;
       put = all-pushed (PutsInto outboxes) ts us t is i.put c.in-Ok.ensures.put;
       room = omega (arith, a, b, l, r);

@@ -11,13 +11,13 @@ use Rattle.workers.proofs.task.start_one.Lts as lts
 
 pub spawn_with-started-requires-send-F : goal.spawn_with-started-requires-send-F
 spawn_with-started-requires-send-F g c κs within =
-    param_send 2 (lts.arg-2-2 g.row.R g.row.G g.R.laws g.G.laws g.R.copy g.R.Threads-dict g.R.Wait-dict g.R.Clock-dict g.R.Clone-dict g.G.Gate-dict
+    param_send 2 (lts.arg-3-2 g.row.R g.row.G g.R.laws g.G.laws g.R.copy g.R.Threads-dict g.R.Wait-dict g.R.Clock-dict g.R.Clone-dict g.G.Gate-dict
     g.G.Destruct-dict κs)
     (arg_send _ no _ (declared_send (type_at _ (Task.the_row ∷ copied 0 g.row.R ∷ param 1 g.row.G ∷ []))
     (search (task-send, sendable), (search (c.type_bounds.send-R, sendable), (search (c.type_bounds.send-G, sendable), tt)))))
 
 pub spawn_with-started-requires-send-T : goal.spawn_with-started-requires-send-T
 spawn_with-started-requires-send-T g c κs within =
-    param_send 3 (lts.arg-2-3 g.row.R g.row.G g.R.laws g.G.laws g.R.copy g.R.Threads-dict g.R.Wait-dict g.R.Clock-dict g.R.Clone-dict g.G.Gate-dict
+    param_send 3 (lts.arg-3-3 g.row.R g.row.G g.R.laws g.G.laws g.R.copy g.R.Threads-dict g.R.Wait-dict g.R.Clock-dict g.R.Clone-dict g.G.Gate-dict
     g.G.Destruct-dict κs)
     (search (pool-worker-send, sendable) depth 20)

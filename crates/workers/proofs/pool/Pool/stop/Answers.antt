@@ -13,13 +13,13 @@ use Rattle.workers.proofs.pool.Pool.stop.Goals as goal
 pub gather-requires-clause-workers : goal.gather-requires-clause-workers
 gather-requires-clause-workers g c =
     let pool = c.args.self in
-    let f = arc_value pool.commons.filer in
-    subst (λ (x : Filer). All (IsIn x) c.collect-workers.result.0.items) (sym c.deref-2.ensures)
+    let f = arc_value pool.filer in
+    subst (λ (x : Filer). All (IsIn x) c.collect-workers.result.0.items) (sym c.deref-3.ensures)
     (c.collect-workers.ensures.inside f pool.serve (subst (All (IsIn f)) (sym pool.none_back) (All-nil (IsIn f))))
 
 pub gather-requires-clause-passes : goal.gather-requires-clause-passes
 gather-requires-clause-passes g c =
-    subst (λ (x : Filer). All (IsOf x.waiting) c.args.passes.items) (sym c.deref-2.ensures) c.requires.passes
+    subst (λ (x : Filer). All (IsOf x.waiting) c.args.passes.items) (sym c.deref-3.ensures) c.requires.passes
 
 pub gather-requires-clause-seats : goal.gather-requires-clause-seats
 gather-requires-clause-seats g c =
@@ -39,4 +39,4 @@ gather-requires-clause-whole g c = (
 )
 
 pub returns-clause-left : goal.returns-clause-left
-returns-clause-left g c = subst (λ (x : Filer). IsLeftOf x c.gather.result) c.deref-2.ensures c.gather.ensures.left
+returns-clause-left g c = subst (λ (x : Filer). IsLeftOf x c.gather.result) c.deref-3.ensures c.gather.ensures.left

@@ -1,7 +1,7 @@
 //! Who looks on.
 
-use crate::turns::came::Came;
-use crate::turns::filer_worker::FilerWorker;
+use crate::in_turn::came::Came;
+use crate::in_turn::filer_worker::FilerWorker;
 use affinity::Affinity;
 use nfs_values::{Moment, VolumeNumber};
 use std::sync::{Mutex, Wait};

@@ -6,8 +6,8 @@ ghost use Rattle.turns.specs.Words.{seats_in, IsIn};
 
 use crate::opening::open_mails;
 use crate::putting::FilerPass;
-use crate::turns::filer_worker::FilerWorker;
-use crate::turns::reader::Reader;
+use crate::in_turn::filer_worker::FilerWorker;
+use crate::in_turn::reader::Reader;
 use std::alloc::{AllocError, Global};
 use std::sync::Wait;
 use turns::{Filer, Worker};

@@ -4,9 +4,9 @@ ghost use Rattle.turns.specs.Running.{IsRun};
 
 use crate::mail::Mail;
 use crate::putting::put;
-use crate::turns::came::Came;
-use crate::turns::filer_worker::FilerWorker;
-use crate::turns::reader::Reader;
+use crate::in_turn::came::Came;
+use crate::in_turn::filer_worker::FilerWorker;
+use crate::in_turn::reader::Reader;
 use nfs_values::{Call, Moment};
 use scheduler::Origin;
 use std::alloc::Global;
