@@ -2,7 +2,7 @@ use Rattle.std.proofs.Common.{None, refl, arith}
 use Rattle.stripe_cards.specs.declared.packed.Packed.TheVariants.{Absent}
 use Rattle.stripe_cards.specs.Cards.{packed_card}
 use Rattle.chunk_maps.specs.SlotLaws.{used-written, long-written, slots-written}
-use Rattle.stripe_cards.proofs.chunk.Chunk.take.Goals as goal
+use Rattle.stripe_cards.proofs.chunk.CardChunkChunk.take.Goals as goal
 
 pub overflow_sub-self : goal.overflow_sub-self
 overflow_sub-self c =

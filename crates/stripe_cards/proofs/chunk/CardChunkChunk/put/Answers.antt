@@ -4,7 +4,7 @@ use Rattle.chunk_maps.specs.Chunks.{one_if}
 use Rattle.stripe_cards.specs.declared.packed.Packed.TheVariants.{Absent}
 use Rattle.stripe_cards.specs.Cards.{packed_card}
 use Rattle.chunk_maps.specs.SlotLaws.{used-few, used-written, long-written, slots-written}
-use Rattle.stripe_cards.proofs.chunk.Chunk.put.Goals as goal
+use Rattle.stripe_cards.proofs.chunk.CardChunkChunk.put.Goals as goal
 
 pub overflow_add-self : goal.overflow_add-self
 overflow_add-self c = let few = used-few packed_card Absent refl c.self.inside.cards.value c.self.invariant.0 in omega (arith, few, c.self.invariant.1)
