@@ -30,10 +30,6 @@ used_in (slot ∷ slots) = one_if (is_some slot) + used_in slots
 abbrev pub SetsAt : {V : Type 0} → ℕ → Option V → (ℕ → Option V) → (ℕ → Option V) → Type 0
 SetsAt fileid value old new = (q : ℕ) → new q ≡ (if q % chunk_size == fileid % chunk_size then value else old q)
 
--- what is in the slot of a fileid set
-abbrev pub SetsSlot : {V : Type 0} → ℕ → Option V → Slots V → Slots V → Type 0
-SetsSlot fileid value old new = SetsAt fileid value (slot_of old) (slot_of new)
-
 -- the value in the slot of a fileid changed, if it is there
 abbrev pub ChangesSlot : {V : Type 0} → (V → V) → ℕ → Slots V → Slots V → Type 0
 ChangesSlot g fileid old new =
