@@ -8,15 +8,14 @@ ghost use Rattle.turns.specs.Words.{IsIn};
 
 use crate::calls::{ROOT, create, handle};
 use crate::ending::end;
+use crate::in_turn::came::Came;
+use crate::in_turn::turning::put_answer;
 use crate::leaving::leave_alone;
 use crate::mail::Mail;
 use crate::opening::{Volumes, open_filer, open_mail};
 use crate::putting::{FilerPass, put_made, record_of};
 use crate::replies::LOOKS;
-use crate::in_turn::came::Came;
-use crate::in_turn::turning::put_answer;
 use nfs_values::{BytesToWrite, Call, ConnectionNumber, Moment};
-use workers::Ended;
 use std::alloc::{AllocError, Global};
 use std::process::Abort;
 use std::sync::atomic::{AtomicBool, Ordering};
@@ -24,6 +23,7 @@ use std::sync::{Arc, Wait};
 use std::thread;
 use std::thread::Threads;
 use turns::{Envelope, Filer, Gate, Place, Stage, Unwatched, Worker};
+use workers::Ended;
 
 /// How many messages the queue has room for.
 const PLACES: u32 = 1024;
@@ -210,9 +210,7 @@ fn make_full<R: Wait>(rt: &R, alloc: Global) -> Option<Full>
         return None;
     };
     let connection = mail.open(rt)?;
-    let (worker, first, is_full) = fill_up(
-        rt, alloc, &filer, &mut mail, worker, first, connection,
-    );
+    let (worker, first, is_full) = fill_up(rt, alloc, &filer, &mut mail, worker, first, connection);
     if !is_full {
         return None;
     }

@@ -4,8 +4,8 @@ ghost use Rattle.pool_rows.specs.Threads.{HasPut, IsReaderOf};
 
 use crate::calls::{ROOT, create, handle};
 use crate::ending::{end, stop};
-use crate::opening::{Volumes, open};
 use crate::mail::Mail;
+use crate::opening::{Volumes, open};
 use crate::putting::{FilerPass, put, put_made, record_of};
 use crate::replies::{LOOKS, awaited, is_ok};
 use crate::running::start;

@@ -64,7 +64,8 @@ fn open_outboxes<R: Wait>(
     rt: &R,
     alloc: Global,
 ) -> Result<(Arc<SharedOutboxes>, OutboxesPass, OutboxesPass), AllocError>
-    ensures { IfOk result (λ made. IsOf (arc_value made.0) made.1 × IsOf (arc_value made.0) made.2) }
+    ensures { IfOk result (λ made. IsOf (arc_value made.0) made.1
+        × IsOf (arc_value made.0) made.2) }
 {
     let (outboxes, pass) = SharedOutboxes::new(rt, alloc)?;
     let (first, second) = outboxes.split_pass(pass);
@@ -88,11 +89,7 @@ pub(crate) fn open_mails<R: Wait>(rt: &R, alloc: Global) -> Result<(Mail, Mail),
 }
 
 /// A filer before any worker runs.
-pub(crate) fn open<R: Wait>(
-    rt: &R,
-    alloc: Global,
-    volumes: Volumes,
-) -> Result<Opened, AllocError>
+pub(crate) fn open<R: Wait>(rt: &R, alloc: Global, volumes: Volumes) -> Result<Opened, AllocError>
     ensures seat { IfOk result (λ o. IsSeatHere (arc_value o.filer).depot o.seat) }
     ensures opened { IfOk result (λ o. IsUnstarted (arc_value o.filer) (view o.seat)
         (splits_left o.seat) o.pass o.first o.second) }

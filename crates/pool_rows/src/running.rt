@@ -6,15 +6,15 @@ ghost use Rattle.depot.specs.Words.{view, splits_left, IsSeatHere};
 ghost use Rattle.pool_rows.specs.Threads.{IsRunning, IsUnstarted};
 ghost use Rattle.turns.specs.SharedOutboxes.{IsOf};
 
-use crate::opening::Opened;
 use crate::mail::Mail;
+use crate::opening::Opened;
 use crate::putting::FilerPass;
-use workers::Pool;
 use std::alloc::Global;
 use std::rt::Clock;
 use std::sync::{Arc, Wait};
 use std::thread::Threads;
 use turns::{Filer, Gate};
+use workers::Pool;
 
 /// A filer whose workers run, with the passes of two who put messages, and its outboxes.
 #[derive(Drop)]
@@ -55,7 +55,9 @@ where
         first,
         second,
     } = opened;
-    match Pool::start(rt, alloc, &filer, &outboxes, gate, seat, pass, lent, workers) {
+    match Pool::start(
+        rt, alloc, &filer, &outboxes, gate, seat, pass, lent, workers,
+    ) {
         Ok(pool) => Some(Running {
             filer,
             pool,

@@ -63,10 +63,7 @@ fn give<R: Wait>(
 
 impl SharedOutboxes {
     /// Outboxes of no connection, and their first pass, which has given them.
-    pub fn new<R: Wait>(
-        rt: &R,
-        alloc: Global,
-    ) -> Result<(SharedOutboxes, OutboxesPass), AllocError>
+    pub fn new<R: Wait>(rt: &R, alloc: Global) -> Result<(SharedOutboxes, OutboxesPass), AllocError>
         ensures of { IfOk result (λ made. IsOf made.0 made.1) }
         ensures whole { IfOk result (λ made. IsWhole (known made.1)) }
         ensures given { IfOk result (λ made. ((known made.1).put ≡ none_open ∷ [])

@@ -35,7 +35,9 @@ pub(crate) fn serve<R: Wait + Clock, G: Gate>(
             break;
         }
         moment = time_now(rt, moment);
-        worker = round(rt, filer, outboxes, gate, worker, &mut pass, moment, &mut state);
+        worker = round(
+            rt, filer, outboxes, gate, worker, &mut pass, moment, &mut state,
+        );
     }
     PoolWorker { worker, pass }
 }

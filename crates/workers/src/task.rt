@@ -50,7 +50,14 @@ fn run<R: Wait + Clock, G: Gate>(rt: &R, gate: &G, task: Task) -> PoolWorker
     ensures heir { IsPoolHeir task.work result }
 {
     let Task { commons, work } = task;
-    serve(rt, &commons.filer, &commons.outboxes, &commons.stop, gate, work)
+    serve(
+        rt,
+        &commons.filer,
+        &commons.outboxes,
+        &commons.stop,
+        gate,
+        work,
+    )
 }
 
 /// Starts a thread for a worker, where one can be made.

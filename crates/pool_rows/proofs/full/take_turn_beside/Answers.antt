@@ -6,7 +6,8 @@ use Rattle.pool_rows.proofs.full.take_turn_beside.Goals as goal
 use Rattle.pool_rows.proofs.full.take_turn_beside.Lts as lts
 
 pub join-requires-send-F : goal.join-requires-send-F
-join-requires-send-F g c κs within = param_send 1 _ (arg_send _ no _ (telling-send _ _ _ _ _ _ c.type_bounds.sync-R (search (late.the_sync, sendable) depth 20)))
+join-requires-send-F g c κs within =
+    param_send 1 _ (arg_send _ no _ (telling-send _ _ _ _ _ _ c.type_bounds.sync-R (search (late.the_sync, sendable) depth 20)))
 
 pub join-requires-send-A : goal.join-requires-send-A
 join-requires-send-A g c κs within =

@@ -11,7 +11,7 @@ returns-clause-changed g c =
       out.result,
       after,
       changed (known c.args.pass.now) (known out.new.pass) (known c.give.new.pass) out.result after after out.ensures.taken
-      c.give.ensures.given refl,
+          c.give.ensures.given refl,
       opens.ensures.ok,
       opens.ensures.err,
       opens.ensures.number,

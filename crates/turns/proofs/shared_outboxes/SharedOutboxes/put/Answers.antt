@@ -7,5 +7,5 @@ returns-clause-put g c =
     let out = c.take_out-outboxes in (
       out.result,
       changed (known c.args.pass.now) (known out.new.pass) (known c.give.new.pass) out.result c.put_into.new.outboxes _ out.ensures.taken
-      c.give.ensures.given c.put_into.ensures,
+          c.give.ensures.given c.put_into.ensures,
     )

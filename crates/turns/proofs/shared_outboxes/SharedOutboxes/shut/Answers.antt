@@ -7,5 +7,5 @@ returns-clause-shut g c =
     let out = c.take_out-outboxes in (
       out.result,
       changed (known c.args.pass.now) (known out.new.pass) (known c.give.new.pass) out.result c.shut.new.self _ out.ensures.taken
-      c.give.ensures.given c.shut.ensures,
+          c.give.ensures.given c.shut.ensures,
     )

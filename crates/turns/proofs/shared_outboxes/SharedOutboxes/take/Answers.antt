@@ -9,5 +9,5 @@ returns-clause-taken g c =
       out.result,
       took.ensures.record,
       changed (known c.args.pass.now) (known out.new.pass) (known c.give.new.pass) out.result took.new.self _ out.ensures.taken
-      c.give.ensures.given took.ensures.rest,
+          c.give.ensures.given took.ensures.rest,
     )
