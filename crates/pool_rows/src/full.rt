@@ -8,13 +8,13 @@ ghost use Rattle.turns.specs.Words.{IsIn};
 
 use crate::calls::{ROOT, create, handle};
 use crate::ending::end;
-use crate::in_turn::came::Came;
-use crate::in_turn::turning::put_answer;
 use crate::leaving::leave_alone;
 use crate::mail::Mail;
 use crate::opening::{Volumes, open_filer, open_mail};
 use crate::putting::{FilerPass, put_made, record_of};
 use crate::replies::LOOKS;
+use crate::turned::came::Came;
+use crate::turned::turning::put_answer;
 use nfs_values::{BytesToWrite, Call, ConnectionNumber, Moment};
 use std::alloc::{AllocError, Global};
 use std::process::Abort;

@@ -12,8 +12,6 @@ mod ending;
 #[cfg(test)]
 mod full;
 #[cfg(test)]
-mod in_turn;
-#[cfg(test)]
 mod latch;
 #[cfg(test)]
 mod leaving;
@@ -27,3 +25,5 @@ mod putting;
 mod replies;
 #[cfg(test)]
 mod running;
+#[cfg(test)]
+mod turned;

@@ -2,11 +2,11 @@
 
 ghost use Rattle.turns.specs.Running.{IsRun};
 
-use crate::in_turn::came::Came;
-use crate::in_turn::filer_worker::FilerWorker;
-use crate::in_turn::reader::Reader;
 use crate::mail::Mail;
 use crate::putting::put;
+use crate::turned::came::Came;
+use crate::turned::filer_worker::FilerWorker;
+use crate::turned::reader::Reader;
 use nfs_values::{Call, Moment};
 use scheduler::Origin;
 use std::alloc::Global;

@@ -3,14 +3,14 @@
 ghost use Rattle.turns.specs.Running.{IsRun};
 
 use crate::calls::{UNSET, handle};
-use crate::in_turn::came::Came;
-use crate::in_turn::filer_worker::FilerWorker;
-use crate::in_turn::looking::{Looking, Met};
-use crate::in_turn::reader::Reader;
-use crate::in_turn::starting::{Started, start_workers};
-use crate::in_turn::texts::{ACCEPTED, bytes_of, mark, root_shown};
 use crate::opening::{Volumes, open_filer};
 use crate::putting::record_of;
+use crate::turned::came::Came;
+use crate::turned::filer_worker::FilerWorker;
+use crate::turned::looking::{Looking, Met};
+use crate::turned::reader::Reader;
+use crate::turned::starting::{Started, start_workers};
+use crate::turned::texts::{ACCEPTED, bytes_of, mark, root_shown};
 use affinity::Affinity;
 use nfs_values::{
     BytesToWrite, Call, ConnectionNumber, CreateMode, Moment, Name, SetAttributes, Target,

@@ -1,15 +1,15 @@
 //! Two overwrites in two stripes of a file, both begun before one ends, in either order.
 
 use crate::calls::handle;
-use crate::in_turn::came::Came;
-use crate::in_turn::filer_worker::FilerWorker;
-use crate::in_turn::looking::{Looking, Met};
-use crate::in_turn::reader::Reader;
-use crate::in_turn::rows::{answered, at, created, open, same, served};
-use crate::in_turn::starting::{Started, start_workers};
-use crate::in_turn::texts::{ACCEPTED, mark};
 use crate::opening::{Volumes, open_filer};
 use crate::putting::record_of;
+use crate::turned::came::Came;
+use crate::turned::filer_worker::FilerWorker;
+use crate::turned::looking::{Looking, Met};
+use crate::turned::reader::Reader;
+use crate::turned::rows::{answered, at, created, open, same, served};
+use crate::turned::starting::{Started, start_workers};
+use crate::turned::texts::{ACCEPTED, mark};
 use affinity::Affinity;
 use nfs_values::{BytesToWrite, Call, ConnectionNumber};
 use std::mem;

@@ -4,10 +4,10 @@ ghost use Rattle.std.specs.Prelude.{◌<◌};
 ghost use Rattle.pool_rows.specs.Threads.{IsReaderOf};
 ghost use Rattle.turns.specs.Words.{seats_in, IsIn};
 
-use crate::in_turn::filer_worker::FilerWorker;
-use crate::in_turn::reader::Reader;
 use crate::opening::open_mails;
 use crate::putting::FilerPass;
+use crate::turned::filer_worker::FilerWorker;
+use crate::turned::reader::Reader;
 use std::alloc::{AllocError, Global};
 use std::sync::Wait;
 use turns::{Filer, Worker};
