@@ -8,5 +8,5 @@ mod words;
 
 pub use crate::replay::{ProgramFault, print_fault};
 pub use choice::Command;
-pub use running::program;
-pub use words::command;
+pub use running::{program, program_told};
+pub use words::{command, command_told};

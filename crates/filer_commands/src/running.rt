@@ -4,12 +4,12 @@ ghost use Rattle.std.specs.Prelude.{◌≤◌, IfOk};
 
 use crate::choice::Command;
 use crate::replay::{ProgramFault, print_fault, replay};
-use crate::words::command;
+use crate::words::command_told;
 use server::{Options, ServerFault, serve};
 use std::alloc::{AllocError, Global};
 use std::convert::AsStr;
 use std::fs::File;
-use std::io::Write;
+use std::io::{self, Write};
 use std::net::{Net, TcpListener, TcpStream};
 use std::rt::{Clock, Files};
 use std::sync::Wait;
@@ -68,19 +68,53 @@ where
     }
 }
 
+/// What a fault is, for people; what the command line is lacking was told before.
+fn describe(fault: ProgramFault) -> Option<&'static str> {
+    match fault {
+        ProgramFault::CommandLine => None,
+        ProgramFault::File => Some("the file can't be read"),
+        ProgramFault::Listen => Some("the address can't be listened at"),
+        ProgramFault::Accept => Some("a connection can't be accepted"),
+        ProgramFault::Thread => Some("a thread can't be started"),
+        ProgramFault::NoMemory => Some("out of memory"),
+        ProgramFault::BadLine { .. } => Some("a line of the script can't be read"),
+        ProgramFault::Output => Some("the output can't be written"),
+    }
+}
+
+/// Tells a fault for people, with what the command is about.
+fn tell<E: Write>(err: &mut E, command: Command<'_>, fault: ProgramFault) {
+    let Some(text) = describe(fault) else {
+        return;
+    };
+    let _told = match command {
+        Command::Replay { path } => writeln!(err, "filer replay {path}: {text}"),
+        Command::Serve(options) => {
+            let address = options.address;
+            writeln!(err, "filer serve --listen {address}: {text}")
+        }
+    };
+}
+
 /// Runs the command that the words ask for.
-fn run<R, S, W>(rt: R, words: &[S], out: &mut W) -> Result<u8, ProgramFault>
+fn run<R, S, W, E>(rt: R, words: &[S], out: &mut W, err: &mut E) -> Result<u8, ProgramFault>
 where
     R: Files + AllocGlobal + Threads + Wait + Clock,
     R: Net<Listener = TcpListener, Stream = TcpStream> + Copy + Drop + Send + 'static,
     S: AsStr,
     W: Write,
+    E: Write,
     ensures { IfOk result (λ status. status ≤ 1) }
 {
-    match command(rt.alloc(), words)? {
+    let command = command_told(rt.alloc(), words, err)?;
+    let ended = match command {
         Command::Replay { path } => run_script(&rt, path, out),
         Command::Serve(options) => run_server(rt, &options, out),
+    };
+    if let Err(fault) = &ended {
+        tell(err, command, *fault);
     }
+    ended
 }
 
 /// Runs the command that the words ask for, and answers the exit status: 2 for words that are no
@@ -93,7 +127,21 @@ where
     W: Write,
     ensures { result ≤ 2 }
 {
-    match run(rt, words, out) {
+    program_told(rt, words, out, &mut io::sink())
+}
+
+/// The same, and tells by a second writer what is for people alone: usage, what is wrong with a
+/// command line, and faults in words.
+pub fn program_told<R, S, W, E>(rt: R, words: &[S], out: &mut W, err: &mut E) -> u8
+where
+    R: Files + AllocGlobal + Threads + Wait + Clock,
+    R: Net<Listener = TcpListener, Stream = TcpStream> + Copy + Drop + Send + 'static,
+    S: AsStr,
+    W: Write,
+    E: Write,
+    ensures { result ≤ 2 }
+{
+    match run(rt, words, out, err) {
         Ok(status) => status,
         Err(fault) => {
             print_fault(out, fault);
