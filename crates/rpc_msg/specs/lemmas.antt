@@ -1,4 +1,5 @@
 -- Lemmas alone, which no reader has to believe: for crates above.
 pub mod Numbered
 pub mod Hearing
+pub mod Faults
 pub mod Refusals

@@ -10,7 +10,7 @@ ghost use Rattle.server.specs.Ends.{IsEndOf};
 ghost use Rattle.lanes.specs.Words.{Identity};
 ghost use Rattle.server.specs.Lanes.{by_identity, seats_of, IsLaneOf};
 ghost use Rattle.server.specs.Threads.{identity_for, seats_for, AreOfThreads};
-ghost use Rattle.server.specs.Threads.{AreThreadsOf, IsTaskFor};
+ghost use Rattle.server.specs.Threads.{AllServe, AreThreadsOf, IsTaskFor};
 ghost use Rattle.server.specs.declared.socket.Socket as sockets;
 ghost use Rattle.turns.specs.declared.shared.Filer as filers;
 
@@ -28,6 +28,7 @@ use crate::station::Station;
 use crate::task::{Task, Thread};
 use affinity::Layout;
 use lanes::{Device, Lane};
+use nfs_values::Offer;
 use std::alloc::Global;
 use std::io::Write;
 use std::net::{Net, SocketAddr, TcpListener};
@@ -82,13 +83,20 @@ fn man_all<R: Net + Drop>(
     Ok(())
 }
 
-/// Opens a filer with so many lanes, and starts their threads. Where one can't be started those
+/// Opens a filer with so many lanes, which read by what is offered, and starts their threads. Where one can't be started those
 /// that run are stopped.
-fn start<R>(rt: R, alloc: Global, layout: Layout, workers: usize) -> Result<Running<R>, ServerFault>
+fn start<R>(
+    rt: R,
+    alloc: Global,
+    offer: Offer,
+    layout: Layout,
+    workers: usize,
+) -> Result<Running<R>, ServerFault>
 where
     R: Threads + Wait + Clock + Net + Copy + Drop + Send + 'static,
     requires { (0 < workers) × (workers ≤ 64) }
     ensures threads { IfOk result (λ r. AreThreadsOf (arc_value r.filer) r.threads.items) }
+    ensures offer { IfOk result (λ r. AllServe offer r.threads.items) }
     ensures count { IfOk result (λ r. length r.threads.items ≡ workers) }
 {
     let lanes = Vec::with_capacity(alloc, workers)?;
@@ -100,7 +108,8 @@ where
         Ok(common) => common,
         Err(_refused) => return Err(ServerFault::NoMemory),
     };
-    let (filer, mut lanes) = open_lanes(rt, alloc, layout, verifier_now(&rt), workers, lanes)?;
+    let verifier = verifier_now(&rt);
+    let (filer, mut lanes) = open_lanes(rt, alloc, offer, layout, verifier, workers, lanes)?;
     man_all(&rt, alloc, &common, &mut lanes, &mut tasks, &mut boxes)?;
     let mail = Mail { boxes, common };
     if !start_all(rt, &mut tasks, &mut threads) {
@@ -191,7 +200,7 @@ where
     W: Write,
 {
     let layout = layout_of(alloc, options.volumes)?;
-    let running = start(rt, alloc, layout, options.workers)?;
+    let running = start(rt, alloc, options.offer, layout, options.workers)?;
     let end = run(&rt, listener, options.connections, running, out)?;
     let count = end.unfinished();
     writeln!(out, "left {count}").map_err(|_| ServerFault::Output)
