@@ -64,6 +64,8 @@ impl Options {
     pub fn with_offer(self, offer: Offer) -> Options
         ensures { result ≡ record self { offer = offer } }
     {
-        Options { offer, ..self }
+        let mut options = self;
+        options.offer = offer;
+        options
     }
 }

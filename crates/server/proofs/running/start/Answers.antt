@@ -15,7 +15,7 @@ pub returns-clause-offer : goal.returns-clause-offer
 returns-clause-offer g c =
     all-serve (arc_value c.in_ok-filer.filer) c.in_ok-filer.lanes.items c.in_ok-tasks.tasks.items c.man_all.new.tasks.items
     c.in_ok-threads.threads.items c.start_all.new.threads.items c.in_ok-tasks.ensures.items c.in_ok-threads.ensures.items
-    c.in_ok-man_all.ensures.each (c.if-not-start_all.ensures.each refl) c.args.offer c.in_ok-filer.ensures.offer
+    c.in_ok-man_all.ensures.each (c.if-not-start_all.ensures.each refl) c.args.options.now.offer c.in_ok-filer.ensures.offer
 
 pub returns-clause-count : goal.returns-clause-count
 returns-clause-count g c =
