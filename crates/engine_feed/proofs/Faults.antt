@@ -2,10 +2,10 @@
 use Rattle.std.proofs.Common.{◌≡◌, ◌+◌, ℕ, List, [], ◌∷◌, ◌++◌, length, Option, Some, None, Result, Ok, Err, refl, sym, ap, ◌∙◌, arith, length-append}
 use Rattle.nfs_model.specs.World.{Heard, Scanned}
 use Rattle.nfs_values.specs.declared.offer.Offer.{Offer}
-use Rattle.rpc_msg.specs.lemmas.Faults.{fault_in, fault-same}
 use Rattle.engine_feed.specs.Codec.{heard}
 use Rattle.engine_feed.specs.Streams.{served_of}
 use Rattle.engine_feed.specs.lemmas.Codec.{heard_is}
+use Rattle.engine_feed.proofs.Heads.{fault_in, fault-same}
 use Rattle.engine_feed.proofs.Scanning.{joined}
 
 heard-same : (one other : Offer) (bytes : List ℕ) → fault_in (heard one bytes) ≡ fault_in (heard other bytes)
