@@ -10,8 +10,9 @@ use Rattle.nfs_values.specs.declared.offer.Offer.{Offer}
 use Rattle.tcp_front.specs.declared.stream.Stream.{Stream}
 use Rattle.tcp_front.specs.declared.stream.Stopped.{Stopped}
 use Rattle.tcp_front.specs.declared.stream.Stopped.TheVariants as stops
+use Rattle.tcp_front.specs.declared.next_record.Next.TheVariants as nexts
 use Rattle.tcp_front.specs.Arrivals.{Arrival, arrivals, arrival_of, most_records}
-use Rattle.tcp_front.specs.Steps.{Adds, Brings, BringsRecord, HasGiven, HasGivenRecord, HasTaken, StopsAs}
+use Rattle.tcp_front.specs.Steps.{Adds, Brings, BringsRecord, Comes, HasGiven, HasGivenRecord, HasTaken, StopsAs}
 use Rattle.tcp_front.proofs.Adding.{adds-more, adds-nothing, brings-first, brings-longer, brings-more, first-longer, first-more}
 
 -- ---- what records come to, one after another
@@ -91,6 +92,23 @@ module _ {S : Type 0} (came : S → List Arrival → S → Type 0) (layout : Lay
     same = h.same;
     stops = stops-longer offer s s' bytes rest h.heard stopped h.stops;
   }
+
+  -- bytes that make no record whole
+  pub taken-part : (s s' : Stream) (sink : S) (bytes : List ℕ) → came sink [] sink → Adds offer s.reassembler bytes [] s'.reassembler
+      → s'.connection ≡ s.connection → s'.records ≡ s.records → s.records < most_records
+      → HasTaken came layout offer s sink bytes None s' sink
+  taken-part s s' sink bytes none a c r few =
+      record { heard = []; given = none; count = omega (arith, r); same = c; stops = (a, omega (arith, r, few)) }
+
+  -- bytes at which it stopped before a record was whole
+  pub taken-stopped : (s s' : Stream) (sink : S) (bytes : List ℕ) (taken : ℕ) (at : Option State) (stopped : Stopped) → came sink [] sink
+      → Comes offer s.reassembler bytes taken (nexts.Stopped stopped) at → s'.connection ≡ s.connection → s'.records ≡ s.records
+      → HasTaken came layout offer s sink (take taken bytes) (Some stopped) s' sink
+  taken-stopped s s' sink bytes taken at (stops.Fault fault) none h c r =
+      record { heard = []; given = none; count = omega (arith, r); same = c; stops = h }
+  taken-stopped s s' sink bytes taken at stops.NoMemory none h c r =
+      record { heard = []; given = none; count = omega (arith, r); same = c; stops = h }
+  taken-stopped s s' sink bytes taken at stops.NumbersUsed none h c r = absurd h
 
   -- a record that is whole and is given on
   pub taken-record : (s t s' : Stream) (sink sink' : S) (bytes : List ℕ) (h : Heard) (stopped : Option Stopped)
