@@ -21,11 +21,7 @@ fn keep(stream: &mut Vec<u8>, bytes: &[u8])
 }
 
 /// Takes bytes up to the end of at most one record, which is read by what is offered.
-pub(crate) fn take_bytes(
-    from: &mut ConnectionState,
-    offer: Offer,
-    bytes: &[u8],
-) -> (usize, Arrival)
+pub(crate) fn take_bytes(from: &mut ConnectionState, offer: Offer, bytes: &[u8]) -> (usize, Arrival)
     requires in_step { IsInStep from.old }
     requires taking { TakesIn from.old (length bytes.now) }
     ensures takes { TakesFrom offer from.old from.new bytes.now result.0 result.1 }

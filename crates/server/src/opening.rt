@@ -92,9 +92,7 @@ where
         identity_in opened ≡ ((lane, lanes), (offer, queue))) }
 {
     let filer = Arc::try_clone(filer)?;
-    Ok(Lane::new(
-        rt, alloc, filer, offer, queue, admits, worker, lane, lanes,
-    ))
+    Ok(Lane::new(rt, alloc, filer, offer, queue, admits, worker, lane, lanes))
 }
 
 /// All lanes of a filer, so many, which read by what is offered, with their connections over

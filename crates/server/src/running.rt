@@ -101,7 +101,15 @@ where
         Err(_refused) => return Err(ServerFault::NoMemory),
     };
     let verifier = verifier_now(&rt);
-    let (filer, mut lanes) = open_lanes(rt, alloc, options.offer, layout, verifier, workers, lanes)?;
+    let (filer, mut lanes) = open_lanes(
+        rt,
+        alloc,
+        options.offer,
+        layout,
+        verifier,
+        workers,
+        lanes,
+    )?;
     man_all(&rt, alloc, &common, &mut lanes, &mut tasks, &mut boxes)?;
     let mail = Mail { boxes, common };
     if !start_all(rt, &mut tasks, &mut threads) {

@@ -100,7 +100,9 @@ pub fn read_loop<W: Wait, R: Read, S: RecordSink>(
 {
     match new_block(alloc) {
         Ok(mut block) => {
-            read_loop_in(rt, alloc, reader, &mut block, layout, offer, connection, sink)
+            read_loop_in(
+                rt, alloc, reader, &mut block, layout, offer, connection, sink,
+            )
         },
         Err(_refused) => ReadEnd::NoMemory,
     }

@@ -35,11 +35,11 @@ returns-in-More-clause-takes c =
       owed = refl;
       in_step = in-step _ (from.stream.items ++ take taken c.args.bytes.now) c.keep.ensures.items t.0.to
           (λ any.
-              let u = took_as any from c.args.bytes.now taken c.feed-taken.result.1 steps.More c.feed-taken.new.self c.requires.in_step
-              c.requires.taking.faultless c.in-More.is c.feed-taken.ensures.feeds in (
-                ap (λ (s : Scanned). s.fault) u.1.2 ∙ c.requires.in_step.fault any,
-                ap (λ (s : Scanned). length s.served) u.1.2 ∙ c.requires.in_step.records any,
-              ))
+          let u = took_as any from c.args.bytes.now taken c.feed-taken.result.1 steps.More c.feed-taken.new.self c.requires.in_step
+          c.requires.taking.faultless c.in-More.is c.feed-taken.ensures.feeds in (
+            ap (λ (s : Scanned). s.fault) u.1.2 ∙ c.requires.in_step.fault any,
+            ap (λ (s : Scanned). length s.served) u.1.2 ∙ c.requires.in_step.records any,
+          ))
           (omega (arith, c.requires.in_step.few, c.keep.ensures.len));
       faultless = c.requires.taking.faultless;
     }
@@ -61,11 +61,11 @@ returns-in-Fault-clause-takes c =
       owed = refl;
       in_step = in-step _ (from.stream.items ++ take taken c.args.bytes.now) c.keep.ensures.items t.0.to
           (λ any.
-              let u = took_as any from c.args.bytes.now taken c.feed-taken.result.1 steps.Fault c.feed-taken.new.self c.requires.in_step
-              c.requires.taking.faultless c.in-Fault.is c.feed-taken.ensures.feeds in (
-                ap (λ (s : Scanned). s.fault) u.1.1.complete,
-                ap (λ (s : Scanned). length s.served) u.1.1.complete ∙ c.requires.in_step.records any,
-              ))
+          let u = took_as any from c.args.bytes.now taken c.feed-taken.result.1 steps.Fault c.feed-taken.new.self c.requires.in_step
+          c.requires.taking.faultless c.in-Fault.is c.feed-taken.ensures.feeds in (
+            ap (λ (s : Scanned). s.fault) u.1.1.complete,
+            ap (λ (s : Scanned). length s.served) u.1.1.complete ∙ c.requires.in_step.records any,
+          ))
           (omega (arith, c.requires.in_step.few, c.keep.ensures.len));
       faultless = tt;
     }
@@ -89,13 +89,13 @@ returns-in-Heard-clause-takes c =
       owed = refl;
       in_step = in-step _ (from.stream.items ++ take taken c.args.bytes.now) c.keep.ensures.items t.0.to
           (λ any.
-              let u = took_as any from c.args.bytes.now taken c.feed-taken.result.1 (steps.Record c.in-Record.record) c.feed-taken.new.self
-              c.requires.in_step c.requires.taking.faultless c.in-Record.is c.feed-taken.ensures.feeds in
-              let a = call-anyway c.args.offer any c.in-Record.record.items (scan_stream any from.stream.items) from.records
-              (c.requires.in_step.records any) (heard_of c.in-Heard.heard) r in (
-                ap (λ (s : Scanned). s.fault) u.1.1.complete ∙ a.fault_is ∙ sym (ap (option_map fault_number) c.requires.taking.faultless),
-                ap (λ (s : Scanned). length s.served) u.1.1.complete ∙ a.served_is,
-              ))
+          let u = took_as any from c.args.bytes.now taken c.feed-taken.result.1 (steps.Record c.in-Record.record) c.feed-taken.new.self
+          c.requires.in_step c.requires.taking.faultless c.in-Record.is c.feed-taken.ensures.feeds in
+          let a = call-anyway c.args.offer any c.in-Record.record.items (scan_stream any from.stream.items) from.records
+          (c.requires.in_step.records any) (heard_of c.in-Heard.heard) r in (
+            ap (λ (s : Scanned). s.fault) u.1.1.complete ∙ a.fault_is ∙ sym (ap (option_map fault_number) c.requires.taking.faultless),
+            ap (λ (s : Scanned). length s.served) u.1.1.complete ∙ a.served_is,
+          ))
           (omega (arith, c.requires.in_step.few, c.keep.ensures.len, t.1.0, size));
       faultless = c.requires.taking.faultless;
     }
@@ -119,13 +119,13 @@ returns-in-Undecoded-clause-takes c =
       owed = refl;
       in_step = in-step _ (from.stream.items ++ take taken c.args.bytes.now) c.keep.ensures.items t.0.to
           (λ any.
-              let u = took_as any from c.args.bytes.now taken c.feed-taken.result.1 (steps.Record c.in-Record.record) c.feed-taken.new.self
-              c.requires.in_step c.requires.taking.faultless c.in-Record.is c.feed-taken.ensures.feeds in
-              let a = call-anyway c.args.offer any c.in-Record.record.items (scan_stream any from.stream.items) from.records
-              (c.requires.in_step.records any) (record { xid = c.in-Undecoded.xid; asked = r.0 }) r.2 in (
-                ap (λ (s : Scanned). s.fault) u.1.1.complete ∙ a.fault_is ∙ sym (ap (option_map fault_number) c.requires.taking.faultless),
-                ap (λ (s : Scanned). length s.served) u.1.1.complete ∙ a.served_is,
-              ))
+          let u = took_as any from c.args.bytes.now taken c.feed-taken.result.1 (steps.Record c.in-Record.record) c.feed-taken.new.self
+          c.requires.in_step c.requires.taking.faultless c.in-Record.is c.feed-taken.ensures.feeds in
+          let a = call-anyway c.args.offer any c.in-Record.record.items (scan_stream any from.stream.items) from.records
+          (c.requires.in_step.records any) (record { xid = c.in-Undecoded.xid; asked = r.0 }) r.2 in (
+            ap (λ (s : Scanned). s.fault) u.1.1.complete ∙ a.fault_is ∙ sym (ap (option_map fault_number) c.requires.taking.faultless),
+            ap (λ (s : Scanned). length s.served) u.1.1.complete ∙ a.served_is,
+          ))
           (omega (arith, c.requires.in_step.few, c.keep.ensures.len, t.1.0, size));
       faultless = c.requires.taking.faultless;
     }
@@ -150,13 +150,13 @@ returns-in-Fault-read_record-clause-takes c =
       owed = refl;
       in_step = in-step _ (from.stream.items ++ take taken c.args.bytes.now) c.keep.ensures.items t.0.to
           (λ any.
-              let u = took_as any from c.args.bytes.now taken c.feed-taken.result.1 (steps.Record c.in-Record.record) c.feed-taken.new.self
-              c.requires.in_step c.requires.taking.faultless c.in-Record.is c.feed-taken.ensures.feeds in
-              let a = fault-anyway c.args.offer any c.in-Record.record.items (scan_stream any from.stream.items) from.records
-              (c.requires.in_step.records any) (fault_number c.in-Fault-read_record.fault) r in (
-                ap (λ (s : Scanned). s.fault) u.1.1.complete ∙ a.fault_is,
-                ap (λ (s : Scanned). length s.served) u.1.1.complete ∙ a.served_is,
-              ))
+          let u = took_as any from c.args.bytes.now taken c.feed-taken.result.1 (steps.Record c.in-Record.record) c.feed-taken.new.self
+          c.requires.in_step c.requires.taking.faultless c.in-Record.is c.feed-taken.ensures.feeds in
+          let a = fault-anyway c.args.offer any c.in-Record.record.items (scan_stream any from.stream.items) from.records
+          (c.requires.in_step.records any) (fault_number c.in-Fault-read_record.fault) r in (
+            ap (λ (s : Scanned). s.fault) u.1.1.complete ∙ a.fault_is,
+            ap (λ (s : Scanned). length s.served) u.1.1.complete ∙ a.served_is,
+          ))
           (omega (arith, c.requires.in_step.few, c.keep.ensures.len));
       faultless = tt;
     }
