@@ -50,7 +50,8 @@ in-step c whole e at scanned few =
 module _ (offer : Offer) where
   abbrev pub Took : List ℕ → List ℕ → ℕ → Step → Type 0
   Took stream bytes taken (steps.Record made) = (0 < taken) × Completes offer stream (take taken bytes) (scanned_with offer stream made.items)
-  Took stream bytes taken steps.More = (taken ≡ length bytes) × IsQuiet offer stream bytes × (scan_stream offer (stream ++ take taken bytes) ≡ scan_stream offer stream)
+  Took stream bytes taken steps.More =
+      (taken ≡ length bytes) × IsQuiet offer stream bytes × (scan_stream offer (stream ++ take taken bytes) ≡ scan_stream offer stream)
   Took stream bytes taken steps.Fault = (0 < taken) × Completes offer stream (take taken bytes) (faulted_at offer stream)
   Took stream bytes taken steps.NoMemory = (taken ≡ 0) × (scan_stream offer (stream ++ take taken bytes) ≡ scan_stream offer stream)
 
@@ -102,7 +103,8 @@ module _ (offer : Offer) where
   abbrev pub read_to : List ℕ → Result Heard ℕ → Scanned
   read_to stream r = joined (scan_stream offer stream).served (served_of (r ∷ []) None)
 
-  pub made_as : (stream taken : List ℕ) (made : List ℕ) (r : Result Heard ℕ) → heard offer made ≡ r → Completes offer stream taken (scanned_with offer stream made)
+  pub made_as : (stream taken : List ℕ) (made : List ℕ) (r : Result Heard ℕ) → heard offer made ≡ r
+      → Completes offer stream taken (scanned_with offer stream made)
       → Completes offer stream taken (read_to stream r)
   made_as stream taken made r e k = subst (λ (q : Result Heard ℕ). Completes offer stream taken (read_to stream q)) e k
 
@@ -113,7 +115,8 @@ module _ (offer : Offer) where
   pub no_more : (stream : List ℕ) (number : ℕ) → read_to stream (Err number) ≡ ended_by stream number
   no_more stream number = ap (λ (hs : List Heard). record { served = hs; fault = Some number }) (append-nil (scan_stream offer stream).served)
 
-  pub ended-as : (stream taken : List ℕ) (number : ℕ) → Completes offer stream taken (read_to stream (Err number)) → Completes offer stream taken (ended_by stream number)
+  pub ended-as : (stream taken : List ℕ) (number : ℕ) → Completes offer stream taken (read_to stream (Err number))
+      → Completes offer stream taken (ended_by stream number)
   ended-as stream taken number k = subst (Completes offer stream taken) (no_more stream number) k
 
   pub took_as : (c : ConnectionState) (bytes : List ℕ) (taken : ℕ) (step as_this : Step) (new : Option State) → IsInStep c → c.fault ≡ None → step ≡ as_this

@@ -79,7 +79,8 @@ module _ (offer : Offer) where
       let whole : bytes ≡ take taken bytes = sym (take_all taken bytes (omega (arith, a.0))) in
       takes-quiet offer setup codec_is w c (take taken bytes) (connection_of o) f.there f.sound (subst (IsQuiet offer o.stream.items) whole a.1)
 
-  pub part-heard : (setup : Setup) (codec_is : setup.codec ≡ codec offer) (o : ConnectionState) (w : World) (c : ℕ) (bytes : List ℕ) (taken : ℕ) (told : worlds.Heard)
+  pub part-heard : (setup : Setup) (codec_is : setup.codec ≡ codec offer) (o : ConnectionState) (w : World) (c : ℕ) (bytes : List ℕ) (taken : ℕ)
+      (told : worlds.Heard)
       (starved : Bool)
       → MayStarveIf starved told.asked → (number : ℕ) → IsFed w c o → is_crowded w ≡ false → number ≡ o.records
       → Completes offer o.stream.items (take taken bytes) (record { served = (scan_stream offer o.stream.items).served ++ told ∷ []; fault = None })

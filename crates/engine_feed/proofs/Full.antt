@@ -65,7 +65,8 @@ module _ (offer : Offer) where
       let y : worlds.Connection = with_bytes k.front (connection_of o) in
       let there : slice_get middle.connections c ≡ Some y = connection-taken w c k.front (connection_of o) f.there in
       let same : scan_stream offer y.stream ≡ scan_stream offer stream = quiet-scan offer stream k.front k.quiet in
-      let whole : scan_stream offer (y.stream ++ k.last ∷ []) ≡ scanned_with offer stream made = ap (scan_stream offer) (append_assoc stream k.front (k.last ∷ [])
+      let whole : scan_stream offer (y.stream ++ k.last ∷ []) ≡ scanned_with offer stream made = ap (scan_stream offer) (append_assoc stream k.front (k.last
+      ∷ [])
       ∙ ap (λ (xs : List ℕ). stream ++ xs) (sym k.split)) ∙ k.complete in
       let at : reached setup middle c k.last ≡ reached_by (scanned_with offer stream made) (length (scan_stream offer stream).served) =
       reached-is offer setup codec_is middle c k.last y _ there whole
@@ -83,7 +84,8 @@ module _ (offer : Offer) where
       (subst (λ (n : ℕ). Walks setup (feeding c bytes n 31) w middle) size
       (subst (λ (bs : List ℕ). Walks setup (feeding c bs (length k.front + 0) 31) w middle) (rest-is bytes k.front k.last free k.split) fed))
 
-  pub full-stop : (setup : Setup) (codec_is : setup.codec ≡ codec offer) (o : ConnectionState) (w : World) (c : ℕ) (bytes : List ℕ) (free : ℕ) (at : Option State)
+  pub full-stop : (setup : Setup) (codec_is : setup.codec ≡ codec offer) (o : ConnectionState) (w : World) (c : ℕ) (bytes : List ℕ) (free : ℕ)
+      (at : Option State)
       → IsFed offer w c o
       → at ≡ o.reassembler → is_crowded w ≡ true → free < length bytes
       → (made : List ℕ) × (outcome at bytes ≡ Made (free + 1) made) → Walks setup (feeding c bytes free 31) w (bytes_taken w c (take free bytes))
@@ -109,7 +111,8 @@ module _ (offer : Offer) where
   first_at setup codec_is o w c b bytes state Faults f i a n =
       ap is_complete (reached-is offer setup codec_is w c b (connection_of o) _ f.there (scan-faults offer o.stream.items state b i a).0)
 
-  pub full-nothing : (setup : Setup) (codec_is : setup.codec ≡ codec offer) (o : ConnectionState) (w : World) (c : ℕ) (bytes : List ℕ) (free : ℕ) (at : Option State)
+  pub full-nothing : (setup : Setup) (codec_is : setup.codec ≡ codec offer) (o : ConnectionState) (w : World) (c : ℕ) (bytes : List ℕ) (free : ℕ)
+      (at : Option State)
       → IsFed offer w c o
       → at ≡ o.reassembler → 0 < length bytes → (free ≡ 0 → ⊥)
       → HasNoRecord (outcome at (take free bytes)) → Walks setup (feeding c bytes 0 90) w w
@@ -127,7 +130,8 @@ module _ (offer : Offer) where
       (fault : StreamFault) → IsFed offer w c o
       → fault ≡ RecordTooLong → free ≤ length bytes → taken ≤ free
       → new ≡ bytes_taken w c (take taken (take free bytes))
-      → Completes offer o.stream.items (take taken (take free bytes)) (record { served = (scan_stream offer o.stream.items).served; fault = Some (fault_number fault) })
+      → Completes offer o.stream.items (take taken (take free bytes))
+      (record { served = (scan_stream offer o.stream.items).served; fault = Some (fault_number fault) })
       → Walks setup (feeding c bytes taken (fault_number fault)) w new
   full-fault setup codec_is o w new c bytes free taken fault f e h t n k =
       let same : take taken (take free bytes) ≡ take taken bytes = take-within taken free bytes t in

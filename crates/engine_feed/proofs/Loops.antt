@@ -121,13 +121,15 @@ module _ (offer : Offer) where
 
   -- ---- before the first byte
 
-  pub stopped-full : (setup : Setup) (w : World) (calls : CallsState) (c : ConnectionState) (n : ℕ) (bytes : List ℕ) → IsSetup offer setup calls → IsPartOf calls n c w
+  pub stopped-full : (setup : Setup) (w : World) (calls : CallsState) (c : ConnectionState) (n : ℕ) (bytes : List ℕ) → IsSetup offer setup calls
+      → IsPartOf calls n c w
       → IsSoundConnection c → c.fault ≡ None → 0 < length bytes → (pending calls ≡ 1024) × IsFree c.reassembler bytes 0
       → Walks setup (feeding n bytes 0 31) w (with_part calls n c w)
   stopped-full setup w calls c n bytes k p s t some f =
       none-free offer setup calls n c w bytes 0 (record { codec_is = k.codec; part = p; fed = fed offer calls n c w p s.in_step t }) f.0 some f.1 refl
 
-  stops_before : (setup : Setup) (w : World) (calls : CallsState) (c : ConnectionState) (n : ℕ) (bytes : List ℕ) → IsSetup offer setup calls → IsPartOf calls n c w
+  stops_before : (setup : Setup) (w : World) (calls : CallsState) (c : ConnectionState) (n : ℕ) (bytes : List ℕ) → IsSetup offer setup calls
+      → IsPartOf calls n c w
       → IsSoundConnection c → c.fault ≡ None → 0 < length bytes → MayGoOn calls c bytes → Walks setup (feeding n bytes 0 90) w w
   stops_before setup w calls c n bytes k p s t some (inl room) = feeds-nothing setup n w bytes some (not-crowded calls n c w p room)
   stops_before setup w calls c n bytes k p s t some (inr r) =

@@ -36,7 +36,8 @@ module _ (offer : Offer) where
   taking setup calls n c w size k p s t = record { codec_is = k.codec; part = p; fed = fed offer calls n c w p s.in_step t.faultless }
 
   -- after room was made
-  pub ready : (setup : Setup) (calls calls' : CallsState) (n : ℕ) (c c' : ConnectionState) (w : World) (size : ℕ) → IsSetup offer setup calls → IsPartOf calls n c w
+  pub ready : (setup : Setup) (calls calls' : CallsState) (n : ℕ) (c c' : ConnectionState) (w : World) (size : ℕ) → IsSetup offer setup calls
+      → IsPartOf calls n c w
       → IsSoundConnection c → TakesIn c size → IsRoomier c c' → AreRoomier calls calls' → IsTaking setup calls' n c' w
   ready setup calls calls' n c c' w size k p s t r a =
       let q = still-part calls calls' n c c' w r a p in
@@ -117,7 +118,11 @@ module _ (offer : Offer) where
         let size = length-take-le free bytes f.within in
         let within = t.within in
         let a = arrived setup calls n c c' w bytes (take free bytes) taken arrival (arrivals.Fault fault) e t in
-        full-fault offer setup i.codec_is c w (with_part calls n c' w) n bytes free taken fault i.fed (subst AdmitsNone e none) f.within (omega (arith, size, within))
+        full-fault offer setup i.codec_is c w (with_part calls n c' w) n bytes free taken fault i.fed (subst AdmitsNone e none) f.within (omega (
+          arith,
+          size,
+          within,
+        ))
         (took-is setup calls n c c' w bytes (take free bytes) taken arrival i t) a.2
 
     all_free : IsFree c.reassembler bytes free → TakesFrom offer c c' (take free bytes) taken arrival → arrival ≡ arrivals.More → taken ≡ free
@@ -137,7 +142,8 @@ module _ (offer : Offer) where
         ∙ ap (bytes_taken w n) (take_all taken (take free bytes) (omega (arith, all, size)))) in
         subst (λ (k : ℕ). Walks setup (feeding n bytes k 31) w (with_part calls n c' w)) (sym all) (subst (Walks setup (feeding n bytes free 31) w) new stop)
 
-    pub more-free : IsTaking setup calls n c w → IsFree c.reassembler bytes free → TakesFrom offer c c' (take free bytes) taken arrival → arrival ≡ arrivals.More
+    pub more-free : IsTaking setup calls n c w → IsFree c.reassembler bytes free → TakesFrom offer c c' (take free bytes) taken arrival
+        → arrival ≡ arrivals.More
         → TakesAll setup n w (take taken bytes) (with_part calls n c' w)
     more-free i f t e =
         let all = all_free f t e in

@@ -77,7 +77,8 @@ module _ (offer : Offer) where
 
   -- the byte that ends a header at fault
   pub scan-faults : (stream : List ℕ) (state : State) (b : ℕ) → IsAt stream state → after state b ≡ Faults
-      → (scan_stream offer (stream ++ b ∷ []) ≡ record { served = (scan_stream offer stream).served; fault = Some 11 }) × ((read_stream (stream ++ b ∷ [])).at ≡ None)
+      → (scan_stream offer (stream ++ b ∷ []) ≡ record { served = (scan_stream offer stream).served; fault = Some 11 }) ×
+      ((read_stream (stream ++ b ∷ [])).at ≡ None)
   scan-faults stream state b h e =
       let records = (read_stream stream).records in
       let read : read_stream (stream ++ b ∷ []) ≡ record { records = records; at = None } = read-push stream state b h.at ∙ ap (reading_at records) e in (

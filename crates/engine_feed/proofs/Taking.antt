@@ -20,7 +20,8 @@ module _ (offer : Offer) where
   quiet_none : (stream : List ℕ) (state : State) → IsAt offer stream state → IsQuietTo stream [] state
   quiet_none stream state h = record { quiet = tt; to = subst (λ (s : List ℕ). IsAt offer s state) (sym (append-nil stream)) h }
 
-  quiet_more : (stream bytes : List ℕ) (b : ℕ) (state next to : State) → IsAt offer stream state → after state b ≡ Goes next → IsQuietTo (stream ++ b ∷ []) bytes to
+  quiet_more : (stream bytes : List ℕ) (b : ℕ) (state next to : State) → IsAt offer stream state → after state b ≡ Goes next
+      → IsQuietTo (stream ++ b ∷ []) bytes to
       → IsQuietTo stream (b ∷ bytes) to
   quiet_more stream bytes b state next to h e q = record {
     quiet = ((scan-goes offer stream state next b h e).0, q.quiet);
@@ -34,7 +35,8 @@ module _ (offer : Offer) where
   scan-more_at : (stream bytes : List ℕ) (b : ℕ) (state to : State) (t : ℕ) (n : Next) → IsAt offer stream state → after state b ≡ n
       → GoesOn (stream ++ b ∷ []) bytes to (t + 1)
       → go (t + 1) n (λ next. scan (t + 1) next bytes) ≡ More to → IsQuietTo stream (b ∷ bytes) to
-  scan-more_at stream bytes b state to t (Goes next) h a rest e = quiet_more stream bytes b state next to h a (rest next (scan-goes offer stream state next b h a).1 e)
+  scan-more_at stream bytes b state to t (Goes next) h a rest e =
+      quiet_more stream bytes b state next to h a (rest next (scan-goes offer stream state next b h a).1 e)
   scan-more_at stream bytes b state to t (Ends made) h a rest e = absurd cc
   scan-more_at stream bytes b state to t Faults h a rest e = absurd cc
 

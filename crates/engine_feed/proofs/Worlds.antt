@@ -72,7 +72,8 @@ module _ (offer : Offer) where
   served-count setup codec_is w c x e =
       ap (λ (k : Codec). length (k.scan (stream_of w c)).served) codec_is ∙ ap (λ (s : List ℕ). length (scan_stream offer s).served) (stream-of w c x e)
 
-  pub reached-is : (setup : Setup) (codec_is : setup.codec ≡ codec offer) (w : World) (c b : ℕ) (x : Connection) (s : Scanned) → slice_get w.connections c ≡ Some x
+  pub reached-is : (setup : Setup) (codec_is : setup.codec ≡ codec offer) (w : World) (c b : ℕ) (x : Connection) (s : Scanned)
+      → slice_get w.connections c ≡ Some x
       → scan_stream offer (x.stream ++ b ∷ []) ≡ s
       → reached setup w c b ≡ reached_by s (length (scan_stream offer x.stream).served)
   reached-is setup codec_is w c b x s e k =
@@ -81,12 +82,14 @@ module _ (offer : Offer) where
 
   -- ---- bytes that complete nothing
 
-  pub takes-quiet : (setup : Setup) (codec_is : setup.codec ≡ codec offer) (w : World) (c : ℕ) (bytes : List ℕ) (x : Connection) → slice_get w.connections c ≡ Some x
+  pub takes-quiet : (setup : Setup) (codec_is : setup.codec ≡ codec offer) (w : World) (c : ℕ) (bytes : List ℕ) (x : Connection)
+      → slice_get w.connections c ≡ Some x
       → (scan_stream offer x.stream).fault ≡ None → IsQuiet offer x.stream bytes
       → TakesAll setup c w bytes (bytes_taken w c bytes)
   takes-quiet setup codec_is w c [] x e f q = bytes_taken-none w c
   takes-quiet setup codec_is w c (b ∷ bytes) x e f q =
-      let further : reached setup w c b ≡ Further = reached-is setup codec_is w c b x (scan_stream offer x.stream) e q.0 ∙ reached-quiet (scan_stream offer x.stream) f in
+      let further : reached setup w c b ≡ Further = reached-is setup codec_is w c b x (scan_stream offer x.stream) e q.0 ∙ reached-quiet (scan_stream offer
+      x.stream) f in
       let first : Takes setup w c b (reached setup w c b) (byte_taken w c b) = subst (λ (at : Reached). Takes setup w c b at (byte_taken w c b))
       (sym further) refl in
       let y : Connection = with_bytes (b ∷ []) x in

@@ -62,7 +62,10 @@ Arrives offer stream bytes taken (arrivals.Heard heard) =
 Arrives offer stream bytes taken (arrivals.Undecoded xid) =
     (0 < taken) × (taken ≤ length bytes)
     × ((asked : types.Asked) × IsTrue (may_starve_at_decoding asked)
-    × Completes offer stream (take taken bytes) (record { served = (scan_stream offer stream).served ++ (record { xid = xid; asked = asked }) ∷ []; fault = None }))
+    × Completes offer stream (take taken bytes) (record {
+      served = (scan_stream offer stream).served ++ (record { xid = xid; asked = asked }) ∷ [];
+      fault = None;
+    }))
 Arrives offer stream bytes taken (arrivals.Fault fault) =
     (0 < taken) × (taken ≤ length bytes)
     × Completes offer stream (take taken bytes) (record { served = (scan_stream offer stream).served; fault = Some (fault_number fault) })

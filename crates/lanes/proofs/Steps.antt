@@ -117,7 +117,8 @@ module _ {D : Type 0} (unread written : D → Option (List ℕ)) (layout : Layou
       (λ before r. subst (λ (x : Connection D). Reads offer unread c.opened.value x (before ++ h.heard)) (sym on.is)
       (reads-on unread written HasTakenIn has_room_in layout offer c (owing_in c.owed sink) size result on.between sink' h c.opened.value before r))
       (λ waiting replies r. subst (λ (x : Connection D). Writes written c.opened.value x waiting replies) (sym on.is)
-      (writes-kept unread written HasTakenIn has_room_in layout offer c (owing_in c.owed sink) size result on.between sink' h c.opened.value waiting replies r)))
+      (writes-kept unread written HasTakenIn has_room_in layout offer c (owing_in c.owed sink) size result on.between sink' h c.opened.value waiting replies
+      r)))
 
   pub reads-told : {R : Type 0} (layout' : Layout) (slab slab' : Slab (Connection D)) (key : ℕ) (sink sink' : Intake R)
       (size : ℕ) (result : Came) → layout' ≡ layout → ReadsUnder unread written layout' offer slab key (get slab key) sink size result slab' sink'
@@ -186,7 +187,10 @@ module _ {D : Type 0} (unread written : D → Option (List ℕ)) (layout : Layou
       → Told messages boxes slab → Told messages boxes' slab'
   closes-told slab slab' key c messages boxes boxes' was updates is t =
       subst (λ (b : Boxes). Told messages b slab') (sym is)
-      (∥∥₁_map t (λ s. story-shuts unread written layout offer lane lanes entries messages boxes (get slab) s (get slab') key c was (updates.changed, updates.others)
+      (∥∥₁_map t (λ s. story-shuts unread written layout offer lane lanes entries messages boxes (get slab) s (get slab') key c was (
+        updates.changed,
+        updates.others,
+      )
       (λ n d. get-remove_at boxes.waiting (number_of c) n ∙ ap (λ b. cond b None (get-of boxes n)) (ne_eqb n (number_of c) d))))
 
 module _ {D : Type 0} (unread written : D → Option (List ℕ)) (layout : Layout) (offer : Offer) (lane lanes : ℕ) (entries : List FilerEntry) where
@@ -209,7 +213,8 @@ module _ {D : Type 0} (unread written : D → Option (List ℕ)) (layout : Layou
 -- ---- turns
 
 -- a pass by which nothing was put
-pub put-kept : {D : Type 0} (unread written : D → Option (List ℕ)) (layout : Layout) (offer : Offer) (lane lanes : ℕ) (entries : List FilerEntry) (boxes : Boxes)
+pub put-kept : {D : Type 0} (unread written : D → Option (List ℕ)) (layout : Layout) (offer : Offer) (lane lanes : ℕ) (entries : List FilerEntry)
+    (boxes : Boxes)
     (slots : ℕ → Option (Connection D)) (p p' : Pass Message layouts.Layout) → known p' ≡ known p
     → ∥ Story unread written layout offer lane lanes entries (known p).put boxes slots ∥₁
     → ∥ Story unread written layout offer lane lanes entries (known p').put boxes slots ∥₁
@@ -292,7 +297,8 @@ inner-none e (Inner inner) call h = refl
 module _ {D : Type 0} (unread written : D → Option (List ℕ)) (layout : Layout) (offer : Offer) (lane lanes : ℕ) (messages : List Message) (boxes : Boxes)
     (slots : ℕ → Option (Connection D)) (before after : Worker) where
   tended-told : (entries entries' : List FilerEntry) → served_in entries' ≡ served_in entries
-      → ∥ Story unread written layout offer lane lanes entries messages boxes slots ∥₁ → ∥ Story unread written layout offer lane lanes entries' messages boxes slots ∥₁
+      → ∥ Story unread written layout offer lane lanes entries messages boxes slots ∥₁
+      → ∥ Story unread written layout offer lane lanes entries' messages boxes slots ∥₁
   tended-told entries entries' e t = ∥∥₁_map t (λ s. story-turns unread written layout offer lane lanes entries messages boxes slots s entries' e)
 
   answers-told : (inner : Result jobs.InnerCall TendRefusal) (answer : Result Tended TendRefusal) → Answers layout before inner answer after

@@ -29,7 +29,8 @@ returns-clause-admitted c offer setup w k p =
     let calls = c.args.calls.now in
     let reply = refusal_of c.args.refusal in
     finishes calls c.keep_entry.new.calls to c.write_reply.new.to (entry_at c.args.origin (types.Refused reply) None start_of_times false) reply
-    (written-is to c.write_reply.new.to _ c.write_reply.ensures.written) (ap waiting_of c.keep_entry.ensures.keeps.same) c.keep_entry.ensures.kept setup w (ap (λ (q : Codec). q.reply_record) k.codec) p.shows
+    (written-is to c.write_reply.new.to _ c.write_reply.ensures.written) (ap waiting_of c.keep_entry.ensures.keeps.same) c.keep_entry.ensures.kept setup w
+    (ap (λ (q : Codec). q.reply_record) k.codec) p.shows
     p.connection
 
 pub returns-clause-keeps : goal.returns-clause-keeps

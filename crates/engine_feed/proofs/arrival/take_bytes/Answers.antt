@@ -22,7 +22,8 @@ pub returns-in-More-clause-takes : goal.returns-in-More-clause-takes
 returns-in-More-clause-takes c =
     let from = c.args.from.now in
     let taken = c.feed-taken.result.0 in
-    let t = took_as c.args.offer from c.args.bytes.now taken c.feed-taken.result.1 steps.More c.feed-taken.new.self c.requires.in_step c.requires.taking.faultless
+    let t = took_as c.args.offer from c.args.bytes.now taken c.feed-taken.result.1 steps.More c.feed-taken.new.self c.requires.in_step
+    c.requires.taking.faultless
     c.in-More.is c.feed-taken.ensures.feeds in
     let size = length_taken taken c.args.bytes.now t.0.within in
     record {
@@ -48,7 +49,8 @@ pub returns-in-Fault-clause-takes : goal.returns-in-Fault-clause-takes
 returns-in-Fault-clause-takes c =
     let from = c.args.from.now in
     let taken = c.feed-taken.result.0 in
-    let t = took_as c.args.offer from c.args.bytes.now taken c.feed-taken.result.1 steps.Fault c.feed-taken.new.self c.requires.in_step c.requires.taking.faultless
+    let t = took_as c.args.offer from c.args.bytes.now taken c.feed-taken.result.1 steps.Fault c.feed-taken.new.self c.requires.in_step
+    c.requires.taking.faultless
     c.in-Fault.is c.feed-taken.ensures.feeds in
     let size = length_taken taken c.args.bytes.now t.0.within in
     record {

@@ -11,7 +11,8 @@ returns-then-is_err-clause-feeds c setup w k p =
     let n = c.args.number.0 in
     let made = c.make_room in
     let room = not-crowded c.args.calls.now n c.args.connection.now w p c.requires.places in
-    let i = ready c.args.offer setup c.args.calls.now made.new.calls n c.args.connection.now made.new.connection w (length c.args.bytes.now) k p c.requires.connection
+    let i = ready c.args.offer setup c.args.calls.now made.new.calls n c.args.connection.now made.new.connection w (length c.args.bytes.now) k p
+    c.requires.connection
     c.requires.taking made.ensures.connection made.ensures.calls in
     none-made c.args.offer setup made.new.calls n made.new.connection w c.args.bytes.now i c.requires.some room
 
@@ -21,7 +22,8 @@ returns-in-NoMemory-clause-feeds c setup w k p =
     let made = c.make_room in
     let t = c.take_bytes-taken in
     let room = not-crowded c.args.calls.now n c.args.connection.now w p c.requires.places in
-    let i = ready c.args.offer setup c.args.calls.now made.new.calls n c.args.connection.now made.new.connection w (length c.args.bytes.now) k p c.requires.connection
+    let i = ready c.args.offer setup c.args.calls.now made.new.calls n c.args.connection.now made.new.connection w (length c.args.bytes.now) k p
+    c.requires.connection
     c.requires.taking made.ensures.connection made.ensures.calls in
     none-took c.args.offer setup made.new.calls n made.new.connection t.new.from w c.args.bytes.now c.args.bytes.now t.result.0 t.result.1 i t.ensures.takes
     c.in-NoMemory.is (feeds-nothing setup n w c.args.bytes.now c.requires.some room)
@@ -32,7 +34,8 @@ returns-in-Fault-clause-feeds c setup w k p =
     let made = c.make_room in
     let t = c.take_bytes-taken in
     let room = not-crowded c.args.calls.now n c.args.connection.now w p c.requires.places in
-    let i = ready c.args.offer setup c.args.calls.now made.new.calls n c.args.connection.now made.new.connection w (length c.args.bytes.now) k p c.requires.connection
+    let i = ready c.args.offer setup c.args.calls.now made.new.calls n c.args.connection.now made.new.connection w (length c.args.bytes.now) k p
+    c.requires.connection
     c.requires.taking made.ensures.connection made.ensures.calls in
     fault-took c.args.offer setup made.new.calls n made.new.connection t.new.from w c.args.bytes.now c.args.bytes.now t.result.0 t.result.1 c.in-Fault.fault i
     t.ensures.takes c.in-Fault.is room
@@ -42,9 +45,11 @@ returns-in-More-clause-feeds c setup w k p =
     let n = c.args.number.0 in
     let made = c.make_room in
     let t = c.take_bytes-taken in
-    let i = ready c.args.offer setup c.args.calls.now made.new.calls n c.args.connection.now made.new.connection w (length c.args.bytes.now) k p c.requires.connection
+    let i = ready c.args.offer setup c.args.calls.now made.new.calls n c.args.connection.now made.new.connection w (length c.args.bytes.now) k p
+    c.requires.connection
     c.requires.taking made.ensures.connection made.ensures.calls in
-    more-took c.args.offer setup made.new.calls n made.new.connection t.new.from w c.args.bytes.now c.args.bytes.now t.result.0 t.result.1 i t.ensures.takes c.in-More.is
+    more-took c.args.offer setup made.new.calls n made.new.connection t.new.from w c.args.bytes.now c.args.bytes.now t.result.0 t.result.1 i t.ensures.takes
+    c.in-More.is
 
 pub returns-in-Heard-clause-feeds : goal.returns-in-Heard-clause-feeds
 returns-in-Heard-clause-feeds c setup w k p =
@@ -52,7 +57,8 @@ returns-in-Heard-clause-feeds c setup w k p =
     let made = c.make_room in
     let t = c.take_bytes-taken in
     let room = not-crowded c.args.calls.now n c.args.connection.now w p c.requires.places in
-    let i = ready c.args.offer setup c.args.calls.now made.new.calls n c.args.connection.now made.new.connection w (length c.args.bytes.now) k p c.requires.connection
+    let i = ready c.args.offer setup c.args.calls.now made.new.calls n c.args.connection.now made.new.connection w (length c.args.bytes.now) k p
+    c.requires.connection
     c.requires.taking made.ensures.connection made.ensures.calls in
     let a = arrived c.args.offer setup made.new.calls n made.new.connection t.new.from w c.args.bytes.now c.args.bytes.now t.result.0 t.result.1
     (arrivals.Heard c.in-Heard.heard) c.in-Heard.is t.ensures.takes in
@@ -66,7 +72,8 @@ returns-in-Undecoded-clause-feeds c setup w k p =
     let made = c.make_room in
     let t = c.take_bytes-taken in
     let room = not-crowded c.args.calls.now n c.args.connection.now w p c.requires.places in
-    let i = ready c.args.offer setup c.args.calls.now made.new.calls n c.args.connection.now made.new.connection w (length c.args.bytes.now) k p c.requires.connection
+    let i = ready c.args.offer setup c.args.calls.now made.new.calls n c.args.connection.now made.new.connection w (length c.args.bytes.now) k p
+    c.requires.connection
     c.requires.taking made.ensures.connection made.ensures.calls in
     let a = arrived c.args.offer setup made.new.calls n made.new.connection t.new.from w c.args.bytes.now c.args.bytes.now t.result.0 t.result.1
     (arrivals.Undecoded c.in-Undecoded.xid) c.in-Undecoded.is t.ensures.takes in

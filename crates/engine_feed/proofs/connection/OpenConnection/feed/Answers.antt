@@ -17,7 +17,8 @@ returns-clause-feeds c =
     let n = c.args.number.0 in
     let bytes = c.args.bytes.now in
     subst (λ (x : CallsState). HasFed c.args.offer x c.args.self.now n bytes f.result.0 f.result.1 f.new.calls f.new.connection) c.calls.view_is
-    (subst (λ (x : ConnectionState). HasFed c.args.offer c.calls.inside.state x n bytes f.result.0 f.result.1 f.new.calls f.new.connection) c.self.view_is f.ensures.feeds)
+    (subst (λ (x : ConnectionState). HasFed c.args.offer c.calls.inside.state x n bytes f.result.0 f.result.1 f.new.calls f.new.connection) c.self.view_is
+    f.ensures.feeds)
 
 pub returns-clause-admitted : goal.returns-clause-admitted
 returns-clause-admitted c = c.feed.ensures.stays.are_sound.admitted

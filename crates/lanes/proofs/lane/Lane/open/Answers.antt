@@ -46,7 +46,8 @@ invariant_of-self-3 g c =
           c.insert_reserved.new.self c.insert_reserved.result c.new-connection.result (known l.intake.pass).put
           l.intake.outboxes c.open.new.self c.reserve.ensures.rest_kept
           c.insert_reserved.ensures.was_vacant c.insert_reserved.ensures.updates c.in-Ok.ensures.ok (c.new-connection.ensures.number ∙ number)
-          (subst (λ x. Reads l.offer g.D.Device.unread x c.new-connection.result []) (sym c.new-connection.ensures.opened) (c.new-connection.ensures.reads l.offer))
+          (subst (λ x. Reads l.offer g.D.Device.unread x c.new-connection.result []) (sym c.new-connection.ensures.opened) (c.new-connection.ensures.reads
+          l.offer))
           (subst (λ x. Writes g.D.Device.written x c.new-connection.result [] []) (sym c.new-connection.ensures.opened) c.new-connection.ensures.writes)
           l.story;
     }
