@@ -3,13 +3,14 @@
 ghost use Rattle.std.specs.Prelude.{◌≡◌, ◌≤◌, ◌<◌, [], IfOk, vec_len, vec_capacity};
 ghost use Rattle.std.specs.Arc.{arc_value};
 ghost use Rattle.lanes.specs.Words.{identity_in, worker_in};
-ghost use Rattle.server.specs.Lanes.{AreLanesOf, IsLaneOf};
+ghost use Rattle.server.specs.Lanes.{AllOffer, AreLanesOf, IsLaneOf};
 ghost use Rattle.server.specs.Queues.{IsNewQueue, IsReadyLane};
 
 use crate::fault::ServerFault;
 use crate::options::MOST_VOLUMES;
 use affinity::{AggregateSpec, Layout, VolumeSpec};
 use lanes::{Device, Lane};
+use nfs_values::Offer;
 use std::alloc::{AllocError, Global};
 use std::rt::Clock;
 use std::sync::Arc;
@@ -72,6 +73,7 @@ fn open_lane<D, R>(
     rt: R,
     alloc: Global,
     filer: &Arc<Filer>,
+    offer: Offer,
     queue: SharedWaiting<Envelope, Layout>,
     admits: Pass<Envelope, Layout>,
     worker: Worker,
@@ -86,16 +88,19 @@ where
     requires ready { IsReadyLane (arc_value filer.now) queue admits worker }
     ensures of { IfOk result (λ opened. IsLaneOf (arc_value filer.now) opened) }
     ensures worker { IfOk result (λ opened. worker_in opened ≡ worker) }
-    ensures identity { IfOk result (λ opened. identity_in opened ≡ ((lane, lanes), queue)) }
+    ensures identity { IfOk result (λ opened.
+        identity_in opened ≡ ((lane, lanes), (offer, queue))) }
 {
     let filer = Arc::try_clone(filer)?;
-    Ok(Lane::new(rt, alloc, filer, queue, admits, worker, lane, lanes))
+    Ok(Lane::new(rt, alloc, filer, offer, queue, admits, worker, lane, lanes))
 }
 
-/// All lanes of a filer, so many, with their connections over devices of one type.
+/// All lanes of a filer, so many, which read by what is offered, with their connections over
+/// devices of one type.
 pub fn open_lanes<D, R>(
     rt: R,
     alloc: Global,
+    offer: Offer,
     layout: Layout,
     verifier: [u8; 8],
     count: usize,
@@ -108,6 +113,7 @@ where
     requires none { lanes.items ≡ [] }
     requires room { count ≤ vec_capacity lanes }
     ensures lanes { IfOk result (λ made. AreLanesOf (arc_value made.0) made.1.items) }
+    ensures offer { IfOk result (λ made. AllOffer offer made.1.items) }
     ensures count { IfOk result (λ made. vec_len made.1 ≡ count) }
     ensures room { IfOk result (λ made. vec_capacity made.1 ≡ vec_capacity lanes) }
 {
@@ -127,10 +133,10 @@ where
         } = open_queue(alloc, &filer)?;
         let (first, second) = worker.split_with(&filer, &queue, &theirs, takes);
         worker = first;
-        let lane = open_lane(rt, alloc, &filer, theirs, puts, second, index, count)?;
+        let lane = open_lane(rt, alloc, &filer, offer, theirs, puts, second, index, count)?;
         lanes.push_reserved(lane);
     }
-    let lane = open_lane(rt, alloc, &filer, queue, admits, worker, 0, count)?;
+    let lane = open_lane(rt, alloc, &filer, offer, queue, admits, worker, 0, count)?;
     lanes.push_reserved(lane);
     Ok((filer, lanes))
 }

@@ -2,6 +2,7 @@
 
 ghost use Rattle.std.specs.Prelude.{◌≤◌, ◌<◌};
 
+use nfs_values::Offer;
 use std::net::SocketAddr;
 
 /// The most volumes.
@@ -10,13 +11,15 @@ pub(crate) const MOST_VOLUMES: usize = 8;
 /// The most workers.
 pub(crate) const MOST_WORKERS: usize = 64;
 
-/// Where a server listens, and how many volumes (1 to 8), workers (1 to 64) and connections it has.
-#[derive(Clone, Copy, PartialEq, Eq)]
+/// Where a server listens, how many volumes (1 to 8), workers (1 to 64) and connections it has, and
+/// what it offers.
+#[derive(Clone, Copy)]
 pub struct Options {
     pub address: SocketAddr,
     pub volumes: usize,
     pub workers: usize,
     pub connections: u64,
+    pub offer: Offer,
     pub ghost some_volume: { 0 < volumes },
     pub ghost volumes_fit: { volumes ≤ 8 },
     pub ghost some_worker: { 0 < workers },
@@ -25,9 +28,11 @@ pub struct Options {
 
 impl Options {
     ghost use Rattle.std.specs.Prelude.{◌≡◌, IfNone, IfSome};
+    ghost use Rattle.nfs_values.specs.Offer.{basic};
     ghost use Rattle.server.specs.Asked.{IsInRange};
 
-    /// These options, where the numbers are in their ranges, and else none.
+    /// These options, where the numbers are in their ranges, and else none. The offer is the basic
+    /// one.
     pub fn new(
         address: SocketAddr,
         volumes: usize,
@@ -36,7 +41,7 @@ impl Options {
     ) -> Option<Options>
         ensures given { IfSome result (λ options. options.address ≡ address
             × options.volumes ≡ volumes × options.workers ≡ workers
-            × options.connections ≡ connections) }
+            × options.connections ≡ connections × options.offer ≡ basic) }
         ensures in_range { IfSome result (λ options. IsInRange volumes workers) }
         ensures refused { IfNone result (IsInRange volumes workers → ⊥) }
     {
@@ -51,6 +56,16 @@ impl Options {
             volumes,
             workers,
             connections,
+            offer: Offer::basic(),
         })
+    }
+
+    /// The same options with another offer.
+    pub fn with_offer(self, offer: Offer) -> Options
+        ensures { result ≡ record self { offer = offer } }
+    {
+        let mut options = self;
+        options.offer = offer;
+        options
     }
 }
