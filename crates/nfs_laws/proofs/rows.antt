@@ -1,5 +1,6 @@
 mod Cases
 mod Attributes
+mod Telling
 mod Making
 mod Leaving
 mod Pages

@@ -126,6 +126,20 @@ create_from (inr (inl v)) = model.Guarded (set_from v)
 create_from (inr (inr (inl v))) = model.Exclusive v
 create_from (inr (inr (inr v))) = absurd v
 
+-- symlinkdata3 (section 3.3.10): symlink_attributes and symlink_data, a nfspath3
+abbrev pub symlink_shape : Shape
+symlink_shape = set_shape & any_bytes
+
+-- devicedata3 (section 3.3.11): dev_attributes and spec
+abbrev pub device_data_shape : Shape
+device_data_shape = set_shape & device_shape
+
+-- mknoddata3 (section 3.3.11): NF3CHR and NF3BLK with devicedata3, NF3SOCK and NF3FIFO with pipe_attributes, and NF3REG, NF3DIR and NF3LNK
+-- with nothing
+abbrev pub mknod_shape : Shape
+mknod_shape =
+    Case 4 device_data_shape (Case 3 device_data_shape (Case 6 set_shape (Case 7 set_shape (Case 1 Void (Case 2 Void (Case 5 Void NoCase))))))
+
 -- stable_how (section 3.3.7)
 abbrev pub stable_shape : Shape
 stable_shape = Choice (0 ∷ 1 ∷ 2 ∷ [])

@@ -11,6 +11,10 @@ ghost use Rattle.nfs_values.specs.declared.procedure.Procedure.{Procedure};
 ghost use Rattle.nfs_types.specs.Shapes.{handle_shape, target_shape};
 ghost use Rattle.nfs_types.specs.Arguments.{Makes, target_of, asked, asked_by, takes_memory};
 ghost use Rattle.nfs_types.specs.Arguments.{setattr_shape, range_shape, writing_shape};
+ghost use Rattle.nfs_types.specs.Arguments.{access_shape, symlinking_shape, mknodding_shape};
+ghost use Rattle.nfs_types.specs.Arguments.{linking_shape, access_call, readlink_call};
+ghost use Rattle.nfs_types.specs.Arguments.{symlink_call, mknod_call, link_call, fsinfo_call};
+ghost use Rattle.nfs_types.specs.Arguments.{pathconf_call};
 ghost use Rattle.nfs_types.specs.Arguments.{creating_shape, making_shape, listing_shape};
 ghost use Rattle.nfs_types.specs.Arguments.{growing_shape, renaming_shape, null_call, getattr_call};
 ghost use Rattle.nfs_types.specs.Arguments.{setattr_call, lookup_call, read_call, write_call};
@@ -19,10 +23,10 @@ ghost use Rattle.nfs_types.specs.Arguments.{rename_call, readdir_call, fsstat_ca
 ghost use Rattle.nfs_types.specs.Arguments.{census_call, grow_call};
 
 use crate::bad::Bad;
-use crate::decode::{StableHow, decode_all};
+use crate::decode::{DeviceToMake, StableHow, decode_all};
 use nfs_values::{
     BytesToWrite, Call, Cookie, CreateMode, FileHandle, Moment, Name, Procedure, SetAttributes,
-    Target, Verifier, VolumeNumber,
+    Target, UnsupportedProcedure, Verifier, VolumeNumber,
 };
 use std::alloc::Global;
 use xdr::Fault;
@@ -75,6 +79,22 @@ fn lookup(alloc: Global, bytes: &[u8]) -> Result<Call, Bad>
     ensures { Makes call_of true result (asked_by target_shape lookup_call bytes.now) }
 {
     Ok(Call::Lookup(target(alloc, bytes)?))
+}
+
+/// ACCESS (RFC 1813 section 3.3.4).
+fn check_access(bytes: &[u8]) -> Result<Call, Bad>
+    ensures { Makes call_of false result (asked_by access_shape access_call bytes.now) }
+{
+    let (handle, asked) = decode_all::<(FileHandle, u32)>(bytes)?;
+    Ok(Call::CheckAccess { handle, asked })
+}
+
+/// READLINK (RFC 1813 section 3.3.5), which isn't supported.
+fn read_link(bytes: &[u8]) -> Result<Call, Bad>
+    ensures { Makes call_of false result (asked_by handle_shape readlink_call bytes.now) }
+{
+    let _link = decode_all::<FileHandle>(bytes)?;
+    Ok(Call::Unsupported(UnsupportedProcedure::ReadLink))
 }
 
 /// READ (RFC 1813 section 3.3.6).
@@ -141,6 +161,22 @@ fn make_directory(alloc: Global, bytes: &[u8]) -> Result<Call, Bad>
     Ok(Call::MakeDirectory { target, set })
 }
 
+/// SYMLINK (RFC 1813 section 3.3.10), which isn't supported.
+fn make_symbolic_link(bytes: &[u8]) -> Result<Call, Bad>
+    ensures { Makes call_of false result (asked_by symlinking_shape symlink_call bytes.now) }
+{
+    let _link = decode_all::<((FileHandle, &[u8]), (SetAttributes, &[u8]))>(bytes)?;
+    Ok(Call::Unsupported(UnsupportedProcedure::MakeSymbolicLink))
+}
+
+/// MKNOD (RFC 1813 section 3.3.11), which isn't supported.
+fn make_device(bytes: &[u8]) -> Result<Call, Bad>
+    ensures { Makes call_of false result (asked_by mknodding_shape mknod_call bytes.now) }
+{
+    let _device = decode_all::<((FileHandle, &[u8]), DeviceToMake)>(bytes)?;
+    Ok(Call::Unsupported(UnsupportedProcedure::MakeDevice))
+}
+
 /// REMOVE (RFC 1813 section 3.3.12).
 fn remove(alloc: Global, bytes: &[u8]) -> Result<Call, Bad>
     ensures { Makes call_of true result (asked_by target_shape remove_call bytes.now) }
@@ -167,6 +203,14 @@ fn rename(alloc: Global, bytes: &[u8]) -> Result<Call, Bad>
     Ok(Call::Rename { from, to })
 }
 
+/// LINK (RFC 1813 section 3.3.15), which isn't supported.
+fn make_link(bytes: &[u8]) -> Result<Call, Bad>
+    ensures { Makes call_of false result (asked_by linking_shape link_call bytes.now) }
+{
+    let _link = decode_all::<(FileHandle, (FileHandle, &[u8]))>(bytes)?;
+    Ok(Call::Unsupported(UnsupportedProcedure::MakeLink))
+}
+
 /// READDIR (RFC 1813 section 3.3.16).
 fn read_directory(bytes: &[u8]) -> Result<Call, Bad>
     ensures { Makes call_of false result (asked_by listing_shape readdir_call bytes.now) }
@@ -188,6 +232,22 @@ fn filesystem_status(bytes: &[u8]) -> Result<Call, Bad>
 {
     let handle = decode_all::<FileHandle>(bytes)?;
     Ok(Call::FilesystemStatus { handle })
+}
+
+/// FSINFO (RFC 1813 section 3.3.19).
+fn filesystem_info(bytes: &[u8]) -> Result<Call, Bad>
+    ensures { Makes call_of false result (asked_by handle_shape fsinfo_call bytes.now) }
+{
+    let handle = decode_all::<FileHandle>(bytes)?;
+    Ok(Call::FilesystemInfo { handle })
+}
+
+/// PATHCONF (RFC 1813 section 3.3.20).
+fn path_configuration(bytes: &[u8]) -> Result<Call, Bad>
+    ensures { Makes call_of false result (asked_by handle_shape pathconf_call bytes.now) }
+{
+    let handle = decode_all::<FileHandle>(bytes)?;
+    Ok(Call::PathConfiguration { handle })
 }
 
 /// COMMIT (RFC 1813 section 3.3.21).
@@ -223,15 +283,22 @@ pub fn decode_call(alloc: Global, procedure: Procedure, bytes: &[u8]) -> Result<
         Procedure::GetAttributes => get_attributes(bytes),
         Procedure::SetAttributes => set_attributes(bytes),
         Procedure::Lookup => lookup(alloc, bytes),
+        Procedure::CheckAccess => check_access(bytes),
+        Procedure::ReadLink => read_link(bytes),
         Procedure::Read => read(bytes),
         Procedure::Write => write(alloc, bytes),
         Procedure::Create => create(alloc, bytes),
         Procedure::MakeDirectory => make_directory(alloc, bytes),
+        Procedure::MakeSymbolicLink => make_symbolic_link(bytes),
+        Procedure::MakeDevice => make_device(bytes),
         Procedure::Remove => remove(alloc, bytes),
         Procedure::RemoveDirectory => remove_directory(alloc, bytes),
         Procedure::Rename => rename(alloc, bytes),
+        Procedure::MakeLink => make_link(bytes),
         Procedure::ReadDirectory => read_directory(bytes),
         Procedure::FilesystemStatus => filesystem_status(bytes),
+        Procedure::FilesystemInfo => filesystem_info(bytes),
+        Procedure::PathConfiguration => path_configuration(bytes),
         Procedure::Commit => commit(bytes),
         Procedure::Census => census(bytes),
         Procedure::Grow => grow(bytes),

@@ -4,6 +4,7 @@ pub mod Name
 pub mod Handle
 pub mod Credential
 pub mod Status
+pub mod Unsupported
 pub mod Attributes
 pub mod Set
 pub mod Procedure

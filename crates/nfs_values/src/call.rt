@@ -12,6 +12,7 @@ use crate::number::{Cookie, VolumeNumber};
 use crate::route::Route;
 use crate::set::{CreateMode, SetAttributes};
 use crate::target::Target;
+use crate::unsupported::UnsupportedProcedure;
 use crate::verifier::Verifier;
 
 /// A call with its arguments (RFC 1813 section 3.3). A handle is the bytes that came, good or bad.
@@ -30,6 +31,11 @@ pub enum Call {
         guard: Option<Moment>,
     },
     Lookup(Target),
+    CheckAccess {
+        handle: FileHandle,
+        /// The bits of what the caller asks whether it may do.
+        asked: u32,
+    },
     Read {
         handle: FileHandle,
         offset: u64,
@@ -65,9 +71,17 @@ pub enum Call {
     FilesystemStatus {
         handle: FileHandle,
     },
+    FilesystemInfo {
+        handle: FileHandle,
+    },
+    PathConfiguration {
+        handle: FileHandle,
+    },
     Commit {
         handle: FileHandle,
     },
+    /// One on links or devices, without its arguments.
+    Unsupported(UnsupportedProcedure),
     /// CENSUS of the admin program.
     Census,
     /// GROW of the admin program.
@@ -89,6 +103,10 @@ impl Drop for Call {
                 guard: _,
             } => {}
             Call::Lookup(_) => {}
+            Call::CheckAccess {
+                handle: _,
+                asked: _,
+            } => {}
             Call::Read {
                 handle: _,
                 offset: _,
@@ -112,7 +130,10 @@ impl Drop for Call {
                 count: _,
             } => {}
             Call::FilesystemStatus { handle: _ } => {}
+            Call::FilesystemInfo { handle: _ } => {}
+            Call::PathConfiguration { handle: _ } => {}
             Call::Commit { handle: _ } => {}
+            Call::Unsupported(_) => {}
             Call::Census => {}
             Call::Grow {
                 volume: _,
@@ -134,6 +155,7 @@ impl Call {
             Call::Lookup(target) => Route::Names {
                 handle: &target.directory,
             },
+            Call::CheckAccess { handle, .. } => Route::Names { handle },
             Call::Read {
                 handle,
                 offset,
@@ -171,7 +193,10 @@ impl Call {
             },
             Call::ReadDirectory { directory, .. } => Route::Names { handle: directory },
             Call::FilesystemStatus { handle } => Route::Volume { handle },
+            Call::FilesystemInfo { handle } => Route::Names { handle },
+            Call::PathConfiguration { handle } => Route::Names { handle },
             Call::Commit { handle } => Route::Names { handle },
+            Call::Unsupported(_) => Route::AtOnce,
             Call::Census => Route::Everything,
             Call::Grow { volume, .. } => Route::Aggregate { volume: *volume },
         }

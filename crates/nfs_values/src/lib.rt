@@ -18,16 +18,18 @@ mod set;
 mod short_name;
 mod status;
 mod target;
+mod unsupported;
 mod verifier;
 
 pub use answer::{
-    Answer, CommitResults, DirectoryEntry, FilesystemStatusResults, LookupResults, MakeResults,
+    AccessResults, Answer, CommitResults, DirectoryEntry, FilesystemInfoResults,
+    FilesystemStatusResults, LookupResults, MakeResults, PathConfigurationResults,
     ReadDirectoryResults, ReadResults, RenameResults, VolumeCount, WriteResults,
 };
 pub use attributes::{Attributes, Change, FileKind, PriorAttributes};
 pub use bytes::{BytesRead, BytesToWrite, room_to_read};
 pub use call::Call;
-pub use credential::Credential;
+pub use credential::{Credential, GroupList};
 pub use handle::{FileHandle, Named};
 pub use moment::Moment;
 pub use name::Name;
@@ -39,4 +41,5 @@ pub use route::Route;
 pub use set::{CreateMode, SetAttributes, SetTime};
 pub use status::Status;
 pub use target::Target;
+pub use unsupported::UnsupportedProcedure;
 pub use verifier::Verifier;

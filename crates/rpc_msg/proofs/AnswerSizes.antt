@@ -55,6 +55,15 @@ rename_size v w = record { bytes = omega arith }
 pub fsstat_size : (a : model.Shown) (s : model.Space) → Takes 144 (model.FsstatDone a s)
 fsstat_size a s = record { bytes = omega arith }
 
+pub access_size : (a : model.Shown) (given : ℕ) → Takes 96 (model.AccessDone a given)
+access_size a given = record { bytes = omega arith }
+
+pub fsinfo_size : (a : model.Shown) (largest : ℕ) → Takes 140 (model.FsinfoDone a largest)
+fsinfo_size a largest = record { bytes = omega arith }
+
+pub pathconf_size : (a : model.Shown) → Takes 116 (model.PathconfDone a)
+pathconf_size a = record { bytes = omega arith }
+
 pub grow_size : (total : ℕ) → Takes 12 (model.GrowDone total)
 grow_size total = record { bytes = omega arith }
 

@@ -1,5 +1,5 @@
 -- The head of a record: what stands before the arguments of a call (RFC 5531 section 9), in the order in which it is read. The order, and the first that applies decides, is our profile.
-use Rattle.std.specs.Prelude.{ℕ, Bool, List, ◌&&◌, ◌==◌, nat_lt, Option, Some, None, Result, Ok, Err, find, if◌then◌else◌}
+use Rattle.std.specs.Prelude.{ℕ, Bool, List, [], ◌&&◌, ◌==◌, nat_lt, Option, Some, None, Result, Ok, Err, find, if◌then◌else◌}
 use Rattle.std.specs.List.{filter}
 use Rattle.xdr.specs.declared.fault.Fault.{Fault as Unread}
 use Rattle.xdr.specs.declared.fault.Fault.TheVariants.{Short}
@@ -63,7 +63,7 @@ auth_sys_shape = Word & Opaque 255 & Word & Word & Array 16 Word
 
 -- whom AUTH_NONE acts for (our profile)
 abbrev pub nobody : model.Credential
-nobody = record { uid = 65534; gid = 65534 }
+nobody = record { uid = 65534; gid = 65534; gids = [] }
 
 -- the body, where it is all there and its padding is zero
 abbrev pub body_of : Reads (List ℕ) → Result (List ℕ × List ℕ) Stop
@@ -71,9 +71,9 @@ body_of (Ok x) = Ok x
 body_of (Err Short) = Err Incomplete
 body_of (Err fault) = Err bad_credential
 
--- the uid and gid of authsys_parms
+-- the uid, gid and gids of authsys_parms
 abbrev pub user : Value auth_sys_shape → model.Credential
-user v = record { uid = v.1.1.0; gid = v.1.1.1.0 }
+user v = record { uid = v.1.1.0; gid = v.1.1.1.0; gids = v.1.1.1.1 }
 
 -- whom an AUTH_SYS body names
 abbrev pub user_of : Result (Value auth_sys_shape) Unread → Result model.Credential Stop
