@@ -1,8 +1,8 @@
 //! When a lane leaves word that it wants what another has.
 
-use crate::patience::Patience;
 use affinity::Affinity;
 use turns::{Hint, Wanted};
+use workers::Patience;
 
 /// The word that a lane leaves where it was refused a node: only once it no longer waits its
 /// refusals out on the processor. Until then who has the node goes on with its own calls, and finds

@@ -17,7 +17,6 @@ mod mailbox;
 mod opening;
 mod options;
 mod pace;
-mod patience;
 mod remains;
 mod room;
 mod round;

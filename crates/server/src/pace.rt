@@ -2,10 +2,9 @@
 
 ghost use Rattle.std.specs.Prelude.{◌<◌};
 
-use crate::patience::Patience;
 use nfs_values::Moment;
 use std::rt::Clock;
-use workers::{Tending, time_now};
+use workers::{Patience, Tending, time_now};
 
 /// How often in a row a call may move before the lane waits as for what another has.
 const MOST_MOVES: u32 = 2;

@@ -75,12 +75,6 @@ impl Drop for Station {
     }
 }
 
-impl From<AllocError> for StartRefusal {
-    fn from(_refused: AllocError) -> StartRefusal {
-        StartRefusal::NoMemory
-    }
-}
-
 impl Station {
     /// A station of a server whose threads share this.
     pub(crate) fn new(

@@ -1,14 +1,22 @@
-//! Why a pool didn't start.
+//! Why threads of a filer didn't start.
 
 ghost use Rattle.std.specs.Prelude.{◌≡◌};
 
-/// Why a pool didn't start.
+use std::alloc::AllocError;
+
+/// Why a pool, or the threads of lanes, didn't start.
 #[derive(Clone, Copy)]
 pub enum StartRefusal {
     /// A thread couldn't be made.
     NoThread,
     /// Memory ran out.
     NoMemory,
+}
+
+impl From<AllocError> for StartRefusal {
+    fn from(_refused: AllocError) -> StartRefusal {
+        StartRefusal::NoMemory
+    }
 }
 
 impl StartRefusal {

@@ -1,4 +1,4 @@
-//! How long a lane lets others go on.
+//! How long a thread lets others go on.
 
 use std::hint::spin_loop;
 use std::rt::Clock;
@@ -14,21 +14,21 @@ const FIRST_PAUSES: u32 = 4;
 /// How often after these the processor is given away, before the thread naps.
 const MOST_YIELDS: u32 = 3;
 
-/// How often in a row a lane was refused what another has.
+/// How often in a row a thread was refused what another has.
 #[derive(Clone, Copy)]
-pub(crate) struct Patience {
+pub struct Patience {
     refusals: u32,
 }
 
 impl Patience {
     /// It wasn't refused yet.
-    pub(crate) fn new() -> Patience {
+    pub fn new() -> Patience {
         Patience { refusals: 0 }
     }
 
     /// Waits after a refusal: a few pauses, which double. Answers whether that was done: once there
-    /// were many refusals, the lane has to do something else before it tries again.
-    pub(crate) fn pause(&mut self) -> bool {
+    /// were many refusals, the thread has to do something else before it tries again.
+    pub fn pause(&mut self) -> bool {
         if self.refusals >= MOST_PAUSES {
             return false;
         }
@@ -40,13 +40,13 @@ impl Patience {
     }
 
     /// Whether the refusals were so many that they are no longer waited out on the processor.
-    pub(crate) fn is_worn(self) -> bool {
+    pub fn is_worn(self) -> bool {
         self.refusals >= MOST_PAUSES
     }
 
     /// Gives the processor away where there were many refusals, since who has what is wanted may
     /// not be running: at first for a moment, and then by a nap.
-    pub(crate) fn give_way<R: Clock>(&mut self, rt: &R) {
+    pub fn give_way<R: Clock>(&mut self, rt: &R) {
         if self.refusals < MOST_PAUSES {
             return;
         }

@@ -1,0 +1,2 @@
+mod Crossing
+mod Wholes

@@ -1,0 +1,13 @@
+use Rattle.std.proofs.Common.{subst}
+use Rattle.std.specs.Arc.{arc_value}
+use Rattle.turns.specs.declared.shared.Filer.{Filer}
+use Rattle.pool_rows.specs.Threads.{IsStill}
+use Rattle.pool_rows.proofs.Wholes.{none-put, went-on}
+use Rattle.pool_rows.proofs.full.turn.Goals as goal
+
+pub returns : goal.returns
+returns g c =
+    let f = arc_value c.args.full.filer in
+    let t = c.take_turn-worker in
+    went-on f _ _ _ _ _ c.requires (subst (λ (x : Filer). IsStill x c.args.full.worker t.result.0) c.deref.ensures t.ensures)
+    (none-put f c.args.full.first c.requires.one)

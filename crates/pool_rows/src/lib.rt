@@ -1,0 +1,27 @@
+//! Turns and tends of workers on the real depot, and a pool of threads that run them: what each
+//! answers and leaves, that what is put is finished or left, and that calls that don't exclude each
+//! other run beside each other.
+#![tactic(auto)]
+
+#[cfg(test)]
+mod calls;
+#[cfg(test)]
+mod crowd;
+#[cfg(test)]
+mod ending;
+#[cfg(test)]
+mod full;
+#[cfg(test)]
+mod latch;
+#[cfg(test)]
+mod leaving;
+#[cfg(test)]
+mod opening;
+#[cfg(test)]
+mod putting;
+#[cfg(test)]
+mod replies;
+#[cfg(test)]
+mod running;
+#[cfg(test)]
+mod turns;

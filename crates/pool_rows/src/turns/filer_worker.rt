@@ -1,0 +1,26 @@
+//! A worker of a filer.
+
+use std::marker::Model;
+use turns::{Filer, Worker};
+
+/// A worker, with the filer that it is of. Its value is what is in its hand.
+#[derive(Drop)]
+pub(crate) struct FilerWorker<'a> {
+    pub(crate) filer: &'a Filer,
+    pub(crate) worker: Worker,
+}
+
+impl<'a> Model for FilerWorker<'a> {
+    ghost use Rattle.nfs_model.specs.Parts as parts;
+    ghost use Rattle.turns.specs.Hands.{coded_hand};
+    ghost use Rattle.turns.specs.Tends.{hand_in};
+    ghost use Rattle.turns.specs.Words.{IsIn};
+
+    ghost Value = { parts.Hand };
+
+    ghost coded = { coded_hand };
+
+    ghost view = { λ w. hand_in w.worker };
+
+    ghost invariant = { λ w. IsIn w.filer.now w.worker };
+}
