@@ -46,9 +46,9 @@ pub data UnsupportedProcedure : Type 0 where
   Link : UnsupportedProcedure
 
 -- One constructor for each procedure, with its arguments (RFC 1813 section 3.3); those that aren't
--- supported share one, without arguments. A handle is the bytes that came, good or bad; so is a name.
--- How stable a WRITE is to be isn't kept, since every one is stable. CENSUS and GROW are of the admin
--- program (our profile).
+-- supported share one, without arguments. A handle is the bytes that came, good or bad; so is a
+-- name. How stable a WRITE is to be isn't kept, since every one is stable. CENSUS and GROW are of
+-- the admin program (our profile).
 pub data Call : Type 0 where
   Null : Call
   Getattr : (handle : List ℕ) → Call

@@ -86,8 +86,10 @@ fsinfo_shape = after_shape & Word & Word & Word & Word & Word & Word & Word & Hy
 
 -- READ and WRITE by blocks, up to the most bytes that they take; times by the nanosecond
 abbrev pub fsinfo_value : model.Shown → ℕ → Value fsinfo_shape
-fsinfo_value root largest =
-    (Some (attributes_value root), (most_bytes, (most_bytes, (block_size, (most_bytes, (most_bytes, (block_size, (most_bytes, (largest, ((0, 1), fsinfo_properties))))))))))
+fsinfo_value root largest = (
+  Some (attributes_value root),
+  (most_bytes, (most_bytes, (block_size, (most_bytes, (most_bytes, (block_size, (most_bytes, (largest, ((0, 1), fsinfo_properties))))))))),
+)
 
 -- PATHCONF3resok (section 3.3.20): attributes, linkmax, name_max, no_trunc, chown_restricted, case_insensitive and case_preserving
 abbrev pub pathconf_shape : Shape

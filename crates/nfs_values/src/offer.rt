@@ -17,9 +17,8 @@ impl Offer {
     ghost use Rattle.nfs_values.specs.Procedure.{numbers_of};
     ghost use Rattle.nfs_values.specs.declared.procedure.Procedure.{Procedure as Known};
 
-    /// The offer of `replay` and `serve`: every procedure that reads or changes files, names or
-    /// attributes, and those of the admin program. READDIRPLUS isn't among them, and neither are
-    /// the procedures by which a client learns what it may do, nor those on links and devices.
+    /// The offer of `replay` and `serve`: every procedure but ACCESS, FSINFO and PATHCONF, and those
+    /// on links and devices.
     pub fn basic() -> Offer
         ensures { result ≡ basic }
     {

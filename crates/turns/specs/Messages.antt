@@ -1,7 +1,8 @@
 -- Messages to workers.
-use Rattle.std.specs.Prelude.{◌≤◌, ℕ, [], length}
+use Rattle.std.specs.Prelude.{◌≤◌, ℕ, length}
 use Rattle.nfs_model.specs.Tree as trees
 use Rattle.nfs_values.specs.Call.{call_of}
+use Rattle.nfs_values.specs.Credential.{no_gids}
 use Rattle.nfs_values.specs.declared.call.Call.{Call}
 use Rattle.nfs_values.specs.declared.call.Call.TheVariants as calls
 use Rattle.nfs_values.specs.declared.credential.Credential.{Credential}
@@ -40,7 +41,7 @@ call_in asks.Undecoded = calls.Null
 
 -- a credential without a meaning
 abbrev pub no_credential : Credential
-no_credential = record { uid = 0; gid = 0; gids = record { gids = []; count = 0 } }
+no_credential = record { uid = 0; gid = 0; gids = no_gids }
 
 abbrev pub credential_in : Asked → Credential
 credential_in (asks.Call call credential) = credential

@@ -1,6 +1,6 @@
 -- ACCESS (RFC 1813 section 3.3.4): of the rights that are asked for, those that the mode gives the
--- caller, as POSIX has it (IEEE Std 1003.1, "File Access Permissions"). It tells and guards nothing:
--- no other call asks for these rights (our profile).
+-- caller, as POSIX has it (IEEE Std 1003.1, "File Access Permissions"). It tells and guards
+-- nothing: no other call asks for these rights (our profile).
 use Rattle.std.specs.Prelude.{ℕ, ◌+◌, ◌/◌, ◌%◌, ◌==◌, Bool, true, ◌&&◌, ◌||◌, if◌then◌else◌}
 use Rattle.std.specs.List.{list_any}
 use Rattle.nfs_model.specs.Types.{Credential, Kind, Regular, Folder, Shown, AccessDone}

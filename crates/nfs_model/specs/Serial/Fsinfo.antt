@@ -1,5 +1,5 @@
--- FSINFO (RFC 1813 section 3.3.19), of any object of a volume. What it tells that is the same of every
--- volume stands with its results.
+-- FSINFO (RFC 1813 section 3.3.19), of any object of a volume. What it tells that is the same of
+-- every volume stands with its results.
 use Rattle.std.specs.Prelude.{ℕ}
 use Rattle.nfs_model.specs.Types.{FsinfoDone}
 use Rattle.nfs_model.specs.Server.{VolumeState}

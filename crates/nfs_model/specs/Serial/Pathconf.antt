@@ -1,5 +1,5 @@
--- PATHCONF (RFC 1813 section 3.3.20), of any object. What else it tells is the same of every object and
--- stands with its results.
+-- PATHCONF (RFC 1813 section 3.3.20), of any object. What else it tells is the same of every object
+-- and stands with its results.
 use Rattle.std.specs.Prelude.{ℕ}
 use Rattle.nfs_model.specs.Types.{PathconfDone}
 use Rattle.nfs_model.specs.Server.{VolumeState}

@@ -22,11 +22,12 @@ returns-in-CheckAccess c =
     let n = named_of c.args.named in
     let old = logical_before c.args.held.now in
     let told = answer_of (answers.CheckAccess c.check_access-told.result) in
+    let asks = access_call c.in-CheckAccess.handle (Logical n.volume) n.fileid c.in-CheckAccess.asked (credential_of c.args.run.credential) in
     record {
       runs = λ layout. subst (λ (call : Call). RunsOn n.volume logical_lens
           (call_named layout n (credential_of c.args.run.credential) (moment_of c.args.run.moment) (call_of call))
           old (Replied (Success told)) old) (sym c.in-CheckAccess.is)
-          (served-runs n.volume (access_call c.in-CheckAccess.handle (Logical n.volume) n.fileid c.in-CheckAccess.asked (credential_of c.args.run.credential)) old old told (c.check_access-told.ensures.right c.in-CheckAccess.handle));
+          (served-runs n.volume asks old old told (c.check_access-told.ensures.right c.in-CheckAccess.handle));
     }
 
 pub returns-in-FilesystemInfo : goal.returns-in-FilesystemInfo
@@ -34,11 +35,12 @@ returns-in-FilesystemInfo c =
     let n = named_of c.args.named in
     let old = logical_before c.args.held.now in
     let told = answer_of (answers.FilesystemInfo c.filesystem_info-told.result) in
+    let asks = fsinfo_call c.in-FilesystemInfo.handle (Logical n.volume) n.fileid in
     record {
       runs = λ layout. subst (λ (call : Call). RunsOn n.volume logical_lens
           (call_named layout n (credential_of c.args.run.credential) (moment_of c.args.run.moment) (call_of call))
           old (Replied (Success told)) old) (sym c.in-FilesystemInfo.is)
-          (served-runs n.volume (fsinfo_call c.in-FilesystemInfo.handle (Logical n.volume) n.fileid) old old told (c.filesystem_info-told.ensures.right c.in-FilesystemInfo.handle));
+          (served-runs n.volume asks old old told (c.filesystem_info-told.ensures.right c.in-FilesystemInfo.handle));
     }
 
 pub returns-in-PathConfiguration : goal.returns-in-PathConfiguration
@@ -46,9 +48,10 @@ returns-in-PathConfiguration c =
     let n = named_of c.args.named in
     let old = logical_before c.args.held.now in
     let told = answer_of (answers.PathConfiguration c.path_configuration-told.result) in
+    let asks = pathconf_call c.in-PathConfiguration.handle (Logical n.volume) n.fileid in
     record {
       runs = λ layout. subst (λ (call : Call). RunsOn n.volume logical_lens
           (call_named layout n (credential_of c.args.run.credential) (moment_of c.args.run.moment) (call_of call))
           old (Replied (Success told)) old) (sym c.in-PathConfiguration.is)
-          (served-runs n.volume (pathconf_call c.in-PathConfiguration.handle (Logical n.volume) n.fileid) old old told (c.path_configuration-told.ensures.right c.in-PathConfiguration.handle));
+          (served-runs n.volume asks old old told (c.path_configuration-told.ensures.right c.in-PathConfiguration.handle));
     }
