@@ -1,10 +1,12 @@
 -- ACCESS, FSINFO and PATHCONF of a set under Logical, by the attributes of a node.
 use Rattle.std.proofs.Common.{◌≡◌, ℕ, false, List, [], Option, Some, None, Ok, Err, sym, ap, ◌∙◌, subst, Result}
-use Rattle.nfs_model.specs.Types.{Credential, Shown, Answer, Success, AccessDone, FsinfoDone, PathconfDone}
+use Rattle.nfs_model.specs.Types as model
+use Rattle.nfs_model.specs.Types.{Credential, Shown, Answer, Success, AccessDone, FsinfoDone, PathconfDone, Failed}
 use Rattle.nfs_model.specs.Serial.Access.{access_given}
 use Rattle.nfs_model.specs.Tree.{Logical}
 use Rattle.nfs_values.specs.Answer.{answer_of}
 use Rattle.nfs_values.specs.Attributes.{shown_of}
+use Rattle.nfs_values.specs.Status.{status_of}
 use Rattle.nfs_values.specs.declared.answer.Answer.TheVariants.{CheckAccess, FilesystemInfo, PathConfiguration}
 use Rattle.nfs_values.specs.declared.answer.AccessResults.{AccessResults}
 use Rattle.nfs_values.specs.declared.answer.FilesystemInfoResults.{FilesystemInfoResults}
@@ -58,13 +60,16 @@ module _ (v fileid : ℕ) (set : LogicalSet) where
     path-of = tells-path (Ok (record { object = object })) (sym (ap (object_told_by PathconfDone) there))
 
   -- where there is none
-  module _ (none : object_in v fileid set ≡ None) where
-    pub no-access : (asked : ℕ) (who : Credential) → ChecksAccess v fileid asked who set (Err Stale)
+  module _ (none : object_in v fileid set ≡ None) (status : Status) (is : status ≡ Stale) where
+    stale : Failed (status_of status) 1 ≡ Failed model.Stale 1
+    stale = ap (λ (s : Status). Failed (status_of s) 1) is
+
+    pub no-access : (asked : ℕ) (who : Credential) → ChecksAccess v fileid asked who set (Err status)
     no-access asked who =
-        checks asked who (Err Stale) (sym (ap (object_told_by (λ (s : Shown). AccessDone s (access_given who asked s))) none))
+        checks asked who (Err status) (stale ∙ sym (ap (object_told_by (λ (s : Shown). AccessDone s (access_given who asked s))) none))
 
-    pub no-info : TellsInfo v fileid set (Err Stale)
-    no-info = tells-info (Err Stale) (sym (ap (object_told_by (λ (s : Shown). FsinfoDone s set.own.largest)) none))
+    pub no-info : TellsInfo v fileid set (Err status)
+    no-info = tells-info (Err status) (stale ∙ sym (ap (object_told_by (λ (s : Shown). FsinfoDone s set.own.largest)) none))
 
-    pub no-path : TellsPath v fileid set (Err Stale)
-    no-path = tells-path (Err Stale) (sym (ap (object_told_by PathconfDone) none))
+    pub no-path : TellsPath v fileid set (Err status)
+    no-path = tells-path (Err status) (stale ∙ sym (ap (object_told_by PathconfDone) none))
