@@ -8,6 +8,7 @@ use nfs_values::{
     ReadDirectoryResults, RenameResults, Status, UnsupportedProcedure,
 };
 use std::mem;
+use std::process::Abort;
 
 #[test]
 fn results_are_written(rt: HostRuntime) {
