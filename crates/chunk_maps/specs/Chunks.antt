@@ -26,9 +26,9 @@ abbrev pub used_in : {V : Type 0} → Slots V → ℕ
 used_in [] = 0
 used_in (slot ∷ slots) = one_if (is_some slot) + used_in slots
 
--- what is in the slot of a fileid set
-abbrev pub SetsSlot : {V : Type 0} → ℕ → Option V → Slots V → Slots V → Type 0
-SetsSlot fileid value old new = (q : ℕ) → slot_of new q ≡ (if q % chunk_size == fileid % chunk_size then value else slot_of old q)
+-- of what is under each fileid: what is in the slot of one set
+abbrev pub SetsAt : {V : Type 0} → ℕ → Option V → (ℕ → Option V) → (ℕ → Option V) → Type 0
+SetsAt fileid value old new = (q : ℕ) → new q ≡ (if q % chunk_size == fileid % chunk_size then value else old q)
 
 -- the value in the slot of a fileid changed, if it is there
 abbrev pub ChangesSlot : {V : Type 0} → (V → V) → ℕ → Slots V → Slots V → Type 0
@@ -37,13 +37,19 @@ ChangesSlot g fileid old new =
 
 -- ---- chunks by their numbers
 
--- the value of a fileid, where there may be no chunk
+-- the value of a fileid, where there may be no chunk, by what a chunk has under a fileid
+abbrev pub slot_by : {C V : Type 0} → (C → ℕ → Option V) → Option C → ℕ → Option V
+slot_by slot None fileid = None
+slot_by slot (Some chunk) fileid = slot chunk fileid
+
+abbrev pub value_by : {C V : Type 0} → (C → ℕ → Option V) → BTreeMap ℕ C → ℕ → Option V
+value_by slot chunks fileid = slot_by slot (btree.get nat_cmp chunks (fileid / chunk_size)) fileid
+
 abbrev pub slot_in : {V : Type 0} → Option (Slots V) → ℕ → Option V
-slot_in None fileid = None
-slot_in (Some slots) fileid = slot_of slots fileid
+slot_in slots fileid = slot_by slot_of slots fileid
 
 abbrev pub value_at : {V : Type 0} → BTreeMap ℕ (Slots V) → ℕ → Option V
-value_at chunks fileid = slot_in (btree.get nat_cmp chunks (fileid / chunk_size)) fileid
+value_at chunks fileid = value_by slot_of chunks fileid
 
 -- a map with a value at a key, or none
 abbrev pub with_slot : {V : Type 0} → ℕ → Option V → FinMap nat_cmp V → FinMap nat_cmp V
@@ -61,9 +67,21 @@ unfoldable pub values_of : {V : Type 0} → List (ℕ × Slots V) → FinMap nat
 values_of [] = empty
 values_of (chunk ∷ chunks) = with_slots chunk.0 chunk.1 chunk_size (values_of chunks)
 
+-- of the value of each fileid: a value put under one
+abbrev pub PutsAt : {V : Type 0} → ℕ → V → (ℕ → Option V) → (ℕ → Option V) → Type 0
+PutsAt fileid value old new = (q : ℕ) → new q ≡ (if q == fileid then Some value else old q)
+
+-- of the value of each fileid: that of one gone
+abbrev pub RemovesAt : {V : Type 0} → ℕ → (ℕ → Option V) → (ℕ → Option V) → Type 0
+RemovesAt fileid old new = (q : ℕ) → new q ≡ (if q == fileid then None else old q)
+
+-- the same value under each fileid
+abbrev pub SameAt : {V : Type 0} → (ℕ → Option V) → (ℕ → Option V) → Type 0
+SameAt old new = (q : ℕ) → new q ≡ old q
+
 -- a value put under a fileid
 abbrev pub Puts : {V : Type 0} → ℕ → V → BTreeMap ℕ (Slots V) → BTreeMap ℕ (Slots V) → Type 0
-Puts fileid value old new = (q : ℕ) → value_at new q ≡ (if q == fileid then Some value else value_at old q)
+Puts fileid value old new = PutsAt fileid value (value_at old) (value_at new)
 
 -- the value of a fileid changed, if it is there
 abbrev pub Changes : {V : Type 0} → (V → V) → ℕ → BTreeMap ℕ (Slots V) → BTreeMap ℕ (Slots V) → Type 0
@@ -71,8 +89,8 @@ Changes g fileid old new = (q : ℕ) → value_at new q ≡ (if q == fileid then
 
 -- the value of a fileid gone
 abbrev pub Removes : {V : Type 0} → ℕ → BTreeMap ℕ (Slots V) → BTreeMap ℕ (Slots V) → Type 0
-Removes fileid old new = (q : ℕ) → value_at new q ≡ (if q == fileid then None else value_at old q)
+Removes fileid old new = RemovesAt fileid (value_at old) (value_at new)
 
 -- the same values
 abbrev pub Same : {V : Type 0} → BTreeMap ℕ (Slots V) → BTreeMap ℕ (Slots V) → Type 0
-Same old new = (q : ℕ) → value_at new q ≡ value_at old q
+Same old new = SameAt (value_at old) (value_at new)

@@ -28,21 +28,11 @@ within-there (x ∷ xs) zero h e = some-ne-none x e
 within-there (x ∷ xs) (suc k) h e = within-there xs k (omega arith) e
 
 module _ {T : Type 0} where
-  filled-some : (b : Bool) (y : Option T) (p : T) → if_filled b y ≡ Some p → (b ≡ true) × (y ≡ Some p)
-  filled-some true y p e = (refl, e)
-  filled-some false y p e = absurd cc
-
   filled-none : (b : Bool) (z : maybe.Option (Option T)) → z ≢ maybe.none → z ≢ some None → if_filled b (value_of z) ≡ None → b ≡ false
   filled-none true maybe.none there some_parcel e = absurd (there refl)
   filled-none true (maybe.some None) there some_parcel e = absurd (some_parcel refl)
   filled-none true (maybe.some (Some p)) there some_parcel e = absurd cc
   filled-none false z there some_parcel e = refl
-
-  -- what is left at a node is in a slot that is filled
-  pub left-filled : (filled : List Bool) (items : List (Option T)) (k : ℕ) (p : T) → left_at filled items k ≡ Some p → (0 < k)
-      × (get_or filled k false ≡ true) × (value_of (get_elem? items k) ≡ Some p)
-  left-filled filled items zero p e = absurd cc
-  left-filled filled items (suc k) p e = let q = filled-some (get_or filled (suc k) false) (value_of (get_elem? items (suc k))) p e in (omega arith, q.0, q.1)
 
   -- where nothing is left of a parcel that was there, its slot was emptied
   pub none-left : (filled : List Bool) (items : List (Option T)) (k : ℕ) → 0 < k → k < length items → get_elem? items k ≢ some None

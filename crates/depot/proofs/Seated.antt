@@ -53,9 +53,6 @@ module _ {P E : Type 0} where
   pub known-known : {views : List (List (View P E))} {vs : List (View P E)} {u : View P E} → views ≡ vs ∷ [] → vs ≡ u ∷ [] → views ≡ (u ∷ []) ∷ []
   known-known is one = is ∙ ap (λ us. us ∷ []) one
 
-  pub gathered-in : {views : List (List (View P E))} {vs : List (View P E)} → views ≡ vs ∷ [] → IsGathered (known views) → IsGathered (view_of vs)
-  gathered-in is h = subst (λ l. IsGathered (known l)) is h
-
   pub gathered-of : {views : List (List (View P E))} (u : View P E) → views ≡ (u ∷ []) ∷ [] → IsGathered u → IsGathered (known views)
   gathered-of u is h = subst (λ l. IsGathered (known l)) (sym is) h
 

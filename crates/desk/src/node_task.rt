@@ -3,9 +3,9 @@
 ghost use Rattle.affinity.specs.Affinity.{affinity_of};
 ghost use Rattle.affinity.specs.Layout.{layout_of};
 ghost use Rattle.affinity.specs.Tree.{IsNode};
-ghost use Rattle.parcels.specs.Exact.{HasExactly};
 ghost use Rattle.desk.specs.laws.Backing.{IsWhole, IsDone};
 ghost use Rattle.desk.specs.Any.{node_lent};
+ghost use Rattle.desk.specs.Tasks.{HasAll, Finds, Leaves};
 
 use crate::grant::NodeGrant;
 use crate::kinds::{NodeKinds, ParcelKinds};
@@ -26,14 +26,11 @@ pub trait TaskNode<T: HasKind, K: NodeKinds<T>>: Node<T> {
         held: &mut Self::Held,
     ) -> W::Output
         requires node { IsNode (layout_of layout.now) (affinity_of affinity) }
-        requires exact { let L = layout_of layout.now in let a = affinity_of affinity in
-            HasExactly T.kind L a (Self.parcels L a held.old) }
-        requires asks { let L = layout_of layout.now in let a = affinity_of affinity in
-            W.asks task L a (Self.parcels L a held.old) }
-        ensures exact { let L = layout_of layout.now in let a = affinity_of affinity in
-            HasExactly T.kind L a (Self.parcels L a held.new) }
-        ensures does { let L = layout_of layout.now in let a = affinity_of affinity in
-            W.does task L a (Self.parcels L a held.old) result (Self.parcels L a held.new) };
+        requires exact { HasAll T.kind Self.parcels layout.now affinity held.old }
+        requires asks { Finds (W.asks task) Self.parcels layout.now affinity held.old }
+        ensures exact { HasAll T.kind Self.parcels layout.now affinity held.new }
+        ensures does { Leaves (W.does task) Self.parcels layout.now affinity
+            held.old result held.new };
 }
 
 impl<F: Family> TaskNode<Parcel<F>, ParcelKinds> for RangeNode {

@@ -3,7 +3,7 @@
 ghost use Rattle.affinity.specs.Affinity.{affinity_of};
 ghost use Rattle.affinity.specs.Layout.{layout_of};
 ghost use Rattle.affinity.specs.Tree.{IsNode};
-ghost use Rattle.parcels.specs.Exact.{HasExactly};
+ghost use Rattle.desk.specs.Tasks.{HasAll, Finds, Leaves};
 ghost use Rattle.desk.specs.laws.Calls.{Asks, Does};
 
 use crate::kinds::NodeKinds;
@@ -28,14 +28,11 @@ pub trait Task<T: HasKind, K: NodeKinds<T>> {
         held: &mut <K::Range as Node<T>>::Held,
     ) -> Self::Output
         requires node { IsNode (layout_of layout.now) (affinity_of affinity) }
-        requires exact { let L = layout_of layout.now in let a = affinity_of affinity in
-            HasExactly T.kind L a (K.Range.parcels L a held.old) }
-        requires asks { let L = layout_of layout.now in let a = affinity_of affinity in
-            asks self L a (K.Range.parcels L a held.old) }
-        ensures exact { let L = layout_of layout.now in let a = affinity_of affinity in
-            HasExactly T.kind L a (K.Range.parcels L a held.new) }
-        ensures does { let L = layout_of layout.now in let a = affinity_of affinity in
-            does self L a (K.Range.parcels L a held.old) result (K.Range.parcels L a held.new) };
+        requires exact { HasAll T.kind K.Range.parcels layout.now affinity held.old }
+        requires asks { Finds (asks self) K.Range.parcels layout.now affinity held.old }
+        ensures exact { HasAll T.kind K.Range.parcels layout.now affinity held.new }
+        ensures does { Leaves (does self) K.Range.parcels layout.now affinity
+            held.old result held.new };
 
     /// Works on the parcels of a volume's block numbers.
     fn on_vbn(
@@ -45,14 +42,11 @@ pub trait Task<T: HasKind, K: NodeKinds<T>> {
         held: &mut <K::Vbn as Node<T>>::Held,
     ) -> Self::Output
         requires node { IsNode (layout_of layout.now) (affinity_of affinity) }
-        requires exact { let L = layout_of layout.now in let a = affinity_of affinity in
-            HasExactly T.kind L a (K.Vbn.parcels L a held.old) }
-        requires asks { let L = layout_of layout.now in let a = affinity_of affinity in
-            asks self L a (K.Vbn.parcels L a held.old) }
-        ensures exact { let L = layout_of layout.now in let a = affinity_of affinity in
-            HasExactly T.kind L a (K.Vbn.parcels L a held.new) }
-        ensures does { let L = layout_of layout.now in let a = affinity_of affinity in
-            does self L a (K.Vbn.parcels L a held.old) result (K.Vbn.parcels L a held.new) };
+        requires exact { HasAll T.kind K.Vbn.parcels layout.now affinity held.old }
+        requires asks { Finds (asks self) K.Vbn.parcels layout.now affinity held.old }
+        ensures exact { HasAll T.kind K.Vbn.parcels layout.now affinity held.new }
+        ensures does { Leaves (does self) K.Vbn.parcels layout.now affinity
+            held.old result held.new };
 
     /// Works on the parcels of a stripe.
     fn on_stripe(
@@ -62,14 +56,11 @@ pub trait Task<T: HasKind, K: NodeKinds<T>> {
         held: &mut <K::Stripe as Node<T>>::Held,
     ) -> Self::Output
         requires node { IsNode (layout_of layout.now) (affinity_of affinity) }
-        requires exact { let L = layout_of layout.now in let a = affinity_of affinity in
-            HasExactly T.kind L a (K.Stripe.parcels L a held.old) }
-        requires asks { let L = layout_of layout.now in let a = affinity_of affinity in
-            asks self L a (K.Stripe.parcels L a held.old) }
-        ensures exact { let L = layout_of layout.now in let a = affinity_of affinity in
-            HasExactly T.kind L a (K.Stripe.parcels L a held.new) }
-        ensures does { let L = layout_of layout.now in let a = affinity_of affinity in
-            does self L a (K.Stripe.parcels L a held.old) result (K.Stripe.parcels L a held.new) };
+        requires exact { HasAll T.kind K.Stripe.parcels layout.now affinity held.old }
+        requires asks { Finds (asks self) K.Stripe.parcels layout.now affinity held.old }
+        ensures exact { HasAll T.kind K.Stripe.parcels layout.now affinity held.new }
+        ensures does { Leaves (does self) K.Stripe.parcels layout.now affinity
+            held.old result held.new };
 
     /// Works on the parcels of a volume's names and attributes.
     fn on_logical(
@@ -79,15 +70,11 @@ pub trait Task<T: HasKind, K: NodeKinds<T>> {
         held: &mut <K::Logical as Node<T>>::Held,
     ) -> Self::Output
         requires node { IsNode (layout_of layout.now) (affinity_of affinity) }
-        requires exact { let L = layout_of layout.now in let a = affinity_of affinity in
-            HasExactly T.kind L a (K.Logical.parcels L a held.old) }
-        requires asks { let L = layout_of layout.now in let a = affinity_of affinity in
-            asks self L a (K.Logical.parcels L a held.old) }
-        ensures exact { let L = layout_of layout.now in let a = affinity_of affinity in
-            HasExactly T.kind L a (K.Logical.parcels L a held.new) }
-        ensures does { let L = layout_of layout.now in let a = affinity_of affinity in
-            does self L a (K.Logical.parcels L a held.old) result
-            (K.Logical.parcels L a held.new) };
+        requires exact { HasAll T.kind K.Logical.parcels layout.now affinity held.old }
+        requires asks { Finds (asks self) K.Logical.parcels layout.now affinity held.old }
+        ensures exact { HasAll T.kind K.Logical.parcels layout.now affinity held.new }
+        ensures does { Leaves (does self) K.Logical.parcels layout.now affinity
+            held.old result held.new };
 
     /// Works on the parcels of a volume.
     fn on_volume(
@@ -97,14 +84,11 @@ pub trait Task<T: HasKind, K: NodeKinds<T>> {
         held: &mut <K::Volume as Node<T>>::Held,
     ) -> Self::Output
         requires node { IsNode (layout_of layout.now) (affinity_of affinity) }
-        requires exact { let L = layout_of layout.now in let a = affinity_of affinity in
-            HasExactly T.kind L a (K.Volume.parcels L a held.old) }
-        requires asks { let L = layout_of layout.now in let a = affinity_of affinity in
-            asks self L a (K.Volume.parcels L a held.old) }
-        ensures exact { let L = layout_of layout.now in let a = affinity_of affinity in
-            HasExactly T.kind L a (K.Volume.parcels L a held.new) }
-        ensures does { let L = layout_of layout.now in let a = affinity_of affinity in
-            does self L a (K.Volume.parcels L a held.old) result (K.Volume.parcels L a held.new) };
+        requires exact { HasAll T.kind K.Volume.parcels layout.now affinity held.old }
+        requires asks { Finds (asks self) K.Volume.parcels layout.now affinity held.old }
+        ensures exact { HasAll T.kind K.Volume.parcels layout.now affinity held.new }
+        ensures does { Leaves (does self) K.Volume.parcels layout.now affinity
+            held.old result held.new };
 
     /// Works on the parcels of an aggregate.
     fn on_aggregate(
@@ -114,15 +98,11 @@ pub trait Task<T: HasKind, K: NodeKinds<T>> {
         held: &mut <K::Aggregate as Node<T>>::Held,
     ) -> Self::Output
         requires node { IsNode (layout_of layout.now) (affinity_of affinity) }
-        requires exact { let L = layout_of layout.now in let a = affinity_of affinity in
-            HasExactly T.kind L a (K.Aggregate.parcels L a held.old) }
-        requires asks { let L = layout_of layout.now in let a = affinity_of affinity in
-            asks self L a (K.Aggregate.parcels L a held.old) }
-        ensures exact { let L = layout_of layout.now in let a = affinity_of affinity in
-            HasExactly T.kind L a (K.Aggregate.parcels L a held.new) }
-        ensures does { let L = layout_of layout.now in let a = affinity_of affinity in
-            does self L a (K.Aggregate.parcels L a held.old) result
-            (K.Aggregate.parcels L a held.new) };
+        requires exact { HasAll T.kind K.Aggregate.parcels layout.now affinity held.old }
+        requires asks { Finds (asks self) K.Aggregate.parcels layout.now affinity held.old }
+        ensures exact { HasAll T.kind K.Aggregate.parcels layout.now affinity held.new }
+        ensures does { Leaves (does self) K.Aggregate.parcels layout.now affinity
+            held.old result held.new };
 
     /// Works on the parcels of the whole tree.
     fn on_serial(
@@ -132,12 +112,9 @@ pub trait Task<T: HasKind, K: NodeKinds<T>> {
         held: &mut <K::Serial as Node<T>>::Held,
     ) -> Self::Output
         requires node { IsNode (layout_of layout.now) (affinity_of affinity) }
-        requires exact { let L = layout_of layout.now in let a = affinity_of affinity in
-            HasExactly T.kind L a (K.Serial.parcels L a held.old) }
-        requires asks { let L = layout_of layout.now in let a = affinity_of affinity in
-            asks self L a (K.Serial.parcels L a held.old) }
-        ensures exact { let L = layout_of layout.now in let a = affinity_of affinity in
-            HasExactly T.kind L a (K.Serial.parcels L a held.new) }
-        ensures does { let L = layout_of layout.now in let a = affinity_of affinity in
-            does self L a (K.Serial.parcels L a held.old) result (K.Serial.parcels L a held.new) };
+        requires exact { HasAll T.kind K.Serial.parcels layout.now affinity held.old }
+        requires asks { Finds (asks self) K.Serial.parcels layout.now affinity held.old }
+        ensures exact { HasAll T.kind K.Serial.parcels layout.now affinity held.new }
+        ensures does { Leaves (does self) K.Serial.parcels layout.now affinity
+            held.old result held.new };
 }

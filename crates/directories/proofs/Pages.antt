@@ -45,7 +45,8 @@ fits-none left e es l = by (nat_le (entry_size e) left) refl
 abbrev pub SoFar : List DirectoryEntry → ℕ → ℕ → List Listed → List Listed → Type 0
 SoFar copied left i es whole = listed copied ++ fitting left (drop i es) ≡ whole
 
-pub one-copied : (copied : List DirectoryEntry) (left i : ℕ) (es whole : List Listed) (e : Listed) (x : DirectoryEntry) (size : ℕ) → SoFar copied left i es whole
+pub one-copied : (copied : List DirectoryEntry) (left i : ℕ) (es whole : List Listed) (e : Listed) (x : DirectoryEntry) (size : ℕ)
+    → SoFar copied left i es whole
     → slice_get es i ≡ Some e → size ≡ entry_size e → size ≤ left → entry_of x ≡ e → SoFar (copied ++ x ∷ []) (left - size) (i + 1) es whole
 one-copied copied left i es whole e x size h g s f same =
     let rest = drop (suc i) es in

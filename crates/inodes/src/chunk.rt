@@ -1,27 +1,27 @@
 //! Chunks of inodes.
 
-ghost use Rattle.std.specs.Prelude.{◌≡◌, ◌%◌, ◌<◌, ℕ, [], None, Some, is_some, IsTrue, IfOk};
+ghost use Rattle.std.specs.Prelude.{◌≡◌, is_some};
 ghost use Rattle.std.specs.Option.{option_map};
 ghost use Rattle.inodes.specs.Inode.{inode_value, stored};
-ghost use Rattle.chunk_maps.specs.Chunks.{chunk_size, slot_of, one_if, ChangesSlot, SetsSlot};
+ghost use Rattle.chunk_maps.specs.Chunks.{slot_of, one_if, ChangesSlot};
 ghost use Rattle.nfs_model.specs.volume.Inodes.{settled_inode};
 ghost use Rattle.nfs_values.specs.Moment.{moment_of};
 
 use crate::inode::Inode;
-use chunk_maps::slot;
+use chunk_maps::{Chunk, slot};
 use nfs_values::Moment;
 use std::alloc::{AllocError, Global};
 use std::marker::Model;
 
 /// The inodes of 32 fileids that follow one another, each at its fileid modulo 32.
 #[derive(Drop)]
-pub struct Chunk {
+pub struct InodeChunk {
     inodes: Box<[Option<Inode>; 32]>,
     /// How many there are.
     used: u64,
 }
 
-impl Model for Chunk {
+impl Model for InodeChunk {
     ghost use Rattle.std.specs.Prelude.{◌≡◌, map, length};
     ghost use Rattle.std.specs.Coded.{coded_list, coded_option};
     ghost use Rattle.nfs_model.specs.volume.Codes.{coded_inode};
@@ -49,52 +49,50 @@ fn count(inode: Option<Inode>) -> u64
     }
 }
 
-impl Chunk {
-    /// A chunk with one inode.
-    pub fn new(alloc: Global, fileid: u64, inode: Inode) -> Result<Chunk, AllocError>
-        ensures { IfOk result (SetsSlot fileid (Some (inode_value inode)) []) }
-    {
+impl Chunk for InodeChunk {
+    ghost use Rattle.nfs_model.specs.volume.Inodes as values;
+    ghost use Rattle.chunk_maps.specs.Chunks.{slot_of};
+    ghost use Rattle.inodes.specs.Inode.{inode_value};
+
+    type Item = Inode;
+
+    ghost Kept = { values.Inode };
+
+    ghost value = { inode_value };
+
+    ghost values = { λ c. slot_of c };
+
+    fn new(alloc: Global, fileid: u64, inode: Inode) -> Result<InodeChunk, AllocError> {
         let mut inodes = Box::new(alloc, [None; 32])?;
         inodes[slot(fileid)] = Some(inode);
-        Ok(Chunk { inodes, used: 1 })
+        Ok(InodeChunk { inodes, used: 1 })
     }
 
-    /// The inode of a fileid.
-    pub fn get(&self, fileid: u64) -> Option<Inode>
-        ensures { option_map inode_value result ≡ slot_of self.now fileid }
-    {
+    fn get(&self, fileid: u64) -> Option<Inode> {
         self.inodes[slot(fileid)]
     }
 
-    /// Whether no inode is there.
-    pub fn is_empty(&self) -> bool
-        ensures { IsTrue result → (q : ℕ) → slot_of self.now q ≡ None }
-    {
+    fn is_empty(&self) -> bool {
         self.used == 0
     }
 
-    /// Puts the inode of a fileid.
-    pub fn put(&mut self, fileid: u64, inode: Inode)
-        ensures { SetsSlot fileid (Some (inode_value inode)) self.old self.new }
-    {
+    fn put(&mut self, fileid: u64, inode: Inode) {
         let slot = slot(fileid);
         let former = self.inodes[slot];
         self.inodes[slot] = Some(inode);
         self.used = self.used + 1 - count(former);
     }
 
-    /// Takes the inode of a fileid, if it is there.
-    pub fn take(&mut self, fileid: u64) -> Option<Inode>
-        ensures inode { option_map inode_value result ≡ slot_of self.old fileid }
-        ensures gone { SetsSlot fileid None self.old self.new }
-    {
+    fn take(&mut self, fileid: u64) -> Option<Inode> {
         let slot = slot(fileid);
         let former = self.inodes[slot];
         self.inodes[slot] = None;
         self.used -= count(former);
         former
     }
+}
 
+impl InodeChunk {
     /// Replaces the inode of a fileid, if it is there, and tells the old one.
     pub fn replace(&mut self, fileid: u64, inode: Inode) -> Option<Inode>
         ensures old { option_map inode_value result ≡ slot_of self.old fileid }

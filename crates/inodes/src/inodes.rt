@@ -34,6 +34,9 @@ use nfs_values::{Fileid, Moment};
 use std::alloc::{AllocError, Global};
 use std::marker::Model;
 
+/// The most inodes of a volume, the root with them (our profile).
+pub const MOST_INODES: usize = 65_536;
+
 /// The inodes of a volume by fileid, the next fileid, and how many blocks are filled in all files.
 pub struct Inodes {
     by_fileid: Table,

@@ -9,8 +9,9 @@ ghost use Rattle.nfs_model.specs.volume.Inodes.{settled_inode};
 ghost use Rattle.nfs_model.specs.volume.Maps.{changed_at};
 ghost use Rattle.inodes.specs.Inode.{inode_value};
 
-use crate::chunks::{Chunks, inode_in, put, remove_at, replace_at, settle_at};
+use crate::chunks::{Chunks, replace_at, settle_at};
 use crate::inode::Inode;
+use chunk_maps::{put, remove_at, value_in};
 use nfs_values::{Fileid, Moment};
 use std::alloc::{AllocError, Global};
 use std::collections::BTreeMap;
@@ -74,7 +75,7 @@ impl Table {
     pub fn get(&self, fileid: Fileid) -> Option<Inode>
         ensures { option_map inode_value result ≡ get self.now fileid.0 }
     {
-        inode_in(&self.chunks, fileid.0)
+        value_in(&self.chunks, fileid.0)
     }
 
     /// How many inodes there are.

@@ -14,9 +14,6 @@ abbrev pub IsLater : Setup → List Connection → List Connection → Type 0
 IsLater setup old new = (c : ℕ) (x : Connection) → slice_get old c ≡ Some x
     → (y : Connection) × (slice_get new c ≡ Some y) × ((n : ℕ) (h : Heard) → slice_get (served setup x) n ≡ Some h → slice_get (served setup y) n ≡ Some h)
 
-pub later_same : (setup : Setup) (connections : List Connection) → IsLater setup connections connections
-later_same setup connections c x e = (x, e, λ n h q. q)
-
 pub later_pushed : (setup : Setup) (connections more : List Connection) → IsLater setup connections (connections ++ more)
 later_pushed setup connections more c x e = (x, slice_get-append connections more c x e, λ n h q. q)
 

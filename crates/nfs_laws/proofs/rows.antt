@@ -8,6 +8,7 @@ mod Renaming
 mod Bytes
 mod Administration
 mod Homes
+mod Routes
 mod Numbers
 mod Toy
 mod Happening

@@ -1,4 +1,5 @@
--- A feed told byte by byte: what a byte brings the stream to, and where taking stops. It says the same as `Feeds`, for a program that takes bytes one after another.
+-- A feed told byte by byte: what a byte brings the stream to, and where taking stops. It says the same as `Feeds`, for
+-- a program that takes bytes one after another.
 use Rattle.std.specs.Prelude.{◌≡◌, ℕ, ◌+◌, Bool, true, false, ◌&&◌, IsTrue, ◌⊎◌, List, [], ◌∷◌, ◌++◌, Option, Some, None, slice_get}
 use Rattle.nfs_model.specs.World.{Heard, Scanned, Setup, World, Connection, is_crowded}
 use Rattle.nfs_model.specs.Events.Feed.{stream_of, served_count, with_bytes, bytes_taken, heard_in, MayStarveIf, is_of_record, Feeding}

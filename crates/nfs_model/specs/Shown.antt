@@ -48,6 +48,10 @@ subdirectories nodes [] = 0
 subdirectories nodes (e ∷ es) =
     (if is_directory_node (get nodes e.fileid) then 1 else 0) + subdirectories nodes es
 
+-- the size of any directory (our profile)
+abbrev pub directory_size : ℕ
+directory_size = 4096
+
 -- fattr3 of a node (RFC 1813 section 2.6): a file has one link, a directory two and one for each
 -- subdirectory
 abbrev pub shown : VolumeState → ℕ → Node → Shown
@@ -71,7 +75,7 @@ shown volume fileid (Directory d) = record {
   links = 2 + subdirectories volume.nodes d.list;
   uid = d.attributes.uid;
   gid = d.attributes.gid;
-  size = 4096;
+  size = directory_size;
   used = 0;
   fsid = volume.number;
   fileid = fileid;

@@ -7,6 +7,10 @@ pub record Moment : Type 0 where
   pub seconds : ℕ
   pub nanoseconds : ℕ
 
+-- the nanoseconds of a second: those of a moment are fewer (RFC 1813 section 2.6)
+abbrev pub nanoseconds_of_a_second : ℕ
+nanoseconds_of_a_second = 1000000000
+
 -- whom a call acts for (RFC 5531 appendix A); without one, 65534 for both and no further group (our
 -- profile)
 pub record Credential : Type 0 where

@@ -159,6 +159,10 @@ finish setup w e reply = record w {
   connections = changed_at (with_output (setup.codec.reply_record e.xid reply)) w.connections e.connection;
 }
 
--- no place is left for a message that waits or runs
+-- how many messages may wait or run
+abbrev pub most_messages : ℕ
+most_messages = 1024
+
+-- no more message may wait or run
 abbrev pub is_crowded : World → Bool
-is_crowded w = nat_le 1024 (length w.waiting + length (all_running w.workers))
+is_crowded w = nat_le most_messages (length w.waiting + length (all_running w.workers))

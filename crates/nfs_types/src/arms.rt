@@ -13,8 +13,9 @@ ghost use Rattle.nfs_types.specs.Results.{fsstat_shape, fsstat_value, commit_sha
 
 use crate::encode::{Encode, size_of_present, write_absent, write_present};
 use nfs_values::{
-    AccessResults, CommitResults, FilesystemInfoResults, FilesystemStatusResults, LookupResults,
-    MakeResults, PathConfigurationResults, ReadResults, RenameResults, WriteResults,
+    AccessResults, BLOCK_BYTES, COUNT_LIMIT, CommitResults, FilesystemInfoResults,
+    FilesystemStatusResults, LookupResults, MakeResults, PathConfigurationResults, ReadResults,
+    RenameResults, WriteResults,
 };
 
 /// FILE_SYNC (RFC 1813 section 3.3.7).
@@ -137,11 +138,8 @@ impl Encode for FilesystemStatusResults {
     }
 }
 
-/// The most bytes of a READ, a WRITE or a READDIR.
-const MOST_BYTES: u32 = 65_536;
-
-/// The bytes of a block.
-const BLOCK_SIZE: u32 = 4096;
+/// The bytes by whose multiples files are best read and written (RFC 1813 section 3.3.19).
+const BEST_MULTIPLE: u32 = BLOCK_BYTES as u32;
 
 /// FSF3_HOMOGENEOUS and FSF3_CANSETTIME (RFC 1813 section 3.3.19).
 const PROPERTIES: u32 = 0x0008 + 0x0010;
@@ -157,11 +155,11 @@ impl Encode for FilesystemInfoResults {
 
     fn write(&self, out: &mut Vec<u8>) {
         write_present(&self.root, out);
-        let sizes = (MOST_BYTES, (MOST_BYTES, BLOCK_SIZE));
+        let sizes = (COUNT_LIMIT, (COUNT_LIMIT, BEST_MULTIPLE));
         let time_delta = (0u32, 1u32);
         sizes.write(out);
         sizes.write(out);
-        (MOST_BYTES, (self.largest, (time_delta, PROPERTIES))).write(out);
+        (COUNT_LIMIT, (self.largest, (time_delta, PROPERTIES))).write(out);
     }
 }
 

@@ -92,7 +92,8 @@ module _ (offer : Offer) where
   no_call (Ok c) call fault e f = absurd cc
   no_call (Err g) call fault e f = absurd cc
 
-  call_told : (bytes : List ℕ) (xid : ℕ) (p : Procedure) (who : model.Credential) (arguments : List ℕ) → IsBytes arguments → IsCallBy offer bytes xid p who arguments
+  call_told : (bytes : List ℕ) (xid : ℕ) (p : Procedure) (who : model.Credential) (arguments : List ℕ) → IsBytes arguments
+      → IsCallBy offer bytes xid p who arguments
       → (r : Result model.Call Unread) → asked p arguments ≡ r → IsHeardBy offer bytes (Ok (record { xid = xid; asked = asked_by who r }))
   call_told bytes xid p who arguments fits c (Ok call) e = record { procedure = p; arguments = arguments; head = c; asks = asked_found p arguments call fits e }
   call_told bytes xid p who arguments fits c (Err fault) e =
@@ -168,11 +169,13 @@ module _ (offer : Offer) where
 
   procedure_told : (bytes : List ℕ) (xid program version number : ℕ) (who : model.Credential) (arguments : List ℕ) → IsBytes arguments
       → IsHead bytes xid program version number who arguments
-      → (o : Option ℕ) → version_by offer program ≡ o → Told bytes xid (of_version o version (find (is_numbered program number) (procedures_by offer)) >>= ends who arguments)
+      → (o : Option ℕ) → version_by offer program ≡ o → Told bytes xid (of_version o version (find (is_numbered program number)
+      (procedures_by offer)) >>= ends who arguments)
   procedure_told bytes xid program version number who arguments fits h None e =
       record { program = program; version = version; number = number; who = who; arguments = arguments; head = h; none = e }
   procedure_told bytes xid program version number who arguments fits h (Some offered) e =
-      agreed_told bytes xid program version number offered who arguments fits h e (eqb version offered) refl (find (is_numbered program number) (procedures_by offer)) refl
+      agreed_told bytes xid program version number offered who arguments fits h e (eqb version offered) refl (find (is_numbered program number)
+          (procedures_by offer)) refl
 
   -- the verifier
   whole_head : (bytes : List ℕ) (xid : ℕ) (n : Value numbers_shape) (rest more arguments : List ℕ) (who : model.Credential) (verf : Value auth_shape)
@@ -281,7 +284,8 @@ module _ (offer : Offer) where
       inl (refl, bad_padding bytes xid n rest o known small unreads.BadBool (λ s. absurd cc) e)
   body_told bytes xid n rest fits o known small (Err unreads.BadEnum) e =
       inl (refl, bad_padding bytes xid n rest o known small unreads.BadEnum (λ s. absurd cc) e)
-  body_told bytes xid n rest fits o known small (Err unreads.BadPad) e = inl (refl, bad_padding bytes xid n rest o known small unreads.BadPad (λ s. absurd cc) e)
+  body_told bytes xid n rest fits o known small (Err unreads.BadPad) e =
+      inl (refl, bad_padding bytes xid n rest o known small unreads.BadPad (λ s. absurd cc) e)
   body_told bytes xid n rest fits o known small (Err unreads.TooLong) e =
       inl (refl, bad_padding bytes xid n rest o known small unreads.TooLong (λ s. absurd cc) e)
   body_told bytes xid n rest fits o known small (Err unreads.LeftOver) e =
@@ -323,7 +327,8 @@ module _ (offer : Offer) where
   rpc_told bytes xid version rest fits b false e = (refl, refl, record { version = version; rest = rest; begins = b; other = eqb-false version 2 e })
 
   version_told : (bytes : List ℕ) (xid : ℕ) (rest : List ℕ) → IsBytes rest → Begins (Word & Word) (xid, 0) bytes rest
-      → (r : Reads ℕ) → read Word rest ≡ r → Told bytes xid ((whole r >>= λ v. cond (eqb v.0 2) (Ok v.1) (Err (Refuse (model.RpcMismatch 2 2)))) >>= from_version offer)
+      → (r : Reads ℕ) → read Word rest ≡ r → Told bytes xid ((whole r >>= λ v. cond (eqb v.0 2) (Ok v.1) (Err (Refuse
+      (model.RpcMismatch 2 2)))) >>= from_version offer)
   version_told bytes xid rest fits b (Err fault) e = inl (refl, NoVersion xid rest b (none_begun Word rest fault e))
   version_told bytes xid rest fits b (Ok v) e =
       let c = begun Word rest v fits e in
@@ -338,7 +343,8 @@ module _ (offer : Offer) where
       version_told bytes xid rest fits (subst (λ (n : ℕ). Begins (Word & Word) (xid, n) bytes rest) (eqb-true kind 0 e) b) (read Word rest) refl
   kind_told bytes xid kind rest fits b false e = inr (refl, record { xid = xid; kind = kind; rest = rest; begins = b; other = eqb-false kind 0 e })
 
-  message_told : (bytes : List ℕ) → IsBytes bytes → (r : Reads (ℕ × ℕ)) → read (Word & Word) bytes ≡ r → IsHeardBy offer bytes (heard_from (head_from offer (xid_of r)))
+  message_told : (bytes : List ℕ) → IsBytes bytes → (r : Reads (ℕ × ℕ)) → read (Word & Word) bytes ≡ r
+      → IsHeardBy offer bytes (heard_from (head_from offer (xid_of r)))
   message_told bytes fits (Err fault) e = inl (refl, NoMessage (none_begun (Word & Word) bytes fault e))
   message_told bytes fits (Ok m) e =
       let b = begun (Word & Word) bytes m fits e in

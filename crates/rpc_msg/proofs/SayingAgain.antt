@@ -67,10 +67,12 @@ module _ (offer : Offer) where
       at_call bytes xid (word version ++ rest) (record { fits = (b.fits.0, b.fits.1.0); parts = b.parts })
       ∙ ap (λ (r : Reads ℕ). told xid (by_version r)) (again Word version rest b.fits.1.1)
 
-  at_numbers : (bytes : List ℕ) (xid : ℕ) (rest : List ℕ) → Begins (Word & Word & Word) (xid, (0, 2)) bytes rest → heard_by offer bytes ≡ told xid (from_version offer rest)
+  at_numbers : (bytes : List ℕ) (xid : ℕ) (rest : List ℕ) → Begins (Word & Word & Word) (xid, (0, 2)) bytes rest
+      → heard_by offer bytes ≡ told xid (from_version offer rest)
   at_numbers bytes xid rest b = at_version bytes xid 2 rest b
 
-  at_opened : (bytes : List ℕ) (xid : ℕ) (n : Value numbers_shape) (rest : List ℕ) → Opens bytes xid n rest → heard_by offer bytes ≡ told xid (from_numbers offer (n, rest))
+  at_opened : (bytes : List ℕ) (xid : ℕ) (n : Value numbers_shape) (rest : List ℕ) → Opens bytes xid n rest
+      → heard_by offer bytes ≡ told xid (from_numbers offer (n, rest))
   at_opened bytes xid n rest b =
       at_numbers bytes xid (spelling numbers_shape n ++ rest) (record { fits = (b.fits.0, (b.fits.1.0, b.fits.1.1.0)); parts = b.parts })
       ∙ ap (λ (r : Reads (Value numbers_shape)). told xid (whole r >>= from_numbers offer)) (again numbers_shape n rest b.fits.1.1.1)
@@ -86,11 +88,13 @@ module _ (offer : Offer) where
       → Acts (flavor_of n) (size_of n) rest who more → heard_by offer bytes ≡ told xid (from_credential offer (n, rest) (who, more))
   at_acting bytes xid n rest who more o a =
       at_opened bytes xid n rest o
-      ∙ ap (λ (r : Result (model.Credential × List ℕ) Stop). told xid (r >>= from_credential offer (n, rest))) (acts_at (flavor_of n) (size_of n) rest who more a)
+      ∙ ap (λ (r : Result (model.Credential × List ℕ) Stop). told xid (r >>= from_credential offer (n, rest))) (acts_at (flavor_of n)
+      (size_of n) rest who more a)
 
   at_head : (bytes : List ℕ) (xid program version number : ℕ) (who : model.Credential) (arguments : List ℕ)
       → IsHead bytes xid program version number who arguments
-      → heard_by offer bytes ≡ told xid (procedure_by offer program version number >>= λ p. Ok (record { procedure = p; credential = who; arguments = arguments }))
+      → heard_by offer bytes ≡ told xid (procedure_by offer program version number >>= λ p. Ok (record { procedure = p; credential = who; arguments =
+      arguments }))
   at_head bytes xid program version number who arguments h =
       let size = length h.cred.1 in
       let n : Value numbers_shape = (program, (version, (number, (h.cred.0, size)))) in
@@ -109,7 +113,8 @@ module _ (offer : Offer) where
       let acts : Acts h.cred.0 size rest who more = record
       { body = h.cred.1; small = c.1.0; begins = record { fits = refl; parts = refl }; acts_for = h.acts_for } in
       at_acting bytes xid n rest who more opens acts
-      ∙ ap (λ (r : Reads (Value auth_shape)). told xid (whole r >>= from_verifier offer (n, rest) (who, more))) (again auth_shape h.verf arguments f.1.1.1.1.1.1.1)
+      ∙ ap (λ (r : Reads (Value auth_shape)). told xid (whole r >>= from_verifier offer (n, rest) (who, more)))
+      (again auth_shape h.verf arguments f.1.1.1.1.1.1.1)
 
   -- ---- the credential
 
@@ -167,7 +172,8 @@ module _ (offer : Offer) where
       (fault_of numbers_shape rest (rest_bytes (Word & Word & Word) (xid, (0, 2)) bytes rest fits b) none).1
   incomplete_again bytes fits (NoBody xid n rest o known small short) =
       at_opened bytes xid n rest o
-      ∙ ap (λ (r : Result (model.Credential × List ℕ) Stop). told xid (r >>= from_credential offer (n, rest))) (at_body (flavor_of n) (size_of n) rest known small
+      ∙ ap (λ (r : Result (model.Credential × List ℕ) Stop). told xid (r >>= from_credential offer (n, rest))) (at_body (flavor_of n)
+      (size_of n) rest known small
       ∙ ap (body_read (flavor_of n)) (short_fixed (size_of n) rest short))
   incomplete_again bytes fits (NoVerifier xid n rest more who o a none) =
       let rest_fits = rest_bytes (Word & Word & Word & numbers_shape) (xid, (0, (2, n))) bytes rest fits o in
@@ -206,7 +212,8 @@ module _ (offer : Offer) where
   program_again : (bytes : List ℕ) (xid : ℕ) → IsOfNoProgramBy offer bytes xid → heard_by offer bytes ≡ refused xid model.ProgramUnavailable
   program_again bytes xid p = at_head bytes xid p.program p.version p.number p.who p.arguments p.head ∙ rw p.none refl
 
-  other_again : (bytes : List ℕ) (xid offered : ℕ) → IsOfAnotherVersionBy offer bytes xid offered → heard_by offer bytes ≡ refused xid (model.ProgramMismatch offered offered)
+  other_again : (bytes : List ℕ) (xid offered : ℕ) → IsOfAnotherVersionBy offer bytes xid offered
+      → heard_by offer bytes ≡ refused xid (model.ProgramMismatch offered offered)
   other_again bytes xid offered v =
       let other : eqb v.version offered ≡ false = ne_eqb v.version offered v.other in
       at_head bytes xid v.program v.version v.number v.who v.arguments v.head ∙ rw (v.served_is, other) refl
@@ -218,7 +225,8 @@ module _ (offer : Offer) where
 
   -- ---- arguments
 
-  call_bytes : (bytes : List ℕ) (xid : ℕ) (p : Procedure) (who : model.Credential) (arguments : List ℕ) → IsBytes bytes → IsCallBy offer bytes xid p who arguments
+  call_bytes : (bytes : List ℕ) (xid : ℕ) (p : Procedure) (who : model.Credential) (arguments : List ℕ) → IsBytes bytes
+      → IsCallBy offer bytes xid p who arguments
       → IsBytes arguments
   call_bytes bytes xid p who arguments fits c =
       rest_bytes call_shape (call_value xid (numbers_of p) c.version c.cred c.verf) bytes arguments fits (record { fits = c.fits; parts = c.bytes_are })
@@ -228,7 +236,8 @@ module _ (offer : Offer) where
   garbage_by p arguments who fits none (Ok call) e = absurd (none call (asked_found p arguments call fits e))
   garbage_by p arguments who fits none (Err fault) e = refl
 
-  at_arguments : (bytes : List ℕ) (xid : ℕ) (p : Procedure) (who : model.Credential) (arguments : List ℕ) (a : model.Asked) → IsCallBy offer bytes xid p who arguments
+  at_arguments : (bytes : List ℕ) (xid : ℕ) (p : Procedure) (who : model.Credential) (arguments : List ℕ) (a : model.Asked)
+      → IsCallBy offer bytes xid p who arguments
       → asked_by who (asked p arguments) ≡ a → heard_by offer bytes ≡ Ok (record { xid = xid; asked = a })
   at_arguments bytes xid p who arguments a c e =
       ap heard_from (call_again offer bytes xid p who arguments c) ∙ ap (λ (b : model.Asked). Ok (record { xid = xid; asked = b })) e
@@ -245,7 +254,8 @@ module _ (offer : Offer) where
 
   -- ---- all together
 
-  refused_again : (bytes : List ℕ) (xid : ℕ) (reply : model.Reply) → IsBytes bytes → IsRefusedWithBy offer bytes xid reply → heard_by offer bytes ≡ refused xid reply
+  refused_again : (bytes : List ℕ) (xid : ℕ) (reply : model.Reply) → IsBytes bytes → IsRefusedWithBy offer bytes xid reply
+      → heard_by offer bytes ≡ refused xid reply
   refused_again bytes xid (model.RpcMismatch low high) fits s = rw (s.0, s.1) (rpc_again bytes xid s.2)
   refused_again bytes xid (model.AuthError number) fits (inl s) = rw s.0 (bad_again bytes xid fits s.1)
   refused_again bytes xid (model.AuthError number) fits (inr s) = rw s.0 (flavor_again bytes xid s.1)
@@ -256,7 +266,8 @@ module _ (offer : Offer) where
   refused_again bytes xid model.SystemError fits s = absurd s
   refused_again bytes xid (model.Success answer) fits s = absurd s
 
-  says_again : (bytes : List ℕ) (xid : ℕ) (a : model.Asked) → IsBytes bytes → SaysBy offer bytes xid a → heard_by offer bytes ≡ Ok (record { xid = xid; asked = a })
+  says_again : (bytes : List ℕ) (xid : ℕ) (a : model.Asked) → IsBytes bytes → SaysBy offer bytes xid a
+      → heard_by offer bytes ≡ Ok (record { xid = xid; asked = a })
   says_again bytes xid (model.Ask call who) fits s = asking_again bytes xid call who s
   says_again bytes xid (model.Refused reply) fits s = refused_again bytes xid reply fits s
   says_again bytes xid model.Undecoded fits s = absurd s
@@ -316,7 +327,8 @@ module _ (offer : Offer) where
       let both = exactly bytes (refused xid (model.RpcMismatch 2 2)) fits in
       (λ e. (both.0 e).2, λ c. both.1 (refl, refl, c))
 
-  pub exactly_program : (bytes : List ℕ) (xid : ℕ) → IsBytes bytes → Exactly (RefusesBy offer bytes xid model.ProgramUnavailable) (IsOfNoProgramBy offer bytes xid)
+  pub exactly_program : (bytes : List ℕ) (xid : ℕ) → IsBytes bytes
+      → Exactly (RefusesBy offer bytes xid model.ProgramUnavailable) (IsOfNoProgramBy offer bytes xid)
   exactly_program bytes xid fits = exactly bytes (refused xid model.ProgramUnavailable) fits
 
   pub exactly_version : (bytes : List ℕ) (xid offered : ℕ) → IsBytes bytes
@@ -325,7 +337,8 @@ module _ (offer : Offer) where
       let both = exactly bytes (refused xid (model.ProgramMismatch offered offered)) fits in
       (λ e. (both.0 e).1, λ c. both.1 (refl, c))
 
-  pub exactly_procedure : (bytes : List ℕ) (xid : ℕ) → IsBytes bytes → Exactly (RefusesBy offer bytes xid model.ProcedureUnavailable) (IsOfNoProcedureBy offer bytes xid)
+  pub exactly_procedure : (bytes : List ℕ) (xid : ℕ) → IsBytes bytes
+      → Exactly (RefusesBy offer bytes xid model.ProcedureUnavailable) (IsOfNoProcedureBy offer bytes xid)
   exactly_procedure bytes xid fits = exactly bytes (refused xid model.ProcedureUnavailable) fits
 
   pub exactly_garbage : (bytes : List ℕ) (xid : ℕ) → IsBytes bytes → Exactly (RefusesBy offer bytes xid model.GarbageArguments) (HasGarbageBy offer bytes xid)

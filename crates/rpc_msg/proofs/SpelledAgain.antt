@@ -59,7 +59,8 @@ module _ (offer : Offer) where
       ∙ then_is (version_at (word 2 ++ r2)) (from_version offer) r2 version_read
       ∙ then_is (whole (read numbers_shape r2)) (from_numbers offer) (numbers, r3) (ap whole (again numbers_shape numbers r3 numbers_fit))
       ∙ then_is (credential_at cred.0 (length cred.1) r3) (from_credential offer (numbers, r3)) (who, r4) (credential_again cred.0 cred.1 who r4 short.0 acts)
-      ∙ then_is (whole (read auth_shape r4)) (from_verifier offer (numbers, r3) (who, r4)) (verf, arguments) (ap whole (again auth_shape verf arguments fits.1.1.1.1.1))
+      ∙ then_is (whole (read auth_shape r4)) (from_verifier offer (numbers, r3) (who, r4)) (verf, arguments) (ap whole
+      (again auth_shape verf arguments fits.1.1.1.1.1))
       ∙ then_is (procedure_by offer (numbers_of p).0 version (numbers_of p).1) (λ q. Ok (record { procedure = q; credential = who; arguments = arguments })) p
       (procedure_again p version offered version_is)
 
@@ -67,7 +68,8 @@ module _ (offer : Offer) where
       → head_by offer bytes ≡ Call xid p who arguments
   call_again bytes xid p who arguments c =
       let after = spelling body_shape (body_value (numbers_of p) c.version c.cred c.verf) ++ arguments in
-      let xid_read : xid_at (spelling (Word & Word) (xid, 0) ++ after) ≡ Ok (xid, after) = rw (again (Word & Word) (xid, 0) after (c.fits.0, c.fits.1.0)) refl in
+      let xid_read : xid_at (spelling (Word & Word) (xid, 0) ++ after) ≡ Ok (xid, after) =
+          rw (again (Word & Word) (xid, 0) after (c.fits.0, c.fits.1.0)) refl in
       ap (head_by offer) c.bytes_are
       ∙ ap (head_from offer) xid_read
       ∙ ap (under xid) (body_again p c.version c.cred c.verf who arguments c.offered c.version_is c.acts_for c.fits.1.1)

@@ -1,4 +1,5 @@
--- The head of a record: what stands before the arguments of a call (RFC 5531 section 9), in the order in which it is read. The order, and the first that applies decides, is our profile.
+-- The head of a record: what stands before the arguments of a call (RFC 5531 section 9), in the order in which it is
+-- read. The order, and the first that applies decides, is our profile.
 use Rattle.std.specs.Prelude.{ℕ, Bool, List, [], ◌&&◌, ◌==◌, nat_lt, Option, Some, None, Result, Ok, Err, find, if◌then◌else◌}
 use Rattle.std.specs.List.{filter}
 use Rattle.xdr.specs.declared.fault.Fault.{Fault as Unread}

@@ -57,8 +57,10 @@ pub data IsIncomplete (bytes : List ℕ) : Type 0 where
   NoMessage : BeginsNone (Word & Word) bytes → IsIncomplete bytes
   NoVersion : (xid : ℕ) (rest : List ℕ) → Begins (Word & Word) (xid, 0) bytes rest → BeginsNone Word rest → IsIncomplete bytes
   NoNumbers : (xid : ℕ) (rest : List ℕ) → Begins (Word & Word & Word) (xid, (0, 2)) bytes rest → BeginsNone numbers_shape rest → IsIncomplete bytes
-  NoBody : (xid : ℕ) (n : Value numbers_shape) (rest : List ℕ) → Opens bytes xid n rest → flavor_of n ≤ 1 → size_of n ≤ 400 → length rest < size_of n + padding (size_of n) → IsIncomplete bytes
-  NoVerifier : (xid : ℕ) (n : Value numbers_shape) (rest more : List ℕ) (who : model.Credential) → Opens bytes xid n rest → Acts (flavor_of n) (size_of n) rest who more → BeginsNone auth_shape more → IsIncomplete bytes
+  NoBody : (xid : ℕ) (n : Value numbers_shape) (rest : List ℕ) → Opens bytes xid n rest → flavor_of n ≤ 1 → size_of n ≤ 400
+      → length rest < size_of n + padding (size_of n) → IsIncomplete bytes
+  NoVerifier : (xid : ℕ) (n : Value numbers_shape) (rest more : List ℕ) (who : model.Credential) → Opens bytes xid n rest
+      → Acts (flavor_of n) (size_of n) rest who more → BeginsNone auth_shape more → IsIncomplete bytes
 
 -- The message is no call: fault 13 (our profile; section 9).
 pub record IsNoCall (bytes : List ℕ) : Type 0 where
@@ -88,7 +90,8 @@ pub record HasAnotherFlavor (bytes : List ℕ) (xid : ℕ) : Type 0 where
 pub data IsBadBody (flavor size : ℕ) (rest : List ℕ) : Type 0 where
   TooLong : 400 < size → IsBadBody flavor size rest
   BadPadding : size ≤ 400 → size + padding size ≤ length rest → BeginsNone (Fixed size) rest → IsBadBody flavor size rest
-  NoUser : (body more : List ℕ) → size ≤ 400 → Begins (Fixed size) body rest more → flavor ≡ 1 → ((v : Value auth_sys_shape) → Spells auth_sys_shape v body → ⊥) → IsBadBody flavor size rest
+  NoUser : (body more : List ℕ) → size ≤ 400 → Begins (Fixed size) body rest more → flavor ≡ 1 → ((v : Value auth_sys_shape)
+      → Spells auth_sys_shape v body → ⊥) → IsBadBody flavor size rest
 
 -- cred is such: AUTH_BADCRED (section 9)
 pub record HasBadCredential (bytes : List ℕ) (xid : ℕ) : Type 0 where

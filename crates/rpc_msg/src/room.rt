@@ -4,16 +4,13 @@ ghost use Rattle.std.specs.Prelude.{◌≡◌, ◌+◌, ◌*◌, ◌≤◌};
 ghost use Rattle.nfs_values.specs.Call.{call_of};
 ghost use Rattle.rpc_msg.specs.Room.{padded_size, reply_room, results_room};
 
-use nfs_values::Call;
+use nfs_values::{COUNT_LIMIT, Call};
 
 /// A record's header, and a reply as far as its accept_stat (RFC 5531 sections 9 and 11).
 const HEAD_ROOM: usize = 28;
 
 /// The most bytes of the record of a reply that refuses a record, or that says that memory ran out.
 pub const REFUSAL_ROOM: usize = 36;
-
-/// Larger counts of bytes are taken as this.
-const COUNT_LIMIT: u32 = 65_536;
 
 /// The attributes of a node before and after, each behind its flag (RFC 1813 section 2.6).
 const CHANGE_ROOM: usize = 28 + 88;

@@ -9,4 +9,4 @@ mod queue_number;
 mod waiting;
 
 pub use message::{Message, Origin};
-pub use waiting::{Full, NoSuchCall, Waiting};
+pub use waiting::{Full, MOST_WAITING, NoSuchCall, Waiting};

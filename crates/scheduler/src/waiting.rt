@@ -33,7 +33,7 @@ use std::alloc::{AllocError, Global};
 use std::marker::Model;
 
 /// How many messages may wait.
-const PLACES: usize = 1_024;
+pub const MOST_WAITING: usize = 1_024;
 
 /// There are 1,024 messages already. It has the message that found no place.
 #[derive(Drop)]
@@ -125,7 +125,7 @@ impl<C: Drop> Waiting<C> {
         ensures back { IfErr result (λ full. full.message ≡ message) }
         ensures err { OnErr result (self.new ≡ self.old) }
     {
-        if self.count == PLACES {
+        if self.count == MOST_WAITING {
             return Err(Full { message });
         }
         self.put_back(message);

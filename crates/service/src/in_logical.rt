@@ -1,6 +1,6 @@
 //! Calls run on the parcels under Volume Logical.
 
-ghost use Rattle.std.specs.Prelude.{◌≡◌, true, false, Some, []};
+ghost use Rattle.std.specs.Prelude.{◌≡◌, false, Some, is_some, IfSome, []};
 ghost use Rattle.nfs_model.specs.Home.{home, named_by, rename_home};
 ghost use Rattle.nfs_model.specs.Tree as trees;
 ghost use Rattle.nfs_model.specs.Types as types;
@@ -68,54 +68,36 @@ pub fn run_on_logical(
 {
     let fileid = fileid_here(layout, Affinity::VolumeLogical(volume.0), run.call);
     let named = Named { volume, fileid };
-    if is_told(run.call) {
-        tell(run, held, named)
-    } else {
-        change(run, layout, held, named)
+    match tell(run, held, named) {
+        Some(outcome) => outcome,
+        None => change(run, layout, held, named),
     }
 }
 
-/// Whether a call that is run there changes nothing.
-fn is_told(call: &Call) -> bool
-    ensures { result ≡ is_told call.now }
-{
-    matches!(
-        call,
-        Call::GetAttributes { .. }
-            | Call::Lookup(_)
-            | Call::Read { .. }
-            | Call::ReadDirectory { .. }
-            | Call::Commit { .. }
-            | Call::CheckAccess { .. }
-            | Call::FilesystemInfo { .. }
-            | Call::PathConfiguration { .. }
-    )
-}
-
-/// Runs a call that changes nothing on the parcels of the volume of what its handle names.
-fn tell(run: Run, held: &LogicalHeld<Files>, named: Named) -> Outcome
-    requires told { is_told run.call.now ≡ true }
+/// Runs a call on the parcels of the volume of what its handle names, where it changes nothing.
+fn tell(run: Run, held: &LogicalHeld<Files>, named: Named) -> Option<Outcome>
     requires whole { HasVolume named.volume.0 logical_lens [] (logical_before held.now) }
-    ensures runs { (layout : trees.Layout) → RunsOn named.volume.0 logical_lens
+    ensures told { is_some result ≡ is_told run.entry.call.now }
+    ensures runs { IfSome result (λ outcome. (layout : trees.Layout)
+        → RunsOn named.volume.0 logical_lens
         (call_named layout (named_of named) (credential_of run.entry.credential)
         (moment_of run.entry.moment) (call_of run.entry.call.now))
-        (logical_before held.now) (outcome_of result) (logical_before held.now) }
+        (logical_before held.now) (outcome_of outcome) (logical_before held.now)) }
 {
     let Named { volume, fileid } = named;
     match run.call {
         Call::GetAttributes { .. } => {
             let told = get_attributes(held, volume, fileid);
-            Outcome::Replied(Reply::Success(Answer::GetAttributes(told)))
+            Some(Outcome::Replied(Reply::Success(Answer::GetAttributes(told))))
         }
         Call::Lookup(target) => {
             let told = lookup(held, volume, fileid, target.name.as_bytes());
-            Outcome::Replied(Reply::Success(Answer::Lookup(told)))
+            Some(Outcome::Replied(Reply::Success(Answer::Lookup(told))))
         }
-        Call::Read {
-            handle: _,
-            offset,
-            count,
-        } => outcome_read(read_in_logical(run.alloc, held, fileid, *offset, *count)),
+        Call::Read { offset, count, .. } => {
+            let told = read_in_logical(run.alloc, held, fileid, *offset, *count);
+            Some(outcome_read(told))
+        }
         Call::ReadDirectory {
             directory: _,
             cookie,
@@ -127,41 +109,43 @@ fn tell(run: Run, held: &LogicalHeld<Files>, named: Named) -> Outcome
                 verifier: *verifier,
                 count: *count,
             };
-            outcome_listed(read_directory(run.alloc, held, volume, fileid, asked))
+            let told = read_directory(run.alloc, held, volume, fileid, asked);
+            Some(outcome_listed(told))
         }
         Call::Commit { .. } => {
             let told = commit(held, volume, fileid);
-            Outcome::Replied(Reply::Success(Answer::Commit(told)))
+            Some(Outcome::Replied(Reply::Success(Answer::Commit(told))))
         }
         _ => tell_object(run, held, named),
     }
 }
 
-/// Runs a call that tells of any object by its attributes, on the parcels of the volume of what its
-/// handle names.
-fn tell_object(run: Run, held: &LogicalHeld<Files>, named: Named) -> Outcome
-    requires told { is_of_object run.call.now ≡ true }
+/// Runs a call on the parcels of the volume of what its handle names, where it tells of any object
+/// by its attributes.
+fn tell_object(run: Run, held: &LogicalHeld<Files>, named: Named) -> Option<Outcome>
     requires whole { HasVolume named.volume.0 logical_lens [] (logical_before held.now) }
-    ensures runs { (layout : trees.Layout) → RunsOn named.volume.0 logical_lens
+    ensures told { is_some result ≡ is_of_object run.entry.call.now }
+    ensures runs { IfSome result (λ outcome. (layout : trees.Layout)
+        → RunsOn named.volume.0 logical_lens
         (call_named layout (named_of named) (credential_of run.entry.credential)
         (moment_of run.entry.moment) (call_of run.entry.call.now))
-        (logical_before held.now) (outcome_of result) (logical_before held.now) }
+        (logical_before held.now) (outcome_of outcome) (logical_before held.now)) }
 {
     let Named { volume, fileid } = named;
     match run.call {
         Call::CheckAccess { handle: _, asked } => {
             let told = check_access(held, volume, fileid, *asked, run.credential);
-            Outcome::Replied(Reply::Success(Answer::CheckAccess(told)))
+            Some(Outcome::Replied(Reply::Success(Answer::CheckAccess(told))))
         }
         Call::FilesystemInfo { .. } => {
             let told = filesystem_info(held, volume, fileid);
-            Outcome::Replied(Reply::Success(Answer::FilesystemInfo(told)))
+            Some(Outcome::Replied(Reply::Success(Answer::FilesystemInfo(told))))
         }
         Call::PathConfiguration { .. } => {
             let told = path_configuration(held, volume, fileid);
-            Outcome::Replied(Reply::Success(Answer::PathConfiguration(told)))
+            Some(Outcome::Replied(Reply::Success(Answer::PathConfiguration(told))))
         }
-        _ => unreachable!(),
+        _ => None,
     }
 }
 
@@ -180,26 +164,19 @@ fn change(run: Run, layout: &Layout, held: &mut LogicalHeld<Files>, named: Named
     ensures alike { logical_alike held.old held.new }
 {
     let Named { volume, fileid } = named;
-    let Run {
-        alloc,
-        call,
-        credential,
-        moment,
-    } = run;
-    match call {
-        Call::SetAttributes {
-            handle: _,
-            set,
-            guard,
-        } => {
+    let alloc = run.alloc;
+    let credential = run.credential;
+    let moment = run.moment;
+    match run.call {
+        Call::SetAttributes { set, guard, .. } => {
             let told = set_attributes(held, volume, fileid, set, *guard, moment);
             Outcome::Replied(Reply::Success(Answer::SetAttributes(told)))
         }
         Call::Write {
-            handle: _,
             offset,
             count,
             bytes,
+            ..
         } => {
             let written = bytes.as_slice();
             let told = write_in_logical(held, fileid, *offset, *count, written, moment);

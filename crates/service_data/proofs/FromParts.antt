@@ -77,7 +77,8 @@ module _ {P : Type 0} (old : FilerVolume P) (filled : FilerLogical P) (numbered 
   count-same : new.own.stripes ≡ old.logical.own.stripes
   count-same =
       ap (λ (l : LogicalValue). l.stripes) own-after
-      ∙ parts-keep (λ l. l.stripes) (λ l stock. refl) (λ l dead. refl) numbers.numbers (volume_before (with_zeros old filled fileid bs fills)) numbers.left numbers.leave
+      ∙ parts-keep (λ l. l.stripes) (λ l stock. refl) (λ l dead. refl) numbers.numbers
+      (volume_before (with_zeros old filled fileid bs fills)) numbers.left numbers.leave
       ∙ ap (λ (l : LogicalValue). l.stripes) fills.own
 
   stripes-kept : (logical_before extended).stripes ≡ (logical_before numbered.logical).stripes

@@ -137,12 +137,6 @@ module _ {P : Type 0} (held : FilerLogical P) (has : HasStripes held) (fileid bl
       ap (λ (m : ℕ). stripe_at (logical_before held).stripes (stripe_of m fileid block)) (each-length now_at 0 n)
       ∙ each-index now_at no_stripe n home home-below ∙ ap stripe_value (placed-is held.stripes.at home)
 
-  pub home-some : (d : Option (FilerStripe P)) (i : ℕ) → i ≡ home → length held.stripes.at ≡ 16 → is_some (slice_index_or held.stripes.at i d) ≡ true
-  home-some d i is long =
-      ap is_some (default-is held.stripes.at i d (let few = has.few in let below = home-below in omega (arith, is, few, below, long)))
-      ∙ ap (λ (k : ℕ). is_some (slice_index_or held.stripes.at k None)) is
-      ∙ ap is_some (sym (placed-is held.stripes.at home)) ∙ has.there home home-below
-
   pub home-found : (d : Option (FilerStripe P)) (i : ℕ) → i ≡ home → length held.stripes.at ≡ 16
       → stripe_value (slice_index_or held.stripes.at i d) ≡ home_stripe (logical_before held).stripes fileid block
   home-found d i is long =
@@ -227,9 +221,6 @@ module _ {P : Type 0} where
     alike = λ i. first.alike i ∙ next.alike i;
     there = next.there;
   }
-
-  pub changed-none : (a : FilerLogical P) → HasStripes a → StripesChanged (λ s. s) a a
-  changed-none a has = record { own = refl; stripes = refl; alike = λ i. refl; there = has }
 
   -- two changes of one place that undo each other
   pub one-restored : (g h : StripeValue → StripeValue) (places : List (Option (FilerStripe P))) (i : ℕ)

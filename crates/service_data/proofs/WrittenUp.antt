@@ -105,13 +105,6 @@ module _ (fileid : ℕ) (w : Writing) (old : LogicalSet) (card : Option Card) (f
         let long = length-take most_bytes w.written in
         omega (arith, all.0, all.1, long)
 
-    -- how many there are
-    pub given-long : length (take given w.written) ≡ given
-    given-long = ap (λ (l : List ℕ). length l) kept-same ∙ sym kept-long
-
-    pub given-few : given ≤ 65536
-    given-few = let all = given-some card largest w.offset w.count (length w.written) given is some in omega (arith, all.1)
-
     pub more-due : (n : ℕ) → given ≡ suc n → bytes_due (get old.own.inodes.inodes fileid) old.own.largest w ≡ Ok (suc n)
     more-due n more = due-told (Ok given) is ∙ ap Ok more
 

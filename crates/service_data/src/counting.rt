@@ -7,9 +7,7 @@ ghost use Rattle.filer_state.specs.bytes.WritingUp.{all_blocks, for_holes, free_
 
 use filer_state::{Files, ranges_used};
 use parcels::{RangeHeld, VbnHeld, VolumeHeld};
-
-/// The blocks of a range.
-const RANGE_BLOCKS: u64 = 1024;
+use vbn_ranges::RANGE_BLOCKS;
 
 /// Whether the filled blocks of all files, and so many holes, are more than all blocks of a volume.
 pub(crate) fn lacks_space(held: &VolumeHeld<Files>, holes: usize) -> bool
@@ -19,7 +17,7 @@ pub(crate) fn lacks_space(held: &VolumeHeld<Files>, holes: usize) -> bool
         (held.now.logical.own.inodes.used + holes) }
 {
     let used = held.logical.own.get().inodes.used();
-    let all = RANGE_BLOCKS * u64::from(ranges_used(&held.vbn));
+    let all = u64::from(RANGE_BLOCKS) * u64::from(ranges_used(&held.vbn));
     all < used + holes as u64
 }
 

@@ -11,6 +11,7 @@ ghost use Rattle.std.specs.Prelude.{
   OnErr,
   OnOk,
 };
+ghost use Rattle.nfs_model.specs.Server.{most_bytes};
 ghost use Rattle.nfs_model.specs.Home.{span_bytes};
 ghost use Rattle.nfs_values.specs.Moment.{moment_of};
 ghost use Rattle.inodes.specs.Inode.{inode_value, kind_value};
@@ -37,12 +38,9 @@ use crate::homes::{grow_cards, write_span};
 use crate::parts::number_blocks;
 use filer_state::Files;
 use inodes::{Inode, InodeKind};
-use nfs_values::{Fileid, Moment};
+use nfs_values::{Fileid, Moment, SPAN_BYTES};
 use parcels::{LogicalHeld, VolumeHeld};
 use std::alloc::AllocError;
-
-/// The bytes of a span.
-const SPAN: u64 = 262_144;
 
 /// Writes bytes to a file at an offset, at a moment: it reaches at least to their end, and the
 /// holes that they meet are filled from the stock. It tells whether it did; where the stock has too
@@ -58,7 +56,7 @@ pub(crate) fn extend(
     requires stripes { HasStripes held.old }
     requires room { HasRoom fileid.0 held.old.own.inodes }
     requires some { 0 < length written.now }
-    requires few { length written.now ≤ 65536 }
+    requires few { length written.now ≤ most_bytes }
     requires below { offset + length written.now < 18446744073709551616 }
     ensures extended { Extends fileid.0 offset written.now (moment_of moment)
         (logical_before held.old) result (logical_after held.old held.new) }
@@ -97,7 +95,7 @@ pub(crate) fn extend_in_volume(
     requires stripes { HasStripes held.old.logical }
     requires room { HasRoom fileid.0 held.old.logical.own.inodes }
     requires some { 0 < length written.now }
-    requires few { length written.now ≤ 65536 }
+    requires few { length written.now ≤ most_bytes }
     requires below { offset + length written.now < 18446744073709551616 }
     ensures extended { ExtendsInVolume fileid.0 offset written.now (moment_of moment)
         (volume_before held.old) result (volume_after held.old held.new) }
@@ -132,7 +130,7 @@ fn fill_and_write(
     requires stripes { HasStripes held.old.logical }
     requires room { HasRoom fileid.0 held.old.logical.own.inodes }
     requires some { 0 < length written.now }
-    requires few { length written.now ≤ 65536 }
+    requires few { length written.now ≤ most_bytes }
     requires below { offset + length written.now < 18446744073709551616 }
     requires all { found.now
         ≡ holes (logical_before held.old.logical).stripes fileid.0 offset (length written.now) }
@@ -207,7 +205,7 @@ fn write_spans(
     ensures { StripesChanged (spans_written fileid.0 offset written.now (moment_of moment))
         held.old held.new }
 {
-    let first = (SPAN - offset % SPAN) as usize;
+    let first = (SPAN_BYTES - offset % SPAN_BYTES) as usize;
     if written.len() <= first {
         write_span(held, fileid, offset, written, moment);
     } else {

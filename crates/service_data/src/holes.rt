@@ -2,6 +2,7 @@
 
 ghost use Rattle.std.specs.Prelude.{◌≡◌, ◌+◌, ◌<◌, ◌≤◌, ◌∷◌, [], true, take, length, OnOk, OnErr};
 ghost use Rattle.std.specs.FinSet.{contains, len};
+ghost use Rattle.nfs_model.specs.Server.{most_bytes};
 ghost use Rattle.nfs_model.specs.volume.Ranges.{without_numbers};
 ghost use Rattle.filer_state.specs.state.Sets.{logical_before};
 ghost use Rattle.filer_state.specs.bytes.Extending.{holes};
@@ -16,9 +17,9 @@ ghost use Rattle.service_data.specs.Holes.{
   zeroed,
 };
 
-use crate::homes::{BLOCK_BYTES, empty_block, fill_block, is_filled, number_block};
+use crate::homes::{empty_block, fill_block, is_filled, number_block};
 use filer_state::Files;
-use nfs_values::{BlockNumber, Fileid};
+use nfs_values::{BLOCK_BYTES, BlockNumber, Fileid};
 use parcels::LogicalHeld;
 use std::alloc::AllocError;
 
@@ -36,7 +37,7 @@ pub(crate) fn find_holes(
 ) -> usize
     requires stripes { HasStripes held.now }
     requires some { 0 < n }
-    requires few { n ≤ 65536 }
+    requires few { n ≤ most_bytes }
     requires below { offset + n < 18446744073709551616 }
     ensures few { result ≤ 17 }
     ensures holes { take result found.new

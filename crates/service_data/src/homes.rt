@@ -35,7 +35,7 @@ ghost use Rattle.service_data.specs.Places.{
 };
 
 use filer_state::Files;
-use nfs_values::{BlockNumber, Fileid, Moment};
+use nfs_values::{BLOCK_BYTES, BlockNumber, Fileid, Moment};
 use parcels::{LogicalHeld, StripeHeld};
 use std::alloc::AllocError;
 use stripe_cards::Card;
@@ -43,9 +43,6 @@ use stripes::Stripe;
 
 /// The blocks of a span, which lie in one stripe.
 const SPAN_BLOCKS: u64 = 64;
-
-/// The bytes of a block.
-pub(crate) const BLOCK_BYTES: u64 = 4096;
 
 /// The place of the stripe in which a block of a file lies.
 fn home(held: &LogicalHeld<Files>, fileid: Fileid, block: u64) -> usize

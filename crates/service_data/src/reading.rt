@@ -2,6 +2,7 @@
 
 ghost use Rattle.std.specs.Prelude.{◌≡◌, ℕ, ◌+◌, ◌-◌, [], min, nat_le};
 ghost use Rattle.std.specs.Option.{option_map};
+ghost use Rattle.nfs_model.specs.Server.{most_bytes};
 ghost use Rattle.nfs_model.specs.Types as types;
 ghost use Rattle.nfs_values.specs.Answer.{result_of};
 ghost use Rattle.inodes.specs.Inode.{inode_value};
@@ -18,13 +19,10 @@ ghost use Rattle.service_data.specs.Promises.{
 use crate::spans::read_spans;
 use filer_state::Files;
 use inodes::{Inode, InodeKind};
-use nfs_values::{BytesRead, Fileid, ReadResults, Status, room_to_read};
+use nfs_values::{BytesRead, COUNT_LIMIT, Fileid, ReadResults, Status, room_to_read};
 use parcels::{LogicalHeld, StripeHeld};
 use std::alloc::{AllocError, Global};
 use stripe_cards::Card;
-
-/// Larger counts of bytes are taken as this.
-pub(crate) const COUNT_LIMIT: u32 = 65_536;
 
 /// READ (RFC 1813 section 3.3.6), on the parcel of the stripe in which its bytes lie, those from
 /// the offset on, as many as the count, at most 65,536: STALE, or INVAL for a directory; else the
@@ -37,7 +35,7 @@ pub fn read_in_stripe(
     offset: u64,
     count: u32,
 ) -> Result<Result<ReadResults, Status>, AllocError>
-    requires span { LieInOneSpan offset (min count COUNT_LIMIT) }
+    requires span { LieInOneSpan offset (min count most_bytes) }
     ensures right { ReadsInStripe fileid.0 offset count held.now.own result }
 {
     let stripe = held.own.get();
@@ -117,8 +115,8 @@ fn size_of(inode: Option<Inode>) -> Result<u64, Status>
 
 /// How many bytes are given of a file of a size from an offset on, and whether they reach its end.
 fn given_of(size: u64, offset: u64, count: u32) -> (usize, bool)
-    ensures given { result.0 ≡ min (min count COUNT_LIMIT) (size - offset) }
-    ensures eof { result.1 ≡ nat_le size (offset + min (min count COUNT_LIMIT) (size - offset)) }
+    ensures given { result.0 ≡ min (min count most_bytes) (size - offset) }
+    ensures eof { result.1 ≡ nat_le size (offset + min (min count most_bytes) (size - offset)) }
 {
     let left = size.saturating_sub(offset);
     let most = u64::from(count.min(COUNT_LIMIT));

@@ -9,11 +9,8 @@ ghost use Rattle.filer_state.specs.bytes.Reading.{bytes_under};
 ghost use Rattle.service_data.specs.Stripes.{HasStripes};
 
 use filer_state::Files;
-use nfs_values::Fileid;
+use nfs_values::{Fileid, SPAN_BYTES};
 use parcels::{LogicalHeld, StripeHeld};
-
-/// The bytes of a span, which lie in one stripe.
-const SPAN: u64 = 262_144;
 
 /// Appends n bytes of a file from an offset on, whatever its size, from one span or two. It takes
 /// no memory.
@@ -32,7 +29,7 @@ pub(crate) fn read_spans(
         ++ bytes_under (logical_before held.now).stripes fileid.0 offset n }
     ensures capacity { vec_capacity into.old ≤ vec_capacity into.new }
 {
-    let first = (SPAN - offset % SPAN) as usize;
+    let first = (SPAN_BYTES - offset % SPAN_BYTES) as usize;
     if n <= first {
         read_span(held, fileid, offset, n, into);
     } else {
@@ -51,7 +48,7 @@ fn read_span(held: &LogicalHeld<Files>, fileid: Fileid, offset: u64, n: usize, i
     ensures capacity { vec_capacity into.old ≤ vec_capacity into.new }
 {
     let stripes = u64::from(held.own.get().stripes);
-    let stripe = (fileid.0 % stripes + offset / SPAN % stripes) % stripes;
+    let stripe = (fileid.0 % stripes + offset / SPAN_BYTES % stripes) % stripes;
     read_place(&held.stripes.at[stripe as usize], fileid, offset, n, into);
 }
 

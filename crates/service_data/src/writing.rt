@@ -5,6 +5,7 @@ ghost use Rattle.std.specs.Option.{option_map};
 ghost use Rattle.nfs_values.specs.Moment.{moment_of};
 ghost use Rattle.stripe_cards.specs.Cards.{card_of};
 ghost use Rattle.inodes.specs.Inode.{inode_value};
+ghost use Rattle.nfs_model.specs.Server.{most_bytes};
 ghost use Rattle.parcels.specs.Filled.{logical_alike, volume_alike};
 ghost use Rattle.filer_state.specs.state.Sets.{
   logical_before,
@@ -25,11 +26,10 @@ ghost use Rattle.service_data.specs.WritingInVolume.{DoneInVolume, IsVolumeHeld,
 
 use crate::extending::{extend, extend_in_volume};
 use crate::extension::Extension;
-use crate::reading::COUNT_LIMIT;
 use filer_state::Files;
 use filer_state::bytes::writing_calls_are_right;
 use inodes::{Inode, InodeKind};
-use nfs_values::{Fileid, Moment, Status, WriteResults};
+use nfs_values::{COUNT_LIMIT, Fileid, Moment, Status, WriteResults};
 use parcels::{LogicalHeld, StripeHeld, VolumeHeld};
 use std::alloc::AllocError;
 use stripe_cards::Card;
@@ -47,7 +47,7 @@ pub fn write_in_stripe(
     written: &[u8],
     moment: Moment,
 ) -> Option<Result<WriteResults, Status>>
-    requires span { LieInOneSpan offset (min count COUNT_LIMIT) }
+    requires span { LieInOneSpan offset (min count most_bytes) }
     ensures right { WritesInStripe fileid.0
         (asked_to_write offset count written.now (moment_of moment))
         held.old.own result held.new.own }

@@ -67,9 +67,6 @@ pub record IsCutOn (fileid size : ℕ) (old : StripeValue) (dead : FinSet nat_cm
   pub cuts : cut fileid size now ≡ cut fileid size old
 
 module _ (fileid size : ℕ) (old : StripeValue) (dead : FinSet nat_cmp) (filled : ℕ) where
-  pub cut-first : AreNumbers (numbers_freed fileid size old) → IsCutOn fileid size old dead filled old dead filled
-  cut-first numbers = record { numbers = numbers; stays = refl; added = refl; cuts = refl }
-
   pub cut-one : (now next : StripeValue) (marked more : FinSet nat_cmp) (left fewer n : ℕ) → IsCutOn fileid size old dead filled now marked left
       → numbers_freed fileid size now ≡ n ∷ numbers_freed fileid size next → cut fileid size next ≡ cut fileid size now
       → more ≡ with_numbers (n ∷ []) marked → fewer ≡ left - 1 → IsCutOn fileid size old dead filled next more fewer
@@ -84,10 +81,6 @@ module _ (fileid size : ℕ) (old : StripeValue) (dead : FinSet nat_cmp) (filled
             ∙ ap (λ ns. with_numbers ns marked) (sym freed) ∙ is.added;
         cuts = rest ∙ is.cuts;
       }
-
-  pub cut-number : (now : StripeValue) (marked : FinSet nat_cmp) (left n : ℕ) (rest : List ℕ) → IsCutOn fileid size old dead filled now marked left
-      → numbers_freed fileid size now ≡ n ∷ rest → AreNumbers (n ∷ rest)
-  cut-number now marked left n rest is freed = subst AreNumbers freed is.numbers
 
   pub cut-last : (now : StripeValue) (marked : FinSet nat_cmp) (left : ℕ) → IsCutOn fileid size old dead filled now marked left
       → numbers_freed fileid size now ≡ [] → marked ≡ with_numbers (numbers_freed fileid size old) dead

@@ -86,14 +86,6 @@ module _ {A : Type 0} where
       pub before : (i : ℕ) (x y : A) → i < left → slice_get old i ≡ Some x → slice_get now i ≡ Some y → y ≡ x
       pub others : (i : ℕ) (x y : A) → n ≤ i → slice_get old i ≡ Some x → slice_get now i ≡ Some y → y ≡ x
 
-    pub none-yet : AreFrom n old
-    none-yet = record {
-      long = refl;
-      first = λ i x y on less e h. absurd (omega arith);
-      before = λ i x y less e h. same-some (slice_get old i) x y e h;
-      others = λ i x y on e h. same-some (slice_get old i) x y e h;
-    }
-
     one-more : (i : ℕ) (now : List A) (d was here : A) → i < n → i < length now → slice_index_or now i d ≡ was → Q was here
         → AreFrom (i + 1) now → AreFrom i (slice_set now i here)
     one-more i now d was here less long is related t =

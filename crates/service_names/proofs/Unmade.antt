@@ -82,7 +82,8 @@ module _ {P : Type 0} where
 
 -- ---- a node
 
-module _ {P : Type 0} (parent : Parent) (name : List ℕ) (old : FilerLogical P) (may : MayMake (naming_in_parent parent name (logical_before old))) (made : Inode)
+module _ {P : Type 0} (parent : Parent) (name : List ℕ) (old : FilerLogical P) (may : MayMake (naming_in_parent parent name (logical_before old)))
+    (made : Inode)
     (f : ℕ) (is : f ≡ old.own.inodes.next) where
   abbrev n : ℕ
   n = old.own.stripes

@@ -22,7 +22,7 @@ ghost use Rattle.filer_state.specs.state.Sets.{logical_before};
 use crate::touches::{is_same, latest_touch};
 use filer_state::Files;
 use inodes::{Inode, InodeKind, StoredAttributes};
-use nfs_values::{Fileid, Moment, SetAttributes, SetTime, Status};
+use nfs_values::{Fileid, Moment, NANOSECONDS_OF_A_SECOND, SetAttributes, SetTime, Status};
 use parcels::LogicalHeld;
 
 /// What hinders that the node of a fileid, whose inode this is, gets attributes: NOT_SYNC where a
@@ -79,7 +79,7 @@ fn is_bad_time(time: SetTime) -> bool
     match time {
         SetTime::Keep => false,
         SetTime::ServerTime => false,
-        SetTime::ClientTime(moment) => moment.nanoseconds >= 1_000_000_000,
+        SetTime::ClientTime(moment) => moment.nanoseconds >= NANOSECONDS_OF_A_SECOND,
     }
 }
 

@@ -14,7 +14,8 @@ ghost use Rattle.filer_state.specs.state.Names.{is_folder};
 ghost use Rattle.filer_state.specs.state.Sets.{logical_before};
 ghost use Rattle.directories.specs.Index.{fileid_number};
 ghost use Rattle.filer_state.specs.changes.NameAnswers.{entries_of};
-ghost use Rattle.filer_state.specs.changes.Named.{HeldNaming, on_held_name, node_at, directory_change};
+ghost use Rattle.filer_state.specs.changes.Named.{HeldNaming, on_held_name, node_at};
+ghost use Rattle.filer_state.specs.changes.Named.{directory_change};
 ghost use Rattle.service_names.specs.Naming.{node_value, naming_in, naming_of, come_to};
 ghost use Rattle.service_names.specs.Shown.{HasFewLinks};
 

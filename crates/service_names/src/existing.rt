@@ -47,11 +47,11 @@ pub(crate) fn create_existing(
     requires may { MayBeSet child.fileid.0 (logical_before held.old) }
     requires links { HasFewLinks (kind_value parent.inode.kind) }
     ensures told { (name : List ℕ) → answer_of (Create result)
-        ≡ (create_existing (naming_in_parent parent name (logical_before held.old)) (mode_of mode.now)
-        (node_value child) (kind_value child.inode.kind)).answer }
+        ≡ (create_existing (naming_in_parent parent name (logical_before held.old))
+        (mode_of mode.now) (node_value child) (kind_value child.inode.kind)).answer }
     ensures set { (name : List ℕ) → logical_after held.old held.new
-        ≡ (create_existing (naming_in_parent parent name (logical_before held.old)) (mode_of mode.now)
-        (node_value child) (kind_value child.inode.kind)).set }
+        ≡ (create_existing (naming_in_parent parent name (logical_before held.old))
+        (mode_of mode.now) (node_value child) (kind_value child.inode.kind)).set }
     ensures alike { logical_alike held.old held.new }
 {
     match mode {

@@ -29,13 +29,11 @@ use crate::showing::shown;
 use directories::Page;
 use filer_state::Files;
 use nfs_values::{
-    Cookie, DirectoryEntry, Fileid, Name, ReadDirectoryResults, Status, Verifier, VolumeNumber,
+    COUNT_LIMIT, Cookie, DirectoryEntry, Fileid, Name, ReadDirectoryResults, Status, Verifier,
+    VolumeNumber,
 };
 use parcels::LogicalHeld;
 use std::alloc::{AllocError, Global};
-
-/// Larger counts of READDIR are taken as this.
-const COUNT_LIMIT: u32 = 65_536;
 
 /// The bytes of a page beside its entries: attributes, verifier, the end of the list and eof.
 const PAGE_SIZE: u32 = 104;

@@ -23,12 +23,10 @@ use crate::making::make_told;
 use crate::new_inodes::{asked_attributes, file_inode, folder_inode};
 use crate::parent::Parent;
 use filer_state::Files;
+use inodes::MOST_INODES;
 use nfs_values::{CreateMode, Credential, MakeResults, SetAttributes, Status};
 use parcels::LogicalHeld;
 use std::alloc::{AllocError, Global};
-
-/// The most inodes of a volume.
-const MOST_INODES: usize = 65_536;
 
 /// CREATE of a name that isn't there: INVAL for a bad time, FBIG past the largest size, NOSPC
 /// where no inode is left; else the file is made. Where memory runs out nothing has changed.

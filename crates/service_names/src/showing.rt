@@ -15,8 +15,13 @@ ghost use Rattle.service_names.specs.Shown.{HasFewLinks};
 use crate::touches::latest_touch;
 use filer_state::Files;
 use inodes::{Inode, InodeKind, StoredAttributes};
-use nfs_values::{Attributes, FileKind, Fileid, Moment, PriorAttributes, VolumeNumber};
+use nfs_values::{
+    Attributes, BLOCK_BYTES, FileKind, Fileid, Moment, PriorAttributes, VolumeNumber,
+};
 use parcels::LogicalHeld;
+
+/// The size of any directory (our profile).
+const DIRECTORY_SIZE: u64 = 4_096;
 
 /// The attributes of a node of a volume (fattr3, RFC 1813 section 2.6). The stripes are asked for
 /// the latest touch of a file alone, since a directory has none.
@@ -54,14 +59,14 @@ pub(crate) fn shown(
             Attributes {
                 kind: FileKind::Regular,
                 size,
-                used: 4_096 * u64::from(filled),
+                used: BLOCK_BYTES * u64::from(filled),
                 ..shown_empty(volume, fileid, now)
             }
         }
         InodeKind::Directory { subdirectories, .. } => Attributes {
             kind: FileKind::Directory,
             links: 2 + subdirectories,
-            size: 4_096,
+            size: DIRECTORY_SIZE,
             ..shown_empty(volume, fileid, inode.attributes)
         },
     }

@@ -4,7 +4,8 @@ ghost use Rattle.std.specs.Prelude.{◌≡◌, ◌<◌, ◌^◌, ◌-◌, ℕ, l
 ghost use Rattle.parcels.specs.Filled.{logical_alike};
 ghost use Rattle.inodes.specs.Inode.{attributes_value, inode_value, kind_value};
 ghost use Rattle.nfs_model.specs.volume.Inodes.{filled_blocks};
-ghost use Rattle.filer_state.specs.changes.NodesSized.{all_freed, kind_sized, inode_sized, file_sized};
+ghost use Rattle.filer_state.specs.changes.NodesSized.{all_freed, file_sized};
+ghost use Rattle.filer_state.specs.changes.NodesSized.{inode_sized, kind_sized};
 ghost use Rattle.filer_state.specs.state.Sets.{logical_before, logical_after};
 ghost use Rattle.service_names.specs.Changing.{MayBeSet, sizing, with_inode};
 

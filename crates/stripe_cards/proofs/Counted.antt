@@ -193,7 +193,8 @@ module _ (counts : List ℕ) (m : FinMap nat_cmp Card) (k : ℕ) where
             let set = set-one class m k (card_touched moment x) in
             let most = at-most (class == k % 256) (is_some (touch_of (Some (card_touched moment x)))) in omega (arith, set, split, most)
 
-    touched-same : is_untouched (get m k) ≡ false → (class : ℕ) → touched_in class (entries (changed_at (card_touched moment) k m)) ≤ touched_in class (entries m)
+    touched-same : is_untouched (get m k) ≡ false → (class : ℕ)
+        → touched_in class (entries (changed_at (card_touched moment) k m)) ≤ touched_in class (entries m)
     touched-same not-first class = by (get m k) not-first (split-one class m k)
       where
         by : (o : Option Card) → is_untouched o ≡ false → touched_in class (entries m) ≡ touches_on class k o + touched_in class (entries (remove m k))

@@ -1,6 +1,6 @@
 //! One card.
 
-ghost use Rattle.std.specs.Prelude.{◌≡◌, Some};
+ghost use Rattle.std.specs.Prelude.{◌≡◌, Some, is_some};
 ghost use Rattle.std.specs.Option.{option_map};
 ghost use Rattle.nfs_values.specs.Moment.{moment_of};
 ghost use Rattle.nfs_model.specs.Shown.{touched as later_moment};
@@ -74,6 +74,13 @@ pub(crate) fn touch_on(card: Option<Card>) -> Option<Moment>
         Some(Card::Directory) => None,
         None => None,
     }
+}
+
+/// Whether there is a touch on a card, if there is a card.
+pub(crate) fn is_touched(card: Option<Card>) -> bool
+    ensures { result ≡ is_some (touch_of (option_map card_of card)) }
+{
+    touch_on(card).is_some()
 }
 
 /// Whether a card is of a file without a touch.

@@ -14,9 +14,10 @@ ghost use Rattle.nfs_model.specs.volume.Stripes.{
 };
 ghost use Rattle.stripe_cards.specs.Cards.{card_of};
 
-use crate::card::{Card, touch_on};
-use crate::chunks::{Chunks, card_in, put, remove_at, resize_at, take_touch_at, touch_at};
+use crate::card::{Card, is_touched, touch_on};
+use crate::chunks::{Chunks, resize_at, take_touch_at, touch_at};
 use crate::counts::{TouchCounts, class_of, count_down, count_up, no_touches};
+use chunk_maps::{put, remove_at, value_in};
 use nfs_values::{Fileid, Moment};
 use std::alloc::{AllocError, Global};
 use std::collections::BTreeMap;
@@ -80,7 +81,7 @@ impl Cards {
     pub fn get(&self, fileid: Fileid) -> Option<Card>
         ensures { option_map card_of result ≡ get self.now fileid.0 }
     {
-        card_in(&self.chunks, fileid.0)
+        value_in(&self.chunks, fileid.0)
     }
 
     /// The touch of a file.
@@ -158,7 +159,8 @@ impl Cards {
     pub fn remove(&mut self, fileid: Fileid)
         ensures { self.new ≡ remove self.old fileid.0 }
     {
-        if remove_at(&mut self.chunks, &mut self.kept, fileid.0) {
+        let card = remove_at(&mut self.chunks, &mut self.kept, fileid.0);
+        if is_touched(card) {
             count_down(&mut self.touches, class_of(fileid.0));
         }
     }

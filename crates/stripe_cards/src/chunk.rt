@@ -1,30 +1,30 @@
 //! Chunks of cards.
 
-ghost use Rattle.std.specs.Prelude.{◌≡◌, ◌%◌, ◌<◌, ℕ, [], None, Some, is_some, IsTrue, IfOk};
+ghost use Rattle.std.specs.Prelude.{◌≡◌, is_some};
 ghost use Rattle.std.specs.Option.{option_map};
 ghost use Rattle.nfs_values.specs.Moment.{moment_of};
 ghost use Rattle.nfs_model.specs.volume.Stripes.{touch_of, card_touched, card_settled};
 ghost use Rattle.stripe_cards.specs.Cards.{card_of, card_resized, packed_card};
-ghost use Rattle.chunk_maps.specs.Chunks.{chunk_size, slot_of, SetsSlot, ChangesSlot};
+ghost use Rattle.chunk_maps.specs.Chunks.{slot_of, ChangesSlot};
 ghost use Rattle.chunk_maps.specs.Chunks.{one_if};
 ghost use Rattle.stripe_cards.specs.Counts.{is_untouched};
 
 use crate::card::{Card, is_untouched, resized, settled, touch_on, touched};
 use crate::packed::{Packed, pack, unpack};
-use chunk_maps::slot;
+use chunk_maps::{Chunk, slot};
 use nfs_values::Moment;
 use std::alloc::{AllocError, Global};
 use std::marker::Model;
 
 /// The cards of 32 fileids that follow one another, each at its fileid modulo 32.
 #[derive(Drop)]
-pub struct Chunk {
+pub struct CardChunk {
     cards: Box<[Packed; 32]>,
     /// How many there are.
     used: u64,
 }
 
-impl Model for Chunk {
+impl Model for CardChunk {
     ghost use Rattle.std.specs.Prelude.{◌≡◌, map, length};
     ghost use Rattle.std.specs.Coded.{coded_list, coded_option};
     ghost use Rattle.nfs_model.specs.volume.Codes.{coded_card};
@@ -54,52 +54,50 @@ fn count(packed: Packed) -> u64
     }
 }
 
-impl Chunk {
-    /// A chunk with one card.
-    pub fn new(alloc: Global, fileid: u64, card: Card) -> Result<Chunk, AllocError>
-        ensures { IfOk result (SetsSlot fileid (Some (card_of card)) []) }
-    {
+impl Chunk for CardChunk {
+    ghost use Rattle.nfs_model.specs.volume.Stripes as values;
+    ghost use Rattle.chunk_maps.specs.Chunks.{slot_of};
+    ghost use Rattle.stripe_cards.specs.Cards.{card_of};
+
+    type Item = Card;
+
+    ghost Kept = { values.Card };
+
+    ghost value = { card_of };
+
+    ghost values = { λ c. slot_of c };
+
+    fn new(alloc: Global, fileid: u64, card: Card) -> Result<CardChunk, AllocError> {
         let mut cards = Box::new(alloc, [Packed::Absent; 32])?;
         cards[slot(fileid)] = pack(card);
-        Ok(Chunk { cards, used: 1 })
+        Ok(CardChunk { cards, used: 1 })
     }
 
-    /// The card of a fileid.
-    pub fn get(&self, fileid: u64) -> Option<Card>
-        ensures { option_map card_of result ≡ slot_of self.now fileid }
-    {
+    fn get(&self, fileid: u64) -> Option<Card> {
         unpack(self.cards[slot(fileid)])
     }
 
-    /// Whether no card is there.
-    pub fn is_empty(&self) -> bool
-        ensures { IsTrue result → (q : ℕ) → slot_of self.now q ≡ None }
-    {
+    fn is_empty(&self) -> bool {
         self.used == 0
     }
 
-    /// Puts the card of a fileid.
-    pub fn put(&mut self, fileid: u64, card: Card)
-        ensures { SetsSlot fileid (Some (card_of card)) self.old self.new }
-    {
+    fn put(&mut self, fileid: u64, card: Card) {
         let slot = slot(fileid);
         let former = self.cards[slot];
         self.cards[slot] = pack(card);
         self.used = self.used + 1 - count(former);
     }
 
-    /// Takes the card of a fileid, if it is there.
-    pub fn take(&mut self, fileid: u64) -> Option<Card>
-        ensures card { option_map card_of result ≡ slot_of self.old fileid }
-        ensures gone { SetsSlot fileid None self.old self.new }
-    {
+    fn take(&mut self, fileid: u64) -> Option<Card> {
         let slot = slot(fileid);
         let former = self.cards[slot];
         self.cards[slot] = Packed::Absent;
         self.used -= count(former);
         unpack(former)
     }
+}
 
+impl CardChunk {
     /// Sets the size on a card, if it is there.
     pub fn resize(&mut self, fileid: u64, size: u64)
         ensures { ChangesSlot (card_resized size) fileid self.old self.new }

@@ -53,7 +53,8 @@ filter-first test k v (e ∷ es) passes other before =
     by Equal h next = absurd (other e.0 (found-here e es) h)
     by Greater h next =
         let fails : test e.0 ≡ false = before e.0 (found-here e es) h in
-        ap (λ t. cond t (e ∷ filter (λ (x : PlacedBlock). test x.0) (put place_cmp k v es)) (filter (λ (x : PlacedBlock). test x.0) (put place_cmp k v es))) fails
+        ap (λ t. cond t (e ∷ filter (λ (x : PlacedBlock). test x.0) (put place_cmp k v es)) (filter (λ (x : PlacedBlock). test x.0)
+            (put place_cmp k v es))) fails
         ∙ next ∙ ap (λ t. (k, v) ∷ cond t (e ∷ rest) rest) (sym fails)
 
 -- what a map without a place has past a size, and what it had before

@@ -6,12 +6,9 @@ ghost use Rattle.nfs_model.specs.volume.Stripes.{zero_block, block_mapped, byte_
 ghost use Rattle.stripes.specs.Bytes.{bytes_mapped};
 ghost use Rattle.stripes.specs.Spans.{renumbered};
 
-use nfs_values::BlockNumber;
+use nfs_values::{BLOCK_BYTES, BlockNumber};
 use std::alloc::{AllocError, Global};
 use std::marker::Model;
-
-/// The bytes of a block.
-pub const BLOCK_BYTES: u64 = 4096;
 
 /// A block: its number in the volume, and its bytes.
 #[derive(Drop)]

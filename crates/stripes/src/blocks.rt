@@ -35,12 +35,12 @@ ghost use Rattle.stripes.specs.Spans.{
   IsFirstPast,
 };
 
-use crate::block::{BLOCK_BYTES, Block};
-use crate::span::{SPAN_BLOCKS, SPAN_BYTES, put_zeros};
+use crate::block::Block;
+use crate::span::{SPAN_BLOCKS, put_zeros};
 use crate::spans::{
     SpanMap, insert_in, number_block, overwrite_in, take_from, write_in, zero_tail,
 };
-use nfs_values::BlockNumber;
+use nfs_values::{BLOCK_BYTES, BlockNumber, SPAN_BYTES};
 use std::alloc::{AllocError, Global};
 use std::collections::BTreeMap;
 use std::marker::Model;

@@ -51,17 +51,14 @@ ghost use Rattle.stripes.specs.Spans.{
   HasBlock,
 };
 
-use crate::block::{BLOCK_BYTES, Block};
-use nfs_values::BlockNumber;
+use crate::block::Block;
+use nfs_values::{BLOCK_BYTES, BlockNumber};
 use std::alloc::{AllocError, Global};
 use std::array;
 use std::marker::Model;
 
 /// The blocks of a span.
 pub const SPAN_BLOCKS: u64 = 64;
-
-/// The bytes of a span.
-pub const SPAN_BYTES: u64 = SPAN_BLOCKS * BLOCK_BYTES;
 
 /// The blocks of a span, each at its number modulo 64.
 #[derive(Drop)]

@@ -55,8 +55,8 @@ ghost use Rattle.stripes.specs.Spans.{
 };
 
 use crate::block::Block;
-use crate::span::{SPAN_BLOCKS, SPAN_BYTES, Span};
-use nfs_values::BlockNumber;
+use crate::span::{SPAN_BLOCKS, Span};
+use nfs_values::{BlockNumber, SPAN_BYTES};
 use std::alloc::{AllocError, Global};
 use std::collections::BTreeMap;
 

@@ -4,6 +4,7 @@ ghost use Rattle.std.specs.Prelude.{◌≡◌, ◌==◌, ◌<◌, ◌++◌, ◌�
 ghost use Rattle.nfs_model.specs.Parts.{most_carried};
 ghost use Rattle.vbn_ranges.specs.Batch.{numbers, IsOfOneRange, batch_range};
 
+use crate::limits::RANGE_BLOCKS;
 use nfs_values::BlockNumber;
 use std::marker::Model;
 
@@ -56,7 +57,7 @@ impl Batch {
         ensures { result ≡ batch_range self.now }
     {
         let first = self.as_slice().first()?;
-        Some(first.0 / 1024)
+        Some(first.0 / RANGE_BLOCKS)
     }
 
     /// The blocks, ascending.

@@ -22,6 +22,7 @@ ghost use Rattle.vbn_ranges.specs.Batch.{first_of};
 ghost use Rattle.vbn_ranges.specs.Dead.{all_of, lowest_dead, lowest_of, AreNumbered};
 
 use crate::batch::Batch;
+use crate::limits::RANGE_BLOCKS;
 use crate::marks::Marks;
 use nfs_values::BlockNumber;
 use std::alloc::{AllocError, Global};
@@ -93,7 +94,7 @@ impl DeadBlocks {
         requires { block.0 < most_ranges * range_blocks }
         ensures { self.new ≡ with_numbers (block.0 ∷ []) self.old }
     {
-        let marks = &mut self.ranges[block.0 as usize / 1024];
+        let marks = &mut self.ranges[(block.0 / RANGE_BLOCKS) as usize];
         if !marks.contains(block) {
             marks.insert(block);
             self.count += 1;

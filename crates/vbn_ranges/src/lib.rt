@@ -4,6 +4,7 @@
 mod batch;
 mod dead;
 mod fault;
+mod limits;
 mod marks;
 mod range;
 mod stock;
@@ -12,5 +13,6 @@ mod words;
 pub use batch::Batch;
 pub use dead::DeadBlocks;
 pub use fault::RangeFault;
+pub use limits::RANGE_BLOCKS;
 pub use range::Range;
 pub use stock::Stock;

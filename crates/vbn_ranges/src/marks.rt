@@ -16,6 +16,7 @@ ghost use Rattle.vbn_ranges.specs.Marks.{
 };
 
 use crate::batch::Batch;
+use crate::limits::RANGE_BLOCKS;
 use crate::words;
 use nfs_values::BlockNumber;
 use std::marker::Model;
@@ -86,7 +87,7 @@ impl Marks {
         requires { block.0 / range_blocks ≡ self.now.range }
         ensures { result ≡ contains self.now.set block.0 }
     {
-        words::has(&self.words, block.0 as usize % 1024)
+        words::has(&self.words, (block.0 % RANGE_BLOCKS) as usize)
     }
 
     /// Marks a block of the range.
@@ -94,7 +95,7 @@ impl Marks {
         requires { block.0 / range_blocks ≡ self.old.range }
         ensures { self.new ≡ marked (block.0 ∷ []) self.old }
     {
-        words::insert(&mut self.words, block.0 as usize % 1024);
+        words::insert(&mut self.words, (block.0 % RANGE_BLOCKS) as usize);
     }
 
     /// Whether some block of these, which are of the range, is marked.

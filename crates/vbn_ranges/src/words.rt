@@ -6,6 +6,7 @@ ghost use Rattle.nfs_model.specs.Parts.{most_carried, most_ranges, range_blocks}
 ghost use Rattle.vbn_ranges.specs.Words.{members, has_bit};
 
 use crate::batch::Batch;
+use crate::limits::RANGE_BLOCKS;
 use nfs_values::BlockNumber;
 use std::simd::prelude::*;
 
@@ -55,7 +56,7 @@ pub fn take_lowest(words: &mut [u64; 16], range: u32, most: usize) -> Batch
     ensures left { members (range_blocks * range) words.new
         ≡ drop (min most most_carried) (members (range_blocks * range) words.old) }
 {
-    let first = range * 1024;
+    let first = range * RANGE_BLOCKS;
     let most = most.min(64);
     let mut batch = Batch::new();
     let mut place = first_filled(words);

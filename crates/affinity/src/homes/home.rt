@@ -14,13 +14,7 @@ ghost use Rattle.affinity.specs.Tree.{IsNode};
 
 use crate::{Affinity, Layout};
 use byteorder::{BigEndian, ByteOrder};
-use nfs_values::{Call, FileHandle, Fileid, Named, Route, VolumeNumber};
-
-/// The bytes of a span, which lie in one stripe.
-const SPAN: u64 = 262_144;
-
-/// Larger counts of bytes are taken as this.
-const COUNT_LIMIT: u32 = 65_536;
+use nfs_values::{COUNT_LIMIT, Call, FileHandle, Fileid, Named, Route, SPAN_BYTES, VolumeNumber};
 
 /// What a good handle names, which has 12 bytes and a volume that the layout has.
 pub fn named_by(handle: &FileHandle, layout: &Layout) -> Option<Named>
@@ -46,7 +40,7 @@ fn is_in_one_span(offset: u64, count: u32) -> bool
     requires { 0 < count }
     ensures { result ≡ (offset / span_bytes == (offset + count - 1) / span_bytes) }
 {
-    offset % SPAN + u64::from(count) <= SPAN
+    offset % SPAN_BYTES + u64::from(count) <= SPAN_BYTES
 }
 
 /// The stripe of a file's span.
@@ -75,7 +69,7 @@ fn home_of_bytes(handle: &FileHandle, offset: u64, count: u32, layout: &Layout) 
     let named = named_by(handle, layout)?;
     let count = count.min(COUNT_LIMIT);
     if count == 0 || is_in_one_span(offset, count) {
-        Some(stripe_of_span(layout, named, offset / SPAN))
+        Some(stripe_of_span(layout, named, offset / SPAN_BYTES))
     } else {
         Some(Affinity::VolumeLogical(named.volume.0))
     }

@@ -30,9 +30,6 @@ module _ {P E : Type 0} where
   pub begun-entries : (v w : View P E) (b : ℕ) (f : ℕ → Option P) → IsBegun v b f w → entries_of w ≡ entries_of v
   begun-entries v w b f begun = ap entries_of begun.3
 
-  pub read-entries : (v w : View P E) (looked : ℕ) (more : List Read) → HasRead v looked more w → entries_of w ≡ entries_of v
-  read-entries v w looked more read = ap entries_of read
-
   pub ended-entries : (v w : View P E) (b : ℕ) → IsEnded v b w → entries_of w ≡ entries_of v
   ended-entries v w b ended = ap entries_of ended.2
 
@@ -57,14 +54,6 @@ module _ {P E : Type 0} where
       → (c : ℕ) (g : List (Option P)) → Has u c g → ⊥
   ended-none v w u b f none begun ended c g has =
       let other = ended-others w u b ended c g has in none c g (begun-others v w b f begun c g other.0 other.1)
-
-  -- ---- a call that couldn't go on
-
-  pub last-with : (v w : View P E) (b : ℕ) (f : ℕ → Option P) → IsLast v w → HasWith v b f → HasWith w b f
-  last-with v w b f last has = subst (λ (u : View _ _). HasWith u b f) (sym last.2) has
-
-  pub last-entries : (v w : View P E) → IsLast v w → entries_of w ≡ entries_of v
-  last-entries v w last = ap entries_of last.2
 
 module _ {P C R B : Type 0} (m : Behaviour P C R B) where
   pub finished-entries : (v w : View P (Entry P C R)) (b : ℕ) (e : Entry P C R) → IsFinished m v b e w → entries_of w ≡ entries_of v ++ e ∷ []
@@ -97,24 +86,8 @@ module _ {P C R B : Type 0} (m : Behaviour P C R B) where
             (total weigh) no_gives in omega arith,
       )
 
-  pub last-hand : (v w : View P (Entry P C R)) (call : C) (reply : R) → IsLast v w → HasInHand m v call reply → HasInHand m w call reply
-  last-hand v w call reply last hand = subst (λ (u : View P (Entry P C R)). HasInHand m u call reply) (sym last.2) hand
-
   -- ---- a call that went on
 
   -- what it left is there to be finished or put back
   pub gone-with : (v w : View P (Entry P C R)) (b : ℕ) (f : ℕ → Option P) (e : Entry P C R) → HasGoneOn m v b f e w → HasWith w b f
   gone-with v w b f e gone = begun-with gone.0 w b f gone.2
-
-  pub gone-entries : (v w : View P (Entry P C R)) (b : ℕ) (f : ℕ → Option P) (e : Entry P C R) → HasGoneOn m v b f e w
-      → entries_of w ≡ entries_of v ++ e ∷ []
-  gone-entries v w b f e gone = begun-entries gone.0 w b f gone.2 ∙ finished-entries v gone.0 b e gone.1
-
-  pub gone-others : (v w : View P (Entry P C R)) (b : ℕ) (f : ℕ → Option P) (e : Entry P C R) → HasGoneOn m v b f e w
-      → (c : ℕ) (g : List (Option P)) → c ≢ b → Has w c g → Has v c g
-  gone-others v w b f e gone c g ne has = (finished-others v gone.0 b e gone.1 c g (begun-others gone.0 w b f gone.2 c g ne has)).1
-
-  -- the next call, if it moves no batch, has all in hand
-  pub gone-hand : (v w : View P (Entry P C R)) (b : ℕ) (f : ℕ → Option P) (e : Entry P C R) (call : C) (reply : R) → m.takes call reply ≡ []
-      → m.gives call reply ≡ [] → HasGoneOn m v b f e w → HasInHand m w call reply
-  gone-hand v w b f e call reply no_takes no_gives gone = begun-hand gone.0 w b f call reply no_takes no_gives gone.2 gone.3

@@ -48,9 +48,6 @@ emptied (x ∷ y ∷ c) i h one = absurd (omega (arith, one))
 -- b is the number of items on the left, and m the chunk as code has it
 
 module _ {T : Type 0} (l c r : List T) (i b : ℕ) (left : b ≡ length l) where
-  pub run-left : (run : List T) → i < b → take (length run) (drop i l) ≡ run → take (length run) (drop i (l ++ (c ++ r))) ≡ run
-  run-left run h e = ap (λ d. take (length run) d) (drop-append-le i l (c ++ r) (omega (arith, h, left))) ∙ run-front run (drop i l) (c ++ r) e
-
   past-left : b ≤ i → drop i (l ++ (c ++ r)) ≡ drop (i - b) (c ++ r)
   past-left h = past l (c ++ r) i (omega (arith, h, left)) ∙ ap (λ k. drop (i - k) (c ++ r)) (sym left)
 

@@ -12,7 +12,6 @@ pub mod Kinds
 pub mod Mapped
 pub mod Counted
 pub mod Limits
-pub mod Known
 pub mod Delivering
 pub mod Lawful
 pub mod Replays

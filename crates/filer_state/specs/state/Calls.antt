@@ -1,6 +1,6 @@
 -- What a call on a handle comes to on the one volume that the handle names: what a handler promises. That the whole server does the
 -- same follows.
-use Rattle.std.specs.Prelude.{◌≡◌, ◌⊎◌, ℕ, ◌+◌, ◌-◌, ◌/◌, Bool, true, IsTrue, List, [], length, Option, Some, None, slice_get}
+use Rattle.std.specs.Prelude.{◌≡◌, ◌⊎◌, ℕ, ◌+◌, ◌-◌, ◌/◌, Bool, true, IsTrue, List, length, Option, Some, None, slice_get}
 use Rattle.nfs_model.specs.Types.{Call, Write, Credential, Moment, Ask, Answer, Failed, Success, SystemError}
 use Rattle.nfs_model.specs.Tree.{Layout, Affinity}
 use Rattle.nfs_model.specs.Server.{Server, VolumeState, handle_of, block_size}

@@ -4,7 +4,7 @@ use Rattle.std.specs.FinMap.{get}
 use Rattle.nfs_model.specs.Types.{Moment, SetAttributes, Status, Shown, Regular, Folder, Answer, GetattrDone}
 use Rattle.nfs_model.specs.Types.{SetattrDone, Failed, Stale, NotSynchronous, Invalid}
 use Rattle.nfs_model.specs.Server.{Attributes, block_size}
-use Rattle.nfs_model.specs.Shown.{effective_attributes, before_of}
+use Rattle.nfs_model.specs.Shown.{effective_attributes, before_of, directory_size}
 use Rattle.nfs_model.specs.Serial.Setattr.{is_stale_guard, has_bad_time, set_attributes}
 use Rattle.nfs_model.specs.volume.Inodes as inodes
 use Rattle.nfs_model.specs.volume.Inodes.{InodeKind, RegularFile, Inode, inode_set}
@@ -34,7 +34,7 @@ shown_kind volume fileid a (inodes.Folder parent subdirectories) touch = record 
   links = 2 + subdirectories;
   uid = a.uid;
   gid = a.gid;
-  size = 4096;
+  size = directory_size;
   used = 0;
   fsid = volume;
   fileid = fileid;

@@ -2,7 +2,8 @@
 
 ghost use Rattle.filer_state.specs.laws.Laws.{PartsPartition, UsedFits, EntriesFit};
 ghost use Rattle.filer_state.specs.laws.Laws.{OpensSound, OpensAsServer, OpensFree};
-ghost use Rattle.filer_state.specs.laws.Laws.{StepsAreLocal, StepsKeep, StepsCommute, HistoriesReplay};
+ghost use Rattle.filer_state.specs.laws.Laws.{StepsAreLocal, StepsKeep, StepsCommute};
+ghost use Rattle.filer_state.specs.laws.Laws.{HistoriesReplay};
 ghost use Rattle.filer_state.specs.laws.Laws.{LayoutsAgree, SoundByWeight};
 ghost use Rattle.filer_state.specs.laws.Laws.{StripesAreSeen, RangesAreSeen, VbnsAreSeen};
 ghost use Rattle.filer_state.specs.laws.Laws.{LogicalsAreSeen, VolumesAreSeen};

@@ -67,12 +67,6 @@ x = 120 ∷ []
 abbrev pub make : List ℕ → Call
 make name = Create root name (Unchecked no_attributes)
 
-abbrev pub make_in : ℕ → List ℕ → Call
-make_in directory name = Create (h directory) name (Unchecked no_attributes)
-
-abbrev pub directory_in : ℕ → List ℕ → Call
-directory_in directory name = Mkdir (h directory) name no_attributes
-
 abbrev pub write_at : ℕ → ℕ → List ℕ → Call
 write_at fileid offset bytes = Write (h fileid) offset (length bytes) bytes
 

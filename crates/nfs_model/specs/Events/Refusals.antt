@@ -2,7 +2,7 @@
 use Rattle.std.specs.Prelude.{ℕ, ◌+◌, ◌/◌, ◌^◌, Bool, true, false, not, ◌&&◌, ◌||◌, nat_lt, nat_le, List}
 use Rattle.std.specs.Prelude.{[], ◌∷◌, Option, Some, None, is_some, is_none, slice_get, if◌then◌else◌}
 use Rattle.std.specs.List.{list_any}
-use Rattle.nfs_model.specs.Types.{Moment}
+use Rattle.nfs_model.specs.Types.{Moment, nanoseconds_of_a_second}
 use Rattle.nfs_model.specs.Tree.{Affinity, Logical, Vbn, Range, excludes}
 use Rattle.nfs_model.specs.Server.{VolumeState}
 use Rattle.nfs_model.specs.Parts.{Hand, Empty, Fresh, Dead, range_blocks, most_ranges, range_of}
@@ -79,7 +79,7 @@ is_worn w = nat_le (2 ^ 62) w.stamps
 
 -- a moment has fewer than 1,000,000,000 nanoseconds
 abbrev pub is_bad_moment : Moment → Bool
-is_bad_moment moment = nat_le 1000000000 moment.nanoseconds
+is_bad_moment moment = nat_le nanoseconds_of_a_second moment.nanoseconds
 
 -- ---- refusals
 

@@ -4,18 +4,18 @@ use Rattle.std.specs.Prelude.{take, replicate, Option, Some, None, is_some, if�
 use Rattle.std.specs.FinMap.{get, insert}
 use Rattle.std.specs.FinSet.{retain}
 use Rattle.nfs_model.specs.Types.{Moment, SetTime, Keep, ServerTime, ClientTime, SetAttributes, Status}
-use Rattle.nfs_model.specs.Types.{NotSynchronous, Invalid, TooBig, SetattrDone}
+use Rattle.nfs_model.specs.Types.{nanoseconds_of_a_second, NotSynchronous, Invalid, TooBig, SetattrDone}
 use Rattle.nfs_model.specs.Server.{Attributes, FileNode, Node, File, Directory, VolumeState, block_size}
 use Rattle.nfs_model.specs.Shown.{same_moment, times, settled, wcc}
 use Rattle.nfs_model.specs.Locate.{Effect, Changes, on_node, unless}
 
 -- ---- what several procedures share
 
--- a client's time has fewer than 1,000,000,000 nanoseconds
+-- a client's time has fewer nanoseconds than a second
 abbrev pub is_bad_time : SetTime → Bool
 is_bad_time Keep = false
 is_bad_time ServerTime = false
-is_bad_time (ClientTime t) = nat_le 1000000000 t.nanoseconds
+is_bad_time (ClientTime t) = nat_le nanoseconds_of_a_second t.nanoseconds
 
 -- either time is bad
 abbrev pub has_bad_time : SetAttributes → Bool

@@ -27,13 +27,15 @@ coded_listed =
     (λ p. record { cookie = p.0; name = p.1.0; fileid = p.1.1 }) (λ _. refl)
 
 abbrev pub coded_directory : Coded DirectoryValue
-coded_directory = code_by (ℕ × List Listed) (coded× coded_ℕ (coded_list coded_listed)) (λ d. (d.next, d.list)) (λ p. record { next = p.0; list = p.1 }) (λ _. refl)
+coded_directory = code_by (ℕ × List Listed) (coded× coded_ℕ (coded_list coded_listed)) (λ d. (d.next, d.list))
+    (λ p. record { next = p.0; list = p.1 }) (λ _. refl)
 
 -- ---- inodes
 
 abbrev pub coded_attributes : Coded Attributes
 coded_attributes =
-    code_by ((ℕ × (ℕ × ℕ)) × (Moment × (Moment × Moment))) (coded× (coded× coded_ℕ (coded× coded_ℕ coded_ℕ)) (coded× coded_moment (coded× coded_moment coded_moment)))
+    code_by ((ℕ × (ℕ × ℕ)) × (Moment × (Moment × Moment))) (coded× (coded× coded_ℕ (coded× coded_ℕ coded_ℕ)) (coded× coded_moment
+        (coded× coded_moment coded_moment)))
     (λ a. ((a.mode, (a.uid, a.gid)), (a.atime, (a.mtime, a.ctime))))
     (λ p. record { mode = p.0.0; uid = p.0.1.0; gid = p.0.1.1; atime = p.1.0; mtime = p.1.1.0; ctime = p.1.1.1 }) (λ _. refl)
 
@@ -53,10 +55,12 @@ kind_again (RegularFile size filled verifier) = refl
 kind_again (Folder parent subdirectories) = refl
 
 abbrev pub coded_kind : Coded InodeKind
-coded_kind = code_by FileOrFolder (coded⊎ (coded× coded_ℕ (coded× coded_ℕ (coded_option (coded_list coded_ℕ)))) (coded× coded_ℕ coded_ℕ)) kind_out kind_back kind_again
+coded_kind = code_by FileOrFolder (coded⊎ (coded× coded_ℕ (coded× coded_ℕ (coded_option (coded_list coded_ℕ))))
+    (coded× coded_ℕ coded_ℕ)) kind_out kind_back kind_again
 
 abbrev pub coded_inode : Coded Inode
-coded_inode = code_by (Attributes × InodeKind) (coded× coded_attributes coded_kind) (λ i. (i.attributes, i.kind)) (λ p. record { attributes = p.0; kind = p.1 }) (λ _. refl)
+coded_inode = code_by (Attributes × InodeKind) (coded× coded_attributes coded_kind) (λ i. (i.attributes, i.kind))
+    (λ p. record { attributes = p.0; kind = p.1 }) (λ _. refl)
 
 abbrev pub coded_inodes : Coded InodesValue
 coded_inodes =

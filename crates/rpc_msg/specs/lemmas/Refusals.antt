@@ -76,7 +76,8 @@ call_sound offer bytes =
     then_sound (whole (read numbers_shape rest)) _ (whole_sound (read numbers_shape rest)) (λ n.
     then_sound (credential_at n.0.1.1.1.0 n.0.1.1.1.1 n.1) _ (credential_sound n.0.1.1.1.0 n.0.1.1.1.1 n.1) (λ c.
     then_sound (whole (read auth_shape c.1)) _ (whole_sound (read auth_shape c.1)) (λ v.
-    then_sound (procedure_by offer n.0.0 n.0.1.0 n.0.1.1.0) _ (of_version_sound (version_by offer n.0.0) n.0.1.0 (find (is_numbered n.0.0 n.0.1.1.0) (procedures_by offer)))
+    then_sound (procedure_by offer n.0.0 n.0.1.0 n.0.1.1.0) _ (of_version_sound (version_by offer n.0.0) n.0.1.0 (find (is_numbered n.0.0 n.0.1.1.0)
+        (procedures_by offer)))
     (λ p. tt)))))
 
 -- ---- the head and the record
@@ -113,7 +114,8 @@ heard_refuses (Call xid procedure credential arguments) h s e = same_heard Asked
 heard_refuses (Refused xid reply) h s e = same_heard AskedRefuses _ h e s
 heard_refuses (Faulty number) h s e = absurd cc
 
-pub refusal_refuses : (offer : Offer) (bytes : List ℕ) (h : Heard) (reply : model.Reply) → heard_by offer bytes ≡ Ok h → h.asked ≡ model.Refused reply → IsRefusal reply
+pub refusal_refuses : (offer : Offer) (bytes : List ℕ) (h : Heard) (reply : model.Reply) → heard_by offer bytes ≡ Ok h
+    → h.asked ≡ model.Refused reply → IsRefusal reply
 refusal_refuses offer bytes h reply e r = subst AskedRefuses r (heard_refuses (head_by offer bytes) h (head_sound offer (read (Word & Word) bytes)) e)
 
 pub refusal_fits : (reply : model.Reply) (xid : ℕ) → IsRefusal reply → length (reply_record xid reply) ≤ refusal_room

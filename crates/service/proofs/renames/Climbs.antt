@@ -19,11 +19,6 @@ climb-step (suc n) inodes target at some =
     ap (λ (m : ℕ). (at == target) || on_parent (above at (parent_directory (get inodes at))) (climbs m inodes target)) one
 
 module _ (n : ℕ) (inodes : InodeMap) (target at : ℕ) (some : 0 < n) where
-  pub climb-here : (at == target) ≡ true → climbs n inodes target at ≡ true
-  climb-here here =
-      climb-step n inodes target at some
-      ∙ ap (λ (b : Bool). b || on_parent (above at (parent_directory (get inodes at))) (climbs (n - 1) inodes target)) here
-
   pub climb-by : (at ≡ target → ⊥) → (o : Option ℕ) → above at (parent_directory (get inodes at)) ≡ o
       → climbs n inodes target at ≡ on_parent o (climbs (n - 1) inodes target)
   climb-by elsewhere o up =

@@ -73,13 +73,7 @@ module _ (r : HeldRenaming) (child : HeldNode) (target : Option HeldNode) where
     one-entry one = told ∙ ap when_one one
 
     module _ (apart : is_one_entry r ≡ false) where
-      pub below-itself : goes_below r child.fileid child.inode.kind ≡ true → done ≡ fails_both Invalid r.from.set
-      below-itself below = told ∙ ap when_one apart ∙ ap when_below below
-
       module _ (beside : goes_below r child.fileid child.inode.kind ≡ false) where
-        pub target-kept : target_may_go r.from.set child target ≡ false → done ≡ fails_both Exists r.from.set
-        target-kept stays = told ∙ ap when_one apart ∙ ap when_below beside ∙ ap when_may stays
-
         pub node-moved : target_may_go r.from.set child target ≡ true → done ≡ held_renamed r (set_renamed r child target)
         node-moved goes = told ∙ ap when_one apart ∙ ap when_below beside ∙ ap when_may goes
 

@@ -15,7 +15,8 @@ use Rattle.filer_state.specs.state.Contents.{VolumeContents, each}
 use Rattle.filer_state.specs.state.Parcels.{no_range}
 use Rattle.filer_state.specs.state.Lenses.{VolumeSet, AggregateSet, volume_lens, aggregate_lens}
 use Rattle.filer_state.specs.state.Running.{task_under}
-use Rattle.filer_state.specs.state.Sets.{FilerRange, FilerVbn, FilerVolume, FilerAggregate, range_value, placed, vbn_set, volume_set, volume_value, volume_placed}
+use Rattle.filer_state.specs.state.Sets.{FilerRange, FilerVbn, FilerVolume, FilerAggregate, range_value, placed, vbn_set, volume_set, volume_value}
+use Rattle.filer_state.specs.state.Sets.{volume_placed}
 use Rattle.filer_state.specs.state.Sets.{aggregate_set}
 use Rattle.filer_state.specs.state.Tree.{ranges_used}
 use Rattle.filer_state.specs.state.WellFormed.{range_at}

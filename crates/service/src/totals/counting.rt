@@ -20,9 +20,7 @@ use filer_state::{Files, ranges_used};
 use nfs_values::{VolumeCount, VolumeNumber};
 use parcels::{AggrHeld, SerialHeld, VolumeHeld};
 use std::alloc::{AllocError, Global};
-
-/// The blocks of a range.
-const RANGE_BLOCKS: u64 = 1024;
+use vbn_ranges::RANGE_BLOCKS;
 
 /// CENSUS of the admin program (our profile), on all that is stored: the blocks of each volume and
 /// those of them that are in files, in order of the volumes' numbers.
@@ -91,7 +89,7 @@ pub(crate) fn volume_count(held: &VolumeHeld<Files>, volume: VolumeNumber) -> Vo
 {
     VolumeCount {
         volume,
-        total: RANGE_BLOCKS * u64::from(ranges_used(&held.vbn)),
+        total: u64::from(RANGE_BLOCKS) * u64::from(ranges_used(&held.vbn)),
         used: held.logical.own.get().inodes.used(),
     }
 }

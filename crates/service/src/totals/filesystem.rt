@@ -8,15 +8,10 @@ ghost use Rattle.service.specs.totals.Space.{TellsSpace};
 
 use crate::totals::counting::volume_count;
 use filer_state::Files;
-use nfs_values::{Fileid, FilesystemStatusResults, Status, VolumeNumber};
+use inodes::MOST_INODES;
+use nfs_values::{BLOCK_BYTES, Fileid, FilesystemStatusResults, Status, VolumeNumber};
 use parcels::VolumeHeld;
 use service_names::shown_now;
-
-/// The bytes of a block.
-const BLOCK_BYTES: u64 = 4096;
-
-/// The most inodes of a volume, the root with them (our profile).
-const INODE_LIMIT: u64 = 65_536;
 
 /// FSSTAT (RFC 1813 section 3.3.18), on the parcels of a volume: STALE, or the attributes of the
 /// node of a fileid and the volume's space: the bytes of its blocks and of those that are in no
@@ -39,7 +34,7 @@ pub fn space(
         root: shown_now(&held.logical, volume, fileid, inode),
         total_bytes: BLOCK_BYTES * count.total,
         free_bytes: BLOCK_BYTES * count.total.saturating_sub(count.used),
-        inodes: INODE_LIMIT,
-        free_inodes: INODE_LIMIT.saturating_sub(inodes.len() as u64),
+        inodes: MOST_INODES as u64,
+        free_inodes: (MOST_INODES as u64).saturating_sub(inodes.len() as u64),
     })
 }

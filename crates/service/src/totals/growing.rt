@@ -18,12 +18,10 @@ use filer_state::totals::growing_calls_are_right;
 use filer_state::{Files, ranges_used};
 use nfs_values::{Status, VolumeNumber};
 use parcels::{AggrHeld, VolumeHeld};
+use vbn_ranges::RANGE_BLOCKS;
 
 /// The ranges of a volume at most.
 const MOST_RANGES: u32 = 16;
-
-/// The blocks of a range.
-const RANGE_BLOCKS: u64 = 1024;
 
 /// GROW of the admin program (our profile), on the parcels under the Aggregate of the volume: INVAL
 /// where no range is asked for, FBIG where the volume would have more than 16, NOSPC where more are
@@ -75,7 +73,7 @@ fn grow_volume(held: &mut VolumeHeld<Files>, spare: u32, more: u32) -> Result<u6
         None => {}
     }
     put_in_use(&mut held.vbn, used + more);
-    Ok(RANGE_BLOCKS * u64::from(used + more))
+    Ok(RANGE_BLOCKS as u64 * u64::from(used + more))
 }
 
 /// The first check that fails of GROW of a volume with so many ranges, where so many are spare.

@@ -24,7 +24,8 @@ use Rattle.filer_state.specs.names.Answers.{entries_of, folder_node}
 use Rattle.filer_state.specs.names.lemmas.Folders.{same-shown}
 use Rattle.filer_state.specs.changes.Named.{HeldNaming, HeldNode}
 use Rattle.filer_state.specs.changes.Renaming as held
-use Rattle.filer_state.specs.changes.Renaming.{HeldRenaming, fails_both, above, climbs, goes_below, target_may_go, inode_or, directory_now, on_folder, if_folder}
+use Rattle.filer_state.specs.changes.Renaming.{HeldRenaming, fails_both, above, climbs, goes_below, target_may_go, inode_or, directory_now, on_folder}
+use Rattle.filer_state.specs.changes.Renaming.{if_folder}
 use Rattle.filer_state.specs.changes.Renaming.{held_renamed}
 use Rattle.filer_state.specs.changes.lemmas.Named.{IsChildHere, found_seen}
 use Rattle.filer_state.specs.changes.lemmas.Climbing.{climbs-none, stays-there}

@@ -154,17 +154,6 @@ module _ (p : VolumeContents) (m : Making) (well : WellFormed p) (may : MayBeMad
 
   -- ---- all nodes
 
-  -- the parent of the directory
-  pub directory-there : (parent : ℕ) × (parent_in m.inode.kind ≡ Some parent)
-  directory-there = by (parent_in m.inode.kind) refl
-    where
-      folder : is_some (parent_in m.inode.kind) ≡ true
-      folder = sym (ap is_folder may.there) ∙ sym (well.logical.named.folders m.directory) ∙ ap (λ o. is_some o) may.entered
-
-      by : (o : Option ℕ) → parent_in m.inode.kind ≡ o → (parent : ℕ) × (parent_in m.inode.kind ≡ Some parent)
-      by None e = let none : is_some (parent_in m.inode.kind) ≡ false = ap (λ x. is_some x) e in let some = folder in absurd cc
-      by (Some parent) e = (parent, e)
-
   module _ (parent : ℕ) (says : parent_in m.inode.kind ≡ Some parent) where
     abbrev now : ℕ → Inode → Node
     now = node_of after.stripes after.logical.directories

@@ -42,9 +42,6 @@ new_entries (RegularFile size filled verifier) = None
 new_entries (Folder parent subdirectories) = Some empty_directory
 
 module _ (old : InodesValue) (directories : DirectoryMap) (m : Making) (lawful : IsInodes old) (there : inode_of old m.directory ≡ Some m.inode) where
-  abbrev pub made_fileid : ℕ
-  made_fileid = old.next
-
   abbrev new : InodesValue
   new = inodes_made m old
 

@@ -99,10 +99,6 @@ module _ (f size : ℕ) where
 abbrev pub sized_in : Sizing → VolumeContents → VolumeContents
 sized_in m p = logical_lens.put (file_sized m (logical_lens.of p)) p
 
--- a file's kind
-abbrev pub IsFileOf : ℕ → ℕ → Option (List ℕ) → InodeKind → Type 0
-IsFileOf old filled verifier k = k ≡ RegularFile old filled verifier
-
 abbrev shown_size : Inode → Option ℕ
 shown_size inode = size_in inode.kind
 

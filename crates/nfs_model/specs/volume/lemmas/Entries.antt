@@ -26,8 +26,3 @@ find_lookup {K} {X} {Y} R g (e ∷ es) q = by (eq_by_cmp R q e.0) (find_lookup R
         → cond b (Some (g e.1)) (find R q (map (λ (x : K × X). (x.0, g x.1)) es)) ≡ option_map g (cond b (Some e.1) (lookup (is_at (R q)) es))
     by true rest = refl
     by false rest = rest
-
--- what the map of entries, with g of each value, has at a key
-pub get_lookup : {K X Y : Type 0} {R : K → K → Ordering} → IsTotalOrder R → (g : X → Y) (es : List (K × X)) (q : K)
-    → get (from_entries {R = R} (map (λ (e : K × X). (e.0, g e.1)) es)) q ≡ option_map g (lookup (is_at (R q)) es)
-get_lookup {R = R} o g es q = get-from_entries o _ q ∙ find_lookup R g es q

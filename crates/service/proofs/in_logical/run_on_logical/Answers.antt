@@ -9,16 +9,16 @@ use Rattle.service.specs.Running.{outcome_of}
 use Rattle.service.proofs.Runs.{runs-here}
 use Rattle.service.proofs.in_logical.run_on_logical.Goals as goal
 
-pub returns-then-is_told-clause-runs : goal.returns-then-is_told-clause-runs
-returns-then-is_told-clause-runs c =
+pub returns-in-Some-clause-runs : goal.returns-in-Some-clause-runs
+returns-in-Some-clause-runs c =
     let L = layout_of c.args.layout.now in
     let v = c.args.volume.0 in
     let old = logical_before c.args.held.now in
     runs-here L v logical_lens (Logical v) c.fileid_here-fileid.result.0 (call_of c.args.run.call.now) (credential_of c.args.run.credential)
-    (moment_of c.args.run.moment) old old (outcome_of c.tell.result) c.fileid_here-fileid.ensures (c.tell.ensures.runs L)
+    (moment_of c.args.run.moment) old old (outcome_of c.in-Some.outcome) c.fileid_here-fileid.ensures (c.in-Some.ensures.runs L)
 
-pub returns-else-is_told-clause-runs : goal.returns-else-is_told-clause-runs
-returns-else-is_told-clause-runs c =
+pub returns-in-None-clause-runs : goal.returns-in-None-clause-runs
+returns-in-None-clause-runs c =
     let v = c.args.volume.0 in
     runs-here (layout_of c.args.layout.now) v logical_lens (Logical v) c.fileid_here-fileid.result.0 (call_of c.args.run.call.now)
     (credential_of c.args.run.credential) (moment_of c.args.run.moment) (logical_before c.args.held.now) (logical_after c.args.held.now c.change.new.held)

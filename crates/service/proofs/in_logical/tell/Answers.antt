@@ -1,4 +1,4 @@
-use Rattle.std.proofs.Common.{ℕ, List, sym, subst}
+use Rattle.std.proofs.Common.{ℕ, List, ap, sym, subst}
 use Rattle.nfs_model.specs.Tree.{Logical}
 use Rattle.nfs_model.specs.Types.{Success}
 use Rattle.nfs_model.specs.Work.{Outcome, Replied}
@@ -16,7 +16,7 @@ use Rattle.filer_state.specs.state.Lenses.{logical_lens}
 use Rattle.filer_state.specs.state.Running.{RunsOn}
 use Rattle.filer_state.specs.state.Sets.{logical_before}
 use Rattle.service.specs.renames.NamePromises.{LooksUp}
-use Rattle.service.specs.Running.{call_named, outcome_of}
+use Rattle.service.specs.Running.{call_named, is_told, outcome_of}
 use Rattle.service.proofs.Runs.{served-runs}
 use Rattle.service.proofs.in_logical.tell.Goals as goal
 
@@ -26,6 +26,7 @@ returns-in-GetAttributes c =
     let old = logical_before c.args.held.now in
     let told = answer_of (answers.GetAttributes c.get_attributes-told.result) in
     record {
+      told = sym (ap is_told c.in-GetAttributes.is);
       runs = λ layout. subst (λ (call : Call). RunsOn n.volume logical_lens
           (call_named layout n (credential_of c.args.run.credential) (moment_of c.args.run.moment) (call_of call))
           old (Replied (Success told)) old) (sym c.in-GetAttributes.is)
@@ -41,6 +42,7 @@ returns-in-Lookup c =
     let target = c.in-Lookup.target in
     let told = answer_of (answers.Lookup c.lookup-told.result) in
     record {
+      told = sym (ap is_told c.in-Lookup.is);
       runs = λ layout. subst (λ (call : Call). RunsOn n.volume logical_lens
           (call_named layout n (credential_of c.args.run.credential) moment (call_of call))
           old (Replied (Success told)) old) (sym c.in-Lookup.is)
@@ -49,8 +51,8 @@ returns-in-Lookup c =
           target.directory moment));
     }
 
-pub read_in_logical-requires : goal.read_in_logical-requires
-read_in_logical-requires c = record { whole = (c.args.named.volume.0, c.requires.whole) }
+pub read_in_logical-told-requires : goal.read_in_logical-told-requires
+read_in_logical-told-requires c = record { whole = (c.args.named.volume.0, c.requires.whole) }
 
 pub returns-in-Read : goal.returns-in-Read
 returns-in-Read c =
@@ -58,11 +60,12 @@ returns-in-Read c =
     let old = logical_before c.args.held.now in
     let asked = c.in-Read in
     record {
+      told = sym (ap is_told c.in-Read.is);
       runs = λ layout. subst (λ (call : Call). RunsOn n.volume logical_lens
           (call_named layout n (credential_of c.args.run.credential) (moment_of c.args.run.moment) (call_of call))
           old (outcome_of c.outcome_read.result) old) (sym asked.is)
           (subst (λ (o : Outcome). RunsOn n.volume logical_lens (read_call asked.handle (Logical n.volume) n.fileid asked.offset asked.count) old o old)
-          (sym c.outcome_read.ensures) (c.read_in_logical.ensures.right n.volume asked.handle));
+          (sym c.outcome_read.ensures) (c.read_in_logical-told.ensures.right n.volume asked.handle));
     }
 
 pub returns-in-ReadDirectory : goal.returns-in-ReadDirectory
@@ -71,12 +74,13 @@ returns-in-ReadDirectory c =
     let old = logical_before c.args.held.now in
     let asked = c.in-ReadDirectory in
     record {
+      told = sym (ap is_told c.in-ReadDirectory.is);
       runs = λ layout. subst (λ (call : Call). RunsOn n.volume logical_lens
           (call_named layout n (credential_of c.args.run.credential) (moment_of c.args.run.moment) (call_of call))
           old (outcome_of c.outcome_listed.result) old) (sym asked.is)
           (subst (λ (o : Outcome). RunsOn n.volume logical_lens
           (readdir_call asked.directory (Logical n.volume) n.fileid asked.cookie.0 asked.verifier.0 asked.count) old o old)
-          (sym c.outcome_listed.ensures) (c.read_directory.ensures.right asked.directory));
+          (sym c.outcome_listed.ensures) (c.read_directory-told.ensures.right asked.directory));
     }
 
 pub returns-in-Commit : goal.returns-in-Commit
@@ -85,6 +89,7 @@ returns-in-Commit c =
     let old = logical_before c.args.held.now in
     let told = answer_of (answers.Commit c.commit-told.result) in
     record {
+      told = sym (ap is_told c.in-Commit.is);
       runs = λ layout. subst (λ (call : Call). RunsOn n.volume logical_lens
           (call_named layout n (credential_of c.args.run.credential) (moment_of c.args.run.moment) (call_of call))
           old (Replied (Success told)) old) (sym c.in-Commit.is)

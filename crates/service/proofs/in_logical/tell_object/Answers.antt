@@ -1,4 +1,4 @@
-use Rattle.std.proofs.Common.{sym, subst}
+use Rattle.std.proofs.Common.{ap, sym, subst}
 use Rattle.nfs_model.specs.Tree.{Logical}
 use Rattle.nfs_model.specs.Types.{Success}
 use Rattle.nfs_model.specs.Work.{Replied}
@@ -13,7 +13,7 @@ use Rattle.service.specs.renames.NameLaws.{access_call, fsinfo_call, pathconf_ca
 use Rattle.filer_state.specs.state.Lenses.{logical_lens}
 use Rattle.filer_state.specs.state.Running.{RunsOn}
 use Rattle.filer_state.specs.state.Sets.{logical_before}
-use Rattle.service.specs.Running.{call_named}
+use Rattle.service.specs.Running.{call_named, is_of_object}
 use Rattle.service.proofs.Runs.{served-runs}
 use Rattle.service.proofs.in_logical.tell_object.Goals as goal
 
@@ -24,6 +24,7 @@ returns-in-CheckAccess c =
     let told = answer_of (answers.CheckAccess c.check_access-told.result) in
     let asks = access_call c.in-CheckAccess.handle (Logical n.volume) n.fileid c.in-CheckAccess.asked (credential_of c.args.run.credential) in
     record {
+      told = sym (ap is_of_object c.in-CheckAccess.is);
       runs = λ layout. subst (λ (call : Call). RunsOn n.volume logical_lens
           (call_named layout n (credential_of c.args.run.credential) (moment_of c.args.run.moment) (call_of call))
           old (Replied (Success told)) old) (sym c.in-CheckAccess.is)
@@ -37,6 +38,7 @@ returns-in-FilesystemInfo c =
     let told = answer_of (answers.FilesystemInfo c.filesystem_info-told.result) in
     let asks = fsinfo_call c.in-FilesystemInfo.handle (Logical n.volume) n.fileid in
     record {
+      told = sym (ap is_of_object c.in-FilesystemInfo.is);
       runs = λ layout. subst (λ (call : Call). RunsOn n.volume logical_lens
           (call_named layout n (credential_of c.args.run.credential) (moment_of c.args.run.moment) (call_of call))
           old (Replied (Success told)) old) (sym c.in-FilesystemInfo.is)
@@ -50,6 +52,7 @@ returns-in-PathConfiguration c =
     let told = answer_of (answers.PathConfiguration c.path_configuration-told.result) in
     let asks = pathconf_call c.in-PathConfiguration.handle (Logical n.volume) n.fileid in
     record {
+      told = sym (ap is_of_object c.in-PathConfiguration.is);
       runs = λ layout. subst (λ (call : Call). RunsOn n.volume logical_lens
           (call_named layout n (credential_of c.args.run.credential) (moment_of c.args.run.moment) (call_of call))
           old (Replied (Success told)) old) (sym c.in-PathConfiguration.is)

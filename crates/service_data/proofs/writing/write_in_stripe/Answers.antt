@@ -32,5 +32,6 @@ returns-clause-right c =
     let w : Writing = asked_to_write c.args.offset c.args.count c.args.written.now (moment_of c.args.moment) in
     right-written c.args.fileid.0 w c.args.held.now.own c.get_mut-stripe.result.now c.get_mut-stripe.ensures.value
     (option_map card_of c.card-card.result) c.card-card.ensures.card c.largest.result c.largest.ensures c.in-Ok.given c.in-Ok.ensures
-    c.if-given-eq0.false _ c.verifier-verifier.result (c.if-not-overwrite.ensures.written (search rules) refl) (c.if-not-overwrite.ensures.answer (search rules))
+    c.if-given-eq0.false _ c.verifier-verifier.result (c.if-not-overwrite.ensures.written (search rules) refl)
+    (c.if-not-overwrite.ensures.answer (search rules))
     c.verifier-verifier.ensures

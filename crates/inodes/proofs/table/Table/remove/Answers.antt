@@ -1,8 +1,6 @@
-use Rattle.std.proofs.Common.{◌≡◌, ◌-◌, ◌≤◌, sym, ap, ◌∙◌, None, Some, arith}
+use Rattle.std.proofs.Common.{◌-◌, sym, ap, ◌∙◌, arith}
 use Rattle.std.specs.Option.{option_map}
-use Rattle.std.specs.Ordering.{nat_cmp}
-use Rattle.std.specs.FinMap.{FinMap, get, len, remove}
-use Rattle.nfs_model.specs.volume.Inodes as values
+use Rattle.std.specs.FinMap.{get, len, remove}
 use Rattle.chunk_maps.specs.Chunks.{values_of}
 use Rattle.inodes.specs.Inode.{inode_value}
 use Rattle.chunk_maps.specs.ChunkLaws.{get-values_of, removed-values, len-gone, len-none, len-some}
@@ -13,12 +11,12 @@ invariant_of-self c =
     let old = values_of c.self.inside.chunks.entries in
     c.self.invariant
     ∙ sym (ap (λ m. len m) (removed-values c.args.fileid.0 c.self.inside.chunks c.remove_at.new.chunks c.in_err-inode.ensures.gone)
-    ∙ len-none c.args.fileid.0 old (get-values_of c.self.inside.chunks c.args.fileid.0 ∙ sym c.in_err-inode.ensures.inode))
+    ∙ len-none c.args.fileid.0 old (get-values_of c.self.inside.chunks c.args.fileid.0 ∙ sym c.in_err-inode.ensures.item))
 
 pub overflow_sub-self : goal.overflow_sub-self
 overflow_sub-self c =
     let some = len-some c.args.fileid.0 (inode_value c.in_ok-inode.inode) (values_of c.self.inside.chunks.entries)
-    (get-values_of c.self.inside.chunks c.args.fileid.0 ∙ sym c.in_ok-inode.ensures.inode) in
+    (get-values_of c.self.inside.chunks c.args.fileid.0 ∙ sym c.in_ok-inode.ensures.item) in
     omega (arith, some, c.self.invariant)
 
 pub invariant_of-self-2 : goal.invariant_of-self-2
@@ -26,11 +24,11 @@ invariant_of-self-2 c =
     let old = values_of c.self.inside.chunks.entries in
     ap (λ n. n - 1) c.self.invariant
     ∙ sym (ap (λ m. len m) (removed-values c.args.fileid.0 c.self.inside.chunks c.remove_at.new.chunks c.in_ok-inode.ensures.gone)
-    ∙ len-gone c.args.fileid.0 (inode_value c.in_ok-inode.inode) old (get-values_of c.self.inside.chunks c.args.fileid.0 ∙ sym c.in_ok-inode.ensures.inode))
+    ∙ len-gone c.args.fileid.0 (inode_value c.in_ok-inode.inode) old (get-values_of c.self.inside.chunks c.args.fileid.0 ∙ sym c.in_ok-inode.ensures.item))
 
 pub returns-clause-inode : goal.returns-clause-inode
 returns-clause-inode c =
-    c.in_ok-inode.ensures.inode ∙ sym (get-values_of c.self.inside.chunks c.args.fileid.0) ∙ ap (λ m. get m c.args.fileid.0) c.self.view_is
+    c.in_ok-inode.ensures.item ∙ sym (get-values_of c.self.inside.chunks c.args.fileid.0) ∙ ap (λ m. get m c.args.fileid.0) c.self.view_is
 
 pub returns-clause-gone : goal.returns-clause-gone
 returns-clause-gone c =
@@ -39,7 +37,8 @@ returns-clause-gone c =
 
 pub returns-in_err-inode-clause-inode : goal.returns-in_err-inode-clause-inode
 returns-in_err-inode-clause-inode c =
-    ap (option_map inode_value) c.from_residual.ensures ∙ c.in_err-inode.ensures.inode ∙ sym (get-values_of c.self.inside.chunks c.args.fileid.0) ∙ ap (λ m. get m c.args.fileid.0) c.self.view_is
+    ap (option_map inode_value) c.from_residual.ensures ∙ c.in_err-inode.ensures.item ∙ sym (get-values_of c.self.inside.chunks c.args.fileid.0)
+        ∙ ap (λ m. get m c.args.fileid.0) c.self.view_is
 
 pub returns-in_err-inode-clause-gone : goal.returns-in_err-inode-clause-gone
 returns-in_err-inode-clause-gone c =

@@ -9,7 +9,8 @@ use Rattle.inodes.proofs.table.Table.replace.Goals as goal
 pub invariant_of-self : goal.invariant_of-self
 invariant_of-self c =
     c.self.invariant
-    ∙ sym (ap (λ m. len m) (changed-values (λ _. inode_value c.args.inode) c.args.fileid.0 c.self.inside.chunks c.replace_at.new.chunks c.replace_at.ensures.replaced)
+    ∙ sym (ap (λ m. len m) (changed-values (λ _. inode_value c.args.inode) c.args.fileid.0 c.self.inside.chunks c.replace_at.new.chunks
+    c.replace_at.ensures.replaced)
     ∙ len-changed (λ _. inode_value c.args.inode) c.args.fileid.0 (values_of c.self.inside.chunks.entries))
 
 pub returns-clause-old : goal.returns-clause-old

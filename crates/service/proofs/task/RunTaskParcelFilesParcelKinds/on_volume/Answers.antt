@@ -22,7 +22,8 @@ run_on_volume-requires-clause-at c =
 
 pub run_on_volume-requires-clause-whole : goal.run_on_volume-requires-clause-whole
 run_on_volume-requires-clause-whole c =
-    (volume-whole (layout_of c.args.layout.now) c.args.layout.now.lawful c.volume_around-volume.result.0 (affinity_of c.args.affinity) c.volume_around-volume.ensures
+    (volume-whole (layout_of c.args.layout.now) c.args.layout.now.lawful c.volume_around-volume.result.0
+    (affinity_of c.args.affinity) c.volume_around-volume.ensures
     c.requires.node c.args.held.now c.requires.asks.1).1
 
 pub returns-clause-exact : goal.returns-clause-exact

@@ -5,4 +5,4 @@ use Rattle.stripe_cards.proofs.cards.Cards.get.Goals as goal
 
 pub returns : goal.returns
 returns c =
-    c.card_in.ensures ∙ sym (get-values_of c.self.inside.chunks c.args.fileid.0) ∙ ap (λ m. get m c.args.fileid.0) c.self.view_is
+    c.value_in.ensures ∙ sym (get-values_of c.self.inside.chunks c.args.fileid.0) ∙ ap (λ m. get m c.args.fileid.0) c.self.view_is

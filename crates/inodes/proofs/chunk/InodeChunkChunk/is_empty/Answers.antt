@@ -3,7 +3,7 @@ use Rattle.std.proofs.lemmas.Bool.Decides.{nat_tests}
 use Rattle.chunk_maps.specs.Chunks.{slot_of}
 use Rattle.inodes.specs.Inode.{stored}
 use Rattle.chunk_maps.specs.SlotLaws.{none-in}
-use Rattle.inodes.proofs.chunk.Chunk.is_empty.Goals as goal
+use Rattle.inodes.proofs.chunk.InodeChunkChunk.is_empty.Goals as goal
 
 pub returns : goal.returns
 returns c = λ empty q.

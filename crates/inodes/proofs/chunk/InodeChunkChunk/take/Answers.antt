@@ -1,7 +1,7 @@
 use Rattle.std.proofs.Common.{None, refl, arith}
 use Rattle.inodes.specs.Inode.{stored}
 use Rattle.chunk_maps.specs.SlotLaws.{used-written, long-written, slots-written}
-use Rattle.inodes.proofs.chunk.Chunk.take.Goals as goal
+use Rattle.inodes.proofs.chunk.InodeChunkChunk.take.Goals as goal
 
 pub overflow_sub-self : goal.overflow_sub-self
 overflow_sub-self c =

@@ -2,7 +2,7 @@ use Rattle.std.proofs.Common.{None, Some, refl, arith}
 use Rattle.inodes.specs.Inode.{inode_value}
 use Rattle.inodes.specs.Inode.{stored}
 use Rattle.chunk_maps.specs.SlotLaws.{used-few, used-written, long-written, slots-written}
-use Rattle.inodes.proofs.chunk.Chunk.put.Goals as goal
+use Rattle.inodes.proofs.chunk.InodeChunkChunk.put.Goals as goal
 
 pub overflow_add-self : goal.overflow_add-self
 overflow_add-self c = let few = used-few stored None refl c.self.inside.inodes.value c.self.invariant.0 in omega (arith, few, c.self.invariant.1)
@@ -18,5 +18,6 @@ invariant_of-self c =
 
 pub returns : goal.returns
 returns c =
-    slots-written stored None refl c.self.inside.inodes.value c.deref_mut.result.now c.slot-slot.result c.args.fileid (Some c.args.inode) (Some (inode_value c.args.inode))
+    slots-written stored None refl c.self.inside.inodes.value c.deref_mut.result.now c.slot-slot.result c.args.fileid (Some c.args.inode) (Some
+        (inode_value c.args.inode))
     c.args.self.now c.self.invariant.0 c.slot-slot.ensures.slot c.deref_mut.ensures.value refl c.self.view_is

@@ -4,7 +4,7 @@ use Rattle.chunk_maps.specs.Chunks.{one_if}
 use Rattle.stripe_cards.specs.declared.packed.Packed.TheVariants.{Absent}
 use Rattle.stripe_cards.specs.Cards.{packed_card}
 use Rattle.chunk_maps.specs.SlotLaws.{used-few, used-written, long-written, slots-written}
-use Rattle.stripe_cards.proofs.chunk.Chunk.put.Goals as goal
+use Rattle.stripe_cards.proofs.chunk.CardChunkChunk.put.Goals as goal
 
 pub overflow_add-self : goal.overflow_add-self
 overflow_add-self c = let few = used-few packed_card Absent refl c.self.inside.cards.value c.self.invariant.0 in omega (arith, few, c.self.invariant.1)
@@ -21,5 +21,6 @@ invariant_of-self c =
 
 pub returns : goal.returns
 returns c =
-    slots-written packed_card Absent refl c.self.inside.cards.value c.deref_mut.result.now c.slot-slot.result c.args.fileid c.pack.result (Some (card_of c.args.card))
+    slots-written packed_card Absent refl c.self.inside.cards.value c.deref_mut.result.now c.slot-slot.result c.args.fileid c.pack.result (Some
+        (card_of c.args.card))
     c.args.self.now c.self.invariant.0 c.slot-slot.ensures.slot c.deref_mut.ensures.value c.pack.ensures c.self.view_is

@@ -4,7 +4,7 @@ use Rattle.chunk_maps.specs.Chunks.{slot_of}
 use Rattle.stripe_cards.specs.declared.packed.Packed.TheVariants.{Absent}
 use Rattle.stripe_cards.specs.Cards.{packed_card}
 use Rattle.chunk_maps.specs.SlotLaws.{none-in}
-use Rattle.stripe_cards.proofs.chunk.Chunk.is_empty.Goals as goal
+use Rattle.stripe_cards.proofs.chunk.CardChunkChunk.is_empty.Goals as goal
 
 pub returns : goal.returns
 returns c = λ empty q.

@@ -3,7 +3,7 @@ use Rattle.stripe_cards.specs.Cards.{card_of}
 use Rattle.stripe_cards.specs.declared.packed.Packed.TheVariants.{Absent}
 use Rattle.stripe_cards.specs.Cards.{packed_card}
 use Rattle.chunk_maps.specs.SlotLaws.{used-first, long-first, slots-first}
-use Rattle.stripe_cards.proofs.chunk.Chunk.new.Goals as goal
+use Rattle.stripe_cards.proofs.chunk.CardChunkChunk.new.Goals as goal
 
 pub invariant_of-result : goal.invariant_of-result
 invariant_of-result c =

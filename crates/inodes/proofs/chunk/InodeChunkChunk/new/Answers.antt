@@ -2,7 +2,7 @@ use Rattle.std.proofs.Common.{None, ◌∙◌, refl, Some}
 use Rattle.inodes.specs.Inode.{inode_value}
 use Rattle.inodes.specs.Inode.{stored}
 use Rattle.chunk_maps.specs.SlotLaws.{used-first, long-first, slots-first}
-use Rattle.inodes.proofs.chunk.Chunk.new.Goals as goal
+use Rattle.inodes.proofs.chunk.InodeChunkChunk.new.Goals as goal
 
 pub invariant_of-result : goal.invariant_of-result
 invariant_of-result c =
