@@ -7,6 +7,7 @@ mod Pages
 mod Renaming
 mod Bytes
 mod Administration
+mod Mounting
 mod Homes
 mod Routes
 mod Numbers

@@ -3,7 +3,7 @@
 use Rattle.std.specs.Prelude.{ℕ, List, []}
 use Rattle.nfs_model.specs.Types.{Call, Null, Getattr, Setattr, Lookup, CheckAccess, Read, Write, Create}
 use Rattle.nfs_model.specs.Types.{Mkdir, Remove, Rmdir, Rename, Readdir, Fsstat, Fsinfo, Pathconf, Commit}
-use Rattle.nfs_model.specs.Types.{Unsupported, Census, Grow}
+use Rattle.nfs_model.specs.Types.{Unsupported, Census, Grow, Mount}
 
 pub data Route : Type 0 where
   -- on no state
@@ -45,6 +45,7 @@ route (Commit handle) = OfNames handle
 route (Unsupported which) = AtOnce
 route Census = OfEverything
 route (Grow volume ranges) = OfAggregate volume
+route (Mount call) = AtOnce
 
 -- the handle by which a route comes to its volume, its only one or the first; one without a handle
 -- has no bytes

@@ -19,6 +19,7 @@ pub mod Pathconf
 pub mod Commit
 pub mod Census
 pub mod Grow
+pub mod Mount
 pub mod Step
 pub mod AtOnce
 pub mod Starve

@@ -49,10 +49,19 @@ pub data UnsupportedProcedure : Type 0 where
   Mknod : UnsupportedProcedure
   Link : UnsupportedProcedure
 
+-- What the procedures of MOUNT ask that tell or find something (RFC 1813 appendix I, section 5.2). A
+-- path is the bytes that came.
+pub data MountCall : Type 0 where
+  Mnt : (path : List ℕ) → MountCall
+  Dump : MountCall
+  Exports : MountCall
+  -- UMNT, whose path isn't kept, and UMNTALL: mounts aren't kept, so there is nothing to undo
+  Unmount : MountCall
+
 -- One constructor for each procedure, with its arguments (RFC 1813 section 3.3); those that aren't
--- supported share one, without arguments. A handle is the bytes that came, good or bad; so is a
--- name. How stable a WRITE is to be isn't kept, since every one is stable. CENSUS and GROW are of
--- the admin program (our profile).
+-- supported share one, without arguments. A handle is the bytes that came, good or bad; so is a name.
+-- How stable a WRITE is to be isn't kept, since every one is stable. CENSUS and GROW are of the admin
+-- program (our profile), and MOUNT is a program of its own.
 pub data Call : Type 0 where
   Null : Call
   Getattr : (handle : List ℕ) → Call
@@ -74,6 +83,7 @@ pub data Call : Type 0 where
   Unsupported : (which : UnsupportedProcedure) → Call
   Census : Call
   Grow : (volume ranges : ℕ) → Call
+  Mount : (call : MountCall) → Call
 
 -- ---- what is answered
 
@@ -188,6 +198,9 @@ pub data Answer : Type 0 where
   CommitDone : (file : Wcc) (verifier : List ℕ) → Answer
   CensusDone : (volumes : List VolumeCount) → Answer
   GrowDone : (total : ℕ) → Answer
+  MountDone : (handle : List ℕ) → Answer
+  DumpDone : Answer
+  ExportsDone : (paths : List (List ℕ)) → Answer
   Failed : (status : Status) (absent : ℕ) → Answer
 
 -- the reply of RPC (RFC 5531 section 9)

@@ -1,10 +1,10 @@
 -- The answer of the serial server, and the server after it (RFC 1813 section 3.3; GROW and CENSUS
 -- are our profile).
-use Rattle.std.specs.Prelude.{ℕ, Bool, true, false, ◌==◌, Option, Some, None, if◌then◌else◌}
+use Rattle.std.specs.Prelude.{ℕ, Bool, true, false, ◌==◌, length, Option, Some, None, if◌then◌else◌}
 use Rattle.nfs_model.specs.Types.{Moment, Credential, Call, Null, Getattr, Setattr, Lookup, CheckAccess}
 use Rattle.nfs_model.specs.Types.{Read, Write, Create, Mkdir, Remove, Rmdir, Rename, Readdir, Fsstat, Fsinfo}
-use Rattle.nfs_model.specs.Types.{Pathconf, Commit, Unsupported, Census, Grow, Answer, NullDone, Failed}
-use Rattle.nfs_model.specs.Types.{BadHandle, CrossVolume, NotSupported, Reply, Success, SystemError, Asked}
+use Rattle.nfs_model.specs.Types.{Pathconf, Commit, Unsupported, Census, Grow, Mount, Answer, NullDone}
+use Rattle.nfs_model.specs.Types.{Failed, BadHandle, CrossVolume, NotSupported, Reply, Success, SystemError, Asked}
 use Rattle.nfs_model.specs.Types.{Ask, Refused, Undecoded}
 use Rattle.nfs_model.specs.Server.{VolumeState, Server, with_volume}
 use Rattle.nfs_model.specs.Locate.{Effect, Fails, Tells, Changes, Located, locate, on_name}
@@ -27,6 +27,7 @@ use Rattle.nfs_model.specs.Serial.Pathconf.{pathconf}
 use Rattle.nfs_model.specs.Serial.Commit.{commit}
 use Rattle.nfs_model.specs.Serial.Census.{census}
 use Rattle.nfs_model.specs.Serial.Grow.{grow}
+use Rattle.nfs_model.specs.Serial.Mount.{mount}
 
 -- a reply, and the server after it
 pub record Step : Type 0 where
@@ -97,6 +98,7 @@ serve_by server absent (Grow volume ranges) credential moment =
       reply = Success (grow server volume ranges).answer;
       server = (grow server volume ranges).server;
     }
+serve_by server absent (Mount call) credential moment = stay server (mount (length server.volumes) call)
 
 -- a call that was decoded
 abbrev pub serve : Server → Call → Credential → Moment → Step
