@@ -16,15 +16,15 @@ use Rattle.nfs_values.specs.declared.answer.FilesystemStatusResults.{FilesystemS
 use Rattle.nfs_values.specs.declared.answer.FilesystemInfoResults.{FilesystemInfoResults}
 use Rattle.nfs_values.specs.declared.answer.PathConfigurationResults.{PathConfigurationResults}
 use Rattle.nfs_values.specs.declared.answer.CommitResults.{CommitResults}
-use Rattle.nfs_values.specs.Answer.{entry_of, space_of, attributes_shown, attributes_set, looked_up, access_told, bytes_read, bytes_written, node_made}
-use Rattle.nfs_values.specs.Answer.{name_gone, name_moved, entries_listed, space_told, info_told, path_told, file_committed, volume_grown, result_of}
+use Rattle.nfs_values.specs.declared.mount.MountResults.{MountResults}
+use Rattle.nfs_values.specs.Answer.{entry_of, space_of, attributes_shown, attributes_set, looked_up, access_told, bytes_read, bytes_written, node_made, name_gone}
+use Rattle.nfs_values.specs.Answer.{name_moved, entries_listed, space_told, info_told, path_told, file_committed, volume_grown, volume_mounted, result_of}
 use Rattle.nfs_values.specs.Attributes.{shown_of, change_of}
 use Rattle.nfs_types.specs.Shapes.{attributes_shape, attributes_value, change_shape, change_value}
 use Rattle.nfs_types.specs.Results.{lookup_shape, lookup_value, access_results_shape, access_value, read_shape, read_value, write_shape, write_value}
 use Rattle.nfs_types.specs.Results.{made_shape, made_value}
 use Rattle.nfs_types.specs.Results.{renamed_shape, renamed_value, readdir_shape, readdir_value}
-use Rattle.nfs_types.specs.Results.{fsstat_shape, fsstat_value, fsinfo_shape, fsinfo_value, pathconf_shape, pathconf_value, commit_shape, commit_value}
-use Rattle.nfs_types.specs.Results.{answer_bytes, done, result_bytes}
+use Rattle.nfs_types.specs.Results.{fsstat_shape, fsstat_value, fsinfo_shape, fsinfo_value, pathconf_shape, pathconf_value, commit_shape, commit_value, mounted_shape, mounted_value, answer_bytes, done, result_bytes}
 
 arm : {R : Type 0} (shape : Shape) (value : R → Value shape) (told : R → model.Answer) (absent : ℕ)
     → ((r : R) → answer_bytes (told r) ≡ done shape (value r)) → (result : Result R Status)
@@ -92,6 +92,10 @@ committed_bytes = arm commit_shape (λ r. commit_value (change_of r.file) r.veri
 pub grown_bytes : (result : Result ℕ Status) → answer_bytes (result_of volume_grown 0 result) ≡ result_bytes Hyper (λ n. n) 0 result
 grown_bytes = arm Hyper (λ n. n) volume_grown 0 (λ r. refl)
 
+pub mounted_bytes : (result : Result MountResults Status)
+    → answer_bytes (result_of volume_mounted 0 result) ≡ result_bytes mounted_shape (λ r. mounted_value r.handle) 0 result
+mounted_bytes = arm mounted_shape (λ r. mounted_value r.handle) volume_mounted 0 (λ r. refl)
+
 pub ruleset outcomes = (
   shown_bytes,
   set_bytes,
@@ -108,4 +112,5 @@ pub ruleset outcomes = (
   path_bytes,
   committed_bytes,
   grown_bytes,
+  mounted_bytes,
 )

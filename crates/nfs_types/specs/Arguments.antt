@@ -9,7 +9,7 @@ use Rattle.nfs_values.specs.declared.procedure.Procedure.{Procedure}
 use Rattle.nfs_values.specs.declared.procedure.Procedure.TheVariants.{Null, GetAttributes, SetAttributes, Lookup, CheckAccess, ReadLink, Read, Write, Create}
 use Rattle.nfs_values.specs.declared.procedure.Procedure.TheVariants.{MakeDirectory, MakeSymbolicLink, MakeDevice, Remove, RemoveDirectory, Rename, MakeLink}
 use Rattle.nfs_values.specs.declared.procedure.Procedure.TheVariants.{ReadDirectory, FilesystemStatus, FilesystemInfo, PathConfiguration, Commit, AdminNull}
-use Rattle.nfs_values.specs.declared.procedure.Procedure.TheVariants.{Census, Grow}
+use Rattle.nfs_values.specs.declared.procedure.Procedure.TheVariants.{Census, Grow, MountNull, Mount, ListMounts, Unmount, UnmountAll, ListExports}
 use Rattle.nfs_values.specs.declared.target.Target.{Target}
 use Rattle.nfs_types.specs.declared.bad.Bad.{Bad}
 use Rattle.nfs_types.specs.declared.bad.Bad.TheVariants as bads
@@ -64,6 +64,10 @@ listing_shape = handle_shape & Hyper & verifier_shape & Word
 abbrev pub growing_shape : Shape
 growing_shape = Word & Word
 
+-- dirpath of MOUNT (appendix I, section 5.1.5). One that is longer than MNTPATHLEN is read too, since MNT has an answer to it.
+abbrev pub path_shape : Shape
+path_shape = any_bytes
+
 abbrev pub arguments_shape : Procedure → Shape
 arguments_shape Null = Void
 arguments_shape GetAttributes = handle_shape
@@ -89,6 +93,12 @@ arguments_shape Commit = range_shape
 arguments_shape AdminNull = Void
 arguments_shape Census = Void
 arguments_shape Grow = growing_shape
+arguments_shape MountNull = Void
+arguments_shape Mount = path_shape
+arguments_shape ListMounts = Void
+arguments_shape Unmount = path_shape
+arguments_shape UnmountAll = Void
+arguments_shape ListExports = Void
 
 -- a name in a directory, as its type has it
 abbrev pub target_of : Target → Value target_shape
@@ -164,6 +174,21 @@ census_call v = model.Census
 abbrev pub grow_call : Value growing_shape → model.Call
 grow_call v = model.Grow v.0 v.1
 
+abbrev pub mnt_call : Value path_shape → model.Call
+mnt_call path = model.Mount (model.Mnt path)
+
+abbrev pub dump_call : Value Void → model.Call
+dump_call v = model.Mount model.Dump
+
+abbrev pub umnt_call : Value path_shape → model.Call
+umnt_call path = model.Mount model.Unmount
+
+abbrev pub umntall_call : Value Void → model.Call
+umntall_call v = model.Mount model.Unmount
+
+abbrev pub export_call : Value Void → model.Call
+export_call v = model.Mount model.Exports
+
 abbrev pub call_from : (procedure : Procedure) → Value (arguments_shape procedure) → model.Call
 call_from Null = null_call
 call_from GetAttributes = getattr_call
@@ -189,8 +214,14 @@ call_from Commit = commit_call
 call_from AdminNull = null_call
 call_from Census = census_call
 call_from Grow = grow_call
+call_from MountNull = null_call
+call_from Mount = mnt_call
+call_from ListMounts = dump_call
+call_from Unmount = umnt_call
+call_from UnmountAll = umntall_call
+call_from ListExports = export_call
 
--- The arguments have a name or data.
+-- The arguments have a name, a path or data.
 abbrev pub takes_memory : Procedure → Bool
 takes_memory Lookup = true
 takes_memory Write = true
@@ -199,6 +230,7 @@ takes_memory MakeDirectory = true
 takes_memory Remove = true
 takes_memory RemoveDirectory = true
 takes_memory Rename = true
+takes_memory Mount = true
 takes_memory procedure = false
 
 -- The bytes spell arguments that ask this call.
@@ -234,6 +266,12 @@ asked Commit bytes = asked_by range_shape commit_call bytes
 asked AdminNull bytes = asked_by Void null_call bytes
 asked Census bytes = asked_by Void census_call bytes
 asked Grow bytes = asked_by growing_shape grow_call bytes
+asked MountNull bytes = asked_by Void null_call bytes
+asked Mount bytes = asked_by path_shape mnt_call bytes
+asked ListMounts bytes = asked_by Void dump_call bytes
+asked Unmount bytes = asked_by path_shape umnt_call bytes
+asked UnmountAll bytes = asked_by Void umntall_call bytes
+asked ListExports bytes = asked_by Void export_call bytes
 
 -- What was returned, seen by view, is what is asked. Memory runs out only where something is asked that takes some.
 abbrev pub Makes : {X Y : Type 0} → (X → Y) → Bool → Result X Bad → Result Y Fault → Type 0

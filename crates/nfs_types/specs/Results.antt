@@ -1,6 +1,6 @@
 -- The results of each procedure (RFC 1813 section 3.3) as bytes.
-use Rattle.std.specs.Prelude.{ℕ, zero, suc, Bool, true, false, ◌+◌, ◌-◌, ◌^◌, List, [], ◌++◌, Some, None, Result, Ok, Err, map, replicate}
-use Rattle.xdr.specs.Shape.{Shape, Void, Word, Hyper, Boolean, Optional, Chain, Array, Value, spelling}
+use Rattle.std.specs.Prelude.{ℕ, zero, suc, Bool, true, false, ◌+◌, ◌-◌, ◌^◌, List, [], ◌∷◌, ◌++◌, Some, None, Result, Ok, Err, map, replicate}
+use Rattle.xdr.specs.Shape.{Shape, Void, Word, Hyper, Boolean, Opaque, Optional, Chain, Array, Value, spelling}
 use Rattle.nfs_model.specs.Types as model
 use Rattle.nfs_model.specs.Server.{block_size, most_bytes}
 use Rattle.nfs_values.specs.declared.status.Status.{Status}
@@ -117,7 +117,36 @@ count_value v = (v.volume, (v.total, v.used))
 abbrev pub census_shape : Shape
 census_shape = Array (2 ^ 32 - 1) count_shape
 
--- NFS3_OK (section 2.5) and the OK arm
+-- mountres3_ok of MNT (appendix I, section 5.2.1): the handle, and the flavors by which calls may authenticate, AUTH_SYS 1 and AUTH_NONE 0
+abbrev pub mounted_shape : Shape
+mounted_shape = handle_shape & Array (2 ^ 32 - 1) Word
+
+abbrev pub mounted_value : List ℕ → Value mounted_shape
+mounted_value handle = (handle, 1 ∷ 0 ∷ [])
+
+-- name of a host or group, of at most 255 bytes (appendix I, section 5.1.5)
+abbrev pub host_shape : Shape
+host_shape = Opaque 255
+
+-- dirpath, of at most 1,024 bytes (appendix I, section 5.1.5)
+abbrev pub path_told_shape : Shape
+path_told_shape = Opaque 1024
+
+-- mountlist of DUMP (appendix I, section 5.2.2): of each mount its host and path
+abbrev pub mounts_shape : Shape
+mounts_shape = Chain (host_shape & path_told_shape)
+
+-- exportnode of EXPORT (appendix I, section 5.2.5): a path and the groups that may mount it, none of which means everybody
+abbrev pub export_shape : Shape
+export_shape = path_told_shape & Chain host_shape
+
+abbrev pub export_value : List ℕ → Value export_shape
+export_value path = (path, [])
+
+abbrev pub exports_shape : Shape
+exports_shape = Chain export_shape
+
+-- NFS3_OK (section 2.5) or MNT3_OK (appendix I, section 5.1.5) and the OK arm
 abbrev pub done : (shape : Shape) → Value shape → List ℕ
 done shape v = spelling (Word & shape) (0, v)
 
@@ -149,6 +178,9 @@ answer_bytes (model.PathconfDone object) = done pathconf_shape (pathconf_value o
 answer_bytes (model.CommitDone file verifier) = done commit_shape (commit_value file verifier)
 answer_bytes (model.CensusDone volumes) = spelling census_shape (map count_value volumes)
 answer_bytes (model.GrowDone total) = done Hyper total
+answer_bytes (model.MountDone handle) = done mounted_shape (mounted_value handle)
+answer_bytes model.DumpDone = spelling mounts_shape []
+answer_bytes (model.ExportsDone paths) = spelling exports_shape (map export_value paths)
 answer_bytes (model.Failed status absent) = failed status absent
 
 -- the bytes of what was done, or of a failure that leaves out so many optional parts

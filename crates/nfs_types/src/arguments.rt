@@ -20,12 +20,14 @@ ghost use Rattle.nfs_types.specs.Arguments.{growing_shape, renaming_shape, null_
 ghost use Rattle.nfs_types.specs.Arguments.{setattr_call, lookup_call, read_call, write_call};
 ghost use Rattle.nfs_types.specs.Arguments.{create_call, mkdir_call, remove_call, rmdir_call};
 ghost use Rattle.nfs_types.specs.Arguments.{rename_call, readdir_call, fsstat_call, commit_call};
+ghost use Rattle.nfs_types.specs.Arguments.{path_shape, mnt_call, dump_call, umnt_call};
+ghost use Rattle.nfs_types.specs.Arguments.{umntall_call, export_call};
 ghost use Rattle.nfs_types.specs.Arguments.{census_call, grow_call};
 
 use crate::bad::Bad;
 use crate::decode::{DeviceToMake, StableHow, decode_all};
 use nfs_values::{
-    BytesToWrite, Call, Cookie, CreateMode, FileHandle, Moment, Name, Procedure, SetAttributes,
+    BytesToWrite, Call, Cookie, CreateMode, FileHandle, Moment, MountCall, Name, Procedure, SetAttributes,
     Target, UnsupportedProcedure, Verifier, VolumeNumber,
 };
 use std::alloc::Global;
@@ -274,12 +276,53 @@ fn grow(bytes: &[u8]) -> Result<Call, Bad>
     Ok(Call::Grow { volume, ranges })
 }
 
-/// The call that these arguments of a procedure make (RFC 1813 section 3.3).
+/// MNT of MOUNT (RFC 1813 appendix I, section 5.2.1).
+fn mount(alloc: Global, bytes: &[u8]) -> Result<Call, Bad>
+    ensures { Makes call_of true result (asked_by path_shape mnt_call bytes.now) }
+{
+    let path = decode_all::<&[u8]>(bytes)?;
+    let path = Name::copied(alloc, path)?;
+    Ok(Call::Mount(MountCall::Mount { path }))
+}
+
+/// DUMP of MOUNT (RFC 1813 appendix I, section 5.2.2).
+fn list_mounts(bytes: &[u8]) -> Result<Call, Bad>
+    ensures { Makes call_of false result (asked_by Void dump_call bytes.now) }
+{
+    decode_all::<()>(bytes)?;
+    Ok(Call::Mount(MountCall::ListMounts))
+}
+
+/// UMNT of MOUNT (RFC 1813 appendix I, section 5.2.3).
+fn unmount(bytes: &[u8]) -> Result<Call, Bad>
+    ensures { Makes call_of false result (asked_by path_shape umnt_call bytes.now) }
+{
+    let _path = decode_all::<&[u8]>(bytes)?;
+    Ok(Call::Mount(MountCall::Unmount))
+}
+
+/// UMNTALL of MOUNT (RFC 1813 appendix I, section 5.2.4).
+fn unmount_all(bytes: &[u8]) -> Result<Call, Bad>
+    ensures { Makes call_of false result (asked_by Void umntall_call bytes.now) }
+{
+    decode_all::<()>(bytes)?;
+    Ok(Call::Mount(MountCall::Unmount))
+}
+
+/// EXPORT of MOUNT (RFC 1813 appendix I, section 5.2.5).
+fn list_exports(bytes: &[u8]) -> Result<Call, Bad>
+    ensures { Makes call_of false result (asked_by Void export_call bytes.now) }
+{
+    decode_all::<()>(bytes)?;
+    Ok(Call::Mount(MountCall::ListExports))
+}
+
+/// The call that these arguments of a procedure make (RFC 1813 section 3.3 and appendix I).
 pub fn decode_call(alloc: Global, procedure: Procedure, bytes: &[u8]) -> Result<Call, Bad>
     ensures { Makes call_of (takes_memory procedure) result (asked procedure bytes.now) }
 {
     match procedure {
-        Procedure::Null | Procedure::AdminNull => null(bytes),
+        Procedure::Null | Procedure::AdminNull | Procedure::MountNull => null(bytes),
         Procedure::GetAttributes => get_attributes(bytes),
         Procedure::SetAttributes => set_attributes(bytes),
         Procedure::Lookup => lookup(alloc, bytes),
@@ -302,6 +345,11 @@ pub fn decode_call(alloc: Global, procedure: Procedure, bytes: &[u8]) -> Result<
         Procedure::Commit => commit(bytes),
         Procedure::Census => census(bytes),
         Procedure::Grow => grow(bytes),
+        Procedure::Mount => mount(alloc, bytes),
+        Procedure::ListMounts => list_mounts(bytes),
+        Procedure::Unmount => unmount(bytes),
+        Procedure::UnmountAll => unmount_all(bytes),
+        Procedure::ListExports => list_exports(bytes),
     }
 }
 

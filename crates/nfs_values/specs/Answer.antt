@@ -1,5 +1,6 @@
-use Rattle.std.specs.Prelude.{ℕ, Result, Ok, Err, length, map}
+use Rattle.std.specs.Prelude.{ℕ, List, Result, Ok, Err, length, map}
 use Rattle.nfs_model.specs.Types as model
+use Rattle.nfs_model.specs.Serial.Mount.{volume_path, numbers}
 use Rattle.nfs_model.specs.Serial.Absent.{absent_in}
 use Rattle.nfs_values.specs.declared.status.Status.{Status}
 use Rattle.nfs_values.specs.declared.attributes.Attributes.{Attributes}
@@ -18,9 +19,11 @@ use Rattle.nfs_values.specs.declared.answer.PathConfigurationResults.{PathConfig
 use Rattle.nfs_values.specs.declared.answer.CommitResults.{CommitResults}
 use Rattle.nfs_values.specs.declared.answer.VolumeCount.{VolumeCount}
 use Rattle.nfs_values.specs.declared.answer.Answer.{Answer}
+use Rattle.nfs_values.specs.declared.mount.Exports.{Exports}
+use Rattle.nfs_values.specs.declared.mount.MountResults.{MountResults}
 use Rattle.nfs_values.specs.declared.answer.Answer.TheVariants.{Null, GetAttributes, SetAttributes, Lookup, CheckAccess, Read, Write, Create}
 use Rattle.nfs_values.specs.declared.answer.Answer.TheVariants.{MakeDirectory, Remove, RemoveDirectory, Rename, ReadDirectory, FilesystemStatus}
-use Rattle.nfs_values.specs.declared.answer.Answer.TheVariants.{FilesystemInfo, PathConfiguration, Commit, Unsupported, Census, Grow}
+use Rattle.nfs_values.specs.declared.answer.Answer.TheVariants.{FilesystemInfo, PathConfiguration, Commit, Unsupported, Census, Grow, Mount, ListMounts, ListExports}
 use Rattle.nfs_values.specs.Attributes.{shown_of, change_of}
 use Rattle.nfs_values.specs.Status.{status_of}
 use Rattle.nfs_values.specs.Unsupported.{unsupported_of}
@@ -89,6 +92,14 @@ count_of v = record { volume = v.volume.0; total = v.total; used = v.used }
 abbrev pub volume_grown : ℕ → model.Answer
 volume_grown total = model.GrowDone total
 
+-- the handle of a volume's root
+abbrev pub volume_mounted : MountResults → model.Answer
+volume_mounted r = model.MountDone r.handle
+
+-- the paths of volumes
+abbrev pub volumes_exported : Exports → model.Answer
+volumes_exported exports = model.ExportsDone (map volume_path (numbers exports.volumes))
+
 -- ---- results, as the model has them
 
 -- what was done, or a failure that leaves out so many optional parts; wcc_data has two (RFC 1813 section 3.3)
@@ -117,3 +128,6 @@ answer_of (Commit result) = result_of file_committed 2 result
 answer_of (Unsupported which) = model.Failed model.NotSupported (absent_in (unsupported_of which))
 answer_of (Census volumes) = model.CensusDone (map count_of volumes.items)
 answer_of (Grow result) = result_of volume_grown 0 result
+answer_of (Mount result) = result_of volume_mounted 0 result
+answer_of ListMounts = model.DumpDone
+answer_of (ListExports exports) = volumes_exported exports

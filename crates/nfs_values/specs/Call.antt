@@ -3,8 +3,9 @@ use Rattle.nfs_model.specs.Types as model
 use Rattle.nfs_values.specs.declared.call.Call.{Call}
 use Rattle.nfs_values.specs.declared.call.Call.TheVariants.{Null, GetAttributes, SetAttributes, Lookup, CheckAccess, Read, Write, Create, MakeDirectory}
 use Rattle.nfs_values.specs.declared.call.Call.TheVariants.{Remove, RemoveDirectory, Rename, ReadDirectory, FilesystemStatus, FilesystemInfo}
-use Rattle.nfs_values.specs.declared.call.Call.TheVariants.{PathConfiguration, Commit, Unsupported, Census, Grow}
+use Rattle.nfs_values.specs.declared.call.Call.TheVariants.{PathConfiguration, Commit, Unsupported, Census, Grow, Mount}
 use Rattle.nfs_values.specs.Moment.{moment_of}
+use Rattle.nfs_values.specs.Mount.{mount_call_of}
 use Rattle.nfs_values.specs.Set.{set_of, mode_of}
 use Rattle.nfs_values.specs.Unsupported.{unsupported_of}
 
@@ -30,3 +31,4 @@ call_of (Commit handle) = model.Commit handle
 call_of (Unsupported which) = model.Unsupported (unsupported_of which)
 call_of Census = model.Census
 call_of (Grow volume ranges) = model.Grow volume.0 ranges
+call_of (Mount call) = model.Mount (mount_call_of call)

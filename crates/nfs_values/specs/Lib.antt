@@ -10,6 +10,7 @@ pub mod Set
 pub mod Procedure
 pub mod Offer
 pub mod Bytes
+pub mod Mount
 pub mod Call
 pub mod Route
 pub mod Answer

@@ -4,7 +4,7 @@ use Rattle.std.specs.List.{list_any}
 use Rattle.nfs_values.specs.declared.offer.Offer.{Offer}
 use Rattle.nfs_values.specs.declared.procedure.Procedure.{Procedure}
 use Rattle.nfs_values.specs.declared.procedure.Procedure.TheVariants.{CheckAccess, ReadLink, MakeSymbolicLink, MakeDevice, MakeLink, FilesystemInfo}
-use Rattle.nfs_values.specs.declared.procedure.Procedure.TheVariants.{PathConfiguration}
+use Rattle.nfs_values.specs.declared.procedure.Procedure.TheVariants.{PathConfiguration, MountNull, Mount, ListMounts, Unmount, UnmountAll, ListExports}
 use Rattle.nfs_values.specs.Procedure.{all_procedures, numbers_of, place_of}
 
 -- whether an offer has a procedure
@@ -15,7 +15,7 @@ offers offer procedure = get_or offer.has (place_of procedure) false
 abbrev pub offers_program : Offer → ℕ → Bool
 offers_program offer program = list_any (λ p. offers offer p && ((numbers_of p).0 == program)) all_procedures
 
--- whether `replay` and `serve` offer it: all but ACCESS, FSINFO, PATHCONF and those on links and devices
+-- whether `replay` and `serve` offer it: all but ACCESS, FSINFO, PATHCONF, those on links and devices, and MOUNT
 abbrev pub is_basic : Procedure → Bool
 is_basic CheckAccess = false
 is_basic ReadLink = false
@@ -24,6 +24,12 @@ is_basic MakeDevice = false
 is_basic MakeLink = false
 is_basic FilesystemInfo = false
 is_basic PathConfiguration = false
+is_basic MountNull = false
+is_basic Mount = false
+is_basic ListMounts = false
+is_basic Unmount = false
+is_basic UnmountAll = false
+is_basic ListExports = false
 is_basic procedure = true
 
 -- the offer of `replay` and `serve`
@@ -32,7 +38,7 @@ basic = record { has = map is_basic all_procedures }
 
 -- the offer of a server that clients mount: every procedure
 abbrev pub export : Offer
-export = record { has = replicate 24 true }
+export = record { has = replicate 30 true }
 
 -- what is in it
 abbrev pub is_offered : Procedure → Bool

@@ -3,16 +3,16 @@ use Rattle.nfs_values.specs.declared.procedure.Procedure.{Procedure}
 use Rattle.nfs_values.specs.declared.procedure.Procedure.TheVariants.{Null, GetAttributes, SetAttributes, Lookup, CheckAccess, ReadLink, Read, Write, Create}
 use Rattle.nfs_values.specs.declared.procedure.Procedure.TheVariants.{MakeDirectory, MakeSymbolicLink, MakeDevice, Remove, RemoveDirectory, Rename, MakeLink}
 use Rattle.nfs_values.specs.declared.procedure.Procedure.TheVariants.{ReadDirectory, FilesystemStatus, FilesystemInfo, PathConfiguration, Commit, AdminNull}
-use Rattle.nfs_values.specs.declared.procedure.Procedure.TheVariants.{Census, Grow}
+use Rattle.nfs_values.specs.declared.procedure.Procedure.TheVariants.{Census, Grow, MountNull, Mount, ListMounts, Unmount, UnmountAll, ListExports}
 
 -- all of them
 abbrev pub all_procedures : List Procedure
 all_procedures =
     Null ∷ GetAttributes ∷ SetAttributes ∷ Lookup ∷ CheckAccess ∷ ReadLink ∷ Read ∷ Write ∷ Create ∷ MakeDirectory ∷ MakeSymbolicLink ∷ MakeDevice ∷
     Remove ∷ RemoveDirectory ∷ Rename ∷ MakeLink ∷ ReadDirectory ∷ FilesystemStatus ∷ FilesystemInfo ∷ PathConfiguration ∷ Commit ∷ AdminNull ∷
-    Census ∷ Grow ∷ []
+    Census ∷ Grow ∷ MountNull ∷ Mount ∷ ListMounts ∷ Unmount ∷ UnmountAll ∷ ListExports ∷ []
 
--- program and procedure of NFS (RFC 1813 section 3) and of the admin program (our profile)
+-- program and procedure of NFS (RFC 1813 section 3), of MOUNT (appendix I, section 5) and of the admin program (our profile)
 abbrev pub numbers_of : Procedure → ℕ × ℕ
 numbers_of Null = (100003, 0)
 numbers_of GetAttributes = (100003, 1)
@@ -38,6 +38,12 @@ numbers_of Commit = (100003, 21)
 numbers_of AdminNull = (0x20000001, 0)
 numbers_of Census = (0x20000001, 1)
 numbers_of Grow = (0x20000001, 2)
+numbers_of MountNull = (100005, 0)
+numbers_of Mount = (100005, 1)
+numbers_of ListMounts = (100005, 2)
+numbers_of Unmount = (100005, 3)
+numbers_of UnmountAll = (100005, 4)
+numbers_of ListExports = (100005, 5)
 
 -- its place among all
 abbrev pub place_of : Procedure → ℕ
@@ -65,3 +71,9 @@ place_of Commit = 20
 place_of AdminNull = 21
 place_of Census = 22
 place_of Grow = 23
+place_of MountNull = 24
+place_of Mount = 25
+place_of ListMounts = 26
+place_of Unmount = 27
+place_of UnmountAll = 28
+place_of ListExports = 29

@@ -3,6 +3,7 @@
 use crate::attributes::{Attributes, Change};
 use crate::bytes::BytesRead;
 use crate::handle::FileHandle;
+use crate::mount::{Exports, MountResults};
 use crate::name::Name;
 use crate::number::{Cookie, Fileid, VolumeNumber};
 use crate::status::Status;
@@ -128,7 +129,7 @@ pub struct VolumeCount {
 /// The results of a call, one variant for each procedure (RFC 1813 section 3.3). A failure gives
 /// none of the optional parts of its arm.
 pub enum Answer {
-    /// NULL of NFS, and of the admin program.
+    /// NULL of NFS, of the admin program and of MOUNT, and UMNT and UMNTALL.
     Null,
     GetAttributes(Result<Attributes, Status>),
     SetAttributes(Result<Change, Status>),
@@ -154,6 +155,12 @@ pub enum Answer {
     Census(Vec<VolumeCount>),
     /// Of GROW of the admin program: the volume's blocks.
     Grow(Result<u64, Status>),
+    /// Of MNT of MOUNT: the root's handle.
+    Mount(Result<MountResults, Status>),
+    /// Of DUMP of MOUNT, which lists no mounts.
+    ListMounts,
+    /// Of EXPORT of MOUNT.
+    ListExports(Exports),
 }
 
 // By hand, so that crates above have no proof of the drop of each of its parts.
@@ -180,6 +187,9 @@ impl Drop for Answer {
             Answer::Unsupported(_) => {}
             Answer::Census(_) => {}
             Answer::Grow(_) => {}
+            Answer::Mount(_) => {}
+            Answer::ListMounts => {}
+            Answer::ListExports(_) => {}
         }
     }
 }

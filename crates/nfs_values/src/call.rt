@@ -8,6 +8,7 @@ ghost use Rattle.nfs_values.specs.Route.{route_of};
 use crate::bytes::BytesToWrite;
 use crate::handle::FileHandle;
 use crate::moment::Moment;
+use crate::mount::MountCall;
 use crate::number::{Cookie, VolumeNumber};
 use crate::route::Route;
 use crate::set::{CreateMode, SetAttributes};
@@ -19,7 +20,7 @@ use crate::verifier::Verifier;
 /// How stable a WRITE is to be, and which bytes a COMMIT is of, isn't kept, since every WRITE is
 /// stable.
 pub enum Call {
-    /// NULL of NFS, and of the admin program.
+    /// NULL of NFS, of the admin program and of MOUNT.
     Null,
     GetAttributes {
         handle: FileHandle,
@@ -89,6 +90,8 @@ pub enum Call {
         volume: VolumeNumber,
         ranges: u32,
     },
+    /// A call of MOUNT, but for NULL.
+    Mount(MountCall),
 }
 
 // By hand, so that crates above have no proof of the drop of each of its parts.
@@ -139,6 +142,7 @@ impl Drop for Call {
                 volume: _,
                 ranges: _,
             } => {}
+            Call::Mount(_) => {}
         }
     }
 }
@@ -199,6 +203,7 @@ impl Call {
             Call::Unsupported(_) => Route::AtOnce,
             Call::Census => Route::Everything,
             Call::Grow { volume, .. } => Route::Aggregate { volume: *volume },
+            Call::Mount(_) => Route::AtOnce,
         }
     }
 }

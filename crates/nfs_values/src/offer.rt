@@ -9,7 +9,7 @@ use crate::procedure::Procedure;
 #[derive(Clone, Copy)]
 pub struct Offer {
     /// Of each procedure, at its place, whether it is offered.
-    has: [bool; 24],
+    has: [bool; 30],
 }
 
 impl Offer {
@@ -48,6 +48,12 @@ impl Offer {
                 true, // AdminNull
                 true, // Census
                 true, // Grow
+                false, // MountNull
+                false, // Mount
+                false, // ListMounts
+                false, // Unmount
+                false, // UnmountAll
+                false, // ListExports
             ],
         }
     }
@@ -56,7 +62,7 @@ impl Offer {
     pub fn export() -> Offer
         ensures { result ≡ export }
     {
-        Offer { has: [true; 24] }
+        Offer { has: [true; 30] }
     }
 
     /// The offer with this procedure too.

@@ -8,6 +8,9 @@ pub const NFS_PROGRAM: u32 = 100003;
 /// The program number of the admin calls (our profile).
 pub const ADMIN_PROGRAM: u32 = 0x2000_0001;
 
+/// The program number of MOUNT (RFC 1813 appendix I, section 5.1.2).
+pub const MOUNT_PROGRAM: u32 = 100005;
+
 /// A procedure, offered or not.
 #[derive(Clone, Copy)]
 pub enum Procedure {
@@ -59,6 +62,18 @@ pub enum Procedure {
     Census,
     /// GROW of the admin program: more ranges for a volume.
     Grow,
+    /// NULL of MOUNT (RFC 1813 appendix I, section 5.2.0).
+    MountNull,
+    /// MNT of MOUNT (section 5.2.1).
+    Mount,
+    /// DUMP of MOUNT (section 5.2.2).
+    ListMounts,
+    /// UMNT of MOUNT (section 5.2.3).
+    Unmount,
+    /// UMNTALL of MOUNT (section 5.2.4).
+    UnmountAll,
+    /// EXPORT of MOUNT (section 5.2.5).
+    ListExports,
 }
 
 impl Procedure {
@@ -95,12 +110,18 @@ impl Procedure {
             (ADMIN_PROGRAM, 0) => Some(Procedure::AdminNull),
             (ADMIN_PROGRAM, 1) => Some(Procedure::Census),
             (ADMIN_PROGRAM, 2) => Some(Procedure::Grow),
+            (MOUNT_PROGRAM, 0) => Some(Procedure::MountNull),
+            (MOUNT_PROGRAM, 1) => Some(Procedure::Mount),
+            (MOUNT_PROGRAM, 2) => Some(Procedure::ListMounts),
+            (MOUNT_PROGRAM, 3) => Some(Procedure::Unmount),
+            (MOUNT_PROGRAM, 4) => Some(Procedure::UnmountAll),
+            (MOUNT_PROGRAM, 5) => Some(Procedure::ListExports),
             _ => None,
         }
     }
 
     /// All of them.
-    pub(crate) const ALL: [Procedure; 24] = [
+    pub(crate) const ALL: [Procedure; 30] = [
         Procedure::Null,
         Procedure::GetAttributes,
         Procedure::SetAttributes,
@@ -125,6 +146,12 @@ impl Procedure {
         Procedure::AdminNull,
         Procedure::Census,
         Procedure::Grow,
+        Procedure::MountNull,
+        Procedure::Mount,
+        Procedure::ListMounts,
+        Procedure::Unmount,
+        Procedure::UnmountAll,
+        Procedure::ListExports,
     ];
 
     /// The number of its program.
@@ -133,6 +160,12 @@ impl Procedure {
     {
         match self {
             Procedure::AdminNull | Procedure::Census | Procedure::Grow => ADMIN_PROGRAM,
+            Procedure::MountNull
+            | Procedure::Mount
+            | Procedure::ListMounts
+            | Procedure::Unmount
+            | Procedure::UnmountAll
+            | Procedure::ListExports => MOUNT_PROGRAM,
             _ => NFS_PROGRAM,
         }
     }
@@ -140,7 +173,7 @@ impl Procedure {
     /// Its place among all of them.
     pub(crate) fn place(self) -> usize
         ensures place { result ≡ place_of self }
-        ensures within { result < 24 }
+        ensures within { result < 30 }
     {
         self as usize
     }

@@ -8,7 +8,7 @@ use Rattle.nfs_model.specs.Types.{Answer, NullDone, MountDone, DumpDone, Exports
 use Rattle.nfs_model.specs.Types.{NoEntry, Invalid, NameTooLong}
 use Rattle.nfs_model.specs.Server.{handle_bytes}
 
--- MNTPATHLEN (section 5.1.1)
+-- MNTPATHLEN (section 5.1.4)
 abbrev pub most_path : ℕ
 most_path = 1024
 
