@@ -4,7 +4,7 @@ ghost use Rattle.std.specs.Prelude.{◌≡◌, ◌+◌, ◌*◌, ◌≤◌, ◌+
 ghost use Rattle.std.specs.Prelude.{vec_len, vec_capacity};
 ghost use Rattle.std.specs.List.{range_with_len};
 ghost use Rattle.xdr.specs.Shape.{Chain, spelling};
-ghost use Rattle.nfs_model.specs.Serial.Mount.{volume_path, numbers};
+ghost use Rattle.nfs_model.specs.Serial.Mount.{volume_path};
 ghost use Rattle.nfs_types.specs.Results.{mounted_shape, mounted_value, export_shape};
 ghost use Rattle.nfs_types.specs.Results.{export_value, exports_shape};
 ghost use Rattle.nfs_types.specs.Shapes.{any_bytes};
@@ -76,7 +76,8 @@ fn write_exports(first: u32, count: u32, out: &mut Vec<u8>)
 impl Encode for Exports {
     ghost shape = { exports_shape };
 
-    ghost value = { λ e. map export_value (map volume_path (numbers e.volumes)) };
+    ghost value = { λ e. map export_value
+        (map volume_path (range_with_len 0 e.volumes)) };
 
     fn size(&self) -> usize {
         20 * self.volumes as usize + 4

@@ -1,6 +1,7 @@
 use Rattle.std.specs.Prelude.{ℕ, List, Result, Ok, Err, length, map}
+use Rattle.std.specs.List.{range_with_len}
 use Rattle.nfs_model.specs.Types as model
-use Rattle.nfs_model.specs.Serial.Mount.{volume_path, numbers}
+use Rattle.nfs_model.specs.Serial.Mount.{volume_path}
 use Rattle.nfs_model.specs.Serial.Absent.{absent_in}
 use Rattle.nfs_values.specs.declared.status.Status.{Status}
 use Rattle.nfs_values.specs.declared.attributes.Attributes.{Attributes}
@@ -98,7 +99,7 @@ volume_mounted r = model.MountDone r.handle
 
 -- the paths of volumes
 abbrev pub volumes_exported : Exports → model.Answer
-volumes_exported exports = model.ExportsDone (map volume_path (numbers exports.volumes))
+volumes_exported exports = model.ExportsDone (map volume_path (range_with_len 0 exports.volumes))
 
 -- ---- results, as the model has them
 

@@ -30,13 +30,14 @@ use Rattle.nfs_model.specs.Serial.Fsstat.{fsstat}
 use Rattle.nfs_model.specs.Serial.Commit.{commit}
 use Rattle.nfs_model.specs.Serial.Census.{count_of, census}
 use Rattle.nfs_model.specs.Serial.Grow.{Grown, grow_volume, grow}
+use Rattle.nfs_model.specs.Serial.Mount.{mount}
 use Rattle.nfs_model.specs.Serial.Step.{Step, stay, placed, on, on_two, serve, serial}
 use Rattle.nfs_model.specs.Serial.Absent.{absent_in, absent_parts}
 use Rattle.nfs_model.specs.Serial.AtOnce.{answer_of_two, answer_without_home}
 use Rattle.rpc_msg.specs.Replies.{reply_record}
 use Rattle.rpc_msg.specs.Room.{lookup_room, read_room, readdir_room, change_room, made_room, results_room, reply_room, IsRoomy}
 use Rattle.rpc_msg.proofs.AnswerSizes.{Takes, getattr_size, setattr_size, lookup_size, access_size, made_size, gone_size, rename_size, fsstat_size, fsinfo_size, pathconf_size}
-use Rattle.rpc_msg.proofs.AnswerSizes.{grow_size, failed_size}
+use Rattle.rpc_msg.proofs.AnswerSizes.{grow_size, mount_size, failed_size}
 use Rattle.rpc_msg.proofs.AnswerSizes.{write_size, commit_size, read_size, entries_size, readdir_size, fitting_fits, census_size, success_size}
 
 -- ---- what a call on a volume comes to
@@ -429,6 +430,8 @@ serve_fits volumes server (model.Unsupported which) who moment r =
     failed_fits 16 volumes server model.NotSupported (absent_in which) (few_absent which) r
 serve_fits volumes server model.Census who moment r = stay_fits (4 + 20 * volumes) volumes server (census server) (census_fits volumes server r) r
 serve_fits volumes server (model.Grow volume ranges) who moment r = grow_fits volumes server volume ranges r
+serve_fits volumes server (model.Mount call) who moment r =
+    stay_fits 204 volumes server (mount (length server.volumes) call) (mount_size (length server.volumes) call) r
 
 serial_fits : (volumes : ℕ) (server : Server) (call : model.Call) (who : model.Credential) (moment : model.Moment) (starved : Bool) → IsRoomy volumes server
     → StepFits (results_room volumes call) volumes (serial server (model.Ask call who) moment starved)
@@ -479,6 +482,7 @@ answer_at_once volumes layout model.Null = record { bytes = omega arith }
 answer_at_once volumes layout (model.Rename from from_name to to_name) = two_at_once (named_by layout from) (named_by layout to)
 answer_at_once volumes layout model.Census = record { bytes = omega arith }
 answer_at_once volumes layout (model.Grow volume ranges) = at_once volumes (model.Grow volume ranges) model.NoEntry 0 (omega arith)
+answer_at_once volumes layout (model.Mount call) = mount_size (length layout.volumes) call
 answer_at_once volumes layout (model.Unsupported which) =
     at_once volumes (model.Unsupported which) model.NotSupported (absent_in which) (few_absent which)
 answer_at_once volumes layout call = at_once volumes call model.BadHandle (absent_parts call) (omega arith)

@@ -93,9 +93,10 @@ credential_at flavor size bytes =
 
 -- ---- 6. the procedure (section 9); before it stands verf, an opaque_auth (section 8.2)
 
--- the version of a program: NFS (RFC 1813 section 2.2) and the admin program (our profile)
+-- the version of a program: NFS (RFC 1813 section 2.2), MOUNT (appendix I, section 5.1.2) and the admin program (our profile)
 abbrev pub known_version : ℕ → Option ℕ
-known_version program = if program == 100003 then Some 3 else if program == 536870913 then Some 1 else None
+known_version program =
+    if program == 100003 then Some 3 else if program == 100005 then Some 3 else if program == 536870913 then Some 1 else None
 
 -- where a procedure of it is offered
 abbrev pub version_by : Offer → ℕ → Option ℕ

@@ -57,6 +57,7 @@ results_room volumes (model.Commit handle) = 4 + change_room + 8
 results_room volumes (model.Unsupported which) = 4 + 3 * 4
 results_room volumes model.Census = 4 + 20 * volumes
 results_room volumes (model.Grow volume ranges) = 4 + 8
+results_room volumes (model.Mount call) = 4 + 20 * 10
 
 -- the most bytes of the record of the reply to a call, where there are so many volumes
 abbrev pub reply_room : ℕ → model.Call → ℕ

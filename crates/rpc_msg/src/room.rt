@@ -15,6 +15,9 @@ pub const REFUSAL_ROOM: usize = 36;
 /// The attributes of a node before and after, each behind its flag (RFC 1813 section 2.6).
 const CHANGE_ROOM: usize = 28 + 88;
 
+/// The most volumes that EXPORT of MOUNT tells, each in 20 bytes.
+const MOST_EXPORTS: usize = 10;
+
 /// Bytes with their padding.
 fn padded_size(count: u32) -> usize
     ensures { result ≡ padded_size count }
@@ -47,6 +50,7 @@ fn results_room(call: &Call, volumes: u32) -> usize
         Call::Unsupported(_) => 4 + 3 * 4,
         Call::Census => 4 + 20 * volumes as usize,
         Call::Grow { .. } => 4 + 8,
+        Call::Mount(_) => 4 + 20 * MOST_EXPORTS,
     }
 }
 

@@ -1,6 +1,6 @@
 -- MOUNT version 3 (RFC 1813 appendix I, section 5.2). What is exported is the root of each volume.
 use Rattle.std.specs.Prelude.{ℕ, ◌+◌, ◌==◌, ◌&&◌, ◌||◌, Bool, true, false, List, [], ◌∷◌, length, map}
-use Rattle.std.specs.Prelude.{Option, Some, None, nat_lt, not, if◌then◌else◌}
+use Rattle.std.specs.Prelude.{Option, Some, None, nat_lt, not, min, if◌then◌else◌}
 use Rattle.std.specs.List.{find, range_with_len}
 use Rattle.nfs_model.specs.Names.{same_name}
 use Rattle.nfs_model.specs.Types.{MountCall, Mnt, Dump, Exports, Unmount}
@@ -25,14 +25,17 @@ abbrev pub is_absolute : List ℕ → Bool
 is_absolute [] = false
 is_absolute (c ∷ cs) = c == 47
 
--- the numbers of so many volumes
-abbrev pub numbers : ℕ → List ℕ
-numbers volumes = range_with_len 0 volumes
+-- the volumes that are exported: of so many those whose number is one digit
+abbrev pub exported : ℕ → List ℕ
+exported volumes = range_with_len 0 (min volumes 10)
 
--- which of so many volumes a path names: each by its own, and the first by `/` too (our profile)
+-- whether a path names a volume: its own does, and of the first `/` too (our profile)
+abbrev pub names_volume : List ℕ → ℕ → Bool
+names_volume path volume = same_name path (volume_path volume) || (same_name path root_path && (volume == 0))
+
+-- which of so many volumes a path names
 abbrev pub mounted : ℕ → List ℕ → Option ℕ
-mounted volumes path =
-    find (λ v. same_name path (volume_path v) || (same_name path root_path && (v == 0))) (numbers volumes)
+mounted volumes path = find (names_volume path) (exported volumes)
 
 -- the handle of a volume's root, or NOENT
 abbrev pub root_of : Option ℕ → Answer
@@ -51,5 +54,5 @@ mnt volumes path =
 abbrev pub mount : ℕ → MountCall → Answer
 mount volumes (Mnt path) = mnt volumes path
 mount volumes Dump = DumpDone
-mount volumes Exports = ExportsDone (map volume_path (numbers volumes))
+mount volumes Exports = ExportsDone (map volume_path (exported volumes))
 mount volumes Unmount = NullDone
