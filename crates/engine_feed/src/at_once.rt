@@ -8,6 +8,7 @@ ghost use Rattle.nfs_values.specs.Answer.{answer_of};
 ghost use Rattle.nfs_values.specs.Call.{call_of};
 ghost use Rattle.nfs_values.specs.declared.answer.Answer.TheVariants.{Rename};
 
+use crate::mounting::answer_mount;
 use affinity::Layout;
 use affinity::homes::named_by;
 use nfs_values::{Answer, Call, FileHandle, Status};
@@ -41,6 +42,7 @@ pub fn answer_at_once(alloc: Global, call: &Call, layout: &Layout) -> Answer
         Call::Unsupported(which) => Answer::Unsupported(*which),
         Call::Census => Answer::Census(Vec::new(alloc)),
         Call::Grow { .. } => Answer::Grow(Err(Status::NoEntry)),
+        Call::Mount(call) => answer_mount(call, layout),
     }
 }
 

@@ -10,7 +10,7 @@ ghost use Rattle.nfs_types.specs.Results.{export_value, exports_shape};
 ghost use Rattle.nfs_types.specs.Shapes.{any_bytes};
 
 use crate::encode::{Encode, write_absent};
-use nfs_values::{Exports, MountResults};
+use nfs_values::{Exports, MountResults, export_path};
 use xdr::put_opaque;
 
 /// AUTH_SYS and AUTH_NONE (RFC 5531 section 8.2).
@@ -35,14 +35,6 @@ impl Encode for MountResults {
     }
 }
 
-/// The path of a volume, of at most eight.
-fn path_of(volume: u32) -> [u8; 5]
-    requires { volume + 1 ≤ 8 }
-    ensures { result ≡ volume_path volume }
-{
-    [b'/', b'v', b'o', b'l', b'0' + volume as u8]
-}
-
 /// The export of a volume, which has no groups: everybody may mount it.
 fn write_export(volume: u32, out: &mut Vec<u8>)
     requires few { volume + 1 ≤ 8 }
@@ -52,7 +44,7 @@ fn write_export(volume: u32, out: &mut Vec<u8>)
     ensures len { vec_len out.new ≡ vec_len out.old + 16 }
     ensures capacity { vec_capacity out.old ≤ vec_capacity out.new }
 {
-    put_opaque(out, &path_of(volume)).unwrap();
+    put_opaque(out, &export_path(volume)).unwrap();
     write_absent(out);
 }
 

@@ -35,7 +35,7 @@ pub use credential::{Credential, GroupList};
 pub use handle::{FileHandle, Named};
 pub use limits::{BLOCK_BYTES, COUNT_LIMIT, NANOSECONDS_OF_A_SECOND, SPAN_BYTES};
 pub use moment::Moment;
-pub use mount::{Exports, MountCall, MountResults};
+pub use mount::{Exports, MountCall, MountResults, export_path};
 pub use name::Name;
 pub use number::{BlockNumber, ConnectionNumber, Cookie, Fileid, VolumeNumber, WorkerNumber};
 pub use offer::Offer;

@@ -1,6 +1,7 @@
 //! What MOUNT asks and tells (RFC 1813 appendix I).
 
-ghost use Rattle.std.specs.Prelude.{◌≤◌};
+ghost use Rattle.std.specs.Prelude.{◌≡◌, ◌≤◌, ◌<◌};
+ghost use Rattle.nfs_model.specs.Serial.Mount.{volume_path};
 
 use crate::handle::FileHandle;
 use crate::name::Name;
@@ -41,4 +42,11 @@ pub struct MountResults {
 pub struct Exports {
     pub volumes: u32,
     pub ghost few: { volumes ≤ 8 },
+}
+
+/// The path of a volume: `/vol` and the digit of its number (our profile).
+pub fn export_path(volume: u32) -> [u8; 5]
+    ensures { volume < 10 → result ≡ volume_path volume }
+{
+    [b'/', b'v', b'o', b'l', b'0' + (volume % 10) as u8]
 }

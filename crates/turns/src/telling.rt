@@ -33,6 +33,9 @@ fn has_memory(answer: &Answer) -> bool {
         Answer::Commit(_) => false,
         Answer::Unsupported(_) => false,
         Answer::Grow(_) => false,
+        Answer::Mount(_) => false,
+        Answer::ListMounts => false,
+        Answer::ListExports(_) => false,
     }
 }
 
@@ -128,6 +131,7 @@ fn has_names(call: &Call) -> bool {
             volume: _,
             ranges: _,
         } => false,
+        Call::Mount(_) => true,
     }
 }
 
