@@ -27,8 +27,8 @@ ghost use Rattle.nfs_types.specs.Arguments.{census_call, grow_call};
 use crate::bad::Bad;
 use crate::decode::{DeviceToMake, StableHow, decode_all};
 use nfs_values::{
-    BytesToWrite, Call, Cookie, CreateMode, FileHandle, Moment, MountCall, Name, Procedure, SetAttributes,
-    Target, UnsupportedProcedure, Verifier, VolumeNumber,
+    BytesToWrite, Call, Cookie, CreateMode, FileHandle, Moment, MountCall, Name, Procedure,
+    SetAttributes, Target, UnsupportedProcedure, Verifier, VolumeNumber,
 };
 use std::alloc::Global;
 use xdr::Fault;
