@@ -18,9 +18,10 @@ pub use nfs_values::{
     ADMIN_PROGRAM, AccessResults, Answer, Attributes, AuthFault, BlockNumber, BytesRead,
     BytesToWrite, Call, Change, CommitResults, ConnectionNumber, Cookie, CreateMode, Credential,
     DirectoryEntry, Exports, FileHandle, FileKind, Fileid, FilesystemInfoResults,
-    FilesystemStatusResults, GroupList, LookupResults, MakeResults, Moment, NFS_PROGRAM, Name,
-    Named, PathConfigurationResults, PriorAttributes, Procedure, ReadDirectoryResults, ReadResults,
-    Refusal, RenameResults, Reply, SetAttributes, SetTime, Status, Target, UnsupportedProcedure,
-    Verifier, VolumeCount, VolumeNumber, WorkerNumber, WriteResults,
+    FilesystemStatusResults, GroupList, LookupResults, MOUNT_PROGRAM, MakeResults, Moment,
+    MountCall, MountResults, NFS_PROGRAM, Name, Named, PathConfigurationResults, PriorAttributes,
+    Procedure, ReadDirectoryResults, ReadResults, Refusal, RenameResults, Reply, SetAttributes,
+    SetTime, Status, Target, UnsupportedProcedure, Verifier, VolumeCount, VolumeNumber,
+    WorkerNumber, WriteResults,
 };
 pub use results::{encode_result, size_of_result};
