@@ -139,13 +139,43 @@ fn taken_ports_are_told(rt: HostRuntime) {
 #[test]
 fn people_are_told_in_words(rt: HostRuntime) {
     let fault = b"fault 60\n".as_slice();
-    tells(rt, &["filer"], fault, b"error: 'filer' requires a subcommand");
-    tells(rt, &["filer", "replay"], fault, b"error: the following required arguments");
-    tells(rt, &["filer", "serve", "--help"], fault, b"Serves as many connections");
+    tells(
+        rt,
+        &["filer"],
+        fault,
+        b"error: 'filer' requires a subcommand",
+    );
+    tells(
+        rt,
+        &["filer", "replay"],
+        fault,
+        b"error: the following required arguments",
+    );
+    tells(
+        rt,
+        &["filer", "serve", "--help"],
+        fault,
+        b"Serves as many connections",
+    );
     let line = serve_line("localhost:0", ["1", "1", "1"]);
-    tells(rt, &line, fault, b"error: the value for '--listen <ADDR>' is no address");
+    tells(
+        rt,
+        &line,
+        fault,
+        b"error: the value for '--listen <ADDR>' is no address",
+    );
     let line = serve_line("127.0.0.1:0", ["9", "1", "1"]);
-    tells(rt, &line, fault, b"error: invalid value '9' for '--volumes <N>'");
+    tells(
+        rt,
+        &line,
+        fault,
+        b"error: invalid value '9' for '--volumes <N>'",
+    );
     let replay = ["filer", "replay", "/no/such/file"];
-    tells(rt, &replay, b"fault 61\n", b"filer replay /no/such/file: the file can't be read\n");
+    tells(
+        rt,
+        &replay,
+        b"fault 61\n",
+        b"filer replay /no/such/file: the file can't be read\n",
+    );
 }

@@ -9,4 +9,8 @@ pub enum Command<'a> {
     Replay { path: &'a str },
     /// Serve the connections of a listener.
     Serve(Options),
+    /// Serve clients that mount.
+    Export(Options),
+    /// Print the version.
+    Version,
 }

@@ -2,6 +2,7 @@
 #![tactic(auto)]
 
 mod choice;
+mod export_words;
 pub mod replay;
 mod running;
 mod words;

@@ -1,6 +1,7 @@
 //! The command line.
 
 use crate::choice::Command;
+use crate::export_words::{self, export};
 use crate::replay::ProgramFault;
 use clap::error::ErrorKind;
 use clap::{Arg, ArgAction, ArgMatches, Error, value_parser};
@@ -23,7 +24,8 @@ const MOST_CONNECTIONS: i64 = 1_000_000;
 const EXAMPLES: &str = "\
 Examples:
   filer replay script.txt
-  filer serve --listen 127.0.0.1:2049 --volumes 1 --workers 2 --connections 1";
+  filer serve --listen 127.0.0.1:2049 --volumes 1 --workers 2 --connections 1
+  filer export --listen 127.0.0.1:2049";
 
 const REPLAY_EXAMPLE: &str = "\
 Example:
@@ -37,8 +39,8 @@ Whoever can reach the address may do everything: bind to 127.0.0.1 or a private 
 
 /// What is told where an address can't be read.
 const ADDRESS_HELP: &str = "\
-error: the value for '--listen <ADDR>' is no address: an IP address and a port are wanted, as in
-  filer serve --listen 127.0.0.1:2049 --volumes 1 --workers 2 --connections 1
+error: the value for '--listen <ADDR>' is no address, or one for '--allow <NETWORK>' is no network:
+an IP address and a port are wanted, as 127.0.0.1:2049, and at most 16 networks, as 10.0.0.0/8
 
 For more information, try '--help'.
 ";
@@ -75,15 +77,30 @@ fn serve<'a>(alloc: Global) -> Result<clap::Command<'a>, AllocError> {
     clap::Command::new(alloc, "serve")
         .about("Serves as many connections over TCP as are asked for, and ends with the last")
         .after_help(SERVE_EXAMPLE)
-        .arg(option(alloc, "listen", "ADDR", "Address and port, as 127.0.0.1:2049"))?
+        .arg(option(
+            alloc,
+            "listen",
+            "ADDR",
+            "Address and port, as 127.0.0.1:2049",
+        ))?
         .arg(number(alloc, "volumes", MOST_VOLUMES, "Volumes, 1 to 8"))?
-        .arg(number(alloc, "workers", MOST_WORKERS, "Threads that serve, 1 to 64"))?
+        .arg(number(
+            alloc,
+            "workers",
+            MOST_WORKERS,
+            "Threads that serve, 1 to 64",
+        ))?
         .arg(number(
             alloc,
             "connections",
             MOST_CONNECTIONS,
             "Connections until it ends, 1 to 1000000",
         ))
+}
+
+/// `version`.
+fn version<'a>(alloc: Global) -> clap::Command<'a> {
+    clap::Command::new(alloc, "version").about("Prints the version")
 }
 
 /// The program's command line, as it is declared.
@@ -93,7 +110,9 @@ fn declared<'a>(alloc: Global) -> Result<clap::Command<'a>, AllocError> {
         .after_help(EXAMPLES)
         .subcommand_required(true)
         .subcommand(replay(alloc)?)?
-        .subcommand(serve(alloc)?)
+        .subcommand(serve(alloc)?)?
+        .subcommand(export(alloc)?)?
+        .subcommand(version(alloc))
 }
 
 /// The script's path.
@@ -117,6 +136,8 @@ fn chosen<'a>(matches: &ArgMatches<'a>) -> Option<Command<'a>> {
     match matches.subcommand() {
         Some(("replay", inner)) => path_in(inner),
         Some(("serve", inner)) => options_in(inner),
+        Some(("export", inner)) => export_words::options_in(inner).map(Command::Export),
+        Some(("version", _)) => Some(Command::Version),
         _ => None,
     }
 }

@@ -8,6 +8,7 @@ ghost use Rattle.server.specs.Queues.{IsNewQueue, IsReadyLane};
 
 use crate::fault::ServerFault;
 use crate::options::MOST_VOLUMES;
+use crate::plan::VolumePlan;
 use affinity::{AggregateSpec, Layout, VolumeSpec};
 use lanes::{Device, Lane};
 use nfs_values::Offer;
@@ -17,18 +18,22 @@ use std::sync::Arc;
 use turns::shared_waiting::{Pass, SharedWaiting};
 use turns::{Envelope, Filer, Worker};
 
-/// The ranges by which the volumes may grow.
-const SPARE: u32 = 16;
-
-/// The ranges of each volume.
-const RANGES: u32 = 4;
-
-/// So many volumes on one aggregate.
-pub(crate) fn layout_of(alloc: Global, volumes: usize) -> Result<Layout, ServerFault>
+/// So many volumes of a plan on one aggregate.
+pub(crate) fn layout_of(
+    alloc: Global,
+    volumes: usize,
+    plan: VolumePlan,
+) -> Result<Layout, ServerFault>
     requires { volumes ≤ MOST_VOLUMES }
 {
-    let aggregates = [AggregateSpec { spare: SPARE }];
-    let specifications = [VolumeSpec::new(0, RANGES); MOST_VOLUMES];
+    let aggregates = [AggregateSpec { spare: plan.spare }];
+    let specification = VolumeSpec {
+        aggregate: 0,
+        ranges: plan.ranges,
+        stripes: plan.stripes,
+        mib: plan.mib,
+    };
+    let specifications = [specification; MOST_VOLUMES];
     match Layout::new(alloc, &aggregates, &specifications[..volumes]) {
         Ok(layout) => Ok(layout),
         Err(_fault) => Err(ServerFault::NoMemory),

@@ -2,6 +2,8 @@
 
 ghost use Rattle.std.specs.Prelude.{◌≤◌, ◌<◌};
 
+use crate::peers::Peers;
+use crate::plan::VolumePlan;
 use nfs_values::Offer;
 use std::net::SocketAddr;
 
@@ -11,8 +13,8 @@ pub(crate) const MOST_VOLUMES: usize = 8;
 /// The most workers.
 pub(crate) const MOST_WORKERS: usize = 64;
 
-/// Where a server listens, how many volumes (1 to 8), workers (1 to 64) and connections it has, and
-/// what it offers.
+/// Where a server listens, how many volumes (1 to 8), workers (1 to 64) and connections it has, what
+/// it offers and to whom, and what its volumes have at the start.
 #[derive(Clone, Copy)]
 pub struct Options {
     pub address: SocketAddr,
@@ -20,6 +22,8 @@ pub struct Options {
     pub workers: usize,
     pub connections: u64,
     pub offer: Offer,
+    pub peers: Peers,
+    pub plan: VolumePlan,
     pub ghost some_volume: { 0 < volumes },
     pub ghost volumes_fit: { volumes ≤ 8 },
     pub ghost some_worker: { 0 < workers },
@@ -29,10 +33,11 @@ pub struct Options {
 impl Options {
     ghost use Rattle.std.specs.Prelude.{◌≡◌, IfNone, IfSome};
     ghost use Rattle.nfs_values.specs.Offer.{basic};
-    ghost use Rattle.server.specs.Asked.{IsInRange};
+    ghost use Rattle.server.specs.Asked.{basic_plan, IsInRange};
+    ghost use Rattle.server.specs.declared.peers.Peers.TheVariants.{All};
 
-    /// These options, where the numbers are in their ranges, and else none. The offer is the basic
-    /// one.
+    /// These options, where the numbers are in their ranges, and else none. The offer and the plan
+    /// are the basic ones, and everybody is served.
     pub fn new(
         address: SocketAddr,
         volumes: usize,
@@ -41,7 +46,8 @@ impl Options {
     ) -> Option<Options>
         ensures given { IfSome result (λ options. options.address ≡ address
             × options.volumes ≡ volumes × options.workers ≡ workers
-            × options.connections ≡ connections × options.offer ≡ basic) }
+            × options.connections ≡ connections × options.offer ≡ basic
+            × options.plan ≡ basic_plan × options.peers ≡ All) }
         ensures in_range { IfSome result (λ options. IsInRange volumes workers) }
         ensures refused { IfNone result (IsInRange volumes workers → ⊥) }
     {
@@ -57,6 +63,8 @@ impl Options {
             workers,
             connections,
             offer: Offer::basic(),
+            peers: Peers::All,
+            plan: VolumePlan::basic(),
         })
     }
 
@@ -66,6 +74,23 @@ impl Options {
     {
         let mut options = self;
         options.offer = offer;
+        options
+    }
+    /// The same options, to serve these peers alone.
+    pub fn with_peers(self, peers: Peers) -> Options
+        ensures { result ≡ record self { peers = peers } }
+    {
+        let mut options = self;
+        options.peers = peers;
+        options
+    }
+
+    /// The same options, with volumes of another plan.
+    pub fn with_plan(self, plan: VolumePlan) -> Options
+        ensures { result ≡ record self { plan = plan } }
+    {
+        let mut options = self;
+        options.plan = plan;
         options
     }
 }

@@ -14,7 +14,7 @@ ghost use Rattle.server.specs.Threads.{AllServe, AreThreadsOf, IsTaskFor};
 ghost use Rattle.server.specs.declared.socket.Socket as sockets;
 ghost use Rattle.turns.specs.declared.shared.Filer as filers;
 
-use crate::accepting::accept_all;
+use crate::accepting::{accept_all, accept_for_ever};
 use crate::common::Common;
 use crate::crew::{Mail, join_all, start_all};
 use crate::ending::{FilerEnd, end};
@@ -90,7 +90,10 @@ where
     ensures offer { IfOk result (λ r. AllServe options.now.offer r.threads.items) }
     ensures count { IfOk result (λ r. length r.threads.items ≡ options.now.workers) }
 {
-    let (layout, workers) = (layout_of(alloc, options.volumes)?, options.workers);
+    let (layout, workers) = (
+        layout_of(alloc, options.volumes, options.plan)?,
+        options.workers,
+    );
     let lanes = Vec::with_capacity(alloc, workers)?;
     let mut threads = Vec::with_capacity(alloc, workers)?;
     let mut tasks = Vec::with_capacity(alloc, workers)?;
@@ -203,4 +206,41 @@ where
     let end = run(&rt, listener, options.connections, running, out)?;
     let count = end.unfinished();
     writeln!(out, "left {count}").map_err(|_| ServerFault::Output)
+}
+
+/// Serves the connections of a listener for as long as the program runs: prints `listening` and the
+/// address that it is bound to, and serves the peers that the options name. It ends where it can't
+/// begin.
+pub fn export<R, W>(
+    rt: R,
+    alloc: Global,
+    listener: &TcpListener,
+    options: &Options,
+    out: &mut W,
+) -> Result<(), ServerFault>
+where
+    R: Threads + Wait + Clock + Net + Copy + Drop + Send + 'static,
+    W: Write,
+{
+    let running = start(rt, alloc, options)?;
+    let Running {
+        filer: _filer,
+        mail,
+        threads,
+        lanes,
+        room: _,
+    } = running;
+    let printed = print_address(listener, out);
+    if printed.is_ok() {
+        accept_for_ever(
+            &rt,
+            listener,
+            &options.peers,
+            &mail.boxes,
+            &mail.common.ends,
+        );
+    }
+    mail.stop();
+    let _lanes = join_all(&rt, threads, lanes);
+    printed
 }
