@@ -178,9 +178,9 @@ fn data_stays_in_its_record(rt: HostRuntime) {
 
 #[test]
 fn by_number(rt: HostRuntime) {
-    // LOOKUP, and READDIRPLUS (RFC 1813 section 3.3.17), which isn't read
+    // LOOKUP, and 22, the number of no procedure (RFC 1813 section 3.3)
     holds(&rt, fault_in(&rt, 3, &TARGET) == 0);
-    holds(&rt, fault_in(&rt, 17, &TARGET) == 3);
+    holds(&rt, fault_in(&rt, 22, &TARGET) == 3);
 }
 
 /// The handle 7.
@@ -250,6 +250,18 @@ fn links_are_read_and_not_supported(rt: HostRuntime) {
     // a link without its name
     let nameless = joined(&rt, &[&HANDLE, &HANDLE]);
     holds(&rt, fault_in(&rt, 15, &nameless) == 1);
+}
+
+#[test]
+fn pages_with_attributes_are_read_and_not_supported(rt: HostRuntime) {
+    let plus = UnsupportedProcedure::ReadDirectoryPlus;
+    // cookie 0, verifier 0, dircount 512 and maxcount 8192
+    let counts = [0, 0, 2, 0, 0, 0, 0x20, 0];
+    let parts: [&[u8]; 3] = [&HANDLE, &[0; 16], &counts];
+    is_unsupported(&rt, Procedure::ReadDirectoryPlus, &parts, plus);
+    // without maxcount
+    let cut = joined(&rt, &[&HANDLE, &[0; 16], &[0, 0, 2, 0]]);
+    holds(&rt, fault_in(&rt, 17, &cut) == 1);
 }
 
 #[test]

@@ -62,11 +62,10 @@ fn is_read(rt: &(impl Abort + AllocGlobal), offer: Offer, procedure: u32) -> boo
 #[test]
 fn offers(rt: HostRuntime) {
     for number in 0..24 {
-        // READDIRPLUS alone isn't offered by a server that clients mount
-        let is_export = number != 17 && number < 22;
+        let is_export = number < 22;
         holds(&rt, is_read(&rt, Offer::export(), number) == is_export);
-        // ACCESS, READLINK, SYMLINK, MKNOD, LINK, FSINFO and PATHCONF are its own
-        let is_basic = is_export && !matches!(number, 4 | 5 | 10 | 11 | 15 | 19 | 20);
+        // ACCESS, READLINK, SYMLINK, MKNOD, LINK, READDIRPLUS, FSINFO and PATHCONF are its own
+        let is_basic = is_export && !matches!(number, 4 | 5 | 10 | 11 | 15 | 17 | 19 | 20);
         holds(&rt, is_read(&rt, Offer::basic(), number) == is_basic);
     }
 }

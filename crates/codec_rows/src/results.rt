@@ -217,4 +217,5 @@ fn what_is_not_supported_says_so(rt: HostRuntime) {
     leaves_out(&rt, UnsupportedProcedure::MakeSymbolicLink, 2);
     leaves_out(&rt, UnsupportedProcedure::MakeDevice, 2);
     leaves_out(&rt, UnsupportedProcedure::MakeLink, 3);
+    leaves_out(&rt, UnsupportedProcedure::ReadDirectoryPlus, 1);
 }

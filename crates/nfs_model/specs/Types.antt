@@ -41,13 +41,14 @@ pub data CreateMode : Type 0 where
   Guarded : (set : SetAttributes) → CreateMode
   Exclusive : (verifier : List ℕ) → CreateMode
 
--- the procedures on links and special devices (RFC 1813 sections 3.3.5, 3.3.10, 3.3.11 and 3.3.15),
--- none of which is supported (our profile)
+-- the procedures on links and special devices (RFC 1813 sections 3.3.5, 3.3.10, 3.3.11 and 3.3.15), and
+-- READDIRPLUS (section 3.3.17): none of them is supported (our profile)
 pub data UnsupportedProcedure : Type 0 where
   Readlink : UnsupportedProcedure
   Symlink : UnsupportedProcedure
   Mknod : UnsupportedProcedure
   Link : UnsupportedProcedure
+  Readdirplus : UnsupportedProcedure
 
 -- What the procedures of MOUNT ask that tell or find something (RFC 1813 appendix I, section 5.2). A
 -- path is the bytes that came.

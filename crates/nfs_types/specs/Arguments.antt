@@ -8,7 +8,7 @@ use Rattle.nfs_model.specs.Types as model
 use Rattle.nfs_values.specs.declared.procedure.Procedure.{Procedure}
 use Rattle.nfs_values.specs.declared.procedure.Procedure.TheVariants.{Null, GetAttributes, SetAttributes, Lookup, CheckAccess, ReadLink, Read, Write, Create}
 use Rattle.nfs_values.specs.declared.procedure.Procedure.TheVariants.{MakeDirectory, MakeSymbolicLink, MakeDevice, Remove, RemoveDirectory, Rename, MakeLink}
-use Rattle.nfs_values.specs.declared.procedure.Procedure.TheVariants.{ReadDirectory, FilesystemStatus, FilesystemInfo, PathConfiguration, Commit, AdminNull}
+use Rattle.nfs_values.specs.declared.procedure.Procedure.TheVariants.{ReadDirectory, ReadDirectoryPlus, FilesystemStatus, FilesystemInfo, PathConfiguration, Commit, AdminNull}
 use Rattle.nfs_values.specs.declared.procedure.Procedure.TheVariants.{Census, Grow, MountNull, Mount, ListMounts, Unmount, UnmountAll, ListExports}
 use Rattle.nfs_values.specs.declared.target.Target.{Target}
 use Rattle.nfs_types.specs.declared.bad.Bad.{Bad}
@@ -60,6 +60,10 @@ renaming_shape = target_shape & target_shape
 abbrev pub listing_shape : Shape
 listing_shape = handle_shape & Hyper & verifier_shape & Word
 
+-- READDIRPLUS3args (section 3.3.17): dir, cookie, cookieverf, dircount and maxcount
+abbrev pub listing_plus_shape : Shape
+listing_plus_shape = handle_shape & Hyper & verifier_shape & Word & Word
+
 -- GROW (our profile): volume and ranges
 abbrev pub growing_shape : Shape
 growing_shape = Word & Word
@@ -86,6 +90,7 @@ arguments_shape RemoveDirectory = target_shape
 arguments_shape Rename = renaming_shape
 arguments_shape MakeLink = linking_shape
 arguments_shape ReadDirectory = listing_shape
+arguments_shape ReadDirectoryPlus = listing_plus_shape
 arguments_shape FilesystemStatus = handle_shape
 arguments_shape FilesystemInfo = handle_shape
 arguments_shape PathConfiguration = handle_shape
@@ -153,6 +158,9 @@ rename_call v = model.Rename v.0.0 v.0.1 v.1.0 v.1.1
 abbrev pub link_call : Value linking_shape → model.Call
 link_call v = model.Unsupported model.Link
 
+abbrev pub readdirplus_call : Value listing_plus_shape → model.Call
+readdirplus_call v = model.Unsupported model.Readdirplus
+
 abbrev pub readdir_call : Value listing_shape → model.Call
 readdir_call v = model.Readdir v.0 v.1.0 v.1.1.0 v.1.1.1
 
@@ -207,6 +215,7 @@ call_from RemoveDirectory = rmdir_call
 call_from Rename = rename_call
 call_from MakeLink = link_call
 call_from ReadDirectory = readdir_call
+call_from ReadDirectoryPlus = readdirplus_call
 call_from FilesystemStatus = fsstat_call
 call_from FilesystemInfo = fsinfo_call
 call_from PathConfiguration = pathconf_call
@@ -259,6 +268,7 @@ asked RemoveDirectory bytes = asked_by target_shape rmdir_call bytes
 asked Rename bytes = asked_by renaming_shape rename_call bytes
 asked MakeLink bytes = asked_by linking_shape link_call bytes
 asked ReadDirectory bytes = asked_by listing_shape readdir_call bytes
+asked ReadDirectoryPlus bytes = asked_by listing_plus_shape readdirplus_call bytes
 asked FilesystemStatus bytes = asked_by handle_shape fsstat_call bytes
 asked FilesystemInfo bytes = asked_by handle_shape fsinfo_call bytes
 asked PathConfiguration bytes = asked_by handle_shape pathconf_call bytes

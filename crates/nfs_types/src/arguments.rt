@@ -20,6 +20,7 @@ ghost use Rattle.nfs_types.specs.Arguments.{growing_shape, renaming_shape, null_
 ghost use Rattle.nfs_types.specs.Arguments.{setattr_call, lookup_call, read_call, write_call};
 ghost use Rattle.nfs_types.specs.Arguments.{create_call, mkdir_call, remove_call, rmdir_call};
 ghost use Rattle.nfs_types.specs.Arguments.{rename_call, readdir_call, fsstat_call, commit_call};
+ghost use Rattle.nfs_types.specs.Arguments.{listing_plus_shape, readdirplus_call};
 ghost use Rattle.nfs_types.specs.Arguments.{path_shape, mnt_call, dump_call, umnt_call};
 ghost use Rattle.nfs_types.specs.Arguments.{umntall_call, export_call};
 ghost use Rattle.nfs_types.specs.Arguments.{census_call, grow_call};
@@ -228,6 +229,15 @@ fn read_directory(bytes: &[u8]) -> Result<Call, Bad>
     })
 }
 
+/// READDIRPLUS (RFC 1813 section 3.3.17), which isn't supported.
+fn read_directory_plus(bytes: &[u8]) -> Result<Call, Bad>
+    ensures { Makes call_of false result
+        (asked_by listing_plus_shape readdirplus_call bytes.now) }
+{
+    let _page = decode_all::<(FileHandle, (Cookie, (Verifier, (u32, u32))))>(bytes)?;
+    Ok(Call::Unsupported(UnsupportedProcedure::ReadDirectoryPlus))
+}
+
 /// FSSTAT (RFC 1813 section 3.3.18).
 fn filesystem_status(bytes: &[u8]) -> Result<Call, Bad>
     ensures { Makes call_of false result (asked_by handle_shape fsstat_call bytes.now) }
@@ -339,6 +349,7 @@ pub fn decode_call(alloc: Global, procedure: Procedure, bytes: &[u8]) -> Result<
         Procedure::Rename => rename(alloc, bytes),
         Procedure::MakeLink => make_link(bytes),
         Procedure::ReadDirectory => read_directory(bytes),
+        Procedure::ReadDirectoryPlus => read_directory_plus(bytes),
         Procedure::FilesystemStatus => filesystem_status(bytes),
         Procedure::FilesystemInfo => filesystem_info(bytes),
         Procedure::PathConfiguration => path_configuration(bytes),

@@ -3,7 +3,7 @@ use Rattle.std.specs.Prelude.{ℕ, Bool, true, false, get_or, map, replicate, �
 use Rattle.std.specs.List.{list_any}
 use Rattle.nfs_values.specs.declared.offer.Offer.{Offer}
 use Rattle.nfs_values.specs.declared.procedure.Procedure.{Procedure}
-use Rattle.nfs_values.specs.declared.procedure.Procedure.TheVariants.{CheckAccess, ReadLink, MakeSymbolicLink, MakeDevice, MakeLink, FilesystemInfo}
+use Rattle.nfs_values.specs.declared.procedure.Procedure.TheVariants.{CheckAccess, ReadLink, MakeSymbolicLink, MakeDevice, MakeLink, ReadDirectoryPlus, FilesystemInfo}
 use Rattle.nfs_values.specs.declared.procedure.Procedure.TheVariants.{PathConfiguration, MountNull, Mount, ListMounts, Unmount, UnmountAll, ListExports}
 use Rattle.nfs_values.specs.Procedure.{all_procedures, numbers_of, place_of}
 
@@ -15,13 +15,14 @@ offers offer procedure = get_or offer.has (place_of procedure) false
 abbrev pub offers_program : Offer → ℕ → Bool
 offers_program offer program = list_any (λ p. offers offer p && ((numbers_of p).0 == program)) all_procedures
 
--- whether `replay` and `serve` offer it: all but ACCESS, FSINFO, PATHCONF, those on links and devices, and MOUNT
+-- whether `replay` and `serve` offer it: all but ACCESS, FSINFO, PATHCONF, READDIRPLUS, those on links and devices, and MOUNT
 abbrev pub is_basic : Procedure → Bool
 is_basic CheckAccess = false
 is_basic ReadLink = false
 is_basic MakeSymbolicLink = false
 is_basic MakeDevice = false
 is_basic MakeLink = false
+is_basic ReadDirectoryPlus = false
 is_basic FilesystemInfo = false
 is_basic PathConfiguration = false
 is_basic MountNull = false
@@ -38,7 +39,7 @@ basic = record { has = map is_basic all_procedures }
 
 -- the offer of a server that clients mount: every procedure
 abbrev pub export : Offer
-export = record { has = replicate 30 true }
+export = record { has = replicate 31 true }
 
 -- what is in it
 abbrev pub is_offered : Procedure → Bool

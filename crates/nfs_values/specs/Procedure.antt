@@ -2,14 +2,14 @@ use Rattle.std.specs.Prelude.{ℕ, List, [], ◌∷◌}
 use Rattle.nfs_values.specs.declared.procedure.Procedure.{Procedure}
 use Rattle.nfs_values.specs.declared.procedure.Procedure.TheVariants.{Null, GetAttributes, SetAttributes, Lookup, CheckAccess, ReadLink, Read, Write, Create}
 use Rattle.nfs_values.specs.declared.procedure.Procedure.TheVariants.{MakeDirectory, MakeSymbolicLink, MakeDevice, Remove, RemoveDirectory, Rename, MakeLink}
-use Rattle.nfs_values.specs.declared.procedure.Procedure.TheVariants.{ReadDirectory, FilesystemStatus, FilesystemInfo, PathConfiguration, Commit, AdminNull}
+use Rattle.nfs_values.specs.declared.procedure.Procedure.TheVariants.{ReadDirectory, ReadDirectoryPlus, FilesystemStatus, FilesystemInfo, PathConfiguration, Commit, AdminNull}
 use Rattle.nfs_values.specs.declared.procedure.Procedure.TheVariants.{Census, Grow, MountNull, Mount, ListMounts, Unmount, UnmountAll, ListExports}
 
 -- all of them
 abbrev pub all_procedures : List Procedure
 all_procedures =
     Null ∷ GetAttributes ∷ SetAttributes ∷ Lookup ∷ CheckAccess ∷ ReadLink ∷ Read ∷ Write ∷ Create ∷ MakeDirectory ∷ MakeSymbolicLink ∷ MakeDevice ∷
-    Remove ∷ RemoveDirectory ∷ Rename ∷ MakeLink ∷ ReadDirectory ∷ FilesystemStatus ∷ FilesystemInfo ∷ PathConfiguration ∷ Commit ∷ AdminNull ∷
+    Remove ∷ RemoveDirectory ∷ Rename ∷ MakeLink ∷ ReadDirectory ∷ ReadDirectoryPlus ∷ FilesystemStatus ∷ FilesystemInfo ∷ PathConfiguration ∷ Commit ∷ AdminNull ∷
     Census ∷ Grow ∷ MountNull ∷ Mount ∷ ListMounts ∷ Unmount ∷ UnmountAll ∷ ListExports ∷ []
 
 -- program and procedure of NFS (RFC 1813 section 3), of MOUNT (appendix I, section 5) and of the admin program (our profile)
@@ -31,6 +31,7 @@ numbers_of RemoveDirectory = (100003, 13)
 numbers_of Rename = (100003, 14)
 numbers_of MakeLink = (100003, 15)
 numbers_of ReadDirectory = (100003, 16)
+numbers_of ReadDirectoryPlus = (100003, 17)
 numbers_of FilesystemStatus = (100003, 18)
 numbers_of FilesystemInfo = (100003, 19)
 numbers_of PathConfiguration = (100003, 20)
@@ -64,16 +65,17 @@ place_of RemoveDirectory = 13
 place_of Rename = 14
 place_of MakeLink = 15
 place_of ReadDirectory = 16
-place_of FilesystemStatus = 17
-place_of FilesystemInfo = 18
-place_of PathConfiguration = 19
-place_of Commit = 20
-place_of AdminNull = 21
-place_of Census = 22
-place_of Grow = 23
-place_of MountNull = 24
-place_of Mount = 25
-place_of ListMounts = 26
-place_of Unmount = 27
-place_of UnmountAll = 28
-place_of ListExports = 29
+place_of ReadDirectoryPlus = 17
+place_of FilesystemStatus = 18
+place_of FilesystemInfo = 19
+place_of PathConfiguration = 20
+place_of Commit = 21
+place_of AdminNull = 22
+place_of Census = 23
+place_of Grow = 24
+place_of MountNull = 25
+place_of Mount = 26
+place_of ListMounts = 27
+place_of Unmount = 28
+place_of UnmountAll = 29
+place_of ListExports = 30

@@ -9,7 +9,7 @@ use crate::procedure::Procedure;
 #[derive(Clone, Copy)]
 pub struct Offer {
     /// Of each procedure, at its place, whether it is offered.
-    has: [bool; 30],
+    has: [bool; 31],
 }
 
 impl Offer {
@@ -41,6 +41,7 @@ impl Offer {
                 true, // Rename
                 false, // MakeLink
                 true, // ReadDirectory
+                false, // ReadDirectoryPlus
                 true, // FilesystemStatus
                 false, // FilesystemInfo
                 false, // PathConfiguration
@@ -62,7 +63,7 @@ impl Offer {
     pub fn export() -> Offer
         ensures { result ≡ export }
     {
-        Offer { has: [true; 30] }
+        Offer { has: [true; 31] }
     }
 
     /// The offer with this procedure too.

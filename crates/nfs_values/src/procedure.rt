@@ -48,6 +48,8 @@ pub enum Procedure {
     MakeLink,
     /// READDIR (RFC 1813 section 3.3.16).
     ReadDirectory,
+    /// READDIRPLUS (RFC 1813 section 3.3.17).
+    ReadDirectoryPlus,
     /// FSSTAT (RFC 1813 section 3.3.18).
     FilesystemStatus,
     /// FSINFO (RFC 1813 section 3.3.19).
@@ -103,6 +105,7 @@ impl Procedure {
             (NFS_PROGRAM, 14) => Some(Procedure::Rename),
             (NFS_PROGRAM, 15) => Some(Procedure::MakeLink),
             (NFS_PROGRAM, 16) => Some(Procedure::ReadDirectory),
+            (NFS_PROGRAM, 17) => Some(Procedure::ReadDirectoryPlus),
             (NFS_PROGRAM, 18) => Some(Procedure::FilesystemStatus),
             (NFS_PROGRAM, 19) => Some(Procedure::FilesystemInfo),
             (NFS_PROGRAM, 20) => Some(Procedure::PathConfiguration),
@@ -121,7 +124,7 @@ impl Procedure {
     }
 
     /// All of them.
-    pub(crate) const ALL: [Procedure; 30] = [
+    pub(crate) const ALL: [Procedure; 31] = [
         Procedure::Null,
         Procedure::GetAttributes,
         Procedure::SetAttributes,
@@ -139,6 +142,7 @@ impl Procedure {
         Procedure::Rename,
         Procedure::MakeLink,
         Procedure::ReadDirectory,
+        Procedure::ReadDirectoryPlus,
         Procedure::FilesystemStatus,
         Procedure::FilesystemInfo,
         Procedure::PathConfiguration,
@@ -173,7 +177,7 @@ impl Procedure {
     /// Its place among all of them.
     pub(crate) fn place(self) -> usize
         ensures place { result ≡ place_of self }
-        ensures within { result < 30 }
+        ensures within { result < 31 }
     {
         self as usize
     }

@@ -1,7 +1,7 @@
 -- The home of a call, exclusion, and which calls may lack memory (our profile).
 use Rattle.std.proofs.Common.{◌≡◌, true, false, [], ◌∷◌, replicate, Some, None, refl}
 use Rattle.nfs_model.specs.Types.{Unchecked, Guarded, Exclusive, Null, Getattr, Setattr, Lookup, Read, Write, Create, Mkdir, Remove, Rmdir, Rename, Readdir}
-use Rattle.nfs_model.specs.Types.{Readlink, Symlink, Mknod, Link, CheckAccess, Fsstat, Fsinfo, Pathconf, Commit, Unsupported, Census, Grow, Ask, Refused}
+use Rattle.nfs_model.specs.Types.{Readlink, Symlink, Mknod, Link, Readdirplus, CheckAccess, Fsstat, Fsinfo, Pathconf, Commit, Unsupported, Census, Grow, Ask, Refused}
 use Rattle.nfs_model.specs.Types.{SystemError, GarbageArguments}
 use Rattle.nfs_model.specs.Tree.{Serial, Aggregate, Volume, Logical, Stripe, Vbn, Range, excludes}
 use Rattle.nfs_model.specs.Home.{home, home_of_asked}
@@ -55,6 +55,9 @@ symlink_has_no_home = refl
 
 mknod_has_no_home : home layout (Unsupported Mknod) ≡ None
 mknod_has_no_home = refl
+
+readdirplus_has_no_home : home layout (Unsupported Readdirplus) ≡ None
+readdirplus_has_no_home = refl
 
 link_has_no_home : home layout (Unsupported Link) ≡ None
 link_has_no_home = refl

@@ -1,7 +1,7 @@
 -- How many optional parts a failure of a procedure has in its results, all absent: so many zero
 -- words (our profile; RFC 1813 section 3.3 has the results).
 use Rattle.std.specs.Prelude.{ℕ}
-use Rattle.nfs_model.specs.Types.{UnsupportedProcedure, Readlink, Symlink, Mknod, Link, Call, Null, Getattr}
+use Rattle.nfs_model.specs.Types.{UnsupportedProcedure, Readlink, Symlink, Mknod, Link, Readdirplus, Call, Null, Getattr}
 use Rattle.nfs_model.specs.Types.{Setattr, Lookup, CheckAccess, Read, Write, Create, Mkdir, Remove, Rmdir}
 use Rattle.nfs_model.specs.Types.{Rename, Readdir, Fsstat, Fsinfo, Pathconf, Commit, Unsupported, Census}
 use Rattle.nfs_model.specs.Types.{Grow, Mount}
@@ -12,6 +12,7 @@ absent_in Readlink = 1
 absent_in Symlink = 2
 absent_in Mknod = 2
 absent_in Link = 3
+absent_in Readdirplus = 1
 
 abbrev pub absent_parts : Call → ℕ
 absent_parts Null = 0
