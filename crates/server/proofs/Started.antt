@@ -37,7 +37,7 @@ module _ {R : Type 0} (filer : Filer) where
 
     -- they offer what the lanes do
     pub all-serve : (offer : Offer) → AllOffer offer lanes → AllServe offer threads
-    all-serve offer are weigh = all-started (λ i. weigh i.1.0) ∙ are weigh ∙ sym (all-started (λ _. weigh offer))
+    all-serve offer are weigh = all-started (λ i. weigh i.1) ∙ are weigh ∙ sym (all-started (λ _. weigh offer))
 
     -- each lane has a task, and each task a thread
     pub threads-of : AreLanesOf filer lanes

@@ -41,7 +41,7 @@ module _ {R : Type 0} {G : devices.Ghosts Socket} where
 
   -- each was started with a lane that offers just this
   abbrev pub AllServe : Offer → List (Thread R G) → Type 0
-  AllServe offer threads = (weigh : Offer → ℕ) → total (identity_with (λ i. weigh i.1.0)) threads ≡ total (λ _. weigh offer) threads
+  AllServe offer threads = (weigh : Offer → ℕ) → total (identity_with (λ i. weigh i.1)) threads ≡ total (λ _. weigh offer) threads
 
   -- These lanes are those that the threads were started with, gone on: of each its place among as many, what it offers, and its queue with all that
   -- was ever put into it, as often.

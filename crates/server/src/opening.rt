@@ -94,7 +94,7 @@ where
     ensures of { IfOk result (λ opened. IsLaneOf (arc_value filer.now) opened) }
     ensures worker { IfOk result (λ opened. worker_in opened ≡ worker) }
     ensures identity { IfOk result (λ opened.
-        identity_in opened ≡ ((lane, lanes), (offer, queue))) }
+        identity_in opened ≡ ((lane, lanes), offer, queue)) }
 {
     let filer = Arc::try_clone(filer)?;
     Ok(Lane::new(rt, alloc, filer, offer, queue, admits, worker, lane, lanes))

@@ -55,7 +55,7 @@ impl<D: Device, R> Lane<D, R> {
             × (entries_in worker ≡ []) }
         ensures filer { filer_in result ≡ arc_value filer }
         ensures worker { worker_in result ≡ worker }
-        ensures identity { identity_in result ≡ ((lane, lanes), (offer, queue)) }
+        ensures identity { identity_in result ≡ ((lane, lanes), offer, queue) }
         ensures numbers { AreOfLane lane lanes (boxes_in result) }
     {
         Lane {

@@ -73,7 +73,7 @@ loop-index-preserved g c =
           (sym s.passes.0) i.both;
       none = s.entries.0 ∙ i.none;
       of = all-pushed (IsLaneOf filer) xs ys x is i.of c.in_ok-lane.ensures.of;
-      offer = λ weigh. offers-more weigh c.args.offer xs ys x is (ap (λ (j : Identity). weigh j.1.0) c.in_ok-lane.ensures.identity) (i.offer weigh);
+      offer = λ weigh. offers-more weigh c.args.offer xs ys x is (ap (λ (j : Identity). weigh j.1) c.in_ok-lane.ensures.identity) (i.offer weigh);
       len = let a = i.len in omega (arith, n, a);
       room = c.push_reserved.ensures.capacity ∙ i.room;
       left = let a = i.left in let b = s.seats.0 in omega (arith, n, a, b);
@@ -125,7 +125,7 @@ returns-clause-lanes g c =
 pub returns-clause-offer : goal.returns-clause-offer
 returns-clause-offer g c = λ weigh.
     offers-more weigh c.args.offer c.loop-index.lanes.items c.push_reserved-2.new.self.items c.in_ok-lane-2.lane c.push_reserved-2.ensures.items
-    (ap (λ (j : Identity). weigh j.1.0) c.in_ok-lane-2.ensures.identity) (c.loop-index.invariant.offer weigh)
+    (ap (λ (j : Identity). weigh j.1) c.in_ok-lane-2.ensures.identity) (c.loop-index.invariant.offer weigh)
 
 pub returns-clause-count : goal.returns-clause-count
 returns-clause-count g c =

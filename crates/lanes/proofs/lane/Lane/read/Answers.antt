@@ -34,7 +34,7 @@ returns-clause-identity g c =
     let l = c.args.self.now in
     let k = reads-keep _ _ _ _ l.connections c.read_under.new.connections c.args.key l.intake c.read_under.new.intake _
     c.read_under.result c.read_under.ensures in
-    ap (λ (q : SharedWaiting Message Layout). ((l.index, l.count), (l.offer, q))) k.1
+    ap (λ (q : SharedWaiting Message Layout). ((l.index, l.count), l.offer, q)) k.1
 
 pub returns-clause-worker : goal.returns-clause-worker
 returns-clause-worker g c =

@@ -47,4 +47,4 @@ returns-clause-turned g c =
 pub returns-clause-identity : goal.returns-clause-identity
 returns-clause-identity g c =
     let l = c.args.self.now in
-    ap (λ (q : SharedWaiting Message Layout). ((l.index, l.count), (l.offer, q))) c.turns.ensures.queue
+    ap (λ (q : SharedWaiting Message Layout). ((l.index, l.count), l.offer, q)) c.turns.ensures.queue
