@@ -46,9 +46,40 @@ attributes_shape =
     kind_shape & Word & Word & Word & Word & Hyper & Hyper & device_shape & Hyper & Hyper & moment_shape & moment_shape & moment_shape
 
 abbrev pub attributes_value : model.Shown → Value attributes_shape
-attributes_value a =
-    (kind_word a.kind, (a.mode, (a.links, (a.uid, (a.gid, (a.size, (a.used, ((0, 0), (a.fsid, (a.fileid, (moment_value a.atime,
-    (moment_value a.mtime, moment_value a.ctime))))))))))))
+attributes_value a = (
+  kind_word a.kind,
+  (
+    a.mode,
+    (
+      a.links,
+      (
+        a.uid,
+        (
+          a.gid,
+          (
+            a.size,
+            (
+              a.used,
+              (
+                (0, 0),
+                (
+                  a.fsid,
+                  (
+                    a.fileid,
+                    (
+                      moment_value a.atime,
+                      (moment_value a.mtime, moment_value a.ctime),
+                    ),
+                  ),
+                ),
+              ),
+            ),
+          ),
+        ),
+      ),
+    ),
+  ),
+)
 
 -- post_op_attr (section 2.6)
 abbrev pub after_shape : Shape

@@ -7,7 +7,7 @@ use Rattle.nfs_values.specs.declared.procedure.Procedure.TheVariants.{RemoveDire
 abbrev pub all_procedures : List Procedure
 all_procedures =
     Null ∷ GetAttributes ∷ SetAttributes ∷ Lookup ∷ Read ∷ Write ∷ Create ∷ MakeDirectory ∷ Remove ∷ RemoveDirectory ∷ Rename ∷ ReadDirectory ∷
-        FilesystemStatus ∷ Commit ∷ AdminNull ∷ Census ∷ Grow ∷ []
+    FilesystemStatus ∷ Commit ∷ AdminNull ∷ Census ∷ Grow ∷ []
 
 -- program and procedure of NFS (RFC 1813 section 3) and of the admin program (our profile)
 abbrev pub numbers_of : Procedure → ℕ × ℕ
