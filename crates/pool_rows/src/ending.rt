@@ -7,11 +7,11 @@ ghost use Rattle.pool_rows.specs.Threads.{IsRunning};
 
 use crate::putting::FilerPass;
 use crate::running::Running;
-use workers::{Ended, Left, close};
 use std::alloc::{AllocError, Global};
 use std::sync::{Arc, Wait};
 use std::thread::Threads;
 use turns::Filer;
+use workers::{Ended, Left, close};
 
 /// A filer whose workers have ended.
 #[derive(Drop)]

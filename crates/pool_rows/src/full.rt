@@ -15,7 +15,6 @@ use crate::replies::{LOOKS, connect};
 use crate::turns::came::Came;
 use crate::turns::turning::put_answer;
 use nfs_values::{BytesToWrite, Call, ConnectionNumber, Moment};
-use workers::Ended;
 use std::alloc::{AllocError, Global};
 use std::process::Abort;
 use std::sync::atomic::{AtomicBool, Ordering};
@@ -23,6 +22,7 @@ use std::sync::{Arc, Wait};
 use std::thread;
 use std::thread::Threads;
 use turns::{Envelope, Filer, Gate, Place, Stage, Unwatched, Worker};
+use workers::Ended;
 
 /// How many messages the queue has room for.
 const PLACES: u32 = 1024;

@@ -12,10 +12,10 @@ use crate::putting::FilerPass;
 use filer_state::Files;
 use nfs_values::{BlockNumber, VolumeNumber};
 use parcels::{Hand, SerialHeld};
-use workers::{Ended, Room, gather};
 use std::alloc::{AllocError, Global};
 use std::sync::{Arc, Wait};
 use turns::{BatchInHand, Filer, Tend, Worker};
+use workers::{Ended, Room, gather};
 
 /// Gathers what workers leave.
 fn leave<R: Wait>(

@@ -7,12 +7,12 @@ ghost use Rattle.pool_rows.specs.Threads.{IsRunning, IsUnstarted};
 
 use crate::opening::Opened;
 use crate::putting::FilerPass;
-use workers::Pool;
 use std::alloc::Global;
 use std::rt::Clock;
 use std::sync::{Arc, Wait};
 use std::thread::Threads;
 use turns::{Filer, Gate};
+use workers::Pool;
 
 /// A filer whose workers run, with the passes of two who put messages.
 #[derive(Drop)]
