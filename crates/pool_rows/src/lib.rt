@@ -24,4 +24,4 @@ mod replies;
 #[cfg(test)]
 mod running;
 #[cfg(test)]
-mod turns;
+mod turned;

@@ -5,8 +5,8 @@ ghost use Rattle.pool_rows.specs.Threads.{IsReaderOf};
 ghost use Rattle.turns.specs.Words.{seats_in, IsIn};
 
 use crate::putting::FilerPass;
-use crate::turns::filer_worker::FilerWorker;
-use crate::turns::reader::Reader;
+use crate::turned::filer_worker::FilerWorker;
+use crate::turned::reader::Reader;
 use turns::{Filer, Worker};
 
 /// Two workers, and who puts messages for them.

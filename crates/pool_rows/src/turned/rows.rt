@@ -5,12 +5,12 @@ ghost use Rattle.turns.specs.Running.{IsRun};
 use crate::calls::{UNSET, handle};
 use crate::opening::{Volumes, open_filer};
 use crate::putting::record_of;
-use crate::turns::came::Came;
-use crate::turns::filer_worker::FilerWorker;
-use crate::turns::looking::{Looking, Met};
-use crate::turns::reader::Reader;
-use crate::turns::starting::{Started, start_workers};
-use crate::turns::texts::{ACCEPTED, bytes_of, mark, root_shown};
+use crate::turned::came::Came;
+use crate::turned::filer_worker::FilerWorker;
+use crate::turned::looking::{Looking, Met};
+use crate::turned::reader::Reader;
+use crate::turned::starting::{Started, start_workers};
+use crate::turned::texts::{ACCEPTED, bytes_of, mark, root_shown};
 use affinity::Affinity;
 use nfs_values::{
     BytesToWrite, Call, ConnectionNumber, CreateMode, Moment, Name, SetAttributes, Target,

@@ -1,7 +1,7 @@
 //! Who looks on.
 
-use crate::turns::came::Came;
-use crate::turns::filer_worker::FilerWorker;
+use crate::turned::came::Came;
+use crate::turned::filer_worker::FilerWorker;
 use affinity::Affinity;
 use nfs_values::{Moment, VolumeNumber};
 use std::sync::{Mutex, Wait};

@@ -3,9 +3,9 @@
 ghost use Rattle.turns.specs.Running.{IsRun};
 
 use crate::putting::put;
-use crate::turns::came::Came;
-use crate::turns::filer_worker::FilerWorker;
-use crate::turns::reader::Reader;
+use crate::turned::came::Came;
+use crate::turned::filer_worker::FilerWorker;
+use crate::turned::reader::Reader;
 use nfs_values::{Call, Moment};
 use scheduler::Origin;
 use std::alloc::Global;
