@@ -4,6 +4,7 @@ use crate::bytes::{holds, joined, same};
 use nfs_types::{Bad, decode_args, decode_call, decode_in_place};
 use nfs_values::{
     Call, CreateMode, Moment, NFS_PROGRAM, Procedure, SetAttributes, SetTime, Target,
+    UnsupportedProcedure,
 };
 use std::mem;
 use std::process::Abort;
@@ -177,7 +178,114 @@ fn data_stays_in_its_record(rt: HostRuntime) {
 
 #[test]
 fn by_number(rt: HostRuntime) {
-    // LOOKUP, and ACCESS (RFC 1813 section 3.3.4), which isn't read
+    // LOOKUP, and 22, the number of no procedure (RFC 1813 section 3.3)
     holds(&rt, fault_in(&rt, 3, &TARGET) == 0);
-    holds(&rt, fault_in(&rt, 4, &TARGET) == 3);
+    holds(&rt, fault_in(&rt, 22, &TARGET) == 3);
+}
+
+/// The handle 7.
+const HANDLE: [u8; 8] = [0, 0, 0, 1, 7, 0, 0, 0];
+
+#[test]
+fn bits_are_asked(rt: HostRuntime) {
+    let asked = joined(&rt, &[&HANDLE, &[0x80, 0, 0, 0x3F]]);
+    let call = decoded(&rt, Procedure::CheckAccess, &asked);
+    match &call {
+        Call::CheckAccess { handle, asked } => {
+            same(&rt, handle.as_bytes(), &[7]);
+            holds(&rt, *asked == 0x8000_003F);
+        }
+        _ => panic!(rt; "no ACCESS"),
+    }
+    mem::forget(call);
+    // without its bits
+    holds(&rt, fault_in(&rt, 4, &HANDLE) == 1);
+}
+
+#[test]
+fn objects_are_told_of(rt: HostRuntime) {
+    for procedure in [Procedure::FilesystemInfo, Procedure::PathConfiguration] {
+        let call = decoded(&rt, procedure, &HANDLE);
+        match &call {
+            Call::FilesystemInfo { handle } | Call::PathConfiguration { handle } => {
+                same(&rt, handle.as_bytes(), &[7]);
+            }
+            _ => panic!(rt; "another call"),
+        }
+        mem::forget(call);
+    }
+}
+
+/// Looks whether arguments are those of a procedure that isn't supported.
+fn is_unsupported(
+    rt: &(impl Abort + AllocGlobal),
+    procedure: Procedure,
+    parts: &[&[u8]],
+    wanted: UnsupportedProcedure,
+) {
+    let arguments = joined(rt, parts);
+    let call = decoded(rt, procedure, &arguments);
+    match &call {
+        Call::Unsupported(which) => holds(rt, *which as u32 == wanted as u32),
+        _ => panic!(rt; "another call"),
+    }
+    mem::forget(call);
+}
+
+/// To the path `/x`.
+const PATH: [u8; 8] = [0, 0, 0, 2, b'/', b'x', 0, 0];
+
+#[test]
+fn links_are_read_and_not_supported(rt: HostRuntime) {
+    let read = UnsupportedProcedure::ReadLink;
+    is_unsupported(&rt, Procedure::ReadLink, &[&HANDLE], read);
+    let soft = UnsupportedProcedure::MakeSymbolicLink;
+    let parts: [&[u8]; 3] = [&TARGET, &SET, &PATH];
+    is_unsupported(&rt, Procedure::MakeSymbolicLink, &parts, soft);
+    let hard = UnsupportedProcedure::MakeLink;
+    is_unsupported(&rt, Procedure::MakeLink, &[&HANDLE, &TARGET], hard);
+    // a path without its padding
+    let cut = joined(&rt, &[&TARGET, &SET, &[0, 0, 0, 2, b'/', b'x']]);
+    holds(&rt, fault_in(&rt, 10, &cut) == 1);
+    // a link without its name
+    let nameless = joined(&rt, &[&HANDLE, &HANDLE]);
+    holds(&rt, fault_in(&rt, 15, &nameless) == 1);
+}
+
+#[test]
+fn pages_with_attributes_are_read_and_not_supported(rt: HostRuntime) {
+    let plus = UnsupportedProcedure::ReadDirectoryPlus;
+    // cookie 0, verifier 0, dircount 512 and maxcount 8192
+    let counts = [0, 0, 2, 0, 0, 0, 0x20, 0];
+    let parts: [&[u8]; 3] = [&HANDLE, &[0; 16], &counts];
+    is_unsupported(&rt, Procedure::ReadDirectoryPlus, &parts, plus);
+    // without maxcount
+    let cut = joined(&rt, &[&HANDLE, &[0; 16], &[0, 0, 2, 0]]);
+    holds(&rt, fault_in(&rt, 17, &cut) == 1);
+}
+
+#[test]
+fn devices_are_read_and_not_supported(rt: HostRuntime) {
+    let device = UnsupportedProcedure::MakeDevice;
+    let numbers = [0, 0, 0, 8, 0, 0, 0, 1];
+    // NF3BLK and NF3CHR with their numbers
+    for kind in [3, 4] {
+        let parts: [&[u8]; 4] = [&TARGET, &[0, 0, 0, kind], &SET, &numbers];
+        is_unsupported(&rt, Procedure::MakeDevice, &parts, device);
+    }
+    // NF3SOCK and NF3FIFO without
+    for kind in [6, 7] {
+        let parts: [&[u8]; 3] = [&TARGET, &[0, 0, 0, kind], &SET];
+        is_unsupported(&rt, Procedure::MakeDevice, &parts, device);
+    }
+    // NF3REG, NF3DIR and NF3LNK with nothing
+    for kind in [1, 2, 5] {
+        let parts: [&[u8]; 2] = [&TARGET, &[0, 0, 0, kind]];
+        is_unsupported(&rt, Procedure::MakeDevice, &parts, device);
+    }
+    // no kind, and a device without its numbers
+    let unknown = joined(&rt, &[&TARGET, &[0, 0, 0, 8]]);
+    holds(&rt, fault_in(&rt, 11, &unknown) == 3);
+    let bare = joined(&rt, &[&TARGET, &[0, 0, 0, 4], &SET]);
+    holds(&rt, fault_in(&rt, 11, &bare) == 1);
 }

@@ -1,9 +1,10 @@
 //! Heads of calls. Whole heads with their replies, and those at fault, stand in `command_rows`.
 
 use crate::bytes::{bytes_of, holds};
-use nfs_values::{Call, Refusal};
-use rpc_msg::{Head, Request, Served, read_call, read_record};
+use nfs_values::{Call, Offer, Refusal};
+use rpc_msg::{Head, Request, Served, read_call, read_call_of, read_record};
 use std::mem;
+use std::process::Abort;
 
 #[test]
 fn null_of_a_user(rt: HostRuntime) {
@@ -22,6 +23,51 @@ fn null_of_a_user(rt: HostRuntime) {
         _ => panic!(rt; "no NULL"),
     }
     mem::forget(heard);
+}
+
+#[test]
+fn groups_of_a_user(rt: HostRuntime) {
+    // of the machine `ab`, with the groups 7 and 4294967295
+    let words = [
+        9, 0, 2, 0x000186a3, 3, 0, 1, 0x20, 0, 2, 0x61620000, 0x3e8, 0x64, 2, 7, 0xffffffff, 0, 0,
+    ];
+    let record = bytes_of(&rt, &words);
+    let heard = read_record(rt.alloc(), record).ok();
+    let heard = heard.expect(&rt, "a fault");
+    match &heard.request {
+        Request::Call {
+            call: Call::Null,
+            credential,
+        } => {
+            holds(
+                &rt,
+                credential.gids.has(7) && credential.gids.has(0xffff_ffff),
+            );
+            holds(&rt, !credential.gids.has(0x64) && !credential.gids.has(0));
+        }
+        _ => panic!(rt; "no NULL"),
+    }
+    mem::forget(heard);
+}
+
+/// Looks whether a call of a procedure of NFS is read by an offer.
+fn is_read(rt: &(impl Abort + AllocGlobal), offer: Offer, procedure: u32) -> bool {
+    let bytes = bytes_of(rt, &[9, 0, 2, 0x000186a3, 3, procedure, 0, 0, 0, 0]);
+    let head = read_call_of(&bytes, offer);
+    let is_read = matches!(&head, Head::Call { .. });
+    mem::forget(head);
+    is_read
+}
+
+#[test]
+fn offers(rt: HostRuntime) {
+    for number in 0..24 {
+        let is_export = number < 22;
+        holds(&rt, is_read(&rt, Offer::export(), number) == is_export);
+        // ACCESS, READLINK, SYMLINK, MKNOD, LINK, READDIRPLUS, FSINFO and PATHCONF are its own
+        let is_basic = is_export && !matches!(number, 4 | 5 | 10 | 11 | 15 | 17 | 19 | 20);
+        holds(&rt, is_read(&rt, Offer::basic(), number) == is_basic);
+    }
 }
 
 #[test]

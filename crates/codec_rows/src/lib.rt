@@ -8,6 +8,8 @@ mod bytes;
 #[cfg(test)]
 mod heads;
 #[cfg(test)]
+mod mounting;
+#[cfg(test)]
 mod records;
 #[cfg(test)]
 mod replies;

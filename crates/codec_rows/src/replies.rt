@@ -3,7 +3,7 @@
 use crate::bytes::{bytes_of, holds, read_answer, same};
 use nfs_values::{
     Answer, AuthFault, BytesToWrite, Call, Cookie, CreateMode, FileHandle, Fileid, Name, Named,
-    Refusal, Reply, Target, Verifier, VolumeNumber,
+    Refusal, Reply, Target, UnsupportedProcedure, Verifier, VolumeNumber,
 };
 use rpc_msg::{move_reply_record, room_of_reply, write_reply, write_reply_record};
 use std::alloc::Global;
@@ -76,6 +76,14 @@ fn rooms_are_reached(rt: HostRuntime) {
     takes(&rt, Call::GetAttributes { handle: root() }, 116);
     takes(&rt, Call::FilesystemStatus { handle: root() }, 172);
     takes(&rt, Call::Census, 72);
+    let access = Call::CheckAccess {
+        handle: root(),
+        asked: 63,
+    };
+    takes(&rt, access, 124);
+    takes(&rt, Call::FilesystemInfo { handle: root() }, 168);
+    takes(&rt, Call::PathConfiguration { handle: root() }, 144);
+    takes(&rt, Call::Unsupported(UnsupportedProcedure::MakeLink), 44);
     let grow = Call::Grow {
         volume: VolumeNumber(0),
         ranges: 1,

@@ -3,10 +3,12 @@
 use crate::bytes::{joined, read_answer, same};
 use nfs_types::encode_result;
 use nfs_values::{
-    Answer, Attributes, Change, Cookie, DirectoryEntry, FileKind, Fileid, Moment, Name,
-    PriorAttributes, ReadDirectoryResults, RenameResults, Status,
+    AccessResults, Answer, Attributes, Change, Cookie, DirectoryEntry, FileKind, Fileid,
+    FilesystemInfoResults, Moment, Name, PathConfigurationResults, PriorAttributes,
+    ReadDirectoryResults, RenameResults, Status, UnsupportedProcedure,
 };
 use std::mem;
+use std::process::Abort;
 
 #[test]
 fn results_are_written(rt: HostRuntime) {
@@ -133,4 +135,87 @@ fn failures_leave_parts_out(rt: HostRuntime) {
     mem::forget(failed);
     let wanted = [0, 0, 0, 18, 0, 0, 0, 0, 0, 0, 0, 0, 0, 0, 0, 0, 0, 0, 0, 0];
     same(&rt, &out, &wanted);
+}
+
+/// NFS3_OK, and the attributes of the directory as far as its kind.
+const OK_AND_DIRECTORY: [u8; 12] = [0, 0, 0, 0, 0, 0, 0, 1, 0, 0, 0, 2];
+
+#[test]
+fn bits_are_given(rt: HostRuntime) {
+    let checked = Answer::CheckAccess(Ok(AccessResults {
+        object: DIRECTORY,
+        given: 0x1F,
+    }));
+    let mut out = Vec::new(rt.alloc());
+    encode_result(&mut out, &checked).expect(&rt, "no memory");
+    mem::forget(checked);
+    let wanted = joined(&rt, &[&OK_AND_DIRECTORY, &[0; 80], &[0, 0, 0, 0x1F]]);
+    same(&rt, &out, &wanted);
+}
+
+#[test]
+fn filesystems_are_told(rt: HostRuntime) {
+    let told = Answer::FilesystemInfo(Ok(FilesystemInfoResults {
+        root: DIRECTORY,
+        largest: 0x0400_0000,
+    }));
+    let mut out = Vec::new(rt.alloc());
+    encode_result(&mut out, &told).expect(&rt, "no memory");
+    mem::forget(told);
+    let wanted = joined(
+        &rt,
+        &[
+            &OK_AND_DIRECTORY,
+            &[0; 80],
+            // rtmax, rtpref, rtmult
+            &[0, 1, 0, 0, 0, 1, 0, 0, 0, 0, 0x10, 0],
+            // wtmax, wtpref, wtmult
+            &[0, 1, 0, 0, 0, 1, 0, 0, 0, 0, 0x10, 0],
+            // dtpref, maxfilesize
+            &[0, 1, 0, 0, 0, 0, 0, 0, 4, 0, 0, 0],
+            // time_delta, properties
+            &[0, 0, 0, 0, 0, 0, 0, 1, 0, 0, 0, 0x18],
+        ],
+    );
+    same(&rt, &out, &wanted);
+}
+
+#[test]
+fn paths_are_told(rt: HostRuntime) {
+    let told = Answer::PathConfiguration(Ok(PathConfigurationResults { object: DIRECTORY }));
+    let mut out = Vec::new(rt.alloc());
+    encode_result(&mut out, &told).expect(&rt, "no memory");
+    mem::forget(told);
+    let wanted = joined(
+        &rt,
+        &[
+            &OK_AND_DIRECTORY,
+            &[0; 80],
+            // linkmax, name_max
+            &[0, 0, 0, 1, 0, 0, 0, 0xFF],
+            // no_trunc, chown_restricted, case_insensitive, case_preserving
+            &[0, 0, 0, 1, 0, 0, 0, 0, 0, 0, 0, 0, 0, 0, 0, 1],
+        ],
+    );
+    same(&rt, &out, &wanted);
+}
+
+/// Looks whether the results of a procedure that isn't supported are NFS3ERR_NOTSUPP and so many
+/// parts that are absent.
+fn leaves_out(rt: &(impl Abort + AllocGlobal), which: UnsupportedProcedure, parts: usize) {
+    let failed = Answer::Unsupported(which);
+    let mut out = Vec::new(rt.alloc());
+    encode_result(&mut out, &failed).expect(rt, "no memory");
+    mem::forget(failed);
+    let wanted = joined(rt, &[&[0, 0, 0x27, 0x14], &[0; 12][..4 * parts]]);
+    same(rt, &out, &wanted);
+}
+
+#[test]
+fn what_is_not_supported_says_so(rt: HostRuntime) {
+    leaves_out(&rt, UnsupportedProcedure::ReadLink, 1);
+    leaves_out(&rt, UnsupportedProcedure::MakeSymbolicLink, 2);
+    leaves_out(&rt, UnsupportedProcedure::MakeDevice, 2);
+    leaves_out(&rt, UnsupportedProcedure::MakeLink, 3);
+    leaves_out(&rt, UnsupportedProcedure::ReadDirectoryPlus, 1);
 }

@@ -1,6 +1,6 @@
 //! Command lines, and what programs end with.
 
-use filer_commands::{Command, ProgramFault, command, program};
+use filer_commands::{Command, ProgramFault, command, program, program_told};
 use std::fmt::Write as Spell;
 use std::io;
 use std::io::Write;
@@ -77,6 +77,19 @@ where
     assert!(&rt; out.as_slice() == told);
 }
 
+/// Looks whether a program prints this, and tells people what begins so.
+fn tells<R>(rt: R, words: &[&str], printed: &[u8], told: &[u8])
+where
+    R: Abort + Files + AllocGlobal + Threads + Wait + Clock,
+    R: Net<Listener = TcpListener, Stream = TcpStream> + Copy + Drop + Send + 'static,
+{
+    let mut out = Vec::new(rt.alloc());
+    let mut err = Vec::new(rt.alloc());
+    let _status = program_told(rt, words, &mut out, &mut err);
+    assert!(&rt; out.as_slice() == printed);
+    assert!(&rt; err.starts_with(told));
+}
+
 /// Looks whether these words are no command.
 fn refuse<R>(rt: R, words: &[&str])
 where
@@ -84,14 +97,14 @@ where
     R: Net<Listener = TcpListener, Stream = TcpStream> + Copy + Drop + Send + 'static,
 {
     let fault = command(rt.alloc(), words);
-    assert!(&rt; fault == Err(ProgramFault::CommandLine));
+    assert!(&rt; matches!(fault, Err(ProgramFault::CommandLine)));
     ends(rt, words, 2, b"fault 60\n");
 }
 
 #[test]
 fn command_lines_are_read(rt: HostRuntime) {
     let chosen = command(rt.alloc(), &["filer", "replay", "x"]);
-    assert!(&rt; chosen == Ok(Command::Replay { path: "x" }));
+    assert!(&rt; matches!(chosen, Ok(Command::Replay { path }) if path == "x"));
     for words in &REFUSED {
         refuse(rt, words);
     }
@@ -121,4 +134,48 @@ fn taken_ports_are_told(rt: HostRuntime) {
     write!(text, "{address}").expect(&rt, "no memory");
     let line = serve_line(&text, ["1", "1", "1"]);
     ends(rt, &line, 1, b"fault 62\n");
+}
+
+#[test]
+fn people_are_told_in_words(rt: HostRuntime) {
+    let fault = b"fault 60\n".as_slice();
+    tells(
+        rt,
+        &["filer"],
+        fault,
+        b"error: 'filer' requires a subcommand",
+    );
+    tells(
+        rt,
+        &["filer", "replay"],
+        fault,
+        b"error: the following required arguments",
+    );
+    tells(
+        rt,
+        &["filer", "serve", "--help"],
+        fault,
+        b"Serves as many connections",
+    );
+    let line = serve_line("localhost:0", ["1", "1", "1"]);
+    tells(
+        rt,
+        &line,
+        fault,
+        b"error: the value for '--listen <ADDR>' is no address",
+    );
+    let line = serve_line("127.0.0.1:0", ["9", "1", "1"]);
+    tells(
+        rt,
+        &line,
+        fault,
+        b"error: invalid value '9' for '--volumes <N>'",
+    );
+    let replay = ["filer", "replay", "/no/such/file"];
+    tells(
+        rt,
+        &replay,
+        b"fault 61\n",
+        b"filer replay /no/such/file: the file can't be read\n",
+    );
 }

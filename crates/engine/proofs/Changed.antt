@@ -37,6 +37,7 @@ with_books s b = record (world s) {
 pub record IsChanged (s new : State) (i : ℕ) (k x : Worker) : Type 0 where
   pub there : slice_get s.workers.items i ≡ Some k
   pub set : new.workers.items ≡ slice_set s.workers.items i x
+  pub offer : new.offer ≡ s.offer
   pub verifier : new.verifier ≡ s.verifier
   pub layout : layout_in new.calls ≡ layout_in s.calls
   pub many : length (held_in new) ≡ length (held_in s)
@@ -47,7 +48,7 @@ module _ {s new : State} {i : ℕ} {k x : Worker} (h : IsChanged s new i k x) wh
 
   -- what is fixed for a run stays
   pub same_setup : setup_in new ≡ setup_in s
-  same_setup = λ j. setup_of (h.layout j) (h.verifier j).0 (as_many j)
+  same_setup = λ j. setup_of (h.offer j) (h.layout j) (h.verifier j).0 (as_many j)
 
   -- how many run
   pub run_count : length (running_messages new.workers.items) + length (messages_in k.run) ≡ length (running_messages s.workers.items) + length

@@ -18,7 +18,7 @@ use Rattle.scheduler.specs.declared.message.Message.{Message}
 use Rattle.engine_feed.specs.declared.state.CallsState.{CallsState}
 use Rattle.engine_feed.specs.declared.state.ConnectionState.{ConnectionState}
 use Rattle.engine_feed.specs.Seen.{owed_by, message_of, waiting_of, finished_of, finished_message}
-use Rattle.engine_feed.specs.Streams.{codec}
+use Rattle.engine_feed.specs.Codec.{reply_record}
 use Rattle.engine_feed.specs.Within.{Shows}
 use Rattle.engine_feed.specs.Words.{HasPutBack}
 use Rattle.engine.specs.Connections.{Held, Open}
@@ -71,7 +71,7 @@ back-world w calls calls' m shows h setup cs conns ks new i was hand workers hel
 
 -- the world in which a message is finished
 pub ended-world : (w : World) (calls calls' : CallsState) (place place' : Held) (r : Running) (reply : types.Reply) (starved : Bool) (count : ℕ)
-    → EndsIn calls place r reply starved count calls' place' → (setup : Setup) → setup.codec ≡ codec → Shows calls w
+    → EndsIn calls place r reply starved count calls' place' → (setup : Setup) → setup.codec.reply_record ≡ reply_record → Shows calls w
     → (cs new_cs : List Held) → w.connections ≡ map connection_seen cs → slice_get cs r.message.origin.connection.0 ≡ Some place
     → new_cs ≡ slice_set cs r.message.origin.connection.0 place'
     → (ks new : List Worker) (i : ℕ) (was : WorkerRun) (hand : Hand) → w.workers ≡ map worker_seen ks
@@ -115,7 +115,7 @@ count-written bytes (x ∷ cs) (suc n) = ap (λ k. open_one x.closed + k) (count
 
 -- and so after a message of one of them was finished
 pub count-ended : (w : World) (calls calls' : CallsState) (place place' : Held) (r : Running) (reply : types.Reply) (starved : Bool) (count : ℕ)
-    → EndsIn calls place r reply starved count calls' place' → (setup : Setup) → setup.codec ≡ codec → Shows calls w
+    → EndsIn calls place r reply starved count calls' place' → (setup : Setup) → setup.codec.reply_record ≡ reply_record → Shows calls w
     → (cs new_cs : List Held) → w.connections ≡ map connection_seen cs → slice_get cs r.message.origin.connection.0 ≡ Some place
     → new_cs ≡ slice_set cs r.message.origin.connection.0 place'
     → open_count (map connection_seen new_cs) ≡ open_count (map connection_seen cs)

@@ -25,6 +25,7 @@ use Rattle.engine.specs.laws.lemmas.Opening.{opening-stands}
 use Rattle.service.specs.declared.job.Job.{Job}
 use Rattle.service.specs.declared.job.JobReply.{JobReply}
 use Rattle.service.specs.Jobs.{job_of, job_reply_of}
+use Rattle.nfs_values.specs.declared.offer.Offer.{Offer}
 use Rattle.engine_feed.specs.declared.state.CallsState.{CallsState}
 use Rattle.engine_feed.specs.Seen.{layout_in, messages_of, message_of, waiting_of, finished_of, running_count}
 use Rattle.engine_feed.specs.Streams.{codec}
@@ -131,8 +132,8 @@ module _ {P : Type 0} (verifier : List ℕ) (b : FilerBooks P Job JobReply) (cal
   pub none-ready : AllByRecursion (IsReady (layout_in calls) (length connections)) ks
   none-ready = idle-are-ready ks h.count h.workers (layout_in calls) (length connections)
 
-  pub setup-opened : setup_of (layout_in calls) verifier (length ks) ≡ setup_of h.layout verifier h.count
-  setup-opened = λ j. setup_of ((h.new.layout ∙ h.same) j) verifier (idle-count ks h.count h.workers j)
+  pub setup-opened : (offer : Offer) → setup_of offer (layout_in calls) verifier (length ks) ≡ setup_of offer h.layout verifier h.count
+  setup-opened offer = λ j. setup_of offer ((h.new.layout ∙ h.same) j) verifier (idle-count ks h.count h.workers j)
 
   pub few-workers : length ks ≤ 64
   few-workers = subst (λ n. n ≤ 64) (sym (idle-count ks h.count h.workers)) h.few
@@ -141,19 +142,19 @@ module _ {P : Type 0} (verifier : List ℕ) (b : FilerBooks P Job JobReply) (cal
   none-open = sym (ap (λ xs. open_count (map connection_seen xs)) h.none)
 
 module _ {P : Type 0} (sound : OpensSound P) (server : OpensAsServer P) (free : OpensFree P) (verifier : List ℕ) (b : FilerBooks P Job JobReply)
-    (calls : CallsState) (ks : List workers.Worker) (connections : List Held) (h : AreOpened verifier b calls ks connections) where
+    (calls : CallsState) (ks : List workers.Worker) (connections : List Held) (h : AreOpened verifier b calls ks connections) (offer : Offer) where
   abbrev setup : Setup
-  setup = record { codec = codec; layout = layout_in calls; verifier = verifier; workers = length ks; connections = 64 }
+  setup = record { codec = codec offer; layout = layout_in calls; verifier = verifier; workers = length ks; connections = 64 }
 
   abbrev setup_asked : Setup
-  setup_asked = setup_of h.layout verifier h.count
+  setup_asked = setup_of offer h.layout verifier h.count
 
   abbrev seen : World
   seen = world_seen b (map connection_seen connections) (waiting_of calls) (map worker_seen ks) (finished_of calls)
 
   setup-is : setup ≡ setup_asked
   setup-is = λ j. record {
-    codec = codec;
+    codec = codec offer;
     layout = (h.new.layout ∙ h.same) j;
     verifier = verifier;
     workers = idle-count ks h.count h.workers j;

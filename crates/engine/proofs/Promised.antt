@@ -9,6 +9,7 @@ use Rattle.nfs_model.specs.Events.Step.{Events, Runs}
 use Rattle.desk.specs.Words.{books}
 use Rattle.depot.specs.Words.{view}
 use Rattle.service.specs.Jobs.{job_of, job_reply_of}
+use Rattle.nfs_values.specs.declared.offer.Offer.{Offer}
 use Rattle.engine_feed.specs.Streams.{IsServed, scan_stream}
 use Rattle.engine.specs.laws.lemmas.Historied.{stands-history}
 use Rattle.engine.specs.declared.event.Event as happened
@@ -21,7 +22,7 @@ use Rattle.engine.specs.Promise.{Promise, GoesOn}
 
 -- the law of streams
 abbrev pub StreamsAreServed : Type 0
-StreamsAreServed = (stream : List ℕ) → AreBytes stream → IsServed stream (scan_stream stream)
+StreamsAreServed = (offer : Offer) (stream : List ℕ) → AreBytes stream → IsServed offer stream (scan_stream offer stream)
 
 -- the seat of a sound engine's desk has its history
 pub sound-history : (s : State) → IsSoundEngine s → HasHistory (shown s)
@@ -40,7 +41,7 @@ pub promised : StreamsAreServed → (es : List Event) (e : Shown) → Runs (setu
 promised served es e came headline outcomes history = record {
   came = came;
   headline = headline;
-  streams = λ c x there bytes. served x.stream bytes;
+  streams = λ c x there bytes. served e.offer x.stream bytes;
   outcomes = outcomes;
   history = history;
 }

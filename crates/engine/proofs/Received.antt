@@ -27,6 +27,7 @@ use Rattle.engine.specs.laws.lemmas.Feeding.{WithoutHomeStays, all-append, fed-s
 use Rattle.desk.specs.Words.{books}
 use Rattle.service.specs.Jobs.{job_of, job_reply_of}
 use Rattle.service.specs.lemmas.Homes.{at-home}
+use Rattle.nfs_values.specs.declared.offer.Offer.{Offer}
 use Rattle.engine_feed.specs.declared.stop.Stop.{Stop}
 use Rattle.engine_feed.specs.declared.state.ConnectionState.{ConnectionState}
 use Rattle.engine_feed.specs.declared.state.CallsState.{CallsState}
@@ -62,7 +63,7 @@ none-of (Some x) e = absurd cc
 abbrev pub if_takes : Bool → Option ℕ
 if_takes b = if b then None else Some 36
 
-pub may-take : (s : State) (i : ℕ) (d : Held) (b : Bool) → slice_get (held_in s) i ≡ Some d → takes_bytes d ≡ b
+pub may-take : (s : State) (i : ℕ) (d : Held) (b : Bool) → slice_get (held_in s) i ≡ Some d → takes_bytes s.offer d ≡ b
     → if_takes (takes_input (setup_in s) (slice_get (world s).connections i)) ≡ if_takes b
 may-take s i d b there is =
     ap (λ (x : Option worlds.Connection). if_takes (takes_input (setup_in s) x)) (seen-at (held_in s) i d there) ∙ ap if_takes is
@@ -72,8 +73,8 @@ pub may-not-take : (s : State) (i : ℕ) → key_at (slice_get s.connections.ite
     → if_takes (takes_input (setup_in s) (slice_get (world s).connections i)) ≡ Some 36
 may-not-take s i none = ap if_takes (takes-none (setup_in s) s.connections.items s.slab i none)
 
-pub open-takes : (d : Held) (o : ConnectionState) → d ≡ Open o → TakesInput o → takes_bytes d ≡ true
-open-takes d o is takes = ap takes_bytes is ∙ ap (λ (f : Option ℕ). is_none f) takes
+pub open-takes : (offer : Offer) (d : Held) (o : ConnectionState) → d ≡ Open o → TakesInput o → takes_bytes offer d ≡ true
+open-takes offer d o is takes = ap (takes_bytes offer) is ∙ ap (λ (f : Option ℕ). is_none f) (takes offer)
 
 -- ---- how many are open
 
@@ -188,7 +189,7 @@ setup-same s new e = ap (λ (l : Layout). record (setup_in s) { layout = l }) e
 -- a place that bytes came on
 module _ (stays : WithoutHomeStays) (s new : State) (sound : IsSoundEngine s) (number : ℕ) (bytes : List ℕ) (taken : ℕ) (stop : Stop) (d d' : Held)
     (at : slice_get (held_in s) number ≡ Some d) (items : held_in new ≡ slice_set (held_in s) number d')
-    (f : IsFed s.calls d number bytes taken stop new.calls d') (keyed : AreKeyed new.connections.items new.slab)
+    (f : IsFed s.offer s.calls d number bytes taken stop new.calls d') (keyed : AreKeyed new.connections.items new.slab)
     (as_many : slab_len new.slab ≡ slab_len s.slab) (same : new ≡ fed_state s new) where
   there : slice_get (held_in s) number ≡ Some (Open f.before)
   there = at ∙ ap (λ (k : Held). Some k) f.was
@@ -293,7 +294,7 @@ module _ (s : State) (sound : IsSoundEngine s) (i key : ℕ) (at : slice_get s.c
   given = record s { slab = slab'; calls = calls' }
 
   -- takes none
-  module _ (r : ReceivesUnder s.calls s.slab key i bytes None calls' slab') where
+  module _ (r : ReceivesUnder s.offer s.calls s.slab key i bytes None calls' slab') where
     stood : slice_get (held_in s) i ≡ Some (Open r.before)
     stood = found-open s.connections.items s.slab i key r.before at r.was
 
@@ -319,7 +320,7 @@ module _ (s : State) (sound : IsSoundEngine s) (i key : ℕ) (at : slice_get s.c
     untaken-sound = unfed-sound s given i (Open r.before) (Open r.after) stood set_none r.receives.1 r.receives.2 keyed_none many_none refl sound
 
   -- or so many
-  module _ (stays : WithoutHomeStays) (taken : ℕ) (stop : Stop) (r : ReceivesUnder s.calls s.slab key i bytes (Some (taken, stop)) calls' slab') where
+  module _ (stays : WithoutHomeStays) (taken : ℕ) (stop : Stop) (r : ReceivesUnder s.offer s.calls s.slab key i bytes (Some (taken, stop)) calls' slab') where
     stands : slice_get (held_in s) i ≡ Some (Open r.before)
     stands = found-open s.connections.items s.slab i key r.before at r.was
 
@@ -334,7 +335,7 @@ module _ (s : State) (sound : IsSoundEngine s) (i key : ℕ) (at : slice_get s.c
 
     pub taken-events : Does s (events.Feed i bytes) (Ok (dones.Fed taken stop)) given
     taken-events = (
-      may-take s i (Open r.before) true stands (open-takes (Open r.before) r.receives.before r.receives.was r.receives.takes),
+      may-take s i (Open r.before) true stands (open-takes s.offer (Open r.before) r.receives.before r.receives.was r.receives.takes),
       (
         taken,
         stop_number stop,

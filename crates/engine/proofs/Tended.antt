@@ -157,7 +157,7 @@ module _ (s : State) (sound : IsSoundEngine s) (i : ℕ) (call : InnerCall) (may
 
     module _ (set : t.workers.items ≡ slice_set s.workers.items i (worker_with Idle hand)) where
       changed : IsChanged s new i place (worker_with Idle hand)
-      changed = record { there = may.there; set = set; verifier = refl; layout = refl; many = refl }
+      changed = record { there = may.there; set = set; offer = refl; verifier = refl; layout = refl; many = refl }
 
       pub tended_setup : setup_in new ≡ setup_in s
       tended_setup = same_setup changed

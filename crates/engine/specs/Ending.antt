@@ -21,7 +21,6 @@ use Rattle.engine_feed.specs.declared.state.CallsState.{CallsState}
 use Rattle.engine_feed.specs.declared.state.ConnectionState.{ConnectionState}
 use Rattle.engine_feed.specs.Codec.{reply_record}
 use Rattle.engine_feed.specs.Seen.{owed_by, finished_message}
-use Rattle.engine_feed.specs.Streams.{codec}
 use Rattle.engine_feed.specs.Within.{Shows, with_calls}
 use Rattle.slab.specs.Slab.{Slab, slab_len}
 use Rattle.engine.specs.declared.connection.Connection.{Connection}
@@ -54,7 +53,7 @@ answer_made reply = Replied reply
 -- a message is finished in every world of which these calls and its connection are a part, and so many bytes were written
 abbrev pub EndsIn : CallsState → Held → Running → types.Reply → Bool → ℕ → CallsState → Held → Type 0
 EndsIn calls place r reply starved count calls' place' =
-    (setup : Setup) (w : World) → setup.codec ≡ codec → Shows calls w
+    (setup : Setup) (w : World) → setup.codec.reply_record ≡ reply_record → Shows calls w
     → slice_get w.connections r.message.origin.connection.0 ≡ Some (connection_seen place)
     → (record (with_calls calls' w) { connections = changed_at (λ x. connection_seen place') w.connections r.message.origin.connection.0 }
     ≡ finish setup w (finished_message r.message (moment_of r.moment) starved) reply)

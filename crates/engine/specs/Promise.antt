@@ -17,10 +17,10 @@ pub record Promise (es : List events.Event) (e : Shown) : Type 0 where
   -- finishing order of all calls, each under its own xid; finished calls are distinct records of the streams; block parts partition
   -- every volume; no two running messages exclude each other.
   pub headline : HasHeadline e
-  -- What a stream serves, by which the headline names records, is what its records are by record marking (RFC 5531 section 11): the
-  -- calls and refusals that these are, in order, up to the first fault.
+  -- What a stream serves, by which the headline names records, is what its records are by record marking (RFC 5531 section 11), read
+  -- by what the engine offers: the calls and refusals that these are, in order, up to the first fault.
   pub streams : (c : ℕ) (x : Connection) → slice_get e.world.connections c ≡ Some x → AreBytes x.stream
-      → IsServed x.stream ((setup_in e).codec.scan x.stream)
+      → IsServed e.offer x.stream ((setup_in e).codec.scan x.stream)
   -- A reply that was computed when its call was worked is the serial server's when the call is finished, whatever finished in between.
   pub outcomes : HasOutcomes e
   -- The engine's parcels are as the history of its seat left them, those of running messages as they are now, and the calls of that

@@ -4,6 +4,7 @@ use Rattle.nfs_model.specs.Tree.{Layout}
 use Rattle.nfs_model.specs.Work as tasks
 use Rattle.nfs_model.specs.World as worlds
 use Rattle.nfs_model.specs.Events.Refusals as events
+use Rattle.nfs_values.specs.declared.offer.Offer.{Offer}
 use Rattle.nfs_values.specs.Moment.{moment_of}
 use Rattle.affinity.specs.Affinity.{affinity_of}
 use Rattle.desk.specs.laws.Books.{now, stamps}
@@ -58,12 +59,12 @@ worker_seen k = record { running = running_seen k.run; hand = k.hand }
 -- ---- the world
 
 -- what is fixed for a run of so many workers
-abbrev pub setup_of : Layout → List ℕ → ℕ → worlds.Setup
-setup_of layout verifier workers =
-    record { codec = codec; layout = layout; verifier = verifier; workers = workers; connections = 64 }
+abbrev pub setup_of : Offer → Layout → List ℕ → ℕ → worlds.Setup
+setup_of offer layout verifier workers =
+    record { codec = codec offer; layout = layout; verifier = verifier; workers = workers; connections = 64 }
 
 abbrev pub setup_in : State → worlds.Setup
-setup_in s = setup_of (layout_in s.calls) s.verifier.0 (length s.workers.items)
+setup_in s = setup_of s.offer (layout_in s.calls) s.verifier.0 (length s.workers.items)
 
 abbrev pub world : State → worlds.World
 world s = record {

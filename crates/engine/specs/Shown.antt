@@ -7,6 +7,7 @@ use Rattle.nfs_model.specs.World.{Setup, World, all_running}
 use Rattle.nfs_model.specs.Headline.{Headline, IsOutcome, start, opening_world}
 use Rattle.nfs_model.specs.Events.Refusals as events
 use Rattle.nfs_model.specs.Events.Step.{Events, Runs}
+use Rattle.nfs_values.specs.declared.offer.Offer.{Offer}
 use Rattle.depot.specs.Words.{view}
 use Rattle.desk.specs.Words.{books}
 use Rattle.filer_state.specs.declared.files.Files.{Files}
@@ -22,6 +23,7 @@ use Rattle.engine.specs.Seen as fields
 use Rattle.engine.specs.Seen.{setup_of, event_of, answer_of}
 
 pub record Shown : Type 0 where
+  pub offer : Offer
   pub layout : Layout
   pub verifier : List ℕ
   pub workers : ℕ
@@ -34,6 +36,7 @@ history_in s = record { first = (view s.desk.seat).first; entries = map (entry_s
 
 abbrev pub shown : State → Shown
 shown s = record {
+  offer = s.offer;
   layout = layout_in s.calls;
   verifier = s.verifier.0;
   workers = length s.workers.items;
@@ -42,7 +45,7 @@ shown s = record {
 }
 
 abbrev pub setup_in : Shown → Setup
-setup_in e = setup_of e.layout e.verifier e.workers
+setup_in e = setup_of e.offer e.layout e.verifier e.workers
 
 -- the event is the model's: it is refused and changes nothing, or answers and does what the model says
 abbrev pub Does : Shown → events.Event → Result Done Refusal → Shown → Type 0

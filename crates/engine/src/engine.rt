@@ -5,6 +5,7 @@ ghost use Rattle.std.specs.Prelude.{slice_get, IfOk};
 ghost use Rattle.nfs_model.specs.World.{counts_of};
 ghost use Rattle.nfs_model.specs.Headline.{opening_world};
 ghost use Rattle.affinity.specs.Layout.{layout_of};
+ghost use Rattle.nfs_values.specs.Offer.{basic};
 ghost use Rattle.engine_feed.specs.Seen.{entry_of};
 ghost use Rattle.engine.specs.counts.Counts.{parts_told, world_counts};
 ghost use Rattle.engine.specs.Engine.{output_in, stream_in};
@@ -30,10 +31,10 @@ use crate::worker::Worker;
 use crate::working::work;
 use affinity::Layout;
 use engine_feed::FinishedCall;
-use engine_feed::laws::{codec_is_scan, streams_are_served};
+use engine_feed::laws::{codecs_are_scans, streams_are_served};
 use filer_state::laws::parts_partition;
 use nfs_laws::laws::{events_keep_headline, opening_meets_headline};
-use nfs_values::VolumeNumber;
+use nfs_values::{Offer, VolumeNumber};
 use std::alloc::{AllocError, Global};
 use std::marker::Model;
 
@@ -126,9 +127,11 @@ impl Model for Engine {
 }
 
 impl Engine {
-    /// An engine to which nothing has happened, with so many workers, from 1 to 64.
-    pub fn new(
+    /// An engine to which nothing has happened, which reads by what is offered, with so many
+    /// workers, from 1 to 64.
+    pub fn offering(
         alloc: Global,
+        offer: Offer,
         layout: Layout,
         verifier: [u8; 8],
         workers: usize,
@@ -136,7 +139,7 @@ impl Engine {
         requires workers { 1 ≤ workers }
         requires most { workers ≤ 64 }
         ensures setup { IfOk result (λ engine.
-            setup_in engine ≡ setup_of (layout_of layout) verifier workers) }
+            setup_in engine ≡ setup_of offer (layout_of layout) verifier workers) }
         ensures opening { IfOk result (λ engine.
             engine.world ≡ opening_world (setup_in engine)) }
         ensures headline { IfOk result (λ engine. HasHeadline engine) }
@@ -147,8 +150,29 @@ impl Engine {
         streams_are_served();
         opening_meets_headline();
         let counts = opening_counts(alloc, &layout)?;
-        let state = open(alloc, layout, verifier, workers)?;
+        let state = open(alloc, offer, layout, verifier, workers)?;
         Ok(Engine { state, counts })
+    }
+
+    /// An engine to which nothing has happened, with the basic offer.
+    pub fn new(
+        alloc: Global,
+        layout: Layout,
+        verifier: [u8; 8],
+        workers: usize,
+    ) -> Result<Engine, AllocError>
+        requires workers { 1 ≤ workers }
+        requires most { workers ≤ 64 }
+        ensures setup { IfOk result (λ engine.
+            setup_in engine ≡ setup_of basic (layout_of layout) verifier workers) }
+        ensures opening { IfOk result (λ engine.
+            engine.world ≡ opening_world (setup_in engine)) }
+        ensures headline { IfOk result (λ engine. HasHeadline engine) }
+        ensures outcomes { IfOk result (λ engine. HasOutcomes engine) }
+        ensures history { IfOk result (λ engine. HasHistory engine) }
+        ensures promise { IfOk result (λ engine. Promise [] engine) }
+    {
+        Engine::offering(alloc, Offer::basic(), layout, verifier, workers)
     }
 
     /// Takes one event. A refused one changes nothing.
@@ -160,7 +184,7 @@ impl Engine {
         ensures history { HasHistory self.new }
         ensures promise { GoesOn self.old (event_of event.entry ∷ []) self.new }
     {
-        codec_is_scan();
+        codecs_are_scans();
         streams_are_served();
         parts_partition();
         events_keep_headline();
@@ -197,7 +221,7 @@ impl Engine {
         requires workers { 1 ≤ workers }
         requires most { workers ≤ 64 }
         ensures setup { IfOk result (λ engine.
-            setup_in engine ≡ setup_of (layout_of layout) verifier workers) }
+            setup_in engine ≡ setup_of basic (layout_of layout) verifier workers) }
         ensures runs { IfOk result (λ engine. HasPlayed events.now engine) }
         ensures headline { IfOk result (λ engine. HasHeadline engine) }
         ensures outcomes { IfOk result (λ engine. HasOutcomes engine) }

@@ -12,7 +12,7 @@ use crate::event::{Done, Refusal};
 use crate::state::State;
 use engine_feed::{Calls, OpenConnection, Stop};
 use nfs_laws::laws::without_home_stays;
-use nfs_values::ConnectionNumber;
+use nfs_values::{ConnectionNumber, Offer};
 use slab::Slab;
 
 /// Takes bytes on the open connection that is kept under a key, where it is at no fault: how many,
@@ -21,11 +21,13 @@ fn receive(
     slab: &mut Slab<OpenConnection>,
     key: usize,
     calls: &mut Calls,
+    offer: Offer,
     number: ConnectionNumber,
     bytes: &[u8],
 ) -> Option<(usize, Stop)>
     requires { ContainsKey slab.old key }
-    ensures { ReceivesUnder calls.old slab.old key number.0 bytes.now result calls.new slab.new }
+    ensures { ReceivesUnder offer calls.old slab.old key number.0 bytes.now result
+        calls.new slab.new }
 {
     let on = match slab.get_mut(key) {
         Some(on) => on,
@@ -34,7 +36,7 @@ fn receive(
     if !on.takes_input() {
         return None;
     }
-    Some(on.feed(calls, number, bytes))
+    Some(on.feed(calls, offer, number, bytes))
 }
 
 /// Takes bytes on a connection that is open and at no fault.
@@ -50,7 +52,14 @@ pub(crate) fn feed(state: &mut State, connection: usize, bytes: &[u8]) -> Result
     };
     without_home_stays();
     let number = ConnectionNumber(connection);
-    match receive(&mut state.slab, key, &mut state.calls, number, bytes) {
+    match receive(
+        &mut state.slab,
+        key,
+        &mut state.calls,
+        state.offer,
+        number,
+        bytes,
+    ) {
         None => Err(Refusal::Closed),
         Some((taken, stop)) => Ok(Done::Fed { taken, stop }),
     }

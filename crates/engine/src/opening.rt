@@ -14,7 +14,7 @@ use desk::{Desk, ParcelKinds};
 use engine_feed::Calls;
 use filer_state::laws::begins_sound;
 use filer_state::{Files, opening_parcels};
-use nfs_values::Verifier;
+use nfs_values::{Offer, Verifier};
 use parcels::Hand;
 use service::{BatchInHand, Service};
 use slab::Slab;
@@ -38,6 +38,7 @@ fn idle(alloc: Global, count: usize) -> Result<Vec<Worker>, AllocError>
 /// The fields of an engine to which nothing has happened.
 pub(crate) fn open(
     alloc: Global,
+    offer: Offer,
     layout: Layout,
     verifier: [u8; 8],
     workers: usize,
@@ -45,7 +46,7 @@ pub(crate) fn open(
     requires some { 1 ≤ workers }
     requires most { workers ≤ 64 }
     ensures setup { IfOk result (λ state.
-        setup_in state ≡ setup_of (layout_of layout) verifier workers) }
+        setup_in state ≡ setup_of offer (layout_of layout) verifier workers) }
     ensures opening { IfOk result (λ state. world state ≡ opening_world (setup_in state)) }
     ensures sound { IfOk result (λ state. IsSoundEngine state) }
 {
@@ -58,6 +59,7 @@ pub(crate) fn open(
     let desk = Desk::<Service, ParcelKinds>::new(alloc, layout, parcels, workers)?;
     Ok(State {
         alloc,
+        offer,
         verifier,
         connections: Vec::new(alloc),
         slab: Slab::new(alloc),

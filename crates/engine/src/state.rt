@@ -4,7 +4,7 @@ use crate::connection::Connection;
 use crate::worker::Worker;
 use desk::{Desk, ParcelKinds};
 use engine_feed::{Calls, OpenConnection};
-use nfs_values::Verifier;
+use nfs_values::{Offer, Verifier};
 use service::Service;
 use slab::Slab;
 use std::alloc::Global;
@@ -23,6 +23,8 @@ pub(crate) const SECOND: u32 = 1_000_000_000;
 #[derive(Drop)]
 pub(crate) struct State {
     pub(crate) alloc: Global,
+    /// By what is offered records are read.
+    pub(crate) offer: Offer,
     pub(crate) verifier: Verifier,
     /// By number.
     pub(crate) connections: Vec<Connection>,

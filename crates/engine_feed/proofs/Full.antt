@@ -8,6 +8,7 @@ use Rattle.nfs_model.specs.World as worlds
 use Rattle.nfs_model.specs.World.{Heard, Scanned, World, Setup, is_crowded}
 use Rattle.nfs_model.specs.Events.Feed.{feeding, with_bytes, bytes_taken}
 use Rattle.nfs_laws.specs.Walk.{AtFault, reached, reached_by, is_complete, Walks, Stops}
+use Rattle.nfs_values.specs.declared.offer.Offer.{Offer}
 use Rattle.engine_feed.specs.declared.state.ConnectionState.{ConnectionState}
 use Rattle.engine_feed.specs.declared.stop.StreamFault.{StreamFault}
 use Rattle.engine_feed.specs.declared.stop.StreamFault.TheVariants.{RecordTooLong}
@@ -24,8 +25,6 @@ use Rattle.engine_feed.proofs.Looks.{take-front, take-within}
 use Rattle.engine_feed.proofs.Records.{not-too-long}
 use Rattle.engine_feed.proofs.Worlds.{Walks-after, reached-is, reached-quiet, takes-quiet, connection-taken, quiet-scan}
 use Rattle.engine_feed.proofs.Fed.{IsFed, part-fault}
-
--- ---- the byte that would complete a record
 
 completes_at : (served : List Heard) (r : Result Heard ℕ) → ((n : ℕ) → r ≡ Err n → (n == 11) ≡ false)
     → is_complete (reached_by (joined served (served_of (r ∷ []) None)) (length served)) ≡ true
@@ -47,91 +46,98 @@ rest-is bytes front last free e =
 both : (b d : Bool) → b ≡ true → d ≡ true → (b && d) ≡ true
 both b d e f = rw (e, f) refl
 
-full_at : (setup : Setup) (codec_is : setup.codec ≡ codec) (o : ConnectionState) (w : World) (c : ℕ) (bytes : List ℕ) (free : ℕ) (made : List ℕ)
-    → IsFed w c o → is_crowded w ≡ true
-    → free < length bytes
-    → Completes o.stream.items (take (suc free) bytes) (scanned_with o.stream.items made)
-    → Walks setup (feeding c bytes free 31) w (bytes_taken w c (take free bytes))
-full_at setup codec_is o w c bytes free made f crowd h k =
-    let stream = o.stream.items in
-    let front : k.front ≡ take free bytes = front-is bytes k.front k.last free h k.split in
-    let middle : World = bytes_taken w c k.front in
-    let y : worlds.Connection = with_bytes k.front (connection_of o) in
-    let there : slice_get middle.connections c ≡ Some y = connection-taken w c k.front (connection_of o) f.there in
-    let same : scan_stream y.stream ≡ scan_stream stream = quiet-scan stream k.front k.quiet in
-    let whole : scan_stream (y.stream ++ k.last ∷ []) ≡ scanned_with stream made = ap scan_stream (append_assoc stream k.front (k.last ∷ [])
-    ∙ ap (λ (xs : List ℕ). stream ++ xs) (sym k.split)) ∙ k.complete in
-    let at : reached setup middle c k.last ≡ reached_by (scanned_with stream made) (length (scan_stream stream).served) =
-    reached-is setup codec_is middle c k.last y _ there whole
-    ∙ ap (λ (t : Scanned). reached_by (scanned_with stream made) (length t.served)) same in
-    let ends : is_complete (reached setup middle c k.last) ≡ true = ap is_complete at
-    ∙ completes_at (scan_stream stream).served (heard made) (not-too-long made) in
-    let stops : Stops middle (reached setup middle c k.last) 0 31 middle =
-    (refl, refl, inl (refl, both (is_crowded middle) (is_complete (reached setup middle c k.last)) crowd ends)) in
-    let fed : Walks setup (feeding c (k.front ++ (k.last ∷ drop (suc free) bytes)) (length k.front + 0) 31) w middle =
-    Walks-after setup c w middle middle k.front (k.last ∷ drop (suc free) bytes) 0 31
-    (takes-quiet setup codec_is w c k.front (connection_of o) f.there f.sound k.quiet) (inl stops) in
-    let size : length k.front + 0 ≡ free = omega (arith, ap length front, length-take-le free bytes (omega arith)) in
-    let new : middle ≡ bytes_taken w c (take free bytes) = ap (bytes_taken w c) front in
-    subst (Walks setup (feeding c bytes free 31) w) new
-    (subst (λ (n : ℕ). Walks setup (feeding c bytes n 31) w middle) size
-    (subst (λ (bs : List ℕ). Walks setup (feeding c bs (length k.front + 0) 31) w middle) (rest-is bytes k.front k.last free k.split) fed))
-
-pub full-stop : (setup : Setup) (codec_is : setup.codec ≡ codec) (o : ConnectionState) (w : World) (c : ℕ) (bytes : List ℕ) (free : ℕ) (at : Option State)
-    → IsFed w c o
-    → at ≡ o.reassembler → is_crowded w ≡ true → free < length bytes
-    → (made : List ℕ) × (outcome at bytes ≡ Made (free + 1) made) → Walks setup (feeding c bytes free 31) w (bytes_taken w c (take free bytes))
-full-stop setup codec_is o w c bytes free at f a crowd h next =
-    let i = is-at o.stream.items f.sound in
-    let stands : at ≡ Some i.0 = a ∙ sym f.stands ∙ i.1.at in
-    let scanned : scan 0 i.0 bytes ≡ Made (free + 1) next.0 = ap (λ (x : Option State). outcome x bytes) (sym stands) ∙ next.1 in
-    let e = scan-made o.stream.items bytes next.0 i.0 0 (free + 1) i.1 scanned in
-    let count : e.before ≡ free = omega (arith, e.count) in
-    full_at setup codec_is o w c bytes free next.0 f crowd h
-    (subst (λ (n : ℕ). Completes o.stream.items (take (suc n) bytes) (scanned_with o.stream.items next.0)) count e.completes)
-
--- ---- the first byte, where some are free
-
 false_after : (b d : Bool) → d ≡ false → (b && d) ≡ false
 false_after true d e = e
 false_after false d e = refl
 
-first_at : (setup : Setup) (codec_is : setup.codec ≡ codec) (o : ConnectionState) (w : World) (c b : ℕ) (bytes : List ℕ) (state : State) (next : Next)
-    → IsFed w c o
-    → IsAt o.stream.items state → after state b ≡ next
-    → HasNoRecord (go 1 next (λ t. scan 1 t bytes)) → is_complete (reached setup w c b) ≡ false
-first_at setup codec_is o w c b bytes state (Goes next) f i a n =
-    ap is_complete (reached-is setup codec_is w c b (connection_of o) _ f.there (scan-goes o.stream.items state next b i a).0
-    ∙ reached-quiet (scan_stream o.stream.items) f.sound)
-first_at setup codec_is o w c b bytes state (Ends made) f i a n = absurd n
-first_at setup codec_is o w c b bytes state Faults f i a n =
-    ap is_complete (reached-is setup codec_is w c b (connection_of o) _ f.there (scan-faults o.stream.items state b i a).0)
+module _ (offer : Offer) where
+  -- ---- the byte that would complete a record
 
-pub full-nothing : (setup : Setup) (codec_is : setup.codec ≡ codec) (o : ConnectionState) (w : World) (c : ℕ) (bytes : List ℕ) (free : ℕ) (at : Option State)
-    → IsFed w c o
-    → at ≡ o.reassembler → 0 < length bytes → (free ≡ 0 → ⊥)
-    → HasNoRecord (outcome at (take free bytes)) → Walks setup (feeding c bytes 0 90) w w
-full-nothing setup codec_is o w c [] free at f a h z n = absurd (omega arith)
-full-nothing setup codec_is o w c (b ∷ bytes) zero at f a h z n = absurd (z refl)
-full-nothing setup codec_is o w c (b ∷ bytes) (suc free) at f a h z n =
-    let i = is-at o.stream.items f.sound in
-    let stands : at ≡ Some i.0 = a ∙ sym f.stands ∙ i.1.at in
-    let none : HasNoRecord (scan 0 i.0 (b ∷ take free bytes)) = subst (λ (x : Option State). HasNoRecord (outcome x (b ∷ take free bytes))) stands n in
-    inl (refl, refl, inr (refl, false_after (is_crowded w) _ (first_at setup codec_is o w c b (take free bytes) i.0 (after i.0 b) f i.1 refl none)))
+  full_at : (setup : Setup) (codec_is : setup.codec ≡ codec offer) (o : ConnectionState) (w : World) (c : ℕ) (bytes : List ℕ) (free : ℕ) (made : List ℕ)
+      → IsFed offer w c o → is_crowded w ≡ true
+      → free < length bytes
+      → Completes offer o.stream.items (take (suc free) bytes) (scanned_with offer o.stream.items made)
+      → Walks setup (feeding c bytes free 31) w (bytes_taken w c (take free bytes))
+  full_at setup codec_is o w c bytes free made f crowd h k =
+      let stream = o.stream.items in
+      let front : k.front ≡ take free bytes = front-is bytes k.front k.last free h k.split in
+      let middle : World = bytes_taken w c k.front in
+      let y : worlds.Connection = with_bytes k.front (connection_of o) in
+      let there : slice_get middle.connections c ≡ Some y = connection-taken w c k.front (connection_of o) f.there in
+      let same : scan_stream offer y.stream ≡ scan_stream offer stream = quiet-scan offer stream k.front k.quiet in
+      let whole : scan_stream offer (y.stream ++ k.last ∷ []) ≡ scanned_with offer stream made = ap (scan_stream offer) (append_assoc stream k.front (k.last
+      ∷ [])
+      ∙ ap (λ (xs : List ℕ). stream ++ xs) (sym k.split)) ∙ k.complete in
+      let at : reached setup middle c k.last ≡ reached_by (scanned_with offer stream made) (length (scan_stream offer stream).served) =
+      reached-is offer setup codec_is middle c k.last y _ there whole
+      ∙ ap (λ (t : Scanned). reached_by (scanned_with offer stream made) (length t.served)) same in
+      let ends : is_complete (reached setup middle c k.last) ≡ true = ap is_complete at
+      ∙ completes_at (scan_stream offer stream).served (heard offer made) (not-too-long offer made) in
+      let stops : Stops middle (reached setup middle c k.last) 0 31 middle =
+      (refl, refl, inl (refl, both (is_crowded middle) (is_complete (reached setup middle c k.last)) crowd ends)) in
+      let fed : Walks setup (feeding c (k.front ++ (k.last ∷ drop (suc free) bytes)) (length k.front + 0) 31) w middle =
+      Walks-after setup c w middle middle k.front (k.last ∷ drop (suc free) bytes) 0 31
+      (takes-quiet offer setup codec_is w c k.front (connection_of o) f.there f.sound k.quiet) (inl stops) in
+      let size : length k.front + 0 ≡ free = omega (arith, ap length front, length-take-le free bytes (omega arith)) in
+      let new : middle ≡ bytes_taken w c (take free bytes) = ap (bytes_taken w c) front in
+      subst (Walks setup (feeding c bytes free 31) w) new
+      (subst (λ (n : ℕ). Walks setup (feeding c bytes n 31) w middle) size
+      (subst (λ (bs : List ℕ). Walks setup (feeding c bs (length k.front + 0) 31) w middle) (rest-is bytes k.front k.last free k.split) fed))
 
--- ---- a fault among the free bytes
+  pub full-stop : (setup : Setup) (codec_is : setup.codec ≡ codec offer) (o : ConnectionState) (w : World) (c : ℕ) (bytes : List ℕ) (free : ℕ)
+      (at : Option State)
+      → IsFed offer w c o
+      → at ≡ o.reassembler → is_crowded w ≡ true → free < length bytes
+      → (made : List ℕ) × (outcome at bytes ≡ Made (free + 1) made) → Walks setup (feeding c bytes free 31) w (bytes_taken w c (take free bytes))
+  full-stop setup codec_is o w c bytes free at f a crowd h next =
+      let i = is-at offer o.stream.items f.sound in
+      let stands : at ≡ Some i.0 = a ∙ sym f.stands ∙ i.1.at in
+      let scanned : scan 0 i.0 bytes ≡ Made (free + 1) next.0 = ap (λ (x : Option State). outcome x bytes) (sym stands) ∙ next.1 in
+      let e = scan-made offer o.stream.items bytes next.0 i.0 0 (free + 1) i.1 scanned in
+      let count : e.before ≡ free = omega (arith, e.count) in
+      full_at setup codec_is o w c bytes free next.0 f crowd h
+      (subst (λ (n : ℕ). Completes offer o.stream.items (take (suc n) bytes) (scanned_with offer o.stream.items next.0)) count e.completes)
 
-pub full-fault : (setup : Setup) (codec_is : setup.codec ≡ codec) (o : ConnectionState) (w new : World) (c : ℕ) (bytes : List ℕ) (free taken : ℕ)
-    (fault : StreamFault) → IsFed w c o
-    → fault ≡ RecordTooLong → free ≤ length bytes → taken ≤ free
-    → new ≡ bytes_taken w c (take taken (take free bytes))
-    → Completes o.stream.items (take taken (take free bytes)) (record { served = (scan_stream o.stream.items).served; fault = Some (fault_number fault) })
-    → Walks setup (feeding c bytes taken (fault_number fault)) w new
-full-fault setup codec_is o w new c bytes free taken fault f e h t n k =
-    let same : take taken (take free bytes) ≡ take taken bytes = take-within taken free bytes t in
-    let room : (is_crowded w && is_complete (AtFault (fault_number fault))) ≡ false = false_after (is_crowded w) _
-    (ap (λ (x : StreamFault). is_complete (AtFault (fault_number x))) e) in
-    subst (Walks setup (feeding c bytes taken (fault_number fault)) w) (sym (n ∙ ap (bytes_taken w c) same))
-    (part-fault setup codec_is o w c bytes taken fault f room (omega arith)
-    (subst (λ (xs : List ℕ). Completes o.stream.items xs
-    (record { served = (scan_stream o.stream.items).served; fault = Some (fault_number fault) })) same k))
+  -- ---- the first byte, where some are free
+
+  first_at : (setup : Setup) (codec_is : setup.codec ≡ codec offer) (o : ConnectionState) (w : World) (c b : ℕ) (bytes : List ℕ) (state : State) (next : Next)
+      → IsFed offer w c o
+      → IsAt offer o.stream.items state → after state b ≡ next
+      → HasNoRecord (go 1 next (λ t. scan 1 t bytes)) → is_complete (reached setup w c b) ≡ false
+  first_at setup codec_is o w c b bytes state (Goes next) f i a n =
+      ap is_complete (reached-is offer setup codec_is w c b (connection_of o) _ f.there (scan-goes offer o.stream.items state next b i a).0
+      ∙ reached-quiet (scan_stream offer o.stream.items) f.sound)
+  first_at setup codec_is o w c b bytes state (Ends made) f i a n = absurd n
+  first_at setup codec_is o w c b bytes state Faults f i a n =
+      ap is_complete (reached-is offer setup codec_is w c b (connection_of o) _ f.there (scan-faults offer o.stream.items state b i a).0)
+
+  pub full-nothing : (setup : Setup) (codec_is : setup.codec ≡ codec offer) (o : ConnectionState) (w : World) (c : ℕ) (bytes : List ℕ) (free : ℕ)
+      (at : Option State)
+      → IsFed offer w c o
+      → at ≡ o.reassembler → 0 < length bytes → (free ≡ 0 → ⊥)
+      → HasNoRecord (outcome at (take free bytes)) → Walks setup (feeding c bytes 0 90) w w
+  full-nothing setup codec_is o w c [] free at f a h z n = absurd (omega arith)
+  full-nothing setup codec_is o w c (b ∷ bytes) zero at f a h z n = absurd (z refl)
+  full-nothing setup codec_is o w c (b ∷ bytes) (suc free) at f a h z n =
+      let i = is-at offer o.stream.items f.sound in
+      let stands : at ≡ Some i.0 = a ∙ sym f.stands ∙ i.1.at in
+      let none : HasNoRecord (scan 0 i.0 (b ∷ take free bytes)) = subst (λ (x : Option State). HasNoRecord (outcome x (b ∷ take free bytes))) stands n in
+      inl (refl, refl, inr (refl, false_after (is_crowded w) _ (first_at setup codec_is o w c b (take free bytes) i.0 (after i.0 b) f i.1 refl none)))
+
+  -- ---- a fault among the free bytes
+
+  pub full-fault : (setup : Setup) (codec_is : setup.codec ≡ codec offer) (o : ConnectionState) (w new : World) (c : ℕ) (bytes : List ℕ) (free taken : ℕ)
+      (fault : StreamFault) → IsFed offer w c o
+      → fault ≡ RecordTooLong → free ≤ length bytes → taken ≤ free
+      → new ≡ bytes_taken w c (take taken (take free bytes))
+      → Completes offer o.stream.items (take taken (take free bytes))
+      (record { served = (scan_stream offer o.stream.items).served; fault = Some (fault_number fault) })
+      → Walks setup (feeding c bytes taken (fault_number fault)) w new
+  full-fault setup codec_is o w new c bytes free taken fault f e h t n k =
+      let same : take taken (take free bytes) ≡ take taken bytes = take-within taken free bytes t in
+      let room : (is_crowded w && is_complete (AtFault (fault_number fault))) ≡ false = false_after (is_crowded w) _
+      (ap (λ (x : StreamFault). is_complete (AtFault (fault_number x))) e) in
+      subst (Walks setup (feeding c bytes taken (fault_number fault)) w) (sym (n ∙ ap (bytes_taken w c) same))
+      (part-fault offer setup codec_is o w c bytes taken fault f room (omega arith)
+      (subst (λ (xs : List ℕ). Completes offer o.stream.items xs
+      (record { served = (scan_stream offer o.stream.items).served; fault = Some (fault_number fault) })) same k))

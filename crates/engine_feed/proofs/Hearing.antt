@@ -36,7 +36,7 @@ pub waits : (calls calls' : CallsState) (c c' : ConnectionState) (m : Message Ca
     → types.Ask (call_of m.call) (credential_of m.credential) ≡ asked
     → home_of_asked (layout_in calls) asked ≡ Some (affinity_of m.affinity)
     → HasHeard calls c m.origin asked false calls' c'
-waits calls calls' c c' m asked w a h setup v k p =
+waits calls calls' c c' m asked w a h offer setup v k p =
     let n = m.origin.connection.0 in
     let more : waiting_of calls' ≡ v.waiting ++ message_of m ∷ [] = ap waiting_of w.waits ∙ map_push message_of calls.waiting m
     ∙ ap (λ (ms : List worlds.Message). ms ++ message_of m ∷ []) (sym p.shows.waiting) in
@@ -63,7 +63,7 @@ pub at-once : (calls calls' : CallsState) (c c' : ConnectionState) (origin : Ori
     → home (layout_in calls) call ≡ None → answer ≡ answer_without_home (layout_in calls) call
     → Finishes calls c (entry_at origin (types.Ask call credential) None start_of_times false) (types.Success answer) calls' c'
     → HasHeard calls c origin (types.Ask call credential) false calls' c'
-at-once calls calls' c c' origin call credential answer law h a f setup v k p =
+at-once calls calls' c c' origin call credential answer law h a f offer setup v k p =
     let n = origin.connection.0 in
     let asked : types.Asked = types.Ask call credential in
     let stays : serve v.server call credential start_of_times ≡ stay v.server (answer_without_home (layout_in calls) call) =
@@ -71,7 +71,7 @@ at-once calls calls' c c' origin call credential answer law h a f setup v k p =
     let reply : types.Success answer ≡ (serial v.server asked start_of_times false).reply = ap (λ (x : types.Answer). types.Success x) a
     ∙ sym (ap (λ (t : Step). t.reply) stays) in
     let nowhere : home_of_asked setup.layout asked ≡ None = ap (λ (l : trees.Layout). home l call) k.layout ∙ h in
-    f setup v k.codec p.shows p.connection
+    f setup v (ap (λ (q : worlds.Codec). q.reply_record) k.codec) p.shows p.connection
     ∙ ap (worlds.finish setup v (entry_at origin asked None start_of_times false)) reply
     ∙ ap (λ (o : Option trees.Affinity). admit setup v n origin.number (record { xid = origin.xid; asked = asked }) o) (sym nowhere)
 

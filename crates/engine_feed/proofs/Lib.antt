@@ -3,6 +3,8 @@ pub mod Taking
 pub mod Worlds
 pub mod Arriving
 pub mod Records
+pub mod Heads
+pub mod Faults
 pub mod Serves
 pub mod Marking
 pub mod Looks

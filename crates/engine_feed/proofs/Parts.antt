@@ -99,6 +99,6 @@ finishes calls calls' c c' e reply o m f setup w k s there =
     lists-same w _ (changed_at (with_output (setup.codec.reply_record e.xid reply)) w.connections n) _ w.waiting _ (w.finished ++ e ∷ [])
     (ap (λ (y : Connection). changed_at (λ x. y) w.connections n) o
     ∙ put-at (with_output (reply_record e.xid reply)) (connection_of c) w.connections n there
-    ∙ ap (λ (q : Codec). changed_at (with_output (q.reply_record e.xid reply)) w.connections n) (sym k))
+    ∙ ap (λ (q : ℕ → types.Reply → List ℕ). changed_at (with_output (q e.xid reply)) w.connections n) (sym k))
     (m ∙ sym s.waiting)
     (f ∙ ap (λ (es : List replays.FinishedCall). es ++ e ∷ []) (sym s.finished))

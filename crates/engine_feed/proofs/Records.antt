@@ -4,7 +4,7 @@ use Rattle.std.specs.Prelude.{◌==◌}
 use Rattle.std.proofs.lemmas.Bool.Decides.{nat_tests}
 use Rattle.nfs_model.specs.World.{Heard, IsDecoded}
 use Rattle.nfs_model.specs.Types as types
-use Rattle.nfs_values.specs.Offer.{basic}
+use Rattle.nfs_values.specs.declared.offer.Offer.{Offer}
 use Rattle.rpc_msg.specs.Replies as replies
 use Rattle.rpc_msg.specs.Room.{refusal_room}
 use Rattle.engine_feed.specs.Limit.{reply_limit}
@@ -22,11 +22,11 @@ not_eleven n (inl e) = grind (arith, nat_tests)
 not_eleven n (inr e) = grind (arith, nat_tests)
 
 -- a record's fault isn't a header's
-pub not-too-long : (bytes : List ℕ) (number : ℕ) → heard bytes ≡ Err number → (number == 11) ≡ false
-not-too-long bytes number e = not_eleven number (fault_of_record basic bytes number (sym (heard_is bytes) ∙ e))
+pub not-too-long : (offer : Offer) (bytes : List ℕ) (number : ℕ) → heard offer bytes ≡ Err number → (number == 11) ≡ false
+not-too-long offer bytes number e = not_eleven number (fault_of_record offer bytes number (sym (heard_is offer bytes) ∙ e))
 
-pub heard-decoded : (bytes : List ℕ) (h : Heard) → heard bytes ≡ Ok h → IsDecoded h.asked
-heard-decoded bytes h e = record_is_decoded basic bytes h (sym (heard_is bytes) ∙ e)
+pub heard-decoded : (offer : Offer) (bytes : List ℕ) (h : Heard) → heard offer bytes ≡ Ok h → IsDecoded h.asked
+heard-decoded offer bytes h e = record_is_decoded offer bytes h (sym (heard_is offer bytes) ∙ e)
 
 -- ---- what was read
 

@@ -7,12 +7,8 @@ use Rattle.rpc_record.specs.Machine.{State, Next, Goes, Ends, Faults, after}
 use Rattle.rpc_record.specs.Stream.{Reading, reading_at, byte_read, read_stream}
 use Rattle.nfs_model.specs.World.{Heard, Scanned, IsScan, IsDecoded}
 use Rattle.nfs_values.specs.declared.offer.Offer.{Offer}
-use Rattle.nfs_values.specs.Offer.{basic}
-use Rattle.rpc_msg.specs.Records as records
-use Rattle.rpc_msg.specs.lemmas.Hearing.{record_is_decoded}
 use Rattle.engine_feed.specs.Codec.{heard, reply_record}
-use Rattle.engine_feed.specs.Streams.{scan_with, scan_stream, served_of, fault_at, codec, codec_by}
-use Rattle.engine_feed.specs.lemmas.Codec.{heard_is}
+use Rattle.engine_feed.specs.Streams.{served_of, fault_at, codec}
 use Rattle.engine_feed.proofs.Scanning.{joined, read_stream-push, served_of-append}
 use Rattle.engine_feed.proofs.Records.{heard-decoded}
 
@@ -53,6 +49,9 @@ module _ (hear : List ℕ → Result Heard ℕ) where
   abbrev scanned_as : List (List ℕ) → Option State → Scanned
   scanned_as made at = served_of (map hear made) (fault_at at)
 
+  abbrev scan_as : List ℕ → Scanned
+  scan_as stream = scanned_as (read_stream stream).records (read_stream stream).at
+
   -- a record more, or a header at fault
   adds_more : (made more : List (List ℕ)) (fault : Option ℕ) → (served_of (map hear made) None).fault ≡ None
       → Adds (served_of (map hear made) None) (joined (served_of (map hear made) None).served (served_of (map hear more) fault))
@@ -76,10 +75,10 @@ module _ (hear : List ℕ → Result Heard ℕ) where
   adds_at made None b sound = absurd (faulty (map hear made) 11 sound)
   adds_at made (Some state) b sound = adds_next made state (after state b) sound
 
-  further_at : (stream : List ℕ) (b : ℕ) → (scan_with hear stream).fault ≡ None → Adds (scan_with hear stream) (scan_with hear (stream ++ b ∷ []))
+  further_at : (stream : List ℕ) (b : ℕ) → (scan_as stream).fault ≡ None → Adds (scan_as stream) (scan_as (stream ++ b ∷ []))
   further_at stream b sound =
       let r = read_stream stream in
-      subst (λ (next : Reading). Adds (scan_with hear stream) (scanned_as next.records next.at)) (sym (read_stream-push stream b))
+      subst (λ (next : Reading). Adds (scan_as stream) (scanned_as next.records next.at)) (sym (read_stream-push stream b))
       (adds_at r.records r.at b sound)
 
   all_served : (P : Heard → Type 0) → ((bytes : List ℕ) (h : Heard) → hear bytes ≡ Ok h → P h) → (made : List (List ℕ)) (fault : Option ℕ)
@@ -87,7 +86,7 @@ module _ (hear : List ℕ → Result Heard ℕ) where
   all_served P f [] fault = tt
   all_served P f (bytes ∷ made) fault = all_from P (hear bytes) (map hear made) fault (λ h e. f bytes h e) (all_served P f made fault)
 
-  scans : ((bytes : List ℕ) (h : Heard) → hear bytes ≡ Ok h → IsDecoded h.asked) → IsScan (record { scan = scan_with hear; reply_record = reply_record })
+  scans : ((bytes : List ℕ) (h : Heard) → hear bytes ≡ Ok h → IsDecoded h.asked) → IsScan (record { scan = scan_as; reply_record = reply_record })
   scans decoded = record {
     nothing = refl;
     further = further_at;
@@ -96,16 +95,5 @@ module _ (hear : List ℕ → Result Heard ℕ) where
 
 -- ---- with an offer
 
-pub is-scan : IsScan codec
-is-scan = scans heard heard-decoded
-
-pub is-scan-by : (offer : Offer) → IsScan (codec_by offer)
-is-scan-by offer = scans (records.heard_by offer) (record_is_decoded offer)
-
--- that of the basic offer is the codec
-same_heard : (made : List (List ℕ)) → map (records.heard_by basic) made ≡ map heard made
-same_heard [] = refl
-same_heard (bytes ∷ made) = rw (heard_is bytes, same_heard made) refl
-
-pub same-scan : (stream : List ℕ) → (codec_by basic).scan stream ≡ codec.scan stream
-same-scan stream = ap (λ (rs : List (Result Heard ℕ)). served_of rs (fault_at (read_stream stream).at)) (same_heard (read_stream stream).records)
+pub is-scan : (offer : Offer) → IsScan (codec offer)
+is-scan offer = scans (heard offer) (heard-decoded offer)

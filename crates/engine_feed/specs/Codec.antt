@@ -1,12 +1,13 @@
--- What a record asks, and the record of a reply. Opaque, so that proofs about engines don't look into them.
+-- What a record asks, by what is offered, and the record of a reply. Opaque, so that proofs about engines don't look into them.
 use Rattle.std.specs.Prelude.{ℕ, List, Result}
 use Rattle.nfs_model.specs.Types.{Reply}
 use Rattle.nfs_model.specs.World.{Heard}
+use Rattle.nfs_values.specs.declared.offer.Offer.{Offer}
 use Rattle.rpc_msg.specs.Records as records
 use Rattle.rpc_msg.specs.Replies as replies
 
-unfoldable pub heard : List ℕ → Result Heard ℕ
-heard bytes = records.heard bytes
+unfoldable pub heard : Offer → List ℕ → Result Heard ℕ
+heard offer bytes = records.heard_by offer bytes
 
 unfoldable pub reply_record : ℕ → Reply → List ℕ
 reply_record xid reply = replies.reply_record xid reply

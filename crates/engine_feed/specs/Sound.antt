@@ -6,6 +6,7 @@ use Rattle.nfs_model.specs.Types as types
 use Rattle.nfs_model.specs.Tree.{Layout}
 use Rattle.nfs_model.specs.Serial.Starve.{may_starve_at_decoding}
 use Rattle.nfs_values.specs.declared.call.Call.{Call}
+use Rattle.nfs_values.specs.declared.offer.Offer.{Offer}
 use Rattle.nfs_values.specs.Call.{call_of}
 use Rattle.rpc_msg.specs.Room.{reply_room}
 use Rattle.affinity.specs.Affinity.{affinity_of}
@@ -26,11 +27,11 @@ use Rattle.engine_feed.specs.Streams.{scan_stream, IsQuiet, Completes}
 
 -- ---- connections
 
--- What was read of a connection is in step with its stream.
+-- What was read of a connection is in step with its stream: its fault and the count of its records, whatever is offered.
 pub record IsInStep (c : ConnectionState) : Type 0 where
   pub reassembler : (read_stream c.stream.items).at ≡ c.reassembler
-  pub fault : (scan_stream c.stream.items).fault ≡ option_map fault_number c.fault
-  pub records : length (scan_stream c.stream.items).served ≡ c.records
+  pub fault : (offer : Offer) → (scan_stream offer c.stream.items).fault ≡ option_map fault_number c.fault
+  pub records : (offer : Offer) → length (scan_stream offer c.stream.items).served ≡ c.records
   pub few : c.records ≤ vec_len c.stream
 
 -- And the replies that are owed have their room.
@@ -53,19 +54,22 @@ pub record AreSound (calls : CallsState) : Type 0 where
 -- ---- bytes that arrive
 
 -- What bytes came to that a connection was given: so many of them were taken.
-abbrev pub Arrives : List ℕ → List ℕ → ℕ → Arrival → Type 0
-Arrives stream bytes taken arrivals.More = (taken ≡ length bytes) × IsQuiet stream bytes
-Arrives stream bytes taken (arrivals.Heard heard) =
+abbrev pub Arrives : Offer → List ℕ → List ℕ → ℕ → Arrival → Type 0
+Arrives offer stream bytes taken arrivals.More = (taken ≡ length bytes) × IsQuiet offer stream bytes
+Arrives offer stream bytes taken (arrivals.Heard heard) =
     (0 < taken) × (taken ≤ length bytes)
-    × Completes stream (take taken bytes) (record { served = (scan_stream stream).served ++ heard_of heard ∷ []; fault = None })
-Arrives stream bytes taken (arrivals.Undecoded xid) =
+    × Completes offer stream (take taken bytes) (record { served = (scan_stream offer stream).served ++ heard_of heard ∷ []; fault = None })
+Arrives offer stream bytes taken (arrivals.Undecoded xid) =
     (0 < taken) × (taken ≤ length bytes)
     × ((asked : types.Asked) × IsTrue (may_starve_at_decoding asked)
-    × Completes stream (take taken bytes) (record { served = (scan_stream stream).served ++ (record { xid = xid; asked = asked }) ∷ []; fault = None }))
-Arrives stream bytes taken (arrivals.Fault fault) =
+    × Completes offer stream (take taken bytes) (record {
+      served = (scan_stream offer stream).served ++ (record { xid = xid; asked = asked }) ∷ [];
+      fault = None;
+    }))
+Arrives offer stream bytes taken (arrivals.Fault fault) =
     (0 < taken) × (taken ≤ length bytes)
-    × Completes stream (take taken bytes) (record { served = (scan_stream stream).served; fault = Some (fault_number fault) })
-Arrives stream bytes taken arrivals.NoMemory = taken ≡ 0
+    × Completes offer stream (take taken bytes) (record { served = (scan_stream offer stream).served; fault = Some (fault_number fault) })
+Arrives offer stream bytes taken arrivals.NoMemory = taken ≡ 0
 
 -- no fault was told
 abbrev pub IsFaultless : Arrival → Option StreamFault → Type 0
@@ -81,8 +85,8 @@ pub record TakesIn (c : ConnectionState) (rest : ℕ) : Type 0 where
   pub room : vec_len c.stream + rest ≤ vec_capacity c.stream
 
 -- bytes came on a connection, and so many of them were taken; nothing was written
-pub record TakesFrom (old new : ConnectionState) (bytes : List ℕ) (taken : ℕ) (arrival : Arrival) : Type 0 where
-  pub arrives : Arrives old.stream.items bytes taken arrival
+pub record TakesFrom (offer : Offer) (old new : ConnectionState) (bytes : List ℕ) (taken : ℕ) (arrival : Arrival) : Type 0 where
+  pub arrives : Arrives offer old.stream.items bytes taken arrival
   pub within : taken ≤ length bytes
   pub stream : new.stream.items ≡ old.stream.items ++ take taken bytes
   pub len : vec_len new.stream ≡ vec_len old.stream + taken

@@ -1,14 +1,15 @@
 -- A connection and the calls on their way, as parts of a world.
 use Rattle.std.specs.Prelude.{◌≡◌, ℕ, length, Some, slice_get}
 use Rattle.nfs_model.specs.World.{Setup, World, Connection, all_running, changed_at}
+use Rattle.nfs_values.specs.declared.offer.Offer.{Offer}
 use Rattle.engine_feed.specs.declared.state.ConnectionState.{ConnectionState}
 use Rattle.engine_feed.specs.declared.state.CallsState.{CallsState}
 use Rattle.engine_feed.specs.Seen.{connection_of, layout_in, waiting_of, finished_of, running_count}
 use Rattle.engine_feed.specs.Streams.{codec}
 
--- The codec is that of records, and the layout that of the calls. What else is fixed for a run doesn't matter here.
-pub record IsSetup (setup : Setup) (calls : CallsState) : Type 0 where
-  pub codec : setup.codec ≡ codec
+-- The codec is that of an offer, and the layout that of the calls. What else is fixed for a run doesn't matter here.
+pub record IsSetup (offer : Offer) (setup : Setup) (calls : CallsState) : Type 0 where
+  pub codec : setup.codec ≡ codec offer
   pub layout : setup.layout ≡ layout_in calls
 
 -- the calls that wait or are finished are these

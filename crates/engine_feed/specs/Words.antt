@@ -9,52 +9,54 @@ use Rattle.nfs_model.specs.Events.Feed.{Feeds, feeding, heard_in}
 use Rattle.nfs_model.specs.Events.Refusals.{is_open}
 use Rattle.nfs_laws.specs.Walk.{Walks}
 use Rattle.nfs_values.specs.declared.call.Call.{Call}
+use Rattle.nfs_values.specs.declared.offer.Offer.{Offer}
 use Rattle.scheduler.specs.declared.message.Message.{Message}
 use Rattle.scheduler.specs.declared.message.Origin.{Origin}
 use Rattle.engine_feed.specs.declared.stop.Stop.{Stop}
 use Rattle.engine_feed.specs.declared.state.ConnectionState.{ConnectionState}
 use Rattle.engine_feed.specs.declared.state.CallsState.{CallsState}
 use Rattle.engine_feed.specs.Numbers.{stop_number}
+use Rattle.engine_feed.specs.Codec.{reply_record}
 use Rattle.engine_feed.specs.Limit.{reply_limit}
 use Rattle.engine_feed.specs.Seen.{connection_of, owed_by, layout_in, messages_of, message_of, finished_of, running_count}
-use Rattle.engine_feed.specs.Streams.{scan_stream, codec}
+use Rattle.engine_feed.specs.Streams.{scan_stream}
 use Rattle.engine_feed.specs.Within.{IsSetup, Shows, IsPartOf, with_calls, with_part}
 use Rattle.engine_feed.specs.Sound.{IsSoundConnection, AreSound, IsAdmitted, IsAnswered, TakesIn}
 use Rattle.engine_feed.specs.Feeding.{FeedsPart}
 
 -- ---- feeds
 
--- its stream has no fault so far
+-- its stream has no fault so far, whatever is offered
 abbrev pub TakesInput : ConnectionState → Type 0
-TakesInput c = (scan_stream (connection_of c).stream).fault ≡ None
+TakesInput c = (offer : Offer) → (scan_stream offer (connection_of c).stream).fault ≡ None
 
--- what holds in every world of which these are a part
-abbrev pub InWorlds : CallsState → ℕ → ConnectionState → (Setup → World → Type 0) → Type 0
-InWorlds calls number c P = (setup : Setup) (w : World) → IsSetup setup calls → IsPartOf calls number c w → P setup w
+-- what holds with this offer in every world of which these are a part
+abbrev pub InWorlds : Offer → CallsState → ℕ → ConnectionState → (Setup → World → Type 0) → Type 0
+InWorlds offer calls number c P = (setup : Setup) (w : World) → IsSetup offer setup calls → IsPartOf calls number c w → P setup w
 
 -- so many of the bytes were taken, and this stopped the taking
-abbrev pub HasFed : CallsState → ConnectionState → ℕ → List ℕ → ℕ → Stop → CallsState → ConnectionState → Type 0
-HasFed calls c number bytes taken stop calls' c' =
-    InWorlds calls number c (λ setup w. Feeds setup (feeding number bytes taken (stop_number stop)) w (with_part calls' number c' w))
+abbrev pub HasFed : Offer → CallsState → ConnectionState → ℕ → List ℕ → ℕ → Stop → CallsState → ConnectionState → Type 0
+HasFed offer calls c number bytes taken stop calls' c' =
+    InWorlds offer calls number c (λ setup w. Feeds setup (feeding number bytes taken (stop_number stop)) w (with_part calls' number c' w))
 
 -- the same, byte by byte
-abbrev pub FeedsAll : CallsState → ConnectionState → ℕ → List ℕ → ℕ → Stop → CallsState → ConnectionState → Type 0
-FeedsAll calls c number bytes taken stop calls' c' =
-    InWorlds calls number c (λ setup w. Walks setup (feeding number bytes taken (stop_number stop)) w (with_part calls' number c' w))
+abbrev pub FeedsAll : Offer → CallsState → ConnectionState → ℕ → List ℕ → ℕ → Stop → CallsState → ConnectionState → Type 0
+FeedsAll offer calls c number bytes taken stop calls' c' =
+    InWorlds offer calls number c (λ setup w. Walks setup (feeding number bytes taken (stop_number stop)) w (with_part calls' number c' w))
 
 -- so many of the bytes were taken, and more may be, or taking stopped
-abbrev pub FeedsSome : CallsState → ConnectionState → ℕ → List ℕ → ℕ → Option Stop → CallsState → ConnectionState → Type 0
-FeedsSome calls c number bytes taken stop calls' c' =
-    InWorlds calls number c (λ setup w. FeedsPart setup number w bytes taken stop (with_part calls' number c' w))
+abbrev pub FeedsSome : Offer → CallsState → ConnectionState → ℕ → List ℕ → ℕ → Option Stop → CallsState → ConnectionState → Type 0
+FeedsSome offer calls c number bytes taken stop calls' c' =
+    InWorlds offer calls number c (λ setup w. FeedsPart setup number w bytes taken stop (with_part calls' number c' w))
 
 -- more may be taken of the bytes
 abbrev pub MayTakeMore : List ℕ → ℕ → Option Stop → ConnectionState → Type 0
 MayTakeMore bytes taken stop c = stop ≡ None → (0 < taken) × TakesIn c (length bytes - taken)
 
--- a record of the connection is complete, with whether its decoding was starved
+-- a record of the connection is complete, with whether its decoding was starved; whatever is offered
 abbrev pub HasHeard : CallsState → ConnectionState → Origin → types.Asked → Bool → CallsState → ConnectionState → Type 0
 HasHeard calls c origin asked starved calls' c' =
-    InWorlds calls origin.connection.0 c (λ setup w.
+    (offer : Offer) → InWorlds offer calls origin.connection.0 c (λ setup w.
     with_part calls' origin.connection.0 c' w
     ≡ heard_in setup w origin.connection.0 origin.number (record { xid = origin.xid; asked = asked }) starved)
 
@@ -98,7 +100,7 @@ pub record Waits (calls : CallsState) (c : ConnectionState) (m : Message Call) (
 -- a call is finished, and its reply written on its connection
 abbrev pub Finishes : CallsState → ConnectionState → replays.FinishedCall → types.Reply → CallsState → ConnectionState → Type 0
 Finishes calls c e reply calls' c' =
-    (setup : Setup) (w : World) → setup.codec ≡ codec → Shows calls w
+    (setup : Setup) (w : World) → setup.codec.reply_record ≡ reply_record → Shows calls w
     → slice_get w.connections e.connection ≡ Some (connection_of c)
     → with_part calls' e.connection c' w ≡ finish setup w e reply
 

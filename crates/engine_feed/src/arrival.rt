@@ -7,6 +7,7 @@ ghost use Rattle.rpc_record.specs.Machine.{outcome};
 use crate::reading::{RecordRead, read_record};
 use crate::state::{Arrival, ConnectionState};
 use crate::stop::StreamFault;
+use nfs_values::Offer;
 use rpc_record::Step;
 
 /// Appends bytes that have their room.
@@ -19,11 +20,11 @@ fn keep(stream: &mut Vec<u8>, bytes: &[u8])
     stream.extend_from_slice(bytes).unwrap();
 }
 
-/// Takes bytes up to the end of at most one record.
-pub(crate) fn take_bytes(from: &mut ConnectionState, bytes: &[u8]) -> (usize, Arrival)
+/// Takes bytes up to the end of at most one record, which is read by what is offered.
+pub(crate) fn take_bytes(from: &mut ConnectionState, offer: Offer, bytes: &[u8]) -> (usize, Arrival)
     requires in_step { IsInStep from.old }
     requires taking { TakesIn from.old (length bytes.now) }
-    ensures takes { TakesFrom from.old from.new bytes.now result.0 result.1 }
+    ensures takes { TakesFrom offer from.old from.new bytes.now result.0 result.1 }
     ensures none { HasNoRecord (outcome from.old.reassembler bytes.now) → AdmitsNone result.1 }
 {
     let (taken, step) = from.reassembler.feed(bytes);
@@ -35,7 +36,7 @@ pub(crate) fn take_bytes(from: &mut ConnectionState, bytes: &[u8]) -> (usize, Ar
             from.fault = Some(StreamFault::RecordTooLong);
             (taken, Arrival::Fault(StreamFault::RecordTooLong))
         }
-        Step::Record(record) => match read_record(from.alloc, record) {
+        Step::Record(record) => match read_record(from.alloc, record, offer) {
             RecordRead::Heard(heard) => {
                 from.records += 1;
                 (taken, Arrival::Heard(heard))

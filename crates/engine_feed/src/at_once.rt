@@ -8,6 +8,7 @@ ghost use Rattle.nfs_values.specs.Answer.{answer_of};
 ghost use Rattle.nfs_values.specs.Call.{call_of};
 ghost use Rattle.nfs_values.specs.declared.answer.Answer.TheVariants.{Rename};
 
+use crate::mounting::answer_mount;
 use affinity::Layout;
 use affinity::homes::named_by;
 use nfs_values::{Answer, Call, FileHandle, Status};
@@ -22,6 +23,7 @@ pub fn answer_at_once(alloc: Global, call: &Call, layout: &Layout) -> Answer
         Call::GetAttributes { .. } => Answer::GetAttributes(Err(Status::BadHandle)),
         Call::SetAttributes { .. } => Answer::SetAttributes(Err(Status::BadHandle)),
         Call::Lookup(_) => Answer::Lookup(Err(Status::BadHandle)),
+        Call::CheckAccess { .. } => Answer::CheckAccess(Err(Status::BadHandle)),
         Call::Read { .. } => Answer::Read(Err(Status::BadHandle)),
         Call::Write { .. } => Answer::Write(Err(Status::BadHandle)),
         Call::Create { .. } => Answer::Create(Err(Status::BadHandle)),
@@ -34,9 +36,13 @@ pub fn answer_at_once(alloc: Global, call: &Call, layout: &Layout) -> Answer
         }
         Call::ReadDirectory { .. } => Answer::ReadDirectory(Err(Status::BadHandle)),
         Call::FilesystemStatus { .. } => Answer::FilesystemStatus(Err(Status::BadHandle)),
+        Call::FilesystemInfo { .. } => Answer::FilesystemInfo(Err(Status::BadHandle)),
+        Call::PathConfiguration { .. } => Answer::PathConfiguration(Err(Status::BadHandle)),
         Call::Commit { .. } => Answer::Commit(Err(Status::BadHandle)),
+        Call::Unsupported(which) => Answer::Unsupported(*which),
         Call::Census => Answer::Census(Vec::new(alloc)),
         Call::Grow { .. } => Answer::Grow(Err(Status::NoEntry)),
+        Call::Mount(call) => answer_mount(call, layout),
     }
 }
 

@@ -4,7 +4,7 @@ use crate::calls::Calls;
 use crate::feeding::feed;
 use crate::state::ConnectionState;
 use crate::stop::Stop;
-use nfs_values::ConnectionNumber;
+use nfs_values::{ConnectionNumber, Offer};
 use rpc_record::Reassembler;
 use std::alloc::Global;
 use std::marker::Model;
@@ -37,6 +37,7 @@ impl OpenConnection {
     ghost use Rattle.std.specs.Prelude.{◌≡◌, ◌≤◌, is_none, length};
     ghost use Rattle.std.specs.List.{AllByRecursion};
     ghost use Rattle.nfs_model.specs.Events.Step.{new_connection};
+    ghost use Rattle.nfs_values.specs.declared.offer.Offer.{Offer as OfferSeen};
     ghost use Rattle.engine_feed.specs.Seen.{connection_of, owed_by, layout_in, messages_of};
     ghost use Rattle.engine_feed.specs.Sound.{IsAdmitted};
     ghost use Rattle.engine_feed.specs.Streams.{scan_stream};
@@ -63,7 +64,8 @@ impl OpenConnection {
 
     /// Whether no fault was met, so that bytes are taken.
     pub fn takes_input(&self) -> bool
-        ensures { result ≡ is_none (scan_stream (connection_of self.now).stream).fault }
+        ensures { (offer : OfferSeen)
+            → result ≡ is_none (scan_stream offer (connection_of self.now).stream).fault }
     {
         self.state.fault.is_none()
     }
@@ -92,21 +94,22 @@ impl OpenConnection {
     }
 
     /// Takes bytes of the connection of this number: how many, and why no more. Each record that
-    /// they complete is answered at once, or its call waits.
+    /// they complete is read by what is offered, and answered at once, or its call waits.
     pub fn feed(
         &mut self,
         calls: &mut Calls,
+        offer: Offer,
         number: ConnectionNumber,
         bytes: &[u8],
     ) -> (usize, Stop)
         requires { TakesInput self.old }
-        ensures feeds { HasFed calls.old self.old number.0 bytes.now result.0 result.1
+        ensures feeds { HasFed offer calls.old self.old number.0 bytes.now result.0 result.1
             calls.new self.new }
         ensures within { result.0 ≤ length bytes.now }
         ensures adds { Adds calls.old self.old number.0 calls.new self.new }
         ensures admitted { AllByRecursion (IsAdmitted (layout_in calls.new))
             (messages_of calls.new) }
     {
-        feed(&mut self.state, &mut calls.state, number, bytes)
+        feed(&mut self.state, &mut calls.state, offer, number, bytes)
     }
 }

@@ -13,7 +13,7 @@ use crate::arrival::take_bytes;
 use crate::state::{Arrival, CallsState, ConnectionState, PLACES, REPLY_LIMIT};
 use crate::stop::Stop;
 use nfs_laws::laws::feeds_are_walks;
-use nfs_values::ConnectionNumber;
+use nfs_values::{ConnectionNumber, Offer};
 use rpc_record::Look;
 use scheduler::Origin;
 use std::alloc::AllocError;
@@ -56,6 +56,7 @@ fn make_room(connection: &mut ConnectionState, calls: &mut CallsState) -> Result
 fn take_and_admit(
     connection: &mut ConnectionState,
     calls: &mut CallsState,
+    offer: Offer,
     number: ConnectionNumber,
     bytes: &[u8],
 ) -> (usize, Option<Stop>)
@@ -64,8 +65,8 @@ fn take_and_admit(
     requires taking { TakesIn connection.old (length bytes.now) }
     requires some { 0 < length bytes.now }
     requires places { pending calls.old < 1024 }
-    ensures feeds { FeedsSome calls.old connection.old number.0 bytes.now result.0 result.1
-        calls.new connection.new }
+    ensures feeds { FeedsSome offer calls.old connection.old number.0 bytes.now result.0
+        result.1 calls.new connection.new }
     ensures within { result.0 ≤ length bytes.now }
     ensures goes_on { MayTakeMore bytes.now result.0 result.1 connection.new }
     ensures stays { StaysSound calls.old connection.old number.0 calls.new connection.new }
@@ -74,7 +75,7 @@ fn take_and_admit(
         return (0, Some(Stop::NoMemory));
     }
     let place = connection.records;
-    let (taken, arrival) = take_bytes(connection, bytes);
+    let (taken, arrival) = take_bytes(connection, offer, bytes);
     match arrival {
         Arrival::NoMemory => (taken, Some(Stop::NoMemory)),
         Arrival::Fault(fault) => (taken, Some(Stop::Fault(fault))),
@@ -115,6 +116,7 @@ fn free_bytes(connection: &ConnectionState, bytes: &[u8]) -> usize
 fn take_when_full(
     connection: &mut ConnectionState,
     calls: &mut CallsState,
+    offer: Offer,
     number: ConnectionNumber,
     bytes: &[u8],
 ) -> (usize, Option<Stop>)
@@ -123,8 +125,8 @@ fn take_when_full(
     requires taking { TakesIn connection.old (length bytes.now) }
     requires some { 0 < length bytes.now }
     requires full { pending calls.old ≡ 1024 }
-    ensures feeds { FeedsSome calls.old connection.old number.0 bytes.now result.0 result.1
-        calls.new connection.new }
+    ensures feeds { FeedsSome offer calls.old connection.old number.0 bytes.now result.0
+        result.1 calls.new connection.new }
     ensures within { result.0 ≤ length bytes.now }
     ensures goes_on { MayTakeMore bytes.now result.0 result.1 connection.new }
     ensures stays { StaysSound calls.old connection.old number.0 calls.new connection.new }
@@ -133,7 +135,7 @@ fn take_when_full(
     if free == 0 {
         return (0, Some(Stop::Full));
     }
-    let (taken, arrival) = take_bytes(connection, &bytes[..free]);
+    let (taken, arrival) = take_bytes(connection, offer, &bytes[..free]);
     match arrival {
         Arrival::NoMemory => (taken, Some(Stop::NoMemory)),
         Arrival::Fault(fault) => (taken, Some(Stop::Fault(fault))),
@@ -152,6 +154,7 @@ fn take_when_full(
 fn take_some(
     connection: &mut ConnectionState,
     calls: &mut CallsState,
+    offer: Offer,
     number: ConnectionNumber,
     bytes: &[u8],
 ) -> (usize, Option<Stop>)
@@ -159,16 +162,16 @@ fn take_some(
     requires calls { AreSound calls.old }
     requires taking { TakesIn connection.old (length bytes.now) }
     requires some { 0 < length bytes.now }
-    ensures feeds { FeedsSome calls.old connection.old number.0 bytes.now result.0 result.1
-        calls.new connection.new }
+    ensures feeds { FeedsSome offer calls.old connection.old number.0 bytes.now result.0
+        result.1 calls.new connection.new }
     ensures within { result.0 ≤ length bytes.now }
     ensures goes_on { MayTakeMore bytes.now result.0 result.1 connection.new }
     ensures stays { StaysSound calls.old connection.old number.0 calls.new connection.new }
 {
     if calls.pending() < PLACES {
-        take_and_admit(connection, calls, number, bytes)
+        take_and_admit(connection, calls, offer, number, bytes)
     } else {
-        take_when_full(connection, calls, number, bytes)
+        take_when_full(connection, calls, offer, number, bytes)
     }
 }
 
@@ -176,20 +179,21 @@ fn take_some(
 fn take_all(
     connection: &mut ConnectionState,
     calls: &mut CallsState,
+    offer: Offer,
     number: ConnectionNumber,
     bytes: &[u8],
 ) -> (usize, Stop)
     requires connection { IsSoundConnection connection.old }
     requires calls { AreSound calls.old }
     requires taking { TakesIn connection.old (length bytes.now) }
-    ensures feeds { FeedsAll calls.old connection.old number.0 bytes.now result.0 result.1
-        calls.new connection.new }
+    ensures feeds { FeedsAll offer calls.old connection.old number.0 bytes.now result.0
+        result.1 calls.new connection.new }
     ensures within { result.0 ≤ length bytes.now }
     ensures stays { StaysSound calls.old connection.old number.0 calls.new connection.new }
 {
     let mut taken = 0;
     while taken < bytes.len() {
-        let (count, stop) = take_some(connection, calls, number, &bytes[taken..]);
+        let (count, stop) = take_some(connection, calls, offer, number, &bytes[taken..]);
         taken += count;
         if let Some(stop) = stop {
             return (taken, stop);
@@ -224,14 +228,15 @@ fn make_stream_room(connection: &mut ConnectionState, size: usize) -> Result<(),
 fn feed_open(
     connection: &mut ConnectionState,
     calls: &mut CallsState,
+    offer: Offer,
     number: ConnectionNumber,
     bytes: &[u8],
 ) -> (usize, Stop)
     requires connection { IsSoundConnection connection.old }
     requires calls { AreSound calls.old }
     requires at { connection.old.fault ≡ None }
-    ensures feeds { FeedsAll calls.old connection.old number.0 bytes.now result.0 result.1
-        calls.new connection.new }
+    ensures feeds { FeedsAll offer calls.old connection.old number.0 bytes.now result.0
+        result.1 calls.new connection.new }
     ensures within { result.0 ≤ length bytes.now }
     ensures stays { StaysSound calls.old connection.old number.0 calls.new connection.new }
 {
@@ -244,24 +249,25 @@ fn feed_open(
     if make_stream_room(connection, bytes.len()).is_err() {
         return (0, Stop::NoMemory);
     }
-    take_all(connection, calls, number, bytes)
+    take_all(connection, calls, offer, number, bytes)
 }
 
 /// Feeds bytes to a connection that is at no fault.
 pub(crate) fn feed(
     connection: &mut ConnectionState,
     calls: &mut CallsState,
+    offer: Offer,
     number: ConnectionNumber,
     bytes: &[u8],
 ) -> (usize, Stop)
     requires connection { IsSoundConnection connection.old }
     requires calls { AreSound calls.old }
     requires at { connection.old.fault ≡ None }
-    ensures feeds { HasFed calls.old connection.old number.0 bytes.now result.0 result.1
+    ensures feeds { HasFed offer calls.old connection.old number.0 bytes.now result.0 result.1
         calls.new connection.new }
     ensures within { result.0 ≤ length bytes.now }
     ensures stays { StaysSound calls.old connection.old number.0 calls.new connection.new }
 {
     feeds_are_walks();
-    feed_open(connection, calls, number, bytes)
+    feed_open(connection, calls, offer, number, bytes)
 }

@@ -11,6 +11,7 @@ mod feeding;
 mod finishing;
 pub mod laws;
 mod message;
+mod mounting;
 mod moving;
 mod reading;
 mod reply;

@@ -6,6 +6,7 @@ ghost use Rattle.engine_feed.specs.Records.{IsReadAs, fault_of};
 
 use crate::message::{Heard, Request};
 use crate::stop::StreamFault;
+use nfs_values::Offer;
 use std::alloc::Global;
 
 /// What was read of a record.
@@ -27,11 +28,12 @@ fn stream_fault(fault: rpc_msg::RecordFault) -> StreamFault
     }
 }
 
-/// Reads a whole record. Only names take memory: the data of a WRITE stay in the record.
-pub fn read_record(alloc: Global, record: Vec<u8>) -> RecordRead
-    ensures { IsReadAs result (heard record.items) }
+/// Reads a whole record, by what is offered. Only names take memory: the data of a WRITE stay in
+/// the record.
+pub fn read_record(alloc: Global, record: Vec<u8>, offer: Offer) -> RecordRead
+    ensures { IsReadAs result (heard offer record.items) }
 {
-    match rpc_msg::read_record(alloc, record) {
+    match rpc_msg::read_record_of(alloc, record, offer) {
         Err(fault) => RecordRead::Fault(stream_fault(fault)),
         Ok(rpc_msg::Heard { xid, request }) => match request {
             rpc_msg::Request::Call { call, credential } => RecordRead::Heard(Heard {

@@ -3,10 +3,14 @@
 use server::Options;
 
 /// A command, with its arguments.
-#[derive(Clone, Copy, PartialEq, Eq)]
+#[derive(Clone, Copy)]
 pub enum Command<'a> {
     /// Run the script in a file, and print a line for each of its events.
     Replay { path: &'a str },
     /// Serve the connections of a listener.
     Serve(Options),
+    /// Serve clients that mount.
+    Export(Options),
+    /// Print the version.
+    Version,
 }

@@ -2,11 +2,12 @@
 #![tactic(auto)]
 
 mod choice;
+mod export_words;
 pub mod replay;
 mod running;
 mod words;
 
 pub use crate::replay::{ProgramFault, print_fault};
 pub use choice::Command;
-pub use running::program;
-pub use words::command;
+pub use running::{program, program_told};
+pub use words::{command, command_told};

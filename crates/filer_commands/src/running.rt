@@ -4,13 +4,13 @@ ghost use Rattle.std.specs.Prelude.{◌≤◌, IfOk};
 
 use crate::choice::Command;
 use crate::replay::{ProgramFault, print_fault, replay};
-use crate::words::command;
-use server::{Options, ServerFault, serve};
+use crate::words::command_told;
+use server::{Options, Peers, ServerFault, export, serve};
 use std::alloc::{AllocError, Global};
 use std::convert::AsStr;
 use std::fs::File;
-use std::io::Write;
-use std::net::{Net, TcpListener, TcpStream};
+use std::io::{self, Write};
+use std::net::{Net, SocketAddr, TcpListener, TcpStream};
 use std::rt::{Clock, Files};
 use std::sync::Wait;
 use std::thread::Threads;
@@ -68,19 +68,128 @@ where
     }
 }
 
+/// The version of the program.
+const VERSION: &str = "filer 0.1, NFS version 3 (RFC 1813)";
+
+fn print_version<W: Write>(out: &mut W) -> Result<u8, ProgramFault>
+    ensures { IfOk result (λ status. status ≤ 1) }
+{
+    match writeln!(out, "{VERSION}") {
+        Ok(()) => Ok(0),
+        Err(_failed) => Err(ProgramFault::Output),
+    }
+}
+
+/// What a fault is, for people; what the command line is lacking was told before.
+fn describe(fault: ProgramFault) -> Option<&'static str> {
+    match fault {
+        ProgramFault::CommandLine => None,
+        ProgramFault::File => Some("the file can't be read"),
+        ProgramFault::Listen => Some("the address can't be listened at"),
+        ProgramFault::Accept => Some("a connection can't be accepted"),
+        ProgramFault::Thread => Some("a thread can't be started"),
+        ProgramFault::NoMemory => Some("out of memory"),
+        ProgramFault::BadLine { .. } => Some("a line of the script can't be read"),
+        ProgramFault::Output => Some("the output can't be written"),
+    }
+}
+
+/// Tells a fault for people, with what the command is about.
+fn tell<E: Write>(err: &mut E, command: Command<'_>, fault: ProgramFault) {
+    let Some(text) = describe(fault) else {
+        return;
+    };
+    let _told = match command {
+        Command::Replay { path } => writeln!(err, "filer replay {path}: {text}"),
+        Command::Serve(options) => {
+            let address = options.address;
+            writeln!(err, "filer serve --listen {address}: {text}")
+        }
+        Command::Export(options) => {
+            let address = options.address;
+            writeln!(err, "filer export --listen {address}: {text}")
+        }
+        Command::Version => writeln!(err, "filer version: {text}"),
+    };
+}
+
+/// Listens, tells people how to mount, and serves: until the connections that were asked for have
+/// ended, or for as long as the program runs.
+fn run_export<R, W, E>(
+    rt: R,
+    options: &Options,
+    out: &mut W,
+    err: &mut E,
+) -> Result<u8, ProgramFault>
+where
+    R: AllocGlobal + Threads + Wait + Clock + Net<Listener = TcpListener, Stream = TcpStream>,
+    R: Copy + Drop + Send + 'static,
+    W: Write,
+    E: Write,
+    ensures { IfOk result (λ status. status ≤ 1) }
+{
+    let listener = match TcpListener::bind(&rt, options.address) {
+        Ok(listener) => listener,
+        Err(_failed) => return Err(ProgramFault::Listen),
+    };
+    keep_freed_memory(rt.alloc());
+    let address = listener.local_addr().map_err(|_| ProgramFault::Listen)?;
+    tell_exports(err, options, &address);
+    let served = if options.connections == u64::MAX {
+        export(rt, rt.alloc(), &listener, options, out)
+    } else {
+        serve(rt, rt.alloc(), &listener, options, out)
+    };
+    match served {
+        Ok(()) => Ok(0),
+        Err(fault) => Err(of_server(fault)),
+    }
+}
+
+/// Tells people what is exported, to whom, and how to mount it.
+fn tell_exports<E: Write>(err: &mut E, options: &Options, address: &SocketAddr) {
+    let (ip, port) = (address.ip(), address.port());
+    let size = 4 * options.plan.ranges;
+    for volume in 0..options.volumes {
+        let _told = writeln!(
+            err,
+            "exported: /vol{volume}, {size} MiB, files of at most 64 MiB"
+        );
+    }
+    let who = match &options.peers {
+        Peers::All => "everybody",
+        Peers::Loopback => "this machine alone",
+        Peers::Networks(_) => "the networks that were named",
+    };
+    let _told = writeln!(err, "may connect: {who}; modes are told and guard nothing");
+    let _told = writeln!(
+        err,
+        "mount -t nfs -o vers=3,proto=tcp,port={port},mountport={port},mountproto=tcp,nolock,\
+         nordirplus {ip}:/vol0 /mnt"
+    );
+}
+
 /// Runs the command that the words ask for.
-fn run<R, S, W>(rt: R, words: &[S], out: &mut W) -> Result<u8, ProgramFault>
+fn run<R, S, W, E>(rt: R, words: &[S], out: &mut W, err: &mut E) -> Result<u8, ProgramFault>
 where
     R: Files + AllocGlobal + Threads + Wait + Clock,
     R: Net<Listener = TcpListener, Stream = TcpStream> + Copy + Drop + Send + 'static,
     S: AsStr,
     W: Write,
+    E: Write,
     ensures { IfOk result (λ status. status ≤ 1) }
 {
-    match command(rt.alloc(), words)? {
+    let command = command_told(rt.alloc(), words, err)?;
+    let ended = match command {
         Command::Replay { path } => run_script(&rt, path, out),
         Command::Serve(options) => run_server(rt, &options, out),
+        Command::Export(options) => run_export(rt, &options, out, err),
+        Command::Version => print_version(out),
+    };
+    if let Err(fault) = &ended {
+        tell(err, command, *fault);
     }
+    ended
 }
 
 /// Runs the command that the words ask for, and answers the exit status: 2 for words that are no
@@ -93,7 +202,21 @@ where
     W: Write,
     ensures { result ≤ 2 }
 {
-    match run(rt, words, out) {
+    program_told(rt, words, out, &mut io::sink())
+}
+
+/// The same, and tells by a second writer what is for people alone: usage, what is wrong with a
+/// command line, and faults in words.
+pub fn program_told<R, S, W, E>(rt: R, words: &[S], out: &mut W, err: &mut E) -> u8
+where
+    R: Files + AllocGlobal + Threads + Wait + Clock,
+    R: Net<Listener = TcpListener, Stream = TcpStream> + Copy + Drop + Send + 'static,
+    S: AsStr,
+    W: Write,
+    E: Write,
+    ensures { result ≤ 2 }
+{
+    match run(rt, words, out, err) {
         Ok(status) => status,
         Err(fault) => {
             print_fault(out, fault);

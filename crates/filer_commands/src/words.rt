@@ -1,12 +1,14 @@
 //! The command line.
 
 use crate::choice::Command;
+use crate::export_words::{self, export};
 use crate::replay::ProgramFault;
 use clap::error::ErrorKind;
 use clap::{Arg, ArgAction, ArgMatches, Error, value_parser};
 use server::Options;
 use std::alloc::{AllocError, Global};
 use std::convert::AsStr;
+use std::io::{self, Write};
 use std::net::SocketAddr;
 
 /// The most volumes of a server.
@@ -18,42 +20,99 @@ const MOST_WORKERS: i64 = 64;
 /// The most connections that a server takes.
 const MOST_CONNECTIONS: i64 = 1_000_000;
 
+/// What stands behind the help of `filer`, of `replay` and of `serve`.
+const EXAMPLES: &str = "\
+Examples:
+  filer replay script.txt
+  filer serve --listen 127.0.0.1:2049 --volumes 1 --workers 2 --connections 1
+  filer export --listen 127.0.0.1:2049";
+
+const REPLAY_EXAMPLE: &str = "\
+Example:
+  filer replay script.txt";
+
+const SERVE_EXAMPLE: &str = "\
+Example:
+  filer serve --listen 127.0.0.1:2049 --volumes 1 --workers 2 --connections 1
+
+Whoever can reach the address may do everything: bind to 127.0.0.1 or a private network.";
+
+/// What is told where an address can't be read.
+const ADDRESS_HELP: &str = "\
+error: the value for '--listen <ADDR>' is no address, or one for '--allow <NETWORK>' is no network:
+an IP address and a port are wanted, as 127.0.0.1:2049, and at most 16 networks, as 10.0.0.0/8
+
+For more information, try '--help'.
+";
+
 /// An option that has to be given, with its value.
-fn option<'a>(alloc: Global, name: &'a str) -> Arg<'a> {
+fn option<'a>(alloc: Global, name: &'a str, value: &'a str, help: &'a str) -> Arg<'a> {
     Arg::new(alloc, name)
         .long(name)
+        .value_name(value)
+        .help(help)
         .required(true)
         .action(ArgAction::Set)
 }
 
 /// An option with a number from 1.
-fn number<'a>(alloc: Global, name: &'a str, most: i64) -> Arg<'a> {
-    option(alloc, name).value_parser(value_parser!(u64).range(1..=most))
+fn number<'a>(alloc: Global, name: &'a str, most: i64, help: &'a str) -> Arg<'a> {
+    option(alloc, name, "N", help).value_parser(value_parser!(u64).range(1..=most))
 }
 
 /// `replay FILE`.
 fn replay<'a>(alloc: Global) -> Result<clap::Command<'a>, AllocError> {
     let file = Arg::new(alloc, "FILE")
+        .help("The script")
         .required(true)
         .action(ArgAction::Set);
-    clap::Command::new(alloc, "replay").arg(file)
+    clap::Command::new(alloc, "replay")
+        .about("Runs a script of events, and prints a line for each")
+        .after_help(REPLAY_EXAMPLE)
+        .arg(file)
 }
 
 /// `serve --listen ADDR --volumes N --workers N --connections N`, in any order.
 fn serve<'a>(alloc: Global) -> Result<clap::Command<'a>, AllocError> {
     clap::Command::new(alloc, "serve")
-        .arg(option(alloc, "listen"))?
-        .arg(number(alloc, "volumes", MOST_VOLUMES))?
-        .arg(number(alloc, "workers", MOST_WORKERS))?
-        .arg(number(alloc, "connections", MOST_CONNECTIONS))
+        .about("Serves as many connections over TCP as are asked for, and ends with the last")
+        .after_help(SERVE_EXAMPLE)
+        .arg(option(
+            alloc,
+            "listen",
+            "ADDR",
+            "Address and port, as 127.0.0.1:2049",
+        ))?
+        .arg(number(alloc, "volumes", MOST_VOLUMES, "Volumes, 1 to 8"))?
+        .arg(number(
+            alloc,
+            "workers",
+            MOST_WORKERS,
+            "Threads that serve, 1 to 64",
+        ))?
+        .arg(number(
+            alloc,
+            "connections",
+            MOST_CONNECTIONS,
+            "Connections until it ends, 1 to 1000000",
+        ))
+}
+
+/// `version`.
+fn version<'a>(alloc: Global) -> clap::Command<'a> {
+    clap::Command::new(alloc, "version").about("Prints the version")
 }
 
 /// The program's command line, as it is declared.
 fn declared<'a>(alloc: Global) -> Result<clap::Command<'a>, AllocError> {
     clap::Command::new(alloc, "filer")
+        .about("An NFS version 3 server in memory")
+        .after_help(EXAMPLES)
         .subcommand_required(true)
         .subcommand(replay(alloc)?)?
-        .subcommand(serve(alloc)?)
+        .subcommand(serve(alloc)?)?
+        .subcommand(export(alloc)?)?
+        .subcommand(version(alloc))
 }
 
 /// The script's path.
@@ -77,6 +136,8 @@ fn chosen<'a>(matches: &ArgMatches<'a>) -> Option<Command<'a>> {
     match matches.subcommand() {
         Some(("replay", inner)) => path_in(inner),
         Some(("serve", inner)) => options_in(inner),
+        Some(("export", inner)) => export_words::options_in(inner).map(Command::Export),
+        Some(("version", _)) => Some(Command::Version),
         _ => None,
     }
 }
@@ -88,13 +149,37 @@ fn fault_of(error: &Error) -> ProgramFault {
     }
 }
 
+/// Tells that the address of a command line is none: all else that a parse admits is a command.
+fn tell_of_address<E: Write>(err: &mut E) {
+    let _told = err.write_all(ADDRESS_HELP.as_bytes());
+}
+
 /// The command that the words ask for; the first word is the program's name.
 ///
 /// `CommandLine` where the words are no command or ask for help, `NoMemory` where memory ran out.
 pub fn command<'a, S: AsStr>(alloc: Global, words: &'a [S]) -> Result<Command<'a>, ProgramFault> {
+    command_told(alloc, words, &mut io::sink())
+}
+
+/// The same, and where the words are no command it tells for people what is wrong with them and
+/// how they would be right, or the help that they ask for.
+pub fn command_told<'a, S: AsStr, E: Write>(
+    alloc: Global,
+    words: &'a [S],
+    err: &mut E,
+) -> Result<Command<'a>, ProgramFault> {
     let declared = declared(alloc)?;
     match declared.try_get_matches_from(words) {
-        Ok(matches) => chosen(&matches).ok_or(ProgramFault::CommandLine),
-        Err(error) => Err(fault_of(&error)),
+        Ok(matches) => match chosen(&matches) {
+            Some(command) => Ok(command),
+            None => {
+                tell_of_address(err);
+                Err(ProgramFault::CommandLine)
+            }
+        },
+        Err(error) => {
+            let _told = write!(err, "{error}");
+            Err(fault_of(&error))
+        }
     }
 }

@@ -10,7 +10,7 @@ use crate::texts::{
     NULL_IN_TWO, NULL_REPLY, SHORT, TOO_LONG,
 };
 use affinity::{Affinity, AggregateSpec, Layout, VolumeSpec};
-use nfs_values::ConnectionNumber;
+use nfs_values::{ConnectionNumber, Offer};
 use std::mem;
 use std::process::Abort;
 use std::sync::Wait;
@@ -172,7 +172,16 @@ pub(crate) fn read(rt: &(impl Abort + AllocGlobal + Wait), row: &Row, size: usiz
         reads: row.reads,
     });
     let connection = ConnectionNumber(0);
-    let end = read_loop(rt, rt.alloc(), &mut reader, &layout, connection, &mut sink);
+    let offer = Offer::basic();
+    let end = read_loop(
+        rt,
+        rt.alloc(),
+        &mut reader,
+        &layout,
+        offer,
+        connection,
+        &mut sink,
+    );
     assert!(rt; end.number() == row.end);
     assert!(rt; (reader.failures() == 1) == (row.end == 64));
     are_calls(rt, &sink, row.calls);

@@ -8,7 +8,7 @@ use crate::gathered::Gathered;
 use crate::reading::{bytes_of, layout, same, sink};
 use crate::texts::{NO_PROGRAM, NO_PROGRAM_REPLY, NULL, NULL_REPLY};
 use crate::waiting::Waiting;
-use nfs_values::ConnectionNumber;
+use nfs_values::{ConnectionNumber, Offer};
 use std::mem;
 use std::process::Abort;
 use std::sync::Wait;
@@ -70,7 +70,16 @@ pub(crate) fn waiting_for(rt: &(impl Abort + AllocGlobal + Wait), records: &[&[u
     let mut sink = sink(rt, &layout);
     let mut reader = Counted::new(stream.as_slice());
     let connection = ConnectionNumber(0);
-    let end = read_loop(rt, rt.alloc(), &mut reader, &layout, connection, &mut sink);
+    let offer = Offer::basic();
+    let end = read_loop(
+        rt,
+        rt.alloc(),
+        &mut reader,
+        &layout,
+        offer,
+        connection,
+        &mut sink,
+    );
     assert!(rt; end.number() == 0);
     assert!(rt; sink.wakes == 1);
     mem::forget(reader);

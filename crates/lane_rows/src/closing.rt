@@ -10,7 +10,7 @@ use crate::opening::{MemoryLane, open_both};
 use crate::rows::{MANY, layout, narrow_device};
 use crate::texts::{GETATTR, GETATTR_REPLY, NULL, NULL_REPLY};
 use lanes::Sent;
-use nfs_values::Moment;
+use nfs_values::{Moment, Offer};
 use server::{FilerEnd, Room, end};
 use std::process::Abort;
 use std::sync::Wait;
@@ -95,7 +95,7 @@ fn serve_each<R: Abort + AllocGlobal + Wait + Drop>(
 /// first bytes of its replies, as many as its device takes; of each lane one call was finished and
 /// one waits, though its connection is closed.
 fn close_both<R: Abort + AllocGlobal + Wait + Copy + Drop>(rt: R, takes: usize) {
-    let (filer, lanes) = open_both(rt, layout(&rt, 1));
+    let (filer, lanes) = open_both(rt, Offer::basic(), layout(&rt, 1));
     let served = Vec::with_capacity(rt.alloc(), 2).expect(&rt, "no memory");
     let lanes = serve_each(&rt, lanes, served, takes);
     let room = Room::new(rt.alloc(), 2).expect(&rt, "no memory");

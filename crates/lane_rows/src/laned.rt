@@ -5,14 +5,14 @@ ghost use Rattle.server.specs.Lanes.{Stays};
 ghost use Rattle.lane_rows.specs.Written.{WasWritten};
 
 use crate::memory::{Flow, Memory};
-use crate::opening::{MemoryLane, open_lanes};
+use crate::opening::{MemoryLane, open_lanes, open_offering};
 use crate::rows::{MANY, bytes_of, device, layout, narrow_device};
 use crate::texts::{
     CUT, GETATTR, GETATTR_REPLY, NO_PROGRAM, NO_PROGRAM_REPLY, NULL, NULL_IN_TWO, NULL_REPLY,
-    TOO_LONG,
+    NULL_UNAVAILABLE, TOO_LONG,
 };
 use lanes::{Came, Flags, LaneParts, Sent};
-use nfs_values::{Moment, VolumeNumber};
+use nfs_values::{Moment, Offer, Procedure, VolumeNumber};
 use std::process::Abort;
 use std::sync::Wait;
 use std::thread;
@@ -171,6 +171,28 @@ fn two_lanes_serve_each_cut(rt: HostRuntime) {
         serve(rt, first, size);
         serve(rt, second, size);
     }
+}
+
+/// A lane with this offer is asked for NULL, which has this reply, and GETATTR.
+fn serve_offer<R>(rt: R, offer: Offer, reply: &[u32])
+where
+    R: Abort + AllocGlobal + Wait + Copy + Drop,
+{
+    let (mut lane, _other) = open_offering(rt, offer, layout(&rt, 1));
+    let calls = device(&rt, &[&NULL, &GETATTR], 7, MANY);
+    let key = open(&rt, &mut lane, calls);
+    assert!(&rt; read_all(&mut lane, key) == Came::End);
+    assert!(&rt; run_all(&mut lane) == 1);
+    assert!(&rt; write_all(&rt, &mut lane, key) == Sent::All);
+    close(&rt, &mut lane, key, &[reply, &GETATTR_REPLY]);
+    part(rt, lane, 0);
+}
+
+#[test]
+fn a_lane_serves_what_it_offers(rt: HostRuntime) {
+    let fewer = Offer::basic().without(Procedure::Null);
+    serve_offer(rt, fewer, &NULL_UNAVAILABLE);
+    serve_offer(rt, fewer.with(Procedure::Null), &NULL_REPLY);
 }
 
 /// The replies to a GETATTR, a NULL call and a GETATTR: what needs no worker is answered first.

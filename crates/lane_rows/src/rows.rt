@@ -10,7 +10,7 @@ use crate::texts::{
 };
 use affinity::{AggregateSpec, Layout, VolumeSpec};
 use lanes::{Came, Connection, Sent};
-use nfs_values::ConnectionNumber;
+use nfs_values::{ConnectionNumber, Offer};
 use std::mem;
 use std::process::Abort;
 
@@ -104,7 +104,7 @@ fn read_all(
     let mut block = vec![in rt.alloc(); 0; 64].expect(rt, "no memory");
     let mut last = Came::Blocked;
     for _ in 0..MANY {
-        last = connection.read(sink, layout, &mut block);
+        last = connection.read(sink, layout, Offer::basic(), &mut block);
         match last {
             Came::End | Came::Failed | Came::Stopped => break,
             Came::Full => sink.empty(places),

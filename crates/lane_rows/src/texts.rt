@@ -9,6 +9,9 @@ pub(crate) const NULL_IN_TWO: [u32; 12] = [8, 1, 0, 0x8000_0020, 2, 100_003, 3, 
 /// Its reply.
 pub(crate) const NULL_REPLY: [u32; 7] = [0x8000_0018, 1, 1, 0, 0, 0, 0];
 
+/// Its reply where it isn't offered, PROC_UNAVAIL.
+pub(crate) const NULL_UNAVAILABLE: [u32; 7] = [0x8000_0018, 1, 1, 0, 0, 0, 3];
+
 /// A GETATTR call of the root, xid 2.
 pub(crate) const GETATTR: [u32; 15] = [
     0x8000_0038,

@@ -4,6 +4,7 @@ use denote.Param.Send.{IsSend, sendable, view_send}
 use denote.Param.SendFields.{as_row_send, declared_send}
 use Rattle.std.proofs.Crossing.{crosses, send, frees}
 use Rattle.slab.proofs.Slab.TheSendSync as slab
+use Rattle.nfs_values.proofs.offer.Offer.TheSendSync as offer
 use Rattle.tcp_front.proofs.stream.Stopped.TheSendSync as stopped
 use Rattle.tcp_front.proofs.stream.Stream.TheSendSync as stream
 use Rattle.outboxes.specs.contracts.record.Record as Record
@@ -89,10 +90,13 @@ lane-send D R G d r = declared_send (Lane.the_type D R G) (
   (
     search sendable depth 20,
     (
-      search (filer-send, filer-sync, crosses, sendable) depth 20,
+      search (offer.the_send, sendable) depth 20,
       (
-        search (intake-send, r, sendable) depth 20,
-        (slab.the_send _ _ _ (connection-send D d) send frees, tt),
+        search (filer-send, filer-sync, crosses, sendable) depth 20,
+        (
+          search (intake-send, r, sendable) depth 20,
+          (slab.the_send _ _ _ (connection-send D d) send frees, tt),
+        ),
       ),
     ),
   ),

@@ -5,6 +5,7 @@ use Rattle.std.specs.Prelude.{IsTrue}
 use Rattle.std.specs.Option.{is_some}
 use Rattle.rpc_record.specs.Machine.{State}
 use Rattle.rpc_record.specs.Stream.{read_stream}
+use Rattle.nfs_values.specs.declared.offer.Offer.{Offer}
 use Rattle.nfs_model.specs.Tree.{Layout}
 use Rattle.nfs_model.specs.World.{Heard, Scanned}
 use Rattle.engine_feed.specs.Streams.{scan_stream}
@@ -33,19 +34,19 @@ not-none : (o : Option Stopped) → has_stopped o → o ≡ None → ⊥
 not-none None h e = h
 not-none (Some stop) h e = absurd cc
 
-pub adds-nothing : (at : Option State) → Adds at [] [] at
-adds-nothing at = record {
+pub adds-nothing : (offer : Offer) (at : Option State) → Adds offer at [] [] at
+adds-nothing offer at = record {
   brings = λ fed e sound.
-      ap scan_stream (append-nil fed) ∙ ap (λ (f : Option ℕ). record { served = (scan_stream fed).served; fault = f }) sound
-      ∙ ap (λ (l : List Heard). record { served = l; fault = None }) (sym (append-nil (scan_stream fed).served));
+      ap (scan_stream offer) (append-nil fed) ∙ ap (λ (f : Option ℕ). record { served = (scan_stream offer fed).served; fault = f }) sound
+      ∙ ap (λ (l : List Heard). record { served = l; fault = None }) (sym (append-nil (scan_stream offer fed).served));
   leads = λ fed e sound. ap (λ (l : List ℕ). (read_stream l).at) (append-nil fed) ∙ e;
 }
 
-module _ {S : Type 0} (came : S → List Arrival → S → Type 0) (room : S → Bool) (layout : Layout) where
+module _ {S : Type 0} (came : S → List Arrival → S → Type 0) (room : S → Bool) (layout : Layout) (offer : Offer) where
   module _ (s s' : Stream) (sink sink' : S) (bytes : List ℕ) (n : ℕ) (kept : List ℕ) where
     -- behind a stop nothing is kept
-    pub cut-stopped : (o : Option Stopped) → HasTaken came layout s sink (take n bytes) o s' sink' → has_stopped o → kept ≡ []
-        → HasCut came room layout s sink bytes o s' sink' kept
+    pub cut-stopped : (o : Option Stopped) → HasTaken came layout offer s sink (take n bytes) o s' sink' → has_stopped o → kept ≡ []
+        → HasCut came room layout offer s sink bytes o s' sink' kept
     cut-stopped o h stopped none = record {
       cut = take n bytes;
       lost = drop n bytes;
@@ -56,10 +57,10 @@ module _ {S : Type 0} (came : S → List Arrival → S → Type 0) (room : S →
     }
 
     -- nor without memory
-    pub cut-no-memory : (o : Option Stopped) → o ≡ None → HasTaken came layout s sink (take n bytes) o s' sink' → kept ≡ []
-        → HasCut came room layout s sink bytes (Some stops.NoMemory) s' sink' kept
+    pub cut-no-memory : (o : Option Stopped) → o ≡ None → HasTaken came layout offer s sink (take n bytes) o s' sink' → kept ≡ []
+        → HasCut came room layout offer s sink bytes (Some stops.NoMemory) s' sink' kept
     cut-no-memory o is before none =
-        let h = subst (λ (x : Option Stopped). HasTaken came layout s sink (take n bytes) x s' sink') is before in record {
+        let h = subst (λ (x : Option Stopped). HasTaken came layout offer s sink (take n bytes) x s' sink') is before in record {
           cut = take n bytes;
           lost = drop n bytes;
           split = sym (take-append-drop n bytes) ∙ ap (λ (l : List ℕ). take n bytes ++ (l ++ drop n bytes)) (sym none);
@@ -71,7 +72,7 @@ module _ {S : Type 0} (came : S → List Arrival → S → Type 0) (room : S →
             stops = λ fed e sound. (
               [],
               ap (λ (x : Scanned). x.served) (h.stops.0.brings fed e sound)
-                  ∙ ap (λ (l : List Heard). (scan_stream fed).served ++ l) (sym (append-nil h.heard)),
+                  ∙ ap (λ (l : List Heard). (scan_stream offer fed).served ++ l) (sym (append-nil h.heard)),
             );
           };
           none_lost = λ e. absurd cc;

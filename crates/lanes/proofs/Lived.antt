@@ -7,6 +7,7 @@ use Rattle.std.proofs.lemmas.Bool.{eqb-false}
 use Rattle.std.proofs.lemmas.Map.Views.{exact_unsigned_eq}
 use Rattle.depot_rule.specs.Sums.{total}
 use Rattle.depot_rule.specs.lemmas.Sums.{total-append}
+use Rattle.nfs_values.specs.declared.offer.Offer.{Offer}
 use Rattle.nfs_model.specs.Tree.{Layout}
 use Rattle.nfs_model.specs.World as worlds
 use Rattle.nfs_model.specs.World.{Heard}
@@ -92,7 +93,7 @@ module _ {D : Type 0} where
   key_of (Open key) = key
   key_of (Closed last waiting ended) = 0
 
-module _ {D : Type 0} (unread written : D → Option (List ℕ)) (layout : Layout) (lane lanes : ℕ) where
+module _ {D : Type 0} (unread written : D → Option (List ℕ)) (layout : Layout) (offer : Offer) (lane lanes : ℕ) where
   abbrev Slots : Type 0
   Slots = ℕ → Option (Connection D)
 
@@ -104,7 +105,7 @@ module _ {D : Type 0} (unread written : D → Option (List ℕ)) (layout : Layou
 
   pub story-begins : (entries : List FilerEntry) (messages : List Message) (boxes : Boxes) (slots : Slots) → entries ≡ [] → messages ≡ []
       → lane < lanes → boxes.step ≡ lanes → boxes.next ≡ lane
-      → ((key : ℕ) → slots key ≡ None) → Story unread written layout lane lanes entries messages boxes slots
+      → ((key : ℕ) → slots key ≡ None) → Story unread written layout offer lane lanes entries messages boxes slots
   story-begins entries messages boxes slots none no_message within step next vacant = record {
     came = [];
     endings = [];
@@ -123,12 +124,12 @@ module _ {D : Type 0} (unread written : D → Option (List ℕ)) (layout : Layou
   }
 
   module _ (entries : List FilerEntry) (messages : List Message) (boxes : Boxes) (slots : Slots)
-      (s : Story unread written layout lane lanes entries messages boxes slots) where
+      (s : Story unread written layout offer lane lanes entries messages boxes slots) where
     -- ---- no connection changes
 
     -- entries that answer no call
     pub story-turns : (entries' : List FilerEntry) → served_in entries' ≡ served_in entries
-        → Story unread written layout lane lanes entries' messages boxes slots
+        → Story unread written layout offer lane lanes entries' messages boxes slots
     story-turns entries' same = record {
       came = s.came;
       endings = s.endings;
@@ -153,7 +154,7 @@ module _ {D : Type 0} (unread written : D → Option (List ℕ)) (layout : Layou
     -- one call ended, and its reply was put
     pub story-ends : (e : FilerEntry) (a : Addressed) → said_by (Served e) ≡ Some a → served_in (e ∷ []) ≡ e ∷ []
         → ((h : Weight) → total (by_entry h) (entries ++ e ∷ []) ≤ total (by_key h) messages)
-        → Story unread written layout lane lanes (entries ++ e ∷ []) messages (put a boxes) slots
+        → Story unread written layout offer lane lanes (entries ++ e ∷ []) messages (put a boxes) slots
     story-ends e a said is once = record {
       came = s.came;
       endings = s.endings ++ Served e ∷ [];
@@ -167,7 +168,7 @@ module _ {D : Type 0} (unread written : D → Option (List ℕ)) (layout : Layou
       within = s.within;
       step = s.step;
       next = s.next;
-      each = λ k few. lived-put unread written layout boxes slots s.came s.endings (Served e) a said (number_at lane lanes k) (s.lives k) (s.each k few);
+      each = λ k few. lived-put unread written layout offer boxes slots s.came s.endings (Served e) a said (number_at lane lanes k) (s.lives k) (s.each k few);
       known = s.known;
       only = s.only;
     }
@@ -182,8 +183,8 @@ module _ {D : Type 0} (unread written : D → Option (List ℕ)) (layout : Layou
     next-quiet = s.only (number_at lane lanes s.opened) next-new
 
     pub story-opens : (slots' : Slots) (key : ℕ) (c : Connection D) → slots key ≡ None → Sets slots key (Some c) slots' → number_of c ≡ boxes.next
-        → Reads unread c.opened.value c [] → Writes written c.opened.value c [] []
-        → Story unread written layout lane lanes entries messages (opened boxes) slots'
+        → Reads offer unread c.opened.value c [] → Writes written c.opened.value c [] []
+        → Story unread written layout offer lane lanes entries messages (opened boxes) slots'
     story-opens slots' key c vacant sets number reads writes = record {
       came = s.came;
       endings = s.endings;
@@ -196,8 +197,8 @@ module _ {D : Type 0} (unread written : D → Option (List ℕ)) (layout : Layou
       within = s.within;
       step = s.step;
       next = ap (λ n. n + boxes.step) s.next ∙ ap (λ n. number_at lane lanes s.opened + n) s.step ∙ number-next lane lanes s.opened;
-      each = λ k few. either k s.opened (HasLived unread written layout s.came s.endings (opened boxes) slots' (number_at lane lanes k) (lives' k))
-          (λ e. subst (λ j. HasLived unread written layout s.came s.endings (opened boxes) slots' (number_at lane lanes j) (lives' j)) (sym e) here)
+      each = λ k few. either k s.opened (HasLived unread written layout offer s.came s.endings (opened boxes) slots' (number_at lane lanes k) (lives' k))
+          (λ e. subst (λ j. HasLived unread written layout offer s.came s.endings (opened boxes) slots' (number_at lane lanes j) (lives' j)) (sym e) here)
           (λ d. there k (lt_of_le-ne (omega (arith, few)) d) d);
       known = λ other d at. either other key ((k : ℕ) × (k < s.opened + 1) × (lives' k ≡ Open other))
           (λ e. (s.opened, omega arith, changed-here s.lives s.opened (Open key) ∙ ap Open (sym e)))
@@ -218,8 +219,8 @@ module _ {D : Type 0} (unread written : D → Option (List ℕ)) (layout : Layou
         box : (n : ℕ) → get (opened boxes).waiting n ≡ cond (n == boxes.next) (Some []) (get boxes.waiting n)
         box n = get-insert_at boxes.waiting boxes.next [] n
 
-        here : HasLived unread written layout s.came s.endings (opened boxes) slots' (number_at lane lanes s.opened) (lives' s.opened)
-        here = subst (λ (x : Life D). HasLived unread written layout s.came s.endings (opened boxes) slots' (number_at lane lanes s.opened) x)
+        here : HasLived unread written layout offer s.came s.endings (opened boxes) slots' (number_at lane lanes s.opened) (lives' s.opened)
+        here = subst (λ (x : Life D). HasLived unread written layout offer s.came s.endings (opened boxes) slots' (number_at lane lanes s.opened) x)
             (sym (changed-here s.lives s.opened (Open key))) (
               c,
               [],
@@ -240,11 +241,11 @@ module _ {D : Type 0} (unread written : D → Option (List ℕ)) (layout : Layou
             )
 
         there : (k : ℕ) → k < s.opened → k ≢ s.opened
-            → HasLived unread written layout s.came s.endings (opened boxes) slots' (number_at lane lanes k) (lives' k)
+            → HasLived unread written layout offer s.came s.endings (opened boxes) slots' (number_at lane lanes k) (lives' k)
         there k few d =
-            subst (λ (x : Life D). HasLived unread written layout s.came s.endings (opened boxes) slots' (number_at lane lanes k) x)
+            subst (λ (x : Life D). HasLived unread written layout offer s.came s.endings (opened boxes) slots' (number_at lane lanes k) x)
             (sym (changed-there s.lives s.opened (Open key) k d))
-            (lived-beside unread written layout s.came s.came s.endings boxes (opened boxes) slots slots' (number_at lane lanes k) (s.lives k) refl
+            (lived-beside unread written layout offer s.came s.came s.endings boxes (opened boxes) slots slots' (number_at lane lanes k) (s.lives k) refl
             (box (number_at lane lanes k) ∙ ap (λ b. cond b (Some []) (get boxes.waiting (number_at lane lanes k)))
             (ne_eqb (number_at lane lanes k) boxes.next (λ e. next-new k few (sym s.next ∙ sym e))))
             (λ other d at is. sets.1 other (λ e. none-is d (sym vacant ∙ ap slots (sym e) ∙ at)) ∙ at) (s.each k few))
@@ -262,8 +263,8 @@ module _ {D : Type 0} (unread written : D → Option (List ℕ)) (layout : Layou
       is-open : s.lives place ≡ Open key
       is-open = (s.known key c was).2
 
-      own-life : HasLived unread written layout s.came s.endings boxes slots (number_at lane lanes place) (Open key)
-      own-life = subst (λ (x : Life D). HasLived unread written layout s.came s.endings boxes slots (number_at lane lanes place) x) is-open
+      own-life : HasLived unread written layout offer s.came s.endings boxes slots (number_at lane lanes place) (Open key)
+      own-life = subst (λ (x : Life D). HasLived unread written layout offer s.came s.endings boxes slots (number_at lane lanes place) x) is-open
           (s.each place placed)
 
       own-same : own-life.0 ≡ c
@@ -278,8 +279,8 @@ module _ {D : Type 0} (unread written : D → Option (List ℕ)) (layout : Layou
       own-box : get boxes.waiting (number_of c) ≡ Some own-waiting
       own-box = ap (λ n. get boxes.waiting n) own-number ∙ own-life.4
 
-      own-served : IsServed unread written layout s.came s.endings own-waiting c
-      own-served = subst (λ (x : Connection D). IsServed unread written layout s.came s.endings own-waiting x) own-same own-life.5
+      own-served : IsServed unread written layout offer s.came s.endings own-waiting c
+      own-served = subst (λ (x : Connection D). IsServed unread written layout offer s.came s.endings own-waiting x) own-same own-life.5
 
       -- others have other numbers
       others-differ : (k : ℕ) → k ≢ place → number_at lane lanes k ≢ number_of c
@@ -294,7 +295,7 @@ module _ {D : Type 0} (unread written : D → Option (List ℕ)) (layout : Layou
 
     module _ (slots' : Slots) (key : ℕ) (c c' : Connection D) (was : slots key ≡ Some c) (sets : Sets slots key (Some c') slots')
         (number : number_of c' ≡ number_of c) (same_opened : c'.opened.value ≡ c.opened.value) where
-      old : IsServed unread written layout s.came s.endings (own-waiting key c was) c
+      old : IsServed unread written layout offer s.came s.endings (own-waiting key c was) c
       old = own-served key c was
 
       known-still : (other : ℕ) (d : Connection D) → slots' other ≡ Some d → (k : ℕ) × (k < s.opened) × (s.lives k ≡ Open other)
@@ -304,27 +305,27 @@ module _ {D : Type 0} (unread written : D → Option (List ℕ)) (layout : Layou
 
       -- each connection that the lane had, by this one and the others
       each-by : (came' : List Arrival) (boxes' : Boxes)
-          → HasLived unread written layout came' s.endings boxes' slots' (number_at lane lanes (place key c was)) (Open key)
+          → HasLived unread written layout offer came' s.endings boxes' slots' (number_at lane lanes (place key c was)) (Open key)
           → ((n : ℕ) → n ≢ number_of c → of_connection n came' ≡ of_connection n s.came)
           → ((n : ℕ) → n ≢ number_of c → get boxes'.waiting n ≡ get boxes.waiting n)
-          → (k : ℕ) → k < s.opened → HasLived unread written layout came' s.endings boxes' slots' (number_at lane lanes k) (s.lives k)
+          → (k : ℕ) → k < s.opened → HasLived unread written layout offer came' s.endings boxes' slots' (number_at lane lanes k) (s.lives k)
       each-by came' boxes' here quiet waits k few =
-          either k (place key c was) (HasLived unread written layout came' s.endings boxes' slots' (number_at lane lanes k) (s.lives k))
-          (λ e. subst (λ j. HasLived unread written layout came' s.endings boxes' slots' (number_at lane lanes j) (s.lives j)) (sym e)
-          (subst (λ (x : Life D). HasLived unread written layout came' s.endings boxes' slots' (number_at lane lanes (place key c was)) x)
+          either k (place key c was) (HasLived unread written layout offer came' s.endings boxes' slots' (number_at lane lanes k) (s.lives k))
+          (λ e. subst (λ j. HasLived unread written layout offer came' s.endings boxes' slots' (number_at lane lanes j) (s.lives j)) (sym e)
+          (subst (λ (x : Life D). HasLived unread written layout offer came' s.endings boxes' slots' (number_at lane lanes (place key c was)) x)
           (sym (is-open key c was)) here))
-          (λ n. lived-beside unread written layout s.came came' s.endings boxes boxes' slots slots' (number_at lane lanes k) (s.lives k)
+          (λ n. lived-beside unread written layout offer s.came came' s.endings boxes boxes' slots slots' (number_at lane lanes k) (s.lives k)
           (quiet (number_at lane lanes k) (others-differ key c was k n)) (waits (number_at lane lanes k) (others-differ key c was k n))
           (λ other d at is. sets.1 other (other-key key c was k other d n at is) ∙ at) (s.each k few))
 
       pub story-reads : (messages' : List Message) (heard : List Heard) (boxes' : Boxes)
           → map seen_of messages' ≡ map seen_of messages ++ calls_of (arrivals layout (number_of c) c.stream.records heard)
           → boxes' ≡ all_put (answered_of (arrivals layout (number_of c) c.stream.records heard)) boxes
-          → ((before : List Heard) → Reads unread c.opened.value c before → Reads unread c.opened.value c' (before ++ heard))
+          → ((before : List Heard) → Reads offer unread c.opened.value c before → Reads offer unread c.opened.value c' (before ++ heard))
           → ((waiting replies : List ReplyMessage) → Writes written c.opened.value c waiting replies → Writes written c.opened.value c' waiting replies)
-          → Story unread written layout lane lanes entries messages' boxes' slots'
+          → Story unread written layout offer lane lanes entries messages' boxes' slots'
       story-reads messages' heard boxes' admitted put reads writes =
-          subst (λ (b : Boxes). Story unread written layout lane lanes entries messages' b slots') (sym put) all
+          subst (λ (b : Boxes). Story unread written layout offer lane lanes entries messages' b slots') (sym put) all
         where
           xs : List Arrival
           xs = arrivals layout (number_of c) c.stream.records heard
@@ -337,7 +338,7 @@ module _ {D : Type 0} (unread written : D → Option (List ℕ)) (layout : Layou
               ∙ ap (λ (l : List Arrival). of_connection n s.came ++ l) (of-other layout n (number_of c) c.stream.records heard (λ e. d (sym e)))
               ∙ append-nil (of_connection n s.came)
 
-          served : IsServed unread written layout (s.came ++ xs) s.endings (own-waiting key c was) c'
+          served : IsServed unread written layout offer (s.came ++ xs) s.endings (own-waiting key c was) c'
           served = record {
             heard = old.heard ++ heard;
             arrived = ap (λ n. of_connection n (s.came ++ xs)) number ∙ of-append (number_of c) s.came xs
@@ -345,13 +346,13 @@ module _ {D : Type 0} (unread written : D → Option (List ℕ)) (layout : Layou
                 ∙ ap (λ (l : List Arrival). arrivals layout (number_of c) 0 old.heard ++ l) (of-own layout (number_of c) c.stream.records heard)
                 ∙ sym (arrivals-append layout (number_of c) 0 old.heard heard c.stream.records (let n = old.reads.count in omega (arith, n)))
                 ∙ ap (λ n. arrivals layout n 0 (old.heard ++ heard)) (sym number);
-            reads = subst (λ x. Reads unread x c' (old.heard ++ heard)) (sym same_opened) (reads old.heard old.reads);
+            reads = subst (λ x. Reads offer unread x c' (old.heard ++ heard)) (sym same_opened) (reads old.heard old.reads);
             writes = subst (λ x. Writes written x c' (own-waiting key c was) (replies_to (number_of c') s.endings)) (sym same_opened)
                 (subst (λ n. Writes written c.opened.value c' (own-waiting key c was) (replies_to n s.endings)) (sym number)
                 (writes (own-waiting key c was) (replies_to (number_of c) s.endings) old.writes));
           }
 
-          here : HasLived unread written layout (s.came ++ xs) s.endings boxes slots' (number_at lane lanes (place key c was)) (Open key)
+          here : HasLived unread written layout offer (s.came ++ xs) s.endings boxes slots' (number_at lane lanes (place key c was)) (Open key)
           here = (
             c',
             own-waiting key c was,
@@ -361,7 +362,7 @@ module _ {D : Type 0} (unread written : D → Option (List ℕ)) (layout : Layou
             served,
           )
 
-          all : Story unread written layout lane lanes entries messages' (all_put answers boxes) slots'
+          all : Story unread written layout offer lane lanes entries messages' (all_put answers boxes) slots'
           all = record {
             came = s.came ++ xs;
             endings = s.endings ++ map AtOnce answers;
@@ -376,7 +377,7 @@ module _ {D : Type 0} (unread written : D → Option (List ℕ)) (layout : Layou
             within = s.within;
             step = put-step answers boxes ∙ s.step;
             next = put-next answers boxes ∙ s.next;
-            each = λ k few. lived-at-once unread written layout answers boxes slots' (s.came ++ xs) s.endings (number_at lane lanes k) (s.lives k)
+            each = λ k few. lived-at-once unread written layout offer answers boxes slots' (s.came ++ xs) s.endings (number_at lane lanes k) (s.lives k)
                 (each-by (s.came ++ xs) boxes here quiet (λ n d. refl) k few);
             known = known-still;
             only = λ n h. quiet n (λ e. h (place key c was) (placed key c was) (e ∙ own-number key c was)) ∙ s.only n h;
@@ -384,10 +385,10 @@ module _ {D : Type 0} (unread written : D → Option (List ℕ)) (layout : Layou
 
       pub story-writes : (boxes' : Boxes) → boxes'.next ≡ boxes.next → boxes'.step ≡ boxes.step
           → ((other : ℕ) → other ≢ number_of c → get boxes'.waiting other ≡ get boxes.waiting other)
-          → ((heard : List Heard) → Reads unread c.opened.value c heard → Reads unread c.opened.value c' heard)
+          → ((heard : List Heard) → Reads offer unread c.opened.value c heard → Reads offer unread c.opened.value c' heard)
           → ((waiting replies : List ReplyMessage) → get boxes.waiting (number_of c) ≡ Some waiting → Writes written c.opened.value c waiting replies
           → (waiting' : List ReplyMessage) × (get boxes'.waiting (number_of c) ≡ Some waiting') × Writes written c.opened.value c' waiting' replies)
-          → Story unread written layout lane lanes entries messages boxes' slots'
+          → Story unread written layout offer lane lanes entries messages boxes' slots'
       story-writes boxes' next step others reads writes = record {
         came = s.came;
         endings = s.endings;
@@ -409,7 +410,7 @@ module _ {D : Type 0} (unread written : D → Option (List ℕ)) (layout : Layou
               × Writes written c.opened.value c' waiting' (replies_to (number_of c) s.endings)
           left = writes (own-waiting key c was) (replies_to (number_of c) s.endings) (own-box key c was) old.writes
 
-          here : HasLived unread written layout s.came s.endings boxes' slots' (number_at lane lanes (place key c was)) (Open key)
+          here : HasLived unread written layout offer s.came s.endings boxes' slots' (number_at lane lanes (place key c was)) (Open key)
           here = (
             c',
             left.0,
@@ -419,7 +420,7 @@ module _ {D : Type 0} (unread written : D → Option (List ℕ)) (layout : Layou
             record {
               heard = old.heard;
               arrived = ap (λ n. of_connection n s.came) number ∙ old.arrived ∙ ap (λ n. arrivals layout n 0 old.heard) (sym number);
-              reads = subst (λ x. Reads unread x c' old.heard) (sym same_opened) (reads old.heard old.reads);
+              reads = subst (λ x. Reads offer unread x c' old.heard) (sym same_opened) (reads old.heard old.reads);
               writes = subst (λ x. Writes written x c' left.0 (replies_to (number_of c') s.endings)) (sym same_opened)
                   (subst (λ n. Writes written c.opened.value c' left.0 (replies_to n s.endings)) (sym number) left.2);
             },
@@ -429,7 +430,7 @@ module _ {D : Type 0} (unread written : D → Option (List ℕ)) (layout : Layou
 
     pub story-shuts : (slots' : Slots) (key : ℕ) (c : Connection D) → slots key ≡ Some c → Sets slots key None slots'
         → ((n : ℕ) → n ≢ number_of c → get (shut (number_of c) boxes).waiting n ≡ get boxes.waiting n)
-        → Story unread written layout lane lanes entries messages (shut (number_of c) boxes) slots'
+        → Story unread written layout offer lane lanes entries messages (shut (number_of c) boxes) slots'
     story-shuts slots' key c was sets others = record {
       came = s.came;
       endings = s.endings;
@@ -442,8 +443,8 @@ module _ {D : Type 0} (unread written : D → Option (List ℕ)) (layout : Layou
       within = s.within;
       step = s.step;
       next = s.next;
-      each = λ k few. either k at (HasLived unread written layout s.came s.endings boxes' slots' (number_at lane lanes k) (lives' k))
-          (λ e. subst (λ j. HasLived unread written layout s.came s.endings boxes' slots' (number_at lane lanes j) (lives' j)) (sym e) here)
+      each = λ k few. either k at (HasLived unread written layout offer s.came s.endings boxes' slots' (number_at lane lanes k) (lives' k))
+          (λ e. subst (λ j. HasLived unread written layout offer s.came s.endings boxes' slots' (number_at lane lanes j) (lives' j)) (sym e) here)
           (λ n. there k few n);
       known = λ other d is. either other key ((k : ℕ) × (k < s.opened) × (lives' k ≡ Open other))
           (λ e. absurd (none-is d (sym sets.0 ∙ ap slots' (sym e) ∙ is)))
@@ -468,15 +469,15 @@ module _ {D : Type 0} (unread written : D → Option (List ℕ)) (layout : Layou
         lives' : ℕ → Life D
         lives' = changed s.lives at closed
 
-        here : HasLived unread written layout s.came s.endings boxes' slots' (number_at lane lanes at) (lives' at)
-        here = subst (λ (x : Life D). HasLived unread written layout s.came s.endings boxes' slots' (number_at lane lanes at) x)
+        here : HasLived unread written layout offer s.came s.endings boxes' slots' (number_at lane lanes at) (lives' at)
+        here = subst (λ (x : Life D). HasLived unread written layout offer s.came s.endings boxes' slots' (number_at lane lanes at) x)
             (sym (changed-here s.lives at closed))
             ([], sym (append-nil s.endings), own-number key c was, own-served key c was)
 
-        there : (k : ℕ) → k < s.opened → k ≢ at → HasLived unread written layout s.came s.endings boxes' slots' (number_at lane lanes k) (lives' k)
+        there : (k : ℕ) → k < s.opened → k ≢ at → HasLived unread written layout offer s.came s.endings boxes' slots' (number_at lane lanes k) (lives' k)
         there k few n =
-            subst (λ (x : Life D). HasLived unread written layout s.came s.endings boxes' slots' (number_at lane lanes k) x)
+            subst (λ (x : Life D). HasLived unread written layout offer s.came s.endings boxes' slots' (number_at lane lanes k) x)
             (sym (changed-there s.lives at closed k n))
-            (lived-beside unread written layout s.came s.came s.endings boxes boxes' slots slots' (number_at lane lanes k) (s.lives k) refl
+            (lived-beside unread written layout offer s.came s.came s.endings boxes boxes' slots slots' (number_at lane lanes k) (s.lives k) refl
             (others (number_at lane lanes k) (others-differ key c was k n))
             (λ other d on is. sets.1 other (other-key key c was k other d n on is) ∙ on) (s.each k few))

@@ -3,6 +3,7 @@ use Rattle.std.proofs.Common.{◌≡◌, ◌+◌, ◌<◌, ℕ, Bool, true, fals
 use Rattle.std.proofs.Common.{append-nil, arith}
 use Rattle.std.proofs.KnownBytes.{Consumes-kept, Consumes-nil, Keeps-refl}
 use Rattle.std.specs.Io.KnownBytes.{Consumes, IsAtEnd, Keeps}
+use Rattle.nfs_values.specs.declared.offer.Offer.{Offer}
 use Rattle.nfs_model.specs.Tree.{Layout}
 use Rattle.nfs_model.specs.World.{Heard}
 use Rattle.tcp_front.specs.declared.stream.Stopped.{Stopped}
@@ -20,15 +21,15 @@ use Rattle.lanes.specs.Reading.{Cuts, HasRead, HasSameWriting, IsTold}
 use Rattle.lanes.proofs.Cut.{adds-nothing}
 
 module _ {D S : Type 0} (unread written : D → Option (List ℕ)) (came : S → List Arrival → S → Type 0) (room : S → Bool)
-    (layout : Layout) (old : Connection D) (sink : S) (size : ℕ) where
+    (layout : Layout) (offer : Offer) (old : Connection D) (sink : S) (size : ℕ) where
   cuts-stopped : (o : Option Stopped) (s : Stream) (kept : List ℕ) → has_stopped o → came sink [] sink
-      → Cuts came room layout o s sink kept [] [] o s sink kept
+      → Cuts came room layout offer o s sink kept [] [] o s sink kept
   cuts-stopped None s kept h none = absurd h
   cuts-stopped (Some stop) s kept h none = (none, refl, refl, refl, refl, refl)
 
   -- nothing where the reading had stopped
   pub read-stopped : came sink [] sink → has_stopped old.stopped
-      → HasRead unread written came room layout old sink size cames.Stopped old sink
+      → HasRead unread written came room layout offer old sink size cames.Stopped old sink
   read-stopped none h = record {
     read = [];
     heard = [];
@@ -42,7 +43,7 @@ module _ {D S : Type 0} (unread written : D → Option (List ℕ)) (came : S →
   }
 
   cuts-idle : (o : Option Stopped) (s : Stream) (kept : List ℕ) → o ≡ None → s.records < most_records
-      → (0 < length kept → room sink ≡ false) → came sink [] sink → Cuts came room layout o s sink kept [] [] o s sink kept
+      → (0 < length kept → room sink ≡ false) → came sink [] sink → Cuts came room layout offer o s sink kept [] [] o s sink kept
   cuts-idle None s kept e few full none = (
     record {
       cut = [];
@@ -53,7 +54,7 @@ module _ {D S : Type 0} (unread written : D → Option (List ℕ)) (came : S →
         given = none;
         count = omega arith;
         same = refl;
-        stops = (adds-nothing s.reassembler, few);
+        stops = (adds-nothing offer s.reassembler, few);
       };
       none_lost = λ e. refl;
       full = λ e. full;
@@ -67,16 +68,16 @@ module _ {D S : Type 0} (unread written : D → Option (List ℕ)) (came : S →
       → came sink [] sink → Consumes (unread (now_of old)) (unread (now_of new)) [] → Keeps (written (now_of old)) (written (now_of new))
       → IsTold unread (room sink) size result old new
       → new.stream ≡ old.stream → new.kept ≡ old.kept → new.stopped ≡ old.stopped → HasSameWriting old new
-      → HasRead unread written came room layout old sink size result new sink
+      → HasRead unread written came room layout offer old sink size result new sink
   read-nothing new result none full law taken apart told s k st same = record {
     read = [];
     heard = [];
     taken = taken;
     apart = apart;
     given = law;
-    cuts = subst (λ (x : Stream). Cuts came room layout old.stopped old.stream sink old.kept [] [] new.stopped x sink new.kept) (sym s)
-        (subst (λ (x : List ℕ). Cuts came room layout old.stopped old.stream sink old.kept [] [] new.stopped old.stream sink x) (sym k)
-        (subst (λ (x : Option Stopped). Cuts came room layout old.stopped old.stream sink old.kept [] [] x old.stream sink old.kept) (sym st)
+    cuts = subst (λ (x : Stream). Cuts came room layout offer old.stopped old.stream sink old.kept [] [] new.stopped x sink new.kept) (sym s)
+        (subst (λ (x : List ℕ). Cuts came room layout offer old.stopped old.stream sink old.kept [] [] new.stopped old.stream sink x) (sym k)
+        (subst (λ (x : Option Stopped). Cuts came room layout offer old.stopped old.stream sink old.kept [] [] x old.stream sink old.kept) (sym st)
         (cuts-idle old.stopped old.stream old.kept none (old.few none) full law)));
     told = told;
     number = ap (λ (x : Stream). x.connection) s;
@@ -84,17 +85,17 @@ module _ {D S : Type 0} (unread written : D → Option (List ℕ)) (came : S →
   }
 
   cuts-by : (o : Option Stopped) (read : List ℕ) (s : Stream) (kept : List ℕ) (stopped : Option Stopped) (s' : Stream) (sink' : S) (kept' : List ℕ)
-      → o ≡ None → (h : HasCut came room layout s sink (kept ++ read) stopped s' sink' kept')
-      → Cuts came room layout o s sink kept read h.taken.heard stopped s' sink' kept'
+      → o ≡ None → (h : HasCut came room layout offer s sink (kept ++ read) stopped s' sink' kept')
+      → Cuts came room layout offer o s sink kept read h.taken.heard stopped s' sink' kept'
   cuts-by None read s kept stopped s' sink' kept' e h = (h, refl)
   cuts-by (Some stop) read s kept stopped s' sink' kept' e h = absurd cc
 
   -- what was read is cut, with what was kept
   read-cut : (new : Connection D) (sink' : S) (result : Came) (read : List ℕ) → old.stopped ≡ None
-      → (h : HasCut came room layout old.stream sink (kept_of old ++ read) new.stopped new.stream sink' (kept_of new))
+      → (h : HasCut came room layout offer old.stream sink (kept_of old ++ read) new.stopped new.stream sink' (kept_of new))
       → Consumes (unread (now_of old)) (unread (now_of new)) read → Keeps (written (now_of old)) (written (now_of new))
       → IsTold unread (room sink) size result old new → HasSameWriting old new
-      → HasRead unread written came room layout old sink size result new sink'
+      → HasRead unread written came room layout offer old sink size result new sink'
   read-cut new sink' result read none h taken apart told same = record {
     read = read;
     heard = h.taken.heard;
@@ -108,11 +109,11 @@ module _ {D S : Type 0} (unread written : D → Option (List ℕ)) (came : S →
   }
 
   pub read-kept : (new : Connection D) (sink' : S) → old.stopped ≡ None → room sink ≡ true → 0 < length (kept_of old) → new.device ≡ old.device
-      → HasCut came room layout old.stream sink (kept_of old) new.stopped new.stream sink' (kept_of new) → HasSameWriting old new
-      → HasRead unread written came room layout old sink size cames.Cut new sink'
+      → HasCut came room layout offer old.stream sink (kept_of old) new.stopped new.stream sink' (kept_of new) → HasSameWriting old new
+      → HasRead unread written came room layout offer old sink size cames.Cut new sink'
   read-kept new sink' none roomy some device h same =
       read-cut new sink' cames.Cut [] none
-      (subst (λ (l : List ℕ). HasCut came room layout old.stream sink l new.stopped new.stream sink' (kept_of new)) (sym (append-nil old.kept)) h)
+      (subst (λ (l : List ℕ). HasCut came room layout offer old.stream sink l new.stopped new.stream sink' (kept_of new)) (sym (append-nil old.kept)) h)
       (subst (λ (x : D). Consumes (unread (now_of old)) (unread x) []) (ap (λ (x : Watched D). x.device) (sym device))
       (Consumes-nil (unread (now_of old))))
       (subst (λ (x : D). Keeps (written (now_of old)) (written x)) (ap (λ (x : Watched D). x.device) (sym device))
@@ -120,13 +121,13 @@ module _ {D S : Type 0} (unread written : D → Option (List ℕ)) (came : S →
       (none, roomy, some, device) same
 
   pub read-new : (new : Connection D) (sink' : S) (n : ℕ) (read : List ℕ) → old.stopped ≡ None → room sink ≡ true → old.kept ≡ [] → 0 < n
-      → HasCut came room layout old.stream sink read new.stopped new.stream sink' (kept_of new)
+      → HasCut came room layout offer old.stream sink read new.stopped new.stream sink' (kept_of new)
       → Consumes (unread (now_of old)) (unread (now_of new)) read → Keeps (written (now_of old)) (written (now_of new))
       → HasCalled old.device size (tolds.Moved n) new.device → HasSameWriting old new
-      → HasRead unread written came room layout old sink size (cames.Read n) new sink'
+      → HasRead unread written came room layout offer old sink size (cames.Read n) new sink'
   read-new new sink' n read none roomy empty some h taken apart called same =
       read-cut new sink' (cames.Read n) read none
-      (subst (λ (l : List ℕ). HasCut came room layout old.stream sink (l ++ read) new.stopped new.stream sink' (kept_of new)) (sym empty) h)
+      (subst (λ (l : List ℕ). HasCut came room layout offer old.stream sink (l ++ read) new.stopped new.stream sink' (kept_of new)) (sym empty) h)
       taken apart ((none, empty), roomy, called, some) same
 
 pub took-none : (a b : Option (List ℕ)) → Keeps a b → Consumes a b []

@@ -4,6 +4,7 @@ use Rattle.std.proofs.Common.{option_map, refl, sym, ap, subst, ◌∙◌, appen
 use Rattle.std.specs.FinMap.{get}
 use Rattle.std.proofs.lemmas.Bool.{eqb-false}
 use Rattle.std.proofs.lemmas.Map.Views.{exact_unsigned_eq}
+use Rattle.nfs_values.specs.declared.offer.Offer.{Offer}
 use Rattle.nfs_model.specs.Tree.{Layout}
 use Rattle.nfs_model.specs.volume.lemmas.Numbered.{itself, get-changed_at}
 use Rattle.outboxes.specs.Boxes.{Addressed, Boxes, put, with_last}
@@ -30,7 +31,7 @@ no-reply n x a said d =
     ap (λ (o : Option Addressed). with_reply n o []) said
     ∙ ap (λ (b : Bool). if b then a.message ∷ [] else []) (ne_eqb a.connection n (λ e. d (sym e)))
 
-module _ {D : Type 0} (unread written : D → Option (List ℕ)) (layout : Layout) where
+module _ {D : Type 0} (unread written : D → Option (List ℕ)) (layout : Layout) (offer : Offer) where
   abbrev pub Slots : Type 0
   Slots = ℕ → Option (Connection D)
 
@@ -38,10 +39,10 @@ module _ {D : Type 0} (unread written : D → Option (List ℕ)) (layout : Layou
 
   module _ (boxes : Boxes) (came : List Arrival) (endings : List Ending) (c : Connection D) (waiting : List ReplyMessage)
       (box : get boxes.waiting (number_of c) ≡ Some waiting) (x : Ending) (a : Addressed) (said : said_by x ≡ Some a)
-      (s : IsServed unread written layout came endings waiting c) where
+      (s : IsServed unread written layout offer came endings waiting c) where
     abbrev Put : Type 0
     Put = (waiting' : List ReplyMessage) × (get (put a boxes).waiting (number_of c) ≡ Some waiting')
-        × IsServed unread written layout came (endings ++ x ∷ []) waiting' c
+        × IsServed unread written layout offer came (endings ++ x ∷ []) waiting' c
 
     served-put : Put
     served-put = by (number_of c == a.connection) refl
@@ -78,8 +79,8 @@ module _ {D : Type 0} (unread written : D → Option (List ℕ)) (layout : Layou
 
   -- so it is of each connection that the lane had
   pub lived-put : (boxes : Boxes) (slots : Slots) (came : List Arrival) (endings : List Ending) (x : Ending) (a : Addressed) → said_by x ≡ Some a
-      → (number : ℕ) (life : Life D) → HasLived unread written layout came endings boxes slots number life
-      → HasLived unread written layout came (endings ++ x ∷ []) (put a boxes) slots number life
+      → (number : ℕ) (life : Life D) → HasLived unread written layout offer came endings boxes slots number life
+      → HasLived unread written layout offer came (endings ++ x ∷ []) (put a boxes) slots number life
   lived-put boxes slots came endings x a said number (Open key) h =
       let c = h.0 in
       let p = served-put boxes came endings c h.1 (ap (λ n. get boxes.waiting n) h.3 ∙ h.4) x a said h.5 in
@@ -89,20 +90,20 @@ module _ {D : Type 0} (unread written : D → Option (List ℕ)) (layout : Layou
 
   -- replies at once, all put
   pub lived-at-once : (xs : List Addressed) (boxes : Boxes) (slots : Slots) (came : List Arrival) (endings : List Ending) (number : ℕ) (life : Life D)
-      → HasLived unread written layout came endings boxes slots number life
-      → HasLived unread written layout came (endings ++ map AtOnce xs) (all_put xs boxes) slots number life
+      → HasLived unread written layout offer came endings boxes slots number life
+      → HasLived unread written layout offer came (endings ++ map AtOnce xs) (all_put xs boxes) slots number life
   lived-at-once [] boxes slots came endings number life h =
-      subst (λ (l : List Ending). HasLived unread written layout came l boxes slots number life) (sym (append-nil endings)) h
+      subst (λ (l : List Ending). HasLived unread written layout offer came l boxes slots number life) (sym (append-nil endings)) h
   lived-at-once (x ∷ xs) boxes slots came endings number life h =
-      subst (λ (l : List Ending). HasLived unread written layout came l (all_put xs (put x boxes)) slots number life)
+      subst (λ (l : List Ending). HasLived unread written layout offer came l (all_put xs (put x boxes)) slots number life)
       (append_assoc endings (AtOnce x ∷ []) (map AtOnce xs))
       (lived-at-once xs (put x boxes) slots came (endings ++ AtOnce x ∷ []) number life (lived-put boxes slots came endings (AtOnce x) x refl number life h))
 
   -- ---- another connection goes on
 
   still-arrived : (came came' : List Arrival) (endings : List Ending) (waiting : List ReplyMessage) (c : Connection D)
-      → of_connection (number_of c) came' ≡ of_connection (number_of c) came → IsServed unread written layout came endings waiting c
-      → IsServed unread written layout came' endings waiting c
+      → of_connection (number_of c) came' ≡ of_connection (number_of c) came → IsServed unread written layout offer came endings waiting c
+      → IsServed unread written layout offer came' endings waiting c
   still-arrived came came' endings waiting c same s =
       record { heard = s.heard; arrived = same ∙ s.arrived; reads = s.reads; writes = s.writes }
 
@@ -110,7 +111,7 @@ module _ {D : Type 0} (unread written : D → Option (List ℕ)) (layout : Layou
   pub lived-beside : (came came' : List Arrival) (endings : List Ending) (boxes boxes' : Boxes) (slots slots' : Slots) (number : ℕ) (life : Life D)
       → of_connection number came' ≡ of_connection number came → get boxes'.waiting number ≡ get boxes.waiting number
       → ((key : ℕ) (c : Connection D) → slots key ≡ Some c → number_of c ≡ number → slots' key ≡ Some c)
-      → HasLived unread written layout came endings boxes slots number life → HasLived unread written layout came' endings boxes' slots' number life
+      → HasLived unread written layout offer came endings boxes slots number life → HasLived unread written layout offer came' endings boxes' slots' number life
   lived-beside came came' endings boxes boxes' slots slots' number (Open key) same box there h =
       let c = h.0 in (
         c,

@@ -4,6 +4,7 @@ use Rattle.std.proofs.Common.{subst, ◌∙◌, append-nil, cond, ne_eqb, arith}
 use Rattle.std.specs.Prelude.{IsSome}
 use Rattle.std.specs.FinMap as maps
 use Rattle.std.proofs.Math.Logic.{∥∥₁_map}
+use Rattle.nfs_values.specs.declared.offer.Offer.{Offer}
 use Rattle.nfs_model.specs.Tree.{Layout}
 use Rattle.nfs_model.specs.World.{Heard}
 use Rattle.affinity.specs.declared.layout.Layout as layouts
@@ -88,20 +89,20 @@ module _ {D : Type 0} where
       (Updates-with_value slab key c' (subst (λ (o : Option (Connection D)). IsSome o) (sym was) refl)) in
       (u.changed, u.others)
 
-module _ {D : Type 0} (unread written : D → Option (List ℕ)) (layout : Layout) (lane lanes : ℕ) (entries : List FilerEntry) where
+module _ {D : Type 0} (unread written : D → Option (List ℕ)) (layout : Layout) (offer : Offer) (lane lanes : ℕ) (entries : List FilerEntry) where
   -- what a lane's type keeps
   abbrev pub Told : List Message → Boxes → Slab (Connection D) → Type 0
-  Told messages boxes slab = ∥ Story unread written layout lane lanes entries messages boxes (get slab) ∥₁
+  Told messages boxes slab = ∥ Story unread written layout offer lane lanes entries messages boxes (get slab) ∥₁
 
   -- ---- reading
 
   module _ {R : Type 0} (c : Connection D) (sink sink' : Intake R) (size : ℕ) (result : Came) (between : Connection D)
-      (h : HasRead unread written HasTakenIn has_room_in layout c (owing_in c.owed sink) size result between sink') where
+      (h : HasRead unread written HasTakenIn has_room_in layout offer c (owing_in c.owed sink) size result between sink') where
     read-number : number_of between ≡ number_of c
     read-number = ap (λ n. n.0) h.number
 
   read-told : {R : Type 0} (slab slab' : Slab (Connection D)) (key : ℕ) (o : Option (Connection D)) → get slab key ≡ o → (sink sink' : Intake R)
-      (size : ℕ) (result : Came) → ReadsUnder unread written layout slab key o sink size result slab' sink'
+      (size : ℕ) (result : Came) → ReadsUnder unread written layout offer slab key o sink size result slab' sink'
       → Told (known sink.pass).put sink.outboxes slab → Told (known sink'.pass).put sink'.outboxes slab'
   read-told slab slab' key None is sink sink' size result (_, same, sink_same) t =
       subst (λ (s : Slab (Connection D)). Told (known sink'.pass).put sink'.outboxes s) (sym same)
@@ -111,19 +112,20 @@ module _ {D : Type 0} (unread written : D → Option (List ℕ)) (layout : Layou
       let h = on.read in
       let number : number_of after ≡ number_of c = ap (λ (x : Connection D). number_of x) on.is ∙ read-number c sink sink' size result on.between h in
       let same : after.opened.value ≡ c.opened.value = ap (λ (x : Connection D). x.opened.value) on.is ∙ ap (λ x. x.value) h.same.2 in
-      story-reads unread written layout lane lanes entries (known sink.pass).put sink.outboxes (get slab) s (get slab') key c after is
+      story-reads unread written layout offer lane lanes entries (known sink.pass).put sink.outboxes (get slab) s (get slab') key c after is
       (sets-at slab slab' key c after is now) number same (known sink'.pass).put h.heard sink'.outboxes h.given.put h.given.boxes_are
-      (λ before r. subst (λ (x : Connection D). Reads unread c.opened.value x (before ++ h.heard)) (sym on.is)
-      (reads-on unread written HasTakenIn has_room_in layout c (owing_in c.owed sink) size result on.between sink' h c.opened.value before r))
+      (λ before r. subst (λ (x : Connection D). Reads offer unread c.opened.value x (before ++ h.heard)) (sym on.is)
+      (reads-on unread written HasTakenIn has_room_in layout offer c (owing_in c.owed sink) size result on.between sink' h c.opened.value before r))
       (λ waiting replies r. subst (λ (x : Connection D). Writes written c.opened.value x waiting replies) (sym on.is)
-      (writes-kept unread written HasTakenIn has_room_in layout c (owing_in c.owed sink) size result on.between sink' h c.opened.value waiting replies r)))
+      (writes-kept unread written HasTakenIn has_room_in layout offer c (owing_in c.owed sink) size result on.between sink' h c.opened.value waiting replies
+      r)))
 
   pub reads-told : {R : Type 0} (layout' : Layout) (slab slab' : Slab (Connection D)) (key : ℕ) (sink sink' : Intake R)
-      (size : ℕ) (result : Came) → layout' ≡ layout → ReadsUnder unread written layout' slab key (get slab key) sink size result slab' sink'
+      (size : ℕ) (result : Came) → layout' ≡ layout → ReadsUnder unread written layout' offer slab key (get slab key) sink size result slab' sink'
       → Told (known sink.pass).put sink.outboxes slab → Told (known sink'.pass).put sink'.outboxes slab'
   reads-told {R} layout' slab slab' key sink sink' size result same h t =
       read-told slab slab' key (get slab key) refl sink sink' size result
-      (subst (λ (l : Layout). ReadsUnder unread written l slab key (get slab key) sink size result slab' sink') same h) t
+      (subst (λ (l : Layout). ReadsUnder unread written l offer slab key (get slab key) sink size result slab' sink') same h) t
 
   -- ---- writing
 
@@ -137,9 +139,9 @@ module _ {D : Type 0} (unread written : D → Option (List ℕ)) (layout : Layou
       ∥∥₁_map t (λ s.
       let kept = written-same unread written c boxes result after boxes' h in
       let takes = written-takes unread written c boxes result after boxes' h in
-      story-writes unread written layout lane lanes entries messages boxes (get slab) s (get slab') key c after is (sets-at slab slab' key c after is now)
+      story-writes unread written layout offer lane lanes entries messages boxes (get slab) s (get slab') key c after is (sets-at slab slab' key c after is now)
       (ap (λ (x : Stream). x.connection.0) kept.0) (ap (λ x. x.value) kept.3)
-      boxes' takes.1.next takes.1.step takes.1.others (reads-kept unread written c boxes result after boxes' h c.opened.value)
+      boxes' takes.1.next takes.1.step takes.1.others (reads-kept unread written c boxes result after boxes' h offer c.opened.value)
       (λ waiting replies e r. let w = writes-on unread written c boxes result after boxes' h c.opened.value waiting replies e r in (w.0, w.1.0, w.1.1)))
 
   pub writes-told : (slab slab' : Slab (Connection D)) (key : ℕ) (messages : List Message) (boxes boxes' : Boxes) (result : Sent)
@@ -153,7 +155,7 @@ module _ {D : Type 0} (unread written : D → Option (List ℕ)) (layout : Layou
   flag-told slab slab' key None is messages boxes flags same t = subst (λ (s : Slab (Connection D)). Told messages boxes s) (sym same) t
   flag-told slab slab' key (Some c) is messages boxes flags now t =
       ∥∥₁_map t (λ s.
-      story-writes unread written layout lane lanes entries messages boxes (get slab) s (get slab') key c (flagged flags c) is
+      story-writes unread written layout offer lane lanes entries messages boxes (get slab) s (get slab') key c (flagged flags c) is
       (sets-at slab slab' key c (flagged flags c) is now) refl refl boxes refl refl (λ other n. refl) (λ heard r. r)
       (λ waiting replies e r. (waiting, e, r)))
 
@@ -165,11 +167,11 @@ module _ {D : Type 0} (unread written : D → Option (List ℕ)) (layout : Layou
 
   pub opens-told : (slab between slab' : Slab (Connection D)) (key : ℕ) (c : Connection D) (messages : List Message) (boxes boxes' : Boxes)
       → between ≡ record slab { capacity = between.capacity } → get between key ≡ None → Updates between slab' key (Some c)
-      → boxes' ≡ opened boxes → number_of c ≡ boxes.next → Reads unread c.opened.value c [] → Writes written c.opened.value c [] []
+      → boxes' ≡ opened boxes → number_of c ≡ boxes.next → Reads offer unread c.opened.value c [] → Writes written c.opened.value c [] []
       → Told messages boxes slab → Told messages boxes' slab'
   opens-told slab between slab' key c messages boxes boxes' reserved vacant updates is number reads writes t =
       subst (λ (b : Boxes). Told messages b slab') (sym is)
-      (∥∥₁_map t (λ s. story-opens unread written layout lane lanes entries messages boxes (get slab) s (get slab') key c
+      (∥∥₁_map t (λ s. story-opens unread written layout offer lane lanes entries messages boxes (get slab) s (get slab') key c
       (sym (ap (λ (x : Slab (Connection D)). get x key) reserved) ∙ vacant)
       (updates.changed, (λ other n. updates.others other n ∙ ap (λ (x : Slab (Connection D)). get x other) reserved)) number reads writes))
 
@@ -177,7 +179,7 @@ module _ {D : Type 0} (unread written : D → Option (List ℕ)) (layout : Layou
       → slab' ≡ record slab { capacity = slab'.capacity } → boxes' ≡ boxes → Told messages boxes slab → Told messages boxes' slab'
   reserved-told slab slab' messages boxes boxes' reserved is t =
       subst (λ (b : Boxes). Told messages b slab') (sym is)
-      (subst (λ (s : ℕ → Option (Connection D)). ∥ Story unread written layout lane lanes entries messages boxes s ∥₁)
+      (subst (λ (s : ℕ → Option (Connection D)). ∥ Story unread written layout offer lane lanes entries messages boxes s ∥₁)
       (sym (ap (λ (x : Slab (Connection D)). get x) reserved)) t)
 
   pub closes-told : (slab slab' : Slab (Connection D)) (key : ℕ) (c : Connection D) (messages : List Message) (boxes boxes' : Boxes)
@@ -185,35 +187,39 @@ module _ {D : Type 0} (unread written : D → Option (List ℕ)) (layout : Layou
       → Told messages boxes slab → Told messages boxes' slab'
   closes-told slab slab' key c messages boxes boxes' was updates is t =
       subst (λ (b : Boxes). Told messages b slab') (sym is)
-      (∥∥₁_map t (λ s. story-shuts unread written layout lane lanes entries messages boxes (get slab) s (get slab') key c was (updates.changed, updates.others)
+      (∥∥₁_map t (λ s. story-shuts unread written layout offer lane lanes entries messages boxes (get slab) s (get slab') key c was (
+        updates.changed,
+        updates.others,
+      )
       (λ n d. get-remove_at boxes.waiting (number_of c) n ∙ ap (λ b. cond b None (get-of boxes n)) (ne_eqb n (number_of c) d))))
 
-module _ {D : Type 0} (unread written : D → Option (List ℕ)) (layout : Layout) (lane lanes : ℕ) (entries : List FilerEntry) where
+module _ {D : Type 0} (unread written : D → Option (List ℕ)) (layout : Layout) (offer : Offer) (lane lanes : ℕ) (entries : List FilerEntry) where
   close-told : (slab slab' : Slab (Connection D)) (key : ℕ) (o : Option (Connection D)) → get slab key ≡ o → (messages : List Message)
       (boxes boxes' : Boxes) (device : Option D) → Closes slab key boxes o device slab' boxes'
-      → ∥ Story unread written layout lane lanes entries messages boxes (get slab) ∥₁
-      → ∥ Story unread written layout lane lanes entries messages boxes' (get slab') ∥₁
+      → ∥ Story unread written layout offer lane lanes entries messages boxes (get slab) ∥₁
+      → ∥ Story unread written layout offer lane lanes entries messages boxes' (get slab') ∥₁
   close-told slab slab' key None is messages boxes boxes' device (_, same, boxes_same) t =
-      subst (λ (s : Slab (Connection D)). ∥ Story unread written layout lane lanes entries messages boxes' (get s) ∥₁) (sym same)
-      (subst (λ (b : Boxes). ∥ Story unread written layout lane lanes entries messages b (get slab) ∥₁) (sym boxes_same) t)
+      subst (λ (s : Slab (Connection D)). ∥ Story unread written layout offer lane lanes entries messages boxes' (get s) ∥₁) (sym same)
+      (subst (λ (b : Boxes). ∥ Story unread written layout offer lane lanes entries messages b (get slab) ∥₁) (sym boxes_same) t)
   close-told slab slab' key (Some c) is messages boxes boxes' device (_, updates, boxes_is) t =
-      closes-told unread written layout lane lanes entries slab slab' key c messages boxes boxes' is updates boxes_is t
+      closes-told unread written layout offer lane lanes entries slab slab' key c messages boxes boxes' is updates boxes_is t
 
   pub closed-told : (slab slab' : Slab (Connection D)) (key : ℕ) (messages : List Message) (boxes boxes' : Boxes) (device : Option D)
       → Closes slab key boxes (get slab key) device slab' boxes'
-      → ∥ Story unread written layout lane lanes entries messages boxes (get slab) ∥₁
-      → ∥ Story unread written layout lane lanes entries messages boxes' (get slab') ∥₁
+      → ∥ Story unread written layout offer lane lanes entries messages boxes (get slab) ∥₁
+      → ∥ Story unread written layout offer lane lanes entries messages boxes' (get slab') ∥₁
   closed-told slab slab' key messages boxes boxes' device h t = close-told slab slab' key (get slab key) refl messages boxes boxes' device h t
 
 -- ---- turns
 
 -- a pass by which nothing was put
-pub put-kept : {D : Type 0} (unread written : D → Option (List ℕ)) (layout : Layout) (lane lanes : ℕ) (entries : List FilerEntry) (boxes : Boxes)
+pub put-kept : {D : Type 0} (unread written : D → Option (List ℕ)) (layout : Layout) (offer : Offer) (lane lanes : ℕ) (entries : List FilerEntry)
+    (boxes : Boxes)
     (slots : ℕ → Option (Connection D)) (p p' : Pass Message layouts.Layout) → known p' ≡ known p
-    → ∥ Story unread written layout lane lanes entries (known p).put boxes slots ∥₁
-    → ∥ Story unread written layout lane lanes entries (known p').put boxes slots ∥₁
-put-kept unread written layout lane lanes entries boxes slots p p' e t =
-    subst (λ (v : Passed). ∥ Story unread written layout lane lanes entries v.put boxes slots ∥₁) (sym e) t
+    → ∥ Story unread written layout offer lane lanes entries (known p).put boxes slots ∥₁
+    → ∥ Story unread written layout offer lane lanes entries (known p').put boxes slots ∥₁
+put-kept unread written layout offer lane lanes entries boxes slots p p' e t =
+    subst (λ (v : Passed). ∥ Story unread written layout offer lane lanes entries v.put boxes slots ∥₁) (sym e) t
 
 -- how often a call is finished, at most as often as it was put
 abbrev Once : List Message → List FilerEntry → Type 0
@@ -226,7 +232,7 @@ once-before messages entries more once h =
 once-same : (messages : List Message) (entries entries' : List FilerEntry) → entries' ≡ entries → Once messages entries' → Once messages entries
 once-same messages entries entries' e once = subst (Once messages) e once
 
-module _ {D : Type 0} (unread written : D → Option (List ℕ)) (layout : Layout) (lane lanes : ℕ) where
+module _ {D : Type 0} (unread written : D → Option (List ℕ)) (layout : Layout) (offer : Offer) (lane lanes : ℕ) where
   replied : (m : Message) (moment : Moment) (a : Addressed) (e : FilerEntry) → IsEntryOf m moment a e → said_by (Served e) ≡ Some a
   replied m moment a e i =
       ap (λ (j : Job). answer_to j (job_reply_of e.reply)) i.call ∙ ap (λ r. answer_to (job_of_message m moment i.starved) r) i.reply
@@ -238,18 +244,18 @@ module _ {D : Type 0} (unread written : D → Option (List ℕ)) (layout : Layou
 
   module _ (messages : List Message) (slots : ℕ → Option (Connection D)) (moment : Moment) where
     abbrev Known : Standing → Boxes → Type 0
-    Known s boxes = ∥ Story unread written layout lane lanes (entries_of s.view) messages boxes slots ∥₁
+    Known s boxes = ∥ Story unread written layout offer lane lanes (entries_of s.view) messages boxes slots ∥₁
 
     same-told : (s t : Standing) (boxes : Boxes) → entries_of t.view ≡ entries_of s.view → Known s boxes → Known t boxes
     same-told s t boxes e k =
-        subst (λ (es : List FilerEntry). ∥ Story unread written layout lane lanes es messages boxes slots ∥₁) (sym e) k
+        subst (λ (es : List FilerEntry). ∥ Story unread written layout offer lane lanes es messages boxes slots ∥₁) (sym e) k
 
     done-told : (s t : Standing) (boxes : Boxes) (a : Addressed) → HasDoneFrom s moment a t → Once messages (entries_of t.view)
         → Known s boxes → Known t (put a boxes)
     done-told s t boxes a d once k =
         let f = d.finished in
-        subst (λ (es : List FilerEntry). ∥ Story unread written layout lane lanes es messages (put a boxes) slots ∥₁) (sym f.entries)
-        (∥∥₁_map k (λ y. story-ends unread written layout lane lanes (entries_of s.view) messages boxes slots y f.entry a
+        subst (λ (es : List FilerEntry). ∥ Story unread written layout offer lane lanes es messages (put a boxes) slots ∥₁) (sym f.entries)
+        (∥∥₁_map k (λ y. story-ends unread written layout offer lane lanes (entries_of s.view) messages boxes slots y f.entry a
         (replied d.message moment a f.entry f.is) (served-one d.message moment a f.entry f.is) (subst (Once messages) f.entries once)))
 
     -- what was finished before is among what is finished
@@ -288,11 +294,12 @@ inner-none : (e : FilerEntry) (job : Job) (call : jobs.InnerCall) → job_of job
 inner-none e (Serve served) call h = let no : ⊥ = cc in absurd no
 inner-none e (Inner inner) call h = refl
 
-module _ {D : Type 0} (unread written : D → Option (List ℕ)) (layout : Layout) (lane lanes : ℕ) (messages : List Message) (boxes : Boxes)
+module _ {D : Type 0} (unread written : D → Option (List ℕ)) (layout : Layout) (offer : Offer) (lane lanes : ℕ) (messages : List Message) (boxes : Boxes)
     (slots : ℕ → Option (Connection D)) (before after : Worker) where
   tended-told : (entries entries' : List FilerEntry) → served_in entries' ≡ served_in entries
-      → ∥ Story unread written layout lane lanes entries messages boxes slots ∥₁ → ∥ Story unread written layout lane lanes entries' messages boxes slots ∥₁
-  tended-told entries entries' e t = ∥∥₁_map t (λ s. story-turns unread written layout lane lanes entries messages boxes slots s entries' e)
+      → ∥ Story unread written layout offer lane lanes entries messages boxes slots ∥₁
+      → ∥ Story unread written layout offer lane lanes entries' messages boxes slots ∥₁
+  tended-told entries entries' e t = ∥∥₁_map t (λ s. story-turns unread written layout offer lane lanes entries messages boxes slots s entries' e)
 
   answers-told : (inner : Result jobs.InnerCall TendRefusal) (answer : Result Tended TendRefusal) → Answers layout before inner answer after
       → served_in (entries_in after) ≡ served_in (entries_in before)
@@ -305,28 +312,28 @@ module _ {D : Type 0} (unread written : D → Option (List ℕ)) (layout : Layou
   answers-told (Err why) answer h = ap (λ v. served_in (entries_of v)) h.1
 
   pub tends-told : (tend : Tend) (answer : Result Tended TendRefusal) → Tends layout before tend answer after
-      → ∥ Story unread written layout lane lanes (entries_in before) messages boxes slots ∥₁
-      → ∥ Story unread written layout lane lanes (entries_in after) messages boxes slots ∥₁
+      → ∥ Story unread written layout offer lane lanes (entries_in before) messages boxes slots ∥₁
+      → ∥ Story unread written layout offer lane lanes (entries_in after) messages boxes slots ∥₁
   tends-told tend answer h t =
       tended-told (entries_in before) (entries_in after) (answers-told (call_of layout tend (hand_in before)) answer h) t
 
 -- ---- under a key
 
-module _ {D R : Type 0} (unread written : D → Option (List ℕ)) (layout : Layout) where
+module _ {D R : Type 0} (unread written : D → Option (List ℕ)) (layout : Layout) (offer : Offer) where
   pub read-owing : (c : Connection D) (start sink sink' : Intake R) (size : ℕ) (result : Came) (between : Connection D) → start ≡ owing_in c.owed sink
-      → HasRead unread written HasTakenIn has_room_in layout c start size result between sink'
-      → HasRead unread written HasTakenIn has_room_in layout c (owing_in c.owed sink) size result between sink'
+      → HasRead unread written HasTakenIn has_room_in layout offer c start size result between sink'
+      → HasRead unread written HasTakenIn has_room_in layout offer c (owing_in c.owed sink) size result between sink'
   read-owing c start sink sink' size result between e h =
-      subst (λ (s : Intake R). HasRead unread written HasTakenIn has_room_in layout c s size result between sink') e h
+      subst (λ (s : Intake R). HasRead unread written HasTakenIn has_room_in layout offer c s size result between sink') e h
 
   pub reads-under : (slab slab' : Slab (Connection D)) (key : ℕ) (o : Option (Connection D)) (before after : Connection D) (sink sink' : Intake R)
       (size : ℕ) (result : Came) → Some before ≡ o → slab' ≡ with_value slab key after
-      → ReadsOn unread written layout before sink size result after sink' → ReadsUnder unread written layout slab key o sink size result slab' sink'
+      → ReadsOn unread written layout offer before sink size result after sink' → ReadsUnder unread written layout offer slab key o sink size result slab' sink'
   reads-under slab slab' key o before after sink sink' size result is now on =
-      subst (λ (x : Option (Connection D)). ReadsUnder unread written layout slab key x sink size result slab' sink') is (after, now, on)
+      subst (λ (x : Option (Connection D)). ReadsUnder unread written layout offer slab key x sink size result slab' sink') is (after, now, on)
 
   keep-under : (slab slab' : Slab (Connection D)) (key : ℕ) (o : Option (Connection D)) (sink sink' : Intake R) (size : ℕ) (result : Came)
-      → ReadsUnder unread written layout slab key o sink size result slab' sink'
+      → ReadsUnder unread written layout offer slab key o sink size result slab' sink'
       → (sink'.filer.value ≡ sink.filer.value) × (sink'.queue ≡ sink.queue) × ((known sink'.pass).picked ≡ (known sink.pass).picked)
       × HasShareOf (known sink.pass) (known sink'.pass) × IsSameWorker sink.worker sink'.worker
   keep-under slab slab' key None sink sink' size result h = (
@@ -349,7 +356,7 @@ module _ {D R : Type 0} (unread written : D → Option (List ℕ)) (layout : Lay
       let k = on.read.given in (k.filer_is, k.queue_is, k.picked, k.share, k.same)
 
   pub reads-keep : (slab slab' : Slab (Connection D)) (key : ℕ) (sink sink' : Intake R) (size : ℕ) (result : Came)
-      → ReadsUnder unread written layout slab key (get slab key) sink size result slab' sink'
+      → ReadsUnder unread written layout offer slab key (get slab key) sink size result slab' sink'
       → (sink'.filer.value ≡ sink.filer.value) × (sink'.queue ≡ sink.queue) × ((known sink'.pass).picked ≡ (known sink.pass).picked)
       × HasShareOf (known sink.pass) (known sink'.pass) × IsSameWorker sink.worker sink'.worker
   reads-keep slab slab' key sink sink' size result h = keep-under slab slab' key (get slab key) sink sink' size result h

@@ -2,6 +2,7 @@
 use Rattle.std.specs.Prelude.{◌≡◌, ◌≢◌, ℕ, Bool, List, [], Option, Some, None, Result, Ok, Err}
 use Rattle.slab.specs.Slab.{Slab, get, Updates, with_value}
 use Rattle.nfs_model.specs.Tree.{Layout}
+use Rattle.nfs_values.specs.declared.offer.Offer.{Offer}
 use Rattle.outboxes.specs.Boxes.{Boxes, shut, opened}
 use Rattle.lanes.specs.declared.connection.Connection.{Connection}
 use Rattle.lanes.specs.declared.connection.Flags.{Flags}
@@ -23,20 +24,20 @@ owing_in owed s = record s { owed = owed }
 -- ---- under a key
 
 -- a connection was read, and it is known how much it is owed
-pub record ReadsOn {D R : Type 0} (unread written : D → Option (List ℕ)) (layout : Layout) (before : Connection D)
+pub record ReadsOn {D R : Type 0} (unread written : D → Option (List ℕ)) (layout : Layout) (offer : Offer) (before : Connection D)
     (sink : Intake R) (size : ℕ) (result : Came) (after : Connection D) (sink' : Intake R) : Type 0 where
   pub between : Connection D
   pub owed : Due
   pub is : after ≡ owing owed between
-  pub read : HasRead unread written HasTakenIn has_room_in layout before (owing_in before.owed sink) size result between sink'
+  pub read : HasRead unread written HasTakenIn has_room_in layout offer before (owing_in before.owed sink) size result between sink'
 
 -- the connection of a key was, or there is none and nothing changed
-abbrev pub ReadsUnder : {D R : Type 0} → (D → Option (List ℕ)) → (D → Option (List ℕ)) → Layout → Slab (Connection D)
+abbrev pub ReadsUnder : {D R : Type 0} → (D → Option (List ℕ)) → (D → Option (List ℕ)) → Layout → Offer → Slab (Connection D)
     → ℕ → Option (Connection D) → Intake R → ℕ → Came → Slab (Connection D) → Intake R → Type 0
-ReadsUnder unread written layout slab key None sink size result slab' sink' =
+ReadsUnder unread written layout offer slab key None sink size result slab' sink' =
     (result ≡ cames.Stopped) × (slab' ≡ slab) × (sink' ≡ sink)
-ReadsUnder {D} unread written layout slab key (Some before) sink size result slab' sink' =
-    (after : Connection D) × (slab' ≡ with_value slab key after) × ReadsOn unread written layout before sink size result after sink'
+ReadsUnder {D} unread written layout offer slab key (Some before) sink size result slab' sink' =
+    (after : Connection D) × (slab' ≡ with_value slab key after) × ReadsOn unread written layout offer before sink size result after sink'
 
 -- the connection of a key was written, or there is none and nothing changed
 abbrev pub WritesUnder : {D : Type 0} → (D → Option (List ℕ)) → (D → Option (List ℕ)) → Slab (Connection D) → ℕ

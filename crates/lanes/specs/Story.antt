@@ -4,6 +4,7 @@ use Rattle.std.specs.FinMap.{get}
 use Rattle.depot_rule.specs.Sums.{total}
 use Rattle.nfs_model.specs.Tree.{Layout}
 use Rattle.nfs_model.specs.World.{Heard, Message}
+use Rattle.nfs_values.specs.declared.offer.Offer.{Offer}
 use Rattle.outboxes.specs.Boxes.{Addressed, addressed, Boxes}
 use Rattle.outboxes.specs.Messages.{ReplyMessage, message}
 use Rattle.filer_state.specs.state.Jobs as jobs
@@ -79,13 +80,13 @@ served_in (e ∷ es) = with_served e e.call (served_in es)
 -- ---- connections
 
 -- A connection, as it is or as it was when it was closed: the records of the bytes that were read of it, from its opening on, are
--- just what came of it, all in all; and the bytes that were given to its device are a beginning of the records of all replies to it
+-- by what is offered just what came of it, all in all; and the bytes that were given to its device are a beginning of the records of all replies to it
 -- among what had ended, in that order. The others waited.
-pub record IsServed {D : Type 0} (unread written : D → Option (List ℕ)) (layout : Layout) (came : List Arrival)
+pub record IsServed {D : Type 0} (unread written : D → Option (List ℕ)) (layout : Layout) (offer : Offer) (came : List Arrival)
     (ended : List Ending) (waiting : List ReplyMessage) (c : Connection D) : Type 0 where
   pub heard : List Heard
   pub arrived : of_connection (number_of c) came ≡ arrivals layout (number_of c) 0 heard
-  pub reads : Reads unread c.opened.value c heard
+  pub reads : Reads offer unread c.opened.value c heard
   pub writes : Writes written c.opened.value c waiting (replies_to (number_of c) ended)
 
 -- What became of a connection: it is open under a key; or it was closed, when it was so, this waited for it, and this had ended.
@@ -94,14 +95,14 @@ pub data Life (D : Type 0) : Type 0 where
   Closed : (last : Connection D) → (waiting : List ReplyMessage) → (ended : List Ending) → Life D
 
 -- The connection of a number is served by what came and what ended, those that had ended when it was closed.
-abbrev pub HasLived : {D : Type 0} → (D → Option (List ℕ)) → (D → Option (List ℕ)) → Layout → List Arrival → List Ending → Boxes
+abbrev pub HasLived : {D : Type 0} → (D → Option (List ℕ)) → (D → Option (List ℕ)) → Layout → Offer → List Arrival → List Ending → Boxes
     → (ℕ → Option (Connection D)) → ℕ → Life D → Type 0
-HasLived {D} unread written layout came endings boxes slots number (Open key) =
+HasLived {D} unread written layout offer came endings boxes slots number (Open key) =
     (c : Connection D) × (waiting : List ReplyMessage) × (slots key ≡ Some c) × (number_of c ≡ number)
-    × (get boxes.waiting number ≡ Some waiting) × IsServed unread written layout came endings waiting c
-HasLived unread written layout came endings boxes slots number (Closed last waiting ended) =
+    × (get boxes.waiting number ≡ Some waiting) × IsServed unread written layout offer came endings waiting c
+HasLived unread written layout offer came endings boxes slots number (Closed last waiting ended) =
     (later : List Ending) × (endings ≡ ended ++ later) × (number_of last ≡ number)
-    × IsServed unread written layout came ended waiting last
+    × IsServed unread written layout offer came ended waiting last
 
 -- the number of a lane's connection, of which there were so many before: the lane's own at first, and each larger by the count of lanes
 abbrev pub number_at : ℕ → ℕ → ℕ → ℕ
@@ -114,7 +115,7 @@ number_at lane lanes before = lane + before * lanes
 -- was finished more often than it was admitted, each by its connection, its number there, its xid, and what it asks. So many
 -- connections were opened, each under a number of its own, and it is known what became of each; those that are open are among
 -- them, and nothing came under another number.
-pub record Story {D : Type 0} (unread written : D → Option (List ℕ)) (layout : Layout) (lane lanes : ℕ) (entries : List FilerEntry)
+pub record Story {D : Type 0} (unread written : D → Option (List ℕ)) (layout : Layout) (offer : Offer) (lane lanes : ℕ) (entries : List FilerEntry)
     (put : List workers.Message) (boxes : Boxes) (slots : ℕ → Option (Connection D)) : Type 0 where
   pub came : List Arrival
   pub endings : List Ending
@@ -127,6 +128,6 @@ pub record Story {D : Type 0} (unread written : D → Option (List ℕ)) (layout
   pub within : lane < lanes
   pub step : boxes.step ≡ lanes
   pub next : boxes.next ≡ number_at lane lanes opened
-  pub each : (k : ℕ) → k < opened → HasLived unread written layout came endings boxes slots (number_at lane lanes k) (lives k)
+  pub each : (k : ℕ) → k < opened → HasLived unread written layout offer came endings boxes slots (number_at lane lanes k) (lives k)
   pub known : (key : ℕ) (c : Connection D) → slots key ≡ Some c → (k : ℕ) × (k < opened) × (lives k ≡ Open key)
   pub only : (number : ℕ) → ((k : ℕ) → k < opened → number ≢ number_at lane lanes k) → of_connection number came ≡ []

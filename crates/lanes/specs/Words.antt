@@ -3,6 +3,7 @@ use Rattle.std.specs.Prelude.{ℕ, List, Option}
 use Rattle.std.specs.Arc.{arc_value}
 use Rattle.slab.specs.Slab.{Slab, get}
 use Rattle.affinity.specs.declared.layout.Layout.{Layout}
+use Rattle.nfs_values.specs.declared.offer.Offer.{Offer}
 use Rattle.outboxes.specs.Boxes.{Boxes}
 use Rattle.turns.specs.declared.message.Message.{Message}
 use Rattle.turns.specs.declared.shared.Filer.{Filer}
@@ -17,9 +18,9 @@ use Rattle.lanes.specs.declared.intake.Intake.{Intake}
 use Rattle.lanes.specs.declared.lane.Lane.{Lane}
 use Rattle.lanes.specs.Story.{Story}
 
--- a place among so many lanes, and a queue
+-- a place among so many lanes, what is offered, and a queue
 abbrev pub Identity : Type 0
-Identity = (ℕ × ℕ) × SharedWaiting Message Layout
+Identity = (ℕ × ℕ) × Offer × SharedWaiting Message Layout
 
 module _ {D R : Type 0} {G : devices.Ghosts D} where
   -- the filer whose calls it runs
@@ -38,6 +39,10 @@ module _ {D R : Type 0} {G : devices.Ghosts D} where
   abbrev pub place_in : Lane D R G → ℕ × ℕ
   place_in lane = (lane.index, lane.count)
 
+  -- by what is offered its connections' records are read
+  abbrev pub offer_in : Lane D R G → Offer
+  offer_in lane = lane.offer
+
   abbrev pub worker_in : Lane D R G → Worker
   worker_in lane = lane.intake.worker
 
@@ -48,10 +53,10 @@ module _ {D R : Type 0} {G : devices.Ghosts D} where
   abbrev pub queue_in : Lane D R G → SharedWaiting Message Layout
   queue_in lane = lane.intake.queue
 
-  -- which lane it is: its place and its queue, which no call changes. Both passes of that queue are the lane's, and tell what was ever
+  -- which lane it is: its place, what it offers and its queue, which no call changes. Both passes of that queue are the lane's, and tell what was ever
   -- put into it and picked.
   abbrev pub identity_in : Lane D R G → Identity
-  identity_in lane = (place_in lane, queue_in lane)
+  identity_in lane = (place_in lane, offer_in lane, queue_in lane)
 
   -- the pass by which it admits
   abbrev pub pass_in : Lane D R G → Pass Message Layout
@@ -75,5 +80,5 @@ module _ {D R : Type 0} {G : devices.Ghosts D} where
 
   -- its whole life, over devices that tell their bytes
   abbrev pub HasStory : (D → Option (List ℕ)) → (D → Option (List ℕ)) → Lane D R G → Type 0
-  HasStory unread written lane = Story unread written (layout_in (filer_in lane)) (index_in lane) (count_in lane)
+  HasStory unread written lane = Story unread written (layout_in (filer_in lane)) (offer_in lane) (index_in lane) (count_in lane)
       (entries_in (worker_in lane)) (put_in lane) (boxes_in lane) (get (connections_in lane))

@@ -145,6 +145,7 @@ impl<D> Connection<D> {
 
 impl<D: Device> Connection<D> {
     ghost use Rattle.std.specs.Prelude.{[]};
+    ghost use Rattle.nfs_values.specs.declared.offer.Offer.{Offer};
     ghost use Rattle.lanes.specs.Connections.{calls_to, now_of, number_of};
     ghost use Rattle.lanes.specs.Reading.{Reads};
     ghost use Rattle.lanes.specs.Writing.{Writes};
@@ -155,7 +156,7 @@ impl<D: Device> Connection<D> {
         ensures opened { result.opened.value ≡ device }
         ensures number { number_of result ≡ number.0 }
         ensures calls { calls_to result ≡ 0 }
-        ensures reads { Reads D.unread device result [] }
+        ensures reads { (offer : Offer) → Reads offer D.unread device result [] }
         ensures writes { Writes D.written device result [] [] }
     {
         let opened = Snapshot::of(&device);

@@ -7,6 +7,7 @@ ghost use Rattle.lanes.specs.Cutting.{HasCut};
 
 use crate::backlog::Backlog;
 use affinity::Layout;
+use nfs_values::Offer;
 use tcp_front::{RecordSink, Stopped, Stream, take_some};
 
 /// Cuts kept bytes as far as the sink has room.
@@ -15,14 +16,15 @@ pub(crate) fn cut_kept<S: RecordSink>(
     kept: &mut Backlog,
     sink: &mut S,
     layout: &Layout,
+    offer: Offer,
 ) -> Option<Stopped>
     requires few { stream.old.records < most_records }
     requires layout { S.layout sink.old ≡ layout_of layout.now }
-    ensures cut { HasCut S.came S.room (layout_of layout.now) stream.old sink.old kept.old
-        result stream.new sink.new kept.new }
+    ensures cut { HasCut S.came S.room (layout_of layout.now) offer stream.old sink.old
+        kept.old result stream.new sink.new kept.new }
     ensures layout { S.layout sink.new ≡ S.layout sink.old }
 {
-    let (taken, stopped) = take_some(stream, sink, layout, kept.as_slice());
+    let (taken, stopped) = take_some(stream, sink, layout, offer, kept.as_slice());
     kept.forget(taken);
     stopped
 }
@@ -34,16 +36,17 @@ pub(crate) fn cut_new<S: RecordSink>(
     kept: &mut Backlog,
     sink: &mut S,
     layout: &Layout,
+    offer: Offer,
     bytes: &[u8],
 ) -> Option<Stopped>
     requires few { stream.old.records < most_records }
     requires layout { S.layout sink.old ≡ layout_of layout.now }
     requires none { kept.old ≡ [] }
-    ensures cut { HasCut S.came S.room (layout_of layout.now) stream.old sink.old bytes.now
-        result stream.new sink.new kept.new }
+    ensures cut { HasCut S.came S.room (layout_of layout.now) offer stream.old sink.old
+        bytes.now result stream.new sink.new kept.new }
     ensures layout { S.layout sink.new ≡ S.layout sink.old }
 {
-    let (taken, stopped) = take_some(stream, sink, layout, bytes);
+    let (taken, stopped) = take_some(stream, sink, layout, offer, bytes);
     if stopped.is_some() {
         return stopped;
     }

@@ -19,6 +19,7 @@ mod writing;
 use crate::connection::Connection;
 use crate::device::Device;
 use crate::intake::Intake;
+use nfs_values::Offer;
 pub use parting::LaneParts;
 use slab::Slab;
 use std::sync::Arc;
@@ -32,13 +33,15 @@ pub struct Lane<D: Device, R> {
     /// Which of the filer's lanes it is, from 0, and how many there are.
     pub(crate) index: usize,
     pub(crate) count: usize,
+    /// By what is offered the records of its connections are read.
+    pub(crate) offer: Offer,
     pub(crate) filer: Arc<Filer>,
     pub(crate) intake: Intake<R>,
     pub(crate) connections: Slab<Connection<D>>,
     pub ghost filer_is: { intake.filer.value ≡ arc_value filer },
     pub ghost inside: { ∥ IsAt (arc_value filer) intake.queue intake.worker ∥₁ },
     pub ghost picked: { (known intake.pass).picked ≡ [] },
-    pub ghost story: { ∥ Story D.unread D.written (layout_in (arc_value filer)) index count
-        (entries_in intake.worker) (known intake.pass).put intake.outboxes
+    pub ghost story: { ∥ Story D.unread D.written (layout_in (arc_value filer)) offer index
+        count (entries_in intake.worker) (known intake.pass).put intake.outboxes
         (get connections) ∥₁ },
 }

@@ -8,6 +8,7 @@ use crate::cutting::{cut_kept, cut_new};
 use crate::device::Device;
 use crate::told::Told;
 use affinity::Layout;
+use nfs_values::Offer;
 use tcp_front::RecordSink;
 
 /// What a read of a connection came to.
@@ -33,12 +34,18 @@ impl<D: Device> Connection<D> {
     ghost use Rattle.lanes.specs.Reading.{HasRead};
 
     /// Goes on reading: cuts what was kept, or reads once and cuts what came, and gives on the
-    /// records. What the sink has no room for is kept.
-    pub fn read<S: RecordSink>(&mut self, sink: &mut S, layout: &Layout, block: &mut [u8]) -> Came
+    /// records, which are read by what is offered. What the sink has no room for is kept.
+    pub fn read<S: RecordSink>(
+        &mut self,
+        sink: &mut S,
+        layout: &Layout,
+        offer: Offer,
+        block: &mut [u8],
+    ) -> Came
         requires some { 0 < length block.old }
         requires layout { S.layout sink.old ≡ layout_of layout.now }
-        ensures read { HasRead D.unread D.written S.came S.room (layout_of layout.now) self.old
-            sink.old (length block.old) result self.new sink.new }
+        ensures read { HasRead D.unread D.written S.came S.room (layout_of layout.now) offer
+            self.old sink.old (length block.old) result self.new sink.new }
         ensures layout { S.layout sink.new ≡ S.layout sink.old }
     {
         if self.stopped.is_some() {
@@ -48,7 +55,7 @@ impl<D: Device> Connection<D> {
             return Came::Full;
         }
         if !self.kept.is_empty() {
-            self.stopped = cut_kept(&mut self.stream, &mut self.kept, sink, layout);
+            self.stopped = cut_kept(&mut self.stream, &mut self.kept, sink, layout, offer);
             return Came::Cut;
         }
         match self.device.read_once(block) {
@@ -59,6 +66,7 @@ impl<D: Device> Connection<D> {
                     &mut self.kept,
                     sink,
                     layout,
+                    offer,
                     &block[..size],
                 );
                 Came::Read(size)

@@ -2,7 +2,8 @@
 use Rattle.std.proofs.Common.{◌≡◌, ℕ, zero, suc, Bool, true, false, List, [], ◌∷◌, length, Option, Some, None, is_some, slice_get, refl, sym, ap, ◌∙◌, subst}
 use Rattle.std.proofs.Common.{min, arith, ◌==◌, ◌&&◌, ◌<◌, if◌then◌else◌}
 use Rattle.std.proofs.lemmas.Bool.{ltb-true}
-use Rattle.nfs_model.specs.Types.{Moment, Credential, Call, Null, Rename, Census, Grow, Failed, CrossVolume, BadHandle, NoEntry, Success}
+use Rattle.nfs_model.specs.Types.{Moment, Credential, Call, Null, Rename, Unsupported, Census, Grow, Mount, Failed, CrossVolume, BadHandle}
+use Rattle.nfs_model.specs.Types.{NoEntry, Success}
 use Rattle.nfs_model.specs.Route.{Route, AtOnce, OfNames, OfBytesRead, OfBytesWritten, OfTwoHandles, OfVolume, OfAggregate, OfEverything, handle_on, route}
 use Rattle.nfs_model.specs.Tree.{Layout, VolumeLayout, Affinity, Logical}
 use Rattle.nfs_model.specs.Server.{VolumeState, Server, Named, named_read, handle_of, most_bytes}
@@ -12,6 +13,7 @@ use Rattle.nfs_model.specs.Locate.{Effect, Located, located_in, located_by}
 use Rattle.nfs_model.specs.Serial.Step.{Step, serve, on, on_two, placed, stay}
 use Rattle.nfs_model.specs.Serial.AtOnce.{answer_of_two, answer_without_home}
 use Rattle.nfs_model.specs.Serial.Grow.{Grown, grow_volume}
+use Rattle.nfs_model.specs.Serial.Mount.{mount}
 
 -- ---- one handle
 
@@ -125,12 +127,14 @@ module _ (layout : Layout) (server : Server) (credential : Credential) (moment :
   pub without_home_stays : (call : Call) → length layout.volumes ≡ length server.volumes → home layout call ≡ None
       → serve server call credential moment ≡ stay server (answer_without_home layout call)
   without_home_stays Null n e = refl
+  without_home_stays (Unsupported which) n e = refl
   without_home_stays (Rename from from_name to to_name) n e =
       two_answered server 4 (rename from_name to_name moment) (handle_of (length server.volumes) from) (handle_of (length server.volumes) to)
       (good server.volumes from) (good server.volumes to)
       (subst (λ k. rename_home (handle_of k from) (handle_of k to) ≡ None) n e)
       ∙ ap (λ k. stay server (answer_of_two 4 (handle_of k from) (handle_of k to))) (sym n)
   without_home_stays Census n e = absurd cc
+  without_home_stays (Mount call) n e = ap (λ k. stay server (mount k call)) (sym n)
   without_home_stays (Grow volume ranges) n e =
       ap (λ (g : Grown). record { reply = Success g.answer; server = g.server })
       (grow_answered server volume ranges (slice_get layout.volumes volume) (slice_get server.volumes volume)

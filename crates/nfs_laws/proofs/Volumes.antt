@@ -3,8 +3,8 @@ use Rattle.std.proofs.Common.{◌≡◌, ℕ, suc, ◌+◌, ◌*◌, Bool, true,
 use Rattle.std.proofs.Common.{if◌then◌else◌, nat_lt}
 use Rattle.std.specs.Prelude.{slice_index_or}
 use Rattle.std.proofs.lemmas.List.{length-set}
-use Rattle.nfs_model.specs.Types.{Moment, Credential, Call, Null, Rename, Census, Grow, Asked, Ask, Refused, Undecoded, Answer, Failed, GrowDone}
-use Rattle.nfs_model.specs.Types.{Invalid, TooBig, NoSpace}
+use Rattle.nfs_model.specs.Types.{Moment, Credential, Call, Null, Rename, Unsupported, Census, Grow, Mount, Asked, Ask, Refused, Undecoded, Answer}
+use Rattle.nfs_model.specs.Types.{Failed, GrowDone, Invalid, TooBig, NoSpace}
 use Rattle.nfs_model.specs.Route.{handle_on, route}
 use Rattle.nfs_model.specs.Tree.{Layout, VolumeLayout}
 use Rattle.nfs_model.specs.Server.{VolumeState, Server, opening_volumes}
@@ -63,8 +63,10 @@ module _ (server : Server) where
 
   serve_counts : (call : Call) (credential : Credential) (moment : Moment) → volumes_in (serve server call credential moment).server ≡ volumes_in server
   serve_counts Null credential moment = refl
+  serve_counts (Unsupported which) credential moment = refl
   serve_counts (Rename from from_name to to_name) credential moment = two_counts 4 (locate server from) (locate server to) (rename from_name to_name moment)
   serve_counts Census credential moment = refl
+  serve_counts (Mount call) credential moment = refl
   serve_counts (Grow volume ranges) credential moment = grow_counts volume (slice_get server.volumes volume) ranges
   serve_counts call credential moment = on_counts (absent_parts call) (locate server (handle_on (route call))) _
 

@@ -1,11 +1,13 @@
 mod Cases
 mod Attributes
+mod Telling
 mod Making
 mod Leaving
 mod Pages
 mod Renaming
 mod Bytes
 mod Administration
+mod Mounting
 mod Homes
 mod Routes
 mod Numbers

@@ -1,8 +1,9 @@
 -- What a call is on, by which it is known where it may run (our profile). Of a call's arguments it has
 -- the handles, and of READ and WRITE the place of their bytes.
 use Rattle.std.specs.Prelude.{ℕ, List, []}
-use Rattle.nfs_model.specs.Types.{Call, Null, Getattr, Setattr, Lookup, Read, Write, Create, Mkdir, Remove}
-use Rattle.nfs_model.specs.Types.{Rmdir, Rename, Readdir, Fsstat, Commit, Census, Grow}
+use Rattle.nfs_model.specs.Types.{Call, Null, Getattr, Setattr, Lookup, CheckAccess, Read, Write, Create}
+use Rattle.nfs_model.specs.Types.{Mkdir, Remove, Rmdir, Rename, Readdir, Fsstat, Fsinfo, Pathconf, Commit}
+use Rattle.nfs_model.specs.Types.{Unsupported, Census, Grow, Mount}
 
 pub data Route : Type 0 where
   -- on no state
@@ -28,6 +29,7 @@ route Null = AtOnce
 route (Getattr handle) = OfNames handle
 route (Setattr handle set guard) = OfNames handle
 route (Lookup directory name) = OfNames directory
+route (CheckAccess handle asked) = OfNames handle
 route (Read handle offset count) = OfBytesRead handle offset count
 route (Write handle offset count written) = OfBytesWritten handle offset count
 route (Create directory name mode) = OfNames directory
@@ -37,9 +39,13 @@ route (Rmdir directory name) = OfNames directory
 route (Rename from from_name to to_name) = OfTwoHandles from to
 route (Readdir directory cookie verifier count) = OfNames directory
 route (Fsstat handle) = OfVolume handle
+route (Fsinfo handle) = OfNames handle
+route (Pathconf handle) = OfNames handle
 route (Commit handle) = OfNames handle
+route (Unsupported which) = AtOnce
 route Census = OfEverything
 route (Grow volume ranges) = OfAggregate volume
+route (Mount call) = AtOnce
 
 -- the handle by which a route comes to its volume, its only one or the first; one without a handle
 -- has no bytes

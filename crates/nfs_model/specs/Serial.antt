@@ -4,6 +4,7 @@ pub mod Absent
 pub mod Getattr
 pub mod Setattr
 pub mod Lookup
+pub mod Access
 pub mod Read
 pub mod Write
 pub mod Create
@@ -13,9 +14,12 @@ pub mod Rmdir
 pub mod Rename
 pub mod Readdir
 pub mod Fsstat
+pub mod Fsinfo
+pub mod Pathconf
 pub mod Commit
 pub mod Census
 pub mod Grow
+pub mod Mount
 pub mod Step
 pub mod AtOnce
 pub mod Starve

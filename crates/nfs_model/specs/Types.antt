@@ -11,10 +11,12 @@ pub record Moment : Type 0 where
 abbrev pub nanoseconds_of_a_second : ℕ
 nanoseconds_of_a_second = 1000000000
 
--- whom a call acts for (RFC 5531 appendix A); without one, 65534 for both (our profile)
+-- whom a call acts for (RFC 5531 appendix A); without one, 65534 for both and no further group (our
+-- profile)
 pub record Credential : Type 0 where
   pub uid : ℕ
   pub gid : ℕ
+  pub gids : List ℕ  -- further groups, at most 16
 
 -- ---- what is asked
 
@@ -39,14 +41,34 @@ pub data CreateMode : Type 0 where
   Guarded : (set : SetAttributes) → CreateMode
   Exclusive : (verifier : List ℕ) → CreateMode
 
--- One constructor for each procedure, with its arguments (RFC 1813 section 3.3). A handle is the
--- bytes that came, good or bad; so is a name. How stable a WRITE is to be isn't kept, since every
--- one is stable. CENSUS and GROW are of the admin program (our profile).
+-- the procedures on links and special devices (RFC 1813 sections 3.3.5, 3.3.10, 3.3.11 and 3.3.15), and
+-- READDIRPLUS (section 3.3.17): none of them is supported (our profile)
+pub data UnsupportedProcedure : Type 0 where
+  Readlink : UnsupportedProcedure
+  Symlink : UnsupportedProcedure
+  Mknod : UnsupportedProcedure
+  Link : UnsupportedProcedure
+  Readdirplus : UnsupportedProcedure
+
+-- What the procedures of MOUNT ask that tell or find something (RFC 1813 appendix I, section 5.2). A
+-- path is the bytes that came.
+pub data MountCall : Type 0 where
+  Mnt : (path : List ℕ) → MountCall
+  Dump : MountCall
+  Exports : MountCall
+  -- UMNT, whose path isn't kept, and UMNTALL: mounts aren't kept, so there is nothing to undo
+  Unmount : MountCall
+
+-- One constructor for each procedure, with its arguments (RFC 1813 section 3.3); those that aren't
+-- supported share one, without arguments. A handle is the bytes that came, good or bad; so is a name.
+-- How stable a WRITE is to be isn't kept, since every one is stable. CENSUS and GROW are of the admin
+-- program (our profile), and MOUNT is a program of its own.
 pub data Call : Type 0 where
   Null : Call
   Getattr : (handle : List ℕ) → Call
   Setattr : (handle : List ℕ) (set : SetAttributes) (guard : Option Moment) → Call
   Lookup : (directory name : List ℕ) → Call
+  CheckAccess : (handle : List ℕ) (asked : ℕ) → Call
   Read : (handle : List ℕ) (offset count : ℕ) → Call
   Write : (handle : List ℕ) (offset count : ℕ) (written : List ℕ) → Call
   Create : (directory name : List ℕ) (mode : CreateMode) → Call
@@ -56,9 +78,13 @@ pub data Call : Type 0 where
   Rename : (from from_name to to_name : List ℕ) → Call
   Readdir : (directory : List ℕ) (cookie : ℕ) (verifier : List ℕ) (count : ℕ) → Call
   Fsstat : (handle : List ℕ) → Call
+  Fsinfo : (handle : List ℕ) → Call
+  Pathconf : (handle : List ℕ) → Call
   Commit : (handle : List ℕ) → Call
+  Unsupported : (which : UnsupportedProcedure) → Call
   Census : Call
   Grow : (volume ranges : ℕ) → Call
+  Mount : (call : MountCall) → Call
 
 -- ---- what is answered
 
@@ -79,6 +105,7 @@ pub data Status : Type 0 where
   BadHandle : Status
   NotSynchronous : Status
   BadCookie : Status
+  NotSupported : Status
   TooSmall : Status
 
 -- its number (RFC 1813 section 2.5)
@@ -98,6 +125,7 @@ status_word Stale = 70
 status_word BadHandle = 10001
 status_word NotSynchronous = 10002
 status_word BadCookie = 10003
+status_word NotSupported = 10004
 status_word TooSmall = 10005
 
 -- ftype3: NF3REG and NF3DIR (RFC 1813 section 2.6)
@@ -158,6 +186,7 @@ pub data Answer : Type 0 where
   GetattrDone : (attributes : Shown) → Answer
   SetattrDone : (change : Wcc) → Answer
   LookupDone : (handle : List ℕ) (object directory : Shown) → Answer
+  AccessDone : (object : Shown) (given : ℕ) → Answer
   ReadDone : (count : ℕ) (eof : Bool) (bytes : List ℕ) → Answer
   WriteDone : (count : ℕ) (verifier : List ℕ) → Answer
   MadeDone : (handle : List ℕ) (object : Shown) (directory : Wcc) → Answer
@@ -165,9 +194,14 @@ pub data Answer : Type 0 where
   RenameDone : (from to : Wcc) → Answer
   ReaddirDone : (directory : Shown) (page : List Listed) (eof : Bool) → Answer
   FsstatDone : (object : Shown) (space : Space) → Answer
+  FsinfoDone : (object : Shown) (largest : ℕ) → Answer
+  PathconfDone : (object : Shown) → Answer
   CommitDone : (file : Wcc) (verifier : List ℕ) → Answer
   CensusDone : (volumes : List VolumeCount) → Answer
   GrowDone : (total : ℕ) → Answer
+  MountDone : (handle : List ℕ) → Answer
+  DumpDone : Answer
+  ExportsDone : (paths : List (List ℕ)) → Answer
   Failed : (status : Status) (absent : ℕ) → Answer
 
 -- the reply of RPC (RFC 5531 section 9)

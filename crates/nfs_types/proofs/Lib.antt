@@ -4,3 +4,4 @@ pub mod Rest
 pub mod Numbered
 pub mod InPlace
 pub mod Entry
+mod Exported

@@ -6,20 +6,25 @@ use Rattle.nfs_values.specs.declared.status.Status.{Status}
 use Rattle.nfs_values.specs.declared.attributes.Attributes.{Attributes}
 use Rattle.nfs_values.specs.declared.attributes.Change.{Change}
 use Rattle.nfs_values.specs.declared.answer.LookupResults.{LookupResults}
+use Rattle.nfs_values.specs.declared.answer.AccessResults.{AccessResults}
 use Rattle.nfs_values.specs.declared.answer.ReadResults.{ReadResults}
 use Rattle.nfs_values.specs.declared.answer.WriteResults.{WriteResults}
 use Rattle.nfs_values.specs.declared.answer.MakeResults.{MakeResults}
 use Rattle.nfs_values.specs.declared.answer.RenameResults.{RenameResults}
 use Rattle.nfs_values.specs.declared.answer.ReadDirectoryResults.{ReadDirectoryResults}
 use Rattle.nfs_values.specs.declared.answer.FilesystemStatusResults.{FilesystemStatusResults}
+use Rattle.nfs_values.specs.declared.answer.FilesystemInfoResults.{FilesystemInfoResults}
+use Rattle.nfs_values.specs.declared.answer.PathConfigurationResults.{PathConfigurationResults}
 use Rattle.nfs_values.specs.declared.answer.CommitResults.{CommitResults}
-use Rattle.nfs_values.specs.Answer.{entry_of, space_of, attributes_shown, attributes_set, looked_up, bytes_read, bytes_written, node_made, name_gone}
-use Rattle.nfs_values.specs.Answer.{name_moved, entries_listed, space_told, file_committed, volume_grown, result_of}
+use Rattle.nfs_values.specs.declared.mount.MountResults.{MountResults}
+use Rattle.nfs_values.specs.Answer.{entry_of, space_of, attributes_shown, attributes_set, looked_up, access_told, bytes_read, bytes_written, node_made, name_gone}
+use Rattle.nfs_values.specs.Answer.{name_moved, entries_listed, space_told, info_told, path_told, file_committed, volume_grown, volume_mounted, result_of}
 use Rattle.nfs_values.specs.Attributes.{shown_of, change_of}
 use Rattle.nfs_types.specs.Shapes.{attributes_shape, attributes_value, change_shape, change_value}
-use Rattle.nfs_types.specs.Results.{lookup_shape, lookup_value, read_shape, read_value, write_shape, write_value, made_shape, made_value}
+use Rattle.nfs_types.specs.Results.{lookup_shape, lookup_value, access_results_shape, access_value, read_shape, read_value, write_shape, write_value}
+use Rattle.nfs_types.specs.Results.{made_shape, made_value}
 use Rattle.nfs_types.specs.Results.{renamed_shape, renamed_value, readdir_shape, readdir_value}
-use Rattle.nfs_types.specs.Results.{fsstat_shape, fsstat_value, commit_shape, commit_value, answer_bytes, done, result_bytes}
+use Rattle.nfs_types.specs.Results.{fsstat_shape, fsstat_value, fsinfo_shape, fsinfo_value, pathconf_shape, pathconf_value, commit_shape, commit_value, mounted_shape, mounted_value, answer_bytes, done, result_bytes}
 
 arm : {R : Type 0} (shape : Shape) (value : R → Value shape) (told : R → model.Answer) (absent : ℕ)
     → ((r : R) → answer_bytes (told r) ≡ done shape (value r)) → (result : Result R Status)
@@ -38,6 +43,10 @@ set_bytes = arm change_shape (λ c. change_value (change_of c)) attributes_set 2
 pub found_bytes : (result : Result LookupResults Status)
     → answer_bytes (result_of looked_up 1 result) ≡ result_bytes lookup_shape (λ r. lookup_value r.handle (shown_of r.object) (shown_of r.directory)) 1 result
 found_bytes = arm lookup_shape (λ r. lookup_value r.handle (shown_of r.object) (shown_of r.directory)) looked_up 1 (λ r. refl)
+
+pub access_bytes : (result : Result AccessResults Status)
+    → answer_bytes (result_of access_told 1 result) ≡ result_bytes access_results_shape (λ r. access_value (shown_of r.object) r.given) 1 result
+access_bytes = arm access_results_shape (λ r. access_value (shown_of r.object) r.given) access_told 1 (λ r. refl)
 
 pub read_bytes : (result : Result ReadResults Status)
     → answer_bytes (result_of bytes_read 1 result) ≡ result_bytes read_shape (λ r. read_value (length r.bytes) r.eof r.bytes) 1 result
@@ -68,6 +77,14 @@ pub space_bytes : (result : Result FilesystemStatusResults Status)
     → answer_bytes (result_of space_told 1 result) ≡ result_bytes fsstat_shape (λ r. fsstat_value (shown_of r.root) (space_of r)) 1 result
 space_bytes = arm fsstat_shape (λ r. fsstat_value (shown_of r.root) (space_of r)) space_told 1 (λ r. refl)
 
+pub info_bytes : (result : Result FilesystemInfoResults Status)
+    → answer_bytes (result_of info_told 1 result) ≡ result_bytes fsinfo_shape (λ r. fsinfo_value (shown_of r.root) r.largest) 1 result
+info_bytes = arm fsinfo_shape (λ r. fsinfo_value (shown_of r.root) r.largest) info_told 1 (λ r. refl)
+
+pub path_bytes : (result : Result PathConfigurationResults Status)
+    → answer_bytes (result_of path_told 1 result) ≡ result_bytes pathconf_shape (λ r. pathconf_value (shown_of r.object)) 1 result
+path_bytes = arm pathconf_shape (λ r. pathconf_value (shown_of r.object)) path_told 1 (λ r. refl)
+
 pub committed_bytes : (result : Result CommitResults Status)
     → answer_bytes (result_of file_committed 2 result) ≡ result_bytes commit_shape (λ r. commit_value (change_of r.file) r.verifier.0) 2 result
 committed_bytes = arm commit_shape (λ r. commit_value (change_of r.file) r.verifier.0) file_committed 2 (λ r. refl)
@@ -75,10 +92,15 @@ committed_bytes = arm commit_shape (λ r. commit_value (change_of r.file) r.veri
 pub grown_bytes : (result : Result ℕ Status) → answer_bytes (result_of volume_grown 0 result) ≡ result_bytes Hyper (λ n. n) 0 result
 grown_bytes = arm Hyper (λ n. n) volume_grown 0 (λ r. refl)
 
+pub mounted_bytes : (result : Result MountResults Status)
+    → answer_bytes (result_of volume_mounted 0 result) ≡ result_bytes mounted_shape (λ r. mounted_value r.handle) 0 result
+mounted_bytes = arm mounted_shape (λ r. mounted_value r.handle) volume_mounted 0 (λ r. refl)
+
 pub ruleset outcomes = (
   shown_bytes,
   set_bytes,
   found_bytes,
+  access_bytes,
   read_bytes,
   written_bytes,
   made_bytes,
@@ -86,6 +108,9 @@ pub ruleset outcomes = (
   moved_bytes,
   listed_bytes,
   space_bytes,
+  info_bytes,
+  path_bytes,
   committed_bytes,
   grown_bytes,
+  mounted_bytes,
 )

@@ -1,11 +1,12 @@
 -- The results of each procedure (RFC 1813 section 3.3) as bytes.
-use Rattle.std.specs.Prelude.{ℕ, zero, suc, Bool, ◌-◌, ◌^◌, List, [], ◌++◌, Some, None, Result, Ok, Err, map, replicate}
-use Rattle.xdr.specs.Shape.{Shape, Void, Word, Hyper, Boolean, Optional, Chain, Array, Value, spelling}
+use Rattle.std.specs.Prelude.{ℕ, zero, suc, Bool, true, false, ◌+◌, ◌-◌, ◌^◌, List, [], ◌∷◌, ◌++◌, Some, None, Result, Ok, Err, map, replicate}
+use Rattle.xdr.specs.Shape.{Shape, Void, Word, Hyper, Boolean, Opaque, Optional, Chain, Array, Value, spelling}
 use Rattle.nfs_model.specs.Types as model
+use Rattle.nfs_model.specs.Server.{block_size, most_bytes}
 use Rattle.nfs_values.specs.declared.status.Status.{Status}
 use Rattle.nfs_values.specs.Status.{status_of}
 use Rattle.nfs_types.specs.Shapes.{◌&◌, handle_shape, any_bytes, verifier_shape, attributes_shape, attributes_value, after_shape, change_shape, change_value}
-use Rattle.nfs_types.specs.Shapes.{stable_shape}
+use Rattle.nfs_types.specs.Shapes.{moment_shape, stable_shape}
 
 -- LOOKUP3resok (section 3.3.3): the object's handle and attributes, and the directory's
 abbrev pub lookup_shape : Shape
@@ -13,6 +14,13 @@ lookup_shape = handle_shape & after_shape & after_shape
 
 abbrev pub lookup_value : List ℕ → model.Shown → model.Shown → Value lookup_shape
 lookup_value handle object directory = (handle, (Some (attributes_value object), Some (attributes_value directory)))
+
+-- ACCESS3resok (section 3.3.4): attributes and access
+abbrev pub access_results_shape : Shape
+access_results_shape = after_shape & Word
+
+abbrev pub access_value : model.Shown → ℕ → Value access_results_shape
+access_value object given = (Some (attributes_value object), given)
 
 -- READ3resok (section 3.3.6): attributes, count, eof and data
 abbrev pub read_shape : Shape
@@ -68,6 +76,30 @@ abbrev pub fsstat_value : model.Shown → model.Space → Value fsstat_shape
 fsstat_value root space =
     (Some (attributes_value root), (space.total_bytes, (space.free_bytes, (space.free_bytes, (space.inodes, (space.free_inodes, (space.free_inodes, 0)))))))
 
+-- FSF3_HOMOGENEOUS 8, since PATHCONF tells the same of every object, and FSF3_CANSETTIME 16 (section 3.3.19); there are no links
+abbrev pub fsinfo_properties : ℕ
+fsinfo_properties = 8 + 16
+
+-- FSINFO3resok (section 3.3.19): attributes, rtmax, rtpref, rtmult, wtmax, wtpref, wtmult, dtpref, maxfilesize, time_delta and properties
+abbrev pub fsinfo_shape : Shape
+fsinfo_shape = after_shape & Word & Word & Word & Word & Word & Word & Word & Hyper & moment_shape & Word
+
+-- READ and WRITE by blocks, up to the most bytes that they take; times by the nanosecond
+abbrev pub fsinfo_value : model.Shown → ℕ → Value fsinfo_shape
+fsinfo_value root largest = (
+  Some (attributes_value root),
+  (most_bytes, (most_bytes, (block_size, (most_bytes, (most_bytes, (block_size, (most_bytes, (largest, ((0, 1), fsinfo_properties))))))))),
+)
+
+-- PATHCONF3resok (section 3.3.20): attributes, linkmax, name_max, no_trunc, chown_restricted, case_insensitive and case_preserving
+abbrev pub pathconf_shape : Shape
+pathconf_shape = after_shape & Word & Word & Boolean & Boolean & Boolean & Boolean
+
+-- no links are made; a name of more than 255 bytes is refused, not cut; anybody may change owners, since no call is refused for want of a
+-- permission; names that differ in case differ, and are kept as they came (our profile)
+abbrev pub pathconf_value : model.Shown → Value pathconf_shape
+pathconf_value object = (Some (attributes_value object), (1, (255, (true, (false, (false, true))))))
+
 -- COMMIT3resok (section 3.3.21): wcc_data and verf
 abbrev pub commit_shape : Shape
 commit_shape = change_shape & verifier_shape
@@ -85,7 +117,36 @@ count_value v = (v.volume, (v.total, v.used))
 abbrev pub census_shape : Shape
 census_shape = Array (2 ^ 32 - 1) count_shape
 
--- NFS3_OK (section 2.5) and the OK arm
+-- mountres3_ok of MNT (appendix I, section 5.2.1): the handle, and the flavors by which calls may authenticate, AUTH_SYS 1 and AUTH_NONE 0
+abbrev pub mounted_shape : Shape
+mounted_shape = handle_shape & Array (2 ^ 32 - 1) Word
+
+abbrev pub mounted_value : List ℕ → Value mounted_shape
+mounted_value handle = (handle, 1 ∷ 0 ∷ [])
+
+-- name of a host or group, of at most 255 bytes (appendix I, section 5.1.5)
+abbrev pub host_shape : Shape
+host_shape = Opaque 255
+
+-- dirpath, of at most 1,024 bytes (appendix I, section 5.1.5)
+abbrev pub path_told_shape : Shape
+path_told_shape = Opaque 1024
+
+-- mountlist of DUMP (appendix I, section 5.2.2): of each mount its host and path
+abbrev pub mounts_shape : Shape
+mounts_shape = Chain (host_shape & path_told_shape)
+
+-- exportnode of EXPORT (appendix I, section 5.2.5): a path and the groups that may mount it, none of which means everybody
+abbrev pub export_shape : Shape
+export_shape = path_told_shape & Chain host_shape
+
+abbrev pub export_value : List ℕ → Value export_shape
+export_value path = (path, [])
+
+abbrev pub exports_shape : Shape
+exports_shape = Chain export_shape
+
+-- NFS3_OK (section 2.5) or MNT3_OK (appendix I, section 5.1.5) and the OK arm
 abbrev pub done : (shape : Shape) → Value shape → List ℕ
 done shape v = spelling (Word & shape) (0, v)
 
@@ -104,6 +165,7 @@ answer_bytes model.NullDone = spelling Void tt
 answer_bytes (model.GetattrDone attributes) = done attributes_shape (attributes_value attributes)
 answer_bytes (model.SetattrDone change) = done change_shape (change_value change)
 answer_bytes (model.LookupDone handle object directory) = done lookup_shape (lookup_value handle object directory)
+answer_bytes (model.AccessDone object given) = done access_results_shape (access_value object given)
 answer_bytes (model.ReadDone count eof bytes) = done read_shape (read_value count eof bytes)
 answer_bytes (model.WriteDone count verifier) = done write_shape (write_value count verifier)
 answer_bytes (model.MadeDone handle object directory) = done made_shape (made_value handle object directory)
@@ -111,9 +173,14 @@ answer_bytes (model.GoneDone directory) = done change_shape (change_value direct
 answer_bytes (model.RenameDone from to) = done renamed_shape (renamed_value from to)
 answer_bytes (model.ReaddirDone directory page eof) = done readdir_shape (readdir_value directory page eof)
 answer_bytes (model.FsstatDone root space) = done fsstat_shape (fsstat_value root space)
+answer_bytes (model.FsinfoDone root largest) = done fsinfo_shape (fsinfo_value root largest)
+answer_bytes (model.PathconfDone object) = done pathconf_shape (pathconf_value object)
 answer_bytes (model.CommitDone file verifier) = done commit_shape (commit_value file verifier)
 answer_bytes (model.CensusDone volumes) = spelling census_shape (map count_value volumes)
 answer_bytes (model.GrowDone total) = done Hyper total
+answer_bytes (model.MountDone handle) = done mounted_shape (mounted_value handle)
+answer_bytes model.DumpDone = spelling mounts_shape []
+answer_bytes (model.ExportsDone paths) = spelling exports_shape (map export_value paths)
 answer_bytes (model.Failed status absent) = failed status absent
 
 -- the bytes of what was done, or of a failure that leaves out so many optional parts

@@ -46,9 +46,40 @@ attributes_shape =
     kind_shape & Word & Word & Word & Word & Hyper & Hyper & device_shape & Hyper & Hyper & moment_shape & moment_shape & moment_shape
 
 abbrev pub attributes_value : model.Shown → Value attributes_shape
-attributes_value a =
-    (kind_word a.kind, (a.mode, (a.links, (a.uid, (a.gid, (a.size, (a.used, ((0, 0), (a.fsid, (a.fileid, (moment_value a.atime,
-    (moment_value a.mtime, moment_value a.ctime))))))))))))
+attributes_value a = (
+  kind_word a.kind,
+  (
+    a.mode,
+    (
+      a.links,
+      (
+        a.uid,
+        (
+          a.gid,
+          (
+            a.size,
+            (
+              a.used,
+              (
+                (0, 0),
+                (
+                  a.fsid,
+                  (
+                    a.fileid,
+                    (
+                      moment_value a.atime,
+                      (moment_value a.mtime, moment_value a.ctime),
+                    ),
+                  ),
+                ),
+              ),
+            ),
+          ),
+        ),
+      ),
+    ),
+  ),
+)
 
 -- post_op_attr (section 2.6)
 abbrev pub after_shape : Shape
@@ -126,6 +157,20 @@ create_from (inl v) = model.Unchecked (set_from v)
 create_from (inr (inl v)) = model.Guarded (set_from v)
 create_from (inr (inr (inl v))) = model.Exclusive v
 create_from (inr (inr (inr v))) = absurd v
+
+-- symlinkdata3 (section 3.3.10): symlink_attributes and symlink_data, a nfspath3
+abbrev pub symlink_shape : Shape
+symlink_shape = set_shape & any_bytes
+
+-- devicedata3 (section 3.3.11): dev_attributes and spec
+abbrev pub device_data_shape : Shape
+device_data_shape = set_shape & device_shape
+
+-- mknoddata3 (section 3.3.11): NF3CHR and NF3BLK with devicedata3, NF3SOCK and NF3FIFO with pipe_attributes, and NF3REG, NF3DIR and NF3LNK
+-- with nothing
+abbrev pub mknod_shape : Shape
+mknod_shape =
+    Case 4 device_data_shape (Case 3 device_data_shape (Case 6 set_shape (Case 7 set_shape (Case 1 Void (Case 2 Void (Case 5 Void NoCase))))))
 
 -- stable_how (section 3.3.7)
 abbrev pub stable_shape : Shape

@@ -11,18 +11,25 @@ ghost use Rattle.nfs_values.specs.declared.procedure.Procedure.{Procedure};
 ghost use Rattle.nfs_types.specs.Shapes.{handle_shape, target_shape};
 ghost use Rattle.nfs_types.specs.Arguments.{Makes, target_of, asked, asked_by, takes_memory};
 ghost use Rattle.nfs_types.specs.Arguments.{setattr_shape, range_shape, writing_shape};
+ghost use Rattle.nfs_types.specs.Arguments.{access_shape, symlinking_shape, mknodding_shape};
+ghost use Rattle.nfs_types.specs.Arguments.{linking_shape, access_call, readlink_call};
+ghost use Rattle.nfs_types.specs.Arguments.{symlink_call, mknod_call, link_call, fsinfo_call};
+ghost use Rattle.nfs_types.specs.Arguments.{pathconf_call};
 ghost use Rattle.nfs_types.specs.Arguments.{creating_shape, making_shape, listing_shape};
 ghost use Rattle.nfs_types.specs.Arguments.{growing_shape, renaming_shape, null_call, getattr_call};
 ghost use Rattle.nfs_types.specs.Arguments.{setattr_call, lookup_call, read_call, write_call};
 ghost use Rattle.nfs_types.specs.Arguments.{create_call, mkdir_call, remove_call, rmdir_call};
 ghost use Rattle.nfs_types.specs.Arguments.{rename_call, readdir_call, fsstat_call, commit_call};
+ghost use Rattle.nfs_types.specs.Arguments.{listing_plus_shape, readdirplus_call};
+ghost use Rattle.nfs_types.specs.Arguments.{path_shape, mnt_call, dump_call, umnt_call};
+ghost use Rattle.nfs_types.specs.Arguments.{umntall_call, export_call};
 ghost use Rattle.nfs_types.specs.Arguments.{census_call, grow_call};
 
 use crate::bad::Bad;
-use crate::decode::{StableHow, decode_all};
+use crate::decode::{DeviceToMake, StableHow, decode_all};
 use nfs_values::{
-    BytesToWrite, Call, Cookie, CreateMode, FileHandle, Moment, Name, Procedure, SetAttributes,
-    Target, Verifier, VolumeNumber,
+    BytesToWrite, Call, Cookie, CreateMode, FileHandle, Moment, MountCall, Name, Procedure,
+    SetAttributes, Target, UnsupportedProcedure, Verifier, VolumeNumber,
 };
 use std::alloc::Global;
 use xdr::Fault;
@@ -75,6 +82,22 @@ fn lookup(alloc: Global, bytes: &[u8]) -> Result<Call, Bad>
     ensures { Makes call_of true result (asked_by target_shape lookup_call bytes.now) }
 {
     Ok(Call::Lookup(target(alloc, bytes)?))
+}
+
+/// ACCESS (RFC 1813 section 3.3.4).
+fn check_access(bytes: &[u8]) -> Result<Call, Bad>
+    ensures { Makes call_of false result (asked_by access_shape access_call bytes.now) }
+{
+    let (handle, asked) = decode_all::<(FileHandle, u32)>(bytes)?;
+    Ok(Call::CheckAccess { handle, asked })
+}
+
+/// READLINK (RFC 1813 section 3.3.5), which isn't supported.
+fn read_link(bytes: &[u8]) -> Result<Call, Bad>
+    ensures { Makes call_of false result (asked_by handle_shape readlink_call bytes.now) }
+{
+    let _link = decode_all::<FileHandle>(bytes)?;
+    Ok(Call::Unsupported(UnsupportedProcedure::ReadLink))
 }
 
 /// READ (RFC 1813 section 3.3.6).
@@ -141,6 +164,22 @@ fn make_directory(alloc: Global, bytes: &[u8]) -> Result<Call, Bad>
     Ok(Call::MakeDirectory { target, set })
 }
 
+/// SYMLINK (RFC 1813 section 3.3.10), which isn't supported.
+fn make_symbolic_link(bytes: &[u8]) -> Result<Call, Bad>
+    ensures { Makes call_of false result (asked_by symlinking_shape symlink_call bytes.now) }
+{
+    let _link = decode_all::<((FileHandle, &[u8]), (SetAttributes, &[u8]))>(bytes)?;
+    Ok(Call::Unsupported(UnsupportedProcedure::MakeSymbolicLink))
+}
+
+/// MKNOD (RFC 1813 section 3.3.11), which isn't supported.
+fn make_device(bytes: &[u8]) -> Result<Call, Bad>
+    ensures { Makes call_of false result (asked_by mknodding_shape mknod_call bytes.now) }
+{
+    let _device = decode_all::<((FileHandle, &[u8]), DeviceToMake)>(bytes)?;
+    Ok(Call::Unsupported(UnsupportedProcedure::MakeDevice))
+}
+
 /// REMOVE (RFC 1813 section 3.3.12).
 fn remove(alloc: Global, bytes: &[u8]) -> Result<Call, Bad>
     ensures { Makes call_of true result (asked_by target_shape remove_call bytes.now) }
@@ -167,6 +206,14 @@ fn rename(alloc: Global, bytes: &[u8]) -> Result<Call, Bad>
     Ok(Call::Rename { from, to })
 }
 
+/// LINK (RFC 1813 section 3.3.15), which isn't supported.
+fn make_link(bytes: &[u8]) -> Result<Call, Bad>
+    ensures { Makes call_of false result (asked_by linking_shape link_call bytes.now) }
+{
+    let _link = decode_all::<(FileHandle, (FileHandle, &[u8]))>(bytes)?;
+    Ok(Call::Unsupported(UnsupportedProcedure::MakeLink))
+}
+
 /// READDIR (RFC 1813 section 3.3.16).
 fn read_directory(bytes: &[u8]) -> Result<Call, Bad>
     ensures { Makes call_of false result (asked_by listing_shape readdir_call bytes.now) }
@@ -182,12 +229,37 @@ fn read_directory(bytes: &[u8]) -> Result<Call, Bad>
     })
 }
 
+/// READDIRPLUS (RFC 1813 section 3.3.17), which isn't supported.
+fn read_directory_plus(bytes: &[u8]) -> Result<Call, Bad>
+    ensures { Makes call_of false result
+        (asked_by listing_plus_shape readdirplus_call bytes.now) }
+{
+    let _page = decode_all::<(FileHandle, (Cookie, (Verifier, (u32, u32))))>(bytes)?;
+    Ok(Call::Unsupported(UnsupportedProcedure::ReadDirectoryPlus))
+}
+
 /// FSSTAT (RFC 1813 section 3.3.18).
 fn filesystem_status(bytes: &[u8]) -> Result<Call, Bad>
     ensures { Makes call_of false result (asked_by handle_shape fsstat_call bytes.now) }
 {
     let handle = decode_all::<FileHandle>(bytes)?;
     Ok(Call::FilesystemStatus { handle })
+}
+
+/// FSINFO (RFC 1813 section 3.3.19).
+fn filesystem_info(bytes: &[u8]) -> Result<Call, Bad>
+    ensures { Makes call_of false result (asked_by handle_shape fsinfo_call bytes.now) }
+{
+    let handle = decode_all::<FileHandle>(bytes)?;
+    Ok(Call::FilesystemInfo { handle })
+}
+
+/// PATHCONF (RFC 1813 section 3.3.20).
+fn path_configuration(bytes: &[u8]) -> Result<Call, Bad>
+    ensures { Makes call_of false result (asked_by handle_shape pathconf_call bytes.now) }
+{
+    let handle = decode_all::<FileHandle>(bytes)?;
+    Ok(Call::PathConfiguration { handle })
 }
 
 /// COMMIT (RFC 1813 section 3.3.21).
@@ -214,27 +286,81 @@ fn grow(bytes: &[u8]) -> Result<Call, Bad>
     Ok(Call::Grow { volume, ranges })
 }
 
-/// The call that these arguments of a procedure make (RFC 1813 section 3.3).
+/// MNT of MOUNT (RFC 1813 appendix I, section 5.2.1).
+fn mount(alloc: Global, bytes: &[u8]) -> Result<Call, Bad>
+    ensures { Makes call_of true result (asked_by path_shape mnt_call bytes.now) }
+{
+    let path = decode_all::<&[u8]>(bytes)?;
+    let path = Name::copied(alloc, path)?;
+    Ok(Call::Mount(MountCall::Mount { path }))
+}
+
+/// DUMP of MOUNT (RFC 1813 appendix I, section 5.2.2).
+fn list_mounts(bytes: &[u8]) -> Result<Call, Bad>
+    ensures { Makes call_of false result (asked_by Void dump_call bytes.now) }
+{
+    decode_all::<()>(bytes)?;
+    Ok(Call::Mount(MountCall::ListMounts))
+}
+
+/// UMNT of MOUNT (RFC 1813 appendix I, section 5.2.3).
+fn unmount(bytes: &[u8]) -> Result<Call, Bad>
+    ensures { Makes call_of false result (asked_by path_shape umnt_call bytes.now) }
+{
+    let _path = decode_all::<&[u8]>(bytes)?;
+    Ok(Call::Mount(MountCall::Unmount))
+}
+
+/// UMNTALL of MOUNT (RFC 1813 appendix I, section 5.2.4).
+fn unmount_all(bytes: &[u8]) -> Result<Call, Bad>
+    ensures { Makes call_of false result (asked_by Void umntall_call bytes.now) }
+{
+    decode_all::<()>(bytes)?;
+    Ok(Call::Mount(MountCall::Unmount))
+}
+
+/// EXPORT of MOUNT (RFC 1813 appendix I, section 5.2.5).
+fn list_exports(bytes: &[u8]) -> Result<Call, Bad>
+    ensures { Makes call_of false result (asked_by Void export_call bytes.now) }
+{
+    decode_all::<()>(bytes)?;
+    Ok(Call::Mount(MountCall::ListExports))
+}
+
+/// The call that these arguments of a procedure make (RFC 1813 section 3.3 and appendix I).
 pub fn decode_call(alloc: Global, procedure: Procedure, bytes: &[u8]) -> Result<Call, Bad>
     ensures { Makes call_of (takes_memory procedure) result (asked procedure bytes.now) }
 {
     match procedure {
-        Procedure::Null | Procedure::AdminNull => null(bytes),
+        Procedure::Null | Procedure::AdminNull | Procedure::MountNull => null(bytes),
         Procedure::GetAttributes => get_attributes(bytes),
         Procedure::SetAttributes => set_attributes(bytes),
         Procedure::Lookup => lookup(alloc, bytes),
+        Procedure::CheckAccess => check_access(bytes),
+        Procedure::ReadLink => read_link(bytes),
         Procedure::Read => read(bytes),
         Procedure::Write => write(alloc, bytes),
         Procedure::Create => create(alloc, bytes),
         Procedure::MakeDirectory => make_directory(alloc, bytes),
+        Procedure::MakeSymbolicLink => make_symbolic_link(bytes),
+        Procedure::MakeDevice => make_device(bytes),
         Procedure::Remove => remove(alloc, bytes),
         Procedure::RemoveDirectory => remove_directory(alloc, bytes),
         Procedure::Rename => rename(alloc, bytes),
+        Procedure::MakeLink => make_link(bytes),
         Procedure::ReadDirectory => read_directory(bytes),
+        Procedure::ReadDirectoryPlus => read_directory_plus(bytes),
         Procedure::FilesystemStatus => filesystem_status(bytes),
+        Procedure::FilesystemInfo => filesystem_info(bytes),
+        Procedure::PathConfiguration => path_configuration(bytes),
         Procedure::Commit => commit(bytes),
         Procedure::Census => census(bytes),
         Procedure::Grow => grow(bytes),
+        Procedure::Mount => mount(alloc, bytes),
+        Procedure::ListMounts => list_mounts(bytes),
+        Procedure::Unmount => unmount(bytes),
+        Procedure::UnmountAll => unmount_all(bytes),
+        Procedure::ListExports => list_exports(bytes),
     }
 }
 

@@ -4,14 +4,18 @@ ghost use Rattle.std.specs.Prelude.{length};
 ghost use Rattle.nfs_values.specs.Attributes.{shown_of, change_of};
 ghost use Rattle.nfs_values.specs.Answer.{space_of};
 ghost use Rattle.nfs_types.specs.Results.{lookup_shape, lookup_value, read_shape, read_value};
+ghost use Rattle.nfs_types.specs.Results.{access_results_shape, access_value};
+ghost use Rattle.nfs_types.specs.Results.{fsinfo_shape, fsinfo_value};
+ghost use Rattle.nfs_types.specs.Results.{pathconf_shape, pathconf_value};
 ghost use Rattle.nfs_types.specs.Results.{write_shape, write_value, made_shape, made_value};
 ghost use Rattle.nfs_types.specs.Results.{renamed_shape, renamed_value};
 ghost use Rattle.nfs_types.specs.Results.{fsstat_shape, fsstat_value, commit_shape, commit_value};
 
 use crate::encode::{Encode, size_of_present, write_absent, write_present};
 use nfs_values::{
-    CommitResults, FilesystemStatusResults, LookupResults, MakeResults, ReadResults, RenameResults,
-    WriteResults,
+    AccessResults, BLOCK_BYTES, COUNT_LIMIT, CommitResults, FilesystemInfoResults,
+    FilesystemStatusResults, LookupResults, MakeResults, PathConfigurationResults, ReadResults,
+    RenameResults, WriteResults,
 };
 
 /// FILE_SYNC (RFC 1813 section 3.3.7).
@@ -30,6 +34,21 @@ impl Encode for LookupResults {
         self.handle.write(out);
         write_present(&self.object, out);
         write_present(&self.directory, out);
+    }
+}
+
+impl Encode for AccessResults {
+    ghost shape = { access_results_shape };
+
+    ghost value = { λ r. access_value (shown_of r.object) r.given };
+
+    fn size(&self) -> usize {
+        size_of_present(&self.object) + 4
+    }
+
+    fn write(&self, out: &mut Vec<u8>) {
+        write_present(&self.object, out);
+        self.given.write(out);
     }
 }
 
@@ -116,6 +135,60 @@ impl Encode for FilesystemStatusResults {
             (self.free_bytes, (self.free_bytes, inodes)),
         )
             .write(out);
+    }
+}
+
+/// The bytes by whose multiples files are best read and written (RFC 1813 section 3.3.19).
+const BEST_MULTIPLE: u32 = BLOCK_BYTES as u32;
+
+/// FSF3_HOMOGENEOUS and FSF3_CANSETTIME (RFC 1813 section 3.3.19).
+const PROPERTIES: u32 = 0x0008 + 0x0010;
+
+impl Encode for FilesystemInfoResults {
+    ghost shape = { fsinfo_shape };
+
+    ghost value = { λ r. fsinfo_value (shown_of r.root) r.largest };
+
+    fn size(&self) -> usize {
+        size_of_present(&self.root) + 7 * 4 + 8 + 8 + 4
+    }
+
+    fn write(&self, out: &mut Vec<u8>) {
+        write_present(&self.root, out);
+        let sizes = (COUNT_LIMIT, (COUNT_LIMIT, BEST_MULTIPLE));
+        let time_delta = (0u32, 1u32);
+        sizes.write(out);
+        sizes.write(out);
+        (COUNT_LIMIT, (self.largest, (time_delta, PROPERTIES))).write(out);
+    }
+}
+
+/// The most links of a file.
+const MOST_LINKS: u32 = 1;
+
+/// The most bytes of a name.
+const MOST_NAME: u32 = 255;
+
+impl Encode for PathConfigurationResults {
+    ghost shape = { pathconf_shape };
+
+    ghost value = { λ r. pathconf_value (shown_of r.object) };
+
+    fn size(&self) -> usize {
+        size_of_present(&self.object) + 6 * 4
+    }
+
+    fn write(&self, out: &mut Vec<u8>) {
+        write_present(&self.object, out);
+        let no_trunc = true;
+        let chown_restricted = false;
+        let case_insensitive = false;
+        let case_preserving = true;
+        let flags = (
+            no_trunc,
+            (chown_restricted, (case_insensitive, case_preserving)),
+        );
+        (MOST_LINKS, (MOST_NAME, flags)).write(out);
     }
 }
 

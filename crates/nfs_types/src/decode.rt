@@ -8,7 +8,8 @@ ghost use Rattle.nfs_values.specs.Set.{time_of, set_of, mode_of};
 ghost use Rattle.nfs_types.specs.Shapes.{any_bytes, handle_shape, verifier_shape};
 ghost use Rattle.nfs_types.specs.Shapes.{moment_shape, moment_value};
 ghost use Rattle.nfs_types.specs.Shapes.{time_shape, time_value, set_shape, set_value};
-ghost use Rattle.nfs_types.specs.Shapes.{create_shape, create_value, stable_shape};
+ghost use Rattle.nfs_types.specs.Shapes.{create_shape, create_value, stable_shape, mknod_shape};
+ghost use Rattle.nfs_types.specs.Device.{device_value};
 ghost use Rattle.nfs_types.specs.Stable.{stable_word};
 
 use nfs_values::{
@@ -222,6 +223,44 @@ impl<'a> Decode<'a> for CreateMode {
             0 => Ok(CreateMode::Unchecked(SetAttributes::decode(from)?)),
             1 => Ok(CreateMode::Guarded(SetAttributes::decode(from)?)),
             2 => Ok(CreateMode::Exclusive(Verifier::decode(from)?)),
+            _ => Err(Fault::BadEnum),
+        }
+    }
+}
+
+/// What a MKNOD is to make (mknoddata3, RFC 1813 section 3.3.11): a device with its two numbers, or
+/// what has none.
+#[derive(Clone, Copy)]
+pub enum DeviceToMake {
+    Character(SetAttributes, (u32, u32)),
+    Block(SetAttributes, (u32, u32)),
+    Socket(SetAttributes),
+    Fifo(SetAttributes),
+    Regular,
+    Directory,
+    SymbolicLink,
+}
+
+impl<'a> Decode<'a> for DeviceToMake {
+    ghost shape = { mknod_shape };
+
+    ghost value = { device_value };
+
+    fn decode(from: &mut Cursor<'a>) -> Result<DeviceToMake, Fault> {
+        match from.u32()? {
+            4 => {
+                let (set, numbers) = Decode::decode(from)?;
+                Ok(DeviceToMake::Character(set, numbers))
+            }
+            3 => {
+                let (set, numbers) = Decode::decode(from)?;
+                Ok(DeviceToMake::Block(set, numbers))
+            }
+            6 => Ok(DeviceToMake::Socket(SetAttributes::decode(from)?)),
+            7 => Ok(DeviceToMake::Fifo(SetAttributes::decode(from)?)),
+            1 => Ok(DeviceToMake::Regular),
+            2 => Ok(DeviceToMake::Directory),
+            5 => Ok(DeviceToMake::SymbolicLink),
             _ => Err(Fault::BadEnum),
         }
     }

@@ -8,17 +8,20 @@ mod decode;
 mod encode;
 mod laws;
 mod lists;
+mod mounting;
 mod results;
 
 pub use arguments::{decode_args, decode_call, decode_in_place};
 pub use bad::Bad;
 pub use laws::arguments_are_exact;
 pub use nfs_values::{
-    ADMIN_PROGRAM, Answer, Attributes, AuthFault, BlockNumber, BytesRead, BytesToWrite, Call,
-    Change, CommitResults, ConnectionNumber, Cookie, CreateMode, Credential, DirectoryEntry,
-    FileHandle, FileKind, Fileid, FilesystemStatusResults, LookupResults, MakeResults, Moment,
-    NFS_PROGRAM, Name, Named, PriorAttributes, Procedure, ReadDirectoryResults, ReadResults,
-    Refusal, RenameResults, Reply, SetAttributes, SetTime, Status, Target, Verifier, VolumeCount,
-    VolumeNumber, WorkerNumber, WriteResults,
+    ADMIN_PROGRAM, AccessResults, Answer, Attributes, AuthFault, BlockNumber, BytesRead,
+    BytesToWrite, Call, Change, CommitResults, ConnectionNumber, Cookie, CreateMode, Credential,
+    DirectoryEntry, Exports, FileHandle, FileKind, Fileid, FilesystemInfoResults,
+    FilesystemStatusResults, GroupList, LookupResults, MOUNT_PROGRAM, MakeResults, Moment,
+    MountCall, MountResults, NFS_PROGRAM, Name, Named, PathConfigurationResults, PriorAttributes,
+    Procedure, ReadDirectoryResults, ReadResults, Refusal, RenameResults, Reply, SetAttributes,
+    SetTime, Status, Target, UnsupportedProcedure, Verifier, VolumeCount, VolumeNumber,
+    WorkerNumber, WriteResults,
 };
 pub use results::{encode_result, size_of_result};

@@ -89,6 +89,7 @@ fn write_result(answer: &Answer, out: &mut Vec<u8>)
         Answer::GetAttributes(outcome) => write_either(outcome, 0, out),
         Answer::SetAttributes(outcome) => write_either(outcome, 2, out),
         Answer::Lookup(outcome) => write_either(outcome, 1, out),
+        Answer::CheckAccess(outcome) => write_either(outcome, 1, out),
         Answer::Read(outcome) => write_either(outcome, 1, out),
         Answer::Write(outcome) => write_either(outcome, 2, out),
         Answer::Create(outcome) => write_either(outcome, 2, out),
@@ -98,9 +99,17 @@ fn write_result(answer: &Answer, out: &mut Vec<u8>)
         Answer::Rename(outcome) => write_either(outcome, 4, out),
         Answer::ReadDirectory(outcome) => write_either(outcome, 1, out),
         Answer::FilesystemStatus(outcome) => write_either(outcome, 1, out),
+        Answer::FilesystemInfo(outcome) => write_either(outcome, 1, out),
+        Answer::PathConfiguration(outcome) => write_either(outcome, 1, out),
         Answer::Commit(outcome) => write_either(outcome, 2, out),
+        Answer::Unsupported(which) => {
+            write_failed(Status::NotSupported, which.absent_parts(), out)
+        }
         Answer::Census(volumes) => volumes.write(out),
         Answer::Grow(outcome) => write_either(outcome, 0, out),
+        Answer::Mount(outcome) => write_either(outcome, 0, out),
+        Answer::ListMounts => write_absent(out),
+        Answer::ListExports(exports) => exports.write(out),
     }
 }
 
@@ -115,6 +124,7 @@ pub fn size_of_result(answer: &Answer) -> usize
         Answer::GetAttributes(outcome) => size_of_either(outcome, 0),
         Answer::SetAttributes(outcome) => size_of_either(outcome, 2),
         Answer::Lookup(outcome) => size_of_either(outcome, 1),
+        Answer::CheckAccess(outcome) => size_of_either(outcome, 1),
         Answer::Read(outcome) => size_of_either(outcome, 1),
         Answer::Write(outcome) => size_of_either(outcome, 2),
         Answer::Create(outcome) => size_of_either(outcome, 2),
@@ -124,9 +134,15 @@ pub fn size_of_result(answer: &Answer) -> usize
         Answer::Rename(outcome) => size_of_either(outcome, 4),
         Answer::ReadDirectory(outcome) => size_of_either(outcome, 1),
         Answer::FilesystemStatus(outcome) => size_of_either(outcome, 1),
+        Answer::FilesystemInfo(outcome) => size_of_either(outcome, 1),
+        Answer::PathConfiguration(outcome) => size_of_either(outcome, 1),
         Answer::Commit(outcome) => size_of_either(outcome, 2),
+        Answer::Unsupported(which) => 4 + 4 * which.absent_parts() as usize,
         Answer::Census(volumes) => volumes.size(),
         Answer::Grow(outcome) => size_of_either(outcome, 0),
+        Answer::Mount(outcome) => size_of_either(outcome, 0),
+        Answer::ListMounts => 4,
+        Answer::ListExports(exports) => exports.size(),
     }
 }
 

@@ -1,9 +1,13 @@
-use Rattle.std.specs.Prelude.{ℕ, Result, Ok, Err, length, map}
+use Rattle.std.specs.Prelude.{ℕ, List, Result, Ok, Err, length, map}
+use Rattle.std.specs.List.{range_with_len}
 use Rattle.nfs_model.specs.Types as model
+use Rattle.nfs_model.specs.Serial.Mount.{volume_path}
+use Rattle.nfs_model.specs.Serial.Absent.{absent_in}
 use Rattle.nfs_values.specs.declared.status.Status.{Status}
 use Rattle.nfs_values.specs.declared.attributes.Attributes.{Attributes}
 use Rattle.nfs_values.specs.declared.attributes.Change.{Change}
 use Rattle.nfs_values.specs.declared.answer.LookupResults.{LookupResults}
+use Rattle.nfs_values.specs.declared.answer.AccessResults.{AccessResults}
 use Rattle.nfs_values.specs.declared.answer.ReadResults.{ReadResults}
 use Rattle.nfs_values.specs.declared.answer.WriteResults.{WriteResults}
 use Rattle.nfs_values.specs.declared.answer.MakeResults.{MakeResults}
@@ -11,13 +15,19 @@ use Rattle.nfs_values.specs.declared.answer.RenameResults.{RenameResults}
 use Rattle.nfs_values.specs.declared.answer.DirectoryEntry.{DirectoryEntry}
 use Rattle.nfs_values.specs.declared.answer.ReadDirectoryResults.{ReadDirectoryResults}
 use Rattle.nfs_values.specs.declared.answer.FilesystemStatusResults.{FilesystemStatusResults}
+use Rattle.nfs_values.specs.declared.answer.FilesystemInfoResults.{FilesystemInfoResults}
+use Rattle.nfs_values.specs.declared.answer.PathConfigurationResults.{PathConfigurationResults}
 use Rattle.nfs_values.specs.declared.answer.CommitResults.{CommitResults}
 use Rattle.nfs_values.specs.declared.answer.VolumeCount.{VolumeCount}
 use Rattle.nfs_values.specs.declared.answer.Answer.{Answer}
-use Rattle.nfs_values.specs.declared.answer.Answer.TheVariants.{Null, GetAttributes, SetAttributes, Lookup, Read, Write, Create, MakeDirectory, Remove}
-use Rattle.nfs_values.specs.declared.answer.Answer.TheVariants.{RemoveDirectory, Rename, ReadDirectory, FilesystemStatus, Commit, Census, Grow}
+use Rattle.nfs_values.specs.declared.mount.Exports.{Exports}
+use Rattle.nfs_values.specs.declared.mount.MountResults.{MountResults}
+use Rattle.nfs_values.specs.declared.answer.Answer.TheVariants.{Null, GetAttributes, SetAttributes, Lookup, CheckAccess, Read, Write, Create}
+use Rattle.nfs_values.specs.declared.answer.Answer.TheVariants.{MakeDirectory, Remove, RemoveDirectory, Rename, ReadDirectory, FilesystemStatus}
+use Rattle.nfs_values.specs.declared.answer.Answer.TheVariants.{FilesystemInfo, PathConfiguration, Commit, Unsupported, Census, Grow, Mount, ListMounts, ListExports}
 use Rattle.nfs_values.specs.Attributes.{shown_of, change_of}
 use Rattle.nfs_values.specs.Status.{status_of}
+use Rattle.nfs_values.specs.Unsupported.{unsupported_of}
 
 -- ---- what was done, as the model has it
 
@@ -29,6 +39,9 @@ attributes_set change = model.SetattrDone (change_of change)
 
 abbrev pub looked_up : LookupResults → model.Answer
 looked_up r = model.LookupDone r.handle (shown_of r.object) (shown_of r.directory)
+
+abbrev pub access_told : AccessResults → model.Answer
+access_told r = model.AccessDone (shown_of r.object) r.given
 
 abbrev pub bytes_read : ReadResults → model.Answer
 bytes_read r = model.ReadDone (length r.bytes) r.eof r.bytes
@@ -64,6 +77,12 @@ space_of r = record {
 abbrev pub space_told : FilesystemStatusResults → model.Answer
 space_told r = model.FsstatDone (shown_of r.root) (space_of r)
 
+abbrev pub info_told : FilesystemInfoResults → model.Answer
+info_told r = model.FsinfoDone (shown_of r.root) r.largest
+
+abbrev pub path_told : PathConfigurationResults → model.Answer
+path_told r = model.PathconfDone (shown_of r.object)
+
 abbrev pub file_committed : CommitResults → model.Answer
 file_committed r = model.CommitDone (change_of r.file) r.verifier.0
 
@@ -73,6 +92,14 @@ count_of v = record { volume = v.volume.0; total = v.total; used = v.used }
 
 abbrev pub volume_grown : ℕ → model.Answer
 volume_grown total = model.GrowDone total
+
+-- the handle of a volume's root
+abbrev pub volume_mounted : MountResults → model.Answer
+volume_mounted r = model.MountDone r.handle
+
+-- the paths of volumes
+abbrev pub volumes_exported : Exports → model.Answer
+volumes_exported exports = model.ExportsDone (map volume_path (range_with_len 0 exports.volumes))
 
 -- ---- results, as the model has them
 
@@ -86,6 +113,7 @@ answer_of Null = model.NullDone
 answer_of (GetAttributes result) = result_of attributes_shown 0 result
 answer_of (SetAttributes result) = result_of attributes_set 2 result
 answer_of (Lookup result) = result_of looked_up 1 result
+answer_of (CheckAccess result) = result_of access_told 1 result
 answer_of (Read result) = result_of bytes_read 1 result
 answer_of (Write result) = result_of bytes_written 2 result
 answer_of (Create result) = result_of node_made 2 result
@@ -95,6 +123,12 @@ answer_of (RemoveDirectory result) = result_of name_gone 2 result
 answer_of (Rename result) = result_of name_moved 4 result
 answer_of (ReadDirectory result) = result_of entries_listed 1 result
 answer_of (FilesystemStatus result) = result_of space_told 1 result
+answer_of (FilesystemInfo result) = result_of info_told 1 result
+answer_of (PathConfiguration result) = result_of path_told 1 result
 answer_of (Commit result) = result_of file_committed 2 result
+answer_of (Unsupported which) = model.Failed model.NotSupported (absent_in (unsupported_of which))
 answer_of (Census volumes) = model.CensusDone (map count_of volumes.items)
 answer_of (Grow result) = result_of volume_grown 0 result
+answer_of (Mount result) = result_of volume_mounted 0 result
+answer_of ListMounts = model.DumpDone
+answer_of (ListExports exports) = volumes_exported exports

@@ -1,10 +1,13 @@
 use Rattle.std.specs.Option.{option_map}
 use Rattle.nfs_model.specs.Types as model
 use Rattle.nfs_values.specs.declared.call.Call.{Call}
-use Rattle.nfs_values.specs.declared.call.Call.TheVariants.{Null, GetAttributes, SetAttributes, Lookup, Read, Write, Create, MakeDirectory, Remove}
-use Rattle.nfs_values.specs.declared.call.Call.TheVariants.{RemoveDirectory, Rename, ReadDirectory, FilesystemStatus, Commit, Census, Grow}
+use Rattle.nfs_values.specs.declared.call.Call.TheVariants.{Null, GetAttributes, SetAttributes, Lookup, CheckAccess, Read, Write, Create, MakeDirectory}
+use Rattle.nfs_values.specs.declared.call.Call.TheVariants.{Remove, RemoveDirectory, Rename, ReadDirectory, FilesystemStatus, FilesystemInfo}
+use Rattle.nfs_values.specs.declared.call.Call.TheVariants.{PathConfiguration, Commit, Unsupported, Census, Grow, Mount}
 use Rattle.nfs_values.specs.Moment.{moment_of}
+use Rattle.nfs_values.specs.Mount.{mount_call_of}
 use Rattle.nfs_values.specs.Set.{set_of, mode_of}
+use Rattle.nfs_values.specs.Unsupported.{unsupported_of}
 
 -- a call, as the model has it
 abbrev pub call_of : Call → model.Call
@@ -12,6 +15,7 @@ call_of Null = model.Null
 call_of (GetAttributes handle) = model.Getattr handle
 call_of (SetAttributes handle set guard) = model.Setattr handle (set_of set) (option_map moment_of guard)
 call_of (Lookup target) = model.Lookup target.directory target.name
+call_of (CheckAccess handle asked) = model.CheckAccess handle asked
 call_of (Read handle offset count) = model.Read handle offset count
 call_of (Write handle offset count bytes) = model.Write handle offset count bytes
 call_of (Create target mode) = model.Create target.directory target.name (mode_of mode)
@@ -21,6 +25,10 @@ call_of (RemoveDirectory target) = model.Rmdir target.directory target.name
 call_of (Rename from to) = model.Rename from.directory from.name to.directory to.name
 call_of (ReadDirectory directory cookie verifier count) = model.Readdir directory cookie.0 verifier.0 count
 call_of (FilesystemStatus handle) = model.Fsstat handle
+call_of (FilesystemInfo handle) = model.Fsinfo handle
+call_of (PathConfiguration handle) = model.Pathconf handle
 call_of (Commit handle) = model.Commit handle
+call_of (Unsupported which) = model.Unsupported (unsupported_of which)
 call_of Census = model.Census
 call_of (Grow volume ranges) = model.Grow volume.0 ranges
+call_of (Mount call) = model.Mount (mount_call_of call)

@@ -4,11 +4,13 @@ pub mod Name
 pub mod Handle
 pub mod Credential
 pub mod Status
+pub mod Unsupported
 pub mod Attributes
 pub mod Set
 pub mod Procedure
 pub mod Offer
 pub mod Bytes
+pub mod Mount
 pub mod Call
 pub mod Route
 pub mod Answer

@@ -1,7 +1,7 @@
 use Rattle.nfs_model.specs.Types as model
 use Rattle.nfs_values.specs.declared.status.Status.{Status}
 use Rattle.nfs_values.specs.declared.status.Status.TheVariants.{NoEntry, Access, Exists, CrossVolume, NotDirectory, IsDirectory, Invalid, TooBig, NoSpace}
-use Rattle.nfs_values.specs.declared.status.Status.TheVariants.{NameTooLong, NotEmpty, Stale, BadHandle, NotSynchronous, BadCookie, TooSmall}
+use Rattle.nfs_values.specs.declared.status.Status.TheVariants.{NameTooLong, NotEmpty, Stale, BadHandle, NotSynchronous, BadCookie, NotSupported, TooSmall}
 
 -- a status, as the model has it
 abbrev pub status_of : Status → model.Status
@@ -20,4 +20,5 @@ status_of Stale = model.Stale
 status_of BadHandle = model.BadHandle
 status_of NotSynchronous = model.NotSynchronous
 status_of BadCookie = model.BadCookie
+status_of NotSupported = model.NotSupported
 status_of TooSmall = model.TooSmall

@@ -3,9 +3,11 @@
 use crate::attributes::{Attributes, Change};
 use crate::bytes::BytesRead;
 use crate::handle::FileHandle;
+use crate::mount::{Exports, MountResults};
 use crate::name::Name;
 use crate::number::{Cookie, Fileid, VolumeNumber};
 use crate::status::Status;
+use crate::unsupported::UnsupportedProcedure;
 use crate::verifier::Verifier;
 
 /// LOOKUP3resok (RFC 1813 section 3.3.3).
@@ -14,6 +16,14 @@ pub struct LookupResults {
     pub handle: FileHandle,
     pub object: Attributes,
     pub directory: Attributes,
+}
+
+/// ACCESS3resok (RFC 1813 section 3.3.4).
+#[derive(Clone, Copy)]
+pub struct AccessResults {
+    pub object: Attributes,
+    /// Of the bits that were asked for, those that are given.
+    pub given: u32,
 }
 
 /// READ3resok (RFC 1813 section 3.3.6), whose count is that of the bytes.
@@ -87,6 +97,20 @@ pub struct FilesystemStatusResults {
     pub free_inodes: u64,
 }
 
+/// FSINFO3resok (RFC 1813 section 3.3.19); what else it tells is the same of every volume.
+#[derive(Clone, Copy)]
+pub struct FilesystemInfoResults {
+    pub root: Attributes,
+    /// The largest size of a file.
+    pub largest: u64,
+}
+
+/// PATHCONF3resok (RFC 1813 section 3.3.20); what else it tells is the same of every object.
+#[derive(Clone, Copy)]
+pub struct PathConfigurationResults {
+    pub object: Attributes,
+}
+
 /// COMMIT3resok (RFC 1813 section 3.3.21).
 #[derive(Clone, Copy)]
 pub struct CommitResults {
@@ -105,11 +129,12 @@ pub struct VolumeCount {
 /// The results of a call, one variant for each procedure (RFC 1813 section 3.3). A failure gives
 /// none of the optional parts of its arm.
 pub enum Answer {
-    /// NULL of NFS, and of the admin program.
+    /// NULL of NFS, of the admin program and of MOUNT, and UMNT and UMNTALL.
     Null,
     GetAttributes(Result<Attributes, Status>),
     SetAttributes(Result<Change, Status>),
     Lookup(Result<LookupResults, Status>),
+    CheckAccess(Result<AccessResults, Status>),
     Read(Result<ReadResults, Status>),
     Write(Result<WriteResults, Status>),
     Create(Result<MakeResults, Status>),
@@ -121,11 +146,21 @@ pub enum Answer {
     Rename(Result<RenameResults, Status>),
     ReadDirectory(Result<ReadDirectoryResults, Status>),
     FilesystemStatus(Result<FilesystemStatusResults, Status>),
+    FilesystemInfo(Result<FilesystemInfoResults, Status>),
+    PathConfiguration(Result<PathConfigurationResults, Status>),
     Commit(Result<CommitResults, Status>),
+    /// NFS3ERR_NOTSUPP, of a procedure on links or devices.
+    Unsupported(UnsupportedProcedure),
     /// Of CENSUS of the admin program, which never fails: the volumes in order.
     Census(Vec<VolumeCount>),
     /// Of GROW of the admin program: the volume's blocks.
     Grow(Result<u64, Status>),
+    /// Of MNT of MOUNT: the root's handle.
+    Mount(Result<MountResults, Status>),
+    /// Of DUMP of MOUNT, which lists no mounts.
+    ListMounts,
+    /// Of EXPORT of MOUNT.
+    ListExports(Exports),
 }
 
 // By hand, so that crates above have no proof of the drop of each of its parts.
@@ -136,6 +171,7 @@ impl Drop for Answer {
             Answer::GetAttributes(_) => {}
             Answer::SetAttributes(_) => {}
             Answer::Lookup(_) => {}
+            Answer::CheckAccess(_) => {}
             Answer::Read(_) => {}
             Answer::Write(_) => {}
             Answer::Create(_) => {}
@@ -145,9 +181,15 @@ impl Drop for Answer {
             Answer::Rename(_) => {}
             Answer::ReadDirectory(_) => {}
             Answer::FilesystemStatus(_) => {}
+            Answer::FilesystemInfo(_) => {}
+            Answer::PathConfiguration(_) => {}
             Answer::Commit(_) => {}
+            Answer::Unsupported(_) => {}
             Answer::Census(_) => {}
             Answer::Grow(_) => {}
+            Answer::Mount(_) => {}
+            Answer::ListMounts => {}
+            Answer::ListExports(_) => {}
         }
     }
 }

@@ -8,17 +8,19 @@ ghost use Rattle.nfs_values.specs.Route.{route_of};
 use crate::bytes::BytesToWrite;
 use crate::handle::FileHandle;
 use crate::moment::Moment;
+use crate::mount::MountCall;
 use crate::number::{Cookie, VolumeNumber};
 use crate::route::Route;
 use crate::set::{CreateMode, SetAttributes};
 use crate::target::Target;
+use crate::unsupported::UnsupportedProcedure;
 use crate::verifier::Verifier;
 
 /// A call with its arguments (RFC 1813 section 3.3). A handle is the bytes that came, good or bad.
 /// How stable a WRITE is to be, and which bytes a COMMIT is of, isn't kept, since every WRITE is
 /// stable.
 pub enum Call {
-    /// NULL of NFS, and of the admin program.
+    /// NULL of NFS, of the admin program and of MOUNT.
     Null,
     GetAttributes {
         handle: FileHandle,
@@ -30,6 +32,11 @@ pub enum Call {
         guard: Option<Moment>,
     },
     Lookup(Target),
+    CheckAccess {
+        handle: FileHandle,
+        /// The bits of what the caller asks whether it may do.
+        asked: u32,
+    },
     Read {
         handle: FileHandle,
         offset: u64,
@@ -65,9 +72,17 @@ pub enum Call {
     FilesystemStatus {
         handle: FileHandle,
     },
+    FilesystemInfo {
+        handle: FileHandle,
+    },
+    PathConfiguration {
+        handle: FileHandle,
+    },
     Commit {
         handle: FileHandle,
     },
+    /// One on links or devices, without its arguments.
+    Unsupported(UnsupportedProcedure),
     /// CENSUS of the admin program.
     Census,
     /// GROW of the admin program.
@@ -75,6 +90,8 @@ pub enum Call {
         volume: VolumeNumber,
         ranges: u32,
     },
+    /// A call of MOUNT, but for NULL.
+    Mount(MountCall),
 }
 
 // By hand, so that crates above have no proof of the drop of each of its parts.
@@ -89,6 +106,10 @@ impl Drop for Call {
                 guard: _,
             } => {}
             Call::Lookup(_) => {}
+            Call::CheckAccess {
+                handle: _,
+                asked: _,
+            } => {}
             Call::Read {
                 handle: _,
                 offset: _,
@@ -112,12 +133,16 @@ impl Drop for Call {
                 count: _,
             } => {}
             Call::FilesystemStatus { handle: _ } => {}
+            Call::FilesystemInfo { handle: _ } => {}
+            Call::PathConfiguration { handle: _ } => {}
             Call::Commit { handle: _ } => {}
+            Call::Unsupported(_) => {}
             Call::Census => {}
             Call::Grow {
                 volume: _,
                 ranges: _,
             } => {}
+            Call::Mount(_) => {}
         }
     }
 }
@@ -134,6 +159,7 @@ impl Call {
             Call::Lookup(target) => Route::Names {
                 handle: &target.directory,
             },
+            Call::CheckAccess { handle, .. } => Route::Names { handle },
             Call::Read {
                 handle,
                 offset,
@@ -171,9 +197,13 @@ impl Call {
             },
             Call::ReadDirectory { directory, .. } => Route::Names { handle: directory },
             Call::FilesystemStatus { handle } => Route::Volume { handle },
+            Call::FilesystemInfo { handle } => Route::Names { handle },
+            Call::PathConfiguration { handle } => Route::Names { handle },
             Call::Commit { handle } => Route::Names { handle },
+            Call::Unsupported(_) => Route::AtOnce,
             Call::Census => Route::Everything,
             Call::Grow { volume, .. } => Route::Aggregate { volume: *volume },
+            Call::Mount(_) => Route::AtOnce,
         }
     }
 }

@@ -1,10 +1,69 @@
 //! Whom a call acts for.
 
-/// The user and the group of a call (RFC 5531, appendix A).
+ghost use Rattle.std.specs.Prelude.{◌≡◌, ◌<◌, ◌++◌, ◌∷◌, ◌==◌, [], length};
+ghost use Rattle.std.specs.List.{list_any};
+ghost use Rattle.nfs_values.specs.Credential.{gids_in};
+
+/// The most further groups of a user (authsys_parms, RFC 5531 appendix A).
+const MOST_GIDS: usize = 16;
+
+/// The further groups of a user (gids of authsys_parms, RFC 5531 appendix A): at most 16, kept in
+/// place.
+#[derive(Clone, Copy)]
+pub struct GroupList {
+    gids: [u32; MOST_GIDS],
+    count: u32,
+}
+
+/// Whether a group is among these.
+fn has_gid(gids: &[u32], gid: u32) -> bool
+    ensures { result ≡ list_any (λ g. g == gid) gids.now }
+{
+    gids.iter().any(|g| *g == gid)
+}
+
+/// All places are there.
+fn has_places(gids: [u32; MOST_GIDS])
+    ensures { length gids ≡ 16 }
+{}
+
+impl GroupList {
+    /// No group.
+    pub const NONE: GroupList = GroupList {
+        gids: [0; MOST_GIDS],
+        count: 0,
+    };
+
+    /// These groups and one more.
+    #[tactic(auto, using(crate::proofs::Groups::one_more, crate::proofs::Groups::one_place))]
+    pub fn with(self, gid: u32) -> GroupList
+        requires { length (gids_in self) < 16 }
+        ensures { gids_in result ≡ gids_in self ++ (gid ∷ []) }
+    {
+        let GroupList { mut gids, count } = self;
+        has_places(gids);
+        gids[count as usize] = gid;
+        GroupList {
+            gids,
+            count: count + 1,
+        }
+    }
+
+    /// Whether a group is among them.
+    pub fn has(&self, gid: u32) -> bool
+        ensures { result ≡ list_any (λ g. g == gid) (gids_in self.now) }
+    {
+        let count = (self.count as usize).min(MOST_GIDS);
+        has_gid(&self.gids[..count], gid)
+    }
+}
+
+/// The user and the groups of a call (RFC 5531 appendix A).
 #[derive(Clone, Copy)]
 pub struct Credential {
     pub uid: u32,
     pub gid: u32,
+    pub gids: GroupList,
 }
 
 impl Credential {
@@ -12,5 +71,6 @@ impl Credential {
     pub const NOBODY: Credential = Credential {
         uid: 65534,
         gid: 65534,
+        gids: GroupList::NONE,
     };
 }

@@ -9,6 +9,7 @@ mod credential;
 mod handle;
 mod limits;
 mod moment;
+mod mount;
 mod name;
 mod number;
 mod offer;
@@ -19,26 +20,30 @@ mod set;
 mod short_name;
 mod status;
 mod target;
+mod unsupported;
 mod verifier;
 
 pub use answer::{
-    Answer, CommitResults, DirectoryEntry, FilesystemStatusResults, LookupResults, MakeResults,
+    AccessResults, Answer, CommitResults, DirectoryEntry, FilesystemInfoResults,
+    FilesystemStatusResults, LookupResults, MakeResults, PathConfigurationResults,
     ReadDirectoryResults, ReadResults, RenameResults, VolumeCount, WriteResults,
 };
 pub use attributes::{Attributes, Change, FileKind, PriorAttributes};
 pub use bytes::{BytesRead, BytesToWrite, room_to_read};
 pub use call::Call;
-pub use credential::Credential;
+pub use credential::{Credential, GroupList};
 pub use handle::{FileHandle, Named};
 pub use limits::{BLOCK_BYTES, COUNT_LIMIT, NANOSECONDS_OF_A_SECOND, SPAN_BYTES};
 pub use moment::Moment;
+pub use mount::{Exports, MountCall, MountResults, export_path};
 pub use name::Name;
 pub use number::{BlockNumber, ConnectionNumber, Cookie, Fileid, VolumeNumber, WorkerNumber};
 pub use offer::Offer;
-pub use procedure::{ADMIN_PROGRAM, NFS_PROGRAM, Procedure};
+pub use procedure::{ADMIN_PROGRAM, MOUNT_PROGRAM, NFS_PROGRAM, Procedure};
 pub use reply::{AuthFault, Refusal, Reply};
 pub use route::Route;
 pub use set::{CreateMode, SetAttributes, SetTime};
 pub use status::Status;
 pub use target::Target;
+pub use unsupported::UnsupportedProcedure;
 pub use verifier::Verifier;

@@ -9,19 +9,61 @@ use crate::procedure::Procedure;
 #[derive(Clone, Copy)]
 pub struct Offer {
     /// Of each procedure, at its place, whether it is offered.
-    has: [bool; 17],
+    has: [bool; 31],
 }
 
 impl Offer {
-    ghost use Rattle.nfs_values.specs.Offer.{basic, offers, offers_program};
+    ghost use Rattle.nfs_values.specs.Offer.{basic, export, offers, offers_program};
     ghost use Rattle.nfs_values.specs.Procedure.{numbers_of};
     ghost use Rattle.nfs_values.specs.declared.procedure.Procedure.{Procedure as Known};
 
-    /// The offer of `replay` and `serve`: every procedure.
+    /// The offer of `replay` and `serve`: every procedure but ACCESS, FSINFO and PATHCONF, and those
+    /// on links and devices.
     pub fn basic() -> Offer
         ensures { result ≡ basic }
     {
-        Offer { has: [true; 17] }
+        Offer {
+            has: [
+                true, // Null
+                true, // GetAttributes
+                true, // SetAttributes
+                true, // Lookup
+                false, // CheckAccess
+                false, // ReadLink
+                true, // Read
+                true, // Write
+                true, // Create
+                true, // MakeDirectory
+                false, // MakeSymbolicLink
+                false, // MakeDevice
+                true, // Remove
+                true, // RemoveDirectory
+                true, // Rename
+                false, // MakeLink
+                true, // ReadDirectory
+                false, // ReadDirectoryPlus
+                true, // FilesystemStatus
+                false, // FilesystemInfo
+                false, // PathConfiguration
+                true, // Commit
+                true, // AdminNull
+                true, // Census
+                true, // Grow
+                false, // MountNull
+                false, // Mount
+                false, // ListMounts
+                false, // Unmount
+                false, // UnmountAll
+                false, // ListExports
+            ],
+        }
+    }
+
+    /// The offer of a server that clients mount: every procedure.
+    pub fn export() -> Offer
+        ensures { result ≡ export }
+    {
+        Offer { has: [true; 31] }
     }
 
     /// The offer with this procedure too.
@@ -69,6 +111,10 @@ impl Offer {
             → offers self p ≡ true
             → numbers_of p ≢ (program, number) }
     {
-        Procedure::known(program, number).filter(|p| self.has(*p))
+        let known = Procedure::known(program, number)?;
+        if !self.has(known) {
+            return None;
+        }
+        Some(known)
     }
 }

@@ -20,6 +20,7 @@ pub enum Status {
     BadHandle = 10001,
     NotSynchronous = 10002,
     BadCookie = 10003,
+    NotSupported = 10004,
     TooSmall = 10005,
 }
 

@@ -1,7 +1,7 @@
 -- How many bytes the results of each procedure take.
-use Rattle.std.proofs.Common.{◌≡◌, ℕ, ◌+◌, ◌-◌, ◌*◌, ◌≤◌, Bool, true, false, cond, List, [], ◌∷◌, ◌++◌, length, map, replicate, refl, ap, ◌∙◌, arith}
+use Rattle.std.proofs.Common.{◌≡◌, ℕ, zero, suc, min, Option, Some, None, ◌+◌, ◌-◌, ◌*◌, ◌≤◌, Bool, true, false, cond, List, [], ◌∷◌, ◌++◌, length, map, replicate, refl, ap, ◌∙◌, arith}
 use Rattle.std.specs.Prelude.{nat_le}
-use Rattle.std.specs.List.{flat_map}
+use Rattle.std.specs.List.{flat_map, range_with_len}
 use Rattle.std.proofs.lemmas.Bool.{leb-true}
 use Rattle.std.proofs.lemmas.List.{length-append, length-replicate}
 use Rattle.xdr.specs.Shape.{Chain, Boolean, word, hyper, flag, padding, padded, linked, spelling}
@@ -9,7 +9,8 @@ use Rattle.nfs_model.specs.Types as model
 use Rattle.nfs_model.specs.Server.{handle_bytes}
 use Rattle.nfs_model.specs.Serial.Readdir.{entry_size, fitting}
 use Rattle.nfs_types.specs.Shapes.{◌&◌}
-use Rattle.nfs_types.specs.Results.{entry_shape, entry_value, count_shape, count_value, answer_bytes}
+use Rattle.nfs_model.specs.Serial.Mount.{volume_path, root_of, mounted, mount}
+use Rattle.nfs_types.specs.Results.{entry_shape, entry_value, count_shape, count_value, export_value, exports_shape, answer_bytes}
 use Rattle.nfs_types.specs.lemmas.Absent.{length-absent_parts}
 use Rattle.rpc_msg.specs.Replies.{reply_record}
 use Rattle.rpc_msg.specs.Room.{padded_size, lookup_room, made_room, change_room}
@@ -55,8 +56,40 @@ rename_size v w = record { bytes = omega arith }
 pub fsstat_size : (a : model.Shown) (s : model.Space) → Takes 144 (model.FsstatDone a s)
 fsstat_size a s = record { bytes = omega arith }
 
+pub access_size : (a : model.Shown) (given : ℕ) → Takes 96 (model.AccessDone a given)
+access_size a given = record { bytes = omega arith }
+
+pub fsinfo_size : (a : model.Shown) (largest : ℕ) → Takes 140 (model.FsinfoDone a largest)
+fsinfo_size a largest = record { bytes = omega arith }
+
+pub pathconf_size : (a : model.Shown) → Takes 116 (model.PathconfDone a)
+pathconf_size a = record { bytes = omega arith }
+
 pub grow_size : (total : ℕ) → Takes 12 (model.GrowDone total)
 grow_size total = record { bytes = omega arith }
+
+length-exports : (first count : ℕ)
+    → length (spelling exports_shape (map export_value (map volume_path (range_with_len first count)))) ≡ 20 * count + 4
+length-exports first zero = refl
+length-exports first (suc count) = omega (arith, length-exports (first + 1) count)
+
+pub mounted_size : (volume : Option ℕ) → Takes 204 (root_of volume)
+mounted_size None = record { bytes = omega arith }
+mounted_size (Some volume) = record { bytes = omega arith }
+
+either_size : (b : Bool) (x y : model.Answer) → Takes 204 x → Takes 204 y → Takes 204 (cond b x y)
+either_size true x y a c = a
+either_size false x y a c = c
+
+-- whatever MOUNT answers
+pub mount_size : (volumes : ℕ) (call : model.MountCall) → Takes 204 (mount volumes call)
+mount_size volumes (model.Mnt path) =
+    let long : Takes 204 (model.Failed model.NameTooLong 0) = record { bytes = omega arith } in
+    let bad : Takes 204 (model.Failed model.Invalid 0) = record { bytes = omega arith } in
+    either_size _ _ _ long (either_size _ _ _ bad (mounted_size (mounted volumes path)))
+mount_size volumes model.Dump = record { bytes = omega arith }
+mount_size volumes model.Exports = record { bytes = omega (arith, length-exports 0 (min volumes 10)) }
+mount_size volumes model.Unmount = record { bytes = omega arith }
 
 pub failed_size : (status : model.Status) (absent : ℕ) → length (answer_bytes (model.Failed status absent)) ≡ 4 + 4 * absent
 failed_size status absent = omega (arith, length-absent_parts absent)

@@ -15,7 +15,8 @@ use Rattle.nfs_model.specs.Names.{is_dots, name_fault, same_name, dot, dot_dot}
 use Rattle.nfs_model.specs.Locate.{Effect, Fails, Tells, Changes, unless, on_node, on_directory, on_file, Located, located_in, located_by, locate, Found}
 use Rattle.nfs_model.specs.Locate.{Naming, named_child, on_name}
 use Rattle.nfs_model.specs.Serial.Setattr.{setattr}
-use Rattle.nfs_model.specs.Serial.Getattr.{getattr}
+use Rattle.nfs_model.specs.Serial.Getattr.{getattr, tell_of}
+use Rattle.nfs_model.specs.Serial.Access.{access_given}
 use Rattle.nfs_model.specs.Serial.Lookup.{looked_up, lookup_told, lookup}
 use Rattle.nfs_model.specs.Serial.Read.{read}
 use Rattle.nfs_model.specs.Serial.Write.{Writing, bytes_kept, write_fault, space_fault, write_some, write}
@@ -29,12 +30,14 @@ use Rattle.nfs_model.specs.Serial.Fsstat.{fsstat}
 use Rattle.nfs_model.specs.Serial.Commit.{commit}
 use Rattle.nfs_model.specs.Serial.Census.{count_of, census}
 use Rattle.nfs_model.specs.Serial.Grow.{Grown, grow_volume, grow}
+use Rattle.nfs_model.specs.Serial.Mount.{mount}
 use Rattle.nfs_model.specs.Serial.Step.{Step, stay, placed, on, on_two, serve, serial}
-use Rattle.nfs_model.specs.Serial.Absent.{absent_parts}
+use Rattle.nfs_model.specs.Serial.Absent.{absent_in, absent_parts}
 use Rattle.nfs_model.specs.Serial.AtOnce.{answer_of_two, answer_without_home}
 use Rattle.rpc_msg.specs.Replies.{reply_record}
 use Rattle.rpc_msg.specs.Room.{lookup_room, read_room, readdir_room, change_room, made_room, results_room, reply_room, IsRoomy}
-use Rattle.rpc_msg.proofs.AnswerSizes.{Takes, getattr_size, setattr_size, lookup_size, made_size, gone_size, rename_size, fsstat_size, grow_size, failed_size}
+use Rattle.rpc_msg.proofs.AnswerSizes.{Takes, getattr_size, setattr_size, lookup_size, access_size, made_size, gone_size, rename_size, fsstat_size, fsinfo_size, pathconf_size}
+use Rattle.rpc_msg.proofs.AnswerSizes.{grow_size, mount_size, failed_size}
 use Rattle.rpc_msg.proofs.AnswerSizes.{write_size, commit_size, read_size, entries_size, readdir_size, fitting_fits, census_size, success_size}
 
 -- ---- what a call on a volume comes to
@@ -88,6 +91,11 @@ name_fits n name moment run volume fileid f =
     unless_fits n volume (name_fault name) _ (f (record { volume = volume; fileid = fileid; directory = d; name = name; moment = moment })))
 
 -- ---- each procedure
+
+-- what is told by the attributes of a node
+tell_fits : (n : ℕ) (answer : model.Shown → model.Answer) (volume : VolumeState) (fileid : ℕ) → ((a : model.Shown) → Takes n (answer a))
+    → Fits n volume (tell_of answer volume fileid)
+tell_fits n answer volume fileid takes = node_fits n volume (get volume.nodes fileid) _ (λ node. tells _ _ _ (takes (shown volume fileid node)))
 
 getattr_fits : (volume : VolumeState) (fileid : ℕ) → Fits 88 volume (getattr volume fileid)
 getattr_fits volume fileid = node_fits 88 volume (get volume.nodes fileid) _ (λ node. tells _ _ _ (getattr_size (shown volume fileid node)))
@@ -372,6 +380,10 @@ grow_fits volumes server index ranges r =
 
 -- ---- all calls
 
+few_absent : (which : model.UnsupportedProcedure) → 4 + 4 * absent_in which ≤ 16
+few_absent model.Readlink = omega arith
+few_absent which = omega arith
+
 length-census : (vs : List VolumeState) → length (map count_of vs) ≡ length vs
 length-census [] = refl
 length-census (v ∷ vs) = ap suc (length-census vs)
@@ -387,6 +399,8 @@ serve_fits volumes server (model.Setattr handle set guard) who moment r =
     on_fits (4 + change_room) volumes server 2 handle _ (λ v f e. setattr_fits set guard moment v f) (omega arith) r
 serve_fits volumes server (model.Lookup directory name) who moment r =
     on_fits lookup_room volumes server 1 directory _ (λ v f e. name_fits lookup_room name moment _ v f lookup_fits) (omega arith) r
+serve_fits volumes server (model.CheckAccess handle asked) who moment r =
+    on_fits 96 volumes server 1 handle _ (λ v f e. tell_fits 96 _ v f (λ a. access_size a (access_given who asked a))) (omega arith) r
 serve_fits volumes server (model.Read handle offset count) who moment r =
     on_fits (read_room count) volumes server 1 handle _ (λ v f e. read_fits offset count v f) (omega arith) r
 serve_fits volumes server (model.Write handle offset count written) who moment r =
@@ -406,10 +420,18 @@ serve_fits volumes server (model.Rename from from_name to to_name) who moment r 
 serve_fits volumes server (model.Readdir directory cookie verifier count) who moment r =
     on_fits (readdir_room count) volumes server 1 directory _ (λ v f e. readdir_fits cookie verifier count v f) (omega arith) r
 serve_fits volumes server (model.Fsstat handle) who moment r = on_fits 144 volumes server 1 handle _ (λ v f e. fsstat_fits v f) (omega arith) r
+serve_fits volumes server (model.Fsinfo handle) who moment r =
+    on_fits 140 volumes server 1 handle _ (λ v f e. tell_fits 140 _ v f (λ a. fsinfo_size a v.largest)) (omega arith) r
+serve_fits volumes server (model.Pathconf handle) who moment r =
+    on_fits 116 volumes server 1 handle _ (λ v f e. tell_fits 116 _ v f pathconf_size) (omega arith) r
 serve_fits volumes server (model.Commit handle) who moment r =
     on_fits (4 + change_room + 8) volumes server 2 handle _ (λ v f e. commit_fits v f e) (omega arith) r
+serve_fits volumes server (model.Unsupported which) who moment r =
+    failed_fits 16 volumes server model.NotSupported (absent_in which) (few_absent which) r
 serve_fits volumes server model.Census who moment r = stay_fits (4 + 20 * volumes) volumes server (census server) (census_fits volumes server r) r
 serve_fits volumes server (model.Grow volume ranges) who moment r = grow_fits volumes server volume ranges r
+serve_fits volumes server (model.Mount call) who moment r =
+    stay_fits 204 volumes server (mount (length server.volumes) call) (mount_size (length server.volumes) call) r
 
 serial_fits : (volumes : ℕ) (server : Server) (call : model.Call) (who : model.Credential) (moment : model.Moment) (starved : Bool) → IsRoomy volumes server
     → StepFits (results_room volumes call) volumes (serial server (model.Ask call who) moment starved)
@@ -460,6 +482,9 @@ answer_at_once volumes layout model.Null = record { bytes = omega arith }
 answer_at_once volumes layout (model.Rename from from_name to to_name) = two_at_once (named_by layout from) (named_by layout to)
 answer_at_once volumes layout model.Census = record { bytes = omega arith }
 answer_at_once volumes layout (model.Grow volume ranges) = at_once volumes (model.Grow volume ranges) model.NoEntry 0 (omega arith)
+answer_at_once volumes layout (model.Mount call) = mount_size (length layout.volumes) call
+answer_at_once volumes layout (model.Unsupported which) =
+    at_once volumes (model.Unsupported which) model.NotSupported (absent_in which) (few_absent which)
 answer_at_once volumes layout call = at_once volumes call model.BadHandle (absent_parts call) (omega arith)
 
 pub reply_at_once_fits : (volumes : ℕ) (layout : Layout) (call : model.Call) (xid : ℕ)

@@ -175,7 +175,7 @@ module _ (offer : Offer) where
       record { program = program; version = version; number = number; who = who; arguments = arguments; head = h; none = e }
   procedure_told bytes xid program version number who arguments fits h (Some offered) e =
       agreed_told bytes xid program version number offered who arguments fits h e (eqb version offered) refl (find (is_numbered program number)
-          (procedures_by offer)) refl
+      (procedures_by offer)) refl
 
   -- the verifier
   whole_head : (bytes : List ℕ) (xid : ℕ) (n : Value numbers_shape) (rest more arguments : List ℕ) (who : model.Credential) (verf : Value auth_shape)

@@ -93,8 +93,12 @@ module _ (offer : Offer) where
 
   at_head : (bytes : List ℕ) (xid program version number : ℕ) (who : model.Credential) (arguments : List ℕ)
       → IsHead bytes xid program version number who arguments
-      → heard_by offer bytes ≡ told xid (procedure_by offer program version number >>= λ p. Ok (record { procedure = p; credential = who; arguments =
-      arguments }))
+      → heard_by offer bytes ≡ told xid (procedure_by offer program version number >>= λ p. Ok (record {
+        procedure = p;
+        credential = who;
+        arguments =
+            arguments;
+      }))
   at_head bytes xid program version number who arguments h =
       let size = length h.cred.1 in
       let n : Value numbers_shape = (program, (version, (number, (h.cred.0, size)))) in

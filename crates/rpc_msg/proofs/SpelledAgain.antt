@@ -69,7 +69,7 @@ module _ (offer : Offer) where
   call_again bytes xid p who arguments c =
       let after = spelling body_shape (body_value (numbers_of p) c.version c.cred c.verf) ++ arguments in
       let xid_read : xid_at (spelling (Word & Word) (xid, 0) ++ after) ≡ Ok (xid, after) =
-          rw (again (Word & Word) (xid, 0) after (c.fits.0, c.fits.1.0)) refl in
+      rw (again (Word & Word) (xid, 0) after (c.fits.0, c.fits.1.0)) refl in
       ap (head_by offer) c.bytes_are
       ∙ ap (head_from offer) xid_read
       ∙ ap (under xid) (body_again p c.version c.cred c.verf who arguments c.offered c.version_is c.acts_for c.fits.1.1)

@@ -1,6 +1,6 @@
 -- The head of a record: what stands before the arguments of a call (RFC 5531 section 9), in the order in which it is
 -- read. The order, and the first that applies decides, is our profile.
-use Rattle.std.specs.Prelude.{ℕ, Bool, List, ◌&&◌, ◌==◌, nat_lt, Option, Some, None, Result, Ok, Err, find, if◌then◌else◌}
+use Rattle.std.specs.Prelude.{ℕ, Bool, List, [], ◌&&◌, ◌==◌, nat_lt, Option, Some, None, Result, Ok, Err, find, if◌then◌else◌}
 use Rattle.std.specs.List.{filter}
 use Rattle.xdr.specs.declared.fault.Fault.{Fault as Unread}
 use Rattle.xdr.specs.declared.fault.Fault.TheVariants.{Short}
@@ -64,7 +64,7 @@ auth_sys_shape = Word & Opaque 255 & Word & Word & Array 16 Word
 
 -- whom AUTH_NONE acts for (our profile)
 abbrev pub nobody : model.Credential
-nobody = record { uid = 65534; gid = 65534 }
+nobody = record { uid = 65534; gid = 65534; gids = [] }
 
 -- the body, where it is all there and its padding is zero
 abbrev pub body_of : Reads (List ℕ) → Result (List ℕ × List ℕ) Stop
@@ -72,9 +72,9 @@ body_of (Ok x) = Ok x
 body_of (Err Short) = Err Incomplete
 body_of (Err fault) = Err bad_credential
 
--- the uid and gid of authsys_parms
+-- the uid, gid and gids of authsys_parms
 abbrev pub user : Value auth_sys_shape → model.Credential
-user v = record { uid = v.1.1.0; gid = v.1.1.1.0 }
+user v = record { uid = v.1.1.0; gid = v.1.1.1.0; gids = v.1.1.1.1 }
 
 -- whom an AUTH_SYS body names
 abbrev pub user_of : Result (Value auth_sys_shape) Unread → Result model.Credential Stop
@@ -93,9 +93,10 @@ credential_at flavor size bytes =
 
 -- ---- 6. the procedure (section 9); before it stands verf, an opaque_auth (section 8.2)
 
--- the version of a program: NFS (RFC 1813 section 2.2) and the admin program (our profile)
+-- the version of a program: NFS (RFC 1813 section 2.2), MOUNT (appendix I, section 5.1.2) and the admin program (our profile)
 abbrev pub known_version : ℕ → Option ℕ
-known_version program = if program == 100003 then Some 3 else if program == 536870913 then Some 1 else None
+known_version program =
+    if program == 100003 then Some 3 else if program == 100005 then Some 3 else if program == 536870913 then Some 1 else None
 
 -- where a procedure of it is offered
 abbrev pub version_by : Offer → ℕ → Option ℕ

@@ -41,6 +41,7 @@ results_room volumes model.Null = 0
 results_room volumes (model.Getattr handle) = 4 + 84
 results_room volumes (model.Setattr handle set guard) = 4 + change_room
 results_room volumes (model.Lookup directory name) = lookup_room
+results_room volumes (model.CheckAccess handle asked) = 4 + 88 + 4
 results_room volumes (model.Read handle offset count) = read_room count
 results_room volumes (model.Write handle offset count written) = 4 + 8 + 4 + 4 + 8
 results_room volumes (model.Create directory name mode) = made_room
@@ -50,9 +51,13 @@ results_room volumes (model.Rmdir directory name) = 4 + change_room
 results_room volumes (model.Rename from from_name to to_name) = 4 + change_room + change_room
 results_room volumes (model.Readdir directory cookie verifier count) = readdir_room count
 results_room volumes (model.Fsstat handle) = 4 + 88 + 6 * 8 + 4
+results_room volumes (model.Fsinfo handle) = 4 + 88 + 7 * 4 + 8 + 8 + 4
+results_room volumes (model.Pathconf handle) = 4 + 88 + 6 * 4
 results_room volumes (model.Commit handle) = 4 + change_room + 8
+results_room volumes (model.Unsupported which) = 4 + 3 * 4
 results_room volumes model.Census = 4 + 20 * volumes
 results_room volumes (model.Grow volume ranges) = 4 + 8
+results_room volumes (model.Mount call) = 4 + 20 * 10
 
 -- the most bytes of the record of the reply to a call, where there are so many volumes
 abbrev pub reply_room : ℕ → model.Call → ℕ

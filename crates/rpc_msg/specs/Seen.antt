@@ -1,7 +1,6 @@
 -- What the code's values are in the definitions.
 use Rattle.std.specs.Prelude.{◌≡◌, ℕ, true, List, Result, Ok, Err}
 use Rattle.std.specs.Borrow.{Bor}
-use Rattle.xdr.specs.Reading.{Reads}
 use Rattle.nfs_model.specs.Types as model
 use Rattle.nfs_model.specs.World as world
 use Rattle.nfs_model.specs.Serial.Starve.{has_bytes}
@@ -55,11 +54,6 @@ Says view error (Err e) step = step ≡ Err (error e)
 -- a value, and the bytes behind it
 abbrev pub with_rest : {X Y : Type 0} → (X → Y) → X × Bor (List ℕ) → Y × List ℕ
 with_rest view x = (view x.0, x.1.now)
-
--- what is read and not kept
-abbrev pub passed : {A : Type 0} → Reads A → Reads (Unit {0})
-passed (Ok x) = Ok (tt, x.1)
-passed (Err fault) = Err fault
 
 -- What a record asks, as it is told. None is told only where memory ran out: where a call has a name or data.
 abbrev pub Tells : ℕ → Request → Result world.Heard ℕ → Type 0

@@ -1,15 +1,16 @@
 //! Whom a call acts for.
 
+ghost use Rattle.std.specs.Prelude.{◌≤◌};
 ghost use Rattle.xdr.specs.Shape.{Word, Fixed, Array};
 ghost use Rattle.xdr.specs.Reading.{Gives, items_at, read, all_of};
-ghost use Rattle.nfs_values.specs.Credential.{credential_of};
+ghost use Rattle.nfs_values.specs.Credential.{credential_of, gids_in};
 ghost use Rattle.rpc_msg.specs.Heads.{acting, auth_sys_shape, bad_credential, body_of};
 ghost use Rattle.rpc_msg.specs.Heads.{credential_at, user_of as user_from};
-ghost use Rattle.rpc_msg.specs.Seen.{Says, passed, stop_of, with_rest};
+ghost use Rattle.rpc_msg.specs.Seen.{Says, stop_of, with_rest};
 
 use crate::items::fixed;
 use crate::stop::Stop;
-use nfs_values::{AuthFault, Credential, Refusal};
+use nfs_values::{AuthFault, Credential, GroupList, Refusal};
 use xdr::Cursor;
 
 // Flavors (auth_flavor, RFC 5531 section 8.2).
@@ -20,23 +21,24 @@ const AUTH_SYS: u32 = 1;
 /// The most bytes of a credential's body (RFC 5531 section 8.2).
 const MOST_BODY: u32 = 400;
 
-/// Reads so many words, of any number.
-fn skip_words(count: u32, from: &mut Cursor<'_>) -> Result<(), xdr::Fault>
-    ensures { Gives (λ x. x) result
-        (passed (items_at (λ rest. read Word rest) count from.old)) from.new }
+/// Reads so many groups.
+fn read_gids(count: u32, from: &mut Cursor<'_>) -> Result<GroupList, xdr::Fault>
+    requires { count ≤ 16 }
+    ensures { Gives gids_in result (items_at (λ rest. read Word rest) count from.old) from.new }
 {
-    for _word in 0..count {
-        from.u32()?;
+    let mut gids = GroupList::NONE;
+    for _gid in 0..count {
+        gids = gids.with(from.u32()?);
     }
-    Ok(())
+    Ok(gids)
 }
 
-/// The groups of a user, of any numbers.
-fn skip_groups(from: &mut Cursor<'_>) -> Result<(), xdr::Fault>
-    ensures { Gives (λ x. x) result (passed (read (Array 16 Word) from.old)) from.new }
+/// The further groups of a user.
+fn read_groups(from: &mut Cursor<'_>) -> Result<GroupList, xdr::Fault>
+    ensures { Gives gids_in result (read (Array 16 Word) from.old) from.new }
 {
     let count = from.length(16)?;
-    skip_words(count, from)
+    read_gids(count, from)
 }
 
 /// The user that a body of AUTH_SYS names (RFC 5531 appendix A).
@@ -49,9 +51,9 @@ fn read_user(body: &[u8]) -> Result<Credential, xdr::Fault>
     let _machine = from.opaque(255)?;
     let uid = from.u32()?;
     let gid = from.u32()?;
-    skip_groups(&mut from)?;
+    let gids = read_groups(&mut from)?;
     from.end()?;
-    Ok(Credential { uid, gid })
+    Ok(Credential { uid, gid, gids })
 }
 
 /// Whom a body of AUTH_NONE or AUTH_SYS acts for.

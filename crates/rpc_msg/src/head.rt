@@ -14,7 +14,9 @@ use crate::credential::read_credential;
 use crate::fault::RecordFault;
 use crate::items::{opaque, word};
 use crate::stop::Stop;
-use nfs_values::{ADMIN_PROGRAM, Credential, NFS_PROGRAM, Offer, Procedure, Refusal};
+use nfs_values::{
+    ADMIN_PROGRAM, Credential, MOUNT_PROGRAM, NFS_PROGRAM, Offer, Procedure, Refusal,
+};
 
 /// The type of a message that is a call (msg_type, RFC 5531 section 9).
 const CALL: u32 = 0;
@@ -24,6 +26,9 @@ const RPC_VERSION: u32 = 2;
 
 /// The version of NFS (RFC 1813 section 2.2).
 const NFS_VERSION: u32 = 3;
+
+/// The version of MOUNT (RFC 1813 appendix I, section 5.1.2).
+const MOUNT_VERSION: u32 = 3;
 
 /// The version of the admin calls (our profile).
 const ADMIN_VERSION: u32 = 1;
@@ -126,6 +131,7 @@ fn version_of(offer: Offer, program: u32) -> Option<u32>
     }
     match program {
         NFS_PROGRAM => Some(NFS_VERSION),
+        MOUNT_PROGRAM => Some(MOUNT_VERSION),
         ADMIN_PROGRAM => Some(ADMIN_VERSION),
         _ => None,
     }

@@ -15,6 +15,9 @@ pub const REFUSAL_ROOM: usize = 36;
 /// The attributes of a node before and after, each behind its flag (RFC 1813 section 2.6).
 const CHANGE_ROOM: usize = 28 + 88;
 
+/// The most volumes that EXPORT of MOUNT tells, each in 20 bytes.
+const MOST_EXPORTS: usize = 10;
+
 /// Bytes with their padding.
 fn padded_size(count: u32) -> usize
     ensures { result ≡ padded_size count }
@@ -31,6 +34,7 @@ fn results_room(call: &Call, volumes: u32) -> usize
         Call::GetAttributes { .. } => 4 + 84,
         Call::SetAttributes { .. } => 4 + CHANGE_ROOM,
         Call::Lookup(_) => 4 + 16 + 88 + 88,
+        Call::CheckAccess { .. } => 4 + 88 + 4,
         Call::Read { count, .. } => 20 + padded_size((*count).min(COUNT_LIMIT)),
         Call::Write { .. } => 4 + 8 + 4 + 4 + 8,
         Call::Create { .. } => 4 + 20 + 88 + CHANGE_ROOM,
@@ -40,9 +44,13 @@ fn results_room(call: &Call, volumes: u32) -> usize
         Call::Rename { .. } => 4 + CHANGE_ROOM + CHANGE_ROOM,
         Call::ReadDirectory { count, .. } => 4 + (*count).clamp(4, COUNT_LIMIT) as usize,
         Call::FilesystemStatus { .. } => 4 + 88 + 6 * 8 + 4,
+        Call::FilesystemInfo { .. } => 4 + 88 + 7 * 4 + 8 + 8 + 4,
+        Call::PathConfiguration { .. } => 4 + 88 + 6 * 4,
         Call::Commit { .. } => 4 + CHANGE_ROOM + 8,
+        Call::Unsupported(_) => 4 + 3 * 4,
         Call::Census => 4 + 20 * volumes as usize,
         Call::Grow { .. } => 4 + 8,
+        Call::Mount(_) => 4 + 20 * MOST_EXPORTS,
     }
 }
 

@@ -2,13 +2,14 @@
 use Rattle.std.proofs.Common.{◌≡◌, ℕ, ◌+◌, List, [], All, length, ap, ◌∙◌, subst, sym, arith}
 use Rattle.depot_rule.specs.Sums.{total}
 use Rattle.lanes.specs.declared.lane.Lane.{Lane}
+use Rattle.nfs_values.specs.declared.offer.Offer.{Offer}
 use Rattle.turns.specs.declared.shared.Filer.{Filer}
 use Rattle.server.specs.contracts.socket.SocketDevice.TheImpl.{ghosts}
 use Rattle.server.specs.declared.socket.Socket.{Socket}
 use Rattle.server.specs.declared.task.Task.{Task}
 use Rattle.lanes.specs.Words.{Identity}
-use Rattle.server.specs.Lanes.{by_identity, places, seats_of, AreLanesOf, IsLaneOf}
-use Rattle.server.specs.Threads.{identity_for, identity_with, seats_for, seats_with, AreOfThreads, AreThreadsOf, IsTaskFor, ServesFor, Thread}
+use Rattle.server.specs.Lanes.{by_identity, places, seats_of, AllOffer, AreLanesOf, IsLaneOf}
+use Rattle.server.specs.Threads.{identity_for, identity_with, seats_for, seats_with, AllServe, AreOfThreads, AreThreadsOf, IsTaskFor, ServesFor, Thread}
 use Rattle.workers.proofs.Lists.{all-none, total-none, total-one}
 
 -- the same places, taken by others
@@ -33,6 +34,10 @@ module _ {R : Type 0} (filer : Filer) where
     -- as many threads as lanes
     pub as-many : length threads ≡ length lanes
     as-many = let a = all-started (λ _. 1) in let b = total-one threads in let d = total-one lanes in omega (arith, a, b, d)
+
+    -- they offer what the lanes do
+    pub all-serve : (offer : Offer) → AllOffer offer lanes → AllServe offer threads
+    all-serve offer are weigh = all-started (λ i. weigh i.1) ∙ are weigh ∙ sym (all-started (λ _. weigh offer))
 
     -- each lane has a task, and each task a thread
     pub threads-of : AreLanesOf filer lanes

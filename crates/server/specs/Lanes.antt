@@ -1,7 +1,8 @@
 -- Lanes of a filer, over any devices.
 use Rattle.std.specs.Prelude.{◌≡◌, ℕ, zero, suc, true, List, [], ◌∷◌, length, All}
 use Rattle.depot_rule.specs.Sums.{total}
-use Rattle.lanes.specs.Words.{filer_in, identity_in, place_in, put_in, waiting_in, worker_in, Identity}
+use Rattle.nfs_values.specs.declared.offer.Offer.{Offer}
+use Rattle.lanes.specs.Words.{filer_in, identity_in, offer_in, place_in, put_in, waiting_in, worker_in, Identity}
 use Rattle.lanes.specs.declared.device.Device as devices
 use Rattle.lanes.specs.declared.lane.Lane.{Lane}
 use Rattle.nfs_model.specs.Events.Refusals.{is_empty_hand}
@@ -33,6 +34,10 @@ module _ {D R : Type 0} {G : devices.Ghosts D} where
   abbrev pub by_place : (ℕ × ℕ → ℕ) → Lane D R G → ℕ
   by_place weigh lane = weigh (place_in lane)
 
+  -- what it offers, weighed
+  abbrev pub by_offer : (Offer → ℕ) → Lane D R G → ℕ
+  by_offer weigh lane = weigh (offer_in lane)
+
   -- the calls that it admitted, weighed
   abbrev pub admitted_by : Weight → Lane D R G → ℕ
   admitted_by weight lane = total (by_key weight) (put_in lane)
@@ -57,6 +62,10 @@ module _ {D R : Type 0} {G : devices.Ghosts D} where
     pub none : waiting_in lane ≡ 0
     pub tended : may_sleep (layout_in (filer_in lane)) (worker_in lane) tending ≡ true
     pub empty : is_empty_hand (hand_in (worker_in lane)) ≡ true
+
+  -- each of these lanes offers just this: by any weight they are as so many that do
+  abbrev pub AllOffer : Offer → List (Lane D R G) → Type 0
+  AllOffer offer lanes = (weigh : Offer → ℕ) → total (by_offer weigh) lanes ≡ total (λ _. weigh offer) lanes
 
   -- All lanes of a filer: they have all its 64 seats between them, and each of their places is taken once, so that no two have a
   -- connection's number in common.

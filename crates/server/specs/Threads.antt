@@ -8,6 +8,7 @@ use Rattle.server.specs.declared.socket.Socket.{Socket}
 use Rattle.server.specs.declared.task.Serves.{Serves}
 use Rattle.server.specs.declared.task.Task.{Task}
 use Rattle.turns.specs.declared.shared.Filer.{Filer}
+use Rattle.nfs_values.specs.declared.offer.Offer.{Offer}
 use Rattle.lanes.specs.Words.{filer_in, Identity}
 use Rattle.server.specs.Lanes.{by_identity, places, seats_of}
 
@@ -38,7 +39,11 @@ module _ {R : Type 0} {G : devices.Ghosts Socket} where
     pub seats : total seats_with threads ≡ 64
     pub each : (weigh : ℕ × ℕ → ℕ) → total (identity_with (λ i. weigh i.0)) threads ≡ total weigh (places (length threads))
 
-  -- These lanes are those that the threads were started with, gone on: of each its place among as many, and its queue with all that
+  -- each was started with a lane that offers just this
+  abbrev pub AllServe : Offer → List (Thread R G) → Type 0
+  AllServe offer threads = (weigh : Offer → ℕ) → total (identity_with (λ i. weigh i.1)) threads ≡ total (λ _. weigh offer) threads
+
+  -- These lanes are those that the threads were started with, gone on: of each its place among as many, what it offers, and its queue with all that
   -- was ever put into it, as often.
   abbrev pub AreOfThreads : List (Thread R G) → List (Lane Socket R G) → Type 0
   AreOfThreads threads lanes = (weigh : Identity → ℕ) → total (by_identity weigh) lanes ≡ total (identity_with weigh) threads

@@ -3,31 +3,37 @@
 ghost use Rattle.std.specs.Prelude.{◌≡◌, ◌≤◌, ◌<◌, [], IfOk, vec_len, vec_capacity};
 ghost use Rattle.std.specs.Arc.{arc_value};
 ghost use Rattle.lanes.specs.Words.{identity_in, worker_in};
-ghost use Rattle.server.specs.Lanes.{AreLanesOf, IsLaneOf};
+ghost use Rattle.server.specs.Lanes.{AllOffer, AreLanesOf, IsLaneOf};
 ghost use Rattle.server.specs.Queues.{IsNewQueue, IsReadyLane};
 
 use crate::fault::ServerFault;
 use crate::options::MOST_VOLUMES;
+use crate::plan::VolumePlan;
 use affinity::{AggregateSpec, Layout, VolumeSpec};
 use lanes::{Device, Lane};
+use nfs_values::Offer;
 use std::alloc::{AllocError, Global};
 use std::rt::Clock;
 use std::sync::Arc;
 use turns::shared_waiting::{Pass, SharedWaiting};
 use turns::{Envelope, Filer, Worker};
 
-/// The ranges by which the volumes may grow.
-const SPARE: u32 = 16;
-
-/// The ranges of each volume.
-const RANGES: u32 = 4;
-
-/// So many volumes on one aggregate.
-pub(crate) fn layout_of(alloc: Global, volumes: usize) -> Result<Layout, ServerFault>
+/// So many volumes of a plan on one aggregate.
+pub(crate) fn layout_of(
+    alloc: Global,
+    volumes: usize,
+    plan: VolumePlan,
+) -> Result<Layout, ServerFault>
     requires { volumes ≤ MOST_VOLUMES }
 {
-    let aggregates = [AggregateSpec { spare: SPARE }];
-    let specifications = [VolumeSpec::new(0, RANGES); MOST_VOLUMES];
+    let aggregates = [AggregateSpec { spare: plan.spare }];
+    let specification = VolumeSpec {
+        aggregate: 0,
+        ranges: plan.ranges,
+        stripes: plan.stripes,
+        mib: plan.mib,
+    };
+    let specifications = [specification; MOST_VOLUMES];
     match Layout::new(alloc, &aggregates, &specifications[..volumes]) {
         Ok(layout) => Ok(layout),
         Err(_fault) => Err(ServerFault::NoMemory),
@@ -72,6 +78,7 @@ fn open_lane<D, R>(
     rt: R,
     alloc: Global,
     filer: &Arc<Filer>,
+    offer: Offer,
     queue: SharedWaiting<Envelope, Layout>,
     admits: Pass<Envelope, Layout>,
     worker: Worker,
@@ -86,16 +93,19 @@ where
     requires ready { IsReadyLane (arc_value filer.now) queue admits worker }
     ensures of { IfOk result (λ opened. IsLaneOf (arc_value filer.now) opened) }
     ensures worker { IfOk result (λ opened. worker_in opened ≡ worker) }
-    ensures identity { IfOk result (λ opened. identity_in opened ≡ ((lane, lanes), queue)) }
+    ensures identity { IfOk result (λ opened.
+        identity_in opened ≡ ((lane, lanes), offer, queue)) }
 {
     let filer = Arc::try_clone(filer)?;
-    Ok(Lane::new(rt, alloc, filer, queue, admits, worker, lane, lanes))
+    Ok(Lane::new(rt, alloc, filer, offer, queue, admits, worker, lane, lanes))
 }
 
-/// All lanes of a filer, so many, with their connections over devices of one type.
+/// All lanes of a filer, so many, which read by what is offered, with their connections over
+/// devices of one type.
 pub fn open_lanes<D, R>(
     rt: R,
     alloc: Global,
+    offer: Offer,
     layout: Layout,
     verifier: [u8; 8],
     count: usize,
@@ -108,6 +118,7 @@ where
     requires none { lanes.items ≡ [] }
     requires room { count ≤ vec_capacity lanes }
     ensures lanes { IfOk result (λ made. AreLanesOf (arc_value made.0) made.1.items) }
+    ensures offer { IfOk result (λ made. AllOffer offer made.1.items) }
     ensures count { IfOk result (λ made. vec_len made.1 ≡ count) }
     ensures room { IfOk result (λ made. vec_capacity made.1 ≡ vec_capacity lanes) }
 {
@@ -127,10 +138,10 @@ where
         } = open_queue(alloc, &filer)?;
         let (first, second) = worker.split_with(&filer, &queue, &theirs, takes);
         worker = first;
-        let lane = open_lane(rt, alloc, &filer, theirs, puts, second, index, count)?;
+        let lane = open_lane(rt, alloc, &filer, offer, theirs, puts, second, index, count)?;
         lanes.push_reserved(lane);
     }
-    let lane = open_lane(rt, alloc, &filer, queue, admits, worker, 0, count)?;
+    let lane = open_lane(rt, alloc, &filer, offer, queue, admits, worker, 0, count)?;
     lanes.push_reserved(lane);
     Ok((filer, lanes))
 }

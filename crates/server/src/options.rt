@@ -2,6 +2,9 @@
 
 ghost use Rattle.std.specs.Prelude.{◌≤◌, ◌<◌};
 
+use crate::peers::Peers;
+use crate::plan::VolumePlan;
+use nfs_values::Offer;
 use std::net::SocketAddr;
 
 /// The most volumes.
@@ -10,13 +13,17 @@ pub(crate) const MOST_VOLUMES: usize = 8;
 /// The most workers.
 pub(crate) const MOST_WORKERS: usize = 64;
 
-/// Where a server listens, and how many volumes (1 to 8), workers (1 to 64) and connections it has.
-#[derive(Clone, Copy, PartialEq, Eq)]
+/// Where a server listens, how many volumes (1 to 8), workers (1 to 64) and connections it has, what
+/// it offers and to whom, and what its volumes have at the start.
+#[derive(Clone, Copy)]
 pub struct Options {
     pub address: SocketAddr,
     pub volumes: usize,
     pub workers: usize,
     pub connections: u64,
+    pub offer: Offer,
+    pub peers: Peers,
+    pub plan: VolumePlan,
     pub ghost some_volume: { 0 < volumes },
     pub ghost volumes_fit: { volumes ≤ 8 },
     pub ghost some_worker: { 0 < workers },
@@ -25,9 +32,12 @@ pub struct Options {
 
 impl Options {
     ghost use Rattle.std.specs.Prelude.{◌≡◌, IfNone, IfSome};
-    ghost use Rattle.server.specs.Asked.{IsInRange};
+    ghost use Rattle.nfs_values.specs.Offer.{basic};
+    ghost use Rattle.server.specs.Asked.{basic_plan, IsInRange};
+    ghost use Rattle.server.specs.declared.peers.Peers.TheVariants.{All};
 
-    /// These options, where the numbers are in their ranges, and else none.
+    /// These options, where the numbers are in their ranges, and else none. The offer and the plan
+    /// are the basic ones, and everybody is served.
     pub fn new(
         address: SocketAddr,
         volumes: usize,
@@ -36,7 +46,8 @@ impl Options {
     ) -> Option<Options>
         ensures given { IfSome result (λ options. options.address ≡ address
             × options.volumes ≡ volumes × options.workers ≡ workers
-            × options.connections ≡ connections) }
+            × options.connections ≡ connections × options.offer ≡ basic
+            × options.plan ≡ basic_plan × options.peers ≡ All) }
         ensures in_range { IfSome result (λ options. IsInRange volumes workers) }
         ensures refused { IfNone result (IsInRange volumes workers → ⊥) }
     {
@@ -51,6 +62,35 @@ impl Options {
             volumes,
             workers,
             connections,
+            offer: Offer::basic(),
+            peers: Peers::All,
+            plan: VolumePlan::basic(),
         })
+    }
+
+    /// The same options with another offer.
+    pub fn with_offer(self, offer: Offer) -> Options
+        ensures { result ≡ record self { offer = offer } }
+    {
+        let mut options = self;
+        options.offer = offer;
+        options
+    }
+    /// The same options, to serve these peers alone.
+    pub fn with_peers(self, peers: Peers) -> Options
+        ensures { result ≡ record self { peers = peers } }
+    {
+        let mut options = self;
+        options.peers = peers;
+        options
+    }
+
+    /// The same options, with volumes of another plan.
+    pub fn with_plan(self, plan: VolumePlan) -> Options
+        ensures { result ≡ record self { plan = plan } }
+    {
+        let mut options = self;
+        options.plan = plan;
+        options
     }
 }

@@ -1,6 +1,6 @@
 //! A server, from its start to what is left.
 
-ghost use Rattle.std.specs.Prelude.{◌≡◌, ◌<◌, ◌≤◌, ◌+◌, ℕ, [], List, length};
+ghost use Rattle.std.specs.Prelude.{◌≡◌, ◌≤◌, ◌+◌, ℕ, [], List, length};
 ghost use Rattle.std.specs.Prelude.{All, IfOk, OnOk, IfSome};
 ghost use Rattle.std.specs.Prelude.{vec_len, vec_capacity};
 ghost use Rattle.std.specs.Arc.{arc_value};
@@ -10,11 +10,11 @@ ghost use Rattle.server.specs.Ends.{IsEndOf};
 ghost use Rattle.lanes.specs.Words.{Identity};
 ghost use Rattle.server.specs.Lanes.{by_identity, seats_of, IsLaneOf};
 ghost use Rattle.server.specs.Threads.{identity_for, seats_for, AreOfThreads};
-ghost use Rattle.server.specs.Threads.{AreThreadsOf, IsTaskFor};
+ghost use Rattle.server.specs.Threads.{AllServe, AreThreadsOf, IsTaskFor};
 ghost use Rattle.server.specs.declared.socket.Socket as sockets;
 ghost use Rattle.turns.specs.declared.shared.Filer as filers;
 
-use crate::accepting::accept_all;
+use crate::accepting::{accept_all, accept_for_ever};
 use crate::common::Common;
 use crate::crew::{Mail, join_all, start_all};
 use crate::ending::{FilerEnd, end};
@@ -26,7 +26,6 @@ use crate::room::Room;
 use crate::socket::Socket;
 use crate::station::Station;
 use crate::task::{Task, Thread};
-use affinity::Layout;
 use lanes::{Device, Lane};
 use std::alloc::Global;
 use std::io::Write;
@@ -82,15 +81,19 @@ fn man_all<R: Net + Drop>(
     Ok(())
 }
 
-/// Opens a filer with so many lanes, and starts their threads. Where one can't be started those
-/// that run are stopped.
-fn start<R>(rt: R, alloc: Global, layout: Layout, workers: usize) -> Result<Running<R>, ServerFault>
+/// Opens a filer with as many lanes as the options have workers, which read by what they offer, and
+/// starts their threads. Where one can't be started those that run are stopped.
+fn start<R>(rt: R, alloc: Global, options: &Options) -> Result<Running<R>, ServerFault>
 where
     R: Threads + Wait + Clock + Net + Copy + Drop + Send + 'static,
-    requires { (0 < workers) × (workers ≤ 64) }
     ensures threads { IfOk result (λ r. AreThreadsOf (arc_value r.filer) r.threads.items) }
-    ensures count { IfOk result (λ r. length r.threads.items ≡ workers) }
+    ensures offer { IfOk result (λ r. AllServe options.now.offer r.threads.items) }
+    ensures count { IfOk result (λ r. length r.threads.items ≡ options.now.workers) }
 {
+    let (layout, workers) = (
+        layout_of(alloc, options.volumes, options.plan)?,
+        options.workers,
+    );
     let lanes = Vec::with_capacity(alloc, workers)?;
     let mut threads = Vec::with_capacity(alloc, workers)?;
     let mut tasks = Vec::with_capacity(alloc, workers)?;
@@ -100,7 +103,16 @@ where
         Ok(common) => common,
         Err(_refused) => return Err(ServerFault::NoMemory),
     };
-    let (filer, mut lanes) = open_lanes(rt, alloc, layout, verifier_now(&rt), workers, lanes)?;
+    let verifier = verifier_now(&rt);
+    let (filer, mut lanes) = open_lanes(
+        rt,
+        alloc,
+        options.offer,
+        layout,
+        verifier,
+        workers,
+        lanes,
+    )?;
     man_all(&rt, alloc, &common, &mut lanes, &mut tasks, &mut boxes)?;
     let mail = Mail { boxes, common };
     if !start_all(rt, &mut tasks, &mut threads) {
@@ -190,9 +202,45 @@ where
     R: Threads + Wait + Clock + Net + Copy + Drop + Send + 'static,
     W: Write,
 {
-    let layout = layout_of(alloc, options.volumes)?;
-    let running = start(rt, alloc, layout, options.workers)?;
+    let running = start(rt, alloc, options)?;
     let end = run(&rt, listener, options.connections, running, out)?;
     let count = end.unfinished();
     writeln!(out, "left {count}").map_err(|_| ServerFault::Output)
+}
+
+/// Serves the connections of a listener for as long as the program runs: prints `listening` and the
+/// address that it is bound to, and serves the peers that the options name. It ends where it can't
+/// begin.
+pub fn export<R, W>(
+    rt: R,
+    alloc: Global,
+    listener: &TcpListener,
+    options: &Options,
+    out: &mut W,
+) -> Result<(), ServerFault>
+where
+    R: Threads + Wait + Clock + Net + Copy + Drop + Send + 'static,
+    W: Write,
+{
+    let running = start(rt, alloc, options)?;
+    let Running {
+        filer: _filer,
+        mail,
+        threads,
+        lanes,
+        room: _,
+    } = running;
+    let printed = print_address(listener, out);
+    if printed.is_ok() {
+        accept_for_ever(
+            &rt,
+            listener,
+            &options.peers,
+            &mail.boxes,
+            &mail.common.ends,
+        );
+    }
+    mail.stop();
+    let _lanes = join_all(&rt, threads, lanes);
+    printed
 }

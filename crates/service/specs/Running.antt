@@ -8,6 +8,9 @@ use Rattle.nfs_model.specs.Home.{home_of_route, named_by}
 use Rattle.nfs_model.specs.Locate.{Effect, Fails, on_name}
 use Rattle.nfs_model.specs.Serial.Getattr.{getattr}
 use Rattle.nfs_model.specs.Serial.Setattr.{setattr}
+use Rattle.nfs_model.specs.Serial.Access.{access}
+use Rattle.nfs_model.specs.Serial.Fsinfo.{fsinfo}
+use Rattle.nfs_model.specs.Serial.Pathconf.{pathconf}
 use Rattle.nfs_model.specs.Serial.Commit.{commit}
 use Rattle.nfs_model.specs.Serial.Create.{create}
 use Rattle.nfs_model.specs.Serial.Fsstat.{fsstat}
@@ -26,7 +29,8 @@ use Rattle.affinity.specs.Tree.{IsNode}
 use Rattle.nfs_values.specs.Call.{call_of}
 use Rattle.nfs_values.specs.Reply.{reply_of}
 use Rattle.nfs_values.specs.declared.call.Call.{Call}
-use Rattle.nfs_values.specs.declared.call.Call.TheVariants.{GetAttributes, Lookup, Read, ReadDirectory, Commit}
+use Rattle.nfs_values.specs.declared.call.Call.TheVariants.{GetAttributes, Lookup, CheckAccess, Read, ReadDirectory, FilesystemInfo}
+use Rattle.nfs_values.specs.declared.call.Call.TheVariants.{PathConfiguration, Commit}
 use Rattle.nfs_model.specs.volume.Stripes.{StripeValue}
 use Rattle.filer_state.specs.state.Calls.{VolumeCall, LieIn, handle_in}
 use Rattle.filer_state.specs.state.Parcels.{FilerParcel}
@@ -72,6 +76,13 @@ IsRunInLogical call = IsInLogical (route (call_of call))
 abbrev pub IsRun : Call → Type 0
 IsRun call = IsOnState (route (call_of call))
 
+-- those of any object that tell of it by its attributes
+abbrev pub is_of_object : Call → Bool
+is_of_object (CheckAccess handle asked) = true
+is_of_object (FilesystemInfo handle) = true
+is_of_object (PathConfiguration handle) = true
+is_of_object call = false
+
 -- those under Logical that change nothing
 abbrev pub is_told : Call → Bool
 is_told (GetAttributes handle) = true
@@ -79,7 +90,7 @@ is_told (Lookup target) = true
 is_told (Read handle offset count) = true
 is_told (ReadDirectory directory cookie verifier count) = true
 is_told (Commit handle) = true
-is_told call = false
+is_told call = is_of_object call
 
 -- the fileid that a handle names
 abbrev pub fileid_in : Option Named → ℕ
@@ -97,6 +108,7 @@ abbrev pub procedure : types.Call → ℕ → Credential → Moment → VolumeSt
 procedure (types.Getattr handle) other credential moment = getattr
 procedure (types.Setattr handle set guard) other credential moment = setattr set guard moment
 procedure (types.Lookup directory name) other credential moment = on_name name moment lookup
+procedure (types.CheckAccess handle asked) other credential moment = access asked credential
 procedure (types.Read handle offset count) other credential moment = read offset count
 procedure (types.Write handle offset count written) other credential moment =
     write (record { offset = offset; count = count; written = written; moment = moment })
@@ -107,6 +119,8 @@ procedure (types.Rmdir directory name) other credential moment = on_name name mo
 procedure (types.Rename from from_name to to_name) other credential moment = λ volume fileid. rename from_name to_name moment volume fileid other
 procedure (types.Readdir directory cookie verifier count) other credential moment = readdir cookie verifier count
 procedure (types.Fsstat handle) other credential moment = fsstat
+procedure (types.Fsinfo handle) other credential moment = fsinfo
+procedure (types.Pathconf handle) other credential moment = pathconf
 procedure (types.Commit handle) other credential moment = commit
 procedure call other credential moment = λ volume fileid. Fails Stale
 

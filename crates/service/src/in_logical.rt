@@ -21,6 +21,7 @@ ghost use Rattle.service.specs.renames.Promises.{renaming_outcome};
 ghost use Rattle.service.specs.Running.{
   call_named,
   call_on,
+  is_of_object,
   is_told,
   outcome_of,
   IsRunAt,
@@ -32,8 +33,8 @@ use crate::attributes::get_attributes;
 use crate::named::fileid_here;
 use crate::outcome::{Outcome, outcome_read, outcome_written};
 use crate::renames::{
-    EntryName, PageAsked, commit, create, lookup, make_directory, read_directory, remove,
-    remove_directory, rename, set_attributes,
+    EntryName, PageAsked, check_access, commit, create, filesystem_info, lookup, make_directory,
+    path_configuration, read_directory, remove, remove_directory, rename, set_attributes,
 };
 use crate::task::Run;
 use affinity::homes::named_by;
@@ -114,6 +115,35 @@ fn tell(run: Run, held: &LogicalHeld<Files>, named: Named) -> Option<Outcome>
         Call::Commit { .. } => {
             let told = commit(held, volume, fileid);
             Some(Outcome::Replied(Reply::Success(Answer::Commit(told))))
+        }
+        _ => tell_object(run, held, named),
+    }
+}
+
+/// Runs a call on the parcels of the volume of what its handle names, where it tells of any object
+/// by its attributes.
+fn tell_object(run: Run, held: &LogicalHeld<Files>, named: Named) -> Option<Outcome>
+    requires whole { HasVolume named.volume.0 logical_lens [] (logical_before held.now) }
+    ensures told { is_some result ≡ is_of_object run.entry.call.now }
+    ensures runs { IfSome result (λ outcome. (layout : trees.Layout)
+        → RunsOn named.volume.0 logical_lens
+        (call_named layout (named_of named) (credential_of run.entry.credential)
+        (moment_of run.entry.moment) (call_of run.entry.call.now))
+        (logical_before held.now) (outcome_of outcome) (logical_before held.now)) }
+{
+    let Named { volume, fileid } = named;
+    match run.call {
+        Call::CheckAccess { handle: _, asked } => {
+            let told = check_access(held, volume, fileid, *asked, run.credential);
+            Some(Outcome::Replied(Reply::Success(Answer::CheckAccess(told))))
+        }
+        Call::FilesystemInfo { .. } => {
+            let told = filesystem_info(held, volume, fileid);
+            Some(Outcome::Replied(Reply::Success(Answer::FilesystemInfo(told))))
+        }
+        Call::PathConfiguration { .. } => {
+            let told = path_configuration(held, volume, fileid);
+            Some(Outcome::Replied(Reply::Success(Answer::PathConfiguration(told))))
         }
         _ => None,
     }

@@ -13,6 +13,6 @@ mod telling;
 pub use entry_name::EntryName;
 pub use renaming::rename;
 pub use service_names::{
-    PageAsked, commit, create, lookup, make_directory, read_directory, remove, remove_directory,
-    set_attributes, shown_now,
+    PageAsked, check_access, commit, create, filesystem_info, lookup, make_directory,
+    path_configuration, read_directory, remove, remove_directory, set_attributes, shown_now,
 };

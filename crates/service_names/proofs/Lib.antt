@@ -17,3 +17,4 @@ mod Unmade
 mod Overs
 mod News
 mod Made
+mod Objects

@@ -1,4 +1,5 @@
 pub mod Shown
+pub mod Access
 pub mod Listing
 pub mod Promises
 pub mod Changing

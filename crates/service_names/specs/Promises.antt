@@ -6,11 +6,14 @@ use Rattle.nfs_model.specs.Tree.{Logical}
 use Rattle.nfs_values.specs.Answer.{answer_of}
 use Rattle.nfs_values.specs.declared.answer.Answer.{Answer}
 use Rattle.nfs_values.specs.declared.answer.Answer.TheVariants as answers
-use Rattle.nfs_values.specs.declared.answer.Answer.TheVariants.{Lookup, ReadDirectory, Commit}
+use Rattle.nfs_values.specs.declared.answer.Answer.TheVariants.{Lookup, CheckAccess, ReadDirectory, FilesystemInfo, PathConfiguration, Commit}
 use Rattle.nfs_values.specs.declared.answer.MakeResults.{MakeResults}
 use Rattle.nfs_values.specs.declared.attributes.Change.{Change}
 use Rattle.nfs_values.specs.declared.answer.LookupResults.{LookupResults}
 use Rattle.nfs_values.specs.declared.answer.ReadDirectoryResults.{ReadDirectoryResults}
+use Rattle.nfs_values.specs.declared.answer.AccessResults.{AccessResults}
+use Rattle.nfs_values.specs.declared.answer.FilesystemInfoResults.{FilesystemInfoResults}
+use Rattle.nfs_values.specs.declared.answer.PathConfigurationResults.{PathConfigurationResults}
 use Rattle.nfs_values.specs.declared.answer.CommitResults.{CommitResults}
 use Rattle.nfs_model.specs.Work as works
 use Rattle.nfs_model.specs.Work.{Outcome, Starved}
@@ -23,7 +26,7 @@ use Rattle.filer_state.specs.state.Promises.{RightOnVolume}
 use Rattle.filer_state.specs.state.Jobs.{Replied}
 use Rattle.filer_state.specs.state.Calls.{ServesOn}
 use Rattle.filer_state.specs.changes.AttributeLaws.{setattr_call}
-use Rattle.filer_state.specs.changes.NameLaws.{lookup_call, readdir_call, commit_call}
+use Rattle.filer_state.specs.changes.NameLaws.{lookup_call, readdir_call, access_call, fsinfo_call, pathconf_call, commit_call}
 use Rattle.filer_state.specs.changes.Laws.{create_call, mkdir_call, remove_call, rmdir_call}
 
 -- An entry of LOOKUP of a name in the directory of a fileid under Logical, with this result, is right: by whatever handle and at
@@ -38,6 +41,24 @@ abbrev pub Commits : ℕ → ℕ → LogicalSet → Result CommitResults Status 
 Commits v fileid set result = (handle : List ℕ)
     → RightOnVolume v logical_lens (ServesOn (commit_call handle (Logical v) fileid) false) [] [] set
     (Replied (Success (answer_of (Commit result)))) set
+
+-- An entry of ACCESS of a fileid, of these bits for a caller, likewise (RFC 1813 section 3.3.4).
+abbrev pub ChecksAccess : ℕ → ℕ → ℕ → Credential → LogicalSet → Result AccessResults Status → Type 0
+ChecksAccess v fileid asked who set result = (handle : List ℕ)
+    → RightOnVolume v logical_lens (ServesOn (access_call handle (Logical v) fileid asked who) false) [] [] set
+    (Replied (Success (answer_of (CheckAccess result)))) set
+
+-- An entry of FSINFO of a fileid, likewise (RFC 1813 section 3.3.19).
+abbrev pub TellsInfo : ℕ → ℕ → LogicalSet → Result FilesystemInfoResults Status → Type 0
+TellsInfo v fileid set result = (handle : List ℕ)
+    → RightOnVolume v logical_lens (ServesOn (fsinfo_call handle (Logical v) fileid) false) [] [] set
+    (Replied (Success (answer_of (FilesystemInfo result)))) set
+
+-- An entry of PATHCONF of a fileid, likewise (RFC 1813 section 3.3.20).
+abbrev pub TellsPath : ℕ → ℕ → LogicalSet → Result PathConfigurationResults Status → Type 0
+TellsPath v fileid set result = (handle : List ℕ)
+    → RightOnVolume v logical_lens (ServesOn (pathconf_call handle (Logical v) fileid) false) [] [] set
+    (Replied (Success (answer_of (PathConfiguration result)))) set
 
 -- what a READDIR comes to: a reply, or memory ran out
 abbrev pub listing_outcome : Result (Result ReadDirectoryResults Status) AllocError → Outcome

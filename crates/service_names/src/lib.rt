@@ -1,7 +1,9 @@
-//! Calls on the names of a volume, on the parcels that they hold: SETATTR, LOOKUP, CREATE, MKDIR,
-//! REMOVE, RMDIR, READDIR and COMMIT; and the steps of which other calls are made.
+//! Calls on the names of a volume, on the parcels that they hold: SETATTR, LOOKUP, ACCESS, CREATE,
+//! MKDIR, REMOVE, RMDIR, READDIR, FSINFO, PATHCONF and COMMIT; and the steps of which other calls
+//! are made.
 #![tactic(auto)]
 
+mod access;
 mod attributes;
 mod cards;
 mod child;
@@ -23,6 +25,7 @@ mod removing;
 mod setting;
 mod showing;
 mod sizing;
+mod telling;
 mod touches;
 
 pub use attributes::attributes_now;
@@ -41,4 +44,5 @@ pub use removing::{remove, remove_directory};
 pub use setting::set_attributes;
 pub use showing::shown_now;
 pub use sizing::{set_inode, size_file};
+pub use telling::{check_access, filesystem_info, path_configuration};
 pub use touches::{is_same, take_touches};

@@ -54,7 +54,7 @@ filter-first test k v (e ∷ es) passes other before =
     by Greater h next =
         let fails : test e.0 ≡ false = before e.0 (found-here e es) h in
         ap (λ t. cond t (e ∷ filter (λ (x : PlacedBlock). test x.0) (put place_cmp k v es)) (filter (λ (x : PlacedBlock). test x.0)
-            (put place_cmp k v es))) fails
+        (put place_cmp k v es))) fails
         ∙ next ∙ ap (λ t. (k, v) ∷ cond t (e ∷ rest) rest) (sym fails)
 
 -- what a map without a place has past a size, and what it had before

@@ -5,14 +5,12 @@ use Rattle.std.proofs.lemmas.List.{append-nil, map-append}
 use Rattle.rpc_record.specs.Machine.{State, Next, Goes, Ends, Faults, after}
 use Rattle.rpc_record.specs.Stream.{Reading, reading_at, byte_read, read_on, read_stream}
 use Rattle.nfs_model.specs.World.{Heard, Scanned}
+use Rattle.nfs_values.specs.declared.offer.Offer.{Offer}
 use Rattle.engine_feed.specs.Codec.{heard}
 use Rattle.engine_feed.specs.Streams.{fault_at, served_of, scan_stream}
 
 abbrev pub joined : List Heard → Scanned → Scanned
 joined hs s = record { served = hs ++ s.served; fault = s.fault }
-
-abbrev pub scanned : Reading → Scanned
-scanned r = served_of (map heard r.records) (fault_at r.at)
 
 served-append : (rs others : List (Result Heard ℕ)) (fault : Option ℕ) → (served_of rs None).fault ≡ None
     → served_of (rs ++ others) fault ≡ joined (served_of rs None).served (served_of others fault)
@@ -31,8 +29,6 @@ no-fault : (rs : List (Result Heard ℕ)) (fault : Option ℕ) → (served_of rs
 no-fault [] fault e = e
 no-fault (Ok h ∷ rs) fault e = no-fault rs fault e
 no-fault (Err n ∷ rs) fault e = absurd cc
-
--- ---- bytes that were read
 
 read_on-append : (r : Reading) (xs ys : List ℕ) → read_on r (xs ++ ys) ≡ read_on (read_on r xs) ys
 read_on-append r [] ys = refl
@@ -63,64 +59,70 @@ read-stays : (records : List (List ℕ)) (bytes : List ℕ)
 read-stays records [] = refl
 read-stays records (b ∷ bytes) = read-stays records bytes
 
--- ---- streams
+module _ (offer : Offer) where
+  abbrev pub scanned : Reading → Scanned
+  scanned r = served_of (map (heard offer) r.records) (fault_at r.at)
 
--- a stream without a fault, and bytes that make these records
-pub scan-grows : (stream bytes : List ℕ) (made : List (List ℕ)) (at : Option State) → (scan_stream stream).fault ≡ None
-    → read_stream (stream ++ bytes) ≡ record { records = (read_stream stream).records ++ made; at = at }
-    → scan_stream (stream ++ bytes) ≡ joined (scan_stream stream).served (served_of (map heard made) (fault_at at))
-scan-grows stream bytes made at sound e =
-    let records = (read_stream stream).records in
-    let others = served_of (map heard made) (fault_at at) in
-    let same : scan_stream stream ≡ served_of (map heard records) None =
-    ap (λ (f : Option ℕ). served_of (map heard records) f) (no-fault (map heard records) (fault_at
-    (read_stream stream).at) sound) in
-    ap scanned e
-    ∙ ap (λ (rs : List (Result Heard ℕ)). served_of rs (fault_at at)) (map-append heard records made)
-    ∙ served-append (map heard records) (map heard made) (fault_at at) (ap (λ (s : Scanned). s.fault) (sym same) ∙ sound)
-    ∙ ap (λ (s : Scanned). joined s.served others) (sym same)
+  -- ---- bytes that were read
 
--- a stream at fault, by where it stands
-stays-at : (stream rest : List ℕ) (n : ℕ) (at : Option State) → (read_stream stream).at ≡ at → (scan_stream stream).fault ≡ Some n
-    → scan_stream (stream ++ rest) ≡ scan_stream stream
-stays-at stream rest n None e f =
-    let r = read_stream stream in
-    let is : r ≡ record { records = r.records; at = None } = ap (λ
-    (at : Option State). record { records = r.records; at = at }) e in
-    ap scanned (read_on-append _ stream rest ∙ ap (λ (x : Reading). read_on x rest) is ∙ read-stays r.records rest ∙ sym is)
-stays-at stream rest n (Some state) e f =
-    let r = read_stream stream in
-    let more = read-grows r rest in
-    let at = (read_on r rest).at in
-    let same : scan_stream stream ≡ served_of (map heard r.records) None = ap (λ (a : Option State). served_of
-    (map heard r.records) (fault_at a)) e in
-    let read : read_stream (stream ++ rest) ≡ record { records = r.records ++ more.0; at = at } =
-    read_on-append _ stream rest ∙ ap (λ (rs : List (List ℕ)). record { records = rs; at = at }) more.1 in
-    ap scanned read
-    ∙ ap (λ (rs : List (Result Heard ℕ)). served_of rs (fault_at at)) (map-append heard r.records more.0)
-    ∙ served-stays (map heard r.records) (map heard more.0) (fault_at at) n (ap (λ (s : Scanned). s.fault) (sym same) ∙ f)
-    ∙ sym same
+  -- ---- streams
 
--- a stream at fault stays so, and serves no more
-pub scan-stays : (stream rest : List ℕ) (n : ℕ) → (scan_stream stream).fault ≡ Some n
-    → scan_stream (stream ++ rest) ≡ scan_stream stream
-scan-stays stream rest n f = stays-at stream rest n (read_stream stream).at refl f
+  -- a stream without a fault, and bytes that make these records
+  pub scan-grows : (stream bytes : List ℕ) (made : List (List ℕ)) (at : Option State) → (scan_stream offer stream).fault ≡ None
+      → read_stream (stream ++ bytes) ≡ record { records = (read_stream stream).records ++ made; at = at }
+      → scan_stream offer (stream ++ bytes) ≡ joined (scan_stream offer stream).served (served_of (map (heard offer) made) (fault_at at))
+  scan-grows stream bytes made at sound e =
+      let records = (read_stream stream).records in
+      let others = served_of (map (heard offer) made) (fault_at at) in
+      let same : scan_stream offer stream ≡ served_of (map (heard offer) records) None =
+      ap (λ (f : Option ℕ). served_of (map (heard offer) records) f) (no-fault (map (heard offer) records) (fault_at
+      (read_stream stream).at) sound) in
+      ap scanned e
+      ∙ ap (λ (rs : List (Result Heard ℕ)). served_of rs (fault_at at)) (map-append (heard offer) records made)
+      ∙ served-append (map (heard offer) records) (map (heard offer) made) (fault_at at) (ap (λ (s : Scanned). s.fault) (sym same) ∙ sound)
+      ∙ ap (λ (s : Scanned). joined s.served others) (sym same)
 
--- what a stream serves, one that goes on serves first
-served-first : (stream rest : List ℕ) (fault : Option ℕ) → (scan_stream stream).fault ≡ fault
-    → (others : List Heard) × ((scan_stream (stream ++ rest)).served ≡ (scan_stream stream).served ++ others)
-served-first stream rest (Some n) f = ([], ap (λ (s : Scanned). s.served) (scan-stays stream rest n f) ∙ sym (append-nil _))
-served-first stream rest None f =
-    let r = read_stream stream in
-    let more = read-grows r rest in
-    let at = (read_on r rest).at in
-    let read : read_stream (stream ++ rest) ≡ record { records = r.records ++ more.0; at = at } =
-    read_on-append _ stream rest ∙ ap (λ (rs : List (List ℕ)). record { records = rs; at = at }) more.1 in (
-      (served_of (map heard more.0) (fault_at at)).served,
-      ap (λ (s : Scanned). s.served)
-          (scan-grows stream rest more.0 at f read),
-    )
+  -- a stream at fault, by where it stands
+  stays-at : (stream rest : List ℕ) (n : ℕ) (at : Option State) → (read_stream stream).at ≡ at → (scan_stream offer stream).fault ≡ Some n
+      → scan_stream offer (stream ++ rest) ≡ scan_stream offer stream
+  stays-at stream rest n None e f =
+      let r = read_stream stream in
+      let is : r ≡ record { records = r.records; at = None } = ap (λ
+      (at : Option State). record { records = r.records; at = at }) e in
+      ap scanned (read_on-append _ stream rest ∙ ap (λ (x : Reading). read_on x rest) is ∙ read-stays r.records rest ∙ sym is)
+  stays-at stream rest n (Some state) e f =
+      let r = read_stream stream in
+      let more = read-grows r rest in
+      let at = (read_on r rest).at in
+      let same : scan_stream offer stream ≡ served_of (map (heard offer) r.records) None = ap (λ (a : Option State). served_of
+      (map (heard offer) r.records) (fault_at a)) e in
+      let read : read_stream (stream ++ rest) ≡ record { records = r.records ++ more.0; at = at } =
+      read_on-append _ stream rest ∙ ap (λ (rs : List (List ℕ)). record { records = rs; at = at }) more.1 in
+      ap scanned read
+      ∙ ap (λ (rs : List (Result Heard ℕ)). served_of rs (fault_at at)) (map-append (heard offer) r.records more.0)
+      ∙ served-stays (map (heard offer) r.records) (map (heard offer) more.0) (fault_at at) n (ap (λ (s : Scanned). s.fault) (sym same) ∙ f)
+      ∙ sym same
 
-pub scan-first : (stream rest : List ℕ) → (others : List Heard)
-    × ((scan_stream (stream ++ rest)).served ≡ (scan_stream stream).served ++ others)
-scan-first stream rest = served-first stream rest (scan_stream stream).fault refl
+  -- a stream at fault stays so, and serves no more
+  pub scan-stays : (stream rest : List ℕ) (n : ℕ) → (scan_stream offer stream).fault ≡ Some n
+      → scan_stream offer (stream ++ rest) ≡ scan_stream offer stream
+  scan-stays stream rest n f = stays-at stream rest n (read_stream stream).at refl f
+
+  -- what a stream serves, one that goes on serves first
+  served-first : (stream rest : List ℕ) (fault : Option ℕ) → (scan_stream offer stream).fault ≡ fault
+      → (others : List Heard) × ((scan_stream offer (stream ++ rest)).served ≡ (scan_stream offer stream).served ++ others)
+  served-first stream rest (Some n) f = ([], ap (λ (s : Scanned). s.served) (scan-stays stream rest n f) ∙ sym (append-nil _))
+  served-first stream rest None f =
+      let r = read_stream stream in
+      let more = read-grows r rest in
+      let at = (read_on r rest).at in
+      let read : read_stream (stream ++ rest) ≡ record { records = r.records ++ more.0; at = at } =
+      read_on-append _ stream rest ∙ ap (λ (rs : List (List ℕ)). record { records = rs; at = at }) more.1 in (
+        (served_of (map (heard offer) more.0) (fault_at at)).served,
+        ap (λ (s : Scanned). s.served)
+            (scan-grows stream rest more.0 at f read),
+      )
+
+  pub scan-first : (stream rest : List ℕ) → (others : List Heard)
+      × ((scan_stream offer (stream ++ rest)).served ≡ (scan_stream offer stream).served ++ others)
+  scan-first stream rest = served-first stream rest (scan_stream offer stream).fault refl

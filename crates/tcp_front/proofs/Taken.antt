@@ -6,11 +6,13 @@ use Rattle.std.proofs.Math.Seq.{take-add}
 use Rattle.rpc_record.specs.Machine.{State}
 use Rattle.nfs_model.specs.Tree.{Layout}
 use Rattle.nfs_model.specs.World.{Heard}
+use Rattle.nfs_values.specs.declared.offer.Offer.{Offer}
 use Rattle.tcp_front.specs.declared.stream.Stream.{Stream}
 use Rattle.tcp_front.specs.declared.stream.Stopped.{Stopped}
 use Rattle.tcp_front.specs.declared.stream.Stopped.TheVariants as stops
+use Rattle.tcp_front.specs.declared.next_record.Next.TheVariants as nexts
 use Rattle.tcp_front.specs.Arrivals.{Arrival, arrivals, arrival_of, most_records}
-use Rattle.tcp_front.specs.Steps.{Adds, Brings, BringsRecord, HasGiven, HasGivenRecord, HasTaken, StopsAs}
+use Rattle.tcp_front.specs.Steps.{Adds, Brings, BringsRecord, Comes, HasGiven, HasGivenRecord, HasTaken, StopsAs}
 use Rattle.tcp_front.proofs.Adding.{adds-more, adds-nothing, brings-first, brings-longer, brings-more, first-longer, first-more}
 
 -- ---- what records come to, one after another
@@ -30,38 +32,38 @@ ComesMore {S} came = (s t u : S) (xs ys : List Arrival) → came s xs t → came
 
 -- ---- where bytes stop
 
-stops-longer : (s s' : Stream) (bytes rest : List ℕ) (hs : List Heard) (stopped : Stopped) → StopsAs s bytes hs (Some stopped) s'
-    → StopsAs s (bytes ++ rest) hs (Some stopped) s'
-stops-longer s s' bytes rest hs (stops.Fault fault) h = brings-longer s.reassembler bytes rest hs _ h
-stops-longer s s' bytes rest hs stops.NoMemory h = first-longer s.reassembler bytes rest hs h
-stops-longer s s' bytes rest hs stops.NumbersUsed h = (first-longer s.reassembler bytes rest hs h.0, h.1)
+stops-longer : (offer : Offer) (s s' : Stream) (bytes rest : List ℕ) (hs : List Heard) (stopped : Stopped) → StopsAs offer s bytes hs (Some stopped) s'
+    → StopsAs offer s (bytes ++ rest) hs (Some stopped) s'
+stops-longer offer s s' bytes rest hs (stops.Fault fault) h = brings-longer offer s.reassembler bytes rest hs _ h
+stops-longer offer s s' bytes rest hs stops.NoMemory h = first-longer offer s.reassembler bytes rest hs h
+stops-longer offer s s' bytes rest hs stops.NumbersUsed h = (first-longer offer s.reassembler bytes rest hs h.0, h.1)
 
-stops-more : (s t s' : Stream) (xs ys : List ℕ) (hs ks : List Heard) (stopped : Option Stopped)
-    → Adds s.reassembler xs hs t.reassembler
-    → StopsAs t ys ks stopped s' → StopsAs s (xs ++ ys) (hs ++ ks) stopped s'
-stops-more s t s' xs ys hs ks None a h = (adds-more s.reassembler t.reassembler xs ys hs a ks s'.reassembler h.0, h.1)
-stops-more s t s' xs ys hs ks (Some (stops.Fault fault)) a h = brings-more s.reassembler t.reassembler xs ys hs a ks _ h
-stops-more s t s' xs ys hs ks (Some stops.NoMemory) a h = first-more s.reassembler t.reassembler xs ys hs a ks h
-stops-more s t s' xs ys hs ks (Some stops.NumbersUsed) a h = (first-more s.reassembler t.reassembler xs ys hs a ks h.0, h.1)
+stops-more : (offer : Offer) (s t s' : Stream) (xs ys : List ℕ) (hs ks : List Heard) (stopped : Option Stopped)
+    → Adds offer s.reassembler xs hs t.reassembler
+    → StopsAs offer t ys ks stopped s' → StopsAs offer s (xs ++ ys) (hs ++ ks) stopped s'
+stops-more offer s t s' xs ys hs ks None a h = (adds-more offer s.reassembler t.reassembler xs ys hs a ks s'.reassembler h.0, h.1)
+stops-more offer s t s' xs ys hs ks (Some (stops.Fault fault)) a h = brings-more offer s.reassembler t.reassembler xs ys hs a ks _ h
+stops-more offer s t s' xs ys hs ks (Some stops.NoMemory) a h = first-more offer s.reassembler t.reassembler xs ys hs a ks h
+stops-more offer s t s' xs ys hs ks (Some stops.NumbersUsed) a h = (first-more offer s.reassembler t.reassembler xs ys hs a ks h.0, h.1)
 
 -- ---- taking
 
-module _ {S : Type 0} (came : S → List Arrival → S → Type 0) (layout : Layout) where
+module _ {S : Type 0} (came : S → List Arrival → S → Type 0) (layout : Layout) (offer : Offer) where
   -- no bytes
   pub taken-none : (s : Stream) (sink : S) → came sink [] sink → s.records < most_records
-      → HasTaken came layout s sink [] None s sink
+      → HasTaken came layout offer s sink [] None s sink
   taken-none s sink none few = record {
     heard = [];
     given = none;
     count = omega arith;
     same = refl;
-    stops = (adds-nothing s.reassembler, few);
+    stops = (adds-nothing offer s.reassembler, few);
   }
 
   -- bytes after those that were taken
   pub taken-more : ComesMore came → (s t s' : Stream) (sink mid sink' : S) (xs ys : List ℕ) (stopped : Option Stopped)
-      → HasTaken came layout s sink xs None t mid → HasTaken came layout t mid ys stopped s' sink'
-      → HasTaken came layout s sink (xs ++ ys) stopped s' sink'
+      → HasTaken came layout offer s sink xs None t mid → HasTaken came layout offer t mid ys stopped s' sink'
+      → HasTaken came layout offer s sink (xs ++ ys) stopped s' sink'
   taken-more law s t s' sink mid sink' xs ys stopped f g =
       let c = s.connection.0 in
       let at : arrivals layout t.connection.0 t.records g.heard ≡ arrivals layout c (s.records + length f.heard) g.heard =
@@ -76,25 +78,42 @@ module _ {S : Type 0} (came : S → List Arrival → S → Type 0) (layout : Lay
             (law sink mid sink' _ _ f.given (subst (λ (l : List Arrival). came mid l sink') at g.given));
         count = omega (arith, both, first, second);
         same = g.same ∙ f.same;
-        stops = stops-more s t s' xs ys f.heard g.heard stopped f.stops.0 g.stops;
+        stops = stops-more offer s t s' xs ys f.heard g.heard stopped f.stops.0 g.stops;
       }
 
   -- the bytes behind a stop
   pub taken-longer : (s s' : Stream) (sink sink' : S) (bytes rest : List ℕ) (stopped : Stopped)
-      → HasTaken came layout s sink bytes (Some stopped) s' sink'
-      → HasTaken came layout s sink (bytes ++ rest) (Some stopped) s' sink'
+      → HasTaken came layout offer s sink bytes (Some stopped) s' sink'
+      → HasTaken came layout offer s sink (bytes ++ rest) (Some stopped) s' sink'
   taken-longer s s' sink sink' bytes rest stopped h = record {
     heard = h.heard;
     given = h.given;
     count = h.count;
     same = h.same;
-    stops = stops-longer s s' bytes rest h.heard stopped h.stops;
+    stops = stops-longer offer s s' bytes rest h.heard stopped h.stops;
   }
+
+  -- bytes that make no record whole
+  pub taken-part : (s s' : Stream) (sink : S) (bytes : List ℕ) → came sink [] sink → Adds offer s.reassembler bytes [] s'.reassembler
+      → s'.connection ≡ s.connection → s'.records ≡ s.records → s.records < most_records
+      → HasTaken came layout offer s sink bytes None s' sink
+  taken-part s s' sink bytes none a c r few =
+      record { heard = []; given = none; count = omega (arith, r); same = c; stops = (a, omega (arith, r, few)) }
+
+  -- bytes at which it stopped before a record was whole
+  pub taken-stopped : (s s' : Stream) (sink : S) (bytes : List ℕ) (taken : ℕ) (at : Option State) (stopped : Stopped) → came sink [] sink
+      → Comes offer s.reassembler bytes taken (nexts.Stopped stopped) at → s'.connection ≡ s.connection → s'.records ≡ s.records
+      → HasTaken came layout offer s sink (take taken bytes) (Some stopped) s' sink
+  taken-stopped s s' sink bytes taken at (stops.Fault fault) none h c r =
+      record { heard = []; given = none; count = omega (arith, r); same = c; stops = h }
+  taken-stopped s s' sink bytes taken at stops.NoMemory none h c r =
+      record { heard = []; given = none; count = omega (arith, r); same = c; stops = h }
+  taken-stopped s s' sink bytes taken at stops.NumbersUsed none h c r = absurd h
 
   -- a record that is whole and is given on
   pub taken-record : (s t s' : Stream) (sink sink' : S) (bytes : List ℕ) (h : Heard) (stopped : Option Stopped)
-      → Adds s.reassembler bytes (h ∷ []) t.reassembler → t.connection ≡ s.connection → t.records ≡ s.records
-      → HasGiven came layout t sink h stopped s' sink' → HasTaken came layout s sink bytes stopped s' sink'
+      → Adds offer s.reassembler bytes (h ∷ []) t.reassembler → t.connection ≡ s.connection → t.records ≡ s.records
+      → HasGiven came layout t sink h stopped s' sink' → HasTaken came layout offer s sink bytes stopped s' sink'
   taken-record s t s' sink sink' bytes h None a c r g =
       let count = ap (λ (x : Stream). x.records) g.1 in
       let few = g.2 in
@@ -106,7 +125,7 @@ module _ {S : Type 0} (came : S → List Arrival → S → Type 0) (layout : Lay
         count = omega (arith, count, r);
         same = ap (λ (x : Stream). x.connection) g.1 ∙ c;
         stops = (
-          subst (λ (x : Option State). Adds s.reassembler bytes (h ∷ []) x) (sym (ap (λ
+          subst (λ (x : Option State). Adds offer s.reassembler bytes (h ∷ []) x) (sym (ap (λ
               (x : Stream). x.reassembler) g.1)) a,
           omega (arith, count, few),
         );
@@ -119,7 +138,7 @@ module _ {S : Type 0} (came : S → List Arrival → S → Type 0) (layout : Lay
         given = g.0;
         count = omega (arith, count, r);
         same = ap (λ (x : Stream). x.connection) g.1 ∙ c;
-        stops = brings-first s.reassembler t.reassembler bytes [] (h ∷ []) a;
+        stops = brings-first offer s.reassembler t.reassembler bytes [] (h ∷ []) a;
       }
   taken-record s t s' sink sink' bytes h (Some stops.NumbersUsed) a c r g =
       let count = ap (λ (x : Stream). x.records) g.1 in
@@ -131,13 +150,13 @@ module _ {S : Type 0} (came : S → List Arrival → S → Type 0) (layout : Lay
             ∙ ap (λ (n : ℕ). arrival_of layout s.connection.0 n h ∷ []) r) g.0;
         count = omega (arith, count, r);
         same = ap (λ (x : Stream). x.connection) g.1 ∙ c;
-        stops = (brings-first s.reassembler t.reassembler bytes (h ∷ []) [] a, omega (arith, count, all));
+        stops = (brings-first offer s.reassembler t.reassembler bytes (h ∷ []) [] a, omega (arith, count, all));
       }
 
   -- a whole record
   pub taken-whole : (s t s' : Stream) (sink sink' : S) (bytes : List ℕ) (r : Result Heard ℕ) (stopped : Option Stopped)
-      → BringsRecord s.reassembler bytes r t.reassembler → t.connection ≡ s.connection → t.records ≡ s.records
-      → HasGivenRecord came layout t sink r stopped s' sink' → HasTaken came layout s sink bytes stopped s' sink'
+      → BringsRecord offer s.reassembler bytes r t.reassembler → t.connection ≡ s.connection → t.records ≡ s.records
+      → HasGivenRecord came layout t sink r stopped s' sink' → HasTaken came layout offer s sink bytes stopped s' sink'
   taken-whole s t s' sink sink' bytes (Ok h) stopped brings c r g = taken-record s t s' sink sink' bytes h stopped brings c r g
   taken-whole s t s' sink sink' bytes (Err n) None brings c r g = absurd g.0
   taken-whole s t s' sink sink' bytes (Err n) (Some (stops.Fault fault)) brings c r g =
@@ -147,7 +166,7 @@ module _ {S : Type 0} (came : S → List Arrival → S → Type 0) (layout : Lay
         given = g.1;
         count = omega (arith, count, r);
         same = ap (λ (x : Stream). x.connection) g.2 ∙ c;
-        stops = subst (λ (k : ℕ). Brings s.reassembler bytes [] (Some k)) (sym g.0) brings;
+        stops = subst (λ (k : ℕ). Brings offer s.reassembler bytes [] (Some k)) (sym g.0) brings;
       }
   taken-whole s t s' sink sink' bytes (Err n) (Some stops.NoMemory) brings c r g = absurd g.0
   taken-whole s t s' sink sink' bytes (Err n) (Some stops.NumbersUsed) brings c r g = absurd g.0
@@ -161,27 +180,27 @@ rest-is xs m = take_all (length xs - m) (drop m xs) (omega (arith, length-drop m
 pub next-part : (xs : List ℕ) (m n : ℕ) → take m xs ++ take n (take (length xs - m) (drop m xs)) ≡ take (m + n) xs
 next-part xs m n = ap (λ (l : List ℕ). take m xs ++ take n l) (rest-is xs m) ∙ sym (take-add m n xs)
 
-module _ {S : Type 0} (came : S → List Arrival → S → Type 0) (layout : Layout) (law : ComesMore came) (s t s' : Stream)
+module _ {S : Type 0} (came : S → List Arrival → S → Type 0) (layout : Layout) (offer : Offer) (law : ComesMore came) (s t s' : Stream)
     (sink mid sink' : S)
-    (xs : List ℕ) (m n : ℕ) (before : HasTaken came layout s sink (take m xs) None t mid) where
+    (xs : List ℕ) (m n : ℕ) (before : HasTaken came layout offer s sink (take m xs) None t mid) where
   -- a part more, whatever stopped it
-  pub part-taken : (stopped : Option Stopped) → HasTaken came layout t mid (take n (take (length xs - m) (drop m xs))) stopped s' sink'
-      → HasTaken came layout s sink (take (m + n) xs) stopped s' sink'
-  part-taken stopped h = subst (λ (l : List ℕ). HasTaken came layout s sink l stopped s' sink') (next-part xs m n)
-      (taken-more came layout law s t s' sink mid sink' _ _ stopped before h)
+  pub part-taken : (stopped : Option Stopped) → HasTaken came layout offer t mid (take n (take (length xs - m) (drop m xs))) stopped s' sink'
+      → HasTaken came layout offer s sink (take (m + n) xs) stopped s' sink'
+  part-taken stopped h = subst (λ (l : List ℕ). HasTaken came layout offer s sink l stopped s' sink') (next-part xs m n)
+      (taken-more came layout offer law s t s' sink mid sink' _ _ stopped before h)
 
   -- a part more
-  pub next-taken : HasTaken came layout t mid (take n (take (length xs - m) (drop m xs))) None s' sink'
-      → HasTaken came layout s sink (take (m + n) xs) None s' sink'
-  next-taken h = subst (λ (l : List ℕ). HasTaken came layout s sink l None s' sink') (next-part xs m n)
-      (taken-more came layout law s t s' sink mid sink' _ _ None before h)
+  pub next-taken : HasTaken came layout offer t mid (take n (take (length xs - m) (drop m xs))) None s' sink'
+      → HasTaken came layout offer s sink (take (m + n) xs) None s' sink'
+  next-taken h = subst (λ (l : List ℕ). HasTaken came layout offer s sink l None s' sink') (next-part xs m n)
+      (taken-more came layout offer law s t s' sink mid sink' _ _ None before h)
 
   -- a part at which it stopped
-  pub last-taken : (stopped : Stopped) → HasTaken came layout t mid (take n (take (length xs - m) (drop m xs)))
+  pub last-taken : (stopped : Stopped) → HasTaken came layout offer t mid (take n (take (length xs - m) (drop m xs)))
       (Some stopped) s' sink'
-      → HasTaken came layout s sink xs (Some stopped) s' sink'
+      → HasTaken came layout offer s sink xs (Some stopped) s' sink'
   last-taken stopped h =
-      let some = subst (λ (l : List ℕ). HasTaken came layout s sink l (Some stopped) s' sink') (next-part xs m n)
-      (taken-more came layout law s t s' sink mid sink' _ _ (Some stopped) before h) in
-      subst (λ (l : List ℕ). HasTaken came layout s sink l (Some stopped) s' sink') (take-append-drop (m + n) xs)
-      (taken-longer came layout s s' sink sink' (take (m + n) xs) (drop (m + n) xs) stopped some)
+      let some = subst (λ (l : List ℕ). HasTaken came layout offer s sink l (Some stopped) s' sink') (next-part xs m n)
+      (taken-more came layout offer law s t s' sink mid sink' _ _ (Some stopped) before h) in
+      subst (λ (l : List ℕ). HasTaken came layout offer s sink l (Some stopped) s' sink') (take-append-drop (m + n) xs)
+      (taken-longer came layout offer s s' sink sink' (take (m + n) xs) (drop (m + n) xs) stopped some)

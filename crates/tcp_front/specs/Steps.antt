@@ -4,6 +4,7 @@ use Rattle.std.specs.Global.{Global}
 use Rattle.rpc_record.specs.Machine.{State, start}
 use Rattle.rpc_record.specs.Stream.{read_stream}
 use Rattle.nfs_values.specs.declared.number.ConnectionNumber.{ConnectionNumber}
+use Rattle.nfs_values.specs.declared.offer.Offer.{Offer}
 use Rattle.nfs_model.specs.Types.{Asked}
 use Rattle.nfs_model.specs.Tree.{Layout}
 use Rattle.nfs_model.specs.World.{Heard}
@@ -25,46 +26,46 @@ abbrev pub given_of : Layout → Origin → Asked → List Arrival
 given_of layout origin asked =
     arrival_of layout origin.connection.0 origin.number (record { xid = origin.xid; asked = asked }) ∷ []
 
--- ---- bytes after a stream that stands here and is at no fault
+-- ---- bytes after a stream that stands here and is at no fault, by what is offered
 
 -- what holds of each such stream
-abbrev pub After : Option State → (List ℕ → Type 0) → Type 0
-After at P = (fed : List ℕ) → (read_stream fed).at ≡ at → (scan_stream fed).fault ≡ None → P fed
+abbrev pub After : Offer → Option State → (List ℕ → Type 0) → Type 0
+After offer at P = (fed : List ℕ) → (read_stream fed).at ≡ at → (scan_stream offer fed).fault ≡ None → P fed
 
 -- the bytes bring it to these records more, and to this fault
-abbrev pub Brings : Option State → List ℕ → List Heard → Option ℕ → Type 0
-Brings at bytes heard fault =
-    After at (λ fed. scan_stream (fed ++ bytes) ≡ record { served = (scan_stream fed).served ++ heard; fault = fault })
+abbrev pub Brings : Offer → Option State → List ℕ → List Heard → Option ℕ → Type 0
+Brings offer at bytes heard fault =
+    After offer at (λ fed. scan_stream offer (fed ++ bytes) ≡ record { served = (scan_stream offer fed).served ++ heard; fault = fault })
 
 -- the bytes bring it to these records more at least
-abbrev pub BringsFirst : Option State → List ℕ → List Heard → Type 0
-BringsFirst at bytes heard =
-    After at (λ fed. (others : List Heard)
-    × ((scan_stream (fed ++ bytes)).served ≡ (scan_stream fed).served ++ (heard ++ others)))
+abbrev pub BringsFirst : Offer → Option State → List ℕ → List Heard → Type 0
+BringsFirst offer at bytes heard =
+    After offer at (λ fed. (others : List Heard)
+    × ((scan_stream offer (fed ++ bytes)).served ≡ (scan_stream offer fed).served ++ (heard ++ others)))
 
 -- and it stands here then
-abbrev pub Leads : Option State → List ℕ → Option State → Type 0
-Leads at bytes at' = After at (λ fed. (read_stream (fed ++ bytes)).at ≡ at')
+abbrev pub Leads : Offer → Option State → List ℕ → Option State → Type 0
+Leads offer at bytes at' = After offer at (λ fed. (read_stream (fed ++ bytes)).at ≡ at')
 
 -- these records more, at no fault, and it stands here then
-pub record Adds (at : Option State) (bytes : List ℕ) (heard : List Heard) (at' : Option State) : Type 0 where
-  pub brings : Brings at bytes heard None
-  pub leads : Leads at bytes at'
+pub record Adds (offer : Offer) (at : Option State) (bytes : List ℕ) (heard : List Heard) (at' : Option State) : Type 0 where
+  pub brings : Brings offer at bytes heard None
+  pub leads : Leads offer at bytes at'
 
 -- ---- one record
 
 -- bytes bring this record more and no fault, or this fault, and it stands here then
-abbrev pub BringsRecord : Option State → List ℕ → Result Heard ℕ → Option State → Type 0
-BringsRecord at bytes (Ok h) at' = Adds at bytes (h ∷ []) at'
-BringsRecord at bytes (Err fault) at' = Brings at bytes [] (Some fault)
+abbrev pub BringsRecord : Offer → Option State → List ℕ → Result Heard ℕ → Option State → Type 0
+BringsRecord offer at bytes (Ok h) at' = Adds offer at bytes (h ∷ []) at'
+BringsRecord offer at bytes (Err fault) at' = Brings offer at bytes [] (Some fault)
 
 -- so many of the bytes came to this
-abbrev pub Comes : Option State → List ℕ → ℕ → Next → Option State → Type 0
-Comes at bytes taken nexts.More at' = (taken ≡ length bytes) × Adds at (take taken bytes) [] at'
-Comes at bytes taken (nexts.Record made) at' = (0 < taken) × BringsRecord at (take taken bytes) (heard made.items) at'
-Comes at bytes taken (nexts.Stopped (stops.Fault fault)) at' = Brings at (take taken bytes) [] (Some (fault_number fault))
-Comes at bytes taken (nexts.Stopped stops.NoMemory) at' = BringsFirst at (take taken bytes) []
-Comes at bytes taken (nexts.Stopped stops.NumbersUsed) at' = ⊥
+abbrev pub Comes : Offer → Option State → List ℕ → ℕ → Next → Option State → Type 0
+Comes offer at bytes taken nexts.More at' = (taken ≡ length bytes) × Adds offer at (take taken bytes) [] at'
+Comes offer at bytes taken (nexts.Record made) at' = (0 < taken) × BringsRecord offer at (take taken bytes) (heard offer made.items) at'
+Comes offer at bytes taken (nexts.Stopped (stops.Fault fault)) at' = Brings offer at (take taken bytes) [] (Some (fault_number fault))
+Comes offer at bytes taken (nexts.Stopped stops.NoMemory) at' = BringsFirst offer at (take taken bytes) []
+Comes offer at bytes taken (nexts.Stopped stops.NumbersUsed) at' = ⊥
 
 -- The record was given on under the next number; or memory ran out, and it wasn't.
 abbrev pub HasGiven : {S : Type 0} → (S → List Arrival → S → Type 0) → Layout → Stream → S → Heard → Option Stopped
@@ -94,20 +95,20 @@ HasGivenRecord came layout s sink (Err n) stopped s' sink' = IsFaultOf n stopped
 -- ---- many records
 
 -- what stopped the taking of bytes, of whose records these were given on
-abbrev pub StopsAs : Stream → List ℕ → List Heard → Option Stopped → Stream → Type 0
-StopsAs s bytes heard None s' = Adds s.reassembler bytes heard s'.reassembler × (s'.records < most_records)
-StopsAs s bytes heard (Some (stops.Fault fault)) s' = Brings s.reassembler bytes heard (Some (fault_number fault))
-StopsAs s bytes heard (Some stops.NoMemory) s' = BringsFirst s.reassembler bytes heard
-StopsAs s bytes heard (Some stops.NumbersUsed) s' = BringsFirst s.reassembler bytes heard × (s'.records ≡ most_records)
+abbrev pub StopsAs : Offer → Stream → List ℕ → List Heard → Option Stopped → Stream → Type 0
+StopsAs offer s bytes heard None s' = Adds offer s.reassembler bytes heard s'.reassembler × (s'.records < most_records)
+StopsAs offer s bytes heard (Some (stops.Fault fault)) s' = Brings offer s.reassembler bytes heard (Some (fault_number fault))
+StopsAs offer s bytes heard (Some stops.NoMemory) s' = BringsFirst offer s.reassembler bytes heard
+StopsAs offer s bytes heard (Some stops.NumbersUsed) s' = BringsFirst offer s.reassembler bytes heard × (s'.records ≡ most_records)
 
--- Bytes were taken, and records of theirs given on, under the numbers that follow.
-pub record HasTaken {S : Type 0} (came : S → List Arrival → S → Type 0) (layout : Layout) (s : Stream) (sink : S)
+-- Bytes were taken, and records of theirs given on by what is offered, under the numbers that follow.
+pub record HasTaken {S : Type 0} (came : S → List Arrival → S → Type 0) (layout : Layout) (offer : Offer) (s : Stream) (sink : S)
     (bytes : List ℕ) (stopped : Option Stopped) (s' : Stream) (sink' : S) : Type 0 where
   pub heard : List Heard
   pub given : came sink (arrivals layout s.connection.0 s.records heard) sink'
   pub count : s'.records ≡ s.records + length heard
   pub same : s'.connection ≡ s.connection
-  pub stops : StopsAs s bytes heard stopped s'
+  pub stops : StopsAs offer s bytes heard stopped s'
 
 -- the end that a stop is
 abbrev pub end_of : Stopped → ReadEnd

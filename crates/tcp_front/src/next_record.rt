@@ -1,6 +1,7 @@
 //! Bytes up to the end of a record.
 
 ghost use Rattle.std.specs.Prelude.{◌≤◌, length};
+ghost use Rattle.nfs_values.specs.declared.offer.Offer.{Offer};
 ghost use Rattle.tcp_front.specs.Steps.{Comes};
 
 use crate::stream::Stopped;
@@ -18,10 +19,11 @@ pub(crate) enum Next {
     Stopped(Stopped),
 }
 
-/// Takes bytes up to the end of at most one record.
+/// Takes bytes up to the end of at most one record: what they bring, whatever is offered.
 pub(crate) fn next_record(reassembler: &mut Reassembler, bytes: &[u8]) -> (usize, Next)
     ensures within { result.0 ≤ length bytes.now }
-    ensures comes { Comes reassembler.old bytes.now result.0 result.1 reassembler.new }
+    ensures comes { (offer : Offer)
+        → Comes offer reassembler.old bytes.now result.0 result.1 reassembler.new }
 {
     let (taken, step) = reassembler.feed(bytes);
     match step {

@@ -12,7 +12,7 @@ use crate::sink::RecordSink;
 use crate::stream::{Stopped, Stream};
 use crate::taking::take_all;
 use affinity::Layout;
-use nfs_values::ConnectionNumber;
+use nfs_values::{ConnectionNumber, Offer};
 use rpc_record::Reassembler;
 use std::alloc::{AllocError, Global};
 use std::io::Read;
@@ -39,16 +39,18 @@ fn end_of(stopped: Stopped) -> ReadEnd
     }
 }
 
-/// Reads a connection to its end, with a block for what one read gives: the calls of its records
-/// are admitted under their homes, in order and each once, and records that need no worker are
-/// answered (RFC 5531 sections 9 and 11). All records of one read are given on before the sink is
-/// told of them. The sink always has room: where it has no place for a call it waits for one.
+/// Reads a connection to its end, with a block for what one read gives: the calls of its records,
+/// read by what is offered, are admitted under their homes, in order and each once, and records
+/// that need no worker are answered (RFC 5531 sections 9 and 11). All records of one read are given
+/// on before the sink is told of them. The sink always has room: where it has no place for a call
+/// it waits for one.
 pub fn read_loop_in<W: Wait, R: Read, S: RecordSink>(
     rt: &W,
     alloc: Global,
     reader: &mut Counted<R>,
     block: &mut [u8],
     layout: &Layout,
+    offer: Offer,
     connection: ConnectionNumber,
     sink: &mut S,
 ) -> ReadEnd
@@ -56,8 +58,8 @@ pub fn read_loop_in<W: Wait, R: Read, S: RecordSink>(
     requires some { 0 < length block.old }
     requires always { (s : S) → S.room s ≡ true }
     requires layout { S.layout sink.old ≡ layout_of layout.now }
-    ensures { HasRead R.remaining S.came (layout_of layout.now) connection.0 reader.old sink.old
-        result reader.new sink.new }
+    ensures { HasRead R.remaining S.came (layout_of layout.now) offer connection.0 reader.old
+        sink.old result reader.new sink.new }
 {
     let mut stream = Stream {
         alloc,
@@ -71,7 +73,7 @@ pub fn read_loop_in<W: Wait, R: Read, S: RecordSink>(
             Ok(size) => size,
             Err(_) => return ReadEnd::ReaderFailed,
         };
-        let stopped = take_all(&mut stream, sink, layout, &block[..size]);
+        let stopped = take_all(&mut stream, sink, layout, offer, &block[..size]);
         sink.wake();
         match stopped {
             None => {}
@@ -87,17 +89,22 @@ pub fn read_loop<W: Wait, R: Read, S: RecordSink>(
     alloc: Global,
     reader: &mut Counted<R>,
     layout: &Layout,
+    offer: Offer,
     connection: ConnectionNumber,
     sink: &mut S,
 ) -> ReadEnd
     requires room { may_fail reader.old }
     requires always { (s : S) → S.room s ≡ true }
     requires layout { S.layout sink.old ≡ layout_of layout.now }
-    ensures { HasRead R.remaining S.came (layout_of layout.now) connection.0 reader.old sink.old
-        result reader.new sink.new }
+    ensures { HasRead R.remaining S.came (layout_of layout.now) offer connection.0 reader.old
+        sink.old result reader.new sink.new }
 {
     match new_block(alloc) {
-        Ok(mut block) => read_loop_in(rt, alloc, reader, &mut block, layout, connection, sink),
+        Ok(mut block) => {
+            read_loop_in(
+                rt, alloc, reader, &mut block, layout, offer, connection, sink,
+            )
+        },
         Err(_refused) => ReadEnd::NoMemory,
     }
 }

@@ -13,6 +13,7 @@ use crate::sink::RecordSink;
 use crate::stream::{MOST_RECORDS, Stopped, Stream};
 use affinity::Layout;
 use engine_feed::{Heard, RecordRead, read_record};
+use nfs_values::Offer;
 use scheduler::Origin;
 
 /// Gives on a record under the next number.
@@ -47,21 +48,22 @@ fn give_next<S: RecordSink>(
     }
 }
 
-/// Reads a whole record, and gives it on under the next number.
+/// Reads a whole record by what is offered, and gives it on under the next number.
 fn give_record<S: RecordSink>(
     stream: &mut Stream,
     sink: &mut S,
     layout: &Layout,
+    offer: Offer,
     record: Vec<u8>,
 ) -> Option<Stopped>
     requires room { S.room sink.old ≡ true }
     requires few { stream.old.records < most_records }
     requires layout { S.layout sink.old ≡ layout_of layout.now }
     ensures given { HasGivenRecord S.came (layout_of layout.now) stream.old sink.old
-        (heard record.items) result stream.new sink.new }
+        (heard offer record.items) result stream.new sink.new }
     ensures layout { S.layout sink.new ≡ S.layout sink.old }
 {
-    match read_record(stream.alloc, record) {
+    match read_record(stream.alloc, record, offer) {
         RecordRead::Heard(heard) => give_next(stream, sink, layout, heard),
         RecordRead::Undecoded(_xid) => Some(Stopped::NoMemory),
         RecordRead::Fault(fault) => Some(Stopped::Fault(fault)),
@@ -73,6 +75,7 @@ fn take_record<S: RecordSink>(
     stream: &mut Stream,
     sink: &mut S,
     layout: &Layout,
+    offer: Offer,
     bytes: &[u8],
 ) -> (usize, Option<Stopped>)
     requires room { S.room sink.old ≡ true }
@@ -80,14 +83,14 @@ fn take_record<S: RecordSink>(
     requires layout { S.layout sink.old ≡ layout_of layout.now }
     ensures within { result.0 ≤ length bytes.now }
     ensures some { result.1 ≡ None → 0 < length bytes.now → 0 < result.0 }
-    ensures taken { HasTaken S.came (layout_of layout.now) stream.old sink.old
+    ensures taken { HasTaken S.came (layout_of layout.now) offer stream.old sink.old
         (take result.0 bytes.now) result.1 stream.new sink.new }
     ensures layout { S.layout sink.new ≡ S.layout sink.old }
 {
     let (taken, next) = next_record(&mut stream.reassembler, bytes);
     match next {
         Next::More => (taken, None),
-        Next::Record(record) => (taken, give_record(stream, sink, layout, record)),
+        Next::Record(record) => (taken, give_record(stream, sink, layout, offer, record)),
         Next::Stopped(stopped) => (taken, Some(stopped)),
     }
 }
@@ -98,18 +101,19 @@ pub(crate) fn take_all<S: RecordSink>(
     stream: &mut Stream,
     sink: &mut S,
     layout: &Layout,
+    offer: Offer,
     bytes: &[u8],
 ) -> Option<Stopped>
     requires always { (s : S) → S.room s ≡ true }
     requires few { stream.old.records < most_records }
     requires layout { S.layout sink.old ≡ layout_of layout.now }
-    ensures taken { HasTaken S.came (layout_of layout.now) stream.old sink.old
+    ensures taken { HasTaken S.came (layout_of layout.now) offer stream.old sink.old
         bytes.now result stream.new sink.new }
     ensures layout { S.layout sink.new ≡ S.layout sink.old }
 {
     let mut taken = 0;
     while taken < bytes.len() {
-        let (size, stopped) = take_record(stream, sink, layout, &bytes[taken..]);
+        let (size, stopped) = take_record(stream, sink, layout, offer, &bytes[taken..]);
         match stopped {
             None => taken += size,
             Some(stopped) => return Some(stopped),
@@ -124,12 +128,13 @@ pub fn take_some<S: RecordSink>(
     stream: &mut Stream,
     sink: &mut S,
     layout: &Layout,
+    offer: Offer,
     bytes: &[u8],
 ) -> (usize, Option<Stopped>)
     requires few { stream.old.records < most_records }
     requires layout { S.layout sink.old ≡ layout_of layout.now }
     ensures within { result.0 ≤ length bytes.now }
-    ensures taken { HasTaken S.came (layout_of layout.now) stream.old sink.old
+    ensures taken { HasTaken S.came (layout_of layout.now) offer stream.old sink.old
         (take result.0 bytes.now) result.1 stream.new sink.new }
     ensures layout { S.layout sink.new ≡ S.layout sink.old }
     ensures room { result.1 ≡ None → result.0 < length bytes.now → S.room sink.new ≡ false }
@@ -139,7 +144,7 @@ pub fn take_some<S: RecordSink>(
         if !sink.has_room() {
             return (taken, None);
         }
-        let (size, stopped) = take_record(stream, sink, layout, &bytes[taken..]);
+        let (size, stopped) = take_record(stream, sink, layout, offer, &bytes[taken..]);
         match stopped {
             None => taken += size,
             Some(stopped) => return (taken + size, Some(stopped)),

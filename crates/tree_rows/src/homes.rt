@@ -6,7 +6,7 @@ use affinity::homes::home_of;
 use affinity::{Affinity, Layout};
 use nfs_values::{
     BytesToWrite, Call, Cookie, CreateMode, FileHandle, Name, SetAttributes, SetTime, Target,
-    Verifier, VolumeNumber,
+    UnsupportedProcedure, Verifier, VolumeNumber,
 };
 use std::alloc::Global;
 use std::mem;
@@ -75,6 +75,19 @@ fn homes_by_handle(rt: HostRuntime) {
         handle: handle(1, 2),
     };
     is_logical(&rt, &layout, commit);
+    let access = Call::CheckAccess {
+        handle: handle(1, 2),
+        asked: 63,
+    };
+    is_logical(&rt, &layout, access);
+    let info = Call::FilesystemInfo {
+        handle: handle(1, 1),
+    };
+    is_logical(&rt, &layout, info);
+    let path = Call::PathConfiguration {
+        handle: handle(1, 1),
+    };
+    is_logical(&rt, &layout, path);
     mem::forget(layout);
 }
 
@@ -148,6 +161,12 @@ fn calls_without_home(rt: HostRuntime) {
         count: 1,
     };
     has_home(&rt, &layout, Call::Null, None);
+    let link = Call::Unsupported(UnsupportedProcedure::MakeLink);
+    has_home(&rt, &layout, link, None);
+    let info = Call::FilesystemInfo {
+        handle: handle(2, 1),
+    };
+    has_home(&rt, &layout, info, None);
     has_home(&rt, &layout, status(2), None);
     has_home(&rt, &layout, short, None);
     has_home(&rt, &layout, growth(2), None);

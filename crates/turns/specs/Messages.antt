@@ -2,6 +2,7 @@
 use Rattle.std.specs.Prelude.{◌≤◌, ℕ, length}
 use Rattle.nfs_model.specs.Tree as trees
 use Rattle.nfs_values.specs.Call.{call_of}
+use Rattle.nfs_values.specs.Credential.{no_gids}
 use Rattle.nfs_values.specs.declared.call.Call.{Call}
 use Rattle.nfs_values.specs.declared.call.Call.TheVariants as calls
 use Rattle.nfs_values.specs.declared.credential.Credential.{Credential}
@@ -38,10 +39,14 @@ call_in (asks.Call call credential) = call
 call_in (asks.Refused refusal) = calls.Null
 call_in asks.Undecoded = calls.Null
 
+-- a credential without a meaning
+abbrev pub no_credential : Credential
+no_credential = record { uid = 0; gid = 0; gids = no_gids }
+
 abbrev pub credential_in : Asked → Credential
 credential_in (asks.Call call credential) = credential
-credential_in (asks.Refused refusal) = record { uid = 0; gid = 0 }
-credential_in asks.Undecoded = record { uid = 0; gid = 0 }
+credential_in (asks.Refused refusal) = no_credential
+credential_in asks.Undecoded = no_credential
 
 -- the message of a call, with this room for its reply
 abbrev pub message_of_call : ServedCall → ℕ → Message
@@ -59,7 +64,7 @@ message_in (Serve s) room = message_of_call s room
 message_in (Inner call) room = record {
   origin = record { connection = record { 0 = 0 }; number = 0; xid = 0 };
   call = calls.Null;
-  credential = record { uid = 0; gid = 0 };
+  credential = no_credential;
   affinity = affinities.Serial;
   room = room;
 }

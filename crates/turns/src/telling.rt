@@ -20,6 +20,7 @@ fn has_memory(answer: &Answer) -> bool {
         Answer::GetAttributes(_) => false,
         Answer::SetAttributes(_) => false,
         Answer::Lookup(_) => false,
+        Answer::CheckAccess(_) => false,
         Answer::Write(_) => false,
         Answer::Create(_) => false,
         Answer::MakeDirectory(_) => false,
@@ -27,8 +28,14 @@ fn has_memory(answer: &Answer) -> bool {
         Answer::RemoveDirectory(_) => false,
         Answer::Rename(_) => false,
         Answer::FilesystemStatus(_) => false,
+        Answer::FilesystemInfo(_) => false,
+        Answer::PathConfiguration(_) => false,
         Answer::Commit(_) => false,
+        Answer::Unsupported(_) => false,
         Answer::Grow(_) => false,
+        Answer::Mount(_) => false,
+        Answer::ListMounts => false,
+        Answer::ListExports(_) => false,
     }
 }
 
@@ -99,6 +106,10 @@ fn has_names(call: &Call) -> bool {
             set: _,
             guard: _,
         } => false,
+        Call::CheckAccess {
+            handle: _,
+            asked: _,
+        } => false,
         Call::Read {
             handle: _,
             offset: _,
@@ -111,12 +122,16 @@ fn has_names(call: &Call) -> bool {
             count: _,
         } => false,
         Call::FilesystemStatus { handle: _ } => false,
+        Call::FilesystemInfo { handle: _ } => false,
+        Call::PathConfiguration { handle: _ } => false,
         Call::Commit { handle: _ } => false,
+        Call::Unsupported(_) => false,
         Call::Census => false,
         Call::Grow {
             volume: _,
             ranges: _,
         } => false,
+        Call::Mount(_) => true,
     }
 }
 

@@ -1,9 +1,10 @@
 //! Lists of events, given to an engine.
 
 use crate::scripts::events::{holds, same};
-use crate::scripts::texts::{NULL, NULL_REPLY};
+use crate::scripts::texts::{NULL, NULL_REPLY, NULL_UNAVAILABLE};
 use affinity::{AggregateSpec, Layout, VolumeSpec};
 use filer_commands::replay::{ConnectionNumber, Engine, Event, Worker, WorkerNumber, WorkerRun};
+use nfs_values::{Offer, Procedure};
 use std::process::Abort;
 
 /// The bytes that hex digits stand for.
@@ -11,14 +12,25 @@ fn decoded(rt: &(impl Abort + AllocGlobal), digits: &str) -> Vec<u8> {
     hex::decode(rt.alloc(), digits.as_bytes()).expect(rt, "hex digits")
 }
 
-/// An engine of two workers after these events.
-fn played(rt: &(impl Abort + AllocGlobal), events: &[Event<'_>]) -> Engine {
-    let alloc = rt.alloc();
+/// A layout of one volume.
+fn layout(rt: &(impl Abort + AllocGlobal)) -> Layout {
     let aggregate = AggregateSpec { spare: 1 };
     let volume = VolumeSpec::new(0, 1);
-    let layout = Layout::new(alloc, &[aggregate], &[volume]).ok();
-    let layout = layout.expect(rt, "a layout");
-    Engine::play(alloc, layout, [0; 8], 2, events).expect(rt, "memory")
+    let layout = Layout::new(rt.alloc(), &[aggregate], &[volume]).ok();
+    layout.expect(rt, "a layout")
+}
+
+/// An engine of two workers after these events.
+fn played(rt: &(impl Abort + AllocGlobal), events: &[Event<'_>]) -> Engine {
+    Engine::play(rt.alloc(), layout(rt), [0; 8], 2, events).expect(rt, "memory")
+}
+
+/// An engine with this offer after these events.
+fn offering(rt: &(impl Abort + AllocGlobal), offer: Offer, events: &[Event<'_>]) -> Engine {
+    let made = Engine::offering(rt.alloc(), offer, layout(rt), [0; 8], 2);
+    let mut engine = made.expect(rt, "memory");
+    holds(rt, engine.run(events) == 0);
+    engine
 }
 
 /// Whether a worker runs and carries nothing.
@@ -52,4 +64,18 @@ fn lists_of_events_are_played(rt: HostRuntime) {
         },
     ]);
     holds(&rt, refused == 1 && engine.finished().len() == 2);
+}
+
+#[test]
+fn engines_answer_what_they_offer(rt: HostRuntime) {
+    let call = decoded(&rt, NULL);
+    let fed = Event::Feed {
+        connection: ConnectionNumber(0),
+        bytes: &call,
+    };
+    let fewer = Offer::basic().without(Procedure::Null);
+    let engine = offering(&rt, fewer, &[Event::Open, fed]);
+    shows(&rt, &engine, &call, &decoded(&rt, NULL_UNAVAILABLE));
+    let engine = offering(&rt, fewer.with(Procedure::Null), &[Event::Open, fed]);
+    shows(&rt, &engine, &call, &decoded(&rt, NULL_REPLY));
 }

@@ -1,10 +1,14 @@
--- What LOOKUP, READDIR and COMMIT answer, by what is under Logical (RFC 1813 sections 3.3.3, 3.3.16 and 3.3.21).
+-- What LOOKUP, READDIR and COMMIT answer, and ACCESS, FSINFO and PATHCONF, by what is under Logical (RFC 1813 sections 3.3.3, 3.3.16,
+-- 3.3.21, 3.3.4, 3.3.19 and 3.3.20).
 use Rattle.std.specs.Prelude.{ℕ, Bool, min, not, ◌&&◌, ◌==◌, List, replicate, Option, Some, None, if◌then◌else◌}
+use Rattle.std.specs.Option.{option_map}
 use Rattle.std.specs.FinMap.{get}
-use Rattle.nfs_model.specs.Types.{Status, Shown, Answer, LookupDone, CommitDone, Failed, Stale, NotDirectory, NoEntry, BadCookie, Invalid}
+use Rattle.nfs_model.specs.Types.{Credential, Status, Shown, Answer, LookupDone, AccessDone, FsinfoDone, PathconfDone, CommitDone}
+use Rattle.nfs_model.specs.Types.{Failed, Stale, NotDirectory, NoEntry, BadCookie, Invalid}
 use Rattle.nfs_model.specs.Server.{DirectoryNode, handle_bytes, most_bytes}
 use Rattle.nfs_model.specs.Shown.{before_of}
 use Rattle.nfs_model.specs.Names.{same_name, dot, dot_dot, name_fault}
+use Rattle.nfs_model.specs.Serial.Access.{access_given}
 use Rattle.nfs_model.specs.Serial.Readdir.{all_listed, above_cookie, readdir_from}
 use Rattle.nfs_model.specs.volume.Directories.{DirectoryValue, fileid_found}
 use Rattle.nfs_model.specs.volume.Inodes.{InodeKind, RegularFile, Folder, Inode}
@@ -90,3 +94,23 @@ inode_committed v fileid s (Some inode) =
 
 abbrev pub commit_answer : ℕ → ℕ → LogicalSet → Answer
 commit_answer v fileid s = inode_committed v fileid s (get s.own.inodes.inodes fileid)
+
+-- ---- ACCESS, FSINFO and PATHCONF
+
+-- the attributes of a node
+abbrev pub object_in : ℕ → ℕ → LogicalSet → Option Shown
+object_in v fileid s = option_map (λ inode. shown_inode v fileid inode (file_touch s.stripes fileid)) (get s.own.inodes.inodes fileid)
+
+-- what is told by them, or STALE
+abbrev pub object_told_by : (Shown → Answer) → Option Shown → Answer
+object_told_by answer None = Failed Stale 1
+object_told_by answer (Some object) = answer object
+
+abbrev pub access_answer : ℕ → ℕ → ℕ → Credential → LogicalSet → Answer
+access_answer v fileid asked who s = object_told_by (λ object. AccessDone object (access_given who asked object)) (object_in v fileid s)
+
+abbrev pub fsinfo_answer : ℕ → ℕ → LogicalSet → Answer
+fsinfo_answer v fileid s = object_told_by (λ object. FsinfoDone object s.own.largest) (object_in v fileid s)
+
+abbrev pub pathconf_answer : ℕ → ℕ → LogicalSet → Answer
+pathconf_answer v fileid s = object_told_by PathconfDone (object_in v fileid s)

@@ -1,17 +1,20 @@
--- What calls on names come to, by what is under Logical (RFC 1813 sections 3.3.3, 3.3.16 and 3.3.21).
+-- What calls on names come to, by what is under Logical (RFC 1813 sections 3.3.3, 3.3.4, 3.3.16, 3.3.19, 3.3.20 and 3.3.21).
 use Rattle.std.specs.Prelude.{◌≡◌, ℕ, Bool, false, List, []}
-use Rattle.nfs_model.specs.Types.{Moment, Listed, Shown, Lookup, Readdir, Commit, ReaddirDone, Success}
+use Rattle.nfs_model.specs.Types.{Moment, Credential, Listed, Shown, Lookup, CheckAccess, Readdir, Fsinfo, Pathconf, Commit, ReaddirDone, Success}
 use Rattle.nfs_model.specs.Tree.{Affinity}
 use Rattle.nfs_model.specs.Locate.{on_name}
 use Rattle.nfs_model.specs.Serial.Lookup.{lookup}
 use Rattle.nfs_model.specs.Serial.Readdir.{readdir}
+use Rattle.nfs_model.specs.Serial.Access.{access}
+use Rattle.nfs_model.specs.Serial.Fsinfo.{fsinfo}
+use Rattle.nfs_model.specs.Serial.Pathconf.{pathconf}
 use Rattle.nfs_model.specs.Serial.Commit.{commit}
 use Rattle.filer_state.specs.state.Jobs.{Replied}
 use Rattle.filer_state.specs.state.Lenses.{LogicalSet, logical_lens}
 use Rattle.filer_state.specs.state.Promises.{RightOnVolume}
 use Rattle.nfs_model.specs.Work.{Starved}
 use Rattle.filer_state.specs.state.Calls.{VolumeCall, ServesOn, WorksOn}
-use Rattle.filer_state.specs.names.Answers.{lookup_answer, readdir_answer, commit_answer}
+use Rattle.filer_state.specs.names.Answers.{lookup_answer, readdir_answer, commit_answer, access_answer, fsinfo_answer, pathconf_answer}
 
 abbrev pub lookup_call : List ℕ → Affinity → ℕ → List ℕ → Moment → VolumeCall
 lookup_call handle node fileid name moment =
@@ -27,6 +30,16 @@ readdir_call handle node fileid cookie verifier count = record {
 
 abbrev pub commit_call : List ℕ → Affinity → ℕ → VolumeCall
 commit_call handle node fileid = record { call = Commit handle; node = node; fileid = fileid; run = λ volume. commit volume fileid }
+
+abbrev pub access_call : List ℕ → Affinity → ℕ → ℕ → Credential → VolumeCall
+access_call handle node fileid asked who =
+    record { call = CheckAccess handle asked; node = node; fileid = fileid; run = λ volume. access asked who volume fileid }
+
+abbrev pub fsinfo_call : List ℕ → Affinity → ℕ → VolumeCall
+fsinfo_call handle node fileid = record { call = Fsinfo handle; node = node; fileid = fileid; run = λ volume. fsinfo volume fileid }
+
+abbrev pub pathconf_call : List ℕ → Affinity → ℕ → VolumeCall
+pathconf_call handle node fileid = record { call = Pathconf handle; node = node; fileid = fileid; run = λ volume. pathconf volume fileid }
 
 -- Whatever the rest of the volume is: the answer told by inodes, entries and touches is the serial server's, and nothing changes.
 abbrev pub LookupIsRight : Type 0
@@ -49,3 +62,18 @@ abbrev pub CommitIsRight : Type 0
 CommitIsRight = (v fileid : ℕ) (handle : List ℕ) (node : Affinity) (set : LogicalSet)
     → RightOnVolume v logical_lens (ServesOn (commit_call handle node fileid) false) [] [] set
     (Replied (Success (commit_answer v fileid set))) set
+
+abbrev pub AccessIsRight : Type 0
+AccessIsRight = (v fileid : ℕ) (handle : List ℕ) (node : Affinity) (asked : ℕ) (who : Credential) (set : LogicalSet)
+    → RightOnVolume v logical_lens (ServesOn (access_call handle node fileid asked who) false) [] [] set
+    (Replied (Success (access_answer v fileid asked who set))) set
+
+abbrev pub FsinfoIsRight : Type 0
+FsinfoIsRight = (v fileid : ℕ) (handle : List ℕ) (node : Affinity) (set : LogicalSet)
+    → RightOnVolume v logical_lens (ServesOn (fsinfo_call handle node fileid) false) [] [] set
+    (Replied (Success (fsinfo_answer v fileid set))) set
+
+abbrev pub PathconfIsRight : Type 0
+PathconfIsRight = (v fileid : ℕ) (handle : List ℕ) (node : Affinity) (set : LogicalSet)
+    → RightOnVolume v logical_lens (ServesOn (pathconf_call handle node fileid) false) [] [] set
+    (Replied (Success (pathconf_answer v fileid set))) set

@@ -3,3 +3,4 @@ pub mod Telling
 pub mod Folders
 pub mod Lookup
 pub mod Listing
+pub mod Objects

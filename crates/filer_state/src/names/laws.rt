@@ -5,14 +5,20 @@ ghost use Rattle.filer_state.specs.names.Laws.{
   ReaddirIsRight,
   ReaddirMayStarve,
   CommitIsRight,
+  AccessIsRight,
+  FsinfoIsRight,
+  PathconfIsRight,
 };
 
-/// On every sound volume with the parcels that are held, LOOKUP, READDIR and COMMIT answer as the
-/// serial server does, change nothing, and all stays sound. A READDIR that would list may find no
-/// memory.
+/// On every sound volume with the parcels that are held, LOOKUP, READDIR, COMMIT, ACCESS, FSINFO
+/// and PATHCONF answer as the serial server does, change nothing, and all stays sound. A READDIR
+/// that would list may find no memory.
 pub fn name_calls_are_right()
     ensures lookup { LookupIsRight }
     ensures readdir { ReaddirIsRight }
     ensures starved { ReaddirMayStarve }
     ensures commit { CommitIsRight }
+    ensures access { AccessIsRight }
+    ensures fsinfo { FsinfoIsRight }
+    ensures pathconf { PathconfIsRight }
 {}

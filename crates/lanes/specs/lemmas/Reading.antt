@@ -5,6 +5,7 @@ use Rattle.std.specs.Io.KnownBytes.{Consumes}
 use Rattle.nfs_model.specs.Tree.{Layout}
 use Rattle.nfs_model.specs.World.{Heard, Scanned}
 use Rattle.outboxes.specs.Messages.{ReplyMessage}
+use Rattle.nfs_values.specs.declared.offer.Offer.{Offer}
 use Rattle.engine_feed.specs.Numbers.{fault_number}
 use Rattle.engine_feed.specs.Streams.{scan_stream}
 use Rattle.tcp_front.specs.declared.stream.Stopped.{Stopped}
@@ -22,9 +23,9 @@ use Rattle.lanes.specs.Writing.{IsWrittenTo, Writes}
 
 -- ---- what bytes more come to
 
-first-more : (s : Stream) (records : ℕ) (read cut : List ℕ) (before heard : List Heard) → Stands None s.reassembler records read before
-    → BringsFirst s.reassembler cut heard → AreFirst (before ++ heard) (read ++ cut)
-first-more s records read cut before heard g h =
+first-more : (offer : Offer) (s : Stream) (records : ℕ) (read cut : List ℕ) (before heard : List Heard) → Stands offer None s.reassembler records read before
+    → BringsFirst offer s.reassembler cut heard → AreFirst offer (before ++ heard) (read ++ cut)
+first-more offer s records read cut before heard g h =
     let served = ap (λ (x : Scanned). x.served) g.0 in
     let fault = ap (λ (x : Scanned). x.fault) g.0 in
     let more = h read g.1 fault in (
@@ -32,29 +33,29 @@ first-more s records read cut before heard g h =
       more.1 ∙ ap (λ (l : List Heard). l ++ (heard ++ more.0)) served ∙ sym (append_assoc before heard more.0),
     )
 
-stands-more : (stopped : Option Stopped) (s s' : Stream) (records : ℕ) (read cut : List ℕ) (before heard : List Heard)
-    → Stands None s.reassembler records read before → StopsAs s cut heard stopped s'
-    → Stands stopped s'.reassembler s'.records (read ++ cut) (before ++ heard)
-stands-more None s s' records read cut before heard g h =
+stands-more : (offer : Offer) (stopped : Option Stopped) (s s' : Stream) (records : ℕ) (read cut : List ℕ) (before heard : List Heard)
+    → Stands offer None s.reassembler records read before → StopsAs offer s cut heard stopped s'
+    → Stands offer stopped s'.reassembler s'.records (read ++ cut) (before ++ heard)
+stands-more offer None s s' records read cut before heard g h =
     let served = ap (λ (x : Scanned). x.served) g.0 in
     let fault = ap (λ (x : Scanned). x.fault) g.0 in (
       h.0.brings read g.1 fault ∙ ap (λ (l : List Heard). record { served = l ++ heard; fault = None }) served,
       h.0.leads read g.1 fault,
       h.1,
     )
-stands-more (Some (stops.Fault fault)) s s' records read cut before heard g h =
+stands-more offer (Some (stops.Fault fault)) s s' records read cut before heard g h =
     let served = ap (λ (x : Scanned). x.served) g.0 in
     let none = ap (λ (x : Scanned). x.fault) g.0 in
     h read g.1 none ∙ ap (λ (l : List Heard). record { served = l ++ heard; fault = Some (fault_number fault) }) served
-stands-more (Some stops.NoMemory) s s' records read cut before heard g h = first-more s records read cut before heard g h
-stands-more (Some stops.NumbersUsed) s s' records read cut before heard g h = (first-more s records read cut before heard g h.0, h.1)
+stands-more offer (Some stops.NoMemory) s s' records read cut before heard g h = first-more offer s records read cut before heard g h
+stands-more offer (Some stops.NumbersUsed) s s' records read cut before heard g h = (first-more offer s records read cut before heard g h.0, h.1)
 
 module _ {D S : Type 0} (unread : D → Option (List ℕ)) (opened now now' : D) (came : S → List Arrival → S → Type 0)
-    (room : S → Bool) (layout : Layout) (s s' : Stream) (sink sink' : S) (kept kept' read : List ℕ) (stopped : Option Stopped)
+    (room : S → Bool) (layout : Layout) (offer : Offer) (s s' : Stream) (sink sink' : S) (kept kept' read : List ℕ) (stopped : Option Stopped)
     (before : List Heard) (consumed : Consumes (unread now) (unread now') read) where
-  reads-more : IsReadFrom unread opened now s kept None before
-      → (h : HasCut came room layout s sink (kept ++ read) stopped s' sink' kept')
-      → IsReadFrom unread opened now' s' kept' stopped (before ++ h.taken.heard)
+  reads-more : IsReadFrom offer unread opened now s kept None before
+      → (h : HasCut came room layout offer s sink (kept ++ read) stopped s' sink' kept')
+      → IsReadFrom offer unread opened now' s' kept' stopped (before ++ h.taken.heard)
   reads-more g h =
       let all : (g.read ++ (kept ++ g.lost)) ++ read ≡ (g.read ++ h.cut) ++ (kept' ++ h.lost) =
       ap (λ (l : List ℕ). (g.read ++ (kept ++ l)) ++ read) (g.none_lost refl)
@@ -68,22 +69,22 @@ module _ {D S : Type 0} (unread : D → Option (List ℕ)) (opened now now' : D)
         lost = h.lost;
         taken = subst (Consumes (unread opened) (unread now')) all
             (Consumes-trans (unread opened) (unread now) (unread now') _ read g.taken consumed);
-        stands = stands-more stopped s s' s.records g.read h.cut before h.taken.heard g.stands h.taken.stops;
+        stands = stands-more offer stopped s s' s.records g.read h.cut before h.taken.heard g.stands h.taken.stops;
         count = omega (arith, first, second, both);
         none_lost = h.none_lost;
       }
 
-  pub cuts-on : (before_stopped : Option Stopped) (heard : List Heard) → IsReadFrom unread opened now s kept before_stopped before
-      → Cuts came room layout before_stopped s sink kept read heard stopped s' sink' kept'
-      → IsReadFrom unread opened now' s' kept' stopped (before ++ heard)
+  pub cuts-on : (before_stopped : Option Stopped) (heard : List Heard) → IsReadFrom offer unread opened now s kept before_stopped before
+      → Cuts came room layout offer before_stopped s sink kept read heard stopped s' sink' kept'
+      → IsReadFrom offer unread opened now' s' kept' stopped (before ++ heard)
   cuts-on None heard g h =
-      subst (λ (l : List Heard). IsReadFrom unread opened now' s' kept' stopped (before ++ l)) h.1 (reads-more g h.0)
+      subst (λ (l : List Heard). IsReadFrom offer unread opened now' s' kept' stopped (before ++ l)) h.1 (reads-more g h.0)
   cuts-on (Some stop) heard g (given, none, unread_none, is, same, kept_is) =
       let all : (g.read ++ (kept ++ g.lost)) ++ read ≡ g.read ++ (kept' ++ g.lost) =
       ap (λ (l : List ℕ). (g.read ++ (kept ++ g.lost)) ++ l) unread_none ∙ append-nil (g.read ++ (kept ++ g.lost))
       ∙ ap (λ (l : List ℕ). g.read ++ (l ++ g.lost)) (sym kept_is) in
       let heard_is : before ≡ before ++ heard = sym (append-nil before) ∙ ap (λ (l : List Heard). before ++ l) (sym none) in
-      let moved : IsReadFrom unread opened now' s kept' (Some stop) before = record {
+      let moved : IsReadFrom offer unread opened now' s kept' (Some stop) before = record {
         read = g.read;
         lost = g.lost;
         taken = subst (Consumes (unread opened) (unread now')) all
@@ -92,19 +93,19 @@ module _ {D S : Type 0} (unread : D → Option (List ℕ)) (opened now now' : D)
         count = g.count;
         none_lost = g.none_lost;
       } in
-      subst (λ (l : List Heard). IsReadFrom unread opened now' s' kept' stopped l) heard_is
-      (subst (λ (x : Stream). IsReadFrom unread opened now' x kept' stopped before) (sym same)
-      (subst (λ (x : Option Stopped). IsReadFrom unread opened now' s kept' x before) (sym is) moved))
+      subst (λ (l : List Heard). IsReadFrom offer unread opened now' s' kept' stopped l) heard_is
+      (subst (λ (x : Stream). IsReadFrom offer unread opened now' x kept' stopped before) (sym same)
+      (subst (λ (x : Option Stopped). IsReadFrom offer unread opened now' s kept' x before) (sym is) moved))
 
 -- ---- one call
 
 module _ {D S : Type 0} (unread written : D → Option (List ℕ)) (came : S → List Arrival → S → Type 0) (room : S → Bool)
-    (layout : Layout) (old : Connection D) (sink : S) (size : ℕ) (result : Came) (new : Connection D) (sink' : S)
-    (h : HasRead unread written came room layout old sink size result new sink') (opened : D) where
+    (layout : Layout) (offer : Offer) (old : Connection D) (sink : S) (size : ℕ) (result : Came) (new : Connection D) (sink' : S)
+    (h : HasRead unread written came room layout offer old sink size result new sink') (opened : D) where
   -- its records go on
-  pub reads-on : (before : List Heard) → Reads unread opened old before → Reads unread opened new (before ++ h.heard)
+  pub reads-on : (before : List Heard) → Reads offer unread opened old before → Reads offer unread opened new (before ++ h.heard)
   reads-on before g =
-      cuts-on unread opened (now_of old) (now_of new) came room layout old.stream new.stream sink sink' old.kept new.kept h.read
+      cuts-on unread opened (now_of old) (now_of new) came room layout offer old.stream new.stream sink sink' old.kept new.kept h.read
       new.stopped before h.taken old.stopped h.heard g h.cuts
 
   -- the writing stands as it did

@@ -3,6 +3,7 @@ use Rattle.std.proofs.Common.{◌≡◌, ◌+◌, ◌<◌, ℕ, Bool, true, fals
 use Rattle.std.proofs.KnownBytes.{Appends-trans, Consumes-kept, Keeps-refl}
 use Rattle.std.specs.FinMap.{get}
 use Rattle.std.specs.Io.KnownBytes.{Appends, Keeps}
+use Rattle.nfs_values.specs.declared.offer.Offer.{Offer}
 use Rattle.rpc_msg.specs.Replies.{reply_record, reply_bytes}
 use Rattle.outboxes.specs.Boxes.{Boxes}
 use Rattle.outboxes.specs.Messages.{ReplyMessage, record_of}
@@ -149,10 +150,10 @@ module _ {D : Type 0} (unread written : D → Option (List ℕ)) (old : Connecti
       by false k = k.0.apart
 
   -- the reading stands as it did
-  pub reads-kept : (opened : D) (heard : List Heard) → Reads unread opened old heard → Reads unread opened new heard
-  reads-kept opened heard g =
+  pub reads-kept : (offer : Offer) (opened : D) (heard : List Heard) → Reads offer unread opened old heard → Reads offer unread opened new heard
+  reads-kept offer opened heard g =
       let s = written-same in
-      let moved : IsReadFrom unread opened (now_of new) old.stream old.kept old.stopped heard = record {
+      let moved : IsReadFrom offer unread opened (now_of new) old.stream old.kept old.stopped heard = record {
         read = g.read;
         lost = g.lost;
         taken = Consumes-kept (unread opened) (unread (now_of old)) (unread (now_of new)) _ g.taken written-apart;
@@ -160,6 +161,6 @@ module _ {D : Type 0} (unread written : D → Option (List ℕ)) (old : Connecti
         count = g.count;
         none_lost = g.none_lost;
       } in
-      subst (λ (x : Stream). IsReadFrom unread opened (now_of new) x new.kept new.stopped heard) (sym s.0)
-      (subst (λ (x : List ℕ). IsReadFrom unread opened (now_of new) old.stream x new.stopped heard) (sym s.1)
-      (subst (λ (x : Option Stopped). IsReadFrom unread opened (now_of new) old.stream old.kept x heard) (sym s.2) moved))
+      subst (λ (x : Stream). IsReadFrom offer unread opened (now_of new) x new.kept new.stopped heard) (sym s.0)
+      (subst (λ (x : List ℕ). IsReadFrom offer unread opened (now_of new) old.stream x new.stopped heard) (sym s.1)
+      (subst (λ (x : Option Stopped). IsReadFrom offer unread opened (now_of new) old.stream old.kept x heard) (sym s.2) moved))

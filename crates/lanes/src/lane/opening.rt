@@ -6,6 +6,7 @@ use crate::due::Due;
 use crate::intake::Intake;
 use crate::lane::Lane;
 use affinity::Layout;
+use nfs_values::Offer;
 use outboxes::Outboxes;
 use slab::Slab;
 use std::alloc::Global;
@@ -30,12 +31,14 @@ impl<D: Device, R> Lane<D, R> {
     ghost use Rattle.lanes.specs.Words.{boxes_in, connections_in, filer_in, identity_in, pass_in};
     ghost use Rattle.lanes.specs.Words.{worker_in};
 
-    /// One of so many lanes of a filer, with a queue of its own: a pass that will only admit, and
-    /// a worker with the other pass. Neither has done anything.
+    /// One of so many lanes of a filer, which reads records by what is offered, with a queue of its
+    /// own: a pass that will only admit, and a worker with the other pass. Neither has done
+    /// anything.
     pub fn new(
         rt: R,
         alloc: Global,
         filer: Arc<Filer>,
+        offer: Offer,
         queue: SharedWaiting<Envelope, Layout>,
         pass: Pass<Envelope, Layout>,
         worker: Worker,
@@ -52,12 +55,13 @@ impl<D: Device, R> Lane<D, R> {
             × (entries_in worker ≡ []) }
         ensures filer { filer_in result ≡ arc_value filer }
         ensures worker { worker_in result ≡ worker }
-        ensures identity { identity_in result ≡ ((lane, lanes), queue) }
+        ensures identity { identity_in result ≡ ((lane, lanes), offer, queue) }
         ensures numbers { AreOfLane lane lanes (boxes_in result) }
     {
         Lane {
             index: lane,
             count: lanes,
+            offer,
             intake: Intake {
                 rt,
                 alloc,

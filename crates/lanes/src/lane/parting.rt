@@ -35,6 +35,7 @@ impl<D: Device + Drop, R: Drop> Lane<D, R> {
         let Lane {
             index: _,
             count: _,
+            offer: _,
             filer: _,
             intake,
             connections: _,

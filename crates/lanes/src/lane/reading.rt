@@ -12,6 +12,7 @@ use crate::intake::Intake;
 use crate::lane::Lane;
 use crate::reading::Came;
 use affinity::Layout;
+use nfs_values::Offer;
 use slab::Slab;
 use std::sync::Wait;
 
@@ -20,15 +21,16 @@ fn read_one<D: Device, R: Wait>(
     connection: &mut Connection<D>,
     intake: &mut Intake<R>,
     layout: &Layout,
+    offer: Offer,
     block: &mut [u8],
 ) -> Came
     requires some { 0 < length block.old }
     requires layout { layout_in intake.old.filer.value ≡ layout_of layout.now }
-    ensures { ReadsOn D.unread D.written (layout_of layout.now) connection.old intake.old
-        (length block.old) result connection.new intake.new }
+    ensures { ReadsOn D.unread D.written (layout_of layout.now) offer connection.old
+        intake.old (length block.old) result connection.new intake.new }
 {
     intake.set_owed(connection.owed);
-    let came = connection.read(intake, layout, block);
+    let came = connection.read(intake, layout, offer, block);
     connection.set_owed(intake.owed);
     came
 }
@@ -39,22 +41,24 @@ fn read_under<D: Device, R: Wait>(
     key: usize,
     intake: &mut Intake<R>,
     layout: &Layout,
+    offer: Offer,
     block: &mut [u8],
 ) -> Came
     requires some { 0 < length block.old }
     requires layout { layout_in intake.old.filer.value ≡ layout_of layout.now }
-    ensures { ReadsUnder D.unread D.written (layout_of layout.now) connections.old key
-        (get connections.old key) intake.old (length block.old) result connections.new intake.new }
+    ensures { ReadsUnder D.unread D.written (layout_of layout.now) offer connections.old
+        key (get connections.old key) intake.old (length block.old) result connections.new
+        intake.new }
 {
     match connections.get_mut(key) {
-        Some(connection) => read_one(connection, intake, layout, block),
+        Some(connection) => read_one(connection, intake, layout, offer, block),
         None => Came::Stopped,
     }
 }
 
 impl<D: Device, R: Wait> Lane<D, R> {
     ghost use Rattle.lanes.specs.Words.{connections_in, filer_in, identity_in, intake_in};
-    ghost use Rattle.lanes.specs.Words.{worker_in};
+    ghost use Rattle.lanes.specs.Words.{offer_in, worker_in};
     ghost use Rattle.turns.specs.Words.{seats_in, IsSameWorker};
 
     /// Goes on reading the connection of a key (`Connection::read`): what its records come to is
@@ -62,14 +66,22 @@ impl<D: Device, R: Wait> Lane<D, R> {
     pub fn read(&mut self, key: usize, block: &mut [u8]) -> Came
         requires { 0 < length block.old }
         ensures read { ReadsUnder D.unread D.written (layout_in (filer_in self.old))
-            (connections_in self.old) key (get (connections_in self.old) key) (intake_in self.old)
-            (length block.old) result (connections_in self.new) (intake_in self.new) }
+            (offer_in self.old) (connections_in self.old) key (get (connections_in self.old) key)
+            (intake_in self.old) (length block.old) result (connections_in self.new)
+            (intake_in self.new) }
         ensures worker { IsSameWorker (worker_in self.old) (worker_in self.new) }
         ensures seats { seats_in (worker_in self.new) ≡ seats_in (worker_in self.old) }
         ensures filer { filer_in self.new ≡ filer_in self.old }
         ensures identity { identity_in self.new ≡ identity_in self.old }
     {
         let layout = self.filer.depot().layout();
-        read_under(&mut self.connections, key, &mut self.intake, layout, block)
+        read_under(
+            &mut self.connections,
+            key,
+            &mut self.intake,
+            layout,
+            self.offer,
+            block,
+        )
     }
 }

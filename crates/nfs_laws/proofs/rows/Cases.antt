@@ -29,7 +29,7 @@ at seconds = record { seconds = seconds; nanoseconds = 0 }
 
 -- the caller without a credential
 abbrev pub nobody : Credential
-nobody = record { uid = 65534; gid = 65534 }
+nobody = record { uid = 65534; gid = 65534; gids = [] }
 
 -- a node of volume 0
 abbrev pub h : ℕ → List ℕ

@@ -1,7 +1,8 @@
 -- The home of a call, exclusion, and which calls may lack memory (our profile).
 use Rattle.std.proofs.Common.{◌≡◌, true, false, [], ◌∷◌, replicate, Some, None, refl}
 use Rattle.nfs_model.specs.Types.{Unchecked, Guarded, Exclusive, Null, Getattr, Setattr, Lookup, Read, Write, Create, Mkdir, Remove, Rmdir, Rename, Readdir}
-use Rattle.nfs_model.specs.Types.{Fsstat, Commit, Census, Grow, Ask, Refused, SystemError, GarbageArguments}
+use Rattle.nfs_model.specs.Types.{Readlink, Symlink, Mknod, Link, Readdirplus, CheckAccess, Fsstat, Fsinfo, Pathconf, Commit, Unsupported, Census, Grow, Ask, Refused}
+use Rattle.nfs_model.specs.Types.{SystemError, GarbageArguments}
 use Rattle.nfs_model.specs.Tree.{Serial, Aggregate, Volume, Logical, Stripe, Vbn, Range, excludes}
 use Rattle.nfs_model.specs.Home.{home, home_of_asked}
 use Rattle.nfs_model.specs.Serial.Step.{serial}
@@ -36,6 +37,30 @@ rmdir_is_of_logical = refl
 
 readdir_is_of_logical : home layout (Readdir root 0 (replicate 8 0) 512) ≡ Some (Logical 0)
 readdir_is_of_logical = refl
+
+access_is_of_logical : home layout (CheckAccess root 63) ≡ Some (Logical 0)
+access_is_of_logical = refl
+
+fsinfo_is_of_logical : home layout (Fsinfo (handle_bytes 1 1)) ≡ Some (Logical 1)
+fsinfo_is_of_logical = refl
+
+pathconf_is_of_logical : home layout (Pathconf root) ≡ Some (Logical 0)
+pathconf_is_of_logical = refl
+
+readlink_has_no_home : home layout (Unsupported Readlink) ≡ None
+readlink_has_no_home = refl
+
+symlink_has_no_home : home layout (Unsupported Symlink) ≡ None
+symlink_has_no_home = refl
+
+mknod_has_no_home : home layout (Unsupported Mknod) ≡ None
+mknod_has_no_home = refl
+
+readdirplus_has_no_home : home layout (Unsupported Readdirplus) ≡ None
+readdirplus_has_no_home = refl
+
+link_has_no_home : home layout (Unsupported Link) ≡ None
+link_has_no_home = refl
 
 commit_is_of_logical : home layout (Commit root) ≡ Some (Logical 0)
 commit_is_of_logical = refl
@@ -90,6 +115,15 @@ readdir_of_a_bad_handle_has_no_home = refl
 
 fsstat_of_a_bad_handle_has_no_home : home layout (Fsstat (handle_bytes 2 1)) ≡ None
 fsstat_of_a_bad_handle_has_no_home = refl
+
+access_of_a_bad_handle_has_no_home : home layout (CheckAccess (handle_bytes 2 1) 63) ≡ None
+access_of_a_bad_handle_has_no_home = refl
+
+fsinfo_of_a_bad_handle_has_no_home : home layout (Fsinfo (handle_bytes 2 1)) ≡ None
+fsinfo_of_a_bad_handle_has_no_home = refl
+
+pathconf_of_a_bad_handle_has_no_home : home layout (Pathconf (handle_bytes 2 1)) ≡ None
+pathconf_of_a_bad_handle_has_no_home = refl
 
 commit_of_a_bad_handle_has_no_home : home layout (Commit (handle_bytes 2 1)) ≡ None
 commit_of_a_bad_handle_has_no_home = refl
@@ -221,6 +255,18 @@ decoding_of_readdir = refl
 decoding_of_fsstat : may_starve_at_decoding (Ask (Fsstat root) nobody) ≡ false
 decoding_of_fsstat = refl
 
+decoding_of_access : may_starve_at_decoding (Ask (CheckAccess root 63) nobody) ≡ false
+decoding_of_access = refl
+
+decoding_of_fsinfo : may_starve_at_decoding (Ask (Fsinfo root) nobody) ≡ false
+decoding_of_fsinfo = refl
+
+decoding_of_pathconf : may_starve_at_decoding (Ask (Pathconf root) nobody) ≡ false
+decoding_of_pathconf = refl
+
+decoding_of_symlink : may_starve_at_decoding (Ask (Unsupported Symlink) nobody) ≡ false
+decoding_of_symlink = refl
+
 decoding_of_commit : may_starve_at_decoding (Ask (Commit root) nobody) ≡ false
 decoding_of_commit = refl
 
@@ -319,6 +365,18 @@ rmdir_may_not_starve = simp evaluate refl
 
 fsstat_may_not_starve : may_starve_later start (Ask (Fsstat root) nobody) (at 1) ≡ false
 fsstat_may_not_starve = simp evaluate refl
+
+access_may_not_starve : may_starve_later start (Ask (CheckAccess root 63) nobody) (at 1) ≡ false
+access_may_not_starve = simp evaluate refl
+
+fsinfo_may_not_starve : may_starve_later start (Ask (Fsinfo root) nobody) (at 1) ≡ false
+fsinfo_may_not_starve = simp evaluate refl
+
+pathconf_may_not_starve : may_starve_later start (Ask (Pathconf root) nobody) (at 1) ≡ false
+pathconf_may_not_starve = simp evaluate refl
+
+link_may_not_starve : may_starve_later start (Ask (Unsupported Link) nobody) (at 1) ≡ false
+link_may_not_starve = refl
 
 commit_may_not_starve : may_starve_later (with_file (file [] no_blocks)) (Ask (Commit (h 2)) nobody) (at 1) ≡ false
 commit_may_not_starve = simp evaluate refl

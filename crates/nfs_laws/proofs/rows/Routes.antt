@@ -2,7 +2,7 @@
 -- volume, a whole volume, the aggregate of a volume, all volumes, or nothing. Typed by hand, one row a procedure.
 use Rattle.std.proofs.Common.{◌≡◌, [], ◌∷◌, replicate, None, refl}
 use Rattle.nfs_model.specs.Types.{Unchecked, Null, Getattr, Setattr, Lookup, Read, Write, Create, Mkdir, Remove, Rmdir, Rename, Readdir}
-use Rattle.nfs_model.specs.Types.{Fsstat, Commit, Census, Grow}
+use Rattle.nfs_model.specs.Types.{Readlink, Symlink, Mknod, Link, CheckAccess, Fsstat, Fsinfo, Pathconf, Commit, Unsupported, Census, Grow}
 use Rattle.nfs_model.specs.Route.{AtOnce, OfNames, OfBytesRead, OfBytesWritten, OfTwoHandles, OfVolume, OfAggregate, OfEverything, route}
 use Rattle.nfs_model.specs.Serial.Create.{no_attributes}
 use Rattle.nfs_laws.proofs.rows.Cases.{h, a, b}
@@ -19,6 +19,12 @@ setattr_is_on_names = refl
 lookup_is_on_names : route (Lookup (h 2) a) ≡ OfNames (h 2)
 lookup_is_on_names = refl
 
+access_is_on_names : route (CheckAccess (h 2) 63) ≡ OfNames (h 2)
+access_is_on_names = refl
+
+readlink_is_on_nothing : route (Unsupported Readlink) ≡ AtOnce
+readlink_is_on_nothing = refl
+
 read_is_on_bytes : route (Read (h 2) 700 12) ≡ OfBytesRead (h 2) 700 12
 read_is_on_bytes = refl
 
@@ -31,6 +37,12 @@ create_is_on_names = refl
 mkdir_is_on_names : route (Mkdir (h 2) a no_attributes) ≡ OfNames (h 2)
 mkdir_is_on_names = refl
 
+symlink_is_on_nothing : route (Unsupported Symlink) ≡ AtOnce
+symlink_is_on_nothing = refl
+
+mknod_is_on_nothing : route (Unsupported Mknod) ≡ AtOnce
+mknod_is_on_nothing = refl
+
 remove_is_on_names : route (Remove (h 2) a) ≡ OfNames (h 2)
 remove_is_on_names = refl
 
@@ -40,11 +52,20 @@ rmdir_is_on_names = refl
 rename_is_on_two_directories : route (Rename (h 2) a (h 3) b) ≡ OfTwoHandles (h 2) (h 3)
 rename_is_on_two_directories = refl
 
+link_is_on_nothing : route (Unsupported Link) ≡ AtOnce
+link_is_on_nothing = refl
+
 readdir_is_on_names : route (Readdir (h 2) 0 (replicate 8 0) 512) ≡ OfNames (h 2)
 readdir_is_on_names = refl
 
 fsstat_is_on_the_volume : route (Fsstat (h 2)) ≡ OfVolume (h 2)
 fsstat_is_on_the_volume = refl
+
+fsinfo_is_on_names : route (Fsinfo (h 2)) ≡ OfNames (h 2)
+fsinfo_is_on_names = refl
+
+pathconf_is_on_names : route (Pathconf (h 2)) ≡ OfNames (h 2)
+pathconf_is_on_names = refl
 
 commit_is_on_names : route (Commit (h 2)) ≡ OfNames (h 2)
 commit_is_on_names = refl

@@ -2,7 +2,7 @@
 -- section 9) and change nothing.
 use Rattle.std.specs.Prelude.{ℕ, Bool, true, false, ◌&&◌, not, nat_lt, List, [], ◌∷◌, Option, Some, None}
 use Rattle.std.specs.Prelude.{is_some}
-use Rattle.nfs_model.specs.Types.{Call, Lookup, Write, Create, Mkdir, Remove, Rmdir, Rename, Answer}
+use Rattle.nfs_model.specs.Types.{Call, Lookup, Write, Create, Mkdir, Remove, Rmdir, Rename, Mount, Mnt, Answer}
 use Rattle.nfs_model.specs.Types.{ReadDone, WriteDone, MadeDone, RenameDone, ReaddirDone, CensusDone, Reply}
 use Rattle.nfs_model.specs.Types.{Success, Moment, Asked, Ask, Refused, Undecoded}
 use Rattle.nfs_model.specs.Server.{Node, File, Directory, Server}
@@ -11,7 +11,7 @@ use Rattle.nfs_model.specs.Locate.{locate, node_named}
 use Rattle.nfs_model.specs.Serial.Write.{need}
 use Rattle.nfs_model.specs.Serial.Step.{serve}
 
--- at its decoding: one with a name or data
+-- at its decoding: one with a name, a path or data
 abbrev pub has_bytes : Call → Bool
 has_bytes (Lookup directory name) = true
 has_bytes (Write handle offset count written) = true
@@ -20,6 +20,7 @@ has_bytes (Mkdir directory name set) = true
 has_bytes (Remove directory name) = true
 has_bytes (Rmdir directory name) = true
 has_bytes (Rename from from_name to to_name) = true
+has_bytes (Mount (Mnt path)) = true
 has_bytes call = false
 
 -- what a record asks has bytes to be kept

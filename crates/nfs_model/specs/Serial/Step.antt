@@ -1,16 +1,18 @@
 -- The answer of the serial server, and the server after it (RFC 1813 section 3.3; GROW and CENSUS
 -- are our profile).
-use Rattle.std.specs.Prelude.{ℕ, Bool, true, false, ◌==◌, Option, Some, None, if◌then◌else◌}
-use Rattle.nfs_model.specs.Types.{Moment, Credential, Call, Null, Getattr, Setattr, Lookup, Read, Write}
-use Rattle.nfs_model.specs.Types.{Create, Mkdir, Remove, Rmdir, Rename, Readdir, Fsstat, Commit, Census}
-use Rattle.nfs_model.specs.Types.{Grow, Answer, NullDone, Failed, BadHandle, CrossVolume, Reply, Success}
-use Rattle.nfs_model.specs.Types.{SystemError, Asked, Ask, Refused, Undecoded}
+use Rattle.std.specs.Prelude.{ℕ, Bool, true, false, ◌==◌, length, Option, Some, None, if◌then◌else◌}
+use Rattle.nfs_model.specs.Types.{Moment, Credential, Call, Null, Getattr, Setattr, Lookup, CheckAccess}
+use Rattle.nfs_model.specs.Types.{Read, Write, Create, Mkdir, Remove, Rmdir, Rename, Readdir, Fsstat, Fsinfo}
+use Rattle.nfs_model.specs.Types.{Pathconf, Commit, Unsupported, Census, Grow, Mount, Answer, NullDone}
+use Rattle.nfs_model.specs.Types.{Failed, BadHandle, CrossVolume, NotSupported, Reply, Success, SystemError, Asked}
+use Rattle.nfs_model.specs.Types.{Ask, Refused, Undecoded}
 use Rattle.nfs_model.specs.Server.{VolumeState, Server, with_volume}
 use Rattle.nfs_model.specs.Locate.{Effect, Fails, Tells, Changes, Located, locate, on_name}
 use Rattle.nfs_model.specs.Serial.Absent.{absent_parts}
 use Rattle.nfs_model.specs.Serial.Getattr.{getattr}
 use Rattle.nfs_model.specs.Serial.Setattr.{setattr}
 use Rattle.nfs_model.specs.Serial.Lookup.{lookup}
+use Rattle.nfs_model.specs.Serial.Access.{access}
 use Rattle.nfs_model.specs.Serial.Read.{read}
 use Rattle.nfs_model.specs.Serial.Write.{write}
 use Rattle.nfs_model.specs.Serial.Create.{create}
@@ -20,9 +22,12 @@ use Rattle.nfs_model.specs.Serial.Rmdir.{rmdir}
 use Rattle.nfs_model.specs.Serial.Rename.{rename}
 use Rattle.nfs_model.specs.Serial.Readdir.{readdir}
 use Rattle.nfs_model.specs.Serial.Fsstat.{fsstat}
+use Rattle.nfs_model.specs.Serial.Fsinfo.{fsinfo}
+use Rattle.nfs_model.specs.Serial.Pathconf.{pathconf}
 use Rattle.nfs_model.specs.Serial.Commit.{commit}
 use Rattle.nfs_model.specs.Serial.Census.{census}
 use Rattle.nfs_model.specs.Serial.Grow.{grow}
+use Rattle.nfs_model.specs.Serial.Mount.{mount}
 
 -- a reply, and the server after it
 pub record Step : Type 0 where
@@ -63,6 +68,8 @@ serve_by server absent (Setattr handle set guard) credential moment =
     on server absent (locate server handle) (setattr set guard moment)
 serve_by server absent (Lookup directory name) credential moment =
     on server absent (locate server directory) (on_name name moment lookup)
+serve_by server absent (CheckAccess handle asked) credential moment =
+    on server absent (locate server handle) (access asked credential)
 serve_by server absent (Read handle offset count) credential moment =
     on server absent (locate server handle) (read offset count)
 serve_by server absent (Write handle offset count written) credential moment =
@@ -81,13 +88,17 @@ serve_by server absent (Rename from from_name to to_name) credential moment =
 serve_by server absent (Readdir directory cookie verifier count) credential moment =
     on server absent (locate server directory) (readdir cookie verifier count)
 serve_by server absent (Fsstat handle) credential moment = on server absent (locate server handle) fsstat
+serve_by server absent (Fsinfo handle) credential moment = on server absent (locate server handle) fsinfo
+serve_by server absent (Pathconf handle) credential moment = on server absent (locate server handle) pathconf
 serve_by server absent (Commit handle) credential moment = on server absent (locate server handle) commit
+serve_by server absent (Unsupported which) credential moment = stay server (Failed NotSupported absent)
 serve_by server absent Census credential moment = stay server (census server)
 serve_by server absent (Grow volume ranges) credential moment =
     record {
       reply = Success (grow server volume ranges).answer;
       server = (grow server volume ranges).server;
     }
+serve_by server absent (Mount call) credential moment = stay server (mount (length server.volumes) call)
 
 -- a call that was decoded
 abbrev pub serve : Server → Call → Credential → Moment → Step

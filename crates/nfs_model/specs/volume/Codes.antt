@@ -35,7 +35,7 @@ coded_directory = code_by (ℕ × List Listed) (coded× coded_ℕ (coded_list co
 abbrev pub coded_attributes : Coded Attributes
 coded_attributes =
     code_by ((ℕ × (ℕ × ℕ)) × (Moment × (Moment × Moment))) (coded× (coded× coded_ℕ (coded× coded_ℕ coded_ℕ)) (coded× coded_moment
-        (coded× coded_moment coded_moment)))
+    (coded× coded_moment coded_moment)))
     (λ a. ((a.mode, (a.uid, a.gid)), (a.atime, (a.mtime, a.ctime))))
     (λ p. record { mode = p.0.0; uid = p.0.1.0; gid = p.0.1.1; atime = p.1.0; mtime = p.1.1.0; ctime = p.1.1.1 }) (λ _. refl)
 

@@ -4,9 +4,7 @@ use Rattle.std.specs.List.{filter}
 use Rattle.std.proofs.lemmas.Bool.{eqb-true}
 use Rattle.nfs_values.specs.declared.offer.Offer.{Offer}
 use Rattle.nfs_values.specs.declared.procedure.Procedure.{Procedure}
-use Rattle.nfs_values.specs.declared.procedure.Procedure.TheVariants.{Null, GetAttributes, SetAttributes, Lookup, Read, Write, Create, MakeDirectory}
-use Rattle.nfs_values.specs.declared.procedure.Procedure.TheVariants.{Remove, RemoveDirectory, Rename, ReadDirectory, FilesystemStatus, Commit, AdminNull}
-use Rattle.nfs_values.specs.declared.procedure.Procedure.TheVariants.{Census, Grow}
+use Rattle.nfs_values.specs.declared.procedure.Procedure.TheVariants.{Null}
 use Rattle.nfs_values.specs.Offer.{offers}
 use Rattle.nfs_values.specs.Procedure.{all_procedures, numbers_of}
 use Rattle.rpc_msg.specs.Heads.{is_numbered, procedures_by}
@@ -66,22 +64,7 @@ numbered n = find (is_numbered n.0 n.1) all_procedures
 
 found_again : (p : Procedure) → numbered (numbers_of p) ≡ Some p
 found_again Null = refl
-found_again GetAttributes = refl
-found_again SetAttributes = refl
-found_again Lookup = refl
-found_again Read = refl
-found_again Write = refl
-found_again Create = refl
-found_again MakeDirectory = refl
-found_again Remove = refl
-found_again RemoveDirectory = refl
-found_again Rename = refl
-found_again ReadDirectory = refl
-found_again FilesystemStatus = refl
-found_again Commit = refl
-found_again AdminNull = refl
-found_again Census = refl
-found_again Grow = refl
+found_again p = refl
 
 same_some : (p q : Procedure) → Some p ≡ Some q → p ≡ q
 same_some p q h = cc

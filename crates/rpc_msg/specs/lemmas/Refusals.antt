@@ -77,7 +77,7 @@ call_sound offer bytes =
     then_sound (credential_at n.0.1.1.1.0 n.0.1.1.1.1 n.1) _ (credential_sound n.0.1.1.1.0 n.0.1.1.1.1 n.1) (λ c.
     then_sound (whole (read auth_shape c.1)) _ (whole_sound (read auth_shape c.1)) (λ v.
     then_sound (procedure_by offer n.0.0 n.0.1.0 n.0.1.1.0) _ (of_version_sound (version_by offer n.0.0) n.0.1.0 (find (is_numbered n.0.0 n.0.1.1.0)
-        (procedures_by offer)))
+    (procedures_by offer)))
     (λ p. tt)))))
 
 -- ---- the head and the record

@@ -139,6 +139,7 @@ pub run-is-call : (layout : Layout) (call : Call) (credential : Credential) (mom
 run-is-call layout (calls.Rename from to) credential moment a at =
     on-both layout a from.directory from.name to.directory to.name credential moment at.1 (run-tried layout (calls.Rename from to) credential a at)
 run-is-call layout calls.Null credential moment a at = absurd at.0
+run-is-call layout (calls.Unsupported which) credential moment a at = absurd at.0
 run-is-call layout calls.Census credential moment a at = absurd at.0
 run-is-call layout (calls.Grow volume more) credential moment a at = absurd at.0
 run-is-call layout call credential moment a at =

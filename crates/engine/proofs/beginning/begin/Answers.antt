@@ -135,6 +135,7 @@ module _ (c : goal.After-set_run) where
         let same = one-worker (slice_get s.workers.items c.args.worker) Idle c.set_run.ensures.0 idle.0 hand idle.1 c.set_run.ensures.2 in
         c.set_run.ensures.2 ∙ ap (λ (x : WorkerRun). Some (worker_with x hand)) (sym same.0));
     set = ap (λ (v : Vec Worker). v.items) c.set_run.ensures.3;
+    offer = refl;
     verifier = refl;
     layout = takes.layout;
     many = refl;

@@ -8,7 +8,7 @@ returns-then-not-takes_input c = record {
   after = c.in-Some.on.now;
   was = sym c.in-Some.ensures.value;
   is = refl;
-  receives = (sym c.takes_input.ensures ∙ c.if-not-takes_input.true, refl, refl);
+  receives = (sym (c.takes_input.ensures c.args.offer) ∙ c.if-not-takes_input.true, refl, refl);
 }
 
 pub returns : goal.returns
@@ -22,7 +22,7 @@ returns c = record {
     after = c.feed.new.self;
     was = refl;
     is = refl;
-    takes = none-of _ (sym c.takes_input.ensures ∙ c.if-not-takes_input.false);
+    takes = λ offer. none-of _ (sym (c.takes_input.ensures offer) ∙ c.if-not-takes_input.false);
     feeds = c.feed.ensures.feeds;
     adds = c.feed.ensures.adds;
     admitted = c.feed.ensures.admitted;

@@ -96,6 +96,7 @@ module _ (c : goal.After-put_back) where
   changed = record {
     there = there;
     set = ap (λ (v : Vec Worker). v.items) c.take_run.ensures.2;
+    offer = refl;
     verifier = refl;
     layout = c.put_back.ensures.layout;
     many = refl;
@@ -242,6 +243,7 @@ module _ (c : goal.After-drop) where
   differs = record {
     there = here;
     set = ap (λ (v : Vec Worker). v.items) c.take_run.ensures.2;
+    offer = refl;
     verifier = refl;
     layout = leaves.layout;
     many = ap length among.put ∙ length-set (held_in before) number among.left;

@@ -37,13 +37,13 @@ pub returns-clause-setup : goal.returns-clause-setup
 unfolding are-opened
 returns-clause-setup c =
     setup-opened c.args.verifier (books c.in_ok-desk.desk) c.in_ok-calls.calls c.in_ok-idle.idle.items
-    (held_by c.new-3.result.items c.new-4.result) (are-opened c)
+    (held_by c.new-3.result.items c.new-4.result) (are-opened c) c.args.offer
 
 pub returns-clause-opening : goal.returns-clause-opening
 returns-clause-opening c =
     let laws = c.begins_sound.ensures in
     seen-opens laws.sound laws.server laws.free c.args.verifier (books c.in_ok-desk.desk) c.in_ok-calls.calls c.in_ok-idle.idle.items
-    (held_by c.new-3.result.items c.new-4.result) (are-opened c)
+    (held_by c.new-3.result.items c.new-4.result) (are-opened c) c.args.offer
 
 pub returns-clause-sound : goal.returns-clause-sound
 returns-clause-sound c =
@@ -55,7 +55,7 @@ returns-clause-sound c =
     let h = are-opened c in record {
       layout = same-layout c.args.verifier b calls ks connections h;
       kept = c.in_ok-desk.ensures.kept;
-      stands = seen-stands laws.sound laws.server laws.free c.args.verifier b calls ks connections h;
+      stands = seen-stands laws.sound laws.server laws.free c.args.verifier b calls ks connections h c.args.offer;
       running = none-run c.args.verifier b calls ks connections h;
       waiting = none-wait c.args.verifier b calls ks connections h (IsPlaced (layout_in calls) (length connections));
       workers = none-ready c.args.verifier b calls ks connections h;

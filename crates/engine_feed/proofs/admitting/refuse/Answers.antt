@@ -2,6 +2,7 @@ use Rattle.std.proofs.Common.{ap, arith}
 use Rattle.std.specs.Prelude.{false, None}
 use Rattle.nfs_model.specs.Types as types
 use Rattle.nfs_model.specs.Server.{start_of_times}
+use Rattle.nfs_model.specs.World.{Codec}
 use Rattle.nfs_values.specs.Reply.{refusal_of}
 use Rattle.rpc_msg.specs.lemmas.Refusals.{refusal_is}
 use Rattle.engine_feed.specs.Seen.{waiting_of, entry_at}
@@ -23,12 +24,13 @@ write_reply-requires-clause-room c =
     omega (arith, fits, c.requires.room)
 
 pub returns-clause-admitted : goal.returns-clause-admitted
-returns-clause-admitted c setup w k p =
+returns-clause-admitted c offer setup w k p =
     let to = c.args.connection.now in
     let calls = c.args.calls.now in
     let reply = refusal_of c.args.refusal in
     finishes calls c.keep_entry.new.calls to c.write_reply.new.to (entry_at c.args.origin (types.Refused reply) None start_of_times false) reply
-    (written-is to c.write_reply.new.to _ c.write_reply.ensures.written) (ap waiting_of c.keep_entry.ensures.keeps.same) c.keep_entry.ensures.kept setup w k.codec p.shows
+    (written-is to c.write_reply.new.to _ c.write_reply.ensures.written) (ap waiting_of c.keep_entry.ensures.keeps.same) c.keep_entry.ensures.kept setup w
+    (ap (λ (q : Codec). q.reply_record) k.codec) p.shows
     p.connection
 
 pub returns-clause-keeps : goal.returns-clause-keeps

@@ -7,12 +7,14 @@ use Rattle.engine_feed.specs.Seen.{heard_of}
 use Rattle.engine_feed.specs.declared.reading.RecordRead.{RecordRead}
 use Rattle.engine_feed.specs.Codec.{heard}
 use Rattle.engine_feed.specs.Records.{IsReadAs}
-use Rattle.engine_feed.proofs.Arriving.{took_from, took_as, in-step, read_as, ended-as, one_more, length_taken}
+use Rattle.engine_feed.specs.Streams.{scan_stream}
+use Rattle.engine_feed.proofs.Arriving.{took_from, took_as, in-step, read_as, ended-as, length_taken}
+use Rattle.engine_feed.proofs.Faults.{call-anyway, fault-anyway}
 use Rattle.engine_feed.proofs.arrival.take_bytes.Goals as goal
 
 pub slice_bounds-keep-end : goal.slice_bounds-keep-end
 slice_bounds-keep-end c =
-    let t = took_from c.args.from.now c.args.bytes.now c.feed-taken.result.0 c.feed-taken.result.1 c.feed-taken.new.self c.requires.in_step
+    let t = took_from c.args.offer c.args.from.now c.args.bytes.now c.feed-taken.result.0 c.feed-taken.result.1 c.feed-taken.new.self c.requires.in_step
     c.requires.taking.faultless c.feed-taken.ensures.feeds in
     sym (length_taken c.feed-taken.result.0 c.args.bytes.now t.0.within)
 
@@ -20,7 +22,8 @@ pub returns-in-More-clause-takes : goal.returns-in-More-clause-takes
 returns-in-More-clause-takes c =
     let from = c.args.from.now in
     let taken = c.feed-taken.result.0 in
-    let t = took_as from c.args.bytes.now taken c.feed-taken.result.1 steps.More c.feed-taken.new.self c.requires.in_step c.requires.taking.faultless
+    let t = took_as c.args.offer from c.args.bytes.now taken c.feed-taken.result.1 steps.More c.feed-taken.new.self c.requires.in_step
+    c.requires.taking.faultless
     c.in-More.is c.feed-taken.ensures.feeds in
     let size = length_taken taken c.args.bytes.now t.0.within in
     record {
@@ -32,8 +35,12 @@ returns-in-More-clause-takes c =
       output = refl;
       owed = refl;
       in_step = in-step _ (from.stream.items ++ take taken c.args.bytes.now) c.keep.ensures.items t.0.to
-          (ap (λ (s : Scanned). s.fault) t.1.2 ∙ c.requires.in_step.fault)
-          (ap (λ (s : Scanned). length s.served) t.1.2 ∙ c.requires.in_step.records)
+          (λ any.
+          let u = took_as any from c.args.bytes.now taken c.feed-taken.result.1 steps.More c.feed-taken.new.self c.requires.in_step
+          c.requires.taking.faultless c.in-More.is c.feed-taken.ensures.feeds in (
+            ap (λ (s : Scanned). s.fault) u.1.2 ∙ c.requires.in_step.fault any,
+            ap (λ (s : Scanned). length s.served) u.1.2 ∙ c.requires.in_step.records any,
+          ))
           (omega (arith, c.requires.in_step.few, c.keep.ensures.len));
       faultless = c.requires.taking.faultless;
     }
@@ -42,7 +49,8 @@ pub returns-in-Fault-clause-takes : goal.returns-in-Fault-clause-takes
 returns-in-Fault-clause-takes c =
     let from = c.args.from.now in
     let taken = c.feed-taken.result.0 in
-    let t = took_as from c.args.bytes.now taken c.feed-taken.result.1 steps.Fault c.feed-taken.new.self c.requires.in_step c.requires.taking.faultless
+    let t = took_as c.args.offer from c.args.bytes.now taken c.feed-taken.result.1 steps.Fault c.feed-taken.new.self c.requires.in_step
+    c.requires.taking.faultless
     c.in-Fault.is c.feed-taken.ensures.feeds in
     let size = length_taken taken c.args.bytes.now t.0.within in
     record {
@@ -54,8 +62,12 @@ returns-in-Fault-clause-takes c =
       output = refl;
       owed = refl;
       in_step = in-step _ (from.stream.items ++ take taken c.args.bytes.now) c.keep.ensures.items t.0.to
-          (ap (λ (s : Scanned). s.fault) t.1.1.complete)
-          (ap (λ (s : Scanned). length s.served) t.1.1.complete ∙ c.requires.in_step.records)
+          (λ any.
+          let u = took_as any from c.args.bytes.now taken c.feed-taken.result.1 steps.Fault c.feed-taken.new.self c.requires.in_step
+          c.requires.taking.faultless c.in-Fault.is c.feed-taken.ensures.feeds in (
+            ap (λ (s : Scanned). s.fault) u.1.1.complete,
+            ap (λ (s : Scanned). length s.served) u.1.1.complete ∙ c.requires.in_step.records any,
+          ))
           (omega (arith, c.requires.in_step.few, c.keep.ensures.len));
       faultless = tt;
     }
@@ -64,10 +76,10 @@ pub returns-in-Heard-clause-takes : goal.returns-in-Heard-clause-takes
 returns-in-Heard-clause-takes c =
     let from = c.args.from.now in
     let taken = c.feed-taken.result.0 in
-    let t = took_as from c.args.bytes.now taken c.feed-taken.result.1 (steps.Record c.in-Record.record) c.feed-taken.new.self c.requires.in_step
+    let t = took_as c.args.offer from c.args.bytes.now taken c.feed-taken.result.1 (steps.Record c.in-Record.record) c.feed-taken.new.self c.requires.in_step
     c.requires.taking.faultless c.in-Record.is c.feed-taken.ensures.feeds in
-    let r = subst (λ (x : RecordRead). IsReadAs x (heard c.in-Record.record.items)) c.in-Heard.is c.read_record.ensures in
-    let k = read_as _ _ _ _ (Ok (heard_of c.in-Heard.heard)) refl r t.1.1 in
+    let r = subst (λ (x : RecordRead). IsReadAs x (heard c.args.offer c.in-Record.record.items)) c.in-Heard.is c.read_record.ensures in
+    let k = read_as c.args.offer _ _ _ _ (Ok (heard_of c.in-Heard.heard)) refl r t.1.1 in
     let size = length_taken taken c.args.bytes.now t.0.within in
     record {
       arrives = (t.1.0, t.0.within, k);
@@ -78,8 +90,14 @@ returns-in-Heard-clause-takes c =
       output = refl;
       owed = refl;
       in_step = in-step _ (from.stream.items ++ take taken c.args.bytes.now) c.keep.ensures.items t.0.to
-          (ap (λ (s : Scanned). s.fault) k.complete ∙ sym (ap (option_map fault_number) c.requires.taking.faultless))
-          (ap (λ (s : Scanned). length s.served) k.complete ∙ one_more _ _ _ c.requires.in_step.records)
+          (λ any.
+          let u = took_as any from c.args.bytes.now taken c.feed-taken.result.1 (steps.Record c.in-Record.record) c.feed-taken.new.self
+          c.requires.in_step c.requires.taking.faultless c.in-Record.is c.feed-taken.ensures.feeds in
+          let a = call-anyway c.args.offer any c.in-Record.record.items (scan_stream any from.stream.items) from.records
+          (c.requires.in_step.records any) (heard_of c.in-Heard.heard) r in (
+            ap (λ (s : Scanned). s.fault) u.1.1.complete ∙ a.fault_is ∙ sym (ap (option_map fault_number) c.requires.taking.faultless),
+            ap (λ (s : Scanned). length s.served) u.1.1.complete ∙ a.served_is,
+          ))
           (omega (arith, c.requires.in_step.few, c.keep.ensures.len, t.1.0, size));
       faultless = c.requires.taking.faultless;
     }
@@ -88,10 +106,10 @@ pub returns-in-Undecoded-clause-takes : goal.returns-in-Undecoded-clause-takes
 returns-in-Undecoded-clause-takes c =
     let from = c.args.from.now in
     let taken = c.feed-taken.result.0 in
-    let t = took_as from c.args.bytes.now taken c.feed-taken.result.1 (steps.Record c.in-Record.record) c.feed-taken.new.self c.requires.in_step
+    let t = took_as c.args.offer from c.args.bytes.now taken c.feed-taken.result.1 (steps.Record c.in-Record.record) c.feed-taken.new.self c.requires.in_step
     c.requires.taking.faultless c.in-Record.is c.feed-taken.ensures.feeds in
-    let r = subst (λ (x : RecordRead). IsReadAs x (heard c.in-Record.record.items)) c.in-Undecoded.is c.read_record.ensures in
-    let k = read_as _ _ _ _ (Ok (record { xid = c.in-Undecoded.xid; asked = r.0 })) refl r.2 t.1.1 in
+    let r = subst (λ (x : RecordRead). IsReadAs x (heard c.args.offer c.in-Record.record.items)) c.in-Undecoded.is c.read_record.ensures in
+    let k = read_as c.args.offer _ _ _ _ (Ok (record { xid = c.in-Undecoded.xid; asked = r.0 })) refl r.2 t.1.1 in
     let size = length_taken taken c.args.bytes.now t.0.within in
     record {
       arrives = (t.1.0, t.0.within, (r.0, r.1, k));
@@ -102,8 +120,14 @@ returns-in-Undecoded-clause-takes c =
       output = refl;
       owed = refl;
       in_step = in-step _ (from.stream.items ++ take taken c.args.bytes.now) c.keep.ensures.items t.0.to
-          (ap (λ (s : Scanned). s.fault) k.complete ∙ sym (ap (option_map fault_number) c.requires.taking.faultless))
-          (ap (λ (s : Scanned). length s.served) k.complete ∙ one_more _ _ _ c.requires.in_step.records)
+          (λ any.
+          let u = took_as any from c.args.bytes.now taken c.feed-taken.result.1 (steps.Record c.in-Record.record) c.feed-taken.new.self
+          c.requires.in_step c.requires.taking.faultless c.in-Record.is c.feed-taken.ensures.feeds in
+          let a = call-anyway c.args.offer any c.in-Record.record.items (scan_stream any from.stream.items) from.records
+          (c.requires.in_step.records any) (record { xid = c.in-Undecoded.xid; asked = r.0 }) r.2 in (
+            ap (λ (s : Scanned). s.fault) u.1.1.complete ∙ a.fault_is ∙ sym (ap (option_map fault_number) c.requires.taking.faultless),
+            ap (λ (s : Scanned). length s.served) u.1.1.complete ∙ a.served_is,
+          ))
           (omega (arith, c.requires.in_step.few, c.keep.ensures.len, t.1.0, size));
       faultless = c.requires.taking.faultless;
     }
@@ -112,11 +136,11 @@ pub returns-in-Fault-read_record-clause-takes : goal.returns-in-Fault-read_recor
 returns-in-Fault-read_record-clause-takes c =
     let from = c.args.from.now in
     let taken = c.feed-taken.result.0 in
-    let t = took_as from c.args.bytes.now taken c.feed-taken.result.1 (steps.Record c.in-Record.record) c.feed-taken.new.self c.requires.in_step
+    let t = took_as c.args.offer from c.args.bytes.now taken c.feed-taken.result.1 (steps.Record c.in-Record.record) c.feed-taken.new.self c.requires.in_step
     c.requires.taking.faultless c.in-Record.is c.feed-taken.ensures.feeds in
-    let r = subst (λ (x : RecordRead). IsReadAs x (heard c.in-Record.record.items)) c.in-Fault-read_record.is c.read_record.ensures in
-    let k = ended-as _ _ (fault_number c.in-Fault-read_record.fault)
-    (read_as _ _ _ _ (Err (fault_number c.in-Fault-read_record.fault)) refl r t.1.1) in
+    let r = subst (λ (x : RecordRead). IsReadAs x (heard c.args.offer c.in-Record.record.items)) c.in-Fault-read_record.is c.read_record.ensures in
+    let k = ended-as c.args.offer _ _ (fault_number c.in-Fault-read_record.fault)
+    (read_as c.args.offer _ _ _ _ (Err (fault_number c.in-Fault-read_record.fault)) refl r t.1.1) in
     let size = length_taken taken c.args.bytes.now t.0.within in
     record {
       arrives = (t.1.0, t.0.within, k);
@@ -127,8 +151,14 @@ returns-in-Fault-read_record-clause-takes c =
       output = refl;
       owed = refl;
       in_step = in-step _ (from.stream.items ++ take taken c.args.bytes.now) c.keep.ensures.items t.0.to
-          (ap (λ (s : Scanned). s.fault) k.complete)
-          (ap (λ (s : Scanned). length s.served) k.complete ∙ c.requires.in_step.records)
+          (λ any.
+          let u = took_as any from c.args.bytes.now taken c.feed-taken.result.1 (steps.Record c.in-Record.record) c.feed-taken.new.self
+          c.requires.in_step c.requires.taking.faultless c.in-Record.is c.feed-taken.ensures.feeds in
+          let a = fault-anyway c.args.offer any c.in-Record.record.items (scan_stream any from.stream.items) from.records
+          (c.requires.in_step.records any) (fault_number c.in-Fault-read_record.fault) r in (
+            ap (λ (s : Scanned). s.fault) u.1.1.complete ∙ a.fault_is,
+            ap (λ (s : Scanned). length s.served) u.1.1.complete ∙ a.served_is,
+          ))
           (omega (arith, c.requires.in_step.few, c.keep.ensures.len));
       faultless = tt;
     }

@@ -7,8 +7,9 @@ returns-then-free-eq0-clause-feeds c setup w k p =
     let calls = c.args.calls.now in
     let to = c.args.connection.now in
     let n = c.args.number.0 in
-    let i = taking setup calls n to w (length c.args.bytes.now) k p c.requires.connection c.requires.taking in
-    none-free setup calls n to w c.args.bytes.now c.free_bytes-free.result i c.requires.full c.requires.some c.free_bytes-free.ensures c.if-free-eq0.true
+    let i = taking c.args.offer setup calls n to w (length c.args.bytes.now) k p c.requires.connection c.requires.taking in
+    none-free c.args.offer setup calls n to w c.args.bytes.now c.free_bytes-free.result i c.requires.full c.requires.some c.free_bytes-free.ensures
+    c.if-free-eq0.true
 
 pub returns-in-NoMemory-clause-feeds : goal.returns-in-NoMemory-clause-feeds
 returns-in-NoMemory-clause-feeds c setup w k p =
@@ -16,8 +17,9 @@ returns-in-NoMemory-clause-feeds c setup w k p =
     let to = c.args.connection.now in
     let n = c.args.number.0 in
     let t = c.take_bytes-taken in
-    let i = taking setup calls n to w (length c.args.bytes.now) k p c.requires.connection c.requires.taking in
-    none-took-free setup calls n to t.new.from w c.args.bytes.now c.free_bytes-free.result t.result.0 t.result.1 i c.requires.some c.free_bytes-free.ensures
+    let i = taking c.args.offer setup calls n to w (length c.args.bytes.now) k p c.requires.connection c.requires.taking in
+    none-took-free c.args.offer setup calls n to t.new.from w c.args.bytes.now c.free_bytes-free.result t.result.0 t.result.1 i c.requires.some
+    c.free_bytes-free.ensures
     c.if-free-eq0.false t.ensures.takes c.in-NoMemory.is
 
 pub returns-in-Fault-clause-feeds : goal.returns-in-Fault-clause-feeds
@@ -26,8 +28,8 @@ returns-in-Fault-clause-feeds c setup w k p =
     let to = c.args.connection.now in
     let n = c.args.number.0 in
     let t = c.take_bytes-taken in
-    let i = taking setup calls n to w (length c.args.bytes.now) k p c.requires.connection c.requires.taking in
-    fault-took-free setup calls n to t.new.from w c.args.bytes.now c.free_bytes-free.result t.result.0 t.result.1 c.in-Fault.fault i
+    let i = taking c.args.offer setup calls n to w (length c.args.bytes.now) k p c.requires.connection c.requires.taking in
+    fault-took-free c.args.offer setup calls n to t.new.from w c.args.bytes.now c.free_bytes-free.result t.result.0 t.result.1 c.in-Fault.fault i
     c.free_bytes-free.ensures t.ensures.takes c.in-Fault.is (t.ensures.none c.free_bytes-free.ensures.none)
 
 pub returns-then-free-bytes-clause-feeds : goal.returns-then-free-bytes-clause-feeds
@@ -36,8 +38,9 @@ returns-then-free-bytes-clause-feeds c setup w k p =
     let to = c.args.connection.now in
     let n = c.args.number.0 in
     let t = c.take_bytes-taken in
-    let i = taking setup calls n to w (length c.args.bytes.now) k p c.requires.connection c.requires.taking in
-    stops-free setup calls n to t.new.from w c.args.bytes.now c.free_bytes-free.result t.result.0 t.result.1 i c.requires.full c.free_bytes-free.ensures
+    let i = taking c.args.offer setup calls n to w (length c.args.bytes.now) k p c.requires.connection c.requires.taking in
+    stops-free c.args.offer setup calls n to t.new.from w c.args.bytes.now c.free_bytes-free.result t.result.0 t.result.1 i c.requires.full
+    c.free_bytes-free.ensures
     c.if-free-bytes.true t.ensures.takes c.in-More.is
 
 pub returns-else-free-bytes-clause-feeds : goal.returns-else-free-bytes-clause-feeds
@@ -46,6 +49,7 @@ returns-else-free-bytes-clause-feeds c setup w k p =
     let to = c.args.connection.now in
     let n = c.args.number.0 in
     let t = c.take_bytes-taken in
-    let i = taking setup calls n to w (length c.args.bytes.now) k p c.requires.connection c.requires.taking in
-    more-free setup calls n to t.new.from w c.args.bytes.now c.free_bytes-free.result t.result.0 t.result.1 i c.free_bytes-free.ensures t.ensures.takes
+    let i = taking c.args.offer setup calls n to w (length c.args.bytes.now) k p c.requires.connection c.requires.taking in
+    more-free c.args.offer setup calls n to t.new.from w c.args.bytes.now c.free_bytes-free.result t.result.0 t.result.1 i c.free_bytes-free.ensures
+    t.ensures.takes
     c.in-More.is

@@ -14,26 +14,26 @@ use Rattle.engine_feed.proofs.reading.read_record.Goals as goal
 pub returns-in-Err : goal.returns-in-Err
 returns-in-Err c =
     let bytes = c.args.record.items in
-    let h = subst (λ (r : Result Heard RecordFault). Hears r (records.heard bytes)) c.in-Err.is c.read_record.ensures in
-    heard_is bytes ∙ h ∙ ap (λ n. Err n) (sym (numbers-same _)) ∙ ap (λ (f : StreamFault). Err (fault_number f)) (sym c.stream_fault.ensures)
+    let h = subst (λ (r : Result Heard RecordFault). Hears r (records.heard_by c.args.offer bytes)) c.in-Err.is c.read_record_of.ensures in
+    heard_is c.args.offer bytes ∙ h ∙ ap (λ n. Err n) (sym (numbers-same _)) ∙ ap (λ (f : StreamFault). Err (fault_number f)) (sym c.stream_fault.ensures)
 
 pub returns-in-Call : goal.returns-in-Call
 returns-in-Call c =
     let bytes = c.args.record.items in
-    let h = subst (λ (r : Result Heard RecordFault). Hears r (records.heard bytes)) c.in-Ok.is c.read_record.ensures in
-    let q = subst (λ (r : Request). Tells c.in-Ok.field-0.xid r (records.heard bytes)) c.in-Call.is h in
-    heard_is bytes ∙ q
+    let h = subst (λ (r : Result Heard RecordFault). Hears r (records.heard_by c.args.offer bytes)) c.in-Ok.is c.read_record_of.ensures in
+    let q = subst (λ (r : Request). Tells c.in-Ok.field-0.xid r (records.heard_by c.args.offer bytes)) c.in-Call.is h in
+    heard_is c.args.offer bytes ∙ q
 
 pub returns-in-Refused : goal.returns-in-Refused
 returns-in-Refused c =
     let bytes = c.args.record.items in
-    let h = subst (λ (r : Result Heard RecordFault). Hears r (records.heard bytes)) c.in-Ok.is c.read_record.ensures in
-    let q = subst (λ (r : Request). Tells c.in-Ok.field-0.xid r (records.heard bytes)) c.in-Refused.is h in
-    heard_is bytes ∙ q
+    let h = subst (λ (r : Result Heard RecordFault). Hears r (records.heard_by c.args.offer bytes)) c.in-Ok.is c.read_record_of.ensures in
+    let q = subst (λ (r : Request). Tells c.in-Ok.field-0.xid r (records.heard_by c.args.offer bytes)) c.in-Refused.is h in
+    heard_is c.args.offer bytes ∙ q
 
 pub returns-in-Undecoded : goal.returns-in-Undecoded
 returns-in-Undecoded c =
     let bytes = c.args.record.items in
-    let h = subst (λ (r : Result Heard RecordFault). Hears r (records.heard bytes)) c.in-Ok.is c.read_record.ensures in
-    let q = subst (λ (r : Request). Tells c.in-Ok.field-0.xid r (records.heard bytes)) c.in-Undecoded.is h in
-    (types.Ask q.0 q.1.0, q.1.1, heard_is bytes ∙ q.1.2)
+    let h = subst (λ (r : Result Heard RecordFault). Hears r (records.heard_by c.args.offer bytes)) c.in-Ok.is c.read_record_of.ensures in
+    let q = subst (λ (r : Request). Tells c.in-Ok.field-0.xid r (records.heard_by c.args.offer bytes)) c.in-Undecoded.is h in
+    (types.Ask q.0 q.1.0, q.1.1, heard_is c.args.offer bytes ∙ q.1.2)

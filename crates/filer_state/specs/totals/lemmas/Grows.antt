@@ -188,11 +188,15 @@ module _ (a v more : ℕ) (credential : Credential) (moment : Moment) (c : Filer
       volumes = volumes-later j;
     }
 
-    put-later : (aggregate_lens a).put (record { spare = spare - more;
-        volumes = slice_set held.volumes v (Some (with_ranges (used + more) (volume_lens.of p))) }) c
+    put-later : (aggregate_lens a).put (record {
+      spare = spare - more;
+      volumes = slice_set held.volumes v (Some (with_ranges (used + more) (volume_lens.of p)));
+    }) c
         ≡ later
-    put-later = λ j. record { spare = slice_set c.spare a (spare - more);
-        volumes = put-one a c.volumes v p (with_ranges (used + more) (volume_lens.of p)) there j }
+    put-later = λ j. record {
+      spare = slice_set c.spare a (spare - more);
+      volumes = put-one a c.volumes v p (with_ranges (used + more) (volume_lens.of p)) there j;
+    }
 
     sound-all : AreSound later hands' (made + 1)
     sound-all u q is = ⊎_elim

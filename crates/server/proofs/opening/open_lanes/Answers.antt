@@ -1,4 +1,4 @@
-use Rattle.std.proofs.Common.{◌≡◌, ◌∙◌, ℕ, suc, ◌+◌, length, ap, arith, subst, sym}
+use Rattle.std.proofs.Common.{◌≡◌, ◌∙◌, ℕ, suc, ◌+◌, List, [], ◌∷◌, ◌++◌, length, ap, arith, subst, sym}
 use Rattle.std.specs.Arc.{arc_value}
 use Rattle.depot.specs.Words.{IsSeatHere}
 use Rattle.turns.specs.declared.shared.Filer.{Filer}
@@ -7,8 +7,11 @@ use Rattle.turns.specs.shared_waiting.Balance.{both, IsWhole}
 use Rattle.turns.specs.shared_waiting.Passes.{known}
 use Rattle.turns.specs.Balance.{Passed}
 use Rattle.turns.specs.Words.{seats_in, IsAt}
+use Rattle.nfs_values.specs.declared.offer.Offer.{Offer}
 use Rattle.lanes.specs.Words.{Identity}
-use Rattle.server.specs.Lanes.{by_place, places, places_below, seats_of, IsLaneOf}
+use Rattle.lanes.specs.declared.device.Device as devices
+use Rattle.lanes.specs.declared.lane.Lane.{Lane}
+use Rattle.server.specs.Lanes.{by_offer, by_place, places, places_below, seats_of, IsLaneOf}
 use Rattle.depot_rule.specs.Sums.{total}
 use Rattle.server.specs.Queues.{IsNewQueue}
 use Rattle.workers.proofs.Handed.{all-pushed}
@@ -17,6 +20,15 @@ use Rattle.server.proofs.opening.open_lanes.Goals as goal
 
 one-place : (weigh : ℕ × ℕ → ℕ) (count n : ℕ) → total weigh (places_below count (n + 1)) ≡ weigh (n, count) + total weigh (places_below count n)
 one-place weigh count n = let e : n + 1 ≡ suc n = omega arith in ap (λ m. total weigh (places_below count m)) e
+
+-- one lane more that offers the same
+offers-more : {D R : Type 0} {G : devices.Ghosts D} (weigh : Offer → ℕ) (offer : Offer) (xs ys : List (Lane D R G)) (x : Lane D R G)
+    → ys ≡ xs ++ x ∷ [] → by_offer weigh x ≡ weigh offer → total (by_offer weigh) xs ≡ total (λ _. weigh offer) xs
+    → total (by_offer weigh) ys ≡ total (λ _. weigh offer) ys
+offers-more weigh offer xs ys x is same before =
+    let a = total-last (by_offer weigh) ys xs x is in
+    let b = total-last (λ _. weigh offer) ys xs x is in
+    omega (arith, a, b, same, before)
 
 pub start-worker-requires-clause-seat : goal.start-worker-requires-clause-seat
 start-worker-requires-clause-seat g c =
@@ -61,6 +73,7 @@ loop-index-preserved g c =
           (sym s.passes.0) i.both;
       none = s.entries.0 ∙ i.none;
       of = all-pushed (IsLaneOf filer) xs ys x is i.of c.in_ok-lane.ensures.of;
+      offer = λ weigh. offers-more weigh c.args.offer xs ys x is (ap (λ (j : Identity). weigh j.1) c.in_ok-lane.ensures.identity) (i.offer weigh);
       len = let a = i.len in omega (arith, n, a);
       room = c.push_reserved.ensures.capacity ∙ i.room;
       left = let a = i.left in let b = s.seats.0 in omega (arith, n, a, b);
@@ -108,6 +121,11 @@ returns-clause-lanes g c =
           ap (λ k. total weigh (places_below c.args.count k)) last ∙ ap (λ k. total weigh (places k)) (sym m) in
           omega (arith, a, p, e, u);
     }
+
+pub returns-clause-offer : goal.returns-clause-offer
+returns-clause-offer g c = λ weigh.
+    offers-more weigh c.args.offer c.loop-index.lanes.items c.push_reserved-2.new.self.items c.in_ok-lane-2.lane c.push_reserved-2.ensures.items
+    (ap (λ (j : Identity). weigh j.1) c.in_ok-lane-2.ensures.identity) (c.loop-index.invariant.offer weigh)
 
 pub returns-clause-count : goal.returns-clause-count
 returns-clause-count g c =

@@ -3,7 +3,7 @@ use Rattle.std.specs.Arc.{arc_value}
 use Rattle.depot_rule.specs.Sums.{total}
 use Rattle.lanes.specs.Queues.{HasBoth}
 use Rattle.turns.specs.Words.{entries_in, seats_in, IsAt}
-use Rattle.server.specs.Lanes.{by_place, places_below, seats_of, IsLaneOf}
+use Rattle.server.specs.Lanes.{by_place, places_below, seats_of, AllOffer, IsLaneOf}
 use Rattle.server.proofs.opening.open_lanes.Given as goal
 
 abbrev pub invariant-loop-index : goal.invariant-loop-index
@@ -12,6 +12,7 @@ invariant-loop-index g l = record {
   both : HasBoth l.admits l.worker;
   none : entries_in l.worker ≡ [];
   of : All (IsLaneOf (arc_value l.filer)) l.lanes.items;
+  offer : AllOffer l.offer l.lanes.items;
   len : vec_len l.lanes + 1 ≡ l.index;
   room : vec_capacity l.lanes ≡ vec_capacity l.fn.lanes;
   left : seats_in l.worker + vec_len l.lanes ≡ 64;

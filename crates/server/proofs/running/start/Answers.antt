@@ -1,6 +1,6 @@
 use Rattle.std.proofs.Common.{refl, arith}
 use Rattle.std.specs.Arc.{arc_value}
-use Rattle.server.proofs.Started.{as-many, threads-of}
+use Rattle.server.proofs.Started.{all-serve, as-many, threads-of}
 use Rattle.server.proofs.running.start.Goals as goal
 
 pub returns-clause-threads : goal.returns-clause-threads
@@ -10,6 +10,12 @@ returns-clause-threads g c =
     c.start_all.new.threads.items c.in_ok-tasks.ensures.items c.in_ok-threads.ensures.items c.in_ok-man_all.ensures.each
     (c.if-not-start_all.ensures.each refl) c.in_ok-filer.ensures.lanes
     (c.in_ok-man_all.ensures.of filer) (c.start_all.ensures.serve filer) c.in_ok-man_all.ensures.seats (c.if-not-start_all.ensures.seats refl)
+
+pub returns-clause-offer : goal.returns-clause-offer
+returns-clause-offer g c =
+    all-serve (arc_value c.in_ok-filer.filer) c.in_ok-filer.lanes.items c.in_ok-tasks.tasks.items c.man_all.new.tasks.items
+    c.in_ok-threads.threads.items c.start_all.new.threads.items c.in_ok-tasks.ensures.items c.in_ok-threads.ensures.items
+    c.in_ok-man_all.ensures.each (c.if-not-start_all.ensures.each refl) c.args.options.now.offer c.in_ok-filer.ensures.offer
 
 pub returns-clause-count : goal.returns-clause-count
 returns-clause-count g c =

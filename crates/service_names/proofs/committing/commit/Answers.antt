@@ -44,8 +44,10 @@ returns-in-RegularFile c =
     let verifier = ap (λ (l : LogicalValue). l.verifier) c.get-in-RegularFile.ensures in
     record {
       right = commits v fileid set
-          (Ok (record { file = record { before = c.prior-before.result; after = c.shown_now-after.result };
-          verifier = c.get-in-RegularFile.result.now.verifier }))
+          (Ok (record {
+            file = record { before = c.prior-before.result; after = c.shown_now-after.result };
+            verifier = c.get-in-RegularFile.result.now.verifier;
+          }))
           ((λ j. CommitDone (record { before = before j; after = after j }) (verifier j))
           ∙ sym (file-told v fileid set inode there c.in-RegularFile.size c.in-RegularFile.filled _ (ap kind_value c.in-RegularFile.is)));
     }

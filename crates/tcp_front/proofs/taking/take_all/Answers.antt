@@ -15,9 +15,9 @@ returns-in-Some-clause-taken g c =
     let sink' = c.take_record-size.new.sink in
     let part = take c.take_record-size.result.0 (take (length c.args.bytes.now - c.loop-taken.taken)
     (drop c.loop-taken.taken c.args.bytes.now)) in
-    let h = subst (λ (o : Option Stopped). HasTaken came layout t mid part o s' sink') c.in-Some.is
+    let h = subst (λ (o : Option Stopped). HasTaken came layout c.args.offer t mid part o s' sink') c.in-Some.is
     c.take_record-size.ensures.taken in
-    last-taken came layout g.met.S.RecordSink.came_more c.args.stream.now t s' c.args.sink.now mid sink' c.args.bytes.now _ _
+    last-taken came layout c.args.offer g.met.S.RecordSink.came_more c.args.stream.now t s' c.args.sink.now mid sink' c.args.bytes.now _ _
     c.loop-taken.invariant.did c.in-Some.stopped h
 
 pub loop-taken-preserved : goal.loop-taken-preserved
@@ -30,13 +30,13 @@ loop-taken-preserved g c =
     let sink' = c.take_record-size.new.sink in
     let part = take c.take_record-size.result.0 (take (length c.args.bytes.now - c.loop-taken.taken)
     (drop c.loop-taken.taken c.args.bytes.now)) in
-    let h = subst (λ (o : Option Stopped). HasTaken came layout t mid part o s' sink') c.in-None.is
+    let h = subst (λ (o : Option Stopped). HasTaken came layout c.args.offer t mid part o s' sink') c.in-None.is
     c.take_record-size.ensures.taken in
     record {
       within = search rules;
       few = h.stops.1;
       layout = c.take_record-size.ensures.layout ∙ c.loop-taken.invariant.layout;
-      did = next-taken came layout g.met.S.RecordSink.came_more c.args.stream.now t s' c.args.sink.now mid sink'
+      did = next-taken came layout c.args.offer g.met.S.RecordSink.came_more c.args.stream.now t s' c.args.sink.now mid sink'
           c.args.bytes.now _ _
           c.loop-taken.invariant.did h;
     }

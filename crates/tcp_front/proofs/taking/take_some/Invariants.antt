@@ -10,7 +10,7 @@ invariant-loop-taken g l = record {
   within : l.taken ≤ length l.bytes;
   few : l.stream.records < most_records;
   layout : g.S.RecordSink.layout l.sink ≡ g.S.RecordSink.layout l.fn.sink;
-  did : HasTaken g.S.RecordSink.came (layout_of l.layout) l.fn.stream l.fn.sink (take l.taken l.bytes) None l.stream l.sink;
+  did : HasTaken g.S.RecordSink.came (layout_of l.layout) l.offer l.fn.stream l.fn.sink (take l.taken l.bytes) None l.stream l.sink;
 }
 
 abbrev pub decreases-loop-taken : goal.decreases-loop-taken

@@ -18,7 +18,7 @@ kept c =
     let stands = subst (λ x. StandsFor job_of job_reply_of x (world new) (books new.desk)) c.dispatch.ensures.setup c.dispatch.ensures.sound.stands in
     subst (λ x. Kept x (world new)) (sym c.dispatch.ensures.setup)
     (kept-after job_of job_reply_of c.parts_partition.ensures c.events_keep_headline.ensures (setup_in s) (world s) (event_of c.args.event)
-    (answer_of c.dispatch.result) (world new) (books new.desk) c.codec_is_scan.ensures c.self.invariant.0.1 stands c.dispatch.ensures.events)
+    (answer_of c.dispatch.result) (world new) (books new.desk) (c.codecs_are_scans.ensures s.offer) c.self.invariant.0.1 stands c.dispatch.ensures.events)
 
 pub invariant_of-self : goal.invariant_of-self
 invariant_of-self c = ((c.dispatch.ensures.sound, kept c), c.dispatch.ensures.counted)

@@ -1,5 +1,6 @@
 use Rattle.filer_state.specs.names.lemmas.Lookup.{lookup-right}
 use Rattle.filer_state.specs.names.lemmas.Listing.{readdir-right, readdir-starves, commit-right}
+use Rattle.filer_state.specs.names.lemmas.Objects.{access-right, fsinfo-right, pathconf-right}
 use Rattle.filer_state.proofs.names.laws.name_calls_are_right.Goals as goal
 
 pub returns-clause-lookup : goal.returns-clause-lookup
@@ -15,3 +16,12 @@ pub returns-clause-starved : goal.returns-clause-starved
 returns-clause-starved c =
     λ v fileid handle node cookie verifier count set directory page eof lists.
     readdir-starves v fileid handle node cookie verifier count set directory page eof lists
+
+pub returns-clause-access : goal.returns-clause-access
+returns-clause-access c = λ v fileid handle node asked who set. access-right v fileid handle node asked who set
+
+pub returns-clause-fsinfo : goal.returns-clause-fsinfo
+returns-clause-fsinfo c = λ v fileid handle node set. fsinfo-right v fileid handle node set
+
+pub returns-clause-pathconf : goal.returns-clause-pathconf
+returns-clause-pathconf c = λ v fileid handle node set. pathconf-right v fileid handle node set

@@ -19,5 +19,5 @@ invariant_of-self c =
 pub returns : goal.returns
 returns c =
     slots-written stored None refl c.self.inside.inodes.value c.deref_mut.result.now c.slot-slot.result c.args.fileid (Some c.args.inode) (Some
-        (inode_value c.args.inode))
+    (inode_value c.args.inode))
     c.args.self.now c.self.invariant.0 c.slot-slot.ensures.slot c.deref_mut.ensures.value refl c.self.view_is

@@ -21,7 +21,7 @@ pub invariant_of-self-2 : goal.invariant_of-self-2
 invariant_of-self-2 c =
     let old = values_of c.self.inside.chunks.entries in
     let none : get old c.args.fileid.0 ≡ None = subst (λ (m : FinMap nat_cmp values.Inode). get m c.args.fileid.0
-        ≡ None) (sym c.self.view_is) c.requires.absent in
+    ≡ None) (sym c.self.view_is) c.requires.absent in
     ap (λ n. n + 1) c.self.invariant
     ∙ sym (ap (λ m. len m) (put-values c.args.fileid.0 (inode_value c.args.inode) c.self.inside.chunks c.put.new.chunks c.in_ok-put.ensures.ok)
     ∙ len-put c.args.fileid.0 (inode_value c.args.inode) old none)

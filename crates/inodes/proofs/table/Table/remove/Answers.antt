@@ -38,7 +38,7 @@ returns-clause-gone c =
 pub returns-in_err-inode-clause-inode : goal.returns-in_err-inode-clause-inode
 returns-in_err-inode-clause-inode c =
     ap (option_map inode_value) c.from_residual.ensures ∙ c.in_err-inode.ensures.item ∙ sym (get-values_of c.self.inside.chunks c.args.fileid.0)
-        ∙ ap (λ m. get m c.args.fileid.0) c.self.view_is
+    ∙ ap (λ m. get m c.args.fileid.0) c.self.view_is
 
 pub returns-in_err-inode-clause-gone : goal.returns-in_err-inode-clause-gone
 returns-in_err-inode-clause-gone c =

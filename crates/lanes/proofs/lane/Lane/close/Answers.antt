@@ -16,7 +16,7 @@ invariant_of-self-2 g c =
       filer_is = l.filer_is;
       inside = l.inside;
       picked = l.picked;
-      story = closed-told _ _ (layout_in (arc_value l.filer)) l.index l.count (entries_in l.intake.worker) l.connections c.close_under.new.connections
+      story = closed-told _ _ (layout_in (arc_value l.filer)) l.offer l.index l.count (entries_in l.intake.worker) l.connections c.close_under.new.connections
           c.args.key
           (known l.intake.pass).put l.intake.outboxes c.close_under.new.outboxes c.close_under.result c.close_under.ensures l.story;
     }

@@ -20,6 +20,8 @@ invariant_of-result-2 g c = record {
   filer_is = search rules;
   inside = ∣ c.requires.inside ∣₁;
   picked = c.requires.nothing.1;
-  story = ∣ story-begins _ _ _ c.args.lane c.args.lanes (entries_in c.args.worker) (known c.args.pass).put _ _ c.requires.nothing.2 c.requires.nothing.0
+  story =
+      ∣ story-begins _ _ _ c.args.offer c.args.lane c.args.lanes (entries_in c.args.worker) (known c.args.pass).put _ _ c.requires.nothing.2
+      c.requires.nothing.0
       c.requires.lane (search rules) (search rules) (search rules) ∣₁;
 }

@@ -19,7 +19,7 @@ invariant_of-self g c =
       filer_is = l.filer_is;
       inside = l.inside;
       picked = l.picked;
-      story = reserved-told _ _ (layout_in (arc_value l.filer)) l.index l.count (entries_in l.intake.worker) l.connections c.reserve.new.self
+      story = reserved-told _ _ (layout_in (arc_value l.filer)) l.offer l.index l.count (entries_in l.intake.worker) l.connections c.reserve.new.self
           (known l.intake.pass).put l.intake.outboxes l.intake.outboxes c.reserve.ensures.rest_kept refl l.story;
     }
 
@@ -30,7 +30,7 @@ invariant_of-self-in-Err-1 g c =
       filer_is = l.filer_is;
       inside = l.inside;
       picked = l.picked;
-      story = reserved-told _ _ (layout_in (arc_value l.filer)) l.index l.count (entries_in l.intake.worker) l.connections c.reserve.new.self
+      story = reserved-told _ _ (layout_in (arc_value l.filer)) l.offer l.index l.count (entries_in l.intake.worker) l.connections c.reserve.new.self
           (known l.intake.pass).put l.intake.outboxes c.open.new.self c.reserve.ensures.rest_kept c.in-Err.ensures.err l.story;
     }
 
@@ -42,11 +42,12 @@ invariant_of-self-3 g c =
       filer_is = l.filer_is;
       inside = l.inside;
       picked = l.picked;
-      story = opens-told _ _ (layout_in (arc_value l.filer)) l.index l.count (entries_in l.intake.worker) l.connections c.reserve.new.self
+      story = opens-told _ _ (layout_in (arc_value l.filer)) l.offer l.index l.count (entries_in l.intake.worker) l.connections c.reserve.new.self
           c.insert_reserved.new.self c.insert_reserved.result c.new-connection.result (known l.intake.pass).put
           l.intake.outboxes c.open.new.self c.reserve.ensures.rest_kept
           c.insert_reserved.ensures.was_vacant c.insert_reserved.ensures.updates c.in-Ok.ensures.ok (c.new-connection.ensures.number ∙ number)
-          (subst (λ x. Reads g.D.Device.unread x c.new-connection.result []) (sym c.new-connection.ensures.opened) c.new-connection.ensures.reads)
+          (subst (λ x. Reads l.offer g.D.Device.unread x c.new-connection.result []) (sym c.new-connection.ensures.opened) (c.new-connection.ensures.reads
+          l.offer))
           (subst (λ x. Writes g.D.Device.written x c.new-connection.result [] []) (sym c.new-connection.ensures.opened) c.new-connection.ensures.writes)
           l.story;
     }

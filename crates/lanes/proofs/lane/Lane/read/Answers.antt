@@ -16,35 +16,35 @@ use Rattle.lanes.proofs.lane.Lane.read.Goals as goal
 pub invariant_of-self : goal.invariant_of-self
 invariant_of-self g c =
     let l = c.args.self.now in
-    let k = reads-keep _ _ _ l.connections c.read_under.new.connections c.args.key l.intake c.read_under.new.intake _
+    let k = reads-keep _ _ _ _ l.connections c.read_under.new.connections c.args.key l.intake c.read_under.new.intake _
     c.read_under.result c.read_under.ensures in
     let i = c.read_under.new.intake in
     record {
       filer_is = k.0 ∙ l.filer_is;
       inside = ∥∥₁_map l.inside (same-inside (arc_value l.filer) l.intake.queue i.queue l.intake.worker i.worker k.4 i.takes);
       picked = k.2 ∙ l.picked;
-      story = subst (λ (es : List FilerEntry). ∥ Story g.D.Device.unread g.D.Device.written (layout_in (arc_value l.filer)) l.index l.count es
+      story = subst (λ (es : List FilerEntry). ∥ Story g.D.Device.unread g.D.Device.written (layout_in (arc_value l.filer)) l.offer l.index l.count es
           (known i.pass).put i.outboxes (get c.read_under.new.connections) ∥₁) (sym (same-entries l.intake.worker i.worker k.4))
-          (reads-told _ _ (layout_in (arc_value l.filer)) l.index l.count (entries_in l.intake.worker) _ l.connections
+          (reads-told _ _ (layout_in (arc_value l.filer)) l.offer l.index l.count (entries_in l.intake.worker) _ l.connections
           c.read_under.new.connections c.args.key l.intake i _ c.read_under.result (search rules) c.read_under.ensures l.story);
     }
 
 pub returns-clause-identity : goal.returns-clause-identity
 returns-clause-identity g c =
     let l = c.args.self.now in
-    let k = reads-keep _ _ _ l.connections c.read_under.new.connections c.args.key l.intake c.read_under.new.intake _
+    let k = reads-keep _ _ _ _ l.connections c.read_under.new.connections c.args.key l.intake c.read_under.new.intake _
     c.read_under.result c.read_under.ensures in
-    ap (λ (q : SharedWaiting Message Layout). ((l.index, l.count), q)) k.1
+    ap (λ (q : SharedWaiting Message Layout). ((l.index, l.count), l.offer, q)) k.1
 
 pub returns-clause-worker : goal.returns-clause-worker
 returns-clause-worker g c =
     let l = c.args.self.now in
-    (reads-keep _ _ _ l.connections c.read_under.new.connections c.args.key l.intake c.read_under.new.intake _
+    (reads-keep _ _ _ _ l.connections c.read_under.new.connections c.args.key l.intake c.read_under.new.intake _
     c.read_under.result c.read_under.ensures).4
 
 pub returns-clause-seats : goal.returns-clause-seats
 returns-clause-seats g c =
     let l = c.args.self.now in
-    let k = reads-keep _ _ _ l.connections c.read_under.new.connections c.args.key l.intake c.read_under.new.intake _
+    let k = reads-keep _ _ _ _ l.connections c.read_under.new.connections c.args.key l.intake c.read_under.new.intake _
     c.read_under.result c.read_under.ensures in
     same-seats l.intake.worker c.read_under.new.intake.worker k.4

@@ -16,6 +16,8 @@ invariant_of-self g c =
       filer_is = l.filer_is;
       inside = l.inside;
       picked = l.picked;
-      story = flags-told _ _ (layout_in (arc_value l.filer)) l.index l.count (entries_in l.intake.worker) l.connections c.flag_under.new.connections c.args.key
+      story =
+          flags-told _ _ (layout_in (arc_value l.filer)) l.offer l.index l.count (entries_in l.intake.worker) l.connections c.flag_under.new.connections
+          c.args.key
           (known l.intake.pass).put l.intake.outboxes c.args.flags c.flag_under.ensures l.story;
     }

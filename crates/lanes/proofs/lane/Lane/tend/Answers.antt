@@ -46,7 +46,7 @@ invariant_of-self g c =
           (
             l.picked,
             (
-              tends-told _ _ (layout_in (arc_value l.filer)) l.index l.count (known l.intake.pass).put l.intake.outboxes _ l.intake.worker
+              tends-told _ _ (layout_in (arc_value l.filer)) l.offer l.index l.count (known l.intake.pass).put l.intake.outboxes _ l.intake.worker
                   c.tend_in.new.self c.args.tend c.tend_in.result
                   (subst (λ (f : Filer). Tends (layout_in f) l.intake.worker c.args.tend c.tend_in.result c.tend_in.new.self) same
                   c.tend_in.ensures.tends) l.story,

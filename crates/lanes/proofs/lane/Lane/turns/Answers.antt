@@ -28,9 +28,9 @@ invariant_of-self g c =
       filer_is = c.turns.ensures.filer ∙ l.filer_is;
       inside = ∣ subst (λ (f : Filer). IsAt f i.queue i.worker) same c.turns.ensures.inside ∣₁;
       picked = ap (λ v. v.picked) c.turns.ensures.pass ∙ l.picked;
-      story = put-kept _ _ (layout_in (arc_value l.filer)) l.index l.count (entries_in i.worker) i.outboxes _ l.intake.pass i.pass
+      story = put-kept _ _ (layout_in (arc_value l.filer)) l.offer l.index l.count (entries_in i.worker) i.outboxes _ l.intake.pass i.pass
           c.turns.ensures.pass
-          (turns-told _ _ (layout_in (arc_value l.filer)) l.index l.count (known l.intake.pass).put _ c.args.moment
+          (turns-told _ _ (layout_in (arc_value l.filer)) l.offer l.index l.count (known l.intake.pass).put _ c.args.moment
           (standing_of l.intake.worker) l.intake.outboxes i.outboxes c.turns.result (standing_of i.worker)
           (subst (λ (f : Filer). HasTurnedOn HasPutAll (layout_in f) (standing_of l.intake.worker) c.args.moment l.intake.outboxes
           c.turns.result i.outboxes (standing_of i.worker)) same c.turns.ensures.turned) c.turns.ensures.once l.story);
@@ -47,4 +47,4 @@ returns-clause-turned g c =
 pub returns-clause-identity : goal.returns-clause-identity
 returns-clause-identity g c =
     let l = c.args.self.now in
-    ap (λ (q : SharedWaiting Message Layout). ((l.index, l.count), q)) c.turns.ensures.queue
+    ap (λ (q : SharedWaiting Message Layout). ((l.index, l.count), l.offer, q)) c.turns.ensures.queue

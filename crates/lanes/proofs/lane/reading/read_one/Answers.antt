@@ -7,6 +7,6 @@ returns g c = record {
   between = c.read-came.new.self;
   owed = c.read-came.new.sink.owed;
   is = c.set_owed-2.ensures;
-  read = read-owing g.D.Device.unread g.D.Device.written (layout_of c.args.layout.now) c.args.connection.now c.set_owed.new.self c.args.intake.now
+  read = read-owing g.D.Device.unread g.D.Device.written (layout_of c.args.layout.now) c.args.offer c.args.connection.now c.set_owed.new.self c.args.intake.now
       c.read-came.new.sink _ c.read-came.result c.read-came.new.self c.set_owed.ensures c.read-came.ensures.read;
 }

@@ -23,6 +23,12 @@ told-requires-clause-to c =
 pub told-requires-clause-now : goal.told-requires-clause-now
 told-requires-clause-now c = whole-within c.args.between.volume.0 (logical_before c.args.held.now) c.requires.whole
 
+pub returns-in-Some-clause-told : goal.returns-in-Some-clause-told
+returns-in-Some-clause-told c =
+    let s = logical_before c.args.held.now in
+    sym (ap (λ (a : LogicalAnswer). a.answer) (bad-names (renaming_in c.args.between c.args.from_name.now c.args.to_name.now s)
+    (done_between c.args.between c.args.from_name.now c.args.to_name.now s) c.requires.done (status_of c.in-Some.fault) c.in-Some.ensures))
+
 pub returns-in-Some-clause-set : goal.returns-in-Some-clause-set
 returns-in-Some-clause-set c =
     let s = logical_before c.args.held.now in

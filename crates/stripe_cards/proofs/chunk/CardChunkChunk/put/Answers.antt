@@ -22,5 +22,5 @@ invariant_of-self c =
 pub returns : goal.returns
 returns c =
     slots-written packed_card Absent refl c.self.inside.cards.value c.deref_mut.result.now c.slot-slot.result c.args.fileid c.pack.result (Some
-        (card_of c.args.card))
+    (card_of c.args.card))
     c.args.self.now c.self.invariant.0 c.slot-slot.ensures.slot c.deref_mut.ensures.value c.pack.ensures c.self.view_is

@@ -7,7 +7,7 @@ use Rattle.stripe_cards.proofs.chunk.CardChunkChunk.take.Goals as goal
 pub overflow_sub-self : goal.overflow_sub-self
 overflow_sub-self c =
     let sum = used-written packed_card Absent refl c.self.inside.cards.value c.deref.result.now c.deref_mut.result.now c.slot-slot.result Absent
-        c.self.invariant.0
+    c.self.invariant.0
     c.slot-slot.ensures.within c.deref.ensures c.deref_mut.ensures.value in
     omega (arith, sum, c.self.invariant.1, c.count.ensures)
 

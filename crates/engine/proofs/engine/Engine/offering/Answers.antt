@@ -6,7 +6,7 @@ use Rattle.engine.specs.counts.Counts.{world_counts}
 use Rattle.engine.specs.Seen.{setup_in, world}
 use Rattle.engine.specs.Shown.{shown}
 use Rattle.engine.proofs.Promised.{sound-history, promised}
-use Rattle.engine.proofs.engine.Engine.new.Goals as goal
+use Rattle.engine.proofs.engine.Engine.offering.Goals as goal
 
 -- a run begins within the headline
 begins : ((setup : Setup) → Kept setup (opening_world setup)) → (s : State) → world s ≡ opening_world (setup_in s) → Kept (setup_in s) (world s)

@@ -1,0 +1,130 @@
+//! The command line of `filer export`.
+
+use clap::{Arg, ArgAction, ArgMatches, value_parser};
+use nfs_values::Offer;
+use server::{MOST_NETWORKS, Network, Options, Peers, VolumePlan};
+use std::alloc::{AllocError, Global};
+use std::net::SocketAddr;
+
+/// The most volumes, workers, ranges of a volume, and connections.
+const MOST_VOLUMES: i64 = 8;
+
+const MOST_WORKERS: i64 = 64;
+
+const MOST_RANGES: i64 = 16;
+
+const MOST_CONNECTIONS: i64 = 1_000_000;
+
+/// What stands behind the help of `export`.
+const EXAMPLE: &str = "\
+Example:
+  filer export --listen 127.0.0.1:2049
+  mount -t nfs -o vers=3,proto=tcp,port=2049,mountport=2049,mountproto=tcp,nolock,nordirplus \
+127.0.0.1:/vol0 /mnt
+
+Whoever may connect may do everything: modes are told, and guard nothing. All files are gone when
+the program ends.";
+
+/// An option with a number from 1, and what it is without.
+fn number<'a>(
+    alloc: Global,
+    name: &'a str,
+    most: i64,
+    default: &'a str,
+    help: &'a str,
+) -> Result<Arg<'a>, AllocError> {
+    Ok(
+        optional(alloc, name, "N", help)
+            .value_parser(value_parser!(u64).range(1..=most))
+            .default_value(default),
+    )
+}
+
+/// An option with a value.
+fn optional<'a>(alloc: Global, name: &'a str, value: &'a str, help: &'a str) -> Arg<'a> {
+    Arg::new(alloc, name)
+        .long(name)
+        .value_name(value)
+        .help(help)
+        .action(ArgAction::Set)
+}
+
+/// `export --listen ADDR [--volumes N] [--workers N] [--ranges N] [--connections N]
+/// [--allow NETWORK]..`, in any order.
+pub(crate) fn export<'a>(alloc: Global) -> Result<clap::Command<'a>, AllocError> {
+    let listen = optional(
+        alloc,
+        "listen",
+        "ADDR",
+        "Address and port, as 127.0.0.1:2049",
+    );
+    let connections = optional(
+        alloc,
+        "connections",
+        "N",
+        "Connections until it ends [none]",
+    )
+    .value_parser(value_parser!(u64).range(1..=MOST_CONNECTIONS));
+    let allow = optional(
+        alloc,
+        "allow",
+        "NETWORK",
+        "Who may connect, as 10.0.0.0/8 [loopback]",
+    )
+    .action(ArgAction::Append);
+    clap::Command::new(alloc, "export")
+        .about("Serves clients that mount, until it is ended")
+        .after_help(EXAMPLE)
+        .arg(listen.required(true))?
+        .arg(number(alloc, "volumes", MOST_VOLUMES, "1", "Volumes, 1 to 8")?)?
+        .arg(number(
+            alloc,
+            "workers",
+            MOST_WORKERS,
+            "2",
+            "Threads that serve, 1 to 64",
+        )?)?
+        .arg(number(
+            alloc,
+            "ranges",
+            MOST_RANGES,
+            "16",
+            "Ranges of 4 MiB a volume, 1 to 16",
+        )?)?
+        .arg(connections)?
+        .arg(allow)
+}
+
+/// Whose connections are served: of the own machine, where no network is named.
+fn peers_in(matches: &ArgMatches<'_>) -> Option<Peers> {
+    let Some(texts) = matches.get_strs("allow") else {
+        return Some(Peers::Loopback);
+    };
+    if texts.len() > MOST_NETWORKS {
+        return None;
+    }
+    let mut networks = [None; MOST_NETWORKS];
+    for (network, text) in networks.iter_mut().zip(texts) {
+        *network = Some(Network::read(text)?);
+    }
+    Some(Peers::Networks(networks))
+}
+
+/// What a server that clients mount is asked to do: without a total of connections it takes as many
+/// as there are numbers.
+pub(crate) fn options_in(matches: &ArgMatches<'_>) -> Option<Options> {
+    let address = matches.get_str("listen")?.parse::<SocketAddr>().ok()?;
+    let volumes = matches.get_one::<u64>("volumes")?;
+    let workers = matches.get_one::<u64>("workers")?;
+    let ranges = matches.get_one::<u64>("ranges")?;
+    let connections = matches.get_one::<u64>("connections").unwrap_or(u64::MAX);
+    let plan = VolumePlan::export(ranges as u32)?;
+    let peers = peers_in(matches)?;
+    let options = Options::new(address, volumes as usize, workers as usize, connections)?;
+    Some(
+        options
+            .with_offer(Offer::export())
+            .with_peers(peers)
+            .with_plan(plan),
+    )
+}

@@ -1,0 +1,12 @@
+use Rattle.std.proofs.Common.{◌<◌, List, ℕ, ◌++◌, ap, sym, ◌∙◌, rules, append_assoc}
+use Rattle.xdr.specs.Shape.{spelling, word}
+use Rattle.nfs_model.specs.Serial.Mount.{volume_path}
+use Rattle.nfs_types.specs.Results.{export_shape, export_value}
+use Rattle.nfs_types.proofs.Exported.{exports_more}
+use Rattle.nfs_types.proofs.mounting.+write_exports.Goals as goal
+
+pub returns-clause-items : goal.returns-clause-items
+returns-clause-items n c =
+    let some : 0 < c.args.count = search rules in
+    rw (c.write_exports.ensures.items, c.write_export.ensures.items, c.write.ensures.items, exports_more c.args.first c.args.count some)
+    (simp append_assoc)

@@ -1,0 +1,6 @@
+use Rattle.std.proofs.Common.{arith, sym}
+use Rattle.nfs_types.proofs.Exported.{length-exports}
+use Rattle.nfs_types.proofs.mounting.ExportsEncode.size.Goals as goal
+
+pub returns : goal.returns
+returns c = sym (length-exports 0 c.args.self.now.volumes)

@@ -1,0 +1,39 @@
+//! Procedures that aren't supported.
+
+ghost use Rattle.std.specs.Prelude.{◌≡◌, ◌≤◌};
+
+/// A procedure on links or devices, of which there are none, or READDIRPLUS, for which a client
+/// has READDIR (our profile).
+#[derive(Clone, Copy)]
+pub enum UnsupportedProcedure {
+    /// READLINK (RFC 1813 section 3.3.5).
+    ReadLink,
+    /// SYMLINK (RFC 1813 section 3.3.10).
+    MakeSymbolicLink,
+    /// MKNOD (RFC 1813 section 3.3.11).
+    MakeDevice,
+    /// LINK (RFC 1813 section 3.3.15).
+    MakeLink,
+    /// READDIRPLUS (RFC 1813 section 3.3.17).
+    ReadDirectoryPlus,
+}
+
+impl UnsupportedProcedure {
+    ghost use Rattle.nfs_model.specs.Serial.Absent.{absent_in};
+    ghost use Rattle.nfs_values.specs.Unsupported.{unsupported_of};
+
+    /// How many optional parts its failure arm has: attributes are one, attributes before and
+    /// after are two.
+    pub fn absent_parts(self) -> u32
+        ensures parts { result ≡ absent_in (unsupported_of self) }
+        ensures few { result ≤ 3 }
+    {
+        match self {
+            UnsupportedProcedure::ReadLink => 1,
+            UnsupportedProcedure::MakeSymbolicLink => 2,
+            UnsupportedProcedure::MakeDevice => 2,
+            UnsupportedProcedure::MakeLink => 3,
+            UnsupportedProcedure::ReadDirectoryPlus => 1,
+        }
+    }
+}
