@@ -154,12 +154,13 @@ fn accept<R: Wait, W: Write>(
         &mail.common.ends,
     ) {
         Ok(()) => {
+            mail.common.ends.wait_for_fewer(rt, connections, 1);
+            Ok(())
+        }
         Err(fault) => Err(of_serving(fault)),
     }
 }
 
-/// Serves as many connections of a listener as the options say to their ends, and stops the lanes.
-/// Where one can't be
 /// Serves as many connections of a listener as the options say to their ends, and stops the lanes.
 /// Where one can't be accepted no more are, and those that are open are closed. What comes back is
 /// what is left of a filer that was served to its end, by the lanes that its threads were started
