@@ -19,7 +19,7 @@ const MOST_CONNECTIONS: i64 = 1_000_000;
 const EXAMPLE: &str = "\
 Example:
   filer export --listen 127.0.0.1:2049
-  mount -t nfs -o vers=3,proto=tcp,port=2049,mountport=2049,mountproto=tcp,nolock,nordirplus \
+  mount -t nfs -o vers=3,proto=tcp,port=2049,mountport=2049,mountproto=tcp,nolock \
 127.0.0.1:/vol0 /mnt
 
 Whoever may connect may do everything: modes are told, and guard nothing. All files are gone when

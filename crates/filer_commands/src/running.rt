@@ -164,8 +164,8 @@ fn tell_exports<E: Write>(err: &mut E, options: &Options, address: &SocketAddr) 
     let _told = writeln!(err, "may connect: {who}; modes are told and guard nothing");
     let _told = writeln!(
         err,
-        "mount -t nfs -o vers=3,proto=tcp,port={port},mountport={port},mountproto=tcp,nolock,\
-         nordirplus {ip}:/vol0 /mnt"
+        "mount -t nfs -o vers=3,proto=tcp,port={port},mountport={port},mountproto=tcp,nolock \
+         {ip}:/vol0 /mnt"
     );
 }
 

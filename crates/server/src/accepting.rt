@@ -45,23 +45,29 @@ fn give<R: Wait>(
     turn + 1
 }
 
-/// Accepts so many connections, each while fewer than 64 are open, and leaves them for the lanes by
-/// turns. Where one can't be accepted no more are.
+/// Accepts so many connections, each while fewer than 64 are open, and leaves those of these peers
+/// for the lanes by turns. Others are closed before a byte is read, and count as ended. Where one
+/// can't be accepted no more are.
 pub(crate) fn accept_all<R: Wait>(
     rt: &R,
     listener: &TcpListener,
     connections: u64,
+    peers: &Peers,
     mailboxes: &[Arc<Mailbox>],
     ends: &Ends,
 ) -> Result<(), ServeFault> {
     let mut turn = 0;
     for opened in 0..connections {
         ends.wait_for_fewer(rt, opened, MOST_OPEN);
-        let stream = match listener.accept() {
-            Ok((stream, _peer)) => stream,
+        let (stream, peer) = match listener.accept() {
+            Ok(accepted) => accepted,
             Err(_failed) => return Err(ServeFault::AcceptFailed),
         };
-        turn = give(rt, mailboxes, ends, turn, stream);
+        if peers.has(&peer.ip()) {
+            turn = give(rt, mailboxes, ends, turn, stream);
+        } else {
+            ends.add();
+        }
     }
     Ok(())
 }

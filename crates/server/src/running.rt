@@ -140,11 +140,19 @@ fn accept<R: Wait, W: Write>(
     rt: &R,
     mail: &Mail,
     listener: &TcpListener,
-    connections: u64,
+    options: &Options,
     out: &mut W,
 ) -> Result<(), ServerFault> {
     print_address(listener, out)?;
-    match accept_all(rt, listener, connections, &mail.boxes, &mail.common.ends) {
+    let (connections, peers) = (options.connections, &options.peers);
+    match accept_all(
+        rt,
+        listener,
+        connections,
+        peers,
+        &mail.boxes,
+        &mail.common.ends,
+    ) {
         Ok(()) => {
             mail.common.ends.wait_for_fewer(rt, connections, 1);
             Ok(())
@@ -153,13 +161,14 @@ fn accept<R: Wait, W: Write>(
     }
 }
 
-/// Serves so many connections of a listener to their ends, and stops the lanes. Where one can't be
-/// accepted no more are, and those that are open are closed. What comes back is what is left of a
-/// filer that was served to its end, by the lanes that its threads were started with.
+/// Serves as many connections of a listener as the options say to their ends, and stops the lanes.
+/// Where one can't be accepted no more are, and those that are open are closed. What comes back is
+/// what is left of a filer that was served to its end, by the lanes that its threads were started
+/// with.
 fn run<R, W>(
     rt: &R,
     listener: &TcpListener,
-    connections: u64,
+    options: &Options,
     running: Running<R>,
     out: &mut W,
 ) -> Result<FilerEnd, ServerFault>
@@ -179,7 +188,7 @@ where
         lanes,
         room,
     } = running;
-    let accepted = accept(rt, &mail, listener, connections, out);
+    let accepted = accept(rt, &mail, listener, options, out);
     mail.stop();
     let lanes = join_all(rt, threads, lanes);
     match accepted {
@@ -203,7 +212,7 @@ where
     W: Write,
 {
     let running = start(rt, alloc, options)?;
-    let end = run(&rt, listener, options.connections, running, out)?;
+    let end = run(&rt, listener, options, running, out)?;
     let count = end.unfinished();
     writeln!(out, "left {count}").map_err(|_| ServerFault::Output)
 }
