@@ -1,6 +1,6 @@
 //! MOUNT (RFC 1813 appendix I): heads, arguments and results.
 
-use crate::bytes::{bytes_of, holds, joined, same};
+use crate::bytes::{bytes_of, holds, same};
 use nfs_types::{Bad, decode_call, encode_result};
 use nfs_values::{
     Answer, Call, Exports, FileHandle, Fileid, MountCall, MountResults, Named, Offer, Procedure,
@@ -97,14 +97,6 @@ fn garbage_of_mount(rt: HostRuntime) {
     is_garbage(&rt, Procedure::ListExports, &PATH);
 }
 
-/// Looks whether results are spelled so.
-fn spells(rt: &(impl Abort + AllocGlobal), answer: Answer, wanted: &[u8]) {
-    let mut out = Vec::new(rt.alloc());
-    encode_result(&mut out, &answer).expect(rt, "no memory");
-    mem::forget(answer);
-    same(rt, &out, wanted);
-}
-
 #[test]
 fn handles_of_roots(rt: HostRuntime) {
     let root = Named {
@@ -112,34 +104,42 @@ fn handles_of_roots(rt: HostRuntime) {
         fileid: Fileid(1),
     };
     let handle = FileHandle::naming(root);
+    let mounted = Answer::Mount(Ok(MountResults { handle }));
+    let mut out = Vec::new(rt.alloc());
+    encode_result(&mut out, &mounted).expect(&rt, "no memory");
+    mem::forget(mounted);
     // MNT3_OK, 12 bytes of handle, and two flavors: AUTH_SYS and AUTH_NONE
-    let wanted = joined(
-        &rt,
-        &[
-            &[0, 0, 0, 0, 0, 0, 0, 12],
-            &[0, 0, 0, 1, 0, 0, 0, 0, 0, 0, 0, 1],
-            &[0, 0, 0, 2, 0, 0, 0, 1, 0, 0, 0, 0],
-        ],
-    );
-    spells(&rt, Answer::Mount(Ok(MountResults { handle })), &wanted);
-    // MNT3ERR_NAMETOOLONG alone
-    spells(&rt, Answer::Mount(Err(Status::NameTooLong)), &[0, 0, 0, 63]);
+    same(&rt, &out, &bytes_of(&rt, &[0, 12, 1, 0, 1, 2, 1, 0]));
 }
 
 #[test]
-fn lists_of_mount(rt: HostRuntime) {
-    spells(&rt, Answer::ListMounts, &[0, 0, 0, 0]);
-    // each path behind TRUE, without groups
-    let second = [0, 0, 0, 5, b'/', b'v', b'o', b'l', b'1', 0, 0, 0];
-    let wanted = joined(
-        &rt,
-        &[
-            &[0, 0, 0, 1],
-            &PATH,
-            &[0, 0, 0, 0, 0, 0, 0, 1],
-            &second,
-            &[0, 0, 0, 0, 0, 0, 0, 0],
-        ],
-    );
-    spells(&rt, Answer::ListExports(Exports { volumes: 2 }), &wanted);
+fn long_paths_are_told(rt: HostRuntime) {
+    let refused = Answer::Mount(Err(Status::NameTooLong));
+    let mut out = Vec::new(rt.alloc());
+    encode_result(&mut out, &refused).expect(&rt, "no memory");
+    mem::forget(refused);
+    // MNT3ERR_NAMETOOLONG alone
+    same(&rt, &out, &bytes_of(&rt, &[63]));
+}
+
+#[test]
+fn no_mounts_are_listed(rt: HostRuntime) {
+    let listed = Answer::ListMounts;
+    let mut out = Vec::new(rt.alloc());
+    encode_result(&mut out, &listed).expect(&rt, "no memory");
+    mem::forget(listed);
+    same(&rt, &out, &bytes_of(&rt, &[0]));
+}
+
+#[test]
+fn exports_are_listed(rt: HostRuntime) {
+    let listed = Answer::ListExports(Exports { volumes: 2 });
+    let mut out = Vec::new(rt.alloc());
+    encode_result(&mut out, &listed).expect(&rt, "no memory");
+    mem::forget(listed);
+    // each path behind TRUE, without groups: `/vol0` and `/vol1`
+    let wanted = [
+        1, 5, 0x2f766f6c, 0x30000000, 0, 1, 5, 0x2f766f6c, 0x31000000, 0, 0,
+    ];
+    same(&rt, &out, &bytes_of(&rt, &wanted));
 }

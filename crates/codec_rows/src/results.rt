@@ -1,6 +1,6 @@
 //! Results, as bytes.
 
-use crate::bytes::{joined, read_answer, same};
+use crate::bytes::{bytes_of, joined, read_answer, same};
 use nfs_types::encode_result;
 use nfs_values::{
     AccessResults, Answer, Attributes, Change, Cookie, DirectoryEntry, FileKind, Fileid,
@@ -200,22 +200,21 @@ fn paths_are_told(rt: HostRuntime) {
     same(&rt, &out, &wanted);
 }
 
-/// Looks whether the results of a procedure that isn't supported are NFS3ERR_NOTSUPP and so many
-/// parts that are absent.
-fn leaves_out(rt: &(impl Abort + AllocGlobal), which: UnsupportedProcedure, parts: usize) {
+/// Looks whether the results of a procedure that isn't supported are these words.
+fn leaves_out(rt: &(impl Abort + AllocGlobal), which: UnsupportedProcedure, words: &[u32]) {
     let failed = Answer::Unsupported(which);
     let mut out = Vec::new(rt.alloc());
     encode_result(&mut out, &failed).expect(rt, "no memory");
     mem::forget(failed);
-    let wanted = joined(rt, &[&[0, 0, 0x27, 0x14], &[0; 12][..4 * parts]]);
-    same(rt, &out, &wanted);
+    same(rt, &out, &bytes_of(rt, words));
 }
 
 #[test]
 fn what_is_not_supported_says_so(rt: HostRuntime) {
-    leaves_out(&rt, UnsupportedProcedure::ReadLink, 1);
-    leaves_out(&rt, UnsupportedProcedure::MakeSymbolicLink, 2);
-    leaves_out(&rt, UnsupportedProcedure::MakeDevice, 2);
-    leaves_out(&rt, UnsupportedProcedure::MakeLink, 3);
-    leaves_out(&rt, UnsupportedProcedure::ReadDirectoryPlus, 1);
+    // NFS3ERR_NOTSUPP, and each optional part absent
+    leaves_out(&rt, UnsupportedProcedure::ReadLink, &[10004, 0]);
+    leaves_out(&rt, UnsupportedProcedure::MakeSymbolicLink, &[10004, 0, 0]);
+    leaves_out(&rt, UnsupportedProcedure::MakeDevice, &[10004, 0, 0]);
+    leaves_out(&rt, UnsupportedProcedure::MakeLink, &[10004, 0, 0, 0]);
+    leaves_out(&rt, UnsupportedProcedure::ReadDirectoryPlus, &[10004, 0]);
 }

@@ -142,6 +142,7 @@ run-is-call layout calls.Null credential moment a at = absurd at.0
 run-is-call layout (calls.Unsupported which) credential moment a at = absurd at.0
 run-is-call layout calls.Census credential moment a at = absurd at.0
 run-is-call layout (calls.Grow volume more) credential moment a at = absurd at.0
+run-is-call layout (calls.Mount asked) credential moment a at = absurd at.0
 run-is-call layout call credential moment a at =
     on-handle layout a (call_of call) credential moment (run-home layout call a at) (run-tried layout call credential a at) (λ server. refl)
 
