@@ -32,6 +32,9 @@ LONG_NAMES = ["full_volume", "blocks_in_a_hand"]
 # How long a run may take, in seconds.
 PATIENCE = 60
 
+# What may be written to the error output of a program that ends with a fault: a line for people.
+WORDS = re.compile(rb"(error|filer replay [^\n]+): [^\n]+\n")
+
 # A script of more events is long; so many of its events are run after the one that met the refusal was sent again.
 LONG = 100
 FEW = 24
