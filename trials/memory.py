@@ -3,6 +3,7 @@
 import atexit
 import mmap
 import os
+import re
 import shutil
 import struct
 import subprocess
@@ -10,6 +11,9 @@ import tempfile
 from pathlib import Path
 
 HERE = Path(__file__).resolve().parent
+
+# What may be written to the error output of a program that ends with a fault: a line for people.
+WORDS = re.compile(rb"(error|filer (replay|serve) [^\n]+): [^\n]+\n")
 
 # Words of the page, as in refuse.c.
 COUNTING, FROM_ACCEPT, REFUSED_CALL, ALL_AFTER, CALLS, REFUSALS, PAGE_WORDS = range(7)

@@ -5,7 +5,7 @@ import re
 import signal
 import subprocess
 
-from memory import Page, environment
+from memory import WORDS, Page, environment
 from scripts import Event, Script, feed, is_as_typed, spelled
 
 # The scripts, each with what it is about.
@@ -31,9 +31,6 @@ LONG_NAMES = ["full_volume", "blocks_in_a_hand"]
 
 # How long a run may take, in seconds.
 PATIENCE = 60
-
-# What may be written to the error output of a program that ends with a fault: a line for people.
-WORDS = re.compile(rb"(error|filer replay [^\n]+): [^\n]+\n")
 
 # A script of more events is long; so many of its events are run after the one that met the refusal was sent again.
 LONG = 100
@@ -98,7 +95,7 @@ class Runner:
             raise Wrong(f"the program doesn't end within {PATIENCE} seconds")
         if done.returncode < 0:
             raise Wrong(f"the program is killed by {signal.Signals(-done.returncode).name}")
-        if done.stderr:
+        if done.stderr and (done.returncode == 0 or not WORDS.fullmatch(done.stderr)):
             raise Wrong(f"the program writes to its error output: {done.stderr[:200]!r}")
         return Result(done.returncode, done.stdout.decode(), self.page.calls, self.page.refusals)
 

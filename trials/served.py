@@ -7,7 +7,7 @@ import socket
 import subprocess
 
 import wire
-from memory import Page, environment
+from memory import WORDS, Page, environment
 from wire import ADMIN, NFS, handle, hyper, opaque, words
 
 # How long an answer, or the server's end, may take, in seconds.
@@ -36,7 +36,7 @@ class Server:
     def __init__(self, filer, environment, connections):
         words = ["serve", "--listen", "127.0.0.1:0", "--volumes", "1", "--workers", "2", "--connections", str(connections)]
         self.process = subprocess.Popen(
-            [filer] + words, env=environment, stdin=subprocess.DEVNULL, stdout=subprocess.PIPE, stderr=subprocess.STDOUT
+            [filer] + words, env=environment, stdin=subprocess.DEVNULL, stdout=subprocess.PIPE, stderr=subprocess.PIPE
         )
         self.printed = None
         # the first line: where it listens, or why it doesn't
@@ -54,6 +54,9 @@ class Server:
             raise Wrong(f"the server is killed by {signal.Signals(-status).name}")
         if self.printed is None:
             self.printed = self.process.stdout.read().decode()
+            told = self.process.stderr.read()
+            if told and (status == 0 or not WORDS.fullmatch(told)):
+                raise Wrong(f"the server writes to its error output: {told[:200]!r}")
         return self.printed, status
 
     def kill(self):
@@ -61,6 +64,7 @@ class Server:
             self.process.kill()
             self.process.wait()
         self.process.stdout.close()
+        self.process.stderr.close()
 
 
 class Link:
