@@ -26,18 +26,10 @@ Whoever may connect may do everything: modes are told, and guard nothing. All fi
 the program ends.";
 
 /// An option with a number from 1, and what it is without.
-fn number<'a>(
-    alloc: Global,
-    name: &'a str,
-    most: i64,
-    default: &'a str,
-    help: &'a str,
-) -> Result<Arg<'a>, AllocError> {
-    Ok(
-        optional(alloc, name, "N", help)
-            .value_parser(value_parser!(u64).range(1..=most))
-            .default_value(default),
-    )
+fn number<'a>(alloc: Global, name: &'a str, most: i64, default: &'a str, help: &'a str) -> Arg<'a> {
+    optional(alloc, name, "N", help)
+        .value_parser(value_parser!(u64).range(1..=most))
+        .default_value(default)
 }
 
 /// An option with a value.
@@ -76,21 +68,21 @@ pub(crate) fn export<'a>(alloc: Global) -> Result<clap::Command<'a>, AllocError>
         .about("Serves clients that mount, until it is ended")
         .after_help(EXAMPLE)
         .arg(listen.required(true))?
-        .arg(number(alloc, "volumes", MOST_VOLUMES, "1", "Volumes, 1 to 8")?)?
+        .arg(number(alloc, "volumes", MOST_VOLUMES, "1", "Volumes, 1 to 8"))?
         .arg(number(
             alloc,
             "workers",
             MOST_WORKERS,
             "2",
             "Threads that serve, 1 to 64",
-        )?)?
+        ))?
         .arg(number(
             alloc,
             "ranges",
             MOST_RANGES,
             "16",
             "Ranges of 4 MiB a volume, 1 to 16",
-        )?)?
+        ))?
         .arg(connections)?
         .arg(allow)
 }
@@ -118,7 +110,7 @@ pub(crate) fn options_in(matches: &ArgMatches<'_>) -> Option<Options> {
     let workers = matches.get_one::<u64>("workers")?;
     let ranges = matches.get_one::<u64>("ranges")?;
     let connections = matches.get_one::<u64>("connections").unwrap_or(u64::MAX);
-    let plan = VolumePlan::export(ranges as u32)?;
+    let plan = VolumePlan::export(u32::try_from(ranges).ok()?)?;
     let peers = peers_in(matches)?;
     let options = Options::new(address, volumes as usize, workers as usize, connections)?;
     Some(

@@ -1,5 +1,5 @@
 -- What a server may be asked for.
-use Rattle.std.specs.Prelude.{ℕ, ◌<◌, ◌≤◌}
+use Rattle.std.specs.Prelude.{◌≡◌, ℕ, ◌<◌, ◌≤◌}
 use Rattle.server.specs.declared.plan.VolumePlan.{VolumePlan}
 
 -- so many volumes and workers
@@ -10,6 +10,6 @@ IsInRange volumes workers = (0 < volumes × volumes ≤ 8) × (0 < workers × wo
 abbrev pub AreRanges : ℕ → Type 0
 AreRanges ranges = 0 < ranges × ranges ≤ 16
 
--- the plan of `serve`
-abbrev pub basic_plan : VolumePlan
-basic_plan = record { ranges = 4; stripes = 8; mib = 16; spare = 16 }
+-- the plan of `serve`: 4 ranges, 8 stripes, files of 16 MiB, and 16 spare ranges
+abbrev pub IsBasic : VolumePlan → Type 0
+IsBasic plan = (plan.ranges ≡ 4) × (plan.stripes ≡ 8) × (plan.mib ≡ 16) × (plan.spare ≡ 16)

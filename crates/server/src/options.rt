@@ -33,7 +33,7 @@ pub struct Options {
 impl Options {
     ghost use Rattle.std.specs.Prelude.{◌≡◌, IfNone, IfSome};
     ghost use Rattle.nfs_values.specs.Offer.{basic};
-    ghost use Rattle.server.specs.Asked.{basic_plan, IsInRange};
+    ghost use Rattle.server.specs.Asked.{IsBasic, IsInRange};
     ghost use Rattle.server.specs.declared.peers.Peers.TheVariants.{All};
 
     /// These options, where the numbers are in their ranges, and else none. The offer and the plan
@@ -47,7 +47,7 @@ impl Options {
         ensures given { IfSome result (λ options. options.address ≡ address
             × options.volumes ≡ volumes × options.workers ≡ workers
             × options.connections ≡ connections × options.offer ≡ basic
-            × options.plan ≡ basic_plan × options.peers ≡ All) }
+            × IsBasic options.plan × options.peers ≡ All) }
         ensures in_range { IfSome result (λ options. IsInRange volumes workers) }
         ensures refused { IfNone result (IsInRange volumes workers → ⊥) }
     {

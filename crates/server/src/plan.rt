@@ -22,11 +22,11 @@ const MOST_RANGES: u32 = 16;
 
 impl VolumePlan {
     ghost use Rattle.std.specs.Prelude.{◌≡◌, IfNone, IfSome};
-    ghost use Rattle.server.specs.Asked.{basic_plan, AreRanges};
+    ghost use Rattle.server.specs.Asked.{AreRanges, IsBasic};
 
     /// The plan of `serve`: volumes of 16 MiB, with files as large.
     pub fn basic() -> VolumePlan
-        ensures { result ≡ basic_plan }
+        ensures { IsBasic result }
     {
         VolumePlan {
             ranges: 4,
