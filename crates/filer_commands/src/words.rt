@@ -136,7 +136,7 @@ fn chosen<'a>(matches: &ArgMatches<'a>) -> Option<Command<'a>> {
     match matches.subcommand() {
         Some(("replay", inner)) => path_in(inner),
         Some(("serve", inner)) => options_in(inner),
-        Some(("export", inner)) => export_words::options_in(inner).map(Command::Export),
+        Some(("export", inner)) => Some(Command::Export(export_words::options_in(inner)?)),
         Some(("version", _)) => Some(Command::Version),
         _ => None,
     }
