@@ -45,8 +45,8 @@ const REFUSED: [&[&str]; 7] = [
 #[test]
 fn lines_that_are_none(rt: HostRuntime) {
     for words in &REFUSED {
-        let fault = command(rt.alloc(), words);
-        assert!(&rt; matches!(fault, Err(ProgramFault::CommandLine)));
+        let fault = command(rt.alloc(), words).err();
+        assert!(&rt; fault == Some(ProgramFault::CommandLine));
     }
 }
 
@@ -66,6 +66,8 @@ fn what_is_so_unless_it_is_said(rt: HostRuntime) {
 
 #[test]
 fn versions_are_asked(rt: HostRuntime) {
-    let asked = command(rt.alloc(), &["filer", "version"]);
-    assert!(&rt; matches!(asked, Ok(Command::Version)));
+    match command(rt.alloc(), &["filer", "version"]) {
+        Ok(Command::Version) => {}
+        _ => panic!(&rt; "no version"),
+    }
 }
