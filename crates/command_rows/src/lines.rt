@@ -96,15 +96,17 @@ where
     R: Abort + Files + AllocGlobal + Threads + Wait + Clock,
     R: Net<Listener = TcpListener, Stream = TcpStream> + Copy + Drop + Send + 'static,
 {
-    let fault = command(rt.alloc(), words);
-    assert!(&rt; matches!(fault, Err(ProgramFault::CommandLine)));
+    let fault = command(rt.alloc(), words).err();
+    assert!(&rt; fault == Some(ProgramFault::CommandLine));
     ends(rt, words, 2, b"fault 60\n");
 }
 
 #[test]
 fn command_lines_are_read(rt: HostRuntime) {
-    let chosen = command(rt.alloc(), &["filer", "replay", "x"]);
-    assert!(&rt; matches!(chosen, Ok(Command::Replay { path }) if path == "x"));
+    match command(rt.alloc(), &["filer", "replay", "x"]) {
+        Ok(Command::Replay { path }) => assert!(&rt; path == "x"),
+        _ => panic!(&rt; "no script"),
+    }
     for words in &REFUSED {
         refuse(rt, words);
     }
