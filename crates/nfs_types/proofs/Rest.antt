@@ -2,24 +2,20 @@
 use Rattle.std.proofs.Common.{◌≡◌, ℕ, ◌+◌, ◌*◌, ◌<◌, List, [], ◌∷◌, ◌++◌, length, map, drop, get_or, refl, sym, ap, ◌∙◌, append_assoc, arith}
 use Rattle.std.specs.List.{flat_map}
 use Rattle.std.proofs.lemmas.List.{length-append, at_drop_more}
-use Rattle.xdr.specs.Shape.{Chain, word, spelling}
-use Rattle.nfs_values.specs.declared.answer.DirectoryEntry.{DirectoryEntry}
+use Rattle.xdr.specs.Shape.{Shape, Chain, Value, word, spelling}
 use Rattle.nfs_values.specs.declared.answer.VolumeCount.{VolumeCount}
-use Rattle.nfs_values.specs.Answer.{entry_of, count_of}
-use Rattle.nfs_types.specs.Results.{entry_shape, entry_value, count_shape, count_value}
+use Rattle.nfs_values.specs.Answer.{count_of}
+use Rattle.nfs_types.specs.Results.{count_shape, count_value}
 
--- the entries of a list, and one of them
-abbrev pub entries_spelled : List DirectoryEntry → List ℕ
-entries_spelled entries = spelling (Chain entry_shape) (map entry_value (map entry_of entries))
+-- the items of a list
+abbrev pub chain_spelled : {T : Type 0} (shape : Shape) → (T → Value shape) → List T → List ℕ
+chain_spelled shape value items = spelling (Chain shape) (map value items)
 
-abbrev pub entry_spelled : DirectoryEntry → List ℕ
-entry_spelled entry = spelling entry_shape (entry_value (entry_of entry))
-
-pub entries_more : (entries : List DirectoryEntry) (i : ℕ) (x : DirectoryEntry) → i < length entries → x ≡ get_or entries i x
-    → entries_spelled (drop i entries) ≡ word 1 ++ (entry_spelled x ++ entries_spelled (drop (i + 1) entries))
-entries_more entries i x lt e =
-    at_drop_more entries_spelled entries i x lt
-    ∙ ap (λ (y : DirectoryEntry). entries_spelled (y ∷ drop (i + 1) entries)) (sym e)
+pub chain_more : {T : Type 0} (shape : Shape) (value : T → Value shape) (items : List T) (i : ℕ) (x : T) → i < length items → x ≡ get_or items i x
+    → chain_spelled shape value (drop i items) ≡ word 1 ++ (spelling shape (value x) ++ chain_spelled shape value (drop (i + 1) items))
+chain_more {T} shape value items i x lt e =
+    at_drop_more (chain_spelled shape value) items i x lt
+    ∙ ap (λ (y : T). chain_spelled shape value (y ∷ drop (i + 1) items)) (sym e)
 
 -- the counts of a list, and one of them
 abbrev pub counts_spelled : List VolumeCount → List ℕ

@@ -62,36 +62,30 @@ fn pad(out: &mut Vec<u8>, size: usize)
     append(out, &[0]);
 }
 
-/// How many bytes the entries of a directory take.
-fn size_of_entries(entries: &[DirectoryEntry]) -> usize
-    requires { length (spelling (Chain entry_shape) (map entry_value (map entry_of entries.now)))
-        < 2 ^ 32 }
-    ensures { result
-        ≡ length (spelling (Chain entry_shape) (map entry_value (map entry_of entries.now))) }
+/// How many bytes a list takes whose items stand each behind TRUE.
+fn size_of_chain<T: Encode>(items: &[T]) -> usize
+    requires { length (spelling (Chain T.shape) (map T.value items.now)) < 2 ^ 32 }
+    ensures { result ≡ length (spelling (Chain T.shape) (map T.value items.now)) }
 {
     let mut size = 4;
-    for entry in entries {
-        size += 4 + entry.size();
+    for item in items {
+        size += 4 + item.size();
     }
     size
 }
 
-/// The entries of a directory, each behind TRUE, and FALSE at the end.
-fn write_entries(entries: &[DirectoryEntry], out: &mut Vec<u8>)
-    requires short { length
-        (spelling (Chain entry_shape) (map entry_value (map entry_of entries.now)))
-        < 2 ^ 32 }
-    requires room { vec_len out.old
-        + length (spelling (Chain entry_shape) (map entry_value (map entry_of entries.now)))
+/// Appends the items of a list, each behind TRUE, and FALSE at the end.
+fn write_chain<T: Encode>(items: &[T], out: &mut Vec<u8>)
+    requires short { length (spelling (Chain T.shape) (map T.value items.now)) < 2 ^ 32 }
+    requires room { vec_len out.old + length (spelling (Chain T.shape) (map T.value items.now))
         ≤ vec_capacity out.old }
     ensures items { out.new.items
-        ≡ out.old.items
-        ++ spelling (Chain entry_shape) (map entry_value (map entry_of entries.now)) }
+        ≡ out.old.items ++ spelling (Chain T.shape) (map T.value items.now) }
     ensures capacity { vec_capacity out.old ≤ vec_capacity out.new }
 {
-    for entry in entries {
+    for item in items {
         true.write(out);
-        entry.write(out);
+        item.write(out);
     }
     false.write(out);
 }
@@ -103,13 +97,13 @@ impl Encode for ReadDirectoryResults {
         readdir_value (shown_of r.directory) (map entry_of r.entries.items) r.eof };
 
     fn size(&self) -> usize {
-        size_of_present(&self.directory) + 8 + size_of_entries(&self.entries) + 4
+        size_of_present(&self.directory) + 8 + size_of_chain(&self.entries) + 4
     }
 
     fn write(&self, out: &mut Vec<u8>) {
         write_present(&self.directory, out);
         Verifier([0; 8]).write(out);
-        write_entries(&self.entries, out);
+        write_chain(&self.entries, out);
         self.eof.write(out);
     }
 }
