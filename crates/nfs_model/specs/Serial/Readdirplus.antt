@@ -43,28 +43,28 @@ fitting_plus room (e ∷ es) =
 abbrev pub page_plus : ℕ → ℕ → List Listed → List Listed
 page_plus names_count count remaining = fitting_plus (count - 104) (fitting names_count remaining)
 
--- ---- the answer
+-- ---- the answer, by what is told of an entry
 
 -- a page, and whether it is the end
-abbrev pub page_plus_of : VolumeState → Shown → List Listed → List Listed → Effect
-page_plus_of volume directory remaining page =
-    Tells (ReaddirplusDone directory (map (listed_plus volume) page) (length page == length remaining))
+abbrev pub page_plus_of : (Listed → ListedPlus) → Shown → List Listed → List Listed → Effect
+page_plus_of told directory remaining page =
+    Tells (ReaddirplusDone directory (map told page) (length page == length remaining))
 
 -- a page that tells something: an entry, or that none remain
-abbrev pub paged_plus : ℕ → VolumeState → Shown → List Listed → List Listed → Effect
-paged_plus count volume directory [] page =
-    if nat_lt count 104 then Fails TooSmall else page_plus_of volume directory [] page
-paged_plus count volume directory (e ∷ es) [] = Fails TooSmall
-paged_plus count volume directory (e ∷ es) (x ∷ xs) = page_plus_of volume directory (e ∷ es) (x ∷ xs)
+abbrev pub paged_plus : ℕ → (Listed → ListedPlus) → Shown → List Listed → List Listed → Effect
+paged_plus count told directory [] page =
+    if nat_lt count 104 then Fails TooSmall else page_plus_of told directory [] page
+paged_plus count told directory (e ∷ es) [] = Fails TooSmall
+paged_plus count told directory (e ∷ es) (x ∷ xs) = page_plus_of told directory (e ∷ es) (x ∷ xs)
 
 -- the page that fits
-abbrev pub readdirplus_from : ℕ → ℕ → VolumeState → Shown → List Listed → Effect
-readdirplus_from names_count count volume directory remaining =
-    paged_plus count volume directory remaining (page_plus names_count count remaining)
+abbrev pub readdirplus_from : ℕ → ℕ → (Listed → ListedPlus) → Shown → List Listed → Effect
+readdirplus_from names_count count told directory remaining =
+    paged_plus count told directory remaining (page_plus names_count count remaining)
 
 -- STALE, NOTDIR, BAD_COOKIE, TOOSMALL
 abbrev pub readdirplus : ℕ → List ℕ → ℕ → ℕ → VolumeState → ℕ → Effect
 readdirplus cookie verifier names_count count volume fileid = on_directory (get volume.nodes fileid) (λ d.
     if not (cookie == 0) && not (same_name verifier (replicate 8 0)) then Fails BadCookie
-    else readdirplus_from (min names_count most_bytes) (min count most_bytes) volume
+    else readdirplus_from (min names_count most_bytes) (min count most_bytes) (listed_plus volume)
     (shown volume fileid (Directory d)) (above_cookie cookie (all_listed fileid d)))
