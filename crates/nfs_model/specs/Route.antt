@@ -2,8 +2,8 @@
 -- the handles, and of READ and WRITE the place of their bytes.
 use Rattle.std.specs.Prelude.{ℕ, List, []}
 use Rattle.nfs_model.specs.Types.{Call, Null, Getattr, Setattr, Lookup, CheckAccess, Read, Write, Create}
-use Rattle.nfs_model.specs.Types.{Mkdir, Remove, Rmdir, Rename, Readdir, Fsstat, Fsinfo, Pathconf, Commit}
-use Rattle.nfs_model.specs.Types.{Unsupported, Census, Grow, Mount}
+use Rattle.nfs_model.specs.Types.{Mkdir, Remove, Rmdir, Rename, Readdir, Readdirplus, Fsstat, Fsinfo, Pathconf}
+use Rattle.nfs_model.specs.Types.{Commit, Unsupported, Census, Grow, Mount}
 
 pub data Route : Type 0 where
   -- on no state
@@ -38,6 +38,7 @@ route (Remove directory name) = OfNames directory
 route (Rmdir directory name) = OfNames directory
 route (Rename from from_name to to_name) = OfTwoHandles from to
 route (Readdir directory cookie verifier count) = OfNames directory
+route (Readdirplus directory cookie verifier names_count count) = OfNames directory
 route (Fsstat handle) = OfVolume handle
 route (Fsinfo handle) = OfNames handle
 route (Pathconf handle) = OfNames handle

@@ -13,6 +13,7 @@ pub mod Remove
 pub mod Rmdir
 pub mod Rename
 pub mod Readdir
+pub mod Readdirplus
 pub mod Fsstat
 pub mod Fsinfo
 pub mod Pathconf

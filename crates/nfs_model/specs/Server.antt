@@ -59,7 +59,7 @@ pub record Server : Type 0 where
 abbrev pub block_size : ℕ
 block_size = 4096
 
--- larger counts of READ, WRITE and READDIR are taken as this
+-- larger counts of READ, WRITE, READDIR and READDIRPLUS are taken as this
 abbrev pub most_bytes : ℕ
 most_bytes = 65536
 

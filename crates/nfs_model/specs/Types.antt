@@ -41,14 +41,13 @@ pub data CreateMode : Type 0 where
   Guarded : (set : SetAttributes) → CreateMode
   Exclusive : (verifier : List ℕ) → CreateMode
 
--- the procedures on links and special devices (RFC 1813 sections 3.3.5, 3.3.10, 3.3.11 and 3.3.15), and
--- READDIRPLUS (section 3.3.17): none of them is supported (our profile)
+-- the procedures on links and special devices (RFC 1813 sections 3.3.5, 3.3.10, 3.3.11 and 3.3.15): none
+-- of them is supported (our profile)
 pub data UnsupportedProcedure : Type 0 where
   Readlink : UnsupportedProcedure
   Symlink : UnsupportedProcedure
   Mknod : UnsupportedProcedure
   Link : UnsupportedProcedure
-  Readdirplus : UnsupportedProcedure
 
 -- What the procedures of MOUNT ask that tell or find something (RFC 1813 appendix I, section 5.2). A
 -- path is the bytes that came.
@@ -77,6 +76,7 @@ pub data Call : Type 0 where
   Rmdir : (directory name : List ℕ) → Call
   Rename : (from from_name to to_name : List ℕ) → Call
   Readdir : (directory : List ℕ) (cookie : ℕ) (verifier : List ℕ) (count : ℕ) → Call
+  Readdirplus : (directory : List ℕ) (cookie : ℕ) (verifier : List ℕ) (names_count count : ℕ) → Call
   Fsstat : (handle : List ℕ) → Call
   Fsinfo : (handle : List ℕ) → Call
   Pathconf : (handle : List ℕ) → Call
@@ -165,6 +165,12 @@ pub record Listed : Type 0 where
   pub name : List ℕ
   pub fileid : ℕ
 
+-- entryplus3 (RFC 1813 section 3.3.17), whose handle is always there
+pub record ListedPlus : Type 0 where
+  pub entry : Listed
+  pub attributes : Option Shown
+  pub handle : List ℕ
+
 -- the numbers of FSSTAT (RFC 1813 section 3.3.18), of which the free and the available are the same
 pub record Space : Type 0 where
   pub total_bytes : ℕ
@@ -193,6 +199,7 @@ pub data Answer : Type 0 where
   GoneDone : (directory : Wcc) → Answer
   RenameDone : (from to : Wcc) → Answer
   ReaddirDone : (directory : Shown) (page : List Listed) (eof : Bool) → Answer
+  ReaddirplusDone : (directory : Shown) (page : List ListedPlus) (eof : Bool) → Answer
   FsstatDone : (object : Shown) (space : Space) → Answer
   FsinfoDone : (object : Shown) (largest : ℕ) → Answer
   PathconfDone : (object : Shown) → Answer

@@ -1,5 +1,6 @@
 use Rattle.std.specs.Prelude.{ℕ, List, Result, Ok, Err, length, map}
 use Rattle.std.specs.List.{range_with_len}
+use Rattle.std.specs.Option.{option_map}
 use Rattle.nfs_model.specs.Types as model
 use Rattle.nfs_model.specs.Serial.Mount.{volume_path}
 use Rattle.nfs_model.specs.Serial.Absent.{absent_in}
@@ -14,6 +15,8 @@ use Rattle.nfs_values.specs.declared.answer.MakeResults.{MakeResults}
 use Rattle.nfs_values.specs.declared.answer.RenameResults.{RenameResults}
 use Rattle.nfs_values.specs.declared.answer.DirectoryEntry.{DirectoryEntry}
 use Rattle.nfs_values.specs.declared.answer.ReadDirectoryResults.{ReadDirectoryResults}
+use Rattle.nfs_values.specs.declared.answer.DirectoryEntryPlus.{DirectoryEntryPlus}
+use Rattle.nfs_values.specs.declared.answer.ReadDirectoryPlusResults.{ReadDirectoryPlusResults}
 use Rattle.nfs_values.specs.declared.answer.FilesystemStatusResults.{FilesystemStatusResults}
 use Rattle.nfs_values.specs.declared.answer.FilesystemInfoResults.{FilesystemInfoResults}
 use Rattle.nfs_values.specs.declared.answer.PathConfigurationResults.{PathConfigurationResults}
@@ -23,7 +26,7 @@ use Rattle.nfs_values.specs.declared.answer.Answer.{Answer}
 use Rattle.nfs_values.specs.declared.mount.Exports.{Exports}
 use Rattle.nfs_values.specs.declared.mount.MountResults.{MountResults}
 use Rattle.nfs_values.specs.declared.answer.Answer.TheVariants.{Null, GetAttributes, SetAttributes, Lookup, CheckAccess, Read, Write, Create}
-use Rattle.nfs_values.specs.declared.answer.Answer.TheVariants.{MakeDirectory, Remove, RemoveDirectory, Rename, ReadDirectory, FilesystemStatus}
+use Rattle.nfs_values.specs.declared.answer.Answer.TheVariants.{MakeDirectory, Remove, RemoveDirectory, Rename, ReadDirectory, ReadDirectoryPlus, FilesystemStatus}
 use Rattle.nfs_values.specs.declared.answer.Answer.TheVariants.{FilesystemInfo, PathConfiguration, Commit, Unsupported, Census, Grow, Mount, ListMounts, ListExports}
 use Rattle.nfs_values.specs.Attributes.{shown_of, change_of}
 use Rattle.nfs_values.specs.Status.{status_of}
@@ -64,6 +67,18 @@ entry_of e = record { cookie = e.cookie.0; name = e.name; fileid = e.fileid.0 }
 
 abbrev pub entries_listed : ReadDirectoryResults → model.Answer
 entries_listed r = model.ReaddirDone (shown_of r.directory) (map entry_of r.entries.items) r.eof
+
+-- an entry of a directory, with the attributes and the handle of what it names
+abbrev pub entry_plus_of : DirectoryEntryPlus → model.ListedPlus
+entry_plus_of e = record {
+  entry = entry_of e.entry;
+  attributes = option_map shown_of e.attributes;
+  handle = e.handle;
+}
+
+abbrev pub entries_listed_plus : ReadDirectoryPlusResults → model.Answer
+entries_listed_plus r =
+    model.ReaddirplusDone (shown_of r.directory) (map entry_plus_of r.entries.items) r.eof
 
 -- the space of a filesystem
 abbrev pub space_of : FilesystemStatusResults → model.Space
@@ -122,6 +137,7 @@ answer_of (Remove result) = result_of name_gone 2 result
 answer_of (RemoveDirectory result) = result_of name_gone 2 result
 answer_of (Rename result) = result_of name_moved 4 result
 answer_of (ReadDirectory result) = result_of entries_listed 1 result
+answer_of (ReadDirectoryPlus result) = result_of entries_listed_plus 1 result
 answer_of (FilesystemStatus result) = result_of space_told 1 result
 answer_of (FilesystemInfo result) = result_of info_told 1 result
 answer_of (PathConfiguration result) = result_of path_told 1 result

@@ -2,7 +2,7 @@ use Rattle.std.specs.Option.{option_map}
 use Rattle.nfs_model.specs.Types as model
 use Rattle.nfs_values.specs.declared.call.Call.{Call}
 use Rattle.nfs_values.specs.declared.call.Call.TheVariants.{Null, GetAttributes, SetAttributes, Lookup, CheckAccess, Read, Write, Create, MakeDirectory}
-use Rattle.nfs_values.specs.declared.call.Call.TheVariants.{Remove, RemoveDirectory, Rename, ReadDirectory, FilesystemStatus, FilesystemInfo}
+use Rattle.nfs_values.specs.declared.call.Call.TheVariants.{Remove, RemoveDirectory, Rename, ReadDirectory, ReadDirectoryPlus, FilesystemStatus, FilesystemInfo}
 use Rattle.nfs_values.specs.declared.call.Call.TheVariants.{PathConfiguration, Commit, Unsupported, Census, Grow, Mount}
 use Rattle.nfs_values.specs.Moment.{moment_of}
 use Rattle.nfs_values.specs.Mount.{mount_call_of}
@@ -24,6 +24,8 @@ call_of (Remove target) = model.Remove target.directory target.name
 call_of (RemoveDirectory target) = model.Rmdir target.directory target.name
 call_of (Rename from to) = model.Rename from.directory from.name to.directory to.name
 call_of (ReadDirectory directory cookie verifier count) = model.Readdir directory cookie.0 verifier.0 count
+call_of (ReadDirectoryPlus directory cookie verifier names_count count) =
+    model.Readdirplus directory cookie.0 verifier.0 names_count count
 call_of (FilesystemStatus handle) = model.Fsstat handle
 call_of (FilesystemInfo handle) = model.Fsinfo handle
 call_of (PathConfiguration handle) = model.Pathconf handle

@@ -1,6 +1,6 @@
 use Rattle.nfs_model.specs.Types as model
 use Rattle.nfs_values.specs.declared.unsupported.UnsupportedProcedure.{UnsupportedProcedure}
-use Rattle.nfs_values.specs.declared.unsupported.UnsupportedProcedure.TheVariants.{ReadLink, MakeSymbolicLink, MakeDevice, MakeLink, ReadDirectoryPlus}
+use Rattle.nfs_values.specs.declared.unsupported.UnsupportedProcedure.TheVariants.{ReadLink, MakeSymbolicLink, MakeDevice, MakeLink}
 
 -- a procedure that isn't supported, as the model has it
 abbrev pub unsupported_of : UnsupportedProcedure → model.UnsupportedProcedure
@@ -8,4 +8,3 @@ unsupported_of ReadLink = model.Readlink
 unsupported_of MakeSymbolicLink = model.Symlink
 unsupported_of MakeDevice = model.Mknod
 unsupported_of MakeLink = model.Link
-unsupported_of ReadDirectoryPlus = model.Readdirplus

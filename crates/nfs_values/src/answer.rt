@@ -87,6 +87,32 @@ impl Drop for ReadDirectoryResults {
     }
 }
 
+/// An entry with what it names (entryplus3, RFC 1813 section 3.3.17).
+#[derive(Drop)]
+pub struct DirectoryEntryPlus {
+    pub entry: DirectoryEntry,
+    pub attributes: Option<Attributes>,
+    pub handle: FileHandle,
+}
+
+/// READDIRPLUS3resok (RFC 1813 section 3.3.17); its verifier is zero.
+pub struct ReadDirectoryPlusResults {
+    pub directory: Attributes,
+    pub entries: Vec<DirectoryEntryPlus>,
+    pub eof: bool,
+}
+
+// By hand, so that crates above have no proof of the drop of each of its parts.
+impl Drop for ReadDirectoryPlusResults {
+    fn drop(self) {
+        let ReadDirectoryPlusResults {
+            directory: _,
+            entries: _,
+            eof: _,
+        } = self;
+    }
+}
+
 /// FSSTAT3resok (RFC 1813 section 3.3.18). What is free is available to every user.
 #[derive(Clone, Copy)]
 pub struct FilesystemStatusResults {
@@ -145,6 +171,7 @@ pub enum Answer {
     RemoveDirectory(Result<Change, Status>),
     Rename(Result<RenameResults, Status>),
     ReadDirectory(Result<ReadDirectoryResults, Status>),
+    ReadDirectoryPlus(Result<ReadDirectoryPlusResults, Status>),
     FilesystemStatus(Result<FilesystemStatusResults, Status>),
     FilesystemInfo(Result<FilesystemInfoResults, Status>),
     PathConfiguration(Result<PathConfigurationResults, Status>),
@@ -180,6 +207,7 @@ impl Drop for Answer {
             Answer::RemoveDirectory(_) => {}
             Answer::Rename(_) => {}
             Answer::ReadDirectory(_) => {}
+            Answer::ReadDirectoryPlus(_) => {}
             Answer::FilesystemStatus(_) => {}
             Answer::FilesystemInfo(_) => {}
             Answer::PathConfiguration(_) => {}

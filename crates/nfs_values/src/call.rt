@@ -69,6 +69,15 @@ pub enum Call {
         /// The most bytes that the results may take.
         count: u32,
     },
+    ReadDirectoryPlus {
+        directory: FileHandle,
+        cookie: Cookie,
+        verifier: Verifier,
+        /// The most bytes that names, cookies and fileids may take.
+        names_count: u32,
+        /// The most bytes that the results may take.
+        count: u32,
+    },
     FilesystemStatus {
         handle: FileHandle,
     },
@@ -130,6 +139,13 @@ impl Drop for Call {
                 directory: _,
                 cookie: _,
                 verifier: _,
+                count: _,
+            } => {}
+            Call::ReadDirectoryPlus {
+                directory: _,
+                cookie: _,
+                verifier: _,
+                names_count: _,
                 count: _,
             } => {}
             Call::FilesystemStatus { handle: _ } => {}
@@ -196,6 +212,7 @@ impl Call {
                 to: &to.directory,
             },
             Call::ReadDirectory { directory, .. } => Route::Names { handle: directory },
+            Call::ReadDirectoryPlus { directory, .. } => Route::Names { handle: directory },
             Call::FilesystemStatus { handle } => Route::Volume { handle },
             Call::FilesystemInfo { handle } => Route::Names { handle },
             Call::PathConfiguration { handle } => Route::Names { handle },

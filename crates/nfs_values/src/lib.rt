@@ -24,9 +24,10 @@ mod unsupported;
 mod verifier;
 
 pub use answer::{
-    AccessResults, Answer, CommitResults, DirectoryEntry, FilesystemInfoResults,
-    FilesystemStatusResults, LookupResults, MakeResults, PathConfigurationResults,
-    ReadDirectoryResults, ReadResults, RenameResults, VolumeCount, WriteResults,
+    AccessResults, Answer, CommitResults, DirectoryEntry, DirectoryEntryPlus,
+    FilesystemInfoResults, FilesystemStatusResults, LookupResults, MakeResults,
+    PathConfigurationResults, ReadDirectoryPlusResults, ReadDirectoryResults, ReadResults,
+    RenameResults, VolumeCount, WriteResults,
 };
 pub use attributes::{Attributes, Change, FileKind, PriorAttributes};
 pub use bytes::{BytesRead, BytesToWrite, room_to_read};

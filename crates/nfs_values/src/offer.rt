@@ -17,8 +17,8 @@ impl Offer {
     ghost use Rattle.nfs_values.specs.Procedure.{numbers_of};
     ghost use Rattle.nfs_values.specs.declared.procedure.Procedure.{Procedure as Known};
 
-    /// The offer of `replay` and `serve`: every procedure but ACCESS, FSINFO and PATHCONF, and those
-    /// on links and devices.
+    /// The offer of `replay` and `serve`: every procedure but ACCESS, FSINFO, PATHCONF,
+    /// READDIRPLUS, those on links and devices, and those of MOUNT.
     pub fn basic() -> Offer
         ensures { result ≡ basic }
     {

@@ -2,8 +2,7 @@
 
 ghost use Rattle.std.specs.Prelude.{◌≡◌, ◌≤◌};
 
-/// A procedure on links or devices, of which there are none, or READDIRPLUS, for which a client
-/// has READDIR (our profile).
+/// A procedure on links or devices, of which there are none (our profile).
 #[derive(Clone, Copy)]
 pub enum UnsupportedProcedure {
     /// READLINK (RFC 1813 section 3.3.5).
@@ -14,8 +13,6 @@ pub enum UnsupportedProcedure {
     MakeDevice,
     /// LINK (RFC 1813 section 3.3.15).
     MakeLink,
-    /// READDIRPLUS (RFC 1813 section 3.3.17).
-    ReadDirectoryPlus,
 }
 
 impl UnsupportedProcedure {
@@ -33,7 +30,6 @@ impl UnsupportedProcedure {
             UnsupportedProcedure::MakeSymbolicLink => 2,
             UnsupportedProcedure::MakeDevice => 2,
             UnsupportedProcedure::MakeLink => 3,
-            UnsupportedProcedure::ReadDirectoryPlus => 1,
         }
     }
 }

@@ -1,9 +1,9 @@
 -- How many optional parts a failure of a procedure has in its results, all absent: so many zero
 -- words (our profile; RFC 1813 section 3.3 has the results).
 use Rattle.std.specs.Prelude.{ℕ}
-use Rattle.nfs_model.specs.Types.{UnsupportedProcedure, Readlink, Symlink, Mknod, Link, Readdirplus, Call, Null, Getattr}
+use Rattle.nfs_model.specs.Types.{UnsupportedProcedure, Readlink, Symlink, Mknod, Link, Call, Null, Getattr}
 use Rattle.nfs_model.specs.Types.{Setattr, Lookup, CheckAccess, Read, Write, Create, Mkdir, Remove, Rmdir}
-use Rattle.nfs_model.specs.Types.{Rename, Readdir, Fsstat, Fsinfo, Pathconf, Commit, Unsupported, Census}
+use Rattle.nfs_model.specs.Types.{Rename, Readdir, Readdirplus, Fsstat, Fsinfo, Pathconf, Commit, Unsupported, Census}
 use Rattle.nfs_model.specs.Types.{Grow, Mount}
 
 -- attributes are one, attributes before and after are two; of LINK there are both
@@ -12,7 +12,6 @@ absent_in Readlink = 1
 absent_in Symlink = 2
 absent_in Mknod = 2
 absent_in Link = 3
-absent_in Readdirplus = 1
 
 abbrev pub absent_parts : Call → ℕ
 absent_parts Null = 0
@@ -28,6 +27,7 @@ absent_parts (Remove directory name) = 2
 absent_parts (Rmdir directory name) = 2
 absent_parts (Rename from from_name to to_name) = 4
 absent_parts (Readdir directory cookie verifier count) = 1
+absent_parts (Readdirplus directory cookie verifier names_count count) = 1
 absent_parts (Fsstat handle) = 1
 absent_parts (Fsinfo handle) = 1
 absent_parts (Pathconf handle) = 1

@@ -3,7 +3,7 @@
 use Rattle.std.specs.Prelude.{ℕ, Bool, true, false, ◌&&◌, not, nat_lt, List, [], ◌∷◌, Option, Some, None}
 use Rattle.std.specs.Prelude.{is_some}
 use Rattle.nfs_model.specs.Types.{Call, Lookup, Write, Create, Mkdir, Remove, Rmdir, Rename, Mount, Mnt, Answer}
-use Rattle.nfs_model.specs.Types.{ReadDone, WriteDone, MadeDone, RenameDone, ReaddirDone, CensusDone, Reply}
+use Rattle.nfs_model.specs.Types.{ReadDone, WriteDone, MadeDone, RenameDone, ReaddirDone, ReaddirplusDone, CensusDone, Reply}
 use Rattle.nfs_model.specs.Types.{Success, Moment, Asked, Ask, Refused, Undecoded}
 use Rattle.nfs_model.specs.Server.{Node, File, Directory, Server}
 use Rattle.nfs_model.specs.Names.{same_name, find_name}
@@ -48,12 +48,13 @@ has_name None name = false
 has_name (Some (File f)) name = false
 has_name (Some (Directory d)) name = is_some (find_name name d.list)
 
--- whether a call with this answer takes memory: READ that gives bytes, READDIR, CENSUS, WRITE that
--- fills a block, CREATE, MKDIR and RENAME that add an entry (a CREATE adds one just where the name
--- isn't there)
+-- whether a call with this answer takes memory: READ that gives bytes, READDIR, READDIRPLUS, CENSUS,
+-- WRITE that fills a block, CREATE, MKDIR and RENAME that add an entry (a CREATE adds one just where the
+-- name isn't there)
 abbrev pub takes_memory : Server → Call → Answer → Bool
 takes_memory server call (ReadDone count eof bytes) = is_some_bytes bytes
 takes_memory server call (ReaddirDone directory page eof) = true
+takes_memory server call (ReaddirplusDone directory page eof) = true
 takes_memory server call (CensusDone volumes) = true
 takes_memory server (Write handle offset count written) (WriteDone n verifier) =
     nat_lt 0 (need_in (node_named (locate server handle)) offset n)

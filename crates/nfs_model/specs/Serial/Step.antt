@@ -2,7 +2,7 @@
 -- are our profile).
 use Rattle.std.specs.Prelude.{ℕ, Bool, true, false, ◌==◌, length, Option, Some, None, if◌then◌else◌}
 use Rattle.nfs_model.specs.Types.{Moment, Credential, Call, Null, Getattr, Setattr, Lookup, CheckAccess}
-use Rattle.nfs_model.specs.Types.{Read, Write, Create, Mkdir, Remove, Rmdir, Rename, Readdir, Fsstat, Fsinfo}
+use Rattle.nfs_model.specs.Types.{Read, Write, Create, Mkdir, Remove, Rmdir, Rename, Readdir, Readdirplus, Fsstat, Fsinfo}
 use Rattle.nfs_model.specs.Types.{Pathconf, Commit, Unsupported, Census, Grow, Mount, Answer, NullDone}
 use Rattle.nfs_model.specs.Types.{Failed, BadHandle, CrossVolume, NotSupported, Reply, Success, SystemError, Asked}
 use Rattle.nfs_model.specs.Types.{Ask, Refused, Undecoded}
@@ -21,6 +21,7 @@ use Rattle.nfs_model.specs.Serial.Remove.{remove_name}
 use Rattle.nfs_model.specs.Serial.Rmdir.{rmdir}
 use Rattle.nfs_model.specs.Serial.Rename.{rename}
 use Rattle.nfs_model.specs.Serial.Readdir.{readdir}
+use Rattle.nfs_model.specs.Serial.Readdirplus.{readdirplus}
 use Rattle.nfs_model.specs.Serial.Fsstat.{fsstat}
 use Rattle.nfs_model.specs.Serial.Fsinfo.{fsinfo}
 use Rattle.nfs_model.specs.Serial.Pathconf.{pathconf}
@@ -87,6 +88,8 @@ serve_by server absent (Rename from from_name to to_name) credential moment =
     on_two server absent (locate server from) (locate server to) (rename from_name to_name moment)
 serve_by server absent (Readdir directory cookie verifier count) credential moment =
     on server absent (locate server directory) (readdir cookie verifier count)
+serve_by server absent (Readdirplus directory cookie verifier names_count count) credential moment =
+    on server absent (locate server directory) (readdirplus cookie verifier names_count count)
 serve_by server absent (Fsstat handle) credential moment = on server absent (locate server handle) fsstat
 serve_by server absent (Fsinfo handle) credential moment = on server absent (locate server handle) fsinfo
 serve_by server absent (Pathconf handle) credential moment = on server absent (locate server handle) pathconf
