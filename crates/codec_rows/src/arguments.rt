@@ -253,12 +253,28 @@ fn links_are_read_and_not_supported(rt: HostRuntime) {
 }
 
 #[test]
-fn pages_with_attributes_are_read_and_not_supported(rt: HostRuntime) {
-    let plus = UnsupportedProcedure::ReadDirectoryPlus;
-    // cookie 0, verifier 0, dircount 512 and maxcount 8192
+fn pages_with_attributes_are_asked(rt: HostRuntime) {
+    // cookie 3, cookieverf, dircount 512 and maxcount 8192
+    let page = [0, 0, 0, 0, 0, 0, 0, 3, 1, 2, 3, 4, 5, 6, 7, 8];
     let counts = [0, 0, 2, 0, 0, 0, 0x20, 0];
-    let parts: [&[u8]; 3] = [&HANDLE, &[0; 16], &counts];
-    is_unsupported(&rt, Procedure::ReadDirectoryPlus, &parts, plus);
+    let asked = joined(&rt, &[&HANDLE, &page, &counts]);
+    let call = decoded(&rt, Procedure::ReadDirectoryPlus, &asked);
+    match &call {
+        Call::ReadDirectoryPlus {
+            directory,
+            cookie,
+            verifier,
+            names_count,
+            count,
+        } => {
+            same(&rt, directory.as_bytes(), &[7]);
+            holds(&rt, cookie.0 == 3);
+            same(&rt, &verifier.0, &[1, 2, 3, 4, 5, 6, 7, 8]);
+            holds(&rt, *names_count == 512 && *count == 8192);
+        }
+        _ => panic!(rt; "no READDIRPLUS"),
+    }
+    mem::forget(call);
     // without maxcount
     let cut = joined(&rt, &[&HANDLE, &[0; 16], &[0, 0, 2, 0]]);
     holds(&rt, fault_in(&rt, 17, &cut) == 1);

@@ -130,5 +130,14 @@ fn rooms_go_by_counts(rt: HostRuntime) {
             count,
         };
         takes(&rt, list, room);
+        // dircount counts for nothing
+        let plus = Call::ReadDirectoryPlus {
+            directory: root(),
+            cookie: Cookie::START,
+            verifier: Verifier([0; 8]),
+            names_count: 1,
+            count,
+        };
+        takes(&rt, plus, room);
     }
 }

@@ -1,11 +1,16 @@
 //! Results, as bytes.
 
+ghost use Rattle.std.specs.Prelude.{◌≤◌, length};
+ghost use Rattle.nfs_values.specs.Answer.{answer_of};
+ghost use Rattle.nfs_types.specs.Results.{answer_bytes};
+
 use crate::bytes::{bytes_of, joined, read_answer, same};
 use nfs_types::encode_result;
 use nfs_values::{
-    AccessResults, Answer, Attributes, Change, Cookie, DirectoryEntry, FileKind, Fileid,
-    FilesystemInfoResults, Moment, Name, PathConfigurationResults, PriorAttributes,
-    ReadDirectoryResults, RenameResults, Status, UnsupportedProcedure,
+    AccessResults, Answer, Attributes, Change, Cookie, DirectoryEntry, DirectoryEntryPlus,
+    FileHandle, FileKind, Fileid, FilesystemInfoResults, Moment, Name, PathConfigurationResults,
+    PriorAttributes, ReadDirectoryPlusResults, ReadDirectoryResults, RenameResults, Status,
+    UnsupportedProcedure,
 };
 use std::mem;
 use std::process::Abort;
@@ -74,6 +79,135 @@ fn entries_are_chained(rt: HostRuntime) {
         ],
     );
     same(&rt, &out, &wanted);
+}
+
+/// A file of two bytes with all else zero.
+const FILE: Attributes = Attributes {
+    kind: FileKind::Regular,
+    mode: 0o644,
+    links: 1,
+    uid: 0,
+    gid: 0,
+    size: 2,
+    used: 0,
+    fsid: 0,
+    fileid: Fileid(5),
+    atime: ZERO,
+    mtime: ZERO,
+    ctime: ZERO,
+};
+
+/// Its fattr3.
+fn file_bytes(rt: &(impl Abort + AllocGlobal)) -> Vec<u8> {
+    joined(
+        rt,
+        &[
+            // type, mode and nlink
+            &[0, 0, 0, 1, 0, 0, 1, 0xA4, 0, 0, 0, 1],
+            // uid and gid, size
+            &[0; 8],
+            &[0, 0, 0, 0, 0, 0, 0, 2],
+            // used, rdev and fsid, fileid
+            &[0; 24],
+            &[0, 0, 0, 0, 0, 0, 0, 5],
+            // atime, mtime and ctime
+            &[0; 24],
+        ],
+    )
+}
+
+/// Looks whether an answer is told by these bytes.
+fn is_told(rt: &(impl Abort + AllocGlobal), answer: Answer, wanted: &[u8])
+    requires { length (answer_bytes (answer_of answer)) ≤ 400 }
+{
+    let mut out = Vec::new(rt.alloc());
+    encode_result(&mut out, &answer).expect(rt, "no memory");
+    mem::forget(answer);
+    same(rt, &out, wanted);
+}
+
+#[test]
+fn attributes_and_handles_are_chained(rt: HostRuntime) {
+    let mut entries = Vec::new(rt.alloc());
+    let name = b"a".to_vec(rt.alloc()).expect(&rt, "no memory");
+    let entry = DirectoryEntryPlus {
+        entry: DirectoryEntry {
+            fileid: Fileid(5),
+            name: Name::new(name),
+            cookie: Cookie(3),
+        },
+        attributes: Some(FILE),
+        handle: FileHandle::new(&[0, 0, 0, 1, 0, 0, 0, 0, 0, 0, 0, 5]),
+    };
+    entries.push(entry).expect(&rt, "no memory");
+    let file = file_bytes(&rt);
+    let wanted = joined(
+        &rt,
+        &[
+            &[0, 0, 0, 0, 0, 0, 0, 1, 0, 0, 0, 2],
+            &[0; 80],
+            &[0; 8],
+            // fileid, name and cookie, name_attributes, name_handle
+            &[0, 0, 0, 1, 0, 0, 0, 0, 0, 0, 0, 5],
+            &[0, 0, 0, 1, b'a', 0, 0, 0],
+            &[0, 0, 0, 0, 0, 0, 0, 3],
+            &[0, 0, 0, 1],
+            &file,
+            &[0, 0, 0, 1, 0, 0, 0, 12, 0, 0, 0, 1],
+            &[0, 0, 0, 0, 0, 0, 0, 5],
+            // no entry more, and not the end
+            &[0, 0, 0, 0, 0, 0, 0, 0],
+        ],
+    );
+    let page = ReadDirectoryPlusResults {
+        directory: DIRECTORY,
+        entries,
+        eof: false,
+    };
+    is_told(&rt, Answer::ReadDirectoryPlus(Ok(page)), &wanted);
+}
+
+#[test]
+fn attributes_of_an_entry_are_left_out(rt: HostRuntime) {
+    let mut entries = Vec::new(rt.alloc());
+    let entry = DirectoryEntryPlus {
+        entry: DirectoryEntry {
+            fileid: Fileid(6),
+            name: Name::new(Vec::new(rt.alloc())),
+            cookie: Cookie(4),
+        },
+        attributes: None,
+        handle: FileHandle::new(&[8]),
+    };
+    entries.push(entry).expect(&rt, "no memory");
+    let wanted = joined(
+        &rt,
+        &[
+            &[0, 0, 0, 0, 0, 0, 0, 1, 0, 0, 0, 2],
+            &[0; 80],
+            &[0; 8],
+            &[0, 0, 0, 1, 0, 0, 0, 0, 0, 0, 0, 6],
+            &[0, 0, 0, 0],
+            &[0, 0, 0, 0, 0, 0, 0, 4],
+            // FALSE for name_attributes, TRUE for name_handle
+            &[0, 0, 0, 0, 0, 0, 0, 1, 0, 0, 0, 1, 8, 0, 0, 0],
+            // no entry more, and the end
+            &[0, 0, 0, 0, 0, 0, 0, 1],
+        ],
+    );
+    let page = ReadDirectoryPlusResults {
+        directory: DIRECTORY,
+        entries,
+        eof: true,
+    };
+    is_told(&rt, Answer::ReadDirectoryPlus(Ok(page)), &wanted);
+}
+
+#[test]
+fn pages_that_fail_leave_the_directory_out(rt: HostRuntime) {
+    // NFS3ERR_TOOSMALL, and no attributes of the directory
+    let failed = Answer::ReadDirectoryPlus(Err(Status::TooSmall));
+    is_told(&rt, failed, &bytes_of(&rt, &[10005, 0]));
 }
 
 /// The directory that a name leaves, and the one that it comes to.
@@ -216,5 +350,4 @@ fn what_is_not_supported_says_so(rt: HostRuntime) {
     leaves_out(&rt, UnsupportedProcedure::MakeSymbolicLink, &[10004, 0, 0]);
     leaves_out(&rt, UnsupportedProcedure::MakeDevice, &[10004, 0, 0]);
     leaves_out(&rt, UnsupportedProcedure::MakeLink, &[10004, 0, 0, 0]);
-    leaves_out(&rt, UnsupportedProcedure::ReadDirectoryPlus, &[10004, 0]);
 }

@@ -12,18 +12,19 @@ use Rattle.nfs_values.specs.declared.answer.WriteResults.{WriteResults}
 use Rattle.nfs_values.specs.declared.answer.MakeResults.{MakeResults}
 use Rattle.nfs_values.specs.declared.answer.RenameResults.{RenameResults}
 use Rattle.nfs_values.specs.declared.answer.ReadDirectoryResults.{ReadDirectoryResults}
+use Rattle.nfs_values.specs.declared.answer.ReadDirectoryPlusResults.{ReadDirectoryPlusResults}
 use Rattle.nfs_values.specs.declared.answer.FilesystemStatusResults.{FilesystemStatusResults}
 use Rattle.nfs_values.specs.declared.answer.FilesystemInfoResults.{FilesystemInfoResults}
 use Rattle.nfs_values.specs.declared.answer.PathConfigurationResults.{PathConfigurationResults}
 use Rattle.nfs_values.specs.declared.answer.CommitResults.{CommitResults}
 use Rattle.nfs_values.specs.declared.mount.MountResults.{MountResults}
-use Rattle.nfs_values.specs.Answer.{entry_of, space_of, attributes_shown, attributes_set, looked_up, access_told, bytes_read, bytes_written, node_made, name_gone}
+use Rattle.nfs_values.specs.Answer.{entry_of, entry_plus_of, entries_listed_plus, space_of, attributes_shown, attributes_set, looked_up, access_told, bytes_read, bytes_written, node_made, name_gone}
 use Rattle.nfs_values.specs.Answer.{name_moved, entries_listed, space_told, info_told, path_told, file_committed, volume_grown, volume_mounted, result_of}
 use Rattle.nfs_values.specs.Attributes.{shown_of, change_of}
 use Rattle.nfs_types.specs.Shapes.{attributes_shape, attributes_value, change_shape, change_value}
 use Rattle.nfs_types.specs.Results.{lookup_shape, lookup_value, access_results_shape, access_value, read_shape, read_value, write_shape, write_value}
 use Rattle.nfs_types.specs.Results.{made_shape, made_value}
-use Rattle.nfs_types.specs.Results.{renamed_shape, renamed_value, readdir_shape, readdir_value}
+use Rattle.nfs_types.specs.Results.{renamed_shape, renamed_value, readdir_shape, readdir_value, readdirplus_shape, readdirplus_value}
 use Rattle.nfs_types.specs.Results.{fsstat_shape, fsstat_value, fsinfo_shape, fsinfo_value, pathconf_shape, pathconf_value, commit_shape, commit_value, mounted_shape, mounted_value, answer_bytes, done, result_bytes}
 
 arm : {R : Type 0} (shape : Shape) (value : R → Value shape) (told : R → model.Answer) (absent : ℕ)
@@ -73,6 +74,11 @@ pub listed_bytes : (result : Result ReadDirectoryResults Status)
     (λ r. readdir_value (shown_of r.directory) (map entry_of r.entries.items) r.eof) 1 result
 listed_bytes = arm readdir_shape (λ r. readdir_value (shown_of r.directory) (map entry_of r.entries.items) r.eof) entries_listed 1 (λ r. refl)
 
+pub listed_plus_bytes : (result : Result ReadDirectoryPlusResults Status)
+    → answer_bytes (result_of entries_listed_plus 1 result) ≡ result_bytes readdirplus_shape
+    (λ r. readdirplus_value (shown_of r.directory) (map entry_plus_of r.entries.items) r.eof) 1 result
+listed_plus_bytes = arm readdirplus_shape (λ r. readdirplus_value (shown_of r.directory) (map entry_plus_of r.entries.items) r.eof) entries_listed_plus 1 (λ r. refl)
+
 pub space_bytes : (result : Result FilesystemStatusResults Status)
     → answer_bytes (result_of space_told 1 result) ≡ result_bytes fsstat_shape (λ r. fsstat_value (shown_of r.root) (space_of r)) 1 result
 space_bytes = arm fsstat_shape (λ r. fsstat_value (shown_of r.root) (space_of r)) space_told 1 (λ r. refl)
@@ -107,6 +113,7 @@ pub ruleset outcomes = (
   gone_bytes,
   moved_bytes,
   listed_bytes,
+  listed_plus_bytes,
   space_bytes,
   info_bytes,
   path_bytes,

@@ -158,11 +158,11 @@ rename_call v = model.Rename v.0.0 v.0.1 v.1.0 v.1.1
 abbrev pub link_call : Value linking_shape → model.Call
 link_call v = model.Unsupported model.Link
 
-abbrev pub readdirplus_call : Value listing_plus_shape → model.Call
-readdirplus_call v = model.Unsupported model.Readdirplus
-
 abbrev pub readdir_call : Value listing_shape → model.Call
 readdir_call v = model.Readdir v.0 v.1.0 v.1.1.0 v.1.1.1
+
+abbrev pub readdirplus_call : Value listing_plus_shape → model.Call
+readdirplus_call v = model.Readdirplus v.0 v.1.0 v.1.1.0 v.1.1.1.0 v.1.1.1.1
 
 abbrev pub fsstat_call : Value handle_shape → model.Call
 fsstat_call handle = model.Fsstat handle

@@ -1,4 +1,5 @@
 -- The results of each procedure (RFC 1813 section 3.3) as bytes.
+use Rattle.std.specs.Option.{option_map}
 use Rattle.std.specs.Prelude.{ℕ, zero, suc, Bool, true, false, ◌+◌, ◌-◌, ◌^◌, List, [], ◌∷◌, ◌++◌, Some, None, Result, Ok, Err, map, replicate}
 use Rattle.xdr.specs.Shape.{Shape, Void, Word, Hyper, Boolean, Opaque, Optional, Chain, Array, Value, spelling}
 use Rattle.nfs_model.specs.Types as model
@@ -67,6 +68,20 @@ readdir_shape = after_shape & verifier_shape & Chain entry_shape & Boolean
 
 abbrev pub readdir_value : model.Shown → List model.Listed → Bool → Value readdir_shape
 readdir_value directory page eof = (Some (attributes_value directory), (replicate 8 0, (map entry_value page, eof)))
+
+-- entryplus3 (section 3.3.17): fileid, name, cookie, name_attributes and name_handle, before the next
+abbrev pub entry_plus_shape : Shape
+entry_plus_shape = Hyper & any_bytes & Hyper & after_shape & Optional handle_shape
+
+abbrev pub entry_plus_value : model.ListedPlus → Value entry_plus_shape
+entry_plus_value e = (e.entry.fileid, (e.entry.name, (e.entry.cookie, (option_map attributes_value e.attributes, Some e.handle))))
+
+-- READDIRPLUS3resok (section 3.3.17): the directory's attributes, cookieverf, and the list of entries with eof
+abbrev pub readdirplus_shape : Shape
+readdirplus_shape = after_shape & verifier_shape & Chain entry_plus_shape & Boolean
+
+abbrev pub readdirplus_value : model.Shown → List model.ListedPlus → Bool → Value readdirplus_shape
+readdirplus_value directory page eof = (Some (attributes_value directory), (replicate 8 0, (map entry_plus_value page, eof)))
 
 -- FSSTAT3resok (section 3.3.18): attributes, tbytes, fbytes, abytes, tfiles, ffiles, afiles and invarsec
 abbrev pub fsstat_shape : Shape
@@ -172,6 +187,7 @@ answer_bytes (model.MadeDone handle object directory) = done made_shape (made_va
 answer_bytes (model.GoneDone directory) = done change_shape (change_value directory)
 answer_bytes (model.RenameDone from to) = done renamed_shape (renamed_value from to)
 answer_bytes (model.ReaddirDone directory page eof) = done readdir_shape (readdir_value directory page eof)
+answer_bytes (model.ReaddirplusDone directory page eof) = done readdirplus_shape (readdirplus_value directory page eof)
 answer_bytes (model.FsstatDone root space) = done fsstat_shape (fsstat_value root space)
 answer_bytes (model.FsinfoDone root largest) = done fsinfo_shape (fsinfo_value root largest)
 answer_bytes (model.PathconfDone object) = done pathconf_shape (pathconf_value object)

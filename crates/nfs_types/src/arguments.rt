@@ -229,13 +229,21 @@ fn read_directory(bytes: &[u8]) -> Result<Call, Bad>
     })
 }
 
-/// READDIRPLUS (RFC 1813 section 3.3.17), which isn't supported.
+/// READDIRPLUS (RFC 1813 section 3.3.17), whose dircount bounds the names.
 fn read_directory_plus(bytes: &[u8]) -> Result<Call, Bad>
     ensures { Makes call_of false result
         (asked_by listing_plus_shape readdirplus_call bytes.now) }
 {
-    let _page = decode_all::<(FileHandle, (Cookie, (Verifier, (u32, u32))))>(bytes)?;
-    Ok(Call::Unsupported(UnsupportedProcedure::ReadDirectoryPlus))
+    let (directory, (cookie, (verifier, (names_count, count)))) = decode_all::<
+        (FileHandle, (Cookie, (Verifier, (u32, u32)))),
+    >(bytes)?;
+    Ok(Call::ReadDirectoryPlus {
+        directory,
+        cookie,
+        verifier,
+        names_count,
+        count,
+    })
 }
 
 /// FSSTAT (RFC 1813 section 3.3.18).

@@ -2,6 +2,7 @@
 
 ghost use Rattle.std.specs.Prelude.{◌≡◌, ◌+◌, ◌≤◌, ◌<◌, ◌^◌, ◌++◌, length, Some, None, vec_len};
 ghost use Rattle.std.specs.Prelude.{vec_capacity};
+ghost use Rattle.std.specs.Option.{option_map};
 ghost use Rattle.xdr.specs.Shape.{Shape, Value, Void, Word, Hyper, Boolean, Pair, Optional};
 ghost use Rattle.xdr.specs.Shape.{counted, padded, spelling};
 ghost use Rattle.nfs_values.specs.Attributes.{kind_of, kind_word, shown_of, before_of, change_of};
@@ -153,6 +154,27 @@ pub fn write_present<T: Encode>(part: &T, out: &mut Vec<u8>)
 {
     true.write(out);
     part.write(out);
+}
+
+/// An optional part, there or absent.
+impl<T: Encode> Encode for Option<T> {
+    ghost shape = { Optional T.shape };
+
+    ghost value = { λ o. option_map T.value o };
+
+    fn size(&self) -> usize {
+        match self {
+            Some(part) => size_of_present(part),
+            None => 4,
+        }
+    }
+
+    fn write(&self, out: &mut Vec<u8>) {
+        match self {
+            Some(part) => write_present(part, out),
+            None => write_absent(out),
+        }
+    }
 }
 
 /// Appends an optional part that is absent, for which there is room.

@@ -17,10 +17,10 @@ pub use laws::arguments_are_exact;
 pub use nfs_values::{
     ADMIN_PROGRAM, AccessResults, Answer, Attributes, AuthFault, BlockNumber, BytesRead,
     BytesToWrite, Call, Change, CommitResults, ConnectionNumber, Cookie, CreateMode, Credential,
-    DirectoryEntry, Exports, FileHandle, FileKind, Fileid, FilesystemInfoResults,
+    DirectoryEntry, DirectoryEntryPlus, Exports, FileHandle, FileKind, Fileid, FilesystemInfoResults,
     FilesystemStatusResults, GroupList, LookupResults, MOUNT_PROGRAM, MakeResults, Moment,
     MountCall, MountResults, NFS_PROGRAM, Name, Named, PathConfigurationResults, PriorAttributes,
-    Procedure, ReadDirectoryResults, ReadResults, Refusal, RenameResults, Reply, SetAttributes,
+    Procedure, ReadDirectoryPlusResults, ReadDirectoryResults, ReadResults, Refusal, RenameResults, Reply, SetAttributes,
     SetTime, Status, Target, UnsupportedProcedure, Verifier, VolumeCount, VolumeNumber,
     WorkerNumber, WriteResults,
 };

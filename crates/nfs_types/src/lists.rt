@@ -5,12 +5,17 @@ ghost use Rattle.std.specs.Prelude.{vec_len, vec_capacity};
 ghost use Rattle.std.specs.List.{flat_map};
 ghost use Rattle.xdr.specs.Shape.{Chain, Hyper, Word, padding, spelling};
 ghost use Rattle.nfs_values.specs.Attributes.{shown_of};
-ghost use Rattle.nfs_values.specs.Answer.{entry_of, count_of};
+ghost use Rattle.nfs_values.specs.Answer.{entry_of, entry_plus_of, count_of};
 ghost use Rattle.nfs_types.specs.Results.{entry_shape, entry_value, readdir_shape, readdir_value};
+ghost use Rattle.nfs_types.specs.Results.{entry_plus_shape, entry_plus_value};
+ghost use Rattle.nfs_types.specs.Results.{readdirplus_shape, readdirplus_value};
 ghost use Rattle.nfs_types.specs.Results.{count_shape, count_value, census_shape};
 
 use crate::encode::{Encode, append, size_of_present, write_present};
-use nfs_values::{DirectoryEntry, Fileid, ReadDirectoryResults, Verifier, VolumeCount};
+use nfs_values::{
+    DirectoryEntry, DirectoryEntryPlus, Fileid, ReadDirectoryPlusResults, ReadDirectoryResults,
+    Verifier, VolumeCount,
+};
 
 impl Encode for DirectoryEntry {
     ghost shape = { entry_shape };
@@ -95,6 +100,40 @@ impl Encode for ReadDirectoryResults {
 
     ghost value = { λ r.
         readdir_value (shown_of r.directory) (map entry_of r.entries.items) r.eof };
+
+    fn size(&self) -> usize {
+        size_of_present(&self.directory) + 8 + size_of_chain(&self.entries) + 4
+    }
+
+    fn write(&self, out: &mut Vec<u8>) {
+        write_present(&self.directory, out);
+        Verifier([0; 8]).write(out);
+        write_chain(&self.entries, out);
+        self.eof.write(out);
+    }
+}
+
+impl Encode for DirectoryEntryPlus {
+    ghost shape = { entry_plus_shape };
+
+    ghost value = { λ e. entry_plus_value (entry_plus_of e) };
+
+    fn size(&self) -> usize {
+        self.entry.size() + self.attributes.size() + size_of_present(&self.handle)
+    }
+
+    fn write(&self, out: &mut Vec<u8>) {
+        self.entry.write(out);
+        self.attributes.write(out);
+        write_present(&self.handle, out);
+    }
+}
+
+impl Encode for ReadDirectoryPlusResults {
+    ghost shape = { readdirplus_shape };
+
+    ghost value = { λ r.
+        readdirplus_value (shown_of r.directory) (map entry_plus_of r.entries.items) r.eof };
 
     fn size(&self) -> usize {
         size_of_present(&self.directory) + 8 + size_of_chain(&self.entries) + 4

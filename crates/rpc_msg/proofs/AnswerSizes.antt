@@ -2,15 +2,17 @@
 use Rattle.std.proofs.Common.{◌≡◌, ℕ, zero, suc, min, Option, Some, None, ◌+◌, ◌-◌, ◌*◌, ◌≤◌, Bool, true, false, cond, List, [], ◌∷◌, ◌++◌, length, map, replicate, refl, ap, ◌∙◌, arith}
 use Rattle.std.specs.Prelude.{nat_le}
 use Rattle.std.specs.List.{flat_map, range_with_len}
+use Rattle.std.specs.Option.{option_map}
 use Rattle.std.proofs.lemmas.Bool.{leb-true}
 use Rattle.std.proofs.lemmas.List.{length-append, length-replicate}
-use Rattle.xdr.specs.Shape.{Chain, Boolean, word, hyper, flag, padding, padded, linked, spelling}
+use Rattle.xdr.specs.Shape.{Chain, Optional, Boolean, word, hyper, flag, padding, padded, linked, spelling}
 use Rattle.nfs_model.specs.Types as model
 use Rattle.nfs_model.specs.Server.{handle_bytes}
 use Rattle.nfs_model.specs.Serial.Readdir.{entry_size, fitting}
-use Rattle.nfs_types.specs.Shapes.{◌&◌}
+use Rattle.nfs_model.specs.Serial.Readdirplus.{entry_plus_size, fitting_plus}
+use Rattle.nfs_types.specs.Shapes.{◌&◌, handle_shape, attributes_value, after_shape}
 use Rattle.nfs_model.specs.Serial.Mount.{volume_path, root_of, mounted, mount}
-use Rattle.nfs_types.specs.Results.{entry_shape, entry_value, count_shape, count_value, export_value, exports_shape, answer_bytes}
+use Rattle.nfs_types.specs.Results.{entry_shape, entry_value, entry_plus_shape, entry_plus_value, count_shape, count_value, export_value, exports_shape, answer_bytes}
 use Rattle.nfs_types.specs.lemmas.Absent.{length-absent_parts}
 use Rattle.rpc_msg.specs.Replies.{reply_record}
 use Rattle.rpc_msg.specs.Room.{padded_size, lookup_room, made_room, change_room}
@@ -151,6 +153,88 @@ pub fitting_fits : (es : List model.Listed) (room : ℕ) → entries_size (fitti
 fitting_fits [] room = omega arith
 fitting_fits (e ∷ es) room =
     fitting_by (nat_le (entry_size e) room) e (fitting (room - entry_size e) es) room (leb-true (entry_size e) room) (fitting_fits es (room - entry_size e))
+
+-- ---- entries with attributes and handles
+
+-- the bytes that are reserved for entries, without the flags of the list's end
+abbrev pub entries_plus_size : List model.Listed → ℕ
+entries_plus_size [] = 0
+entries_plus_size (e ∷ es) = entry_plus_size e + entries_plus_size es
+
+-- what is told of an entry takes no more than is reserved for it
+abbrev pub IsShort : model.Listed → model.ListedPlus → Type 0
+IsShort e told = length (spelling entry_plus_shape (entry_plus_value told)) + 4 ≤ entry_plus_size e
+
+attributes_told : Option model.Shown → List ℕ
+attributes_told attributes = spelling after_shape (option_map attributes_value attributes)
+
+handle_told : List ℕ → List ℕ
+handle_told handle = spelling (Optional handle_shape) (Some handle)
+
+length-attributes : (attributes : Option model.Shown) → length (attributes_told attributes) ≤ 88
+unfolding attributes_told
+length-attributes None = omega arith
+length-attributes (Some a) = omega arith
+
+length-handle : (handle : List ℕ) → length handle ≤ 20 → length (handle_told handle) ≤ 28
+unfolding handle_told
+length-handle handle h = omega (arith, length-padded handle, padded_more (length handle) 20 h)
+
+length-entry_plus : (t : model.ListedPlus)
+    → length (spelling entry_plus_shape (entry_plus_value t))
+    ≡ 20 + length (padded t.entry.name) + (length (attributes_told t.attributes) + length (handle_told t.handle))
+unfolding attributes_told, handle_told
+length-entry_plus t =
+    let attributes = spelling after_shape (option_map attributes_value t.attributes) in
+    let handle = spelling (Optional handle_shape) (Some t.handle) in
+    omega (arith, length-append (padded t.entry.name) (hyper t.entry.cookie ++ (attributes ++ handle)), length-append attributes handle)
+
+-- a handle of at most 20 bytes
+pub entry_is_short : (e : model.Listed) (attributes : Option model.Shown) (handle : List ℕ) → length handle ≤ 20
+    → IsShort e (record { entry = e; attributes = attributes; handle = handle })
+entry_is_short e attributes handle h =
+    omega (
+      arith,
+      length-entry_plus (record { entry = e; attributes = attributes; handle = handle }),
+      length-padded e.name,
+      length-attributes attributes,
+      length-handle handle h,
+    )
+
+pub length-entries_plus : (told : model.Listed → model.ListedPlus) → ((e : model.Listed) → IsShort e (told e)) → (es : List model.Listed)
+    → length (linked (λ v. spelling entry_plus_shape v) (map entry_plus_value (map told es))) ≤ 4 + entries_plus_size es
+length-entries_plus told h [] = omega arith
+length-entries_plus told h (e ∷ es) =
+    omega (
+      arith,
+      length-entries_plus told h es,
+      h e,
+      length-append (spelling entry_plus_shape (entry_plus_value (told e)))
+          (linked (λ v. spelling entry_plus_shape v) (map entry_plus_value (map told es))),
+    )
+
+pub readdirplus_size : (told : model.Listed → model.ListedPlus) → ((e : model.Listed) → IsShort e (told e)) → (directory : model.Shown)
+    (page : List model.Listed) (eof : Bool)
+    → length (answer_bytes (model.ReaddirplusDone directory (map told page) eof)) ≤ 108 + entries_plus_size page
+readdirplus_size told h directory page eof =
+    let chain = linked (λ v. spelling entry_plus_shape v) (map entry_plus_value (map told page)) in
+    let rest = spelling (Chain entry_plus_shape & Boolean) (map entry_plus_value (map told page), eof) in
+    let verifier = padded (replicate 8 0) in
+    let front : length (verifier ++ rest) ≡ 8 + length rest = length-append verifier rest in
+    omega (arith, front, length-entries_plus told h page, length-append chain (word (flag eof)))
+
+fitting_plus_by : (b : Bool) (e : model.Listed) (rest : List model.Listed) (room : ℕ) → (b ≡ true → entry_plus_size e ≤ room)
+    → entries_plus_size rest ≤ room - entry_plus_size e → entries_plus_size (cond b (e ∷ rest) []) ≤ room
+fitting_plus_by true e rest room h le =
+    let fits : entry_plus_size e ≤ room = h refl in
+    omega (arith, fits, le)
+fitting_plus_by false e rest room h le = omega arith
+
+pub fitting_plus_fits : (es : List model.Listed) (room : ℕ) → entries_plus_size (fitting_plus room es) ≤ room
+fitting_plus_fits [] room = omega arith
+fitting_plus_fits (e ∷ es) room =
+    fitting_plus_by (nat_le (entry_plus_size e) room) e (fitting_plus (room - entry_plus_size e) es) room (leb-true (entry_plus_size e) room)
+    (fitting_plus_fits es (room - entry_plus_size e))
 
 -- ---- counts of volumes
 

@@ -7,7 +7,7 @@ use Rattle.std.proofs.lemmas.Bool.{ltb-false}
 use Rattle.std.proofs.lemmas.List.{length-set, length-take}
 use Rattle.nfs_model.specs.Types as model
 use Rattle.nfs_model.specs.Server.{opening_volume, opening_volumes, opening, FileNode, DirectoryNode, Node, File, Directory, VolumeState, Server, Named}
-use Rattle.nfs_model.specs.Server.{handle_of, most_bytes}
+use Rattle.nfs_model.specs.Server.{handle_bytes, handle_of, most_bytes}
 use Rattle.nfs_model.specs.Tree.{Layout, VolumeLayout}
 use Rattle.nfs_model.specs.Home.{named_by}
 use Rattle.nfs_model.specs.Shown.{shown}
@@ -26,6 +26,7 @@ use Rattle.nfs_model.specs.Serial.Remove.{gone, remove_node, remove_at, remove_n
 use Rattle.nfs_model.specs.Serial.Rmdir.{if_empty, rmdir_node, rmdir_at, rmdir}
 use Rattle.nfs_model.specs.Serial.Rename.{Renaming, goes_below_itself, may_go, renamed_volume, rename_told, is_same_entry, rename_at, rename_in, rename}
 use Rattle.nfs_model.specs.Serial.Readdir.{page_of, paged, readdir}
+use Rattle.nfs_model.specs.Serial.Readdirplus.{shown_at, listed_plus, page_plus_of, paged_plus, readdirplus}
 use Rattle.nfs_model.specs.Serial.Fsstat.{fsstat}
 use Rattle.nfs_model.specs.Serial.Commit.{commit}
 use Rattle.nfs_model.specs.Serial.Census.{count_of, census}
@@ -39,6 +40,7 @@ use Rattle.rpc_msg.specs.Room.{lookup_room, read_room, readdir_room, change_room
 use Rattle.rpc_msg.proofs.AnswerSizes.{Takes, getattr_size, setattr_size, lookup_size, access_size, made_size, gone_size, rename_size, fsstat_size, fsinfo_size, pathconf_size}
 use Rattle.rpc_msg.proofs.AnswerSizes.{grow_size, mount_size, failed_size}
 use Rattle.rpc_msg.proofs.AnswerSizes.{write_size, commit_size, read_size, entries_size, readdir_size, fitting_fits, census_size, success_size}
+use Rattle.rpc_msg.proofs.AnswerSizes.{IsShort, entry_is_short, entries_plus_size, readdirplus_size, fitting_plus_fits}
 
 -- ---- what a call on a volume comes to
 
@@ -251,6 +253,36 @@ readdir_fits cookie verifier count volume fileid =
     directory_fits (readdir_room count) volume (get volume.nodes fileid) _ (λ d.
     if_fits (readdir_room count) volume _ _ _ (fails _ _ _) (paged_fits (min count most_bytes) volume _ _ _ (fitting_fits _ (min count most_bytes - 104))))
 
+listed_short : (volume : VolumeState) (e : model.Listed) → IsShort e (listed_plus volume e)
+listed_short volume e =
+    entry_is_short e (shown_at volume e.fileid (get volume.nodes e.fileid)) (handle_bytes volume.number e.fileid) (omega arith)
+
+-- the same of pages with attributes and handles, whatever is told of an entry, if it is short
+module _ (told : model.Listed → model.ListedPlus) (short : (e : model.Listed) → IsShort e (told e)) where
+  page_plus_fits : (count : ℕ) (volume : VolumeState) (directory : model.Shown) (remaining page : List model.Listed) → 104 + entries_plus_size page ≤ count
+      → Fits (readdir_of count) volume (page_plus_of told directory remaining page)
+  page_plus_fits count volume directory remaining page h =
+      tells _ _ _ (record {
+        bytes = omega (arith, h, within count, readdirplus_size told short directory page (length page == length remaining));
+      })
+
+  paged_plus_fits : (count : ℕ) (volume : VolumeState) (directory : model.Shown) (remaining page : List model.Listed)
+      → entries_plus_size page ≤ count - 104 → Fits (readdir_of count) volume (paged_plus count told directory remaining page)
+  paged_plus_fits count volume directory [] page h =
+      if_knowing (readdir_of count) volume (nat_lt count 104) _ _ (λ e. fails _ _ _) (λ e.
+      let enough : 104 ≤ count = ltb-false count 104 e in
+      page_plus_fits count volume directory [] page (omega (arith, enough, h)))
+  paged_plus_fits count volume directory (e ∷ es) [] h = fails _ _ _
+  paged_plus_fits count volume directory (e ∷ es) (x ∷ xs) h =
+      page_plus_fits count volume directory (e ∷ es) (x ∷ xs) (omega (arith, h))
+
+readdirplus_fits : (cookie : ℕ) (verifier : List ℕ) (names_count count : ℕ) (volume : VolumeState) (fileid : ℕ)
+    → Fits (readdir_room count) volume (readdirplus cookie verifier names_count count volume fileid)
+readdirplus_fits cookie verifier names_count count volume fileid =
+    directory_fits (readdir_room count) volume (get volume.nodes fileid) _ (λ d.
+    if_fits (readdir_room count) volume _ _ _ (fails _ _ _)
+    (paged_plus_fits (listed_plus volume) (listed_short volume) (min count most_bytes) volume _ _ _ (fitting_plus_fits _ (min count most_bytes - 104))))
+
 fsstat_fits : (volume : VolumeState) (fileid : ℕ) → Fits 144 volume (fsstat volume fileid)
 fsstat_fits volume fileid = node_fits 144 volume (get volume.nodes fileid) _ (λ node. tells _ _ _ (fsstat_size _ _))
 
@@ -419,6 +451,8 @@ serve_fits volumes server (model.Rename from from_name to to_name) who moment r 
     (λ v a b. rename_fits from_name to_name moment v a b) (omega arith) r
 serve_fits volumes server (model.Readdir directory cookie verifier count) who moment r =
     on_fits (readdir_room count) volumes server 1 directory _ (λ v f e. readdir_fits cookie verifier count v f) (omega arith) r
+serve_fits volumes server (model.Readdirplus directory cookie verifier names_count count) who moment r =
+    on_fits (readdir_room count) volumes server 1 directory _ (λ v f e. readdirplus_fits cookie verifier names_count count v f) (omega arith) r
 serve_fits volumes server (model.Fsstat handle) who moment r = on_fits 144 volumes server 1 handle _ (λ v f e. fsstat_fits v f) (omega arith) r
 serve_fits volumes server (model.Fsinfo handle) who moment r =
     on_fits 140 volumes server 1 handle _ (λ v f e. tell_fits 140 _ v f (λ a. fsinfo_size a v.largest)) (omega arith) r

@@ -31,7 +31,8 @@ change_room = 28 + 88
 abbrev pub made_room : ℕ
 made_room = 4 + 20 + 88 + change_room
 
--- status, and as many bytes as are asked for, or a failure without attributes (RFC 1813 section 3.3.16)
+-- status, and as many bytes as are asked for, or a failure without attributes (RFC 1813 sections 3.3.16 and
+-- 3.3.17)
 abbrev pub readdir_room : ℕ → ℕ
 readdir_room count = 4 + max 4 (min count most_bytes)
 
@@ -50,6 +51,7 @@ results_room volumes (model.Remove directory name) = 4 + change_room
 results_room volumes (model.Rmdir directory name) = 4 + change_room
 results_room volumes (model.Rename from from_name to to_name) = 4 + change_room + change_room
 results_room volumes (model.Readdir directory cookie verifier count) = readdir_room count
+results_room volumes (model.Readdirplus directory cookie verifier names_count count) = readdir_room count
 results_room volumes (model.Fsstat handle) = 4 + 88 + 6 * 8 + 4
 results_room volumes (model.Fsinfo handle) = 4 + 88 + 7 * 4 + 8 + 8 + 4
 results_room volumes (model.Pathconf handle) = 4 + 88 + 6 * 4

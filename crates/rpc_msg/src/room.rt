@@ -43,6 +43,7 @@ fn results_room(call: &Call, volumes: u32) -> usize
         Call::RemoveDirectory(_) => 4 + CHANGE_ROOM,
         Call::Rename { .. } => 4 + CHANGE_ROOM + CHANGE_ROOM,
         Call::ReadDirectory { count, .. } => 4 + (*count).clamp(4, COUNT_LIMIT) as usize,
+        Call::ReadDirectoryPlus { count, .. } => 4 + (*count).clamp(4, COUNT_LIMIT) as usize,
         Call::FilesystemStatus { .. } => 4 + 88 + 6 * 8 + 4,
         Call::FilesystemInfo { .. } => 4 + 88 + 7 * 4 + 8 + 8 + 4,
         Call::PathConfiguration { .. } => 4 + 88 + 6 * 4,
@@ -55,8 +56,8 @@ fn results_room(call: &Call, volumes: u32) -> usize
 }
 
 /// The most bytes that the record of the reply to a call takes, where there are so many volumes:
-/// a READ's by its count, a READDIR's by its count, a CENSUS's by the volumes, and of other calls
-/// always the same. The record of a reply that says that memory ran out fits too.
+/// a READ's, a READDIR's and a READDIRPLUS's by its count, a CENSUS's by the volumes, and of other
+/// calls always the same. The record of a reply that says that memory ran out fits too.
 pub fn room_of_reply(call: &Call, volumes: u32) -> usize
     ensures room { result ≡ reply_room volumes (call_of call.now) }
     ensures most { result ≤ 65_584 + 20 * volumes }

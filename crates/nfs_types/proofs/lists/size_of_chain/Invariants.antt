@@ -1,10 +1,8 @@
-use Rattle.std.proofs.Common.{◌≡◌, ◌+◌, ◌≤◌, ◌<◌, ◌^◌, ◌++◌, length, map, replicate, vec_len, vec_capacity, ℕ, ◌-◌, ◌*◌}
-use Rattle.std.specs.List.{flat_map}
-use Rattle.xdr.specs.Shape.{Chain, Hyper, Word, padding, spelling}
-use Rattle.nfs_values.specs.Attributes.{shown_of}
-use Rattle.nfs_values.specs.Answer.{entry_of, count_of}
-use Rattle.nfs_types.specs.Results.{entry_shape, entry_value, readdir_shape, readdir_value, count_shape, count_value, census_shape}
+use Rattle.std.proofs.Common.{◌≡◌, ◌+◌, ◌<◌, ◌^◌, length, drop}
+use Rattle.nfs_types.proofs.Rest.{chain_spelled}
 use Rattle.nfs_types.proofs.lists.size_of_chain.Given as goal
 
 abbrev pub invariant-loop-item : goal.invariant-loop-item
-invariant-loop-item g l = ?
+invariant-loop-item g l =
+    let spelled = chain_spelled g.T.Encode.shape g.T.Encode.value in
+    (l.size + length (spelled (drop l.item-index l.items)) ≡ 4 + length (spelled l.items)) × (length (spelled l.items) < 2 ^ 32)
