@@ -61,9 +61,10 @@ def arguments(rng, procedure):
         return handle(rng) + name(rng) + to_set(rng)
     if procedure == 14:
         return handle(rng) + name(rng) + handle(rng) + name(rng)
-    if procedure == 16:
+    if procedure in (16, 17):
         cookie, count = rng.choice((0, 0, 1, 2, 3, 2**64 - 1)), rng.choice((0, 103, 104, 159, 160, 2000, 2**32 - 1))
-        return handle(rng) + struct.pack(">Q8sI", cookie, bytes(8), count)
+        page = handle(rng) + struct.pack(">Q8s", cookie, bytes(8))
+        return page + (words(count) if procedure == 16 else words(rng.choice((0, 23, 28, 2000, 2**32 - 1)), count))
     return b""
 
 
@@ -89,7 +90,7 @@ def call(rng):
         procedure = rng.randrange(4)
         arguments_of_it = words(rng.choice((0, 1, 2, 9)), rng.choice((0, 1, 17, 2**32 - 1))) if procedure == 2 else b""
         return words(xid, 0, 2, ADMIN, 1, procedure) + credential(rng) + verifier + arguments_of_it
-    procedure = rng.choice((0, 1, 2, 3, 6, 7, 8, 9, 12, 13, 14, 16, 18, 21, 21, 4, 99))
+    procedure = rng.choice((0, 1, 2, 3, 6, 7, 8, 9, 12, 13, 14, 16, 17, 18, 21, 21, 4, 99))
     return words(xid, 0, 2, NFS, 3, procedure) + credential(rng) + verifier + arguments(rng, procedure)
 
 

@@ -98,6 +98,16 @@ class Reader:
             self.opaque(255)
             self.hyper()
 
+    def entries_plus(self):
+        """The entries of a READDIRPLUS, each with a handle."""
+        while self.boolean():
+            self.hyper()
+            self.opaque(255)
+            self.hyper()
+            self.optional(self.attributes)
+            self.choice(1)
+            self.handle()
+
 
 def arguments(program, procedure, data):
     """The parts of a call's arguments that say where it goes: handles and names, or numbers."""
@@ -132,6 +142,8 @@ def arguments(program, procedure, data):
         parts = r.where() + r.where()
     elif procedure == 16:  # READDIR
         parts = (r.handle(), r.hyper(), r.fixed(8), r.word())
+    elif procedure == 17:  # READDIRPLUS
+        parts = (r.handle(), r.hyper(), r.fixed(8), r.word(), r.word())
     elif procedure == 21:  # COMMIT
         parts = (r.handle(), r.hyper(), r.word())
     r.end()
@@ -139,8 +151,9 @@ def arguments(program, procedure, data):
 
 
 # Of each procedure of NFS that has a status: how many optional parts its failure arm has.
-FAILURE_PARTS = {1: 0, 2: 2, 3: 1, 6: 1, 7: 2, 8: 2, 9: 2, 12: 2, 13: 2, 14: 4, 16: 1, 18: 1, 21: 2}
-SERVED = {NFS: {0, *FAILURE_PARTS}, ADMIN: {0, 1, 2}}
+FAILURE_PARTS = {1: 0, 2: 2, 3: 1, 6: 1, 7: 2, 8: 2, 9: 2, 12: 2, 13: 2, 14: 4, 16: 1, 17: 1, 18: 1, 21: 2}
+# READDIRPLUS is read, but `replay` and `serve` don't offer it.
+SERVED = {NFS: {0, *FAILURE_PARTS} - {17}, ADMIN: {0, 1, 2}}
 
 
 def ok_arm(r, procedure):
@@ -165,6 +178,8 @@ def ok_arm(r, procedure):
         present(r.handle), present(r.attributes), present(lambda: r.fixed(24)), present(r.attributes)
     elif procedure == 16:
         present(r.attributes), r.fixed(8), r.entries(), r.boolean()
+    elif procedure == 17:
+        present(r.attributes), r.fixed(8), r.entries_plus(), r.boolean()
     elif procedure == 18:
         present(r.attributes), r.fixed(48), r.choice(0)
     elif procedure == 21:

@@ -6,8 +6,8 @@ import subprocess
 import tempfile
 
 from made_streams import made
-from plain import Call, Stream
-from stream_rows import JOINED, LIMITS, ROWS, WAITS, octets
+from plain import NFS, Call, Stream, are_results
+from stream_rows import JOINED, LIMITS, RESULTS, ROWS, WAITS, octets
 
 VOLUMES = 2
 LAYOUT = ["aggregate 1", "volume 0 1", "volume 0 1", "start 2 0102030405060708"]
@@ -236,6 +236,10 @@ def play_rows(filer):
         good = good and isinstance(heard[0], Call) == waits
         passed += good
         failures += [] if good else [f"the plain reader on row {number}"]
+    for number, (results, are_some) in enumerate(RESULTS):
+        good = are_results(NFS, 17, octets(results)) == are_some
+        passed += good
+        failures += [] if good else [f"the plain reader on results {number}"]
     for name, stream, taken, stop, reply in LIMITS:
         wanted = (taken, stop, [] if reply is None else [octets(reply)])
         good = Stream(VOLUMES).feed(stream) == wanted

@@ -2,6 +2,7 @@
 use Rattle.std.proofs.Common.{◌≡◌, ℕ, ◌+◌, ◌*◌, ◌<◌, List, [], ◌∷◌, ◌++◌, length, map, drop, get_or, refl, sym, ap, ◌∙◌, append_assoc, arith}
 use Rattle.std.specs.List.{flat_map}
 use Rattle.std.proofs.lemmas.List.{length-append, at_drop_more}
+use Rattle.std.proofs.lemmas.Simd.{map-map}
 use Rattle.xdr.specs.Shape.{Shape, Chain, Value, word, spelling}
 use Rattle.nfs_values.specs.declared.answer.VolumeCount.{VolumeCount}
 use Rattle.nfs_values.specs.Answer.{count_of}
@@ -16,6 +17,10 @@ pub chain_more : {T : Type 0} (shape : Shape) (value : T → Value shape) (items
 chain_more {T} shape value items i x lt e =
     at_drop_more (chain_spelled shape value) items i x lt
     ∙ ap (λ (y : T). chain_spelled shape value (y ∷ drop (i + 1) items)) (sym e)
+
+-- what the items of a list that was lent stand for, in two steps
+pub told_twice : {A B C : Type 0} (g : B → C) (f : A → B) (lent items : List A) → lent ≡ items → map g (map f items) ≡ map (λ x. g (f x)) lent
+told_twice {A} g f lent items e = map-map g f items ∙ ap (λ (l : List A). map (λ x. g (f x)) l) (sym e)
 
 -- the counts of a list, and one of them
 abbrev pub counts_spelled : List VolumeCount → List ℕ

@@ -1,5 +1,4 @@
 -- What a MKNOD is to make (RFC 1813 section 3.3.11).
-use Rattle.std.specs.Prelude.{ℕ}
 use Rattle.std.proofs.Common.{inl, inr}
 use Rattle.xdr.specs.Shape.{Value}
 use Rattle.nfs_values.specs.Set.{set_of}

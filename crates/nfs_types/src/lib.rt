@@ -9,6 +9,7 @@ mod encode;
 mod laws;
 mod lists;
 mod mounting;
+mod plus;
 mod results;
 
 pub use arguments::{decode_args, decode_call, decode_in_place};
@@ -17,11 +18,12 @@ pub use laws::arguments_are_exact;
 pub use nfs_values::{
     ADMIN_PROGRAM, AccessResults, Answer, Attributes, AuthFault, BlockNumber, BytesRead,
     BytesToWrite, Call, Change, CommitResults, ConnectionNumber, Cookie, CreateMode, Credential,
-    DirectoryEntry, DirectoryEntryPlus, Exports, FileHandle, FileKind, Fileid, FilesystemInfoResults,
-    FilesystemStatusResults, GroupList, LookupResults, MOUNT_PROGRAM, MakeResults, Moment,
-    MountCall, MountResults, NFS_PROGRAM, Name, Named, PathConfigurationResults, PriorAttributes,
-    Procedure, ReadDirectoryPlusResults, ReadDirectoryResults, ReadResults, Refusal, RenameResults, Reply, SetAttributes,
-    SetTime, Status, Target, UnsupportedProcedure, Verifier, VolumeCount, VolumeNumber,
-    WorkerNumber, WriteResults,
+    DirectoryEntry, DirectoryEntryPlus, Exports, FileHandle, FileKind, Fileid,
+    FilesystemInfoResults, FilesystemStatusResults, GroupList, LookupResults, MOUNT_PROGRAM,
+    MakeResults, Moment, MountCall, MountResults, NFS_PROGRAM, Name, Named,
+    PathConfigurationResults, PriorAttributes, Procedure, ReadDirectoryPlusResults,
+    ReadDirectoryResults, ReadResults, Refusal, RenameResults, Reply, SetAttributes, SetTime,
+    Status, Target, UnsupportedProcedure, Verifier, VolumeCount, VolumeNumber, WorkerNumber,
+    WriteResults,
 };
 pub use results::{encode_result, size_of_result};

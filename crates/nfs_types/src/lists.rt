@@ -5,17 +5,12 @@ ghost use Rattle.std.specs.Prelude.{vec_len, vec_capacity};
 ghost use Rattle.std.specs.List.{flat_map};
 ghost use Rattle.xdr.specs.Shape.{Chain, Hyper, Word, padding, spelling};
 ghost use Rattle.nfs_values.specs.Attributes.{shown_of};
-ghost use Rattle.nfs_values.specs.Answer.{entry_of, entry_plus_of, count_of};
+ghost use Rattle.nfs_values.specs.Answer.{entry_of, count_of};
 ghost use Rattle.nfs_types.specs.Results.{entry_shape, entry_value, readdir_shape, readdir_value};
-ghost use Rattle.nfs_types.specs.Results.{entry_plus_shape, entry_plus_value};
-ghost use Rattle.nfs_types.specs.Results.{readdirplus_shape, readdirplus_value};
 ghost use Rattle.nfs_types.specs.Results.{count_shape, count_value, census_shape};
 
 use crate::encode::{Encode, append, size_of_present, write_present};
-use nfs_values::{
-    DirectoryEntry, DirectoryEntryPlus, Fileid, ReadDirectoryPlusResults, ReadDirectoryResults,
-    Verifier, VolumeCount,
-};
+use nfs_values::{DirectoryEntry, Fileid, ReadDirectoryResults, Verifier, VolumeCount};
 
 impl Encode for DirectoryEntry {
     ghost shape = { entry_shape };
@@ -68,7 +63,7 @@ fn pad(out: &mut Vec<u8>, size: usize)
 }
 
 /// How many bytes a list takes whose items stand each behind TRUE.
-fn size_of_chain<T: Encode>(items: &[T]) -> usize
+pub(crate) fn size_of_chain<T: Encode>(items: &[T]) -> usize
     requires { length (spelling (Chain T.shape) (map T.value items.now)) < 2 ^ 32 }
     ensures { result ≡ length (spelling (Chain T.shape) (map T.value items.now)) }
 {
@@ -80,7 +75,7 @@ fn size_of_chain<T: Encode>(items: &[T]) -> usize
 }
 
 /// Appends the items of a list, each behind TRUE, and FALSE at the end.
-fn write_chain<T: Encode>(items: &[T], out: &mut Vec<u8>)
+pub(crate) fn write_chain<T: Encode>(items: &[T], out: &mut Vec<u8>)
     requires short { length (spelling (Chain T.shape) (map T.value items.now)) < 2 ^ 32 }
     requires room { vec_len out.old + length (spelling (Chain T.shape) (map T.value items.now))
         ≤ vec_capacity out.old }
@@ -95,6 +90,20 @@ fn write_chain<T: Encode>(items: &[T], out: &mut Vec<u8>)
     false.write(out);
 }
 
+impl Encode for Vec<DirectoryEntry> {
+    ghost shape = { Chain entry_shape };
+
+    ghost value = { λ v. map entry_value (map entry_of v.items) };
+
+    fn size(&self) -> usize {
+        size_of_chain(self)
+    }
+
+    fn write(&self, out: &mut Vec<u8>) {
+        write_chain(self, out);
+    }
+}
+
 impl Encode for ReadDirectoryResults {
     ghost shape = { readdir_shape };
 
@@ -102,47 +111,13 @@ impl Encode for ReadDirectoryResults {
         readdir_value (shown_of r.directory) (map entry_of r.entries.items) r.eof };
 
     fn size(&self) -> usize {
-        size_of_present(&self.directory) + 8 + size_of_chain(&self.entries) + 4
+        size_of_present(&self.directory) + 8 + self.entries.size() + 4
     }
 
     fn write(&self, out: &mut Vec<u8>) {
         write_present(&self.directory, out);
         Verifier([0; 8]).write(out);
-        write_chain(&self.entries, out);
-        self.eof.write(out);
-    }
-}
-
-impl Encode for DirectoryEntryPlus {
-    ghost shape = { entry_plus_shape };
-
-    ghost value = { λ e. entry_plus_value (entry_plus_of e) };
-
-    fn size(&self) -> usize {
-        self.entry.size() + self.attributes.size() + size_of_present(&self.handle)
-    }
-
-    fn write(&self, out: &mut Vec<u8>) {
-        self.entry.write(out);
-        self.attributes.write(out);
-        write_present(&self.handle, out);
-    }
-}
-
-impl Encode for ReadDirectoryPlusResults {
-    ghost shape = { readdirplus_shape };
-
-    ghost value = { λ r.
-        readdirplus_value (shown_of r.directory) (map entry_plus_of r.entries.items) r.eof };
-
-    fn size(&self) -> usize {
-        size_of_present(&self.directory) + 8 + size_of_chain(&self.entries) + 4
-    }
-
-    fn write(&self, out: &mut Vec<u8>) {
-        write_present(&self.directory, out);
-        Verifier([0; 8]).write(out);
-        write_chain(&self.entries, out);
+        self.entries.write(out);
         self.eof.write(out);
     }
 }

@@ -1,7 +1,4 @@
-use Rattle.std.proofs.Common.{◌<◌, List, ℕ, ◌++◌, ap, sym, ◌∙◌, rules, append_assoc}
-use Rattle.xdr.specs.Shape.{spelling, word}
-use Rattle.nfs_model.specs.Serial.Mount.{volume_path}
-use Rattle.nfs_types.specs.Results.{export_shape, export_value}
+use Rattle.std.proofs.Common.{◌<◌, rules, append_assoc}
 use Rattle.nfs_types.proofs.Exported.{exports_more}
 use Rattle.nfs_types.proofs.mounting.+write_exports.Goals as goal
 

@@ -1,4 +1,4 @@
-use Rattle.std.proofs.Common.{arith, sym}
+use Rattle.std.proofs.Common.{sym}
 use Rattle.nfs_types.proofs.Exported.{length-exports}
 use Rattle.nfs_types.proofs.mounting.ExportsEncode.size.Goals as goal
 

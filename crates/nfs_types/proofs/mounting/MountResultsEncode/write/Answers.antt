@@ -1,4 +1,4 @@
-use Rattle.std.proofs.Common.{◌≡◌, List, ℕ, ◌++◌, ap, ◌∙◌}
+use Rattle.std.proofs.Common.{List, ℕ, ◌++◌, ap, ◌∙◌}
 use Rattle.std.proofs.lemmas.List.{append_assoc}
 use Rattle.xdr.specs.Shape.{word, counted}
 use Rattle.nfs_types.proofs.mounting.MountResultsEncode.write.Goals as goal
