@@ -70,8 +70,9 @@ back-world w calls calls' m shows h setup cs conns ks new i was hand workers hel
     }
 
 -- the world in which a message is finished
-pub ended-world : (w : World) (calls calls' : CallsState) (place place' : Held) (r : Running) (reply : types.Reply) (starved : Bool) (count : ℕ)
-    → EndsIn calls place r reply starved count calls' place' → (setup : Setup) → setup.codec.reply_record ≡ reply_record → Shows calls w
+pub ended-world : (w : World) (calls calls' : CallsState) (place place' : Held) (r : Running) (reply told : types.Reply) (starved : Bool) (count : ℕ)
+    → EndsIn calls place r told starved count calls' place' → (setup : Setup)
+    → setup.codec.reply_record r.message.origin.xid reply ≡ reply_record r.message.origin.xid told → Shows calls w
     → (cs new_cs : List Held) → w.connections ≡ map connection_seen cs → slice_get cs r.message.origin.connection.0 ≡ Some place
     → new_cs ≡ slice_set cs r.message.origin.connection.0 place'
     → (ks new : List Worker) (i : ℕ) (was : WorkerRun) (hand : Hand) → w.workers ≡ map worker_seen ks
@@ -79,13 +80,13 @@ pub ended-world : (w : World) (calls calls' : CallsState) (place place' : Held) 
     → (server : Server) (parts : List Parts) (stamps : ℕ) → server ≡ w.server → parts ≡ w.parts → stamps ≡ w.stamps + 1
     → world_after w calls' new new_cs server parts stamps
     ≡ finish setup (stamp_added (without_call w i)) (finished_message r.message (moment_of r.moment) starved) reply
-ended-world w calls calls' place place' r reply starved count ends setup is_codec shows cs new_cs conns there set_cs ks new i was hand workers held set
+ended-world w calls calls' place place' r reply told starved count ends setup is_codec shows cs new_cs conns there set_cs ks new i was hand workers held set
     server parts stamps
     same_server same_parts more_stamps =
     let n = r.message.origin.connection.0 in
     let v : World = stamp_added (without_call w i) in
     let at : slice_get v.connections n ≡ Some (connection_seen place) = ap (λ xs. slice_get xs n) conns ∙ connection-at cs n place there in
-    let done = ends setup v is_codec (record { waiting = shows.waiting; finished = shows.finished }) at in
+    let done = ends setup v reply is_codec (record { waiting = shows.waiting; finished = shows.finished }) at in
     (λ j. record w {
       connections = (ap (λ xs. map connection_seen xs) set_cs ∙ connections-set (λ x. connection_seen place') cs n place place' there refl
           ∙ ap (λ xs. changed_at (λ x. connection_seen place') xs n) (sym conns)) j;
@@ -114,14 +115,15 @@ count-written bytes (x ∷ cs) zero = ap (λ k. k + open_count cs) (still-open b
 count-written bytes (x ∷ cs) (suc n) = ap (λ k. open_one x.closed + k) (count-written bytes cs n)
 
 -- and so after a message of one of them was finished
-pub count-ended : (w : World) (calls calls' : CallsState) (place place' : Held) (r : Running) (reply : types.Reply) (starved : Bool) (count : ℕ)
-    → EndsIn calls place r reply starved count calls' place' → (setup : Setup) → setup.codec.reply_record ≡ reply_record → Shows calls w
+pub count-ended : (w : World) (calls calls' : CallsState) (place place' : Held) (r : Running) (reply told : types.Reply) (starved : Bool) (count : ℕ)
+    → EndsIn calls place r told starved count calls' place' → (setup : Setup)
+    → setup.codec.reply_record r.message.origin.xid reply ≡ reply_record r.message.origin.xid told → Shows calls w
     → (cs new_cs : List Held) → w.connections ≡ map connection_seen cs → slice_get cs r.message.origin.connection.0 ≡ Some place
     → new_cs ≡ slice_set cs r.message.origin.connection.0 place'
     → open_count (map connection_seen new_cs) ≡ open_count (map connection_seen cs)
-count-ended w calls calls' place place' r reply starved count ends setup is_codec shows cs new_cs conns there set_cs =
+count-ended w calls calls' place place' r reply told starved count ends setup is_codec shows cs new_cs conns there set_cs =
     let n = r.message.origin.connection.0 in
-    let done = ends setup w is_codec shows (ap (λ xs. slice_get xs n) conns ∙ connection-at cs n place there) in
+    let done = ends setup w reply is_codec shows (ap (λ xs. slice_get xs n) conns ∙ connection-at cs n place there) in
     ap (λ xs. open_count (map connection_seen xs)) set_cs
     ∙ ap open_count (connections-set (λ x. connection_seen place') cs n place place' there refl)
     ∙ ap (λ xs. open_count (changed_at (λ x. connection_seen place') xs n)) (sym conns)

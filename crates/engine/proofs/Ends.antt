@@ -38,6 +38,8 @@ use Rattle.engine_feed.specs.Words.{FinishesUnseen}
 use Rattle.engine_feed.specs.lemmas.Lists.{put-same}
 use Rattle.engine.specs.Connections.{Open, Closed}
 use Rattle.engine.specs.declared.connection.ClosedConnection.{ClosedConnection}
+use Rattle.nfs_values.specs.declared.handle_form.HandleForm.{HandleForm}
+use Rattle.rpc_msg.specs.Handles.{reply_told}
 use Rattle.engine.specs.Sound.{MayEnd}
 use Rattle.engine.specs.Seen.{connection_seen}
 
@@ -93,11 +95,11 @@ module _ {P C R : Type 0} (setup : Setup) (b : FilerBooks P C R) (r : worlds.Run
 
 -- the reply fits its room
 pub fits-as : (layout : Layout) (m : Message Call) (outcome : Outcome) (reply : Reply) (starved : Bool) → ToldAs outcome reply starved
-    → MayEnd layout m outcome → length (reply_record m.origin.xid (reply_of reply)) ≤ m.room
-fits-as layout m outcome reply starved is may = ⊎_elim
-    (λ (t : (outcome ≡ Replied reply) × (starved ≡ false)). subst (MayEnd layout m) t.0 may)
+    → MayEnd layout m outcome → (form : HandleForm) → length (reply_record m.origin.xid (reply_told form (reply_of reply))) ≤ m.room
+fits-as layout m outcome reply starved is may form = ⊎_elim
+    (λ (t : (outcome ≡ Replied reply) × (starved ≡ false)). subst (MayEnd layout m) t.0 may form)
     (λ (t : (outcome ≡ Starved) × (reply ≡ Refused SystemError) × (starved ≡ true)).
-    subst (λ (x : Reply). length (reply_record m.origin.xid (reply_of x)) ≤ m.room) (sym t.1) (subst (MayEnd layout m) t.0 may))
+    subst (λ (x : Reply). length (reply_record m.origin.xid (reply_told form (reply_of x))) ≤ m.room) (sym t.1) (subst (MayEnd layout m) t.0 may form))
     is
 
 -- the model finishes it so

@@ -49,6 +49,10 @@ use Rattle.engine.specs.declared.worker.WorkerRun.TheVariants.{Idle, Worked}
 use Rattle.engine.specs.declared.state.State.{State}
 use Rattle.engine.specs.Seen.{connection_seen, held_in, worker_seen, running_as, setup_in, world}
 use Rattle.engine.specs.Ending.{job_made, answer_made, EndsIn, OwesLess}
+use Rattle.nfs_model.specs.Types as types
+use Rattle.nfs_values.specs.declared.handle_form.HandleForm.{HandleForm}
+use Rattle.nfs_values.specs.Offer.{form_of}
+use Rattle.rpc_msg.specs.Handles.{reply_told}
 use Rattle.engine.specs.Sound.{IsPlaced, IsReady, IsSoundEngine, MayEnd, running_messages, room_on, rooms_on}
 use Rattle.engine.specs.Words.{Does}
 use Rattle.engine.specs.Workers.{worker_with}
@@ -201,15 +205,16 @@ module _ (s : State) (sound : IsSoundEngine s) (i : ℕ) (r : Running) (o : Outc
         (served-as (setup_in s) (held s) (came r o) lent.0 o reply starved is did)
 
     -- its reply has room
-    pub reply_fits : length (reply_record r.message.origin.xid (reply_of reply)) ≤ r.message.room
+    pub reply_fits : (form : HandleForm) → length (reply_record r.message.origin.xid (reply_told form (reply_of reply))) ≤ r.message.room
     reply_fits = fits-as (layout_in s.calls) r.message o reply starved is ready.1
 
-    module _ (new : State) (h : IsChanged s new i ran done_with) (place place' : Held) (count : ℕ)
+    module _ (told : types.Reply) (is_told : told ≡ reply_told (form_of s.offer) (reply_of reply)) (new : State) (h : IsChanged s new i ran done_with)
+        (place place' : Held) (count : ℕ)
         (at : slice_get (held_in s) r.message.origin.connection.0 ≡ Some place)
         (put : (held_in new) ≡ slice_set (held_in s) r.message.origin.connection.0 place')
         (keyed : AreKeyed new.connections.items new.slab) (opened : slab_len new.slab ≡ slab_len s.slab) (kept : IsKept new.desk)
         (done : HasFinished (machine_in s.desk) (held s) i (job_made r starved) (answer_made reply) (held new))
-        (ends : EndsIn s.calls place r (reply_of reply) starved count new.calls place')
+        (ends : EndsIn s.calls place r told starved count new.calls place')
         (leaves : calls.HasLeft s.calls (finished_message r.message (moment_of r.moment) starved) new.calls)
         (owes : OwesLess r.message place place') where
       done_layout : (held new).layout ≡ (held s).layout
@@ -218,8 +223,11 @@ module _ (s : State) (sound : IsSoundEngine s) (i : ℕ) (r : Running) (o : Outc
       more_stamps : stamps (held new) ≡ stamps (held s) + 1
       more_stamps = ap (λ (x : FilerBooks Files Job JobReply). stamps x) done.books ∙ length-append (held s).entries _
 
+      spelled : (setup_in s).codec.reply_record r.message.origin.xid (reply_of reply) ≡ reply_record r.message.origin.xid told
+      spelled = ap (λ (x : types.Reply). reply_record r.message.origin.xid x) (sym is_told)
+
       ended_is : world new ≡ finish (setup_in s) (stamp_added (without_call (world s) i)) (finished_call (came r o) starved) (reply_of reply)
-      ended_is = ended-world (world s) s.calls new.calls place place' r (reply_of reply) starved count ends (setup_in s) refl
+      ended_is = ended-world (world s) s.calls new.calls place place' r (reply_of reply) told starved count ends (setup_in s) spelled
           (record { waiting = refl; finished = refl }) (held_in s) (held_in new) refl at put s.workers.items new.workers.items i (Worked r o)
           hand refl there h.set
           (server_of (filer_contents (held new).layout (now (held new)))) (all_parts (filer_contents (held new).layout (now (held new)))) (stamps (held new))
@@ -228,8 +236,9 @@ module _ (s : State) (sound : IsSoundEngine s) (i : ℕ) (r : Running) (o : Outc
       written : count ≡ length (bytes_of_reply (setup_in s) (world s) (came r o).message (reply_of reply))
       written =
           let at_world = connection-at (held_in s) r.message.origin.connection.0 place at in
-          (ends (setup_in s) (world s) refl (record { waiting = refl; finished = refl }) at_world).1
-          ∙ ap (λ p. length (bytes_if_open p (reply_record r.message.origin.xid (reply_of reply)))) (sym at_world)
+          (ends (setup_in s) (world s) (reply_of reply) spelled (record { waiting = refl; finished = refl }) at_world).1
+          ∙ ap (λ bs. length (bytes_if_open (Some (connection_seen place)) bs)) (sym spelled)
+          ∙ ap (λ p. length (bytes_if_open p ((setup_in s).codec.reply_record r.message.origin.xid (reply_of reply)))) (sym at_world)
 
       pub ended_events : Does s (events.Finish i) (Ok (dones.Written r.message.origin.connection count)) new
       ended_events = (
@@ -279,7 +288,7 @@ module _ (s : State) (sound : IsSoundEngine s) (i : ℕ) (r : Running) (o : Outc
         stamps = (let more = more_stamps in let most = sound.stamps in let left = leaves.running in omega (arith, more, most, left));
         keyed = keyed;
         opened = opened ∙ sound.opened
-            ∙ sym (count-ended (world s) s.calls new.calls place place' r (reply_of reply) starved count ends (setup_in s) refl
+            ∙ sym (count-ended (world s) s.calls new.calls place place' r (reply_of reply) told starved count ends (setup_in s) spelled
             (record { waiting = refl; finished = refl }) (held_in s) (held_in new) refl at put);
         owed = owes-after (held_in s) (held_in new) r.message place place' at put owes (λ q. rooms_on q s) (λ q. rooms_on q new)
             rooms_left sound.owed;

@@ -52,6 +52,8 @@ use Rattle.engine.specs.declared.worker.Worker.{Worker}
 use Rattle.engine.specs.declared.worker.WorkerRun.TheVariants.{Begun, Worked}
 use Rattle.engine.specs.Seen.{running_as, running_seen, worker_seen, done_of, told_of}
 use Rattle.engine.specs.Workers.{worker_with}
+use Rattle.nfs_values.specs.declared.handle_form.HandleForm.{HandleForm}
+use Rattle.rpc_msg.specs.Handles.{reply_told}
 use Rattle.engine.specs.Sound.{messages_in, running_messages, MayEnd}
 use Rattle.engine.proofs.Workers.{seen-ran, one-worker}
 
@@ -65,8 +67,8 @@ RoomyStays = (volumes : ℕ) (server : Server) (asked : Asked) (moment : Moment)
     → IsRoomy volumes server → IsRoomy volumes (serial server asked moment starved).server
 
 abbrev pub RepliesFit : Type 0
-RepliesFit = (volumes : ℕ) (server : Server) (call : types.Call) (who : Credential) (moment : Moment) (starved : Bool) (xid : ℕ)
-    → IsRoomy volumes server → length (replies.reply_record xid (serial server (Ask call who) moment starved).reply) ≤ reply_room volumes call
+RepliesFit = (form : HandleForm) (volumes : ℕ) (server : Server) (call : types.Call) (who : Credential) (moment : Moment) (starved : Bool) (xid : ℕ)
+    → IsRoomy volumes server → length (replies.reply_record xid (reply_told form (serial server (Ask call who) moment starved).reply)) ≤ reply_room volumes call
 
 module _ (stays : RoomyStays) (volumes : ℕ) where
   roomy-after : (es : List FinishedCall) (server : Server) → IsRoomy volumes server → IsRoomy volumes (server_after server es)
@@ -99,19 +101,19 @@ pub may-end : RepliesFit → (layout : Layout) (m : Message Call) → IsAdmitted
     → Works (record { asked = Ask (call_of m.call) (credential_of m.credential); affinity = affinity_of m.affinity; moment = moment }) store (outcome_of o)
     after
     → MovesOn layout m.call (outcome_of o) → MayEnd layout m o
-may-end fit layout m admitted moment store after roomy (Replied reply) works moves =
+may-end fit layout m admitted moment store after roomy (Replied reply) works moves form =
     let call = call_of m.call in
     let xid = m.origin.xid in
     let same : reply_of reply ≡ (serial store.server (Ask call (credential_of m.credential)) moment false).reply = works.1 in
-    let spelled = ap (λ bs. length bs) (reply_record_is xid (reply_of reply)) in
-    let told = ap (λ x. length (replies.reply_record xid x)) same in
-    let fits = fit (length layout.volumes) store.server call (credential_of m.credential) moment false xid roomy in
+    let spelled = ap (λ bs. length bs) (reply_record_is xid (reply_told form (reply_of reply))) in
+    let told = ap (λ x. length (replies.reply_record xid (reply_told form x))) same in
+    let fits = fit form (length layout.volumes) store.server call (credential_of m.credential) moment false xid roomy in
     let room = admitted.room in
     omega (arith, spelled, told, fits, room)
-may-end fit layout m admitted moment store after roomy Starved works moves =
+may-end fit layout m admitted moment store after roomy Starved works moves form =
     let xid = m.origin.xid in
-    let spelled = ap (λ bs. length bs) (reply_record_is xid types.SystemError) in
-    let fits = fit (length layout.volumes) store.server (call_of m.call) (credential_of m.credential) moment true xid roomy in
+    let spelled = ap (λ bs. length bs) (reply_record_is xid (reply_told form types.SystemError)) in
+    let fits = fit form (length layout.volumes) store.server (call_of m.call) (credential_of m.credential) moment true xid roomy in
     let room = admitted.room in
     omega (arith, spelled, fits, room)
 may-end fit layout m admitted moment store after roomy (Moved a) works moves = moves

@@ -50,27 +50,29 @@ answer_made reply = Replied reply
 
 -- ---- the connection
 
--- a message is finished in every world of which these calls and its connection are a part, and so many bytes were written
+-- a message is finished in every world of which these calls and its connection are a part, by each codec that spells its reply as this one
+-- is told, and so many bytes were written
 abbrev pub EndsIn : CallsState → Held → Running → types.Reply → Bool → ℕ → CallsState → Held → Type 0
-EndsIn calls place r reply starved count calls' place' =
-    (setup : Setup) (w : World) → setup.codec.reply_record ≡ reply_record → Shows calls w
+EndsIn calls place r told starved count calls' place' =
+    (setup : Setup) (w : World) (reply : types.Reply)
+    → setup.codec.reply_record r.message.origin.xid reply ≡ reply_record r.message.origin.xid told → Shows calls w
     → slice_get w.connections r.message.origin.connection.0 ≡ Some (connection_seen place)
     → (record (with_calls calls' w) { connections = changed_at (λ x. connection_seen place') w.connections r.message.origin.connection.0 }
     ≡ finish setup w (finished_message r.message (moment_of r.moment) starved) reply)
-    × (count ≡ length (bytes_if_open (Some (connection_seen place)) (reply_record r.message.origin.xid reply)))
+    × (count ≡ length (bytes_if_open (Some (connection_seen place)) (reply_record r.message.origin.xid told)))
 
 -- where it is open, it owes the room of the reply no more
 abbrev pub OwesLess : Message Call → Held → Held → Type 0
 OwesLess m old new = (x : ConnectionState) → new ≡ Open x → (y : ConnectionState) × (old ≡ Open y) × (owed_by y ≡ owed_by x + m.room)
 
 -- the connection of its number, of a list whose open ones a slab keeps
-pub record EndsAmong (calls : CallsState) (cs : List Connection) (slab : Slab ConnectionState) (r : Running) (reply : types.Reply) (starved : Bool)
+pub record EndsAmong (calls : CallsState) (cs : List Connection) (slab : Slab ConnectionState) (r : Running) (told : types.Reply) (starved : Bool)
     (count : ℕ) (calls' : CallsState) (slab' : Slab ConnectionState) : Type 0 where
   pub place : Held
   pub left : Held
   pub at : slice_get (held_by cs slab) r.message.origin.connection.0 ≡ Some place
   pub put : held_by cs slab' ≡ slice_set (held_by cs slab) r.message.origin.connection.0 left
-  pub ends : EndsIn calls place r reply starved count calls' left
+  pub ends : EndsIn calls place r told starved count calls' left
   pub owes : OwesLess r.message place left
   pub keyed : AreKeyed cs slab'
   pub opened : slab_len slab' ≡ slab_len slab

@@ -19,6 +19,8 @@ use Rattle.service.specs.Running.{IsRunAt}
 use Rattle.service.specs.declared.outcome.Outcome.{Outcome}
 use Rattle.service.specs.declared.outcome.Outcome.TheVariants.{Replied, Starved, Moved}
 use Rattle.engine.specs.laws.Store.{StandsFor}
+use Rattle.nfs_values.specs.declared.handle_form.HandleForm.{HandleForm}
+use Rattle.rpc_msg.specs.Handles.{reply_told}
 use Rattle.engine_feed.specs.Codec.{reply_record}
 use Rattle.engine_feed.specs.Seen.{owed_by, layout_in, messages_of, running_count}
 use Rattle.engine_feed.specs.Sound.{IsAdmitted}
@@ -48,10 +50,10 @@ pub record IsPlaced (layout : Layout) (connections : ℕ) (m : Message Call) : T
   pub known : m.origin.connection.0 < connections
   pub run : IsRunAt layout m.call (affinity_of m.affinity)
 
--- what a message came to may be told: its reply fits the room that is kept for it
+-- what a message came to may be told: its reply fits the room that is kept for it, however handles are told
 abbrev pub MayEnd : Layout → Message Call → Outcome → Type 0
-MayEnd layout m (Replied reply) = length (reply_record m.origin.xid (reply_of reply)) ≤ m.room
-MayEnd layout m Starved = length (reply_record m.origin.xid SystemError) ≤ m.room
+MayEnd layout m (Replied reply) = (form : HandleForm) → length (reply_record m.origin.xid (reply_told form (reply_of reply))) ≤ m.room
+MayEnd layout m Starved = (form : HandleForm) → length (reply_record m.origin.xid (reply_told form SystemError)) ≤ m.room
 MayEnd layout m (Moved a) = IsNode layout (affinity_of a) × IsRunAt layout m.call (affinity_of a)
 
 abbrev pub IsRunReady : Layout → ℕ → WorkerRun → Type 0

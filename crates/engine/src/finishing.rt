@@ -26,6 +26,7 @@ use affinity::Affinity;
 use desk::{Desk, ParcelKinds};
 use engine_feed::{Calls, OpenConnection};
 use nfs_values::{Moment, Reply};
+use rpc_msg::tell;
 use scheduler::{Message, Origin};
 use service::{Asked, Job, JobReply, Outcome, ServedCall, Service};
 use slab::Slab;
@@ -108,7 +109,7 @@ fn end_on(
     (Running { message, moment }, reply)
 }
 
-/// Finishes a message that ran: its reply is written where its connection is open. It answers how
+/// Finishes a message that ran: its reply, as it is told, is written where its connection is open. It answers how
 /// many bytes were written.
 fn end_in(
     calls: &mut Calls,
@@ -177,7 +178,8 @@ pub(crate) fn finish(state: &mut State, worker: usize) -> Result<Done, Refusal>
             return Ok(Done::PutBack);
         }
     };
-    let (running, reply) = end_on(&mut state.desk, worker, running, reply, starved);
+    let (running, mut reply) = end_on(&mut state.desk, worker, running, reply, starved);
+    tell(&mut reply, state.offer.handles());
     let count = end_in(
         &mut state.calls,
         &state.connections,

@@ -9,6 +9,7 @@ use Rattle.nfs_values.specs.declared.offer.Offer.{Offer}
 use Rattle.nfs_values.specs.declared.procedure.Procedure.{Procedure}
 use Rattle.rpc_msg.specs.Heads.{Stop, Incomplete, Refuse, Body, ◌>>=◌, whole, version_at, numbers_shape, credential_at, available, of_version}
 use Rattle.rpc_msg.specs.Heads.{procedure_by, version_by, procedures_by, is_numbered, body_by, under, head_from, xid_at}
+use Rattle.nfs_values.specs.Offer.{form_of}
 use Rattle.rpc_msg.specs.Records.{heard_from, heard_by}
 use Rattle.rpc_msg.specs.Replies.{auth_shape}
 
@@ -76,7 +77,8 @@ module _ (one other : Offer) where
       then_same (whole (read auth_shape c.1)) (from_verifier one n c) (from_verifier other n c) (λ v.
       whole_at_end one n c v ∙ sym (whole_at_end other n c v)))))
 
-  under_same : (xid : ℕ) (r s : Result Body Stop) → cut_off r ≡ cut_off s → fault_in (heard_from (under xid r)) ≡ fault_in (heard_from (under xid s))
+  under_same : (xid : ℕ) (r s : Result Body Stop) → cut_off r ≡ cut_off s → fault_in (heard_from (form_of one) (under xid r))
+      ≡ fault_in (heard_from (form_of other) (under xid s))
   under_same xid (Ok r) (Ok s) e = refl
   under_same xid (Ok r) (Err (Refuse s)) e = refl
   under_same xid (Ok r) (Err Incomplete) e = absurd cc
@@ -87,7 +89,8 @@ module _ (one other : Offer) where
   under_same xid (Err Incomplete) (Err (Refuse s)) e = absurd cc
   under_same xid (Err Incomplete) (Err Incomplete) e = refl
 
-  head_same : (m : Result (ℕ × List ℕ) ℕ) → fault_in (heard_from (head_from one m)) ≡ fault_in (heard_from (head_from other m))
+  head_same : (m : Result (ℕ × List ℕ) ℕ) → fault_in (heard_from (form_of one) (head_from one m))
+      ≡ fault_in (heard_from (form_of other) (head_from other m))
   head_same (Ok m) = under_same m.0 (body_by one m.1) (body_by other m.1) (body_same m.1)
   head_same (Err number) = refl
 

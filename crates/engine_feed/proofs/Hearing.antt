@@ -15,6 +15,10 @@ use Rattle.nfs_model.specs.Events.Feed.{admit}
 use Rattle.nfs_values.specs.declared.call.Call.{Call}
 use Rattle.nfs_values.specs.Call.{call_of}
 use Rattle.nfs_values.specs.Credential.{credential_of}
+use Rattle.nfs_values.specs.declared.handle_form.HandleForm.{HandleForm}
+use Rattle.nfs_values.specs.declared.offer.Offer.{Offer}
+use Rattle.nfs_values.specs.Offer.{form_of}
+use Rattle.rpc_msg.specs.Handles.{reply_told}
 use Rattle.rpc_msg.specs.Replies as replies
 use Rattle.rpc_msg.specs.Room.{reply_room}
 use Rattle.scheduler.specs.declared.message.Message.{Message}
@@ -32,11 +36,11 @@ use Rattle.engine_feed.proofs.Parts.{lists-same}
 
 -- ---- a call that waits
 
-pub waits : (calls calls' : CallsState) (c c' : ConnectionState) (m : Message Call) (asked : types.Asked) → Waits calls c m calls' c'
+pub waits : (offer : Offer) (calls calls' : CallsState) (c c' : ConnectionState) (m : Message Call) (asked : types.Asked) → Waits calls c m calls' c'
     → types.Ask (call_of m.call) (credential_of m.credential) ≡ asked
     → home_of_asked (layout_in calls) asked ≡ Some (affinity_of m.affinity)
-    → HasHeard calls c m.origin asked false calls' c'
-waits calls calls' c c' m asked w a h offer setup v k p =
+    → HasHeard offer calls c m.origin asked false calls' c'
+waits offer calls calls' c c' m asked w a h setup v k p =
     let n = m.origin.connection.0 in
     let more : waiting_of calls' ≡ v.waiting ++ message_of m ∷ [] = ap waiting_of w.waits ∙ map_push message_of calls.waiting m
     ∙ ap (λ (ms : List worlds.Message). ms ++ message_of m ∷ []) (sym p.shows.waiting) in
@@ -58,12 +62,13 @@ StaysWithoutHome = (layout : trees.Layout) (server : servers.Server) (credential
     → length layout.volumes ≡ length server.volumes → home layout call ≡ None
     → serve server call credential moment ≡ stay server (answer_without_home layout call)
 
-pub at-once : (calls calls' : CallsState) (c c' : ConnectionState) (origin : Origin) (call : types.Call) (credential : types.Credential)
-    (answer : types.Answer) → StaysWithoutHome
+pub at-once : (offer : Offer) (calls calls' : CallsState) (c c' : ConnectionState) (origin : Origin) (call : types.Call)
+    (credential : types.Credential) (answer : types.Answer) (told : types.Reply) → StaysWithoutHome
     → home (layout_in calls) call ≡ None → answer ≡ answer_without_home (layout_in calls) call
-    → Finishes calls c (entry_at origin (types.Ask call credential) None start_of_times false) (types.Success answer) calls' c'
-    → HasHeard calls c origin (types.Ask call credential) false calls' c'
-at-once calls calls' c c' origin call credential answer law h a f offer setup v k p =
+    → told ≡ reply_told (form_of offer) (types.Success answer)
+    → Finishes calls c (entry_at origin (types.Ask call credential) None start_of_times false) told calls' c'
+    → HasHeard offer calls c origin (types.Ask call credential) false calls' c'
+at-once offer calls calls' c c' origin call credential answer told law h a is f setup v k p =
     let n = origin.connection.0 in
     let asked : types.Asked = types.Ask call credential in
     let stays : serve v.server call credential start_of_times ≡ stay v.server (answer_without_home (layout_in calls) call) =
@@ -71,7 +76,9 @@ at-once calls calls' c c' origin call credential answer law h a f offer setup v 
     let reply : types.Success answer ≡ (serial v.server asked start_of_times false).reply = ap (λ (x : types.Answer). types.Success x) a
     ∙ sym (ap (λ (t : Step). t.reply) stays) in
     let nowhere : home_of_asked setup.layout asked ≡ None = ap (λ (l : trees.Layout). home l call) k.layout ∙ h in
-    f setup v (ap (λ (q : worlds.Codec). q.reply_record) k.codec) p.shows p.connection
+    f setup v (types.Success answer)
+    (ap (λ (q : worlds.Codec). q.reply_record origin.xid (types.Success answer)) k.codec ∙ ap (λ (x : types.Reply). reply_record origin.xid x) (sym is))
+    p.shows p.connection
     ∙ ap (worlds.finish setup v (entry_at origin asked None start_of_times false)) reply
     ∙ ap (λ (o : Option trees.Affinity). admit setup v n origin.number (record { xid = origin.xid; asked = asked }) o) (sym nowhere)
 
@@ -82,13 +89,14 @@ room-bare : (call : types.Call) → reply_room 0 call ≤ reply_limit
 room-bare types.Null = omega arith
 room-bare call = omega arith
 
-pub at-once-fits : (layout : trees.Layout) (xid : ℕ) (call : types.Call) (answer : types.Answer)
-    → answer ≡ answer_without_home layout call
-    → length (replies.reply_record xid (types.Success (answer_without_home layout call))) ≤ reply_room 0 call
-    → length (reply_record xid (types.Success answer)) ≤ reply_limit
-at-once-fits layout xid call answer e h =
-    let same : length (reply_record xid (types.Success answer)) ≡ length (replies.reply_record xid (types.Success (answer_without_home layout call))) =
-    ap (λ (x : types.Answer). length (reply_record xid (types.Success x))) e
-    ∙ ap (λ bs. length bs) (reply_record_is xid (types.Success (answer_without_home layout call))) in
+pub at-once-fits : (form : HandleForm) (layout : trees.Layout) (xid : ℕ) (call : types.Call) (answer : types.Answer) (told : types.Reply)
+    → answer ≡ answer_without_home layout call → told ≡ reply_told form (types.Success answer)
+    → length (replies.reply_record xid (reply_told form (types.Success (answer_without_home layout call)))) ≤ reply_room 0 call
+    → length (reply_record xid told) ≤ reply_limit
+at-once-fits form layout xid call answer told e is h =
+    let at : types.Reply = reply_told form (types.Success (answer_without_home layout call)) in
+    let same : length (reply_record xid told) ≡ length (replies.reply_record xid at) =
+    ap (λ (x : types.Reply). length (reply_record xid x)) (is ∙ ap (λ (x : types.Answer). reply_told form (types.Success x)) e)
+    ∙ ap (λ bs. length bs) (reply_record_is xid at) in
     let room = room-bare call in
     omega (arith, same, room, h)

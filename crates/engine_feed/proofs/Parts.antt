@@ -91,14 +91,14 @@ part-taken calls n c c' w bytes p e =
 pub written-is : (c c' : ConnectionState) (bytes : List ℕ) → IsWrittenTo c c' bytes → connection_of c' ≡ with_output bytes (connection_of c)
 written-is c c' bytes w = ap connection_of w.same ∙ ap (λ (out : List ℕ). record (connection_of c) { output = out }) w.items
 
-pub finishes : (calls calls' : CallsState) (c c' : ConnectionState) (e : replays.FinishedCall) (reply : types.Reply)
-    → connection_of c' ≡ with_output (reply_record e.xid reply) (connection_of c) → waiting_of calls' ≡ waiting_of calls
-    → finished_of calls' ≡ finished_of calls ++ e ∷ [] → Finishes calls c e reply calls' c'
-finishes calls calls' c c' e reply o m f setup w k s there =
+pub finishes : (calls calls' : CallsState) (c c' : ConnectionState) (e : replays.FinishedCall) (told : types.Reply)
+    → connection_of c' ≡ with_output (reply_record e.xid told) (connection_of c) → waiting_of calls' ≡ waiting_of calls
+    → finished_of calls' ≡ finished_of calls ++ e ∷ [] → Finishes calls c e told calls' c'
+finishes calls calls' c c' e told o m f setup w reply k s there =
     let n = e.connection in
     lists-same w _ (changed_at (with_output (setup.codec.reply_record e.xid reply)) w.connections n) _ w.waiting _ (w.finished ++ e ∷ [])
     (ap (λ (y : Connection). changed_at (λ x. y) w.connections n) o
-    ∙ put-at (with_output (reply_record e.xid reply)) (connection_of c) w.connections n there
-    ∙ ap (λ (q : ℕ → types.Reply → List ℕ). changed_at (with_output (q e.xid reply)) w.connections n) (sym k))
+    ∙ put-at (with_output (reply_record e.xid told)) (connection_of c) w.connections n there
+    ∙ ap (λ (bs : List ℕ). changed_at (with_output bs) w.connections n) (sym k))
     (m ∙ sym s.waiting)
     (f ∙ ap (λ (es : List replays.FinishedCall). es ++ e ∷ []) (sym s.finished))

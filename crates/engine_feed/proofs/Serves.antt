@@ -7,7 +7,7 @@ use Rattle.rpc_record.specs.Machine.{State, Next, Goes, Ends, Faults, after}
 use Rattle.rpc_record.specs.Stream.{Reading, reading_at, byte_read, read_stream}
 use Rattle.nfs_model.specs.World.{Heard, Scanned, IsScan, IsDecoded}
 use Rattle.nfs_values.specs.declared.offer.Offer.{Offer}
-use Rattle.engine_feed.specs.Codec.{heard, reply_record}
+use Rattle.engine_feed.specs.Codec.{heard, reply_record_by}
 use Rattle.engine_feed.specs.Streams.{served_of, fault_at, codec}
 use Rattle.engine_feed.proofs.Scanning.{joined, read_stream-push, served_of-append}
 use Rattle.engine_feed.proofs.Records.{heard-decoded}
@@ -86,8 +86,9 @@ module _ (hear : List ℕ → Result Heard ℕ) where
   all_served P f [] fault = tt
   all_served P f (bytes ∷ made) fault = all_from P (hear bytes) (map hear made) fault (λ h e. f bytes h e) (all_served P f made fault)
 
-  scans : ((bytes : List ℕ) (h : Heard) → hear bytes ≡ Ok h → IsDecoded h.asked) → IsScan (record { scan = scan_as; reply_record = reply_record })
-  scans decoded = record {
+  scans : ((bytes : List ℕ) (h : Heard) → hear bytes ≡ Ok h → IsDecoded h.asked) → (spell : ℕ → Reply → List ℕ)
+      → IsScan (record { scan = scan_as; reply_record = spell })
+  scans decoded spell = record {
     nothing = refl;
     further = further_at;
     decoded = λ came. all_served (λ h. IsDecoded h.asked) decoded (read_stream came).records (fault_at (read_stream came).at);
@@ -96,4 +97,4 @@ module _ (hear : List ℕ → Result Heard ℕ) where
 -- ---- with an offer
 
 pub is-scan : (offer : Offer) → IsScan (codec offer)
-is-scan offer = scans (heard offer) (heard-decoded offer)
+is-scan offer = scans (heard offer) (heard-decoded offer) (reply_record_by offer)

@@ -3,6 +3,8 @@ use Rattle.std.specs.Prelude.{ℕ, List, Result}
 use Rattle.nfs_model.specs.Types.{Reply}
 use Rattle.nfs_model.specs.World.{Heard}
 use Rattle.nfs_values.specs.declared.offer.Offer.{Offer}
+use Rattle.nfs_values.specs.Offer.{form_of}
+use Rattle.rpc_msg.specs.Handles.{reply_told}
 use Rattle.rpc_msg.specs.Records as records
 use Rattle.rpc_msg.specs.Replies as replies
 
@@ -11,3 +13,7 @@ heard offer bytes = records.heard_by offer bytes
 
 unfoldable pub reply_record : ℕ → Reply → List ℕ
 reply_record xid reply = replies.reply_record xid reply
+
+-- that of a reply of the server, as its handles are told by what is offered
+abbrev pub reply_record_by : Offer → ℕ → Reply → List ℕ
+reply_record_by offer xid reply = reply_record xid (reply_told (form_of offer) reply)

@@ -5,7 +5,7 @@ use Rattle.rpc_record.specs.Records.{Records, HasFault, HasNoFault}
 use Rattle.rpc_record.specs.Stream.{read_stream}
 use Rattle.nfs_model.specs.World.{Heard, Scanned, Codec}
 use Rattle.nfs_values.specs.declared.offer.Offer.{Offer}
-use Rattle.engine_feed.specs.Codec.{heard, reply_record}
+use Rattle.engine_feed.specs.Codec.{heard, reply_record_by}
 
 -- a header that brings a record above the limit
 abbrev pub fault_at : Option State → Option ℕ
@@ -54,4 +54,4 @@ pub record Completes (offer : Offer) (stream taken : List ℕ) (scanned : Scanne
 
 -- how a server with this offer reads and writes streams
 abbrev pub codec : Offer → Codec
-codec offer = record { scan = scan_stream offer; reply_record = reply_record }
+codec offer = record { scan = scan_stream offer; reply_record = reply_record_by offer }

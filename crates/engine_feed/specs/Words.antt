@@ -53,10 +53,10 @@ FeedsSome offer calls c number bytes taken stop calls' c' =
 abbrev pub MayTakeMore : List ℕ → ℕ → Option Stop → ConnectionState → Type 0
 MayTakeMore bytes taken stop c = stop ≡ None → (0 < taken) × TakesIn c (length bytes - taken)
 
--- a record of the connection is complete, with whether its decoding was starved; whatever is offered
-abbrev pub HasHeard : CallsState → ConnectionState → Origin → types.Asked → Bool → CallsState → ConnectionState → Type 0
-HasHeard calls c origin asked starved calls' c' =
-    (offer : Offer) → InWorlds offer calls origin.connection.0 c (λ setup w.
+-- a record of the connection is complete, with whether its decoding was starved
+abbrev pub HasHeard : Offer → CallsState → ConnectionState → Origin → types.Asked → Bool → CallsState → ConnectionState → Type 0
+HasHeard offer calls c origin asked starved calls' c' =
+    InWorlds offer calls origin.connection.0 c (λ setup w.
     with_part calls' origin.connection.0 c' w
     ≡ heard_in setup w origin.connection.0 origin.number (record { xid = origin.xid; asked = asked }) starved)
 
@@ -97,10 +97,10 @@ pub record Waits (calls : CallsState) (c : ConnectionState) (m : Message Call) (
   pub waits : calls' ≡ record calls { waiting = calls.waiting ++ m ∷ [] }
   pub owes : c' ≡ record c { owed = c.owed + m.room }
 
--- a call is finished, and its reply written on its connection
+-- a call is finished, and its reply written on its connection, as it is told: so it is by each codec that spells so what is said
 abbrev pub Finishes : CallsState → ConnectionState → replays.FinishedCall → types.Reply → CallsState → ConnectionState → Type 0
-Finishes calls c e reply calls' c' =
-    (setup : Setup) (w : World) → setup.codec.reply_record ≡ reply_record → Shows calls w
+Finishes calls c e told calls' c' =
+    (setup : Setup) (w : World) (reply : types.Reply) → setup.codec.reply_record e.xid reply ≡ reply_record e.xid told → Shows calls w
     → slice_get w.connections e.connection ≡ Some (connection_of c)
     → with_part calls' e.connection c' w ≡ finish setup w e reply
 

@@ -3,6 +3,7 @@
 ghost use Rattle.std.specs.Prelude.{◌≡◌, ◌+◌, ◌≤◌, ◌<◌, true, false, Some, None, length};
 ghost use Rattle.nfs_model.specs.Types as types;
 ghost use Rattle.nfs_model.specs.Server.{start_of_times};
+ghost use Rattle.nfs_values.specs.declared.offer.Offer.{Offer as OfferSeen};
 ghost use Rattle.nfs_values.specs.Call.{call_of};
 ghost use Rattle.nfs_values.specs.Credential.{credential_of};
 ghost use Rattle.nfs_values.specs.Reply.{refusal_of, reply_of};
@@ -19,8 +20,8 @@ use crate::message::Request;
 use crate::state::{CallsState, ConnectionState};
 use affinity::homes::home_of;
 use nfs_laws::laws::without_home_stays;
-use nfs_values::{Call, Credential, Moment, Refusal, Reply};
-use rpc_msg::{refusals_fit, replies_fit, room_of_reply};
+use nfs_values::{Call, Credential, Moment, Offer, Refusal, Reply};
+use rpc_msg::{refusals_fit, replies_fit, room_of_reply, tell};
 use scheduler::laws::nodes_have_queues;
 use scheduler::{Message, Origin};
 
@@ -57,8 +58,8 @@ fn refuse(
     requires calls { AreSound calls.old }
     requires room { HasRoomToReply connection.old }
     requires entry { HaveRoomToAdmit calls.old }
-    ensures admitted { HasHeard calls.old connection.old origin (types.Refused (refusal_of refusal))
-        false calls.new connection.new }
+    ensures admitted { (offer : OfferSeen) → HasHeard offer calls.old connection.old origin
+        (types.Refused (refusal_of refusal)) false calls.new connection.new }
     ensures keeps { Keeps calls.old connection.old origin.connection.0 calls.new connection.new }
 {
     refusals_fit();
@@ -73,8 +74,8 @@ pub(crate) fn starve(connection: &mut ConnectionState, calls: &mut CallsState, o
     requires calls { AreSound calls.old }
     requires room { HasRoomToReply connection.old }
     requires entry { HaveRoomToAdmit calls.old }
-    ensures starved { (asked : types.Asked)
-        → HasHeard calls.old connection.old origin asked true calls.new connection.new }
+    ensures starved { (asked : types.Asked) (offer : OfferSeen)
+        → HasHeard offer calls.old connection.old origin asked true calls.new connection.new }
     ensures keeps { Keeps calls.old connection.old origin.connection.0 calls.new connection.new }
 {
     refusals_fit();
@@ -107,6 +108,7 @@ fn wait(connection: &mut ConnectionState, calls: &mut CallsState, message: Messa
 fn admit_call(
     connection: &mut ConnectionState,
     calls: &mut CallsState,
+    offer: Offer,
     origin: Origin,
     call: Call,
     credential: Credential,
@@ -116,7 +118,7 @@ fn admit_call(
     requires room { HasRoomToReply connection.old }
     requires entry { HaveRoomToAdmit calls.old }
     requires places { pending calls.old < 1024 }
-    ensures admitted { HasHeard calls.old connection.old origin
+    ensures admitted { HasHeard offer calls.old connection.old origin
         (types.Ask (call_of call) (credential_of credential)) false calls.new connection.new }
     ensures keeps { Keeps calls.old connection.old origin.connection.0 calls.new connection.new }
 {
@@ -135,7 +137,8 @@ fn admit_call(
         None => {
             without_home_stays();
             replies_fit();
-            let reply = Reply::Success(answer_at_once(connection.alloc, &call, &calls.layout));
+            let mut reply = Reply::Success(answer_at_once(connection.alloc, &call, &calls.layout));
+            tell(&mut reply, offer.handles());
             let request = Request::Call { call, credential };
             answer(connection, calls, origin, request, &reply);
         }
@@ -146,6 +149,7 @@ fn admit_call(
 pub(crate) fn admit(
     connection: &mut ConnectionState,
     calls: &mut CallsState,
+    offer: Offer,
     origin: Origin,
     request: Request,
 )
@@ -154,13 +158,13 @@ pub(crate) fn admit(
     requires room { HasRoomToReply connection.old }
     requires entry { HaveRoomToAdmit calls.old }
     requires places { pending calls.old < 1024 }
-    ensures admitted { HasHeard calls.old connection.old origin (asked_of request) false
+    ensures admitted { HasHeard offer calls.old connection.old origin (asked_of request) false
         calls.new connection.new }
     ensures keeps { Keeps calls.old connection.old origin.connection.0 calls.new connection.new }
 {
     match request {
         Request::Call { call, credential } => {
-            admit_call(connection, calls, origin, call, credential);
+            admit_call(connection, calls, offer, origin, call, credential);
         }
         Request::Refused(refusal) => refuse(connection, calls, origin, refusal),
     }

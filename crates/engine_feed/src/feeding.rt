@@ -86,7 +86,7 @@ fn take_and_admit(
                 number: place,
                 xid: heard.xid,
             };
-            admit(connection, calls, origin, heard.request);
+            admit(connection, calls, offer, origin, heard.request);
             (taken, None)
         }
         Arrival::Undecoded(xid) => {

@@ -52,7 +52,7 @@ impl RecordSink for Gathered {
         &mut self,
         connection: ConnectionNumber,
         xid: u32,
-        reply: &Reply,
+        reply: &mut Reply,
     ) -> Result<(), AllocError> {
         self.outboxes.put_at_once(connection, xid, reply)
     }

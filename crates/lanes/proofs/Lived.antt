@@ -8,6 +8,8 @@ use Rattle.std.proofs.lemmas.Map.Views.{exact_unsigned_eq}
 use Rattle.depot_rule.specs.Sums.{total}
 use Rattle.depot_rule.specs.lemmas.Sums.{total-append}
 use Rattle.nfs_values.specs.declared.offer.Offer.{Offer}
+use Rattle.nfs_values.specs.Offer.{form_of}
+use Rattle.turns.specs.Telling.{answer_told, message_told}
 use Rattle.nfs_model.specs.Tree.{Layout}
 use Rattle.nfs_model.specs.World as worlds
 use Rattle.nfs_model.specs.World.{Heard}
@@ -22,7 +24,7 @@ use Rattle.lanes.specs.declared.connection.Connection.{Connection}
 use Rattle.lanes.specs.Connections.{number_of}
 use Rattle.lanes.specs.Intakes.{all_put, answered_of}
 use Rattle.lanes.specs.Reading.{Reads}
-use Rattle.lanes.specs.Story.{of_connection, Ending, Served, AtOnce, said_by, replies_to, served_of, at_once_of, served_in, number_at, IsServed}
+use Rattle.lanes.specs.Story.{of_connection, Ending, Served, AtOnce, said_by, told_to, served_of, at_once_of, served_in, number_at, IsServed}
 use Rattle.lanes.specs.Story.{Life, Open, Closed, HasLived, Story}
 use Rattle.lanes.specs.Writing.{Writes}
 use Rattle.lanes.specs.lemmas.Coming.{calls-append, answered-append}
@@ -154,7 +156,7 @@ module _ {D : Type 0} (unread written : D → Option (List ℕ)) (layout : Layou
     -- one call ended, and its reply was put
     pub story-ends : (e : FilerEntry) (a : Addressed) → said_by (Served e) ≡ Some a → served_in (e ∷ []) ≡ e ∷ []
         → ((h : Weight) → total (by_entry h) (entries ++ e ∷ []) ≤ total (by_key h) messages)
-        → Story unread written layout offer lane lanes (entries ++ e ∷ []) messages (put a boxes) slots
+        → Story unread written layout offer lane lanes (entries ++ e ∷ []) messages (put (answer_told (form_of offer) a) boxes) slots
     story-ends e a said is once = record {
       came = s.came;
       endings = s.endings ++ Served e ∷ [];
@@ -234,8 +236,9 @@ module _ {D : Type 0} (unread written : D → Option (List ℕ)) (layout : Layou
                 arrived = ap (λ n. of_connection n s.came) own ∙ next-quiet;
                 reads = reads;
                 writes = subst (λ (l : List ReplyMessage). Writes written c.opened.value c [] l)
-                    (sym (ap (λ n. replies_to n s.endings) own
-                    ∙ unheard (number_at lane lanes s.opened) s.came s.endings entries messages s.admitted s.finished s.at_once s.once next-quiet))
+                    (sym (ap (λ n. told_to offer n s.endings) own
+                    ∙ ap (λ (l : List ReplyMessage). map (message_told (form_of offer)) l)
+                    (unheard (number_at lane lanes s.opened) s.came s.endings entries messages s.admitted s.finished s.at_once s.once next-quiet)))
                     writes;
               },
             )
@@ -320,7 +323,7 @@ module _ {D : Type 0} (unread written : D → Option (List ℕ)) (layout : Layou
 
       pub story-reads : (messages' : List Message) (heard : List Heard) (boxes' : Boxes)
           → map seen_of messages' ≡ map seen_of messages ++ calls_of (arrivals layout (number_of c) c.stream.records heard)
-          → boxes' ≡ all_put (answered_of (arrivals layout (number_of c) c.stream.records heard)) boxes
+          → boxes' ≡ all_put (map (answer_told (form_of offer)) (answered_of (arrivals layout (number_of c) c.stream.records heard))) boxes
           → ((before : List Heard) → Reads offer unread c.opened.value c before → Reads offer unread c.opened.value c' (before ++ heard))
           → ((waiting replies : List ReplyMessage) → Writes written c.opened.value c waiting replies → Writes written c.opened.value c' waiting replies)
           → Story unread written layout offer lane lanes entries messages' boxes' slots'
@@ -347,9 +350,9 @@ module _ {D : Type 0} (unread written : D → Option (List ℕ)) (layout : Layou
                 ∙ sym (arrivals-append layout (number_of c) 0 old.heard heard c.stream.records (let n = old.reads.count in omega (arith, n)))
                 ∙ ap (λ n. arrivals layout n 0 (old.heard ++ heard)) (sym number);
             reads = subst (λ x. Reads offer unread x c' (old.heard ++ heard)) (sym same_opened) (reads old.heard old.reads);
-            writes = subst (λ x. Writes written x c' (own-waiting key c was) (replies_to (number_of c') s.endings)) (sym same_opened)
-                (subst (λ n. Writes written c.opened.value c' (own-waiting key c was) (replies_to n s.endings)) (sym number)
-                (writes (own-waiting key c was) (replies_to (number_of c) s.endings) old.writes));
+            writes = subst (λ x. Writes written x c' (own-waiting key c was) (told_to offer (number_of c') s.endings)) (sym same_opened)
+                (subst (λ n. Writes written c.opened.value c' (own-waiting key c was) (told_to offer n s.endings)) (sym number)
+                (writes (own-waiting key c was) (told_to offer (number_of c) s.endings) old.writes));
           }
 
           here : HasLived unread written layout offer (s.came ++ xs) s.endings boxes slots' (number_at lane lanes (place key c was)) (Open key)
@@ -362,7 +365,7 @@ module _ {D : Type 0} (unread written : D → Option (List ℕ)) (layout : Layou
             served,
           )
 
-          all : Story unread written layout offer lane lanes entries messages' (all_put answers boxes) slots'
+          all : Story unread written layout offer lane lanes entries messages' (all_put (map (answer_told (form_of offer)) answers) boxes) slots'
           all = record {
             came = s.came ++ xs;
             endings = s.endings ++ map AtOnce answers;
@@ -375,8 +378,8 @@ module _ {D : Type 0} (unread written : D → Option (List ℕ)) (layout : Layou
             opened = s.opened;
             lives = s.lives;
             within = s.within;
-            step = put-step answers boxes ∙ s.step;
-            next = put-next answers boxes ∙ s.next;
+            step = put-step (map (answer_told (form_of offer)) answers) boxes ∙ s.step;
+            next = put-next (map (answer_told (form_of offer)) answers) boxes ∙ s.next;
             each = λ k few. lived-at-once unread written layout offer answers boxes slots' (s.came ++ xs) s.endings (number_at lane lanes k) (s.lives k)
                 (each-by (s.came ++ xs) boxes here quiet (λ n d. refl) k few);
             known = known-still;
@@ -407,8 +410,8 @@ module _ {D : Type 0} (unread written : D → Option (List ℕ)) (layout : Layou
       }
         where
           left : (waiting' : List ReplyMessage) × (get boxes'.waiting (number_of c) ≡ Some waiting')
-              × Writes written c.opened.value c' waiting' (replies_to (number_of c) s.endings)
-          left = writes (own-waiting key c was) (replies_to (number_of c) s.endings) (own-box key c was) old.writes
+              × Writes written c.opened.value c' waiting' (told_to offer (number_of c) s.endings)
+          left = writes (own-waiting key c was) (told_to offer (number_of c) s.endings) (own-box key c was) old.writes
 
           here : HasLived unread written layout offer s.came s.endings boxes' slots' (number_at lane lanes (place key c was)) (Open key)
           here = (
@@ -421,8 +424,8 @@ module _ {D : Type 0} (unread written : D → Option (List ℕ)) (layout : Layou
               heard = old.heard;
               arrived = ap (λ n. of_connection n s.came) number ∙ old.arrived ∙ ap (λ n. arrivals layout n 0 old.heard) (sym number);
               reads = subst (λ x. Reads offer unread x c' old.heard) (sym same_opened) (reads old.heard old.reads);
-              writes = subst (λ x. Writes written x c' left.0 (replies_to (number_of c') s.endings)) (sym same_opened)
-                  (subst (λ n. Writes written c.opened.value c' left.0 (replies_to n s.endings)) (sym number) left.2);
+              writes = subst (λ x. Writes written x c' left.0 (told_to offer (number_of c') s.endings)) (sym same_opened)
+                  (subst (λ n. Writes written c.opened.value c' left.0 (told_to offer n s.endings)) (sym number) left.2);
             },
           )
 

@@ -4,7 +4,10 @@ use Rattle.std.proofs.Common.{option_map, refl, sym, ap, subst, ◌∙◌, appen
 use Rattle.std.specs.FinMap.{get}
 use Rattle.std.proofs.lemmas.Bool.{eqb-false}
 use Rattle.std.proofs.lemmas.Map.Views.{exact_unsigned_eq}
+use Rattle.std.proofs.lemmas.List.{map_push}
 use Rattle.nfs_values.specs.declared.offer.Offer.{Offer}
+use Rattle.nfs_values.specs.Offer.{form_of}
+use Rattle.turns.specs.Telling.{answer_told, message_told}
 use Rattle.nfs_model.specs.Tree.{Layout}
 use Rattle.nfs_model.specs.volume.lemmas.Numbered.{itself, get-changed_at}
 use Rattle.outboxes.specs.Boxes.{Addressed, Boxes, put, with_last}
@@ -13,7 +16,7 @@ use Rattle.tcp_front.specs.Arrivals.{Arrival, arrivals}
 use Rattle.lanes.specs.declared.connection.Connection.{Connection}
 use Rattle.lanes.specs.Connections.{number_of}
 use Rattle.lanes.specs.Intakes.{all_put}
-use Rattle.lanes.specs.Story.{of_connection, Ending, AtOnce, said_by, with_reply, replies_to, IsServed, Life, Open, Closed, HasLived}
+use Rattle.lanes.specs.Story.{of_connection, Ending, AtOnce, said_by, with_reply, replies_to, told_to, IsServed, Life, Open, Closed, HasLived}
 use Rattle.lanes.specs.Writing.{Writes}
 use Rattle.lanes.specs.lemmas.Writing.{writes-put}
 use Rattle.lanes.proofs.Lists.{replies-append}
@@ -41,7 +44,7 @@ module _ {D : Type 0} (unread written : D → Option (List ℕ)) (layout : Layou
       (box : get boxes.waiting (number_of c) ≡ Some waiting) (x : Ending) (a : Addressed) (said : said_by x ≡ Some a)
       (s : IsServed unread written layout offer came endings waiting c) where
     abbrev Put : Type 0
-    Put = (waiting' : List ReplyMessage) × (get (put a boxes).waiting (number_of c) ≡ Some waiting')
+    Put = (waiting' : List ReplyMessage) × (get (put (answer_told (form_of offer) a) boxes).waiting (number_of c) ≡ Some waiting')
         × IsServed unread written layout offer came (endings ++ x ∷ []) waiting' c
 
     served-put : Put
@@ -50,54 +53,60 @@ module _ {D : Type 0} (unread written : D → Option (List ℕ)) (layout : Layou
         n : ℕ
         n = number_of c
 
-        found : get (put a boxes).waiting n
-            ≡ (if n == a.connection then option_map (with_last a.message) (get boxes.waiting a.connection) else get boxes.waiting n)
-        found = get-changed_at (with_last a.message) a.connection boxes.waiting n
+        told : ReplyMessage
+        told = message_told (form_of offer) a.message
 
-        with_box : (waiting' : List ReplyMessage) → get (put a boxes).waiting n ≡ Some waiting'
-            → Writes written c.opened.value c waiting' (replies_to n (endings ++ x ∷ [])) → Put
+        found : get (put (answer_told (form_of offer) a) boxes).waiting n
+            ≡ (if n == a.connection then option_map (with_last told) (get boxes.waiting a.connection) else get boxes.waiting n)
+        found = get-changed_at (with_last told) a.connection boxes.waiting n
+
+        with_box : (waiting' : List ReplyMessage) → get (put (answer_told (form_of offer) a) boxes).waiting n ≡ Some waiting'
+            → Writes written c.opened.value c waiting' (told_to offer n (endings ++ x ∷ [])) → Put
         with_box waiting' is writes = (waiting', is, record { heard = s.heard; arrived = s.arrived; reads = s.reads; writes = writes })
 
         by : (b : Bool) → (n == a.connection) ≡ b → Put
         by true is =
             let e : n ≡ a.connection = exact_unsigned_eq n a.connection is in
-            with_box (waiting ++ a.message ∷ [])
-            (found ∙ ap (λ (b : Bool). if b then option_map (with_last a.message) (get boxes.waiting a.connection) else get boxes.waiting n) is
-            ∙ ap (λ m. option_map (with_last a.message) (get boxes.waiting m)) (sym e) ∙ ap (option_map (with_last a.message)) box)
-            (subst (λ (l : List ReplyMessage). Writes written c.opened.value c (waiting ++ a.message ∷ []) l)
-            (sym (replies-append n endings (x ∷ []) ∙ ap (λ (l : List ReplyMessage). replies_to n endings ++ l) (one-reply n x a said e)))
-            (writes-put written c.opened.value c waiting (replies_to n endings) a.message s.writes))
+            with_box (waiting ++ told ∷ [])
+            (found ∙ ap (λ (b : Bool). if b then option_map (with_last told) (get boxes.waiting a.connection) else get boxes.waiting n) is
+            ∙ ap (λ m. option_map (with_last told) (get boxes.waiting m)) (sym e) ∙ ap (option_map (with_last told)) box)
+            (subst (λ (l : List ReplyMessage). Writes written c.opened.value c (waiting ++ told ∷ []) l)
+            (sym (ap (λ (l : List ReplyMessage). map (message_told (form_of offer)) l)
+            (replies-append n endings (x ∷ []) ∙ ap (λ (l : List ReplyMessage). replies_to n endings ++ l) (one-reply n x a said e))
+            ∙ map_push (message_told (form_of offer)) (replies_to n endings) a.message))
+            (writes-put written c.opened.value c waiting (told_to offer n endings) told s.writes))
         by false is =
             with_box waiting
-            (found ∙ ap (λ (b : Bool). if b then option_map (with_last a.message) (get boxes.waiting a.connection) else get boxes.waiting n) is
+            (found ∙ ap (λ (b : Bool). if b then option_map (with_last told) (get boxes.waiting a.connection) else get boxes.waiting n) is
             ∙ box)
             (subst (λ (l : List ReplyMessage). Writes written c.opened.value c waiting l)
-            (sym (replies-append n endings (x ∷ [])
+            (sym (ap (λ (l : List ReplyMessage). map (message_told (form_of offer)) l)
+            (replies-append n endings (x ∷ [])
             ∙ ap (λ (l : List ReplyMessage). replies_to n endings ++ l) (no-reply n x a said (eqb-false n a.connection is))
-            ∙ append-nil (replies_to n endings)))
+            ∙ append-nil (replies_to n endings))))
             s.writes)
 
   -- so it is of each connection that the lane had
   pub lived-put : (boxes : Boxes) (slots : Slots) (came : List Arrival) (endings : List Ending) (x : Ending) (a : Addressed) → said_by x ≡ Some a
       → (number : ℕ) (life : Life D) → HasLived unread written layout offer came endings boxes slots number life
-      → HasLived unread written layout offer came (endings ++ x ∷ []) (put a boxes) slots number life
+      → HasLived unread written layout offer came (endings ++ x ∷ []) (put (answer_told (form_of offer) a) boxes) slots number life
   lived-put boxes slots came endings x a said number (Open key) h =
       let c = h.0 in
       let p = served-put boxes came endings c h.1 (ap (λ n. get boxes.waiting n) h.3 ∙ h.4) x a said h.5 in
-      (c, p.0, h.2, h.3, ap (λ n. get (put a boxes).waiting n) (sym h.3) ∙ p.1, p.2)
+      (c, p.0, h.2, h.3, ap (λ n. get (put (answer_told (form_of offer) a) boxes).waiting n) (sym h.3) ∙ p.1, p.2)
   lived-put boxes slots came endings x a said number (Closed last waiting ended) h =
       (h.0 ++ x ∷ [], ap (λ (l : List Ending). l ++ x ∷ []) h.1 ∙ append_assoc ended h.0 (x ∷ []), h.2, h.3)
 
   -- replies at once, all put
   pub lived-at-once : (xs : List Addressed) (boxes : Boxes) (slots : Slots) (came : List Arrival) (endings : List Ending) (number : ℕ) (life : Life D)
       → HasLived unread written layout offer came endings boxes slots number life
-      → HasLived unread written layout offer came (endings ++ map AtOnce xs) (all_put xs boxes) slots number life
+      → HasLived unread written layout offer came (endings ++ map AtOnce xs) (all_put (map (answer_told (form_of offer)) xs) boxes) slots number life
   lived-at-once [] boxes slots came endings number life h =
       subst (λ (l : List Ending). HasLived unread written layout offer came l boxes slots number life) (sym (append-nil endings)) h
   lived-at-once (x ∷ xs) boxes slots came endings number life h =
-      subst (λ (l : List Ending). HasLived unread written layout offer came l (all_put xs (put x boxes)) slots number life)
+      subst (λ (l : List Ending). HasLived unread written layout offer came l (all_put (map (answer_told (form_of offer)) xs) (put (answer_told (form_of offer) x) boxes)) slots number life)
       (append_assoc endings (AtOnce x ∷ []) (map AtOnce xs))
-      (lived-at-once xs (put x boxes) slots came (endings ++ AtOnce x ∷ []) number life (lived-put boxes slots came endings (AtOnce x) x refl number life h))
+      (lived-at-once xs (put (answer_told (form_of offer) x) boxes) slots came (endings ++ AtOnce x ∷ []) number life (lived-put boxes slots came endings (AtOnce x) x refl number life h))
 
   -- ---- another connection goes on
 

@@ -5,6 +5,8 @@ use Rattle.std.specs.Prelude.{IsSome}
 use Rattle.std.specs.FinMap as maps
 use Rattle.std.proofs.Math.Logic.{∥∥₁_map}
 use Rattle.nfs_values.specs.declared.offer.Offer.{Offer}
+use Rattle.nfs_values.specs.Offer.{form_of}
+use Rattle.turns.specs.Telling.{answer_told, TookTold}
 use Rattle.nfs_model.specs.Tree.{Layout}
 use Rattle.nfs_model.specs.World.{Heard}
 use Rattle.affinity.specs.declared.layout.Layout as layouts
@@ -97,7 +99,7 @@ module _ {D : Type 0} (unread written : D → Option (List ℕ)) (layout : Layou
   -- ---- reading
 
   module _ {R : Type 0} (c : Connection D) (sink sink' : Intake R) (size : ℕ) (result : Came) (between : Connection D)
-      (h : HasRead unread written HasTakenIn has_room_in layout offer c (owing_in c.owed sink) size result between sink') where
+      (h : HasRead unread written HasTakenIn has_room_in layout offer c (owing_in c.owed (form_of offer) sink) size result between sink') where
     read-number : number_of between ≡ number_of c
     read-number = ap (λ n. n.0) h.number
 
@@ -115,9 +117,9 @@ module _ {D : Type 0} (unread written : D → Option (List ℕ)) (layout : Layou
       story-reads unread written layout offer lane lanes entries (known sink.pass).put sink.outboxes (get slab) s (get slab') key c after is
       (sets-at slab slab' key c after is now) number same (known sink'.pass).put h.heard sink'.outboxes h.given.put h.given.boxes_are
       (λ before r. subst (λ (x : Connection D). Reads offer unread c.opened.value x (before ++ h.heard)) (sym on.is)
-      (reads-on unread written HasTakenIn has_room_in layout offer c (owing_in c.owed sink) size result on.between sink' h c.opened.value before r))
+      (reads-on unread written HasTakenIn has_room_in layout offer c (owing_in c.owed (form_of offer) sink) size result on.between sink' h c.opened.value before r))
       (λ waiting replies r. subst (λ (x : Connection D). Writes written c.opened.value x waiting replies) (sym on.is)
-      (writes-kept unread written HasTakenIn has_room_in layout offer c (owing_in c.owed sink) size result on.between sink' h c.opened.value waiting replies
+      (writes-kept unread written HasTakenIn has_room_in layout offer c (owing_in c.owed (form_of offer) sink) size result on.between sink' h c.opened.value waiting replies
       r)))
 
   pub reads-told : {R : Type 0} (layout' : Layout) (slab slab' : Slab (Connection D)) (key : ℕ) (sink sink' : Intake R)
@@ -251,10 +253,10 @@ module _ {D : Type 0} (unread written : D → Option (List ℕ)) (layout : Layou
         subst (λ (es : List FilerEntry). ∥ Story unread written layout offer lane lanes es messages boxes slots ∥₁) (sym e) k
 
     done-told : (s t : Standing) (boxes : Boxes) (a : Addressed) → HasDoneFrom s moment a t → Once messages (entries_of t.view)
-        → Known s boxes → Known t (put a boxes)
+        → Known s boxes → Known t (put (answer_told (form_of offer) a) boxes)
     done-told s t boxes a d once k =
         let f = d.finished in
-        subst (λ (es : List FilerEntry). ∥ Story unread written layout offer lane lanes es messages (put a boxes) slots ∥₁) (sym f.entries)
+        subst (λ (es : List FilerEntry). ∥ Story unread written layout offer lane lanes es messages (put (answer_told (form_of offer) a) boxes) slots ∥₁) (sym f.entries)
         (∥∥₁_map k (λ y. story-ends unread written layout offer lane lanes (entries_of s.view) messages boxes slots y f.entry a
         (replied d.message moment a f.entry f.is) (served-one d.message moment a f.entry f.is) (subst (Once messages) f.entries once)))
 
@@ -267,10 +269,10 @@ module _ {D : Type 0} (unread written : D → Option (List ℕ)) (layout : Layou
         once-before messages (entries_of s.view) (f.entry ∷ []) (subst (Once messages) f.entries (once-all mid rest t more once))
 
     all-told : (s : Standing) (answers : List Addressed) (t : Standing) (boxes : Boxes) → DidAll moment s answers t
-        → Once messages (entries_of t.view) → Known s boxes → Known t (puts answers boxes)
+        → Once messages (entries_of t.view) → Known s boxes → Known t (puts (map (answer_told (form_of offer)) answers) boxes)
     all-told s [] t boxes same once k = subst (λ (x : Standing). Known x boxes) (sym same) k
     all-told s (a ∷ rest) t boxes (mid, done, more) once k =
-        all-told mid rest t (put a boxes) more once (done-told s mid boxes a done (once-all mid rest t more once) k)
+        all-told mid rest t (put (answer_told (form_of offer) a) boxes) more once (done-told s mid boxes a done (once-all mid rest t more once) k)
 
     ends-same : (between : Standing) (chained : Chained) (after : Standing) → EndsBy layout between moment chained after
         → entries_of after.view ≡ entries_of between.view
@@ -281,11 +283,11 @@ module _ {D : Type 0} (unread written : D → Option (List ℕ)) (layout : Layou
     ends-same between chains.Idle after d = ap entries_of d.view
 
     pub turns-told : (s : Standing) (boxes boxes' : Boxes) (chained : Chained) (t : Standing)
-        → HasTurnedOn HasPutAll layout s moment boxes chained boxes' t → Once messages (entries_of t.view) → Known s boxes → Known t boxes'
+        → HasTurnedOn (TookTold (form_of offer) HasPutAll) layout s moment boxes chained boxes' t → Once messages (entries_of t.view) → Known s boxes → Known t boxes'
     turns-told s boxes boxes' chained t h once k =
         let same = ends-same h.between chained t h.ends in
         subst (λ (b : Boxes). Known t b) (sym h.told)
-        (same-told h.between t (puts h.answers boxes) same
+        (same-told h.between t (puts (map (answer_told (form_of offer)) h.answers) boxes) same
         (all-told s h.answers h.between boxes h.did (subst (Once messages) same once) k))
 
 -- ---- tends
@@ -320,9 +322,9 @@ module _ {D : Type 0} (unread written : D → Option (List ℕ)) (layout : Layou
 -- ---- under a key
 
 module _ {D R : Type 0} (unread written : D → Option (List ℕ)) (layout : Layout) (offer : Offer) where
-  pub read-owing : (c : Connection D) (start sink sink' : Intake R) (size : ℕ) (result : Came) (between : Connection D) → start ≡ owing_in c.owed sink
+  pub read-owing : (c : Connection D) (start sink sink' : Intake R) (size : ℕ) (result : Came) (between : Connection D) → start ≡ owing_in c.owed (form_of offer) sink
       → HasRead unread written HasTakenIn has_room_in layout offer c start size result between sink'
-      → HasRead unread written HasTakenIn has_room_in layout offer c (owing_in c.owed sink) size result between sink'
+      → HasRead unread written HasTakenIn has_room_in layout offer c (owing_in c.owed (form_of offer) sink) size result between sink'
   read-owing c start sink sink' size result between e h =
       subst (λ (s : Intake R). HasRead unread written HasTakenIn has_room_in layout offer c s size result between sink') e h
 

@@ -1,7 +1,9 @@
 -- What came to a lane's queue and outboxes.
 use Rattle.std.specs.Prelude.{◌≡◌, ℕ, Bool, ◌&&◌, nat_lt, List, [], ◌∷◌, ◌++◌, map}
 use Rattle.affinity.specs.declared.layout.Layout.{Layout}
+use Rattle.nfs_values.specs.declared.handle_form.HandleForm.{HandleForm}
 use Rattle.outboxes.specs.Boxes.{Addressed, Boxes, put}
+use Rattle.turns.specs.Telling.{answer_told}
 use Rattle.tcp_front.specs.Admitted.{calls_of, seen_of}
 use Rattle.tcp_front.specs.Arrivals.{Arrival, Waits, Answered}
 use Rattle.turns.specs.declared.message.Message.{Message}
@@ -25,22 +27,23 @@ abbrev pub all_put : List Addressed → Boxes → Boxes
 all_put [] b = b
 all_put (a ∷ xs) b = all_put xs (put a b)
 
--- The calls among these were put into the queue, in order and each once, and the replies into the outboxes, in order; nothing
--- else was.
-pub record Takes (filer : Filer) (queue : SharedWaiting Message Layout) (pass : Pass Message Layout) (worker : Worker)
+-- The calls among these were put into the queue, in order and each once, and the replies into the outboxes, in order and with
+-- their handles told in this form; nothing else was.
+pub record Takes (form : HandleForm) (filer : Filer) (queue : SharedWaiting Message Layout) (pass : Pass Message Layout) (worker : Worker)
     (boxes : Boxes) (came : List Arrival) (filer' : Filer) (queue' : SharedWaiting Message Layout)
-    (pass' : Pass Message Layout) (worker' : Worker) (boxes' : Boxes) : Type 0 where
+    (pass' : Pass Message Layout) (worker' : Worker) (boxes' : Boxes) (form' : HandleForm) : Type 0 where
+  pub form_is : form' ≡ form
   pub filer_is : filer' ≡ filer
   pub queue_is : queue' ≡ queue
   pub put : map seen_of (known pass').put ≡ map seen_of (known pass).put ++ calls_of came
   pub picked : (known pass').picked ≡ (known pass).picked
   pub share : HasShareOf (known pass) (known pass')
   pub same : IsSameWorker worker worker'
-  pub boxes_are : boxes' ≡ all_put (answered_of came) boxes
+  pub boxes_are : boxes' ≡ all_put (map (answer_told form) (answered_of came)) boxes
 
 abbrev pub HasTakenIn : {R : Type 0} → Intake R → List Arrival → Intake R → Type 0
 HasTakenIn s came t =
-    Takes s.filer.value s.queue s.pass s.worker s.outboxes came t.filer.value t.queue t.pass t.worker t.outboxes
+    Takes s.handles s.filer.value s.queue s.pass s.worker s.outboxes came t.filer.value t.queue t.pass t.worker t.outboxes t.handles
 
 -- the most room of the replies that are owed to one connection while it is read
 abbrev pub most_owed : ℕ

@@ -2,7 +2,9 @@
 use Rattle.std.specs.Prelude.{◌≡◌, ◌≢◌, ℕ, Bool, List, [], Option, Some, None, Result, Ok, Err}
 use Rattle.slab.specs.Slab.{Slab, get, Updates, with_value}
 use Rattle.nfs_model.specs.Tree.{Layout}
+use Rattle.nfs_values.specs.declared.handle_form.HandleForm.{HandleForm}
 use Rattle.nfs_values.specs.declared.offer.Offer.{Offer}
+use Rattle.nfs_values.specs.Offer.{form_of}
 use Rattle.outboxes.specs.Boxes.{Boxes, shut, opened}
 use Rattle.lanes.specs.declared.connection.Connection.{Connection}
 use Rattle.lanes.specs.declared.connection.Flags.{Flags}
@@ -17,9 +19,9 @@ use Rattle.lanes.specs.Intakes.{HasTakenIn, has_room_in}
 use Rattle.lanes.specs.Reading.{HasRead}
 use Rattle.lanes.specs.Writing.{HasWritten}
 
--- with another count of what is owed to the connection that is read
-abbrev pub owing_in : {R : Type 0} → Due → Intake R → Intake R
-owing_in owed s = record s { owed = owed }
+-- with another count of what is owed to the connection that is read, whose handles are told in this form
+abbrev pub owing_in : {R : Type 0} → Due → HandleForm → Intake R → Intake R
+owing_in owed form s = record s { owed = owed; handles = form }
 
 -- ---- under a key
 
@@ -29,7 +31,7 @@ pub record ReadsOn {D R : Type 0} (unread written : D → Option (List ℕ)) (la
   pub between : Connection D
   pub owed : Due
   pub is : after ≡ owing owed between
-  pub read : HasRead unread written HasTakenIn has_room_in layout offer before (owing_in before.owed sink) size result between sink'
+  pub read : HasRead unread written HasTakenIn has_room_in layout offer before (owing_in before.owed (form_of offer) sink) size result between sink'
 
 -- the connection of a key was, or there is none and nothing changed
 abbrev pub ReadsUnder : {D R : Type 0} → (D → Option (List ℕ)) → (D → Option (List ℕ)) → Layout → Offer → Slab (Connection D)

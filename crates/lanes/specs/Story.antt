@@ -5,6 +5,8 @@ use Rattle.depot_rule.specs.Sums.{total}
 use Rattle.nfs_model.specs.Tree.{Layout}
 use Rattle.nfs_model.specs.World.{Heard, Message}
 use Rattle.nfs_values.specs.declared.offer.Offer.{Offer}
+use Rattle.nfs_values.specs.Offer.{form_of}
+use Rattle.turns.specs.Telling.{message_told}
 use Rattle.outboxes.specs.Boxes.{Addressed, addressed, Boxes}
 use Rattle.outboxes.specs.Messages.{ReplyMessage, message}
 use Rattle.filer_state.specs.state.Jobs as jobs
@@ -57,6 +59,10 @@ abbrev pub replies_to : ℕ → List Ending → List ReplyMessage
 replies_to number [] = []
 replies_to number (x ∷ xs) = with_reply number (said_by x) (replies_to number xs)
 
+-- these, as what is offered tells them
+abbrev pub told_to : Offer → ℕ → List Ending → List ReplyMessage
+told_to offer number xs = map (message_told (form_of offer)) (replies_to number xs)
+
 -- the entries of what ended, and the replies at once
 abbrev pub served_of : List Ending → List FilerEntry
 served_of [] = []
@@ -81,13 +87,13 @@ served_in (e ∷ es) = with_served e e.call (served_in es)
 
 -- A connection, as it is or as it was when it was closed: the records of the bytes that were read of it, from its opening on, are
 -- by what is offered just what came of it, all in all; and the bytes that were given to its device are a beginning of the records of all replies to it
--- among what had ended, in that order. The others waited.
+-- among what had ended, as what is offered tells them, in that order. The others waited.
 pub record IsServed {D : Type 0} (unread written : D → Option (List ℕ)) (layout : Layout) (offer : Offer) (came : List Arrival)
     (ended : List Ending) (waiting : List ReplyMessage) (c : Connection D) : Type 0 where
   pub heard : List Heard
   pub arrived : of_connection (number_of c) came ≡ arrivals layout (number_of c) 0 heard
   pub reads : Reads offer unread c.opened.value c heard
-  pub writes : Writes written c.opened.value c waiting (replies_to (number_of c) ended)
+  pub writes : Writes written c.opened.value c waiting (told_to offer (number_of c) ended)
 
 -- What became of a connection: it is open under a key; or it was closed, when it was so, this waited for it, and this had ended.
 pub data Life (D : Type 0) : Type 0 where

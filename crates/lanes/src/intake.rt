@@ -8,8 +8,9 @@ ghost use Rattle.lanes.specs.Queues.{HasBoth, IsCounted};
 use crate::due::Due;
 use crate::placing::put_last;
 use affinity::{Kind, Layout};
-use nfs_values::{Call, ConnectionNumber, Reply};
+use nfs_values::{Call, ConnectionNumber, HandleForm, Reply};
 use outboxes::Outboxes;
+use rpc_msg::tell;
 use scheduler::Message;
 use std::alloc::{AllocError, Global};
 use std::snapshot::Snapshot;
@@ -41,6 +42,8 @@ pub struct Intake<R> {
     pub(crate) most: usize,
     /// What is owed to the connection that is read.
     pub(crate) owed: Due,
+    /// How the handles of its replies are told.
+    pub(crate) handles: HandleForm,
     /// How many calls that may leave blocks to tend were admitted, wrapping at 2^64.
     pub(crate) leaving: u64,
     pub ghost of: { IsOf queue pass },
@@ -54,11 +57,12 @@ pub struct Intake<R> {
 impl<R> Intake<R> {
     ghost use Rattle.lanes.specs.Lanes.{owing_in};
 
-    /// So much is owed to the connection that is read.
-    pub(crate) fn set_owed(&mut self, owed: Due)
-        ensures { self.new ≡ owing_in owed self.old }
+    /// So much is owed to the connection that is read, and the handles of its replies are told so.
+    pub(crate) fn set_owed(&mut self, owed: Due, handles: HandleForm)
+        ensures { self.new ≡ owing_in owed handles self.old }
     {
         self.owed = owed;
+        self.handles = handles;
     }
 }
 
@@ -114,8 +118,9 @@ impl<R: Wait> RecordSink for Intake<R> {
         &mut self,
         connection: ConnectionNumber,
         xid: u32,
-        reply: &Reply,
+        reply: &mut Reply,
     ) -> Result<(), AllocError> {
+        tell(reply, self.handles);
         self.outboxes.put_at_once(connection, xid, reply)?;
         self.owed.add(0);
         Ok(())

@@ -1,3 +1,4 @@
 pub mod Zeros
+pub mod Told
 pub mod Behind
 pub mod Groups

@@ -4,16 +4,18 @@ use Rattle.std.specs.Prelude.{nat_le}
 use Rattle.std.specs.List.{flat_map, range_with_len}
 use Rattle.std.specs.Option.{option_map}
 use Rattle.std.proofs.lemmas.Bool.{leb-true}
-use Rattle.std.proofs.lemmas.List.{length-append, length-replicate}
-use Rattle.xdr.specs.Shape.{Chain, Optional, Boolean, word, hyper, flag, padding, padded, linked, spelling}
+use Rattle.std.proofs.lemmas.List.{length-append, length-replicate, length-take}
+use Rattle.xdr.specs.Shape.{Array, Word, Chain, Optional, Boolean, word, hyper, flag, padding, padded, linked, spelling}
 use Rattle.nfs_model.specs.Types as model
 use Rattle.nfs_model.specs.Server.{handle_bytes}
 use Rattle.nfs_model.specs.Serial.Readdir.{entry_size, fitting}
 use Rattle.nfs_model.specs.Serial.Readdirplus.{entry_plus_size, fitting_plus}
-use Rattle.nfs_types.specs.Shapes.{◌&◌, handle_shape, attributes_value, after_shape}
+use Rattle.nfs_types.specs.Shapes.{◌&◌, handle_shape, after_shape, attributes_value, change_shape, change_value}
 use Rattle.nfs_model.specs.Serial.Mount.{volume_path, root_of, mounted, mount}
 use Rattle.nfs_types.specs.Results.{entry_shape, entry_value, entry_plus_shape, entry_plus_value, count_shape, count_value, export_value, exports_shape, answer_bytes}
 use Rattle.nfs_types.specs.lemmas.Absent.{length-absent_parts}
+use Rattle.nfs_values.specs.HandleForm.{told_in_run, verifier_of}
+use Rattle.rpc_msg.specs.Handles.{answer_with}
 use Rattle.rpc_msg.specs.Replies.{reply_record}
 use Rattle.rpc_msg.specs.Room.{padded_size, lookup_room, made_room, change_room}
 
@@ -33,9 +35,16 @@ length-padded bytes =
 
 -- ---- answers of one size
 
--- the results take at most so many bytes
+-- how many bytes more they take where their handles are told in a run
+abbrev pub more_of : model.Answer → ℕ
+more_of (model.LookupDone handle object directory) = 8
+more_of (model.MadeDone handle object directory) = 8
+more_of (model.MountDone handle) = 8
+more_of answer = 0
+
+-- the results take at most so many bytes, however their handles are told
 pub record Takes (n : ℕ) (answer : model.Answer) : Type 0 where
-  pub bytes : length (answer_bytes answer) ≤ n
+  pub bytes : more_of answer + length (answer_bytes answer) ≤ n
 
 pub getattr_size : (a : model.Shown) → Takes 88 (model.GetattrDone a)
 getattr_size a = record { bytes = omega arith }
@@ -247,6 +256,29 @@ pub census_size : (volumes : List model.VolumeCount) → length (answer_bytes (m
 census_size volumes = omega (arith, length-counts volumes)
 
 -- ---- records
+
+length-told : (run : ℕ) (handle : List ℕ) → length (told_in_run run handle) ≡ min 12 (length handle) + 8
+length-told run handle = length-append (take 12 handle) (verifier_of run) ∙ ap (λ (k : ℕ). k + 8) (length-take 12 handle)
+
+told_padded : (n : ℕ) → padded_size (min 12 n + 8) ≤ 8 + padded_size n
+told_padded n = omega arith
+
+handle_more : (run : ℕ) (handle rest : List ℕ) → length (padded (told_in_run run handle) ++ rest) ≤ 8 + length (padded handle ++ rest)
+handle_more run handle rest =
+    let a = length-append (padded (told_in_run run handle)) rest in
+    let b = length-append (padded handle) rest in
+    let c = length-padded (told_in_run run handle) ∙ ap padded_size (length-told run handle) in
+    omega (arith, a, b, c, length-padded handle, told_padded (length handle))
+
+-- results take so many bytes more at most, as they are told
+pub told_size : (run : ℕ) (answer : model.Answer)
+    → length (answer_bytes (answer_with (told_in_run run) answer)) ≤ more_of answer + length (answer_bytes answer)
+told_size run (model.LookupDone handle object directory) =
+    omega (arith, handle_more run handle (spelling (after_shape & after_shape) (Some (attributes_value object), Some (attributes_value directory))))
+told_size run (model.MadeDone handle object directory) =
+    omega (arith, handle_more run handle (spelling (after_shape & change_shape) (Some (attributes_value object), change_value directory)))
+told_size run (model.MountDone handle) = omega (arith, handle_more run handle (spelling (Array (2 ^ 32 - 1) Word) (1 ∷ 0 ∷ [])))
+told_size run answer = omega arith
 
 pub success_size : (xid : ℕ) (answer : model.Answer) → length (reply_record xid (model.Success answer)) ≡ 28 + length (answer_bytes answer)
 success_size xid answer = omega arith

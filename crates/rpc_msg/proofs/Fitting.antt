@@ -37,6 +37,11 @@ use Rattle.nfs_model.specs.Serial.Absent.{absent_in, absent_parts}
 use Rattle.nfs_model.specs.Serial.AtOnce.{answer_of_two, answer_without_home}
 use Rattle.rpc_msg.specs.Replies.{reply_record}
 use Rattle.rpc_msg.specs.Room.{lookup_room, read_room, readdir_room, change_room, made_room, results_room, reply_room, IsRoomy}
+use Rattle.nfs_values.specs.declared.handle_form.HandleForm.{HandleForm}
+use Rattle.nfs_values.specs.declared.handle_form.HandleForm.TheVariants.{Plain, OfRun}
+use Rattle.nfs_values.specs.HandleForm.{told_in_run}
+use Rattle.rpc_msg.specs.Handles.{answer_with, reply_told}
+use Rattle.rpc_msg.proofs.AnswerSizes.{told_size}
 use Rattle.rpc_msg.proofs.AnswerSizes.{Takes, getattr_size, setattr_size, lookup_size, access_size, made_size, gone_size, rename_size, fsstat_size, fsinfo_size, pathconf_size}
 use Rattle.rpc_msg.proofs.AnswerSizes.{grow_size, mount_size, failed_size}
 use Rattle.rpc_msg.proofs.AnswerSizes.{write_size, commit_size, read_size, entries_size, readdir_size, fitting_fits, census_size, success_size}
@@ -293,11 +298,18 @@ commit_fits volume fileid e = file_fits (4 + change_room + 8) volume (get volume
 
 -- a reply with its room, and a server as roomy as before
 record StepFits (n volumes : ℕ) (step : Step) : Type 0 where
-  reply : (xid : ℕ) → length (reply_record xid step.reply) ≤ 28 + n
+  reply : (form : HandleForm) (xid : ℕ) → length (reply_record xid (reply_told form step.reply)) ≤ 28 + n
   server : IsRoomy volumes step.server
 
-success_fits : (n : ℕ) (answer : model.Answer) → Takes n answer → (xid : ℕ) → length (reply_record xid (model.Success answer)) ≤ 28 + n
-success_fits n answer t xid = omega (arith, t.bytes, success_size xid answer)
+success_fits : (n : ℕ) (answer : model.Answer) → Takes n answer → (form : HandleForm) (xid : ℕ)
+    → length (reply_record xid (reply_told form (model.Success answer))) ≤ 28 + n
+success_fits n answer t Plain xid = omega (arith, t.bytes, success_size xid answer)
+success_fits n answer t (OfRun run) xid =
+    omega (arith, t.bytes, told_size run answer, success_size xid (answer_with (told_in_run run) answer))
+
+starved_fits : (n : ℕ) (form : HandleForm) (xid : ℕ) → length (reply_record xid (reply_told form model.SystemError)) ≤ 28 + n
+starved_fits n Plain xid = omega arith
+starved_fits n (OfRun run) xid = omega arith
 
 stay_fits : (n volumes : ℕ) (server : Server) (answer : model.Answer) → Takes n answer → IsRoomy volumes server → StepFits n volumes (stay server answer)
 stay_fits n volumes server answer h r = record { reply = success_fits n answer h; server = r }
@@ -469,12 +481,13 @@ serve_fits volumes server (model.Mount call) who moment r =
 
 serial_fits : (volumes : ℕ) (server : Server) (call : model.Call) (who : model.Credential) (moment : model.Moment) (starved : Bool) → IsRoomy volumes server
     → StepFits (results_room volumes call) volumes (serial server (model.Ask call who) moment starved)
-serial_fits volumes server call who moment true r = record { reply = λ xid. omega arith; server = r }
+serial_fits volumes server call who moment true r = record { reply = starved_fits (results_room volumes call); server = r }
 serial_fits volumes server call who moment false r = serve_fits volumes server call who moment r
 
-pub reply_fits : (volumes : ℕ) (server : Server) (call : model.Call) (who : model.Credential) (moment : model.Moment) (starved : Bool) (xid : ℕ)
-    → IsRoomy volumes server → length (reply_record xid (serial server (model.Ask call who) moment starved).reply) ≤ reply_room volumes call
-reply_fits volumes server call who moment starved xid r = (serial_fits volumes server call who moment starved r).reply xid
+pub reply_fits : (form : HandleForm) (volumes : ℕ) (server : Server) (call : model.Call) (who : model.Credential) (moment : model.Moment) (starved : Bool) (xid : ℕ)
+    → IsRoomy volumes server
+    → length (reply_record xid (reply_told form (serial server (model.Ask call who) moment starved).reply)) ≤ reply_room volumes call
+reply_fits form volumes server call who moment starved xid r = (serial_fits volumes server call who moment starved r).reply form xid
 
 pub room_stays : (volumes : ℕ) (server : Server) (asked : model.Asked) (moment : model.Moment) (starved : Bool) → IsRoomy volumes server
     → IsRoomy volumes (serial server asked moment starved).server
@@ -521,6 +534,7 @@ answer_at_once volumes layout (model.Unsupported which) =
     at_once volumes (model.Unsupported which) model.NotSupported (absent_in which) (few_absent which)
 answer_at_once volumes layout call = at_once volumes call model.BadHandle (absent_parts call) (omega arith)
 
-pub reply_at_once_fits : (volumes : ℕ) (layout : Layout) (call : model.Call) (xid : ℕ)
-    → length (reply_record xid (model.Success (answer_without_home layout call))) ≤ reply_room volumes call
-reply_at_once_fits volumes layout call xid = success_fits (results_room volumes call) (answer_without_home layout call) (answer_at_once volumes layout call) xid
+pub reply_at_once_fits : (form : HandleForm) (volumes : ℕ) (layout : Layout) (call : model.Call) (xid : ℕ)
+    → length (reply_record xid (reply_told form (model.Success (answer_without_home layout call)))) ≤ reply_room volumes call
+reply_at_once_fits form volumes layout call xid =
+    success_fits (results_room volumes call) (answer_without_home layout call) (answer_at_once volumes layout call) form xid

@@ -11,6 +11,7 @@ use Rattle.xdr.specs.lemmas.Shapes.{found, again, all_found, all_again}
 use Rattle.xdr.specs.lemmas.Steps.{chosen}
 use Rattle.nfs_model.specs.Types as model
 use Rattle.nfs_values.specs.declared.offer.Offer.{Offer}
+use Rattle.nfs_values.specs.Offer.{form_of}
 use Rattle.nfs_values.specs.declared.procedure.Procedure.{Procedure}
 use Rattle.nfs_values.specs.Procedure.{numbers_of}
 use Rattle.nfs_types.specs.Arguments.{asked}
@@ -85,7 +86,7 @@ module _ (offer : Offer) where
   -- ---- the chain: what the bytes say, by where it stops
 
   abbrev Told : List ℕ → ℕ → Result Body Stop → Type 0
-  Told bytes xid r = IsHeardBy offer bytes (heard_from (under xid r))
+  Told bytes xid r = IsHeardBy offer bytes (heard_from (form_of offer) (under xid r))
 
   -- the arguments of a call
   no_call : (r : Result model.Call Unread) (call : model.Call) (fault : Unread) → r ≡ Err fault → r ≡ Ok call → ⊥
@@ -94,8 +95,10 @@ module _ (offer : Offer) where
 
   call_told : (bytes : List ℕ) (xid : ℕ) (p : Procedure) (who : model.Credential) (arguments : List ℕ) → IsBytes arguments
       → IsCallBy offer bytes xid p who arguments
-      → (r : Result model.Call Unread) → asked p arguments ≡ r → IsHeardBy offer bytes (Ok (record { xid = xid; asked = asked_by who r }))
-  call_told bytes xid p who arguments fits c (Ok call) e = record { procedure = p; arguments = arguments; head = c; asks = asked_found p arguments call fits e }
+      → (r : Result model.Call Unread) → asked p arguments ≡ r → IsHeardBy offer bytes
+      (Ok (record { xid = xid; asked = asked_by (form_of offer) who r }))
+  call_told bytes xid p who arguments fits c (Ok call) e =
+      record { procedure = p; arguments = arguments; head = c; came = call; asks = asked_found p arguments call fits e; heard = refl }
   call_told bytes xid p who arguments fits c (Err fault) e =
       record {
         procedure = p;
@@ -338,13 +341,13 @@ module _ (offer : Offer) where
 
   -- the message
   kind_told : (bytes : List ℕ) (xid kind : ℕ) (rest : List ℕ) → IsBytes rest → Begins (Word & Word) (xid, kind) bytes rest
-      → (b : Bool) → eqb kind 0 ≡ b → IsHeardBy offer bytes (heard_from (head_from offer (cond b (Ok (xid, rest)) (Err 13))))
+      → (b : Bool) → eqb kind 0 ≡ b → IsHeardBy offer bytes (heard_from (form_of offer) (head_from offer (cond b (Ok (xid, rest)) (Err 13))))
   kind_told bytes xid kind rest fits b true e =
       version_told bytes xid rest fits (subst (λ (n : ℕ). Begins (Word & Word) (xid, n) bytes rest) (eqb-true kind 0 e) b) (read Word rest) refl
   kind_told bytes xid kind rest fits b false e = inr (refl, record { xid = xid; kind = kind; rest = rest; begins = b; other = eqb-false kind 0 e })
 
   message_told : (bytes : List ℕ) → IsBytes bytes → (r : Reads (ℕ × ℕ)) → read (Word & Word) bytes ≡ r
-      → IsHeardBy offer bytes (heard_from (head_from offer (xid_of r)))
+      → IsHeardBy offer bytes (heard_from (form_of offer) (head_from offer (xid_of r)))
   message_told bytes fits (Err fault) e = inl (refl, NoMessage (none_begun (Word & Word) bytes fault e))
   message_told bytes fits (Ok m) e =
       let b = begun (Word & Word) bytes m fits e in

@@ -11,6 +11,7 @@ use Rattle.xdr.specs.lemmas.Shapes.{again, all_found}
 use Rattle.nfs_model.specs.Types as model
 use Rattle.nfs_model.specs.World.{Heard}
 use Rattle.nfs_values.specs.declared.offer.Offer.{Offer}
+use Rattle.nfs_values.specs.Offer.{form_of}
 use Rattle.nfs_values.specs.declared.procedure.Procedure.{Procedure}
 use Rattle.nfs_values.specs.Procedure.{numbers_of}
 use Rattle.nfs_types.specs.Arguments.{Asks, asked}
@@ -49,11 +50,11 @@ module _ (offer : Offer) where
   -- ---- how far the chain comes
 
   abbrev told : ℕ → Result Body Stop → Result Heard ℕ
-  told xid r = heard_from (under xid r)
+  told xid r = heard_from (form_of offer) (under xid r)
 
   at_kind : (bytes : List ℕ) (xid kind : ℕ) (rest : List ℕ) → Begins (Word & Word) (xid, kind) bytes rest
-      → heard_by offer bytes ≡ heard_from (head_from offer (cond (eqb kind 0) (Ok (xid, rest)) (Err 13)))
-  at_kind bytes xid kind rest b = ap (λ (r : Reads (ℕ × ℕ)). heard_from (head_from offer (xid_of r))) (read_again (Word & Word) (xid, kind) bytes rest b)
+      → heard_by offer bytes ≡ heard_from (form_of offer) (head_from offer (cond (eqb kind 0) (Ok (xid, rest)) (Err 13)))
+  at_kind bytes xid kind rest b = ap (λ (r : Reads (ℕ × ℕ)). heard_from (form_of offer) (head_from offer (xid_of r))) (read_again (Word & Word) (xid, kind) bytes rest b)
 
   at_call : (bytes : List ℕ) (xid : ℕ) (rest : List ℕ) → Begins (Word & Word) (xid, 0) bytes rest → heard_by offer bytes ≡ told xid (body_by offer rest)
   at_call bytes xid rest b = at_kind bytes xid 0 rest b
@@ -167,7 +168,7 @@ module _ (offer : Offer) where
   -- ---- faults
 
   incomplete_again : (bytes : List ℕ) → IsBytes bytes → IsIncomplete bytes → heard_by offer bytes ≡ Err 12
-  incomplete_again bytes fits (NoMessage none) = ap (λ (r : Reads (ℕ × ℕ)). heard_from (head_from offer (xid_of r))) (fault_of (Word & Word) bytes fits none).1
+  incomplete_again bytes fits (NoMessage none) = ap (λ (r : Reads (ℕ × ℕ)). heard_from (form_of offer) (head_from offer (xid_of r))) (fault_of (Word & Word) bytes fits none).1
   incomplete_again bytes fits (NoVersion xid rest b none) =
       at_call bytes xid rest b ∙ ap (λ (r : Reads ℕ). told xid (by_version r)) (fault_of Word rest (rest_bytes (Word & Word) (xid, 0) bytes rest fits b) none).1
   incomplete_again bytes fits (NoNumbers xid rest b none) =
@@ -188,7 +189,7 @@ module _ (offer : Offer) where
   no_call_again : (bytes : List ℕ) → IsNoCall bytes → heard_by offer bytes ≡ Err 13
   no_call_again bytes c =
       let other : eqb c.kind 0 ≡ false = ne_eqb c.kind 0 c.other in
-      at_kind bytes c.xid c.kind c.rest c.begins ∙ ap (λ (b : Bool). heard_from (head_from offer (cond b (Ok (c.xid, c.rest)) (Err 13)))) other
+      at_kind bytes c.xid c.kind c.rest c.begins ∙ ap (λ (b : Bool). heard_from (form_of offer) (head_from offer (cond b (Ok (c.xid, c.rest)) (Err 13)))) other
 
   -- ---- refusals
 
@@ -236,15 +237,15 @@ module _ (offer : Offer) where
       rest_bytes call_shape (call_value xid (numbers_of p) c.version c.cred c.verf) bytes arguments fits (record { fits = c.fits; parts = c.bytes_are })
 
   garbage_by : (p : Procedure) (arguments : List ℕ) (who : model.Credential) → IsBytes arguments → ((call : model.Call) → Asks p arguments call → ⊥)
-      → (r : Result model.Call Unread) → asked p arguments ≡ r → asked_by who r ≡ model.Refused model.GarbageArguments
+      → (r : Result model.Call Unread) → asked p arguments ≡ r → asked_by (form_of offer) who r ≡ model.Refused model.GarbageArguments
   garbage_by p arguments who fits none (Ok call) e = absurd (none call (asked_found p arguments call fits e))
   garbage_by p arguments who fits none (Err fault) e = refl
 
   at_arguments : (bytes : List ℕ) (xid : ℕ) (p : Procedure) (who : model.Credential) (arguments : List ℕ) (a : model.Asked)
       → IsCallBy offer bytes xid p who arguments
-      → asked_by who (asked p arguments) ≡ a → heard_by offer bytes ≡ Ok (record { xid = xid; asked = a })
+      → asked_by (form_of offer) who (asked p arguments) ≡ a → heard_by offer bytes ≡ Ok (record { xid = xid; asked = a })
   at_arguments bytes xid p who arguments a c e =
-      ap heard_from (call_again offer bytes xid p who arguments c) ∙ ap (λ (b : model.Asked). Ok (record { xid = xid; asked = b })) e
+      ap (heard_from (form_of offer)) (call_again offer bytes xid p who arguments c) ∙ ap (λ (b : model.Asked). Ok (record { xid = xid; asked = b })) e
 
   garbage_again : (bytes : List ℕ) (xid : ℕ) → IsBytes bytes → HasGarbageBy offer bytes xid → heard_by offer bytes ≡ refused xid model.GarbageArguments
   garbage_again bytes xid fits g =
@@ -254,7 +255,9 @@ module _ (offer : Offer) where
   asking_again : (bytes : List ℕ) (xid : ℕ) (call : model.Call) (who : model.Credential) → IsAskingBy offer bytes xid call who
       → heard_by offer bytes ≡ Ok (record { xid = xid; asked = model.Ask call who })
   asking_again bytes xid call who a =
-      at_arguments bytes xid a.procedure who a.arguments _ a.head (ap (asked_by who) (asked_again a.procedure a.arguments call a.asks))
+      at_arguments bytes xid a.procedure who a.arguments _ a.head
+      (ap (asked_by (form_of offer) who) (asked_again a.procedure a.arguments a.came a.asks)
+      ∙ ap (λ (c : model.Call). model.Ask c who) (sym a.heard))
 
   -- ---- all together
 

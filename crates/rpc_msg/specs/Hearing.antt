@@ -5,12 +5,13 @@ use Rattle.nfs_model.specs.Types as model
 use Rattle.nfs_model.specs.World.{Heard}
 use Rattle.nfs_values.specs.declared.offer.Offer.{Offer}
 use Rattle.nfs_values.specs.declared.procedure.Procedure.{Procedure}
-use Rattle.nfs_values.specs.Offer.{basic, offers}
+use Rattle.nfs_values.specs.Offer.{basic, form_of, offers}
 use Rattle.nfs_values.specs.Procedure.{numbers_of}
 use Rattle.nfs_types.specs.Arguments.{Asks}
 use Rattle.nfs_types.specs.Shapes.{◌&◌}
 use Rattle.rpc_msg.specs.Replies.{auth_shape}
 use Rattle.rpc_msg.specs.Heads.{numbers_shape, auth_sys_shape, version_by}
+use Rattle.rpc_msg.specs.Handles.{call_heard}
 use Rattle.rpc_msg.specs.Records.{heard_by}
 use Rattle.rpc_msg.specs.Calls.{ActsFor, IsCallBy, call_shape, call_value}
 
@@ -143,12 +144,14 @@ pub record HasGarbageBy (offer : Offer) (bytes : List ℕ) (xid : ℕ) : Type 0 
 
 -- ---- calls
 
--- the record asks a call for a user
+-- the record asks a call for a user: that of its arguments, as the server has its handles
 pub record IsAskingBy (offer : Offer) (bytes : List ℕ) (xid : ℕ) (call : model.Call) (who : model.Credential) : Type 0 where
   pub procedure : Procedure
   pub arguments : List ℕ
   pub head : IsCallBy offer bytes xid procedure who arguments
-  pub asks : Asks procedure arguments call
+  pub came : model.Call
+  pub asks : Asks procedure arguments came
+  pub heard : call ≡ call_heard (form_of offer) came
 
 -- ---- all together
 

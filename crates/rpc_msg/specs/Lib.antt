@@ -4,6 +4,7 @@ pub mod Room
 pub mod Heads
 pub mod Calls
 pub mod Records
+pub mod Handles
 pub mod Hearing
 pub mod Seen
 pub mod lemmas

@@ -3,24 +3,27 @@ use Rattle.std.specs.Prelude.{ℕ, List, Result, Ok, Err}
 use Rattle.xdr.specs.declared.fault.Fault.{Fault as Unread}
 use Rattle.nfs_model.specs.Types as model
 use Rattle.nfs_model.specs.World.{Heard}
+use Rattle.nfs_values.specs.declared.handle_form.HandleForm.{HandleForm}
 use Rattle.nfs_values.specs.declared.offer.Offer.{Offer}
-use Rattle.nfs_values.specs.Offer.{basic}
+use Rattle.nfs_values.specs.Offer.{basic, form_of}
 use Rattle.nfs_types.specs.Arguments.{asked}
+use Rattle.rpc_msg.specs.Handles.{call_heard}
 use Rattle.rpc_msg.specs.Heads.{Head, Call, Refused, Faulty, head_by}
 
--- the call, or GARBAGE_ARGS where its arguments are no spelling or bytes are left
-abbrev pub asked_by : model.Credential → Result model.Call Unread → model.Asked
-asked_by credential (Ok call) = model.Ask call credential
-asked_by credential (Err fault) = model.Refused model.GarbageArguments
+-- the call, as the server has its handles, or GARBAGE_ARGS where its arguments are no spelling or bytes are left
+abbrev pub asked_by : HandleForm → model.Credential → Result model.Call Unread → model.Asked
+asked_by form credential (Ok call) = model.Ask (call_heard form call) credential
+asked_by form credential (Err fault) = model.Refused model.GarbageArguments
 
-abbrev pub heard_from : Head → Result Heard ℕ
-heard_from (Call xid procedure credential arguments) = Ok (record { xid = xid; asked = asked_by credential (asked procedure arguments) })
-heard_from (Refused xid reply) = Ok (record { xid = xid; asked = model.Refused reply })
-heard_from (Faulty number) = Err number
+abbrev pub heard_from : HandleForm → Head → Result Heard ℕ
+heard_from form (Call xid procedure credential arguments) =
+    Ok (record { xid = xid; asked = asked_by form credential (asked procedure arguments) })
+heard_from form (Refused xid reply) = Ok (record { xid = xid; asked = model.Refused reply })
+heard_from form (Faulty number) = Err number
 
 -- what a record asks under its xid, or the number of its fault
 abbrev pub heard_by : Offer → List ℕ → Result Heard ℕ
-heard_by offer bytes = heard_from (head_by offer bytes)
+heard_by offer bytes = heard_from (form_of offer) (head_by offer bytes)
 
 -- with the basic offer
 abbrev pub heard : List ℕ → Result Heard ℕ

@@ -17,7 +17,7 @@ padded_size n = 4 * ((n + 3) / 4)
 
 -- status, the handle, and the attributes of the object and of the directory (RFC 1813 section 3.3.3)
 abbrev pub lookup_room : ℕ
-lookup_room = 4 + 16 + 88 + 88
+lookup_room = 4 + 24 + 88 + 88
 
 -- status, no attributes, count, eof and the bytes (RFC 1813 section 3.3.6)
 abbrev pub read_room : ℕ → ℕ
@@ -29,7 +29,7 @@ change_room = 28 + 88
 
 -- status, the handle and the attributes of what was made, and its directory's change (RFC 1813 section 3.3.8)
 abbrev pub made_room : ℕ
-made_room = 4 + 20 + 88 + change_room
+made_room = 4 + 28 + 88 + change_room
 
 -- status, and as many bytes as are asked for, or a failure without attributes (RFC 1813 sections 3.3.16 and
 -- 3.3.17)

@@ -5,8 +5,10 @@ ghost use Rattle.std.specs.Prelude.{◌≡◌, ◌⊎◌, ℕ, Bool, ◌≤◌, 
 ghost use Rattle.std.specs.Prelude.{slice_index};
 ghost use Rattle.nfs_model.specs.Types as model;
 ghost use Rattle.nfs_model.specs.World.{Heard, IsDecoded};
+ghost use Rattle.nfs_values.specs.declared.handle_form.HandleForm.{HandleForm};
 ghost use Rattle.nfs_values.specs.declared.offer.Offer.{Offer};
 ghost use Rattle.nfs_values.specs.declared.procedure.Procedure.{Procedure};
+ghost use Rattle.rpc_msg.specs.Handles.{reply_told};
 ghost use Rattle.rpc_msg.specs.Heads.{Call, head_by, head_of};
 ghost use Rattle.rpc_msg.specs.Calls.{IsCall, IsCallBy};
 ghost use Rattle.rpc_msg.specs.Hearing.{AreBytes, AsksFor, Exactly, HasAnotherFlavor};
@@ -25,16 +27,20 @@ ghost use Rattle.nfs_model.specs.Tree.{Layout};
 ghost use Rattle.nfs_model.specs.Serial.Step.{serial};
 ghost use Rattle.nfs_model.specs.Serial.AtOnce.{answer_without_home};
 
-/// The record of the reply to a call takes no more than the call's room: where it runs on any
-/// roomy server, starved or not, and where it is answered without an affinity.
+/// The record of the reply to a call takes no more than the call's room, however its handles are
+/// told: where it runs on any roomy server, starved or not, and where it is answered without an
+/// affinity.
 pub fn replies_fit()
-    ensures offered { (volumes : ℕ) (server : Server) (call : model.Call) (who : model.Credential)
-        (moment : model.Moment) (starved : Bool) (xid : ℕ)
+    ensures offered { (form : HandleForm) (volumes : ℕ) (server : Server) (call : model.Call)
+        (who : model.Credential) (moment : model.Moment) (starved : Bool) (xid : ℕ)
         → IsRoomy volumes server
-        → length (reply_record xid (serial server (model.Ask call who) moment starved).reply)
+        → length (reply_record xid
+        (reply_told form (serial server (model.Ask call who) moment starved).reply))
         ≤ reply_room volumes call }
-    ensures at_once { (volumes : ℕ) (layout : Layout) (call : model.Call) (xid : ℕ)
-        → length (reply_record xid (model.Success (answer_without_home layout call)))
+    ensures at_once { (form : HandleForm) (volumes : ℕ) (layout : Layout) (call : model.Call)
+        (xid : ℕ)
+        → length (reply_record xid
+        (reply_told form (model.Success (answer_without_home layout call))))
         ≤ reply_room volumes call }
 {}
 

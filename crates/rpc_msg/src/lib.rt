@@ -3,6 +3,7 @@
 
 mod credential;
 mod fault;
+mod handles;
 mod head;
 mod items;
 mod laws;
@@ -12,6 +13,7 @@ mod room;
 mod stop;
 
 pub use fault::RecordFault;
+pub use handles::tell;
 pub use head::{Head, read_call, read_call_of};
 pub use laws::{
     arguments_are_spelled, call_heads_are_exact, credentials_are_spelled, faults_are_spelled,

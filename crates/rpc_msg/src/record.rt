@@ -7,9 +7,10 @@ ghost use Rattle.rpc_msg.specs.Records.{heard, heard_by, heard_from};
 ghost use Rattle.rpc_msg.specs.Seen.{Hears, Tells};
 
 use crate::fault::RecordFault;
+use crate::handles::hear;
 use crate::head::{Head, read_call_of};
 use nfs_types::{Bad, decode_in_place};
-use nfs_values::{Call, Credential, Offer, Procedure, Refusal};
+use nfs_values::{Call, Credential, HandleForm, Offer, Procedure, Refusal};
 use std::alloc::Global;
 
 /// What a record asks.
@@ -37,13 +38,17 @@ fn decode(
     credential: Credential,
     record: Vec<u8>,
     from: usize,
+    form: HandleForm,
 ) -> Request
     requires { from ≤ length record.items }
     ensures { Tells xid result
-        (heard_from (Asks xid procedure (credential_of credential) (drop from record.items))) }
+        (heard_from form (Asks xid procedure (credential_of credential) (drop from record.items))) }
 {
     match decode_in_place(alloc, procedure, record, from) {
-        Ok(call) => Request::Call { call, credential },
+        Ok(mut call) => {
+            hear(&mut call, form);
+            Request::Call { call, credential }
+        }
         Err(Bad::Fault(_fault)) => Request::Refused(Refusal::GarbageArguments),
         Err(Bad::NoMemory) => Request::Undecoded,
     }
@@ -62,9 +67,10 @@ pub fn read_record_of(alloc: Global, record: Vec<u8>, offer: Offer) -> Result<He
             arguments,
         } => {
             let from = record.len() - arguments.len();
+            let form = offer.handles();
             Ok(Heard {
                 xid,
-                request: decode(alloc, xid, procedure, credential, record, from),
+                request: decode(alloc, xid, procedure, credential, record, from, form),
             })
         }
         Head::Refuse { xid, reply } => Ok(Heard {

@@ -3,10 +3,12 @@
 ghost use Rattle.std.specs.Prelude.{◌≡◌, ◌≤◌, [], ◌∷◌, true, length, OnOk, OnErr};
 ghost use Rattle.nfs_model.specs.Serial.AtOnce.{answer_without_home};
 ghost use Rattle.nfs_model.specs.Types as types;
+ghost use Rattle.nfs_values.specs.declared.handle_form.HandleForm.{HandleForm};
 ghost use Rattle.nfs_values.specs.Call.{call_of};
 ghost use Rattle.nfs_values.specs.Credential.{credential_of};
 ghost use Rattle.affinity.specs.Layout.{layout_of};
 ghost use Rattle.nfs_values.specs.Reply.{refusal_of};
+ghost use Rattle.rpc_msg.specs.Handles.{reply_told};
 ghost use Rattle.outboxes.specs.Boxes.{addressed, most_bytes};
 ghost use Rattle.outboxes.specs.Messages.{message, record_of};
 ghost use Rattle.engine_feed.specs.Seen.{asked_of};
@@ -31,8 +33,8 @@ fn answer_now<S: RecordSink>(
     origin: Origin,
     call: &Call,
 ) -> Result<(), AllocError>
-    requires { length (record_of (message origin.xid
-        (types.Success (answer_without_home (layout_of layout.now) (call_of call.now)))))
+    requires { (form : HandleForm) → length (record_of (message origin.xid (reply_told form
+        (types.Success (answer_without_home (layout_of layout.now) (call_of call.now))))))
         ≤ most_bytes }
     ensures ok { OnOk result (S.came sink.old (Answered (addressed origin.connection.0
         (message origin.xid
@@ -41,8 +43,8 @@ fn answer_now<S: RecordSink>(
     ensures err { OnErr result (S.came sink.old [] sink.new) }
     ensures layout { S.layout sink.new ≡ S.layout sink.old }
 {
-    let reply = Reply::Success(answer_at_once(alloc, call, layout));
-    sink.answer(origin.connection, origin.xid, &reply)
+    let mut reply = Reply::Success(answer_at_once(alloc, call, layout));
+    sink.answer(origin.connection, origin.xid, &mut reply)
 }
 
 /// Gives on a call: to be run where it has a home, and else answered.
@@ -85,7 +87,11 @@ fn refuse<S: RecordSink>(sink: &mut S, origin: Origin, refusal: Refusal) -> Resu
     ensures layout { S.layout sink.new ≡ S.layout sink.old }
 {
     refusals_fit();
-    sink.answer(origin.connection, origin.xid, &Reply::Refused(refusal))
+    sink.answer(
+        origin.connection,
+        origin.xid,
+        &mut Reply::Refused(refusal),
+    )
 }
 
 /// Gives on what a record asks.

@@ -4,11 +4,13 @@ ghost use Rattle.std.specs.Prelude.{OnOk, OnErr};
 ghost use Rattle.std.specs.Prelude.{◌≡◌, ◌≤◌, List, [], ◌∷◌, ◌++◌, Some, Bool, true, length};
 ghost use Rattle.nfs_model.specs.Home.{home};
 ghost use Rattle.nfs_model.specs.Tree as trees;
+ghost use Rattle.nfs_values.specs.declared.handle_form.HandleForm.{HandleForm};
 ghost use Rattle.nfs_values.specs.Call.{call_of};
 ghost use Rattle.nfs_values.specs.Reply.{reply_of};
 ghost use Rattle.affinity.specs.Affinity.{affinity_of};
 ghost use Rattle.engine_feed.specs.Seen.{message_of};
 ghost use Rattle.engine_feed.specs.Sound.{IsAdmitted};
+ghost use Rattle.rpc_msg.specs.Handles.{reply_told};
 ghost use Rattle.outboxes.specs.Boxes.{addressed, most_bytes};
 ghost use Rattle.outboxes.specs.Messages.{message, record_of};
 ghost use Rattle.tcp_front.specs.Arrivals.{Arrival, Waits, Answered};
@@ -45,16 +47,18 @@ pub trait RecordSink {
         ensures err { OnErr result (came self.old [] self.new) }
         ensures layout { layout self.new ≡ layout self.old };
 
-    /// Takes a reply to a record that no worker answers.
+    /// Takes a reply to a record that no worker answers. It may be told in another way, and has no
+    /// meaning then.
     fn answer(
         &mut self,
         connection: ConnectionNumber,
         xid: u32,
-        reply: &Reply,
+        reply: &mut Reply,
     ) -> Result<(), AllocError>
-        requires { length (record_of (message xid (reply_of reply.now))) ≤ most_bytes }
+        requires { (form : HandleForm) → length (record_of (message xid
+            (reply_told form (reply_of reply.old)))) ≤ most_bytes }
         ensures ok { OnOk result (came self.old
-            (Answered (addressed connection.0 (message xid (reply_of reply.now))) ∷ []) self.new) }
+            (Answered (addressed connection.0 (message xid (reply_of reply.old))) ∷ []) self.new) }
         ensures err { OnErr result (came self.old [] self.new) }
         ensures layout { layout self.new ≡ layout self.old };
 

@@ -16,6 +16,8 @@ use Rattle.service.specs.declared.job.Job.{Job}
 use Rattle.service.specs.declared.job.Job.TheVariants.{Serve, Inner}
 use Rattle.service.specs.declared.job.JobReply.{JobReply}
 use Rattle.service.specs.declared.job.JobReply.TheVariants.{Replied}
+use Rattle.nfs_values.specs.declared.handle_form.HandleForm.{HandleForm}
+use Rattle.rpc_msg.specs.Handles.{reply_told}
 use Rattle.turns.specs.declared.message.Message.{Message}
 use Rattle.turns.specs.declared.entering.Entry.{Entry}
 use Rattle.turns.specs.Balance.{FilerView}
@@ -45,12 +47,12 @@ module _ (m : Message) (moment : Moment) (starved : Bool) (e : Entry) (is : IsEn
       subst (λ (j : Job). IsFinished filer_behaviour w (number_of layout l.affinity) (entry_of layout l.affinity l.parcels j told) u) is.job finished
 
   pub entry-room : (told : JobReply) (reply : Reply) → told ≡ Replied reply
-      → length (record_of (replies.message m.origin.xid (reply_of reply))) ≤ m.room → HasRoom e told
+      → ((form : HandleForm) → length (record_of (replies.message m.origin.xid (reply_told form (reply_of reply)))) ≤ m.room) → HasRoom e told
   entry-room told reply says fits = (
     reply,
     says,
-    subst (λ (o : Origin). length (record_of (replies.message o.xid (reply_of reply))) ≤ e.room) (sym is.origin)
-        (subst (λ (n : ℕ). length (record_of (replies.message m.origin.xid (reply_of reply))) ≤ n) (sym is.room) fits),
+    λ form. subst (λ (o : Origin). length (record_of (replies.message o.xid (reply_told form (reply_of reply)))) ≤ e.room) (sym is.origin)
+        (subst (λ (n : ℕ). length (record_of (replies.message m.origin.xid (reply_told form (reply_of reply)))) ≤ n) (sym is.room) (fits form)),
   )
 
   pub entry-answer : (reply : Reply) (a : Addressed) → a ≡ addressed e.origin.connection.0 (replies.message e.origin.xid (reply_of reply))

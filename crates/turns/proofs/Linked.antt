@@ -21,6 +21,8 @@ use Rattle.service.specs.declared.job.Job.{Job}
 use Rattle.service.specs.declared.job.JobReply.{JobReply}
 use Rattle.service.specs.declared.job.JobReply.TheVariants.{Replied}
 use Rattle.service.specs.declared.outcome.Outcome.{Outcome}
+use Rattle.nfs_values.specs.declared.handle_form.HandleForm.{HandleForm}
+use Rattle.rpc_msg.specs.Handles.{reply_told}
 use Rattle.turns.specs.declared.message.Message.{Message}
 use Rattle.turns.specs.declared.entering.Entry.{Entry}
 use Rattle.turns.specs.Balance.{Passed, FilerView, FilerEntry}
@@ -97,7 +99,7 @@ module _ (layout : Layout) (lawful : fault_of layout ≡ None) (verifier : List 
     has-room eight begins stays fit = entry-room m moment enters.starved e enters.entry told enters.reply enters.told (by enters.starved enters.is)
       where
         by : (starved : Bool) → IsEntered enters.outcome enters.reply starved
-            → length (record_of (replies.message m.origin.xid (reply_of enters.reply))) ≤ m.room
+            → (form : HandleForm) → length (record_of (replies.message m.origin.xid (reply_told form (reply_of enters.reply)))) ≤ m.room
         by false is = fits layout lawful m placed moment b.view w stands.tree holding-tree enters.outcome l' run verifier eight stands.ready.opened
             begins stays fit enters.reply is
         by true is = starved-room layout lawful m placed moment b.view w stands.tree holding-tree enters.outcome l' run verifier eight stands.ready.opened
@@ -181,15 +183,14 @@ module _ (layout : Layout) (lawful : fault_of layout ≡ None) (verifier : List 
         → IsAhead pass pass' (Some next) → (mid : FilerView)
         → IsFinished filer_behaviour w (number_of layout l'.affinity) (entry_of layout l'.affinity l'.parcels e.job.value said) mid
         → IsGranted kind_in filer_behaviour layout mid l'.affinity l' w'
-        → (a : Addressed) → ((reply : Reply) → said ≡ Replied reply
-        → a ≡ addressed e.origin.connection.0 (replies.message e.origin.xid (reply_of reply)))
-        → took sink (a ∷ []) sink'
+        → ((reply : Reply) → said ≡ Replied reply
+        → took sink (addressed e.origin.connection.0 (replies.message e.origin.xid (reply_of reply)) ∷ []) sink')
         → HasLinked took layout verifier b m moment pass l w sink (links.On next) after pass' l' w' sink'
-    link-on took sink sink' next after same ahead mid finished granted a is told = (
-      a,
+    link-on took sink sink' next after same ahead mid finished granted told = (
+      addressed e.origin.connection.0 (replies.message e.origin.xid (reply_of enters.reply)),
       left_standing mid pass None,
-      is-done layout lawful verifier b m placed moment pass l w stands e said l' enters mid finished a (is enters.reply enters.told),
-      told,
+      is-done layout lawful verifier b m placed moment pass l w stands e said l' enters mid finished _ refl,
+      told enters.reply enters.told,
       stands-on layout lawful verifier b m placed moment pass l w stands e said l' enters mid finished next pass' w' same ahead granted,
     )
 

@@ -26,6 +26,8 @@ use Rattle.filer_state.specs.laws.lemmas.Opening.{opening-tree}
 use Rattle.outboxes.specs.Messages as replies
 use Rattle.outboxes.specs.Messages.{record_of}
 use Rattle.outboxes.specs.lemmas.Messages.{record_is}
+use Rattle.nfs_values.specs.declared.handle_form.HandleForm.{HandleForm}
+use Rattle.rpc_msg.specs.Handles.{reply_told}
 use Rattle.rpc_msg.specs.Replies.{reply_record}
 use Rattle.rpc_msg.specs.Room.{IsRoomy, reply_room}
 use Rattle.service.specs.Jobs.{job_steps, job_takes, job_gives}
@@ -44,8 +46,8 @@ RoomyStays = (volumes : ℕ) (server : Server) (asked : Asked) (moment : Moment)
     → IsRoomy volumes server → IsRoomy volumes (serial server asked moment starved).server
 
 abbrev pub RepliesFit : Type 0
-RepliesFit = (volumes : ℕ) (server : Server) (call : types.Call) (who : Credential) (moment : Moment) (starved : Bool) (xid : ℕ)
-    → IsRoomy volumes server → length (reply_record xid (serial server (Ask call who) moment starved).reply) ≤ reply_room volumes call
+RepliesFit = (form : HandleForm) (volumes : ℕ) (server : Server) (call : types.Call) (who : Credential) (moment : Moment) (starved : Bool) (xid : ℕ)
+    → IsRoomy volumes server → length (reply_record xid (reply_told form (serial server (Ask call who) moment starved).reply)) ≤ reply_room volumes call
 
 roomy-after : RoomyStays → (volumes : ℕ) (es : List FinishedCall) (server : Server) → IsRoomy volumes server → IsRoomy volumes (server_after server es)
 roomy-after stays volumes [] server roomy = roomy
@@ -70,8 +72,8 @@ module _ {P : Type 0} (layout : Layout) (lawful : fault_of layout ≡ None) (ver
       → ((k : ℕ) → Covers (parents layout) (number_of layout node) k → after (parents layout) (listed first) log k ≡ f k)
       → (call : types.Call) (who : Credential) (moment : Moment) (xid : ℕ) (reply : types.Reply)
       → Enters layout node (Ask call who) moment false f (jobs.Replied reply) f'
-      → length (record_of (replies.message xid reply)) ≤ reply_room (length layout.volumes) call
-  reply-fits first opened seen mine log history node there f f' under call who moment xid reply enters =
+      → (form : HandleForm) → length (record_of (replies.message xid (reply_told form reply))) ≤ reply_room (length layout.volumes) call
+  reply-fits first opened seen mine log history node there f f' under call who moment xid reply enters form =
       let ps : List ℕ = parents layout in
       let g : ℕ → Option (FilerParcel P) = after ps (listed first) log in
       let job = Serve (finished_at node (Ask call who) moment 0 0 xid false) in
@@ -83,16 +85,16 @@ module _ {P : Type 0} (layout : Layout) (lawful : fault_of layout ≡ None) (ver
       (length log) step sound (λ weigh. refl) in
       let same : reply ≡ (serial (tree layout g) (Ask call who) moment false).reply = did.0.works.1 in
       let roomy = log-roomy (listed first) opened log history.legal history.throughout in
-      let spelled = ap (λ bs. length bs) (record_is xid reply) in
-      let told = ap (λ x. length (reply_record xid x)) same in
-      let fits = fit (length layout.volumes) (tree layout g) call who moment false xid roomy in
+      let spelled = ap (λ bs. length bs) (record_is xid (reply_told form reply)) in
+      let told = ap (λ x. length (reply_record xid (reply_told form x))) same in
+      let fits = fit form (length layout.volumes) (tree layout g) call who moment false xid roomy in
       omega (arith, spelled, told, fits)
 
 -- and so does the reply that says that memory ran out
 pub starved-fits : (layout : Layout) (verifier : List ℕ) → length verifier ≡ 8 → RoomyBegins → RepliesFit → (call : types.Call) (who : Credential) (xid : ℕ)
-    → length (record_of (replies.message xid SystemError)) ≤ reply_room (length layout.volumes) call
-starved-fits layout verifier eight begins fit call who xid =
-    let spelled = ap (λ bs. length bs) (record_is xid SystemError) in
-    let fits = fit (length layout.volumes) (opening layout verifier) call who (record { seconds = 0; nanoseconds = 0 }) true xid
+    → (form : HandleForm) → length (record_of (replies.message xid (reply_told form SystemError))) ≤ reply_room (length layout.volumes) call
+starved-fits layout verifier eight begins fit call who xid form =
+    let spelled = ap (λ bs. length bs) (record_is xid (reply_told form SystemError)) in
+    let fits = fit form (length layout.volumes) (opening layout verifier) call who (record { seconds = 0; nanoseconds = 0 }) true xid
     (begins layout verifier eight) in
     omega (arith, spelled, fits)

@@ -36,6 +36,8 @@ use Rattle.service.specs.Running.{HasRun}
 use Rattle.service.specs.declared.job.JobReply.TheVariants.{Replied}
 use Rattle.service.specs.declared.outcome.Outcome.{Outcome}
 use Rattle.service.specs.declared.outcome.Outcome.TheVariants as outcomes
+use Rattle.nfs_values.specs.declared.handle_form.HandleForm.{HandleForm}
+use Rattle.rpc_msg.specs.Handles.{reply_told}
 use Rattle.turns.specs.declared.message.Message.{Message}
 use Rattle.turns.specs.Balance.{FilerView, FilerEntry}
 use Rattle.turns.specs.Messages.{IsPlaced}
@@ -151,22 +153,24 @@ module _ (layout : Layout) (lawful : fault_of layout ≡ None) (m : Message) (pl
 
   module _ (verifier : List ℕ) (eight : length verifier ≡ 8) (opened : HasOpened layout verifier v)
       (begins : RoomyBegins) (stays : RoomyStays) (fit : RepliesFit) where
-    pub fits : (reply : Reply) → outcome ≡ outcomes.Replied reply → length (record_of (replies.message m.origin.xid (reply_of reply))) ≤ m.room
-    fits reply is =
+    pub fits : (reply : Reply) → outcome ≡ outcomes.Replied reply → (form : HandleForm)
+        → length (record_of (replies.message m.origin.xid (reply_told form (reply_of reply)))) ≤ m.room
+    fits reply is form =
         let ran = subst (λ (o : Outcome). HasRun m.call (credential_of m.credential) (moment_of moment) layout node before o l.parcels) is told in
         let history : SoundHistory filer_behaviour (parents layout) v.first v.seen v.mine left.0 =
         subst (λ ps. SoundHistory filer_behaviour ps v.first v.seen v.mine left.0) of_v left.1 in
         let under : (k : ℕ) → Covers (parents layout) (number_of layout node) k → after (parents layout) (listed v.first) left.0 k ≡ before k =
         as-left layout node placed.node v of_v before left in
         let most = reply-fits layout lawful verifier eight begins stays fit v.first opened v.seen v.mine left.0 history node placed.node before l.parcels under
-        (call_of m.call) (credential_of m.credential) (moment_of moment) m.origin.xid (reply_of reply) ran.0 in
+        (call_of m.call) (credential_of m.credential) (moment_of moment) m.origin.xid (reply_of reply) ran.0 form in
         let room = placed.room in
         omega (arith, most, room)
 
-    pub starved-room : (reply : Reply) → reply_of reply ≡ SystemError → length (record_of (replies.message m.origin.xid (reply_of reply))) ≤ m.room
-    starved-room reply says =
-        let most = starved-fits layout verifier eight begins fit (call_of m.call) (credential_of m.credential) m.origin.xid in
-        let same = ap (λ x. length (record_of (replies.message m.origin.xid x))) says in
+    pub starved-room : (reply : Reply) → reply_of reply ≡ SystemError → (form : HandleForm)
+        → length (record_of (replies.message m.origin.xid (reply_told form (reply_of reply)))) ≤ m.room
+    starved-room reply says form =
+        let most = starved-fits layout verifier eight begins fit (call_of m.call) (credential_of m.credential) m.origin.xid form in
+        let same = ap (λ x. length (record_of (replies.message m.origin.xid (reply_told form x)))) says in
         let room = placed.room in
         omega (arith, most, room, same)
 

@@ -5,6 +5,7 @@ pub mod Turns
 pub mod Chains
 pub mod Runs
 pub mod Links
+pub mod Telling
 pub mod Apart
 pub mod Works
 pub mod Logs

@@ -4,7 +4,9 @@ use Rattle.nfs_model.specs.Types.{SystemError}
 use Rattle.nfs_model.specs.Tree.{Layout}
 use Rattle.nfs_values.specs.Reply.{reply_of}
 use Rattle.nfs_values.specs.declared.moment.Moment.{Moment}
+use Rattle.nfs_values.specs.declared.handle_form.HandleForm.{HandleForm}
 use Rattle.nfs_values.specs.declared.reply.Reply.{Reply}
+use Rattle.rpc_msg.specs.Handles.{reply_told}
 use Rattle.affinity.specs.Affinity.{affinity_of}
 use Rattle.affinity.specs.Numbers.{number_of, parents}
 use Rattle.parcels.specs.Exact.{kind_in}
@@ -41,10 +43,10 @@ pub record IsEntryFor (m : Message) (moment : Moment) (starved : Bool) (e : Entr
   pub origin : e.origin ≡ m.origin
   pub room : e.room ≡ m.room
 
--- what was told of it is a reply, which fits its room
+-- what was told of it is a reply, which fits its room, however its handles are told
 abbrev pub HasRoom : Entry → JobReply → Type 0
 HasRoom e told = (reply : Reply) × (told ≡ Replied reply)
-    × (length (record_of (replies.message e.origin.xid (reply_of reply))) ≤ e.room)
+    × ((form : HandleForm) → length (record_of (replies.message e.origin.xid (reply_told form (reply_of reply)))) ≤ e.room)
 
 -- what is entered of a run
 abbrev pub IsEntered : Outcome → Reply → Bool → Type 0

@@ -1,3 +1,4 @@
 pub mod Logs
 pub mod Covered
 pub mod Putting
+pub mod Telling

@@ -8,6 +8,7 @@ ghost use Rattle.turns.specs.Chains.{chained_by, left_standing, turns_at_most};
 ghost use Rattle.turns.specs.Chains.{HasDoneFew, HasServedOn, IsPicked};
 ghost use Rattle.turns.specs.Links.{chained_so, kept_of, HasChained, Stands};
 ghost use Rattle.turns.specs.Messages.{IsPlaced};
+ghost use Rattle.turns.specs.Telling.{TookTold};
 ghost use Rattle.turns.specs.Turns.{HasShareOf, Standing};
 ghost use Rattle.turns.specs.Words.{layout_in, layout_known, verifier_in, IsReady};
 
@@ -23,7 +24,7 @@ use affinity::{Kind, Layout};
 use depot::{Refusal, Seat};
 use desk::{NodeGrant, ParcelKinds, TaskNode};
 use filer_state::Files;
-use nfs_values::Moment;
+use nfs_values::{HandleForm, Moment};
 use parcels::{
     AggregateNode, LogicalNode, Parcel, RangeNode, SerialNode, StripeNode, VbnNode, VolumeNode,
 };
@@ -62,6 +63,7 @@ fn chain<N: TaskNode<Parcel<Files>, ParcelKinds>, R: Wait, G: Gate, H: Hint, S: 
     hint: &H,
     most: usize,
     told: &mut JobReply,
+    handles: HandleForm,
     sink: &mut S,
 ) -> Tried
     requires seat { IsSeatHere filer.now.depot seat.old }
@@ -80,13 +82,13 @@ fn chain<N: TaskNode<Parcel<Files>, ParcelKinds>, R: Wait, G: Gate, H: Hint, S: 
     ensures chained { let L = layout_in filer.now in (s : Standing)
         → Stands L (verifier_in filer.now) s message (known pass.old) (node_lent L grant.old)
         (view seat.old)
-        → HasChained S.took L (verifier_in filer.now) s moment sink.old result told.new
+        → HasChained (TookTold handles S.took) L (verifier_in filer.now) s moment sink.old result told.new
         (known pass.new) (node_lent L grant.new) (view seat.new) sink.new }
 {
     let mut message = message;
     for _link in 1..most {
         match link_on::<N, R, G, H, S>(
-            filer, seat, queue, rt, pass, grant, message, moment, gate, hint, told, sink,
+            filer, seat, queue, rt, pass, grant, message, moment, gate, hint, told, handles, sink,
         ) {
             Link::On(next) => message = next,
             Link::Over(tried) => return tried,
@@ -119,6 +121,7 @@ fn serve_all_on<N: TaskNode<Parcel<Files>, ParcelKinds>, R: Wait, G: Gate, H: Hi
     gate: &G,
     hint: &H,
     most: usize,
+    handles: HandleForm,
     sink: &mut S,
 ) -> ServedAll
     requires seat { IsSeatHere filer.now.depot seat.old }
@@ -136,7 +139,7 @@ fn serve_all_on<N: TaskNode<Parcel<Files>, ParcelKinds>, R: Wait, G: Gate, H: Hi
     ensures placed { IfSome result.kept (IsPlaced (layout_in filer.now)) }
     ensures served { (s : Standing)
         → IsPicked s (view seat.old) (known pass.old) message
-        → HasServedOn S.took (layout_in filer.now) s moment sink.old result.chained sink.new
+        → HasServedOn (TookTold handles S.took) (layout_in filer.now) s moment sink.old result.chained sink.new
         (left_standing (view seat.new) (known pass.new) result.kept) }
 {
     replies_fit();
@@ -154,10 +157,10 @@ fn serve_all_on<N: TaskNode<Parcel<Files>, ParcelKinds>, R: Wait, G: Gate, H: Hi
     let mut told = starved();
     let tried = chain::<N, R, G, H, S>(
         filer, seat, queue, rt, pass, &mut grant, message, moment, gate, hint, most, &mut told,
-        sink,
+        handles, sink,
     );
     let chained = ended_by(&tried);
-    let kept = end_on::<N, G, S>(filer, seat, grant, tried, gate, &mut told, sink);
+    let kept = end_on::<N, G, S>(filer, seat, grant, tried, gate, &mut told, handles, sink);
     forget(told);
     ServedAll { kept, chained }
 }
@@ -175,6 +178,7 @@ pub(crate) fn serve_all<R: Wait, G: Gate, H: Hint, S: AnswerSink>(
     gate: &G,
     hint: &H,
     most: usize,
+    handles: HandleForm,
     sink: &mut S,
 ) -> ServedAll
     requires seat { IsSeatHere filer.now.depot seat.old }
@@ -191,30 +195,30 @@ pub(crate) fn serve_all<R: Wait, G: Gate, H: Hint, S: AnswerSink>(
     ensures placed { IfSome result.kept (IsPlaced (layout_in filer.now)) }
     ensures served { (s : Standing)
         → IsPicked s (view seat.old) (known pass.old) message
-        → HasServedOn S.took (layout_in filer.now) s moment sink.old result.chained sink.new
+        → HasServedOn (TookTold handles S.took) (layout_in filer.now) s moment sink.old result.chained sink.new
         (left_standing (view seat.new) (known pass.new) result.kept) }
 {
     match message.affinity().kind() {
         Kind::Range => serve_all_on::<RangeNode, R, G, H, S>(
-            filer, seat, queue, rt, pass, message, moment, gate, hint, most, sink,
+            filer, seat, queue, rt, pass, message, moment, gate, hint, most, handles, sink,
         ),
         Kind::VolumeVbn => serve_all_on::<VbnNode, R, G, H, S>(
-            filer, seat, queue, rt, pass, message, moment, gate, hint, most, sink,
+            filer, seat, queue, rt, pass, message, moment, gate, hint, most, handles, sink,
         ),
         Kind::Stripe => serve_all_on::<StripeNode, R, G, H, S>(
-            filer, seat, queue, rt, pass, message, moment, gate, hint, most, sink,
+            filer, seat, queue, rt, pass, message, moment, gate, hint, most, handles, sink,
         ),
         Kind::VolumeLogical => serve_all_on::<LogicalNode, R, G, H, S>(
-            filer, seat, queue, rt, pass, message, moment, gate, hint, most, sink,
+            filer, seat, queue, rt, pass, message, moment, gate, hint, most, handles, sink,
         ),
         Kind::Volume => serve_all_on::<VolumeNode, R, G, H, S>(
-            filer, seat, queue, rt, pass, message, moment, gate, hint, most, sink,
+            filer, seat, queue, rt, pass, message, moment, gate, hint, most, handles, sink,
         ),
         Kind::Aggregate => serve_all_on::<AggregateNode, R, G, H, S>(
-            filer, seat, queue, rt, pass, message, moment, gate, hint, most, sink,
+            filer, seat, queue, rt, pass, message, moment, gate, hint, most, handles, sink,
         ),
         Kind::Serial => serve_all_on::<SerialNode, R, G, H, S>(
-            filer, seat, queue, rt, pass, message, moment, gate, hint, most, sink,
+            filer, seat, queue, rt, pass, message, moment, gate, hint, most, handles, sink,
         ),
     }
 }

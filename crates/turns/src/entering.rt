@@ -8,13 +8,15 @@ ghost use Rattle.outboxes.specs.Messages as replies;
 ghost use Rattle.service.specs.declared.job.JobReply.TheVariants.{Replied};
 ghost use Rattle.turns.specs.Links.{HasRoom, IsEntryFor};
 ghost use Rattle.turns.specs.Messages.{message_in, IsOfCall};
+ghost use Rattle.turns.specs.Telling.{answer_told};
 ghost use Rattle.turns.specs.Turns.{job_of_message};
 
 use crate::answer::Answer;
 use crate::envelope::Envelope;
 use crate::telling::let_go;
-use nfs_values::Moment;
+use nfs_values::{HandleForm, Moment};
 use outboxes::Room;
+use rpc_msg::tell;
 use scheduler::Origin;
 use service::{Job, JobReply};
 
@@ -49,17 +51,20 @@ pub(crate) fn enter(message: Envelope, moment: Moment, starved: bool) -> Entry
     Entry { origin, job, room }
 }
 
-/// The answer of an entry, of which this was told.
-pub(crate) fn answered(entry: Entry, told: &mut JobReply) -> Answer
+/// The answer of an entry, of which this was told, with its handles in a form.
+pub(crate) fn answered(entry: Entry, told: &mut JobReply, handles: HandleForm) -> Answer
     requires { HasRoom entry told.old }
     ensures { (reply : Reply) → told.old ≡ Replied reply
-        → result ≡ addressed entry.origin.connection.0
-        (replies.message entry.origin.xid (reply_of reply)) }
+        → result ≡ answer_told handles (addressed entry.origin.connection.0
+        (replies.message entry.origin.xid (reply_of reply))) }
 {
     let Entry { origin, job, room } = entry;
     let_go(job);
     match told {
-        JobReply::Replied(reply) => Answer::new(origin.connection, origin.xid, reply, room),
+        JobReply::Replied(reply) => {
+            tell(reply, handles);
+            Answer::new(origin.connection, origin.xid, reply, room)
+        }
         JobReply::Took(_took) => unreachable!(),
         JobReply::Gave(_gave) => unreachable!(),
         JobReply::Surveyed(_counts) => unreachable!(),

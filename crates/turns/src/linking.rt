@@ -14,6 +14,7 @@ ghost use Rattle.turns.specs.Links.{Stands};
 ghost use Rattle.turns.specs.Messages.{IsPlaced};
 ghost use Rattle.turns.specs.Runs.{IsLentFor};
 ghost use Rattle.turns.specs.Turns.{filer_behaviour, HasShareOf, Standing};
+ghost use Rattle.turns.specs.Telling.{TookTold};
 ghost use Rattle.turns.specs.Words.{layout_in, layout_known, verifier_in};
 
 use crate::chained::{AnswerSink, Hint};
@@ -27,7 +28,7 @@ use affinity::{Affinity, Layout};
 use depot::Seat;
 use desk::{NodeGrant, ParcelKinds, TaskNode, finish_node, go_on_node, put_back_node};
 use filer_state::Files;
-use nfs_values::Moment;
+use nfs_values::{HandleForm, Moment};
 use parcels::{Node, Parcel};
 use rpc_msg::{replies_fit, servers_are_roomy};
 use service::{JobReply, Service};
@@ -150,6 +151,7 @@ pub(crate) fn link_on<
     gate: &G,
     hint: &H,
     told: &mut JobReply,
+    handles: HandleForm,
     sink: &mut S,
 ) -> Link
     requires seat { IsSeatHere filer.now.depot seat.old }
@@ -167,7 +169,7 @@ pub(crate) fn link_on<
     ensures linked { let L = layout_in filer.now in (b : Standing)
         → Stands L (verifier_in filer.now) b message (known pass.old) (node_lent L grant.old)
         (view seat.old)
-        → HasLinked S.took L (verifier_in filer.now) b message moment (known pass.old)
+        → HasLinked (TookTold handles S.took) L (verifier_in filer.now) b message moment (known pass.old)
         (node_lent L grant.old) (view seat.old) sink.old result told.new (known pass.new)
         (node_lent L grant.new) (view seat.new) sink.new }
 {
@@ -192,7 +194,7 @@ pub(crate) fn link_on<
     }
     gate.pass(place);
     gate.pass(place_of(next.origin(), Stage::Begun));
-    sink.take_answer(answered(entry, told));
+    sink.take_answer(answered(entry, told, handles));
     Link::On(next)
 }
 
@@ -205,6 +207,7 @@ pub(crate) fn end_on<N: Node<Parcel<Files>>, G: Gate, S: AnswerSink>(
     tried: Tried,
     gate: &G,
     told: &mut JobReply,
+    handles: HandleForm,
     sink: &mut S,
 ) -> Option<Envelope>
     requires seat { IsSeatHere filer.now.depot seat.old }
@@ -212,7 +215,7 @@ pub(crate) fn end_on<N: Node<Parcel<Files>>, G: Gate, S: AnswerSink>(
         CanEnd L (view seat.old) (node_lent L grant) tried told.old }
     ensures seat { IsSeatHere filer.now.depot seat.new }
     ensures splits { splits_left seat.new ≡ splits_left seat.old }
-    ensures ended { let L = layout_in filer.now in HasEnded S.took L (view seat.old)
+    ensures ended { let L = layout_in filer.now in HasEnded (TookTold handles S.took) L (view seat.old)
         (node_lent L grant) tried told.old sink.old (view seat.new) result sink.new }
 {
     match tried {
@@ -226,7 +229,7 @@ pub(crate) fn end_on<N: Node<Parcel<Files>>, G: Gate, S: AnswerSink>(
         Tried::Entered(entry, next) => {
             finish_node::<Service, N>(&filer.depot, seat, grant, &entry.job, told);
             gate.pass(place_of(entry.origin, Stage::Ended));
-            sink.take_answer(answered(entry, told));
+            sink.take_answer(answered(entry, told, handles));
             next
         }
     }

@@ -3,7 +3,9 @@
 ghost use Rattle.std.specs.Prelude.{◌≡◌, ◌≤◌, length};
 ghost use Rattle.affinity.specs.Numbers.{number_of};
 ghost use Rattle.nfs_values.specs.Reply.{reply_of};
+ghost use Rattle.nfs_values.specs.declared.handle_form.HandleForm.{HandleForm as HandleFormSeen};
 ghost use Rattle.nfs_values.specs.declared.reply.Reply.{Reply};
+ghost use Rattle.rpc_msg.specs.Handles.{reply_told};
 ghost use Rattle.parcels.specs.Exact.{kind_in};
 ghost use Rattle.depot.specs.Grants.{entry_of, IsFinished};
 ghost use Rattle.depot.specs.Words.{view, splits_left, IsNodeOf, IsSeatHere};
@@ -29,7 +31,7 @@ use affinity::Kind;
 use depot::Seat;
 use desk::{NodeGrant, ParcelKinds, TaskNode, finish_node, put_back_node};
 use filer_state::Files;
-use nfs_values::Moment;
+use nfs_values::{HandleForm, Moment};
 use parcels::{
     AggregateNode, LogicalNode, Node, Parcel, RangeNode, SerialNode, StripeNode, VbnNode,
     VolumeNode,
@@ -52,8 +54,9 @@ fn answer<N: Node<Parcel<Files>>>(
         CanFinish kind_in filer_behaviour L (view seat.old) (node_lent L grant)
         (job_of_message message moment starved) told.old }
     requires room { (reply : Reply) × (told.old ≡ Replied reply)
-        × (length (record_of (replies.message message.origin.xid (reply_of reply)))
-        ≤ message.room) }
+        × ((form : HandleFormSeen)
+        → length (record_of (replies.message message.origin.xid
+        (reply_told form (reply_of reply)))) ≤ message.room) }
     ensures seat { IsSeatHere filer.now.depot seat.new }
     ensures splits { splits_left seat.new ≡ splits_left seat.old }
     ensures finished { let L = layout_in filer.now in let l = node_lent L grant in
@@ -66,7 +69,7 @@ fn answer<N: Node<Parcel<Files>>>(
 {
     let entry = enter(message, moment, starved);
     finish_node::<Service, N>(&filer.depot, seat, grant, &entry.job, told);
-    answered(entry, told)
+    answered(entry, told, HandleForm::Plain)
 }
 
 /// Begins the call of a message on what it tries, a node of this kind, runs it, and ends it.

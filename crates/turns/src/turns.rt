@@ -8,7 +8,7 @@ use crate::shared_waiting::{Pass, SharedWaiting};
 use crate::turned::Gate;
 use crate::worker::Worker;
 use affinity::Layout;
-use nfs_values::Moment;
+use nfs_values::{HandleForm, Moment};
 use std::sync::Wait;
 
 impl Worker {
@@ -18,6 +18,7 @@ impl Worker {
     ghost use Rattle.turns.specs.shared_waiting.Balance.{both, Leaves};
     ghost use Rattle.turns.specs.shared_waiting.Passes.{known, IsOf};
     ghost use Rattle.turns.specs.Chains.{turns_at_most, HasDoneFew, HasTriedAll, HasTurnedOn};
+    ghost use Rattle.turns.specs.Telling.{TookTold};
     ghost use Rattle.turns.specs.Turns.{standing_of, HasShareOf};
     ghost use Rattle.turns.specs.Words.{layout_in, passed, seat_view, seats_in, IsAt};
 
@@ -33,11 +34,12 @@ impl Worker {
         hint: &H,
         moment: Moment,
         most: usize,
+        handles: HandleForm,
         sink: &mut S,
     ) -> Chained
         requires { IsAt filer.now queue.now self.old }
         ensures inside { IsAt filer.now queue.now self.new }
-        ensures tried { HasTriedAll S.took (layout_in filer.now) (standing_of self.old) moment
+        ensures tried { HasTriedAll (TookTold handles S.took) (layout_in filer.now) (standing_of self.old) moment
             sink.old result sink.new (standing_of self.new) }
         ensures few { HasDoneFew (turns_at_most most) (seat_view self.old) (seat_view self.new) }
         ensures share { HasShareOf (passed self.old) (passed self.new) }
@@ -59,6 +61,7 @@ impl Worker {
             gate,
             hint,
             most,
+            handles,
             sink,
         );
         self.kept = kept;
@@ -67,7 +70,8 @@ impl Worker {
 
     /// Turns for who has another pass of the queue beside: the call of the message that is kept, or
     /// else of the one that waits longest, and then, under the same grant, those of the messages
-    /// after it that try the same node, at most so many. The answers go into a sink. A message that
+    /// after it that try the same node, at most so many. The answers go into a sink, with their
+    /// handles in a form. A message that
     /// was picked and tries another node is kept, for the next turn. Where the node was refused, a
     /// hint is left to who has it; and where one is left here, no more is picked. Where no message
     /// is found, none waits by both passes, and so none at all where nobody else has a pass.
@@ -81,6 +85,7 @@ impl Worker {
         hint: &H,
         moment: Moment,
         most: usize,
+        handles: HandleForm,
         sink: &mut S,
     ) -> Chained
         requires inside { IsAt filer.now queue.now self.old }
@@ -88,7 +93,7 @@ impl Worker {
         requires key { (known other.old).key ≡ (passed self.old).key }
         ensures inside { IsAt filer.now queue.now self.new }
         ensures other { IsOf queue.now other.new × (known other.new ≡ known other.old) }
-        ensures turned { HasTurnedOn S.took (layout_in filer.now) (standing_of self.old) moment
+        ensures turned { HasTurnedOn (TookTold handles S.took) (layout_in filer.now) (standing_of self.old) moment
             sink.old result sink.new (standing_of self.new) }
         ensures few { HasDoneFew (turns_at_most most) (seat_view self.old) (seat_view self.new) }
         ensures none { result ≡ Idle
@@ -98,7 +103,7 @@ impl Worker {
         ensures hand { self.new.hand ≡ self.old.hand }
     {
         self.pick_beside(filer, queue, other, rt);
-        let chained = self.try_all(filer, queue, rt, gate, hint, moment, most, sink);
+        let chained = self.try_all(filer, queue, rt, gate, hint, moment, most, handles, sink);
         if chained.is_done() {
             return chained;
         }

@@ -5,6 +5,8 @@ use Rattle.tcp_front.specs.Admitted.{calls_of, seen_of}
 use Rattle.tcp_front.specs.Arrivals.{Arrival, Waits, Answered}
 use Rattle.turns.specs.shared_waiting.Passes.{known}
 use Rattle.lanes.specs.declared.intake.Intake.{Intake}
+use Rattle.turns.specs.Telling.{answer_told}
+use Rattle.turns.specs.lemmas.Telling.{told-append}
 use Rattle.lanes.specs.Intakes.{answered_of, all_put, HasTakenIn}
 
 pub calls-append : (xs ys : List Arrival) → calls_of (xs ++ ys) ≡ calls_of xs ++ calls_of ys
@@ -31,10 +33,12 @@ taken_none s =
       share = (refl, refl, refl);
       same = record { seat = refl; pass = refl; hand = refl; kept = refl };
       boxes_are = refl;
+      form_is = refl;
     }
 
 pub taken_more : {R : Type 0} (s t u : Intake R) (xs ys : List Arrival) → HasTakenIn s xs t → HasTakenIn t ys u → HasTakenIn s (xs ++ ys) u
 taken_more s t u xs ys f g =
+    let told : List Arrival → List Addressed = λ zs. map (answer_told s.handles) (answered_of zs) in
     record {
       filer_is = g.filer_is ∙ f.filer_is;
       queue_is = g.queue_is ∙ f.queue_is;
@@ -50,6 +54,9 @@ taken_more s t u xs ys f g =
         kept = g.same.kept ∙ f.same.kept;
       };
       boxes_are =
-          g.boxes_are ∙ ap (all_put (answered_of ys)) f.boxes_are ∙ sym (all-put-append (answered_of xs) (answered_of ys) s.outboxes)
-          ∙ ap (λ l. all_put l s.outboxes) (sym (answered-append xs ys));
+          g.boxes_are ∙ ap (λ form. all_put (map (answer_told form) (answered_of ys)) t.outboxes) f.form_is
+          ∙ ap (all_put (told ys)) f.boxes_are ∙ sym (all-put-append (told xs) (told ys) s.outboxes)
+          ∙ ap (λ l. all_put l s.outboxes) (sym (told-append s.handles (answered_of xs) (answered_of ys)))
+          ∙ ap (λ l. all_put (map (answer_told s.handles) l) s.outboxes) (sym (answered-append xs ys));
+      form_is = g.form_is ∙ f.form_is;
     }

@@ -73,6 +73,7 @@ impl<D: Device, R> Lane<D, R> {
                 waiting: 0,
                 most: PLACES / lanes,
                 owed: Due::nothing(),
+                handles: offer.handles(),
                 leaving: 0,
             },
             filer,

@@ -51,6 +51,7 @@ impl<D: Device + Drop, R: Drop> Lane<D, R> {
             waiting: _,
             most: _,
             owed: _,
+            handles: _,
             leaving: _,
         } = intake;
         LaneParts {

@@ -29,7 +29,7 @@ fn read_one<D: Device, R: Wait>(
     ensures { ReadsOn D.unread D.written (layout_of layout.now) offer connection.old
         intake.old (length block.old) result connection.new intake.new }
 {
-    intake.set_owed(connection.owed);
+    intake.set_owed(connection.owed, offer.handles());
     let came = connection.read(intake, layout, offer, block);
     connection.set_owed(intake.owed);
     came

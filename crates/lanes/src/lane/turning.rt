@@ -7,7 +7,7 @@ ghost use Rattle.lanes.specs.Queues.{count_kept};
 use crate::device::Device;
 use crate::intake::Intake;
 use crate::lane::Lane;
-use nfs_values::Moment;
+use nfs_values::{HandleForm, Moment};
 use std::sync::Wait;
 use turns::{Chained, Filer, Gate, Hint, Worker};
 
@@ -26,10 +26,12 @@ impl<R: Wait> Intake<R> {
     ghost use Rattle.turns.specs.Balance.{Weight, by_entry, by_key};
     ghost use Rattle.turns.specs.Chains.{turns_at_most, HasDoneFew, HasPutAll, HasTurnedOn};
     ghost use Rattle.turns.specs.Turns.{standing_of};
+    ghost use Rattle.turns.specs.Telling.{TookTold};
     ghost use Rattle.turns.specs.Words.{entries_in, layout_in, seat_view, seats_in, IsAt};
     ghost use Rattle.lanes.specs.Queues.{HasNoneLeft};
 
-    /// Turns of its worker, whose answers are put into its outboxes, and a count of what waits.
+    /// Turns of its worker, whose answers are put into its outboxes, with their handles in a form,
+    /// and a count of what waits.
     fn turns<G: Gate, H: Hint>(
         &mut self,
         filer: &Filer,
@@ -37,11 +39,12 @@ impl<R: Wait> Intake<R> {
         hint: &H,
         moment: Moment,
         most: usize,
+        handles: HandleForm,
     ) -> Chained
         requires inside { IsAt filer.now self.old.queue self.old.worker }
         requires picked { (known self.old.pass).picked ≡ [] }
         ensures inside { IsAt filer.now self.new.queue self.new.worker }
-        ensures turned { HasTurnedOn HasPutAll (layout_in filer.now)
+        ensures turned { HasTurnedOn (TookTold handles HasPutAll) (layout_in filer.now)
             (standing_of self.old.worker) moment self.old.outboxes result
             self.new.outboxes (standing_of self.new.worker) }
         ensures few { HasDoneFew (turns_at_most most) (seat_view self.old.worker)
@@ -63,6 +66,7 @@ impl<R: Wait> Intake<R> {
             hint,
             moment,
             most,
+            handles,
             &mut self.outboxes,
         );
         let queued = self
@@ -78,15 +82,17 @@ impl<D: Device, R: Wait> Lane<D, R> {
     ghost use Rattle.turns.specs.shared_waiting.Passes.{known};
     ghost use Rattle.turns.specs.Chains.{turns_at_most, HasDoneFew, HasPutAll, HasTurnedOn};
     ghost use Rattle.turns.specs.Turns.{standing_of};
+    ghost use Rattle.nfs_values.specs.Offer.{form_of};
+    ghost use Rattle.turns.specs.Telling.{TookTold};
     ghost use Rattle.turns.specs.Words.{layout_in, seat_view, seats_in};
     ghost use Rattle.lanes.specs.Queues.{HasNoneLeft};
     ghost use Rattle.lanes.specs.Words.{boxes_in, connections_in, filer_in, identity_in};
-    ghost use Rattle.lanes.specs.Words.{pass_in, worker_in};
+    ghost use Rattle.lanes.specs.Words.{offer_in, pass_in, worker_in};
 
     /// Tries the call of the message that its worker keeps, or else of the one that waits longest,
     /// and then, under the same grant, those of the messages after it that try the same node, at
-    /// most so many in all (`Worker::turns_beside`). Their answers are put into the outboxes. Where
-    /// no message is found, all that was ever put into the queue was picked.
+    /// most so many in all (`Worker::turns_beside`). Their answers are put into the outboxes, as
+    /// what is offered tells them. Where no message is found, all that was ever put into the queue was picked.
     pub fn turns<G: Gate, H: Hint>(
         &mut self,
         gate: &G,
@@ -94,8 +100,8 @@ impl<D: Device, R: Wait> Lane<D, R> {
         moment: Moment,
         most: usize,
     ) -> Chained
-        ensures turned { HasTurnedOn HasPutAll (layout_in (filer_in self.old))
-            (standing_of (worker_in self.old)) moment (boxes_in self.old) result
+        ensures turned { let form = form_of (offer_in self.old) in
+            HasTurnedOn (TookTold form HasPutAll) (layout_in (filer_in self.old)) (standing_of (worker_in self.old)) moment (boxes_in self.old) result
             (boxes_in self.new) (standing_of (worker_in self.new)) }
         ensures few { HasDoneFew (turns_at_most most) (seat_view (worker_in self.old))
             (seat_view (worker_in self.new)) }
@@ -106,6 +112,8 @@ impl<D: Device, R: Wait> Lane<D, R> {
         ensures filer { filer_in self.new ≡ filer_in self.old }
         ensures identity { identity_in self.new ≡ identity_in self.old }
     {
-        self.intake.turns(&self.filer, gate, hint, moment, most)
+        let handles = self.offer.handles();
+        self.intake
+            .turns(&self.filer, gate, hint, moment, most, handles)
     }
 }

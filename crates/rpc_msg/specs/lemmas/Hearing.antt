@@ -5,7 +5,9 @@ use Rattle.xdr.specs.Shape.{Word}
 use Rattle.xdr.specs.Reading.{Reads, read}
 use Rattle.nfs_model.specs.Types as model
 use Rattle.nfs_model.specs.World.{Heard, IsDecoded}
+use Rattle.nfs_values.specs.declared.handle_form.HandleForm.{HandleForm}
 use Rattle.nfs_values.specs.declared.offer.Offer.{Offer}
+use Rattle.nfs_values.specs.Offer.{form_of}
 use Rattle.nfs_types.specs.Arguments.{asked}
 use Rattle.nfs_types.specs.Shapes.{◌&◌}
 use Rattle.rpc_msg.specs.Heads.{Stop, Incomplete, Refuse, Body, Head, Call, Refused, Faulty, xid_of, body_by, under, head_from, head_by}
@@ -31,21 +33,21 @@ xid_fault offer (Ok m) = elim (eqb m.0.1 0) as (λ b. FaultIs (head_from offer (
 ]
 xid_fault offer (Err fault) = inl refl
 
-heard_fault : (head : Head) → FaultIs head → (number : ℕ) → heard_from head ≡ Err number → (number ≡ 12) ⊎ (number ≡ 13)
-heard_fault (Call xid procedure credential arguments) f number e = absurd cc
-heard_fault (Refused xid reply) f number e = absurd cc
-heard_fault (Faulty n) f number e =
+heard_fault : (form : HandleForm) (head : Head) → FaultIs head → (number : ℕ) → heard_from form head ≡ Err number → (number ≡ 12) ⊎ (number ≡ 13)
+heard_fault form (Call xid procedure credential arguments) f number e = absurd cc
+heard_fault form (Refused xid reply) f number e = absurd cc
+heard_fault form (Faulty n) f number e =
     let same : n ≡ number = cc in
     subst (λ (m : ℕ). (m ≡ 12) ⊎ (m ≡ 13)) same f
 
 pub fault_of_record : (offer : Offer) (bytes : List ℕ) (number : ℕ) → heard_by offer bytes ≡ Err number → (number ≡ 12) ⊎ (number ≡ 13)
-fault_of_record offer bytes = heard_fault (head_by offer bytes) (xid_fault offer (read (Word & Word) bytes))
+fault_of_record offer bytes = heard_fault (form_of offer) (head_by offer bytes) (xid_fault offer (read (Word & Word) bytes))
 
 -- ---- what is asked
 
-asks_decoded : (credential : model.Credential) (r : Result model.Call Unread) → IsDecoded (asked_by credential r)
-asks_decoded credential (Ok call) = tt
-asks_decoded credential (Err fault) = tt
+asks_decoded : (form : HandleForm) (credential : model.Credential) (r : Result model.Call Unread) → IsDecoded (asked_by form credential r)
+asks_decoded form credential (Ok call) = tt
+asks_decoded form credential (Err fault) = tt
 
 -- what holds of what is asked, where it is told
 abbrev pub told : Heard → Result Heard ℕ
@@ -56,10 +58,10 @@ same_heard P made h e p =
     let same : made ≡ h = cc in
     subst (λ (h : Heard). P h.asked) same p
 
-decoded : (head : Head) (h : Heard) → heard_from head ≡ Ok h → IsDecoded h.asked
-decoded (Call xid procedure credential arguments) h e = same_heard IsDecoded _ h e (asks_decoded credential (asked procedure arguments))
-decoded (Refused xid reply) h e = same_heard IsDecoded _ h e tt
-decoded (Faulty number) h e = absurd cc
+decoded : (form : HandleForm) (head : Head) (h : Heard) → heard_from form head ≡ Ok h → IsDecoded h.asked
+decoded form (Call xid procedure credential arguments) h e = same_heard IsDecoded _ h e (asks_decoded form credential (asked procedure arguments))
+decoded form (Refused xid reply) h e = same_heard IsDecoded _ h e tt
+decoded form (Faulty number) h e = absurd cc
 
 pub record_is_decoded : (offer : Offer) (bytes : List ℕ) (h : Heard) → heard_by offer bytes ≡ Ok h → IsDecoded h.asked
-record_is_decoded offer bytes = decoded (head_by offer bytes)
+record_is_decoded offer bytes = decoded (form_of offer) (head_by offer bytes)

@@ -1,12 +1,15 @@
 -- Replies that refuse a record aren't SUCCESS, and their records are short.
-use Rattle.std.proofs.Common.{◌≡◌, ℕ, Bool, true, false, cond, eqb, ltb, ◌≤◌, length, arith, List, Option, Some, None, Result, Ok, Err, find, subst}
+use Rattle.std.proofs.Common.{◌≡◌, ℕ, Bool, true, false, cond, eqb, ltb, ◌≤◌, length, arith, List, Option, Some, None, Result, Ok, Err, find, refl, subst}
 use Rattle.xdr.specs.declared.fault.Fault.{Fault as Unread}
 use Rattle.xdr.specs.declared.fault.Fault.TheVariants as unreads
 use Rattle.xdr.specs.Shape.{Word, Fixed, Value}
 use Rattle.xdr.specs.Reading.{Reads, read, all_of}
 use Rattle.nfs_model.specs.Types as model
 use Rattle.nfs_model.specs.World.{Heard}
+use Rattle.nfs_values.specs.declared.handle_form.HandleForm.{HandleForm}
+use Rattle.nfs_values.specs.declared.handle_form.HandleForm.TheVariants.{Plain, OfRun}
 use Rattle.nfs_values.specs.declared.offer.Offer.{Offer}
+use Rattle.nfs_values.specs.Offer.{form_of}
 use Rattle.nfs_values.specs.declared.procedure.Procedure.{Procedure}
 use Rattle.nfs_values.specs.declared.reply.Refusal.{Refusal}
 use Rattle.nfs_values.specs.declared.reply.Refusal.TheVariants as refusals
@@ -17,6 +20,7 @@ use Rattle.rpc_msg.specs.Replies.{auth_shape, reply_record, IsRefusal}
 use Rattle.rpc_msg.specs.Heads.{◌>>=◌, Stop, Incomplete, Refuse, Body, Head, Call, Refused, Faulty, whole, version_at, numbers_shape, auth_sys_shape, body_of}
 use Rattle.rpc_msg.specs.Heads.{user_of, acting, credential_at, version_by, procedures_by, is_numbered, available, of_version, procedure_by, body_by, under}
 use Rattle.rpc_msg.specs.Heads.{xid_of, head_from, head_by}
+use Rattle.rpc_msg.specs.Handles.{reply_told}
 use Rattle.rpc_msg.specs.Room.{refusal_room}
 use Rattle.rpc_msg.specs.Records.{asked_by, heard_from, heard_by}
 use Rattle.rpc_msg.specs.lemmas.Hearing.{same_heard}
@@ -105,18 +109,18 @@ AskedRefuses (model.Ask call credential) = Unit {0}
 AskedRefuses (model.Refused reply) = IsRefusal reply
 AskedRefuses model.Undecoded = Unit {0}
 
-asked_refuses : (credential : model.Credential) (r : Result model.Call Unread) → AskedRefuses (asked_by credential r)
-asked_refuses credential (Ok call) = tt
-asked_refuses credential (Err fault) = tt
+asked_refuses : (form : HandleForm) (credential : model.Credential) (r : Result model.Call Unread) → AskedRefuses (asked_by form credential r)
+asked_refuses form credential (Ok call) = tt
+asked_refuses form credential (Err fault) = tt
 
-heard_refuses : (head : Head) (h : Heard) → HeadIsSound head → heard_from head ≡ Ok h → AskedRefuses h.asked
-heard_refuses (Call xid procedure credential arguments) h s e = same_heard AskedRefuses _ h e (asked_refuses credential (asked procedure arguments))
-heard_refuses (Refused xid reply) h s e = same_heard AskedRefuses _ h e s
-heard_refuses (Faulty number) h s e = absurd cc
+heard_refuses : (form : HandleForm) (head : Head) (h : Heard) → HeadIsSound head → heard_from form head ≡ Ok h → AskedRefuses h.asked
+heard_refuses form (Call xid procedure credential arguments) h s e = same_heard AskedRefuses _ h e (asked_refuses form credential (asked procedure arguments))
+heard_refuses form (Refused xid reply) h s e = same_heard AskedRefuses _ h e s
+heard_refuses form (Faulty number) h s e = absurd cc
 
 pub refusal_refuses : (offer : Offer) (bytes : List ℕ) (h : Heard) (reply : model.Reply) → heard_by offer bytes ≡ Ok h
     → h.asked ≡ model.Refused reply → IsRefusal reply
-refusal_refuses offer bytes h reply e r = subst AskedRefuses r (heard_refuses (head_by offer bytes) h (head_sound offer (read (Word & Word) bytes)) e)
+refusal_refuses offer bytes h reply e r = subst AskedRefuses r (heard_refuses (form_of offer) (head_by offer bytes) h (head_sound offer (read (Word & Word) bytes)) e)
 
 pub refusal_fits : (reply : model.Reply) (xid : ℕ) → IsRefusal reply → length (reply_record xid reply) ≤ refusal_room
 refusal_fits (model.Success answer) xid r = absurd r
@@ -137,3 +141,9 @@ refusal_is refusals.GarbageArguments = tt
 refusal_is refusals.SystemError = tt
 refusal_is (refusals.RpcMismatch low high) = tt
 refusal_is (refusals.AuthError fault) = tt
+
+-- it has no handles
+pub refusal_told : (form : HandleForm) (reply : model.Reply) → IsRefusal reply → reply_told form reply ≡ reply
+refusal_told Plain reply r = refl
+refusal_told (OfRun run) (model.Success answer) r = absurd r
+refusal_told (OfRun run) reply r = refl

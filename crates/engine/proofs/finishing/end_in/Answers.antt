@@ -2,7 +2,6 @@ use Rattle.std.proofs.Common.{◌≡◌, Some, None, refl, sym, ap, ◌∙◌}
 use Rattle.std.specs.Prelude.{◌+◌, slice_get}
 use Rattle.slab.specs.Slab.{get}
 use Rattle.nfs_values.specs.Moment.{moment_of}
-use Rattle.nfs_values.specs.Reply.{reply_of}
 use Rattle.engine_feed.specs.Seen.{owed_by, finished_message}
 use Rattle.engine.specs.declared.connection.Connection.TheVariants as places
 use Rattle.engine.specs.Connections.{Open, Closed, held_by, key_at}
@@ -23,9 +22,9 @@ returns-in-None-clause-ends c =
       left = Closed there.0;
       at = at;
       put = sym (set-same (held_by cs c.args.slab.now) n (Closed there.0) at);
-      ends = λ setup w codec shows seen. (
+      ends = λ setup w reply codec shows seen. (
         closed-ends c.args.calls.now c.finish_unseen.new.self (finished_message c.args.running.message (moment_of c.args.running.moment) c.args.starved)
-            there.0 c.finish_unseen.ensures.finishes setup w (reply_of c.args.reply.now) shows seen,
+            there.0 c.finish_unseen.ensures.finishes setup w reply shows seen,
         refl,
       );
       owes = λ x e. absurd (closed-open there.0 x e);
@@ -54,7 +53,7 @@ returns-clause-ends c =
       left = Open after;
       at = found-open cs c.args.slab.now n c.in-Some.key before at was;
       put = written cs c.args.slab.now _ c.requires.keyed n c.in-Some.key at before after was refl;
-      ends = λ setup w codec shows seen. (c.finish.ensures.finishes setup w codec shows seen, c.finish.ensures.count);
+      ends = λ setup w reply codec shows seen. (c.finish.ensures.finishes setup w reply codec shows seen, c.finish.ensures.count);
       owes = λ x e. (before, refl, c.finish.ensures.owed ∙ ap (λ y. owed_by y + c.args.running.message.room) (same-open after x e));
       keyed = written-keyed cs c.args.slab.now _ c.requires.keyed n c.in-Some.key at before after was refl;
       opened = written-len c.args.slab.now _ c.in-Some.key before after was refl;

@@ -4,7 +4,10 @@ use Rattle.std.specs.Global.{Vec}
 use Rattle.std.specs.Option.{option_copied}
 use Rattle.std.proofs.lemmas.List.{length-map, length-set}
 use Rattle.nfs_values.specs.Moment.{moment_of}
+use Rattle.nfs_model.specs.Types as types
+use Rattle.nfs_values.specs.Offer.{form_of}
 use Rattle.nfs_values.specs.Reply.{reply_of}
+use Rattle.rpc_msg.specs.Handles.{reply_told}
 use Rattle.nfs_values.specs.declared.reply.Reply.{Reply}
 use Rattle.service.specs.declared.outcome.Outcome.{Outcome}
 use Rattle.service.specs.declared.outcome.Outcome.TheVariants.{Replied}
@@ -161,9 +164,14 @@ end_in-count-requires-clause-fits c =
       | in-Replied t ↦ inl (t.in-Replied.is ∙ ap Replied (sym (ap (λ (p : Reply × Bool). p.0) t.reply-is)), ap (λ (p : Reply × Bool). p.1) t.reply-is)
       | in-Starved t ↦ inr (t.in-Starved.is, ap (λ (p : Reply × Bool). p.0) t.reply-is, ap (λ (p : Reply × Bool). p.1) t.reply-is)
     ] in
-    subst (λ (x : Running). length (reply_record x.message.origin.xid (reply_of c.end_on-running.result.1)) ≤ x.message.room) (sym (same c))
-    (subst (λ (x : Reply). length (reply_record (r c).message.origin.xid (reply_of x)) ≤ (r c).message.room) (sym c.end_on-running.ensures.reply)
-    (reply_fits (s c) c.requires c.args.worker (r c) (o c) c.take_run.ensures.0 (was_there c) c.match-outcome.reply.0 c.match-outcome.reply.1 is))
+    let form = c.handles.result in
+    subst (λ (x : types.Reply). length (reply_record c.end_on-running.result.0.message.origin.xid x) ≤ c.end_on-running.result.0.message.room)
+    (sym c.tell.ensures)
+    (subst (λ (x : Running). length (reply_record x.message.origin.xid (reply_told form (reply_of c.end_on-running.result.1))) ≤ x.message.room)
+    (sym (same c))
+    (subst (λ (x : Reply). length (reply_record (r c).message.origin.xid (reply_told form (reply_of x))) ≤ (r c).message.room)
+    (sym c.end_on-running.ensures.reply)
+    (reply_fits (s c) c.requires c.args.worker (r c) (o c) c.take_run.ensures.0 (was_there c) c.match-outcome.reply.0 c.match-outcome.reply.1 is form)))
 
 pub end_in-count-requires-clause-known : goal.end_in-count-requires-clause-known
 end_in-count-requires-clause-known c =
@@ -225,14 +233,21 @@ module _ (c : goal.After-drop) where
   ]
 
   -- what is said of the message that comes back is so of the one that was taken
-  among : EndsAmong before.calls before.connections.items before.slab ran (reply_of reply) starved c.end_in-count.result c.end_in-count.new.calls
+  told : types.Reply
+  told = reply_of c.tell.new.reply
+
+  is_told : told ≡ reply_told (form_of before.offer) (reply_of reply)
+  is_told = c.tell.ensures
+      ∙ ap (λ f. reply_told f (reply_of c.end_on-running.result.1)) c.handles.ensures
+      ∙ ap (λ (x : Reply). reply_told (form_of before.offer) (reply_of x)) c.end_on-running.ensures.reply
+
+  among : EndsAmong before.calls before.connections.items before.slab ran told starved c.end_in-count.result c.end_in-count.new.calls
       c.end_in-count.new.slab
-  among = subst (λ (cs : List Connection). EndsAmong before.calls cs before.slab ran (reply_of reply) starved c.end_in-count.result
+  among = subst (λ (cs : List Connection). EndsAmong before.calls cs before.slab ran told starved c.end_in-count.result
       c.end_in-count.new.calls c.end_in-count.new.slab) c.deref-2.ensures.value
-      (subst (λ (x : Running). EndsAmong before.calls c.deref-2.result.now before.slab x (reply_of reply) starved c.end_in-count.result
+      (subst (λ (x : Running). EndsAmong before.calls c.deref-2.result.now before.slab x told starved c.end_in-count.result
       c.end_in-count.new.calls c.end_in-count.new.slab) c.end_on-running.ensures.running
-      (subst (λ (x : Reply). EndsAmong before.calls c.deref-2.result.now before.slab c.end_on-running.result.0 (reply_of x) starved c.end_in-count.result
-      c.end_in-count.new.calls c.end_in-count.new.slab) c.end_on-running.ensures.reply c.end_in-count.ensures.ends))
+      c.end_in-count.ensures.ends)
 
   leaves : calls.HasLeft before.calls (finished_message ran.message (moment_of ran.moment) starved) c.end_in-count.new.calls
   leaves = subst (λ (x : Running). calls.HasLeft before.calls (finished_message x.message (moment_of x.moment) starved) c.end_in-count.new.calls)
@@ -252,13 +267,13 @@ module _ (c : goal.After-drop) where
 pub returns-clause-events : goal.returns-clause-events
 returns-clause-events c =
     ended_events (before c) c.requires c.args.worker (ran c) c.in-Worked.outcome c.take_run.ensures.0 (here c) (reply c) (starved c) (is c)
-    (after c) (differs c) (among c).place (among c).left c.end_in-count.result (among c).at (among c).put (among c).keyed (among c).opened
+    (told c) (is_told c) (after c) (differs c) (among c).place (among c).left c.end_in-count.result (among c).at (among c).put (among c).keyed (among c).opened
     c.end_on-running.ensures.kept c.end_on-running.ensures.finished (among c).ends (leaves c) (among c).owes
 
 pub returns-clause-sound : goal.returns-clause-sound
 returns-clause-sound c =
     ended_sound (before c) c.requires c.args.worker (ran c) c.in-Worked.outcome c.take_run.ensures.0 (here c) (reply c) (starved c) (is c)
-    (after c) (differs c) (among c).place (among c).left c.end_in-count.result (among c).at (among c).put (among c).keyed (among c).opened
+    (told c) (is_told c) (after c) (differs c) (among c).place (among c).left c.end_in-count.result (among c).at (among c).put (among c).keyed (among c).opened
     c.end_on-running.ensures.kept c.end_on-running.ensures.finished (among c).ends (leaves c) (among c).owes
 
 pub returns-clause-setup : goal.returns-clause-setup

@@ -64,7 +64,7 @@ returns-in-Heard-clause-feeds c setup w k p =
     (arrivals.Heard c.in-Heard.heard) c.in-Heard.is t.ensures.takes in
     let l = k.layout ∙ sym (ap (λ (x : CallsState). layout_in x) made.ensures.calls.same) in
     heard-took c.args.offer setup made.new.calls n made.new.connection t.new.from w c.args.bytes.now c.args.bytes.now t.result.0 t.result.1 c.admit.new.calls
-    c.admit.new.connection _ (heard_of c.in-Heard.heard) false i t.ensures.takes room l refl tt a.2 (c.admit.ensures.admitted c.args.offer)
+    c.admit.new.connection _ (heard_of c.in-Heard.heard) false i t.ensures.takes room l refl tt a.2 c.admit.ensures.admitted
 
 pub returns-in-Undecoded-clause-feeds : goal.returns-in-Undecoded-clause-feeds
 returns-in-Undecoded-clause-feeds c setup w k p =

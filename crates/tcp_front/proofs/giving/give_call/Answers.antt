@@ -9,7 +9,7 @@ pub answer_now-requires : goal.answer_now-requires
 answer_now-requires g c =
     let layout = layout_of c.args.layout.now in
     let xid = c.args.origin.xid in
-    let fits = c.replies_fit.ensures.at_once (length layout.volumes) layout (call_of c.args.call) xid in
+    let fits = λ form. c.replies_fit.ensures.at_once form (length layout.volumes) layout (call_of c.args.call) xid in
     at-once-fits layout xid c.args.call (answer_without_home layout (call_of c.args.call)) c.volume_count.result
     c.room_of_reply-room.result refl c.volume_count.ensures.count fits c.room_of_reply-room.ensures.room
     c.room_of_reply-room.ensures.most c.volume_count.ensures.most

@@ -6,4 +6,4 @@ use Rattle.tcp_front.proofs.giving.refuse.Goals as goal
 pub answer-requires : goal.answer-requires
 answer-requires g c =
     let reply = refusal_of c.args.refusal in
-    refused-fits c.args.origin.xid reply (c.refusals_fit.ensures.room reply c.args.origin.xid (refusal_is c.args.refusal))
+    refused-fits c.args.origin.xid reply (refusal_is c.args.refusal) (c.refusals_fit.ensures.room reply c.args.origin.xid (refusal_is c.args.refusal))

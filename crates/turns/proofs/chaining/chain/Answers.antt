@@ -1,6 +1,8 @@
 use Rattle.std.proofs.Common.{◌∙◌, refl, subst, arith}
 use Rattle.depot.specs.Words.{view}
 use Rattle.desk.specs.Any.{node_lent}
+use Rattle.turns.specs.Telling.{TookTold}
+use Rattle.turns.specs.lemmas.Telling.{told_none, told_more}
 use Rattle.turns.specs.shared_waiting.Passes.{known}
 use Rattle.turns.specs.declared.linking.Link.{Link}
 use Rattle.turns.specs.Links.{HasLinked, IsNextPlaced}
@@ -21,7 +23,7 @@ loop-link-init g c =
       up = omega arith;
       few = omega arith;
       placed = c.requires.placed;
-      gone = λ s stands. begins g.S.AnswerSink.took g.met.S.AnswerSink.took_none L (verifier_in c.args.filer.now) s c.args.moment c.args.sink.now
+      gone = λ s stands. begins (TookTold c.args.handles g.S.AnswerSink.took) (told_none c.args.handles g.S.AnswerSink.took g.met.S.AnswerSink.took_none) L (verifier_in c.args.filer.now) s c.args.moment c.args.sink.now
           c.args.message (known c.args.pass.now) (node_lent L c.args.grant.now) (view c.args.seat.now) stands;
     }
 
@@ -36,7 +38,7 @@ link_on-requires-clause-stands g c =
 pub loop-link-preserved : goal.loop-link-preserved
 loop-link-preserved g c =
     let L = layout_in c.args.filer.now in
-    let took = g.S.AnswerSink.took in
+    let took = TookTold c.args.handles g.S.AnswerSink.took in
     let ver = verifier_in c.args.filer.now in
     let m = c.loop-link.message in
     let pass = known c.loop-link.pass in
@@ -62,7 +64,7 @@ loop-link-preserved g c =
       placed = subst (λ (x : Link). IsNextPlaced L x) c.in-On.is c.link_on.ensures.placed;
       gone = λ s stands.
           let gone = c.loop-link.invariant.gone s stands in
-          goes-on took g.met.S.AnswerSink.took_more L ver s c.args.moment c.args.sink.now c.loop-link.sink c.link_on.new.sink m pass pass' l l' w w'
+          goes-on took (told_more c.args.handles g.S.AnswerSink.took g.met.S.AnswerSink.took_more) L ver s c.args.moment c.args.sink.now c.loop-link.sink c.link_on.new.sink m pass pass' l l' w w'
           gone c.in-On.next c.link_on.new.told
           (subst (λ (x : Link). HasLinked took L ver gone.between m c.args.moment pass l w c.loop-link.sink x c.link_on.new.told pass' l' w'
           c.link_on.new.sink) c.in-On.is
@@ -79,7 +81,7 @@ returns-in-Over-clause-share g c =
 pub returns-in-Over-clause-few : goal.returns-in-Over-clause-few
 returns-in-Over-clause-few g c =
     let L = layout_in c.args.filer.now in
-    let took = g.S.AnswerSink.took in
+    let took = TookTold c.args.handles g.S.AnswerSink.took in
     let ver = verifier_in c.args.filer.now in
     let m = c.loop-link.message in
     let pass = known c.loop-link.pass in
@@ -104,7 +106,7 @@ returns-in-Over-clause-placed g c = subst (λ (x : Link). IsNextPlaced (layout_i
 pub returns-in-Over-clause-chained : goal.returns-in-Over-clause-chained
 returns-in-Over-clause-chained g c s stands =
     let L = layout_in c.args.filer.now in
-    let took = g.S.AnswerSink.took in
+    let took = TookTold c.args.handles g.S.AnswerSink.took in
     let ver = verifier_in c.args.filer.now in
     let m = c.loop-link.message in
     let pass = known c.loop-link.pass in
@@ -114,7 +116,7 @@ returns-in-Over-clause-chained g c s stands =
     let w = view c.loop-link.seat in
     let w' = view c.link_on.new.seat in
     let gone = c.loop-link.invariant.gone s stands in
-    stops took g.met.S.AnswerSink.took_more L ver s c.args.moment c.args.sink.now c.loop-link.sink c.link_on.new.sink m pass pass' l l' w w'
+    stops took (told_more c.args.handles g.S.AnswerSink.took g.met.S.AnswerSink.took_more) L ver s c.args.moment c.args.sink.now c.loop-link.sink c.link_on.new.sink m pass pass' l l' w w'
     gone c.in-Over.tried c.link_on.new.told
     (subst (λ (x : Link). HasLinked took L ver gone.between m c.args.moment pass l w c.loop-link.sink x c.link_on.new.told pass' l' w'
     c.link_on.new.sink) c.in-Over.is
@@ -136,12 +138,12 @@ returns-clause-few g c =
 pub returns-clause-placed : goal.returns-clause-placed
 returns-clause-placed g c =
     let L = layout_in c.args.filer.now in
-    last-placed g.S.AnswerSink.took g.met.S.AnswerSink.took_more L (verifier_in c.args.filer.now) c.requires.stands.0 c.args.moment c.loop-link.message
+    last-placed (TookTold c.args.handles g.S.AnswerSink.took) (told_more c.args.handles g.S.AnswerSink.took g.met.S.AnswerSink.took_more) L (verifier_in c.args.filer.now) c.requires.stands.0 c.args.moment c.loop-link.message
     (node_lent L c.loop-link.grant) (node_lent L c.try_on.new.grant) c.try_on.result c.try_on.new.told c.try_on.ensures.ran
 
 pub returns-clause-chained : goal.returns-clause-chained
 returns-clause-chained g c s stands =
     let L = layout_in c.args.filer.now in
-    lasts g.S.AnswerSink.took g.met.S.AnswerSink.took_more L (verifier_in c.args.filer.now) s c.args.moment c.args.sink.now c.loop-link.sink
+    lasts (TookTold c.args.handles g.S.AnswerSink.took) (told_more c.args.handles g.S.AnswerSink.took g.met.S.AnswerSink.took_more) L (verifier_in c.args.filer.now) s c.args.moment c.args.sink.now c.loop-link.sink
     c.loop-link.message c.loop-link.invariant.placed (known c.loop-link.pass) (node_lent L c.loop-link.grant) (node_lent L c.try_on.new.grant)
     (view c.loop-link.seat) (c.loop-link.invariant.gone s stands) c.try_on.result c.try_on.new.told c.try_on.ensures.ran

@@ -6,6 +6,7 @@ use Rattle.turns.specs.shared_waiting.Passes.{known, IsOf}
 use Rattle.turns.specs.Chains.{turns_at_most}
 use Rattle.turns.specs.Links.{HasGoneSo, Stands}
 use Rattle.turns.specs.Messages.{IsPlaced}
+use Rattle.turns.specs.Telling.{TookTold}
 use Rattle.turns.specs.Turns.{HasShareOf, Standing}
 use Rattle.turns.specs.Words.{layout_in, verifier_in}
 use Rattle.turns.proofs.chaining.chain.Given as goal
@@ -22,6 +23,6 @@ invariant-loop-link g l = record {
   placed : IsPlaced (layout_in l.filer) l.message;
   gone : (s : Standing)
       → Stands (layout_in l.filer) (verifier_in l.filer) s l.fn.message (known l.fn.pass) (node_lent (layout_in l.filer) l.fn.grant) (view l.fn.seat)
-      → HasGoneSo g.S.AnswerSink.took (layout_in l.filer) (verifier_in l.filer) s l.moment l.fn.sink l.message (known l.pass)
+      → HasGoneSo (TookTold l.handles g.S.AnswerSink.took) (layout_in l.filer) (verifier_in l.filer) s l.moment l.fn.sink l.message (known l.pass)
       (node_lent (layout_in l.filer) l.grant) (view l.seat) l.sink;
 }

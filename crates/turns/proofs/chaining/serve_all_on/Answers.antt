@@ -2,6 +2,8 @@ use Rattle.std.proofs.Common.{List, length, Some, refl, sym, ap, subst, arith}
 use Rattle.affinity.specs.Affinity.{affinity_of}
 use Rattle.depot.specs.Words.{view}
 use Rattle.desk.specs.Any.{node_lent}
+use Rattle.turns.specs.Telling.{TookTold}
+use Rattle.turns.specs.lemmas.Telling.{told_none, told_more}
 use Rattle.turns.specs.declared.chained.Chained.{Chained}
 use Rattle.turns.specs.shared_waiting.Passes.{known}
 use Rattle.turns.specs.Chains.{left_standing, HasServedOn}
@@ -22,13 +24,13 @@ returns-in-Err-clause-ready g c =
 pub returns-in-Err-clause-served : goal.returns-in-Err-clause-served
 returns-in-Err-clause-served g c s picked =
     let L = layout_in c.args.filer.now in
-    let took = g.S.AnswerSink.took in
+    let took = TookTold c.args.handles g.S.AnswerSink.took in
     let w = view c.begin_on.new.seat in
     let pass = known c.args.pass.now in
     subst (λ (x : Chained). HasServedOn took L s c.args.moment c.args.sink.now x c.args.sink.now (left_standing w pass (Some c.args.message)))
     (sym c.refused.ensures)
     (refused-served L (verifier_in c.args.filer.now) s c.args.message (view c.args.seat.now) pass picked c.requires.ready took
-    g.met.S.AnswerSink.took_none c.args.moment c.args.sink.now w c.in-Err.refusal c.in-Err.ensures.refused)
+    (told_none c.args.handles g.S.AnswerSink.took g.met.S.AnswerSink.took_none) c.args.moment c.args.sink.now w c.in-Err.refusal c.in-Err.ensures.refused)
 
 pub returns-in-Err-clause-few : goal.returns-in-Err-clause-few
 returns-in-Err-clause-few g c =
@@ -59,7 +61,7 @@ end_on-kept-requires-clause-can g c =
     let s = left_standing v pass (Some c.args.message) in
     let stands = stands-first L ver s c.args.message v pass (picked-kept v pass (Some c.args.message) c.args.message refl)
     c.requires.ready (node_lent L c.in-Ok.grant) (view c.begin_on.new.seat) c.requires.seat.1.0 c.in-Ok.ensures.granted in
-    can-end g.S.AnswerSink.took g.met.S.AnswerSink.took_more L ver s c.args.moment c.args.filer.now.depot.layout.lawful c.args.sink.now
+    can-end (TookTold c.args.handles g.S.AnswerSink.took) (told_more c.args.handles g.S.AnswerSink.took g.met.S.AnswerSink.took_more) L ver s c.args.moment c.args.filer.now.depot.layout.lawful c.args.sink.now
     c.chain-tried.new.sink c.chain-tried.new.sink c.chain-tried.new.told (known c.chain-tried.new.pass) (node_lent L c.chain-tried.new.grant)
     (view c.chain-tried.new.seat) c.chain-tried.result c.has_eight.ensures c.servers_are_roomy.ensures.begins c.servers_are_roomy.ensures.stays c.replies_fit.ensures.offered
     (c.chain-tried.ensures.chained s stands)
@@ -73,7 +75,7 @@ returns-clause-ready g c =
     let s = left_standing v pass (Some c.args.message) in
     let stands = stands-first L ver s c.args.message v pass (picked-kept v pass (Some c.args.message) c.args.message refl)
     c.requires.ready (node_lent L c.in-Ok.grant) (view c.begin_on.new.seat) c.requires.seat.1.0 c.in-Ok.ensures.granted in
-    end-ready g.S.AnswerSink.took g.met.S.AnswerSink.took_more L ver s c.args.moment c.args.filer.now.depot.layout.lawful c.args.sink.now
+    end-ready (TookTold c.args.handles g.S.AnswerSink.took) (told_more c.args.handles g.S.AnswerSink.took g.met.S.AnswerSink.took_more) L ver s c.args.moment c.args.filer.now.depot.layout.lawful c.args.sink.now
     c.chain-tried.new.sink c.end_on-kept.new.sink c.chain-tried.new.told (known c.chain-tried.new.pass) (node_lent L c.chain-tried.new.grant)
     (view c.chain-tried.new.seat) (view c.end_on-kept.new.seat) c.end_on-kept.result c.chain-tried.result (c.chain-tried.ensures.chained s stands) c.end_on-kept.ensures.ended
 
@@ -83,7 +85,7 @@ returns-clause-few g c =
     let begun = granted-size L (view c.args.seat.now) (view c.begin_on.new.seat) (affinity_of c.args.message.affinity) (node_lent L c.in-Ok.grant)
     c.in-Ok.ensures.granted in
     let few = c.chain-tried.ensures.few in
-    let ended = ended-size g.S.AnswerSink.took L (view c.chain-tried.new.seat) (view c.end_on-kept.new.seat) (node_lent L c.chain-tried.new.grant)
+    let ended = ended-size (TookTold c.args.handles g.S.AnswerSink.took) L (view c.chain-tried.new.seat) (view c.end_on-kept.new.seat) (node_lent L c.chain-tried.new.grant)
     c.end_on-kept.result c.chain-tried.new.sink c.end_on-kept.new.sink c.chain-tried.result c.chain-tried.new.told c.end_on-kept.ensures.ended in
     omega (arith, begun, few, ended)
 
@@ -96,7 +98,7 @@ returns-clause-placed g c =
     let s = left_standing v pass (Some c.args.message) in
     let stands = stands-first L ver s c.args.message v pass (picked-kept v pass (Some c.args.message) c.args.message refl)
     c.requires.ready (node_lent L c.in-Ok.grant) (view c.begin_on.new.seat) c.requires.seat.1.0 c.in-Ok.ensures.granted in
-    end-placed g.S.AnswerSink.took g.met.S.AnswerSink.took_more L ver s c.args.moment c.args.filer.now.depot.layout.lawful c.args.sink.now
+    end-placed (TookTold c.args.handles g.S.AnswerSink.took) (told_more c.args.handles g.S.AnswerSink.took g.met.S.AnswerSink.took_more) L ver s c.args.moment c.args.filer.now.depot.layout.lawful c.args.sink.now
     c.chain-tried.new.sink c.end_on-kept.new.sink c.chain-tried.new.told (known c.chain-tried.new.pass) (node_lent L c.chain-tried.new.grant)
     (view c.chain-tried.new.seat) (view c.end_on-kept.new.seat) c.end_on-kept.result c.chain-tried.result (c.chain-tried.ensures.chained s stands) c.end_on-kept.ensures.ended
     c.chain-tried.ensures.placed
@@ -104,12 +106,12 @@ returns-clause-placed g c =
 pub returns-clause-served : goal.returns-clause-served
 returns-clause-served g c s picked =
     let L = layout_in c.args.filer.now in
-    let took = g.S.AnswerSink.took in
+    let took = TookTold c.args.handles g.S.AnswerSink.took in
     let ver = verifier_in c.args.filer.now in
     let stands = stands-first L ver s c.args.message (view c.args.seat.now) (known c.args.pass.now) picked c.requires.ready
     (node_lent L c.in-Ok.grant) (view c.begin_on.new.seat) c.requires.seat.1.0 c.in-Ok.ensures.granted in
     subst (λ (x : Chained). HasServedOn took L s c.args.moment c.args.sink.now x c.end_on-kept.new.sink
     (left_standing (view c.end_on-kept.new.seat) (known c.chain-tried.new.pass) c.end_on-kept.result)) (sym c.ended_by-chained.ensures)
-    (end-served took g.met.S.AnswerSink.took_more L ver s c.args.moment c.args.filer.now.depot.layout.lawful c.args.sink.now
+    (end-served took (told_more c.args.handles g.S.AnswerSink.took g.met.S.AnswerSink.took_more) L ver s c.args.moment c.args.filer.now.depot.layout.lawful c.args.sink.now
     c.chain-tried.new.sink c.end_on-kept.new.sink c.chain-tried.new.told (known c.chain-tried.new.pass) (node_lent L c.chain-tried.new.grant)
     (view c.chain-tried.new.seat) (view c.end_on-kept.new.seat) c.end_on-kept.result c.chain-tried.result (c.chain-tried.ensures.chained s stands) c.end_on-kept.ensures.ended)

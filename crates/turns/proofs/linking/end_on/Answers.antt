@@ -5,6 +5,7 @@ use Rattle.depot.specs.Words.{view}
 use Rattle.desk.specs.Any.{node_lent}
 use Rattle.outboxes.specs.Boxes.{Addressed}
 use Rattle.service.specs.declared.job.Job.{Job}
+use Rattle.turns.specs.Telling.{TookTold}
 use Rattle.turns.specs.declared.linking.Tried.{Tried}
 use Rattle.turns.specs.Links.{HasEnded}
 use Rattle.turns.specs.Turns.{filer_behaviour}
@@ -13,7 +14,7 @@ use Rattle.turns.proofs.linking.end_on.Goals as goal
 
 pub returns-in-Entered-clause-ended : goal.returns-in-Entered-clause-ended
 returns-in-Entered-clause-ended g c =
-    let took = g.S.AnswerSink.took in
+    let took = TookTold c.args.handles g.S.AnswerSink.took in
     let L = layout_in c.args.filer.now in
     let l = node_lent L c.args.grant in
     let w = view c.args.seat.now in
@@ -22,5 +23,5 @@ returns-in-Entered-clause-ended g c =
       subst (λ (j : Job). IsFinished filer_behaviour w (number_of L l.affinity) (entry_of L l.affinity l.parcels j c.args.told.now) u) c.deref.ensures
           c.finish_node.ensures.finished,
       refl,
-      λ reply is. subst (λ (a : Addressed). took c.args.sink.now (a ∷ []) c.take_answer.new.self) (c.answered.ensures reply is) c.take_answer.ensures,
+      λ reply is. subst (λ (a : Addressed). g.S.AnswerSink.took c.args.sink.now (a ∷ []) c.take_answer.new.self) (c.answered.ensures reply is) c.take_answer.ensures,
     )

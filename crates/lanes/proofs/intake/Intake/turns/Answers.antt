@@ -4,6 +4,7 @@ use Rattle.depot_rule.specs.History.{entries_of}
 use Rattle.depot_rule.specs.Sums.{total}
 use Rattle.turns.specs.Balance.{Passed, Weight, by_entry, by_key}
 use Rattle.turns.specs.Chains.{turns_at_most, HasDoneFew, HasPutAll, HasTurnedOn}
+use Rattle.turns.specs.Telling.{TookTold}
 use Rattle.turns.specs.Turns.{HasShareOf, Standing, standing_of}
 use Rattle.turns.specs.Words.{layout_in, layout_known, passed, seat_view}
 use Rattle.turns.specs.shared_waiting.Balance.{both, Leaves}
@@ -46,7 +47,7 @@ invariant_of-self g c =
 pub returns-clause-turned : goal.returns-clause-turned
 returns-clause-turned g c =
     let s = c.args.self.now in
-    subst (λ (x : Standing). HasTurnedOn HasPutAll (layout_in c.args.filer.now) (standing_of s.worker) c.args.moment s.outboxes
+    subst (λ (x : Standing). HasTurnedOn (TookTold c.args.handles HasPutAll) (layout_in c.args.filer.now) (standing_of s.worker) c.args.moment s.outboxes
     c.turns_beside-chained.result c.turns_beside-chained.new.sink x) (sym c.count_beside-queued.ensures.stands)
     c.turns_beside-chained.ensures.turned
 

@@ -2,6 +2,8 @@ use Rattle.std.proofs.Common.{◌≡◌, refl, sym, ap, subst, ◌∙◌, rules}
 use Rattle.std.specs.Arc.{arc_value}
 use Rattle.affinity.specs.declared.layout.Layout.{Layout}
 use Rattle.turns.specs.Chains.{HasPutAll, HasTurnedOn}
+use Rattle.nfs_values.specs.Offer.{form_of}
+use Rattle.turns.specs.Telling.{TookTold}
 use Rattle.turns.specs.Turns.{standing_of}
 use Rattle.turns.specs.Words.{entries_in, layout_in, IsAt}
 use Rattle.turns.specs.shared_waiting.Passes.{known}
@@ -32,8 +34,9 @@ invariant_of-self g c =
           c.turns.ensures.pass
           (turns-told _ _ (layout_in (arc_value l.filer)) l.offer l.index l.count (known l.intake.pass).put _ c.args.moment
           (standing_of l.intake.worker) l.intake.outboxes i.outboxes c.turns.result (standing_of i.worker)
-          (subst (λ (f : Filer). HasTurnedOn HasPutAll (layout_in f) (standing_of l.intake.worker) c.args.moment l.intake.outboxes
-          c.turns.result i.outboxes (standing_of i.worker)) same c.turns.ensures.turned) c.turns.ensures.once l.story);
+          (subst (λ (f : Filer). HasTurnedOn (TookTold (form_of l.offer) HasPutAll) (layout_in f) (standing_of l.intake.worker) c.args.moment l.intake.outboxes
+          c.turns.result i.outboxes (standing_of i.worker)) same (subst (λ form. HasTurnedOn (TookTold form HasPutAll) (layout_in c.deref.result.now) (standing_of l.intake.worker) c.args.moment
+          l.intake.outboxes c.turns.result i.outboxes (standing_of i.worker)) c.handles-handles.ensures c.turns.ensures.turned)) c.turns.ensures.once l.story);
     }
 
 pub returns-clause-turned : goal.returns-clause-turned
@@ -41,8 +44,9 @@ returns-clause-turned g c =
     let l = c.args.self.now in
     let i = c.turns.new.self in
     let same : c.deref.result.now ≡ arc_value l.filer = search rules in
-    subst (λ (f : Filer). HasTurnedOn HasPutAll (layout_in f) (standing_of l.intake.worker) c.args.moment l.intake.outboxes
-    c.turns.result i.outboxes (standing_of i.worker)) same c.turns.ensures.turned
+    subst (λ (f : Filer). HasTurnedOn (TookTold (form_of l.offer) HasPutAll) (layout_in f) (standing_of l.intake.worker) c.args.moment l.intake.outboxes
+    c.turns.result i.outboxes (standing_of i.worker)) same (subst (λ form. HasTurnedOn (TookTold form HasPutAll) (layout_in c.deref.result.now) (standing_of l.intake.worker) c.args.moment
+          l.intake.outboxes c.turns.result i.outboxes (standing_of i.worker)) c.handles-handles.ensures c.turns.ensures.turned)
 
 pub returns-clause-identity : goal.returns-clause-identity
 returns-clause-identity g c =

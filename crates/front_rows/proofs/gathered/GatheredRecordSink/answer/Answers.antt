@@ -1,0 +1,5 @@
+use Rattle.nfs_values.specs.declared.handle_form.HandleForm.TheVariants.{Plain}
+use Rattle.front_rows.proofs.gathered.GatheredRecordSink.answer.Goals as goal
+
+pub put_at_once-requires : goal.put_at_once-requires
+put_at_once-requires c = c.requires Plain
