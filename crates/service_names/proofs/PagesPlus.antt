@@ -2,25 +2,27 @@
 use Rattle.std.proofs.Common.{◌≡◌, ℕ, ◌-◌, ◌+◌, ◌<◌, ◌≤◌, Bool, true, false, Option, Some, None, Result, Ok, Err, List, length, map, refl, sym, ap, ◌∙◌, subst, arith}
 use Rattle.std.proofs.lemmas.Bool.Decides.{nat_tests}
 use Rattle.std.proofs.lemmas.List.{length-map}
-use Rattle.std.specs.Prelude.{min, ◌&&◌, ◌==◌, nat_le, if◌then◌else◌}
-use Rattle.std.specs.Option.{option_map}
-use Rattle.std.specs.Result.{result_ok}
-use Rattle.nfs_model.specs.Types as model
+use Rattle.std.specs.Prelude.{OnErr, min, ◌&&◌, ◌==◌, nat_le, if◌then◌else◌}
 use Rattle.nfs_model.specs.Types.{Listed, ListedPlus}
 use Rattle.nfs_model.specs.Serial.Readdir.{fitting}
 use Rattle.nfs_model.specs.Serial.Readdirplus.{fitting_plus}
 use Rattle.nfs_model.specs.volume.Directories.{Page, page_of}
-use Rattle.nfs_values.specs.Attributes.{shown_of}
-use Rattle.nfs_values.specs.declared.attributes.Attributes.{Attributes}
-use Rattle.nfs_values.specs.declared.status.Status.{Status}
 use Rattle.service_names.specs.Listing.{PageWithNodes, page_plus_of}
-use Rattle.service_names.specs.Shown.{IsObject}
 use Rattle.service_names.proofs.Fitted.{cut-fits, some-plus, fitting-few, plus-few, same-end}
 
--- the attributes of an object, if there is one
-pub object-ok : (object : Option model.Shown) (r : Result Attributes Status) → IsObject object r → option_map shown_of (result_ok r) ≡ object
-object-ok object (Ok told) is = sym is
-object-ok object (Err status) is = sym is.0
+pub on-error : {X E : Type 0} {P : Type 0} (r : Result X E) → P → OnErr r P
+on-error (Ok x) p = tt
+on-error (Err e) p = p
+
+-- it is the end where it was, and as many are told
+pub end-told : (last was : Bool) (n a b : ℕ) → was ≡ true → last ≡ (n == b) → n ≡ a → last ≡ (was && (a == b))
+end-told last was n a b is same long = same ∙ ap (λ (m : ℕ). m == b) long ∙ ap (λ (w : Bool). w && (a == b)) (sym is)
+
+pub end-cut : (last was : Bool) (a b : ℕ) → was ≡ false → last ≡ was → last ≡ (was && (a == b))
+end-cut last was a b is same = same ∙ is ∙ ap (λ (w : Bool). w && (a == b)) (sym is)
+
+pub as-many : {X Y : Type 0} (f : X → Y) (xs : List X) (n : ℕ) → n ≡ length xs → n ≡ length (map f xs)
+as-many f xs n same = let m = length-map xs f in omega (arith, m, same)
 
 min-left : (a b : ℕ) → min a b ≤ a
 min-left a b = grind (arith, nat_tests)

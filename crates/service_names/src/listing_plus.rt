@@ -23,7 +23,6 @@ use crate::folder::folder_at;
 use crate::listing::{PAGE_SIZE, is_bad_cookie, page_at};
 use crate::showing::shown;
 use crate::telling::object_at;
-use directories::Page;
 use filer_state::Files;
 use nfs_values::{
     COUNT_LIMIT, Cookie, DirectoryEntry, DirectoryEntryPlus, FileHandle, Fileid, Named,
@@ -123,10 +122,10 @@ fn page_plus_at(
     let names = asked.names_count.min(COUNT_LIMIT) as usize;
     // an entry that fits whole leaves room for its node
     let names = names.min(room.saturating_sub(NODE_SIZE));
-    let Page { entries, is_last } = page_at(alloc, held, directory, parent, asked.cookie, names)?;
-    let fitting = entries.len();
-    let entries = with_nodes(alloc, held, volume, entries, room)?;
-    let is_last = is_last && entries.len() == fitting;
+    let page = page_at(alloc, held, directory, parent, asked.cookie, names)?;
+    let fitting = page.entries.len();
+    let entries = with_nodes(alloc, held, volume, page.entries, room)?;
+    let is_last = page.is_last && entries.len() == fitting;
     Ok(PagePlus { entries, is_last })
 }
 
