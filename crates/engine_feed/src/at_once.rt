@@ -35,6 +35,7 @@ pub fn answer_at_once(alloc: Global, call: &Call, layout: &Layout) -> Answer
             Answer::Rename(Err(fault))
         }
         Call::ReadDirectory { .. } => Answer::ReadDirectory(Err(Status::BadHandle)),
+        Call::ReadDirectoryPlus { .. } => Answer::ReadDirectoryPlus(Err(Status::BadHandle)),
         Call::FilesystemStatus { .. } => Answer::FilesystemStatus(Err(Status::BadHandle)),
         Call::FilesystemInfo { .. } => Answer::FilesystemInfo(Err(Status::BadHandle)),
         Call::PathConfiguration { .. } => Answer::PathConfiguration(Err(Status::BadHandle)),

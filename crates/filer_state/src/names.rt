@@ -1,4 +1,4 @@
-//! What LOOKUP, READDIR and COMMIT come to by the parcels under Volume Logical.
+//! What LOOKUP, READDIR, READDIRPLUS and COMMIT come to by the parcels under Volume Logical.
 
 mod laws;
 

@@ -4,6 +4,7 @@ mod Telling
 mod Making
 mod Leaving
 mod Pages
+mod PagesPlus
 mod Renaming
 mod Bytes
 mod Administration

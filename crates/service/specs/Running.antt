@@ -18,6 +18,7 @@ use Rattle.nfs_model.specs.Serial.Lookup.{lookup}
 use Rattle.nfs_model.specs.Serial.Mkdir.{mkdir}
 use Rattle.nfs_model.specs.Serial.Read.{read}
 use Rattle.nfs_model.specs.Serial.Readdir.{readdir}
+use Rattle.nfs_model.specs.Serial.Readdirplus.{readdirplus}
 use Rattle.nfs_model.specs.Serial.Remove.{remove_name}
 use Rattle.nfs_model.specs.Serial.Rename.{rename}
 use Rattle.nfs_model.specs.Serial.Rmdir.{rmdir}
@@ -29,7 +30,7 @@ use Rattle.affinity.specs.Tree.{IsNode}
 use Rattle.nfs_values.specs.Call.{call_of}
 use Rattle.nfs_values.specs.Reply.{reply_of}
 use Rattle.nfs_values.specs.declared.call.Call.{Call}
-use Rattle.nfs_values.specs.declared.call.Call.TheVariants.{GetAttributes, Lookup, CheckAccess, Read, ReadDirectory, FilesystemInfo}
+use Rattle.nfs_values.specs.declared.call.Call.TheVariants.{GetAttributes, Lookup, CheckAccess, Read, ReadDirectory, ReadDirectoryPlus, FilesystemInfo}
 use Rattle.nfs_values.specs.declared.call.Call.TheVariants.{PathConfiguration, Commit}
 use Rattle.nfs_model.specs.volume.Stripes.{StripeValue}
 use Rattle.filer_state.specs.state.Calls.{VolumeCall, LieIn, handle_in}
@@ -83,14 +84,19 @@ is_of_object (FilesystemInfo handle) = true
 is_of_object (PathConfiguration handle) = true
 is_of_object call = false
 
+-- those that ask for a page of a directory, and those of any object
+abbrev pub is_of_page_or_object : Call → Bool
+is_of_page_or_object (ReadDirectory directory cookie verifier count) = true
+is_of_page_or_object (ReadDirectoryPlus directory cookie verifier names_count count) = true
+is_of_page_or_object call = is_of_object call
+
 -- those under Logical that change nothing
 abbrev pub is_told : Call → Bool
 is_told (GetAttributes handle) = true
 is_told (Lookup target) = true
 is_told (Read handle offset count) = true
-is_told (ReadDirectory directory cookie verifier count) = true
 is_told (Commit handle) = true
-is_told call = is_of_object call
+is_told call = is_of_page_or_object call
 
 -- the fileid that a handle names
 abbrev pub fileid_in : Option Named → ℕ
@@ -118,6 +124,8 @@ procedure (types.Remove directory name) other credential moment = on_name name m
 procedure (types.Rmdir directory name) other credential moment = on_name name moment rmdir
 procedure (types.Rename from from_name to to_name) other credential moment = λ volume fileid. rename from_name to_name moment volume fileid other
 procedure (types.Readdir directory cookie verifier count) other credential moment = readdir cookie verifier count
+procedure (types.Readdirplus directory cookie verifier names_count count) other credential moment =
+    readdirplus cookie verifier names_count count
 procedure (types.Fsstat handle) other credential moment = fsstat
 procedure (types.Fsinfo handle) other credential moment = fsinfo
 procedure (types.Pathconf handle) other credential moment = pathconf

@@ -16,12 +16,17 @@ ghost use Rattle.filer_state.specs.state.Lenses.{logical_lens};
 ghost use Rattle.filer_state.specs.state.Promises.{HasVolume};
 ghost use Rattle.filer_state.specs.state.Running.{RunsOn, UnlessReplied};
 ghost use Rattle.filer_state.specs.state.Sets.{logical_before, logical_after};
-ghost use Rattle.service.specs.renames.NamePromises.{listing_outcome, making_outcome};
+ghost use Rattle.service.specs.renames.NamePromises.{
+  listing_outcome,
+  listing_plus_outcome,
+  making_outcome,
+};
 ghost use Rattle.service.specs.renames.Promises.{renaming_outcome};
 ghost use Rattle.service.specs.Running.{
   call_named,
   call_on,
   is_of_object,
+  is_of_page_or_object,
   is_told,
   outcome_of,
   IsRunAt,
@@ -33,16 +38,17 @@ use crate::attributes::get_attributes;
 use crate::named::fileid_here;
 use crate::outcome::{Outcome, outcome_read, outcome_written};
 use crate::renames::{
-    EntryName, PageAsked, check_access, commit, create, filesystem_info, lookup, make_directory,
-    path_configuration, read_directory, remove, remove_directory, rename, set_attributes,
+    EntryName, PageAsked, PagePlusAsked, check_access, commit, create, filesystem_info, lookup,
+    make_directory, path_configuration, read_directory, read_directory_plus, remove,
+    remove_directory, rename, set_attributes,
 };
 use crate::task::Run;
 use affinity::homes::named_by;
 use affinity::{Affinity, Layout};
 use filer_state::Files;
 use nfs_values::{
-    Answer, Call, FileHandle, MakeResults, Named, ReadDirectoryResults, RenameResults, Reply,
-    Status, Target, VolumeNumber,
+    Answer, Call, FileHandle, MakeResults, Named, ReadDirectoryPlusResults, ReadDirectoryResults,
+    RenameResults, Reply, Status, Target, VolumeNumber,
 };
 use parcels::LogicalHeld;
 use service_data::{read_in_logical, write_in_logical};
@@ -98,6 +104,27 @@ fn tell(run: Run, held: &LogicalHeld<Files>, named: Named) -> Option<Outcome>
             let told = read_in_logical(run.alloc, held, fileid, *offset, *count);
             Some(outcome_read(told))
         }
+        Call::Commit { .. } => {
+            let told = commit(held, volume, fileid);
+            Some(Outcome::Replied(Reply::Success(Answer::Commit(told))))
+        }
+        _ => tell_page(run, held, named),
+    }
+}
+
+/// Runs a call on the parcels of the volume of what its handle names, where it asks for a page of a
+/// directory or tells of any object.
+fn tell_page(run: Run, held: &LogicalHeld<Files>, named: Named) -> Option<Outcome>
+    requires whole { HasVolume named.volume.0 logical_lens [] (logical_before held.now) }
+    ensures told { is_some result ≡ is_of_page_or_object run.entry.call.now }
+    ensures runs { IfSome result (λ outcome. (layout : trees.Layout)
+        → RunsOn named.volume.0 logical_lens
+        (call_named layout (named_of named) (credential_of run.entry.credential)
+        (moment_of run.entry.moment) (call_of run.entry.call.now))
+        (logical_before held.now) (outcome_of outcome) (logical_before held.now)) }
+{
+    let Named { volume, fileid } = named;
+    match run.call {
         Call::ReadDirectory {
             directory: _,
             cookie,
@@ -112,9 +139,21 @@ fn tell(run: Run, held: &LogicalHeld<Files>, named: Named) -> Option<Outcome>
             let told = read_directory(run.alloc, held, volume, fileid, asked);
             Some(outcome_listed(told))
         }
-        Call::Commit { .. } => {
-            let told = commit(held, volume, fileid);
-            Some(Outcome::Replied(Reply::Success(Answer::Commit(told))))
+        Call::ReadDirectoryPlus {
+            directory: _,
+            cookie,
+            verifier,
+            names_count,
+            count,
+        } => {
+            let asked = PagePlusAsked {
+                cookie: *cookie,
+                verifier: *verifier,
+                names_count: *names_count,
+                count: *count,
+            };
+            let told = read_directory_plus(run.alloc, held, volume, fileid, asked);
+            Some(outcome_listed_plus(told))
         }
         _ => tell_object(run, held, named),
     }
@@ -243,6 +282,18 @@ fn outcome_listed(listed: Result<Result<ReadDirectoryResults, Status>, AllocErro
 {
     match listed {
         Ok(told) => Outcome::Replied(Reply::Success(Answer::ReadDirectory(told))),
+        Err(AllocError) => Outcome::Starved,
+    }
+}
+
+/// What a READDIRPLUS comes to.
+fn outcome_listed_plus(
+    listed: Result<Result<ReadDirectoryPlusResults, Status>, AllocError>,
+) -> Outcome
+    ensures { outcome_of result ≡ listing_plus_outcome listed }
+{
+    match listed {
+        Ok(told) => Outcome::Replied(Reply::Success(Answer::ReadDirectoryPlus(told))),
         Err(AllocError) => Outcome::Starved,
     }
 }

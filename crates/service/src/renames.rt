@@ -13,6 +13,7 @@ mod telling;
 pub use entry_name::EntryName;
 pub use renaming::rename;
 pub use service_names::{
-    PageAsked, check_access, commit, create, filesystem_info, lookup, make_directory,
-    path_configuration, read_directory, remove, remove_directory, set_attributes, shown_now,
+    PageAsked, PagePlusAsked, check_access, commit, create, filesystem_info, lookup,
+    make_directory, path_configuration, read_directory, read_directory_plus, remove,
+    remove_directory, set_attributes, shown_now,
 };

@@ -11,6 +11,10 @@ mod Laws
 mod Named
 mod Commits
 mod Lists
+mod Fitted
+mod Told
+mod PagesPlus
+mod ListsPlus
 mod Putting
 mod Tying
 mod Unmade

@@ -6,11 +6,12 @@ use Rattle.nfs_model.specs.Tree.{Logical}
 use Rattle.nfs_values.specs.Answer.{answer_of}
 use Rattle.nfs_values.specs.declared.answer.Answer.{Answer}
 use Rattle.nfs_values.specs.declared.answer.Answer.TheVariants as answers
-use Rattle.nfs_values.specs.declared.answer.Answer.TheVariants.{Lookup, CheckAccess, ReadDirectory, FilesystemInfo, PathConfiguration, Commit}
+use Rattle.nfs_values.specs.declared.answer.Answer.TheVariants.{Lookup, CheckAccess, ReadDirectory, ReadDirectoryPlus, FilesystemInfo, PathConfiguration, Commit}
 use Rattle.nfs_values.specs.declared.answer.MakeResults.{MakeResults}
 use Rattle.nfs_values.specs.declared.attributes.Change.{Change}
 use Rattle.nfs_values.specs.declared.answer.LookupResults.{LookupResults}
 use Rattle.nfs_values.specs.declared.answer.ReadDirectoryResults.{ReadDirectoryResults}
+use Rattle.nfs_values.specs.declared.answer.ReadDirectoryPlusResults.{ReadDirectoryPlusResults}
 use Rattle.nfs_values.specs.declared.answer.AccessResults.{AccessResults}
 use Rattle.nfs_values.specs.declared.answer.FilesystemInfoResults.{FilesystemInfoResults}
 use Rattle.nfs_values.specs.declared.answer.PathConfigurationResults.{PathConfigurationResults}
@@ -19,6 +20,7 @@ use Rattle.nfs_model.specs.Work as works
 use Rattle.nfs_model.specs.Work.{Outcome, Starved}
 use Rattle.filer_state.specs.state.Running.{RunsOn}
 use Rattle.service_names.specs.declared.listing.PageAsked.{PageAsked}
+use Rattle.service_names.specs.declared.listing_plus.PagePlusAsked.{PagePlusAsked}
 use Rattle.std.specs.declared.alloc.AllocError.{AllocError}
 use Rattle.nfs_values.specs.declared.status.Status.{Status}
 use Rattle.filer_state.specs.state.Lenses.{LogicalSet, logical_lens}
@@ -26,7 +28,7 @@ use Rattle.filer_state.specs.state.Promises.{RightOnVolume}
 use Rattle.filer_state.specs.state.Jobs.{Replied}
 use Rattle.filer_state.specs.state.Calls.{ServesOn}
 use Rattle.filer_state.specs.changes.AttributeLaws.{setattr_call}
-use Rattle.filer_state.specs.changes.NameLaws.{lookup_call, readdir_call, access_call, fsinfo_call, pathconf_call, commit_call}
+use Rattle.filer_state.specs.changes.NameLaws.{lookup_call, readdir_call, readdirplus_call, access_call, fsinfo_call, pathconf_call, commit_call}
 use Rattle.filer_state.specs.changes.Laws.{create_call, mkdir_call, remove_call, rmdir_call}
 
 -- An entry of LOOKUP of a name in the directory of a fileid under Logical, with this result, is right: by whatever handle and at
@@ -69,6 +71,17 @@ listing_outcome (Err e) = Starved
 abbrev pub Lists : ℕ → ℕ → PageAsked → LogicalSet → Result (Result ReadDirectoryResults Status) AllocError → Type 0
 Lists v fileid asked set result = (handle : List ℕ)
     → RunsOn v logical_lens (readdir_call handle (Logical v) fileid asked.cookie.0 asked.verifier.0 asked.count) set (listing_outcome result) set
+
+-- what a READDIRPLUS comes to: a reply, or memory ran out
+abbrev pub listing_plus_outcome : Result (Result ReadDirectoryPlusResults Status) AllocError → Outcome
+listing_plus_outcome (Ok told) = works.Replied (Success (answer_of (ReadDirectoryPlus told)))
+listing_plus_outcome (Err e) = Starved
+
+-- A run of READDIRPLUS of a page of the directory of a fileid, likewise (RFC 1813 section 3.3.17).
+abbrev pub ListsPlus : ℕ → ℕ → PagePlusAsked → LogicalSet → Result (Result ReadDirectoryPlusResults Status) AllocError → Type 0
+ListsPlus v fileid asked set result = (handle : List ℕ)
+    → RunsOn v logical_lens
+    (readdirplus_call handle (Logical v) fileid asked.cookie.0 asked.verifier.0 asked.names_count asked.count) set (listing_plus_outcome result) set
 
 -- ---- calls that change the volume
 

@@ -1,6 +1,6 @@
 //! Calls on the names of a volume, on the parcels that they hold: SETATTR, LOOKUP, ACCESS, CREATE,
-//! MKDIR, REMOVE, RMDIR, READDIR, FSINFO, PATHCONF and COMMIT; and the steps of which other calls
-//! are made.
+//! MKDIR, REMOVE, RMDIR, READDIR, READDIRPLUS, FSINFO, PATHCONF and COMMIT; and the steps of which
+//! other calls are made.
 #![tactic(auto)]
 
 mod access;
@@ -14,6 +14,7 @@ mod dropping;
 mod existing;
 mod folder;
 mod listing;
+mod listing_plus;
 mod looking;
 mod making;
 mod making_new;
@@ -36,6 +37,7 @@ pub use creating::{create, make_directory};
 pub use dropping::{directory_left, drop_directory, drop_inode};
 pub use filer_state::changes::renaming_calls_are_right;
 pub use listing::{PageAsked, read_directory};
+pub use listing_plus::{PagePlusAsked, read_directory_plus};
 pub use looking::lookup;
 pub use making::with_child;
 pub use naming::{is_same_name, name_fault};

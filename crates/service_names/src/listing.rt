@@ -36,7 +36,7 @@ use parcels::LogicalHeld;
 use std::alloc::{AllocError, Global};
 
 /// The bytes of a page beside its entries: attributes, verifier, the end of the list and eof.
-const PAGE_SIZE: u32 = 104;
+pub(crate) const PAGE_SIZE: u32 = 104;
 
 /// The bytes of `.` or `..` in a page.
 const DOTS_SIZE: usize = 28;
@@ -89,7 +89,7 @@ pub fn read_directory(
 }
 
 /// Whether a cookie comes with a verifier that isn't of our pages: not zero (our profile).
-fn is_bad_cookie(cookie: Cookie, verifier: Verifier) -> bool
+pub(crate) fn is_bad_cookie(cookie: Cookie, verifier: Verifier) -> bool
     ensures { result ≡ is_bad_cookie cookie.0 verifier.0 }
 {
     cookie.0 != 0 && !is_same_name(&verifier.0, &[0; 8])
@@ -103,7 +103,7 @@ fn tells_nothing(page: &Page) -> bool
 }
 
 /// The page after a cookie of the directory of a fileid, with `.` and `..`.
-fn page_at(
+pub(crate) fn page_at(
     alloc: Global,
     held: &LogicalHeld<Files>,
     directory: Fileid,

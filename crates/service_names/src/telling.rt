@@ -19,7 +19,7 @@ use nfs_values::{
 use parcels::LogicalHeld;
 
 /// The attributes of the node of a fileid, or STALE where there is none.
-fn object_at(
+pub(crate) fn object_at(
     held: &LogicalHeld<Files>,
     volume: VolumeNumber,
     fileid: Fileid,

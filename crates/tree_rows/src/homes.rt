@@ -64,13 +64,6 @@ fn homes_by_handle(rt: HostRuntime) {
         guard: None,
     };
     is_logical(&rt, &layout, set);
-    let list = Call::ReadDirectory {
-        directory: handle(1, 1),
-        cookie: Cookie::START,
-        verifier: Verifier([0; 8]),
-        count: 512,
-    };
-    is_logical(&rt, &layout, list);
     let commit = Call::Commit {
         handle: handle(1, 2),
     };
@@ -88,6 +81,27 @@ fn homes_by_handle(rt: HostRuntime) {
         handle: handle(1, 1),
     };
     is_logical(&rt, &layout, path);
+    mem::forget(layout);
+}
+
+#[test]
+fn homes_of_pages(rt: HostRuntime) {
+    let layout = two_volumes(&rt);
+    let list = Call::ReadDirectory {
+        directory: handle(1, 1),
+        cookie: Cookie::START,
+        verifier: Verifier([0; 8]),
+        count: 512,
+    };
+    is_logical(&rt, &layout, list);
+    let list_with_nodes = Call::ReadDirectoryPlus {
+        directory: handle(1, 1),
+        cookie: Cookie::START,
+        verifier: Verifier([0; 8]),
+        names_count: 512,
+        count: 4_096,
+    };
+    is_logical(&rt, &layout, list_with_nodes);
     mem::forget(layout);
 }
 

@@ -15,6 +15,7 @@ fn has_memory(answer: &Answer) -> bool {
     match answer {
         Answer::Read(_) => true,
         Answer::ReadDirectory(_) => true,
+        Answer::ReadDirectoryPlus(_) => true,
         Answer::Census(_) => true,
         Answer::Null => false,
         Answer::GetAttributes(_) => false,
@@ -119,6 +120,13 @@ fn has_names(call: &Call) -> bool {
             directory: _,
             cookie: _,
             verifier: _,
+            count: _,
+        } => false,
+        Call::ReadDirectoryPlus {
+            directory: _,
+            cookie: _,
+            verifier: _,
+            names_count: _,
             count: _,
         } => false,
         Call::FilesystemStatus { handle: _ } => false,

@@ -1,15 +1,16 @@
--- What LOOKUP, READDIR and COMMIT answer, and ACCESS, FSINFO and PATHCONF, by what is under Logical (RFC 1813 sections 3.3.3, 3.3.16,
--- 3.3.21, 3.3.4, 3.3.19 and 3.3.20).
+-- What LOOKUP, READDIR, READDIRPLUS and COMMIT answer, and ACCESS, FSINFO and PATHCONF, by what is under Logical (RFC 1813 sections
+-- 3.3.3, 3.3.16, 3.3.17, 3.3.21, 3.3.4, 3.3.19 and 3.3.20).
 use Rattle.std.specs.Prelude.{ℕ, Bool, min, not, ◌&&◌, ◌==◌, List, replicate, Option, Some, None, if◌then◌else◌}
 use Rattle.std.specs.Option.{option_map}
 use Rattle.std.specs.FinMap.{get}
-use Rattle.nfs_model.specs.Types.{Credential, Status, Shown, Answer, LookupDone, AccessDone, FsinfoDone, PathconfDone, CommitDone}
-use Rattle.nfs_model.specs.Types.{Failed, Stale, NotDirectory, NoEntry, BadCookie, Invalid}
+use Rattle.nfs_model.specs.Types.{Credential, Status, Shown, Listed, ListedPlus, Answer, LookupDone, AccessDone, FsinfoDone, PathconfDone}
+use Rattle.nfs_model.specs.Types.{CommitDone, Failed, Stale, NotDirectory, NoEntry, BadCookie, Invalid}
 use Rattle.nfs_model.specs.Server.{DirectoryNode, handle_bytes, most_bytes}
 use Rattle.nfs_model.specs.Shown.{before_of}
 use Rattle.nfs_model.specs.Names.{same_name, dot, dot_dot, name_fault}
 use Rattle.nfs_model.specs.Serial.Access.{access_given}
 use Rattle.nfs_model.specs.Serial.Readdir.{all_listed, above_cookie, readdir_from}
+use Rattle.nfs_model.specs.Serial.Readdirplus.{readdirplus_from}
 use Rattle.nfs_model.specs.volume.Directories.{DirectoryValue, fileid_found}
 use Rattle.nfs_model.specs.volume.Inodes.{InodeKind, RegularFile, Folder, Inode}
 use Rattle.nfs_model.specs.volume.Logical.{LogicalValue}
@@ -114,3 +115,15 @@ fsinfo_answer v fileid s = object_told_by (λ object. FsinfoDone object s.own.la
 
 abbrev pub pathconf_answer : ℕ → ℕ → LogicalSet → Answer
 pathconf_answer v fileid s = object_told_by PathconfDone (object_in v fileid s)
+
+-- ---- READDIRPLUS
+
+-- what is told of an entry: with the attributes and the handle of its node
+abbrev pub entry_told : ℕ → LogicalSet → Listed → ListedPlus
+entry_told v s e = record { entry = e; attributes = object_in v e.fileid s; handle = handle_bytes v e.fileid }
+
+abbrev pub readdirplus_answer : ℕ → ℕ → ℕ → List ℕ → ℕ → ℕ → LogicalSet → Answer
+readdirplus_answer v fileid cookie verifier names_count count s = on_folder (get s.own.inodes.inodes fileid) (λ inode parent.
+    if is_bad_cookie cookie verifier then Failed BadCookie 1
+    else answer_of 1 (readdirplus_from (min names_count most_bytes) (min count most_bytes) (entry_told v s) (shown_inode v fileid inode None)
+    (above_cookie cookie (all_listed fileid (folder_node inode parent (entries_of s.own fileid))))))

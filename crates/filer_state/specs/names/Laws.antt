@@ -1,10 +1,12 @@
--- What calls on names come to, by what is under Logical (RFC 1813 sections 3.3.3, 3.3.4, 3.3.16, 3.3.19, 3.3.20 and 3.3.21).
+-- What calls on names come to, by what is under Logical (RFC 1813 sections 3.3.3, 3.3.4, 3.3.16, 3.3.17, 3.3.19, 3.3.20 and 3.3.21).
 use Rattle.std.specs.Prelude.{◌≡◌, ℕ, Bool, false, List, []}
-use Rattle.nfs_model.specs.Types.{Moment, Credential, Listed, Shown, Lookup, CheckAccess, Readdir, Fsinfo, Pathconf, Commit, ReaddirDone, Success}
+use Rattle.nfs_model.specs.Types.{Moment, Credential, Listed, ListedPlus, Shown, Lookup, CheckAccess, Readdir, Readdirplus, Fsinfo, Pathconf, Commit}
+use Rattle.nfs_model.specs.Types.{ReaddirDone, ReaddirplusDone, Success}
 use Rattle.nfs_model.specs.Tree.{Affinity}
 use Rattle.nfs_model.specs.Locate.{on_name}
 use Rattle.nfs_model.specs.Serial.Lookup.{lookup}
 use Rattle.nfs_model.specs.Serial.Readdir.{readdir}
+use Rattle.nfs_model.specs.Serial.Readdirplus.{readdirplus}
 use Rattle.nfs_model.specs.Serial.Access.{access}
 use Rattle.nfs_model.specs.Serial.Fsinfo.{fsinfo}
 use Rattle.nfs_model.specs.Serial.Pathconf.{pathconf}
@@ -14,7 +16,7 @@ use Rattle.filer_state.specs.state.Lenses.{LogicalSet, logical_lens}
 use Rattle.filer_state.specs.state.Promises.{RightOnVolume}
 use Rattle.nfs_model.specs.Work.{Starved}
 use Rattle.filer_state.specs.state.Calls.{VolumeCall, ServesOn, WorksOn}
-use Rattle.filer_state.specs.names.Answers.{lookup_answer, readdir_answer, commit_answer, access_answer, fsinfo_answer, pathconf_answer}
+use Rattle.filer_state.specs.names.Answers.{lookup_answer, readdir_answer, readdirplus_answer, commit_answer, access_answer, fsinfo_answer, pathconf_answer}
 
 abbrev pub lookup_call : List ℕ → Affinity → ℕ → List ℕ → Moment → VolumeCall
 lookup_call handle node fileid name moment =
@@ -26,6 +28,14 @@ readdir_call handle node fileid cookie verifier count = record {
   node = node;
   fileid = fileid;
   run = λ volume. readdir cookie verifier count volume fileid;
+}
+
+abbrev pub readdirplus_call : List ℕ → Affinity → ℕ → ℕ → List ℕ → ℕ → ℕ → VolumeCall
+readdirplus_call handle node fileid cookie verifier names_count count = record {
+  call = Readdirplus handle cookie verifier names_count count;
+  node = node;
+  fileid = fileid;
+  run = λ volume. readdirplus cookie verifier names_count count volume fileid;
 }
 
 abbrev pub commit_call : List ℕ → Affinity → ℕ → VolumeCall
@@ -57,6 +67,17 @@ abbrev pub ReaddirMayStarve : Type 0
 ReaddirMayStarve = (v fileid : ℕ) (handle : List ℕ) (node : Affinity) (cookie : ℕ) (verifier : List ℕ) (count : ℕ) (set : LogicalSet)
     (directory : Shown) (page : List Listed) (eof : Bool) → readdir_answer v fileid cookie verifier count set ≡ ReaddirDone directory page eof
     → RightOnVolume v logical_lens (WorksOn (readdir_call handle node fileid cookie verifier count)) [] [] set Starved set
+
+abbrev pub ReaddirplusIsRight : Type 0
+ReaddirplusIsRight = (v fileid : ℕ) (handle : List ℕ) (node : Affinity) (cookie : ℕ) (verifier : List ℕ) (names_count count : ℕ) (set : LogicalSet)
+    → RightOnVolume v logical_lens (ServesOn (readdirplus_call handle node fileid cookie verifier names_count count) false) [] [] set
+    (Replied (Success (readdirplus_answer v fileid cookie verifier names_count count set))) set
+
+abbrev pub ReaddirplusMayStarve : Type 0
+ReaddirplusMayStarve = (v fileid : ℕ) (handle : List ℕ) (node : Affinity) (cookie : ℕ) (verifier : List ℕ) (names_count count : ℕ) (set : LogicalSet)
+    (directory : Shown) (page : List ListedPlus) (eof : Bool)
+    → readdirplus_answer v fileid cookie verifier names_count count set ≡ ReaddirplusDone directory page eof
+    → RightOnVolume v logical_lens (WorksOn (readdirplus_call handle node fileid cookie verifier names_count count)) [] [] set Starved set
 
 abbrev pub CommitIsRight : Type 0
 CommitIsRight = (v fileid : ℕ) (handle : List ℕ) (node : Affinity) (set : LogicalSet)

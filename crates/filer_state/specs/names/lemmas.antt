@@ -3,4 +3,5 @@ pub mod Telling
 pub mod Folders
 pub mod Lookup
 pub mod Listing
+pub mod ListingPlus
 pub mod Objects

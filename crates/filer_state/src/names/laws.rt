@@ -4,19 +4,23 @@ ghost use Rattle.filer_state.specs.names.Laws.{
   LookupIsRight,
   ReaddirIsRight,
   ReaddirMayStarve,
+  ReaddirplusIsRight,
+  ReaddirplusMayStarve,
   CommitIsRight,
   AccessIsRight,
   FsinfoIsRight,
   PathconfIsRight,
 };
 
-/// On every sound volume with the parcels that are held, LOOKUP, READDIR, COMMIT, ACCESS, FSINFO
-/// and PATHCONF answer as the serial server does, change nothing, and all stays sound. A READDIR
-/// that would list may find no memory.
+/// On every sound volume with the parcels that are held, LOOKUP, READDIR, READDIRPLUS, COMMIT,
+/// ACCESS, FSINFO and PATHCONF answer as the serial server does, change nothing, and all stays
+/// sound. A READDIR or READDIRPLUS that would list may find no memory.
 pub fn name_calls_are_right()
     ensures lookup { LookupIsRight }
     ensures readdir { ReaddirIsRight }
     ensures starved { ReaddirMayStarve }
+    ensures readdirplus { ReaddirplusIsRight }
+    ensures starved_plus { ReaddirplusMayStarve }
     ensures commit { CommitIsRight }
     ensures access { AccessIsRight }
     ensures fsinfo { FsinfoIsRight }

@@ -1,7 +1,7 @@
 -- The home of a call, exclusion, and which calls may lack memory (our profile).
 use Rattle.std.proofs.Common.{◌≡◌, true, false, [], ◌∷◌, replicate, Some, None, refl}
-use Rattle.nfs_model.specs.Types.{Unchecked, Guarded, Exclusive, Null, Getattr, Setattr, Lookup, Read, Write, Create, Mkdir, Remove, Rmdir, Rename, Readdir}
-use Rattle.nfs_model.specs.Types.{Readlink, Symlink, Mknod, Link, Readdirplus, CheckAccess, Fsstat, Fsinfo, Pathconf, Commit, Unsupported, Census, Grow, Ask, Refused}
+use Rattle.nfs_model.specs.Types.{Unchecked, Guarded, Exclusive, Null, Getattr, Setattr, Lookup, Read, Write, Create, Mkdir, Remove, Rmdir, Rename, Readdir, Readdirplus}
+use Rattle.nfs_model.specs.Types.{Readlink, Symlink, Mknod, Link, CheckAccess, Fsstat, Fsinfo, Pathconf, Commit, Unsupported, Census, Grow, Ask, Refused}
 use Rattle.nfs_model.specs.Types.{SystemError, GarbageArguments}
 use Rattle.nfs_model.specs.Tree.{Serial, Aggregate, Volume, Logical, Stripe, Vbn, Range, excludes}
 use Rattle.nfs_model.specs.Home.{home, home_of_asked}
@@ -38,6 +38,9 @@ rmdir_is_of_logical = refl
 readdir_is_of_logical : home layout (Readdir root 0 (replicate 8 0) 512) ≡ Some (Logical 0)
 readdir_is_of_logical = refl
 
+readdirplus_is_of_logical : home layout (Readdirplus root 0 (replicate 8 0) 512 4096) ≡ Some (Logical 0)
+readdirplus_is_of_logical = refl
+
 access_is_of_logical : home layout (CheckAccess root 63) ≡ Some (Logical 0)
 access_is_of_logical = refl
 
@@ -55,9 +58,6 @@ symlink_has_no_home = refl
 
 mknod_has_no_home : home layout (Unsupported Mknod) ≡ None
 mknod_has_no_home = refl
-
-readdirplus_has_no_home : home layout (Unsupported Readdirplus) ≡ None
-readdirplus_has_no_home = refl
 
 link_has_no_home : home layout (Unsupported Link) ≡ None
 link_has_no_home = refl

@@ -1,7 +1,7 @@
 -- What each procedure is on (our profile): names and attributes of a volume, bytes of a file, two directories of a
 -- volume, a whole volume, the aggregate of a volume, all volumes, or nothing. Typed by hand, one row a procedure.
 use Rattle.std.proofs.Common.{◌≡◌, [], ◌∷◌, replicate, None, refl}
-use Rattle.nfs_model.specs.Types.{Unchecked, Null, Getattr, Setattr, Lookup, Read, Write, Create, Mkdir, Remove, Rmdir, Rename, Readdir}
+use Rattle.nfs_model.specs.Types.{Unchecked, Null, Getattr, Setattr, Lookup, Read, Write, Create, Mkdir, Remove, Rmdir, Rename, Readdir, Readdirplus}
 use Rattle.nfs_model.specs.Types.{Readlink, Symlink, Mknod, Link, CheckAccess, Fsstat, Fsinfo, Pathconf, Commit, Unsupported, Census, Grow}
 use Rattle.nfs_model.specs.Route.{AtOnce, OfNames, OfBytesRead, OfBytesWritten, OfTwoHandles, OfVolume, OfAggregate, OfEverything, route}
 use Rattle.nfs_model.specs.Serial.Create.{no_attributes}
@@ -57,6 +57,9 @@ link_is_on_nothing = refl
 
 readdir_is_on_names : route (Readdir (h 2) 0 (replicate 8 0) 512) ≡ OfNames (h 2)
 readdir_is_on_names = refl
+
+readdirplus_is_on_names : route (Readdirplus (h 2) 0 (replicate 8 0) 512 4096) ≡ OfNames (h 2)
+readdirplus_is_on_names = refl
 
 fsstat_is_on_the_volume : route (Fsstat (h 2)) ≡ OfVolume (h 2)
 fsstat_is_on_the_volume = refl

@@ -1,6 +1,6 @@
 -- ACCESS, FSINFO and PATHCONF, and what isn't supported (RFC 1813 sections 3.3.4, 3.3.5, 3.3.10, 3.3.11, 3.3.15, 3.3.19 and 3.3.20).
 use Rattle.std.proofs.Common.{◌≡◌, ℕ, false, List, [], ◌∷◌, replicate, None, refl}
-use Rattle.nfs_model.specs.Types.{Credential, Readlink, Symlink, Mknod, Link, Readdirplus, CheckAccess, Fsinfo, Pathconf, Unsupported, Ask, Success, AccessDone}
+use Rattle.nfs_model.specs.Types.{Credential, Readlink, Symlink, Mknod, Link, CheckAccess, Fsinfo, Pathconf, Unsupported, Ask, Success, AccessDone}
 use Rattle.nfs_model.specs.Types.{FsinfoDone, PathconfDone, Stale, BadHandle, NotSupported}
 use Rattle.nfs_model.specs.Server.{Node, File, Directory, Server, handle_bytes}
 use Rattle.nfs_model.specs.Serial.Step.{serial}
@@ -193,11 +193,6 @@ mknod_is_not_supported :
     (serial start (Ask (Unsupported Mknod) nobody) (at 2) false).reply
     ≡ fails NotSupported 2
 mknod_is_not_supported = refl
-
-readdirplus_is_not_supported :
-    (serial start (Ask (Unsupported Readdirplus) nobody) (at 2) false).reply
-    ≡ fails NotSupported 1
-readdirplus_is_not_supported = refl
 
 link_is_not_supported :
     (serial start (Ask (Unsupported Link) nobody) (at 2) false).reply

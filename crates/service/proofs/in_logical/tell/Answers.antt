@@ -11,7 +11,7 @@ use Rattle.nfs_values.specs.declared.answer.Answer.TheVariants as answers
 use Rattle.nfs_values.specs.declared.call.Call.{Call}
 use Rattle.service.specs.renames.AttributeLaws.{getattr_call}
 use Rattle.service_data.specs.ReadingLaws.{read_call}
-use Rattle.service.specs.renames.NameLaws.{lookup_call, readdir_call, commit_call}
+use Rattle.service.specs.renames.NameLaws.{lookup_call, commit_call}
 use Rattle.filer_state.specs.state.Lenses.{logical_lens}
 use Rattle.filer_state.specs.state.Running.{RunsOn}
 use Rattle.filer_state.specs.state.Sets.{logical_before}
@@ -66,21 +66,6 @@ returns-in-Read c =
           old (outcome_of c.outcome_read.result) old) (sym asked.is)
           (subst (λ (o : Outcome). RunsOn n.volume logical_lens (read_call asked.handle (Logical n.volume) n.fileid asked.offset asked.count) old o old)
           (sym c.outcome_read.ensures) (c.read_in_logical-told.ensures.right n.volume asked.handle));
-    }
-
-pub returns-in-ReadDirectory : goal.returns-in-ReadDirectory
-returns-in-ReadDirectory c =
-    let n = named_of c.args.named in
-    let old = logical_before c.args.held.now in
-    let asked = c.in-ReadDirectory in
-    record {
-      told = sym (ap is_told c.in-ReadDirectory.is);
-      runs = λ layout. subst (λ (call : Call). RunsOn n.volume logical_lens
-          (call_named layout n (credential_of c.args.run.credential) (moment_of c.args.run.moment) (call_of call))
-          old (outcome_of c.outcome_listed.result) old) (sym asked.is)
-          (subst (λ (o : Outcome). RunsOn n.volume logical_lens
-          (readdir_call asked.directory (Logical n.volume) n.fileid asked.cookie.0 asked.verifier.0 asked.count) old o old)
-          (sym c.outcome_listed.ensures) (c.read_directory-told.ensures.right asked.directory));
     }
 
 pub returns-in-Commit : goal.returns-in-Commit

@@ -1,5 +1,6 @@
 use Rattle.filer_state.specs.names.lemmas.Lookup.{lookup-right}
 use Rattle.filer_state.specs.names.lemmas.Listing.{readdir-right, readdir-starves, commit-right}
+use Rattle.filer_state.specs.names.lemmas.ListingPlus.{readdirplus-right, readdirplus-starves}
 use Rattle.filer_state.specs.names.lemmas.Objects.{access-right, fsinfo-right, pathconf-right}
 use Rattle.filer_state.proofs.names.laws.name_calls_are_right.Goals as goal
 
@@ -16,6 +17,15 @@ pub returns-clause-starved : goal.returns-clause-starved
 returns-clause-starved c =
     λ v fileid handle node cookie verifier count set directory page eof lists.
     readdir-starves v fileid handle node cookie verifier count set directory page eof lists
+
+pub returns-clause-readdirplus : goal.returns-clause-readdirplus
+returns-clause-readdirplus c =
+    λ v fileid handle node cookie verifier names_count count set. readdirplus-right v fileid handle node cookie verifier names_count count set
+
+pub returns-clause-starved_plus : goal.returns-clause-starved_plus
+returns-clause-starved_plus c =
+    λ v fileid handle node cookie verifier names_count count set directory page eof lists.
+    readdirplus-starves v fileid handle node cookie verifier names_count count set directory page eof lists
 
 pub returns-clause-access : goal.returns-clause-access
 returns-clause-access c = λ v fileid handle node asked who set. access-right v fileid handle node asked who set
