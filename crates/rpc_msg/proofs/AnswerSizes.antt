@@ -192,7 +192,7 @@ length-handle handle h = omega (arith, length-padded handle, padded_more (length
 length-entry_plus : (t : model.ListedPlus)
     → length (spelling entry_plus_shape (entry_plus_value t))
     ≡ 20 + length (padded t.entry.name) + (length (attributes_told t.attributes) + length (handle_told t.handle))
-unfolding attributes_told, handle_told
+unfolding attributes_told handle_told
 length-entry_plus t =
     let attributes = spelling after_shape (option_map attributes_value t.attributes) in
     let handle = spelling (Optional handle_shape) (Some t.handle) in
