@@ -8,7 +8,8 @@ use crate::shared_waiting::{Pass, SharedWaiting};
 use crate::turned::Gate;
 use crate::worker::Worker;
 use affinity::Layout;
-use nfs_values::{HandleForm, Moment};
+use nfs_values::Moment;
+use rpc_msg::HandleForm;
 use std::sync::Wait;
 
 impl Worker {
