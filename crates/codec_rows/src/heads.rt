@@ -1,8 +1,8 @@
 //! Heads of calls. Whole heads with their replies, and those at fault, stand in `command_rows`.
 
 use crate::bytes::{bytes_of, holds};
-use nfs_values::{Call, Offer, Refusal};
-use rpc_msg::{Head, Request, Served, read_call, read_call_of, read_record};
+use nfs_values::{Call, Refusal};
+use rpc_msg::{Head, Offer, Request, Served, read_call, read_call_of, read_record};
 use std::mem;
 use std::process::Abort;
 
@@ -63,7 +63,7 @@ fn is_read(rt: &(impl Abort + AllocGlobal), offer: Offer, procedure: u32) -> boo
 fn offers(rt: HostRuntime) {
     for number in 0..24 {
         let is_export = number < 22;
-        holds(&rt, is_read(&rt, Offer::export(), number) == is_export);
+        holds(&rt, is_read(&rt, Offer::export(7), number) == is_export);
         // ACCESS, READLINK, SYMLINK, MKNOD, LINK, READDIRPLUS, FSINFO and PATHCONF are its own
         let is_basic = is_export && !matches!(number, 4 | 5 | 10 | 11 | 15 | 17 | 19 | 20);
         holds(&rt, is_read(&rt, Offer::basic(), number) == is_basic);

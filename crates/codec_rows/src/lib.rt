@@ -6,6 +6,7 @@ mod arguments;
 #[cfg(test)]
 mod bytes;
 #[cfg(test)]
+mod handles;
 mod heads;
 #[cfg(test)]
 mod mounting;

@@ -2,11 +2,8 @@
 
 use crate::bytes::{bytes_of, holds, same};
 use nfs_types::{Bad, decode_call, encode_result};
-use nfs_values::{
-    Answer, Call, Exports, FileHandle, Fileid, MountCall, MountResults, Named, Offer, Procedure,
-    Refusal, Status, VolumeNumber,
-};
-use rpc_msg::{Head, read_call_of};
+use nfs_values::{Answer, Call, Exports, FileHandle, Fileid, MountCall, MountResults, Named, Procedure, Refusal, Status, VolumeNumber};
+use rpc_msg::{Head, Offer, read_call_of};
 use std::mem;
 use std::process::Abort;
 
@@ -27,7 +24,7 @@ fn heads_of_mount(rt: HostRuntime) {
     for procedure in 0..8 {
         holds(
             &rt,
-            is_read(&rt, Offer::export(), 3, procedure) == (procedure < 6),
+            is_read(&rt, Offer::export(7), 3, procedure) == (procedure < 6),
         );
         holds(&rt, !is_read(&rt, Offer::basic(), 3, procedure));
     }
@@ -37,7 +34,7 @@ fn heads_of_mount(rt: HostRuntime) {
 fn other_versions_of_mount(rt: HostRuntime) {
     for version in [1, 2, 4] {
         let bytes = bytes_of(&rt, &[9, 0, 2, 0x000186a5, version, 1, 0, 0, 0, 0]);
-        let head = read_call_of(&bytes, Offer::export());
+        let head = read_call_of(&bytes, Offer::export(7));
         let is_refused = matches!(
             &head,
             Head::Refuse {

@@ -104,7 +104,7 @@ fn rooms_of_writes(rt: HostRuntime) {
         target: target(rt.alloc()),
         mode: CreateMode::Exclusive(Verifier([0; 8])),
     };
-    takes(&rt, create, 256);
+    takes(&rt, create, 264);
     let rename = Call::Rename {
         from: target(rt.alloc()),
         to: target(rt.alloc()),

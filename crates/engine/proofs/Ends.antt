@@ -38,7 +38,7 @@ use Rattle.engine_feed.specs.Words.{FinishesUnseen}
 use Rattle.engine_feed.specs.lemmas.Lists.{put-same}
 use Rattle.engine.specs.Connections.{Open, Closed}
 use Rattle.engine.specs.declared.connection.ClosedConnection.{ClosedConnection}
-use Rattle.nfs_values.specs.declared.handle_form.HandleForm.{HandleForm}
+use Rattle.rpc_msg.specs.declared.handle_form.HandleForm.{HandleForm}
 use Rattle.rpc_msg.specs.Handles.{reply_told}
 use Rattle.engine.specs.Sound.{MayEnd}
 use Rattle.engine.specs.Seen.{connection_seen}

@@ -50,8 +50,8 @@ use Rattle.engine.specs.declared.state.State.{State}
 use Rattle.engine.specs.Seen.{connection_seen, held_in, worker_seen, running_as, setup_in, world}
 use Rattle.engine.specs.Ending.{job_made, answer_made, EndsIn, OwesLess}
 use Rattle.nfs_model.specs.Types as types
-use Rattle.nfs_values.specs.declared.handle_form.HandleForm.{HandleForm}
-use Rattle.nfs_values.specs.Offer.{form_of}
+use Rattle.rpc_msg.specs.declared.handle_form.HandleForm.{HandleForm}
+use Rattle.rpc_msg.specs.Offer.{form_of}
 use Rattle.rpc_msg.specs.Handles.{reply_told}
 use Rattle.engine.specs.Sound.{IsPlaced, IsReady, IsSoundEngine, MayEnd, running_messages, room_on, rooms_on}
 use Rattle.engine.specs.Words.{Does}

@@ -25,7 +25,7 @@ use Rattle.engine.specs.laws.lemmas.Opening.{opening-stands}
 use Rattle.service.specs.declared.job.Job.{Job}
 use Rattle.service.specs.declared.job.JobReply.{JobReply}
 use Rattle.service.specs.Jobs.{job_of, job_reply_of}
-use Rattle.nfs_values.specs.declared.offer.Offer.{Offer}
+use Rattle.rpc_msg.specs.declared.offer.Offer.{Offer}
 use Rattle.engine_feed.specs.declared.state.CallsState.{CallsState}
 use Rattle.engine_feed.specs.Seen.{layout_in, messages_of, message_of, waiting_of, finished_of, running_count}
 use Rattle.engine_feed.specs.Streams.{codec}

@@ -9,7 +9,7 @@ use Rattle.nfs_model.specs.Events.Step.{Events, Runs}
 use Rattle.desk.specs.Words.{books}
 use Rattle.depot.specs.Words.{view}
 use Rattle.service.specs.Jobs.{job_of, job_reply_of}
-use Rattle.nfs_values.specs.declared.offer.Offer.{Offer}
+use Rattle.rpc_msg.specs.declared.offer.Offer.{Offer}
 use Rattle.engine_feed.specs.Streams.{IsServed, scan_stream}
 use Rattle.engine.specs.laws.lemmas.Historied.{stands-history}
 use Rattle.engine.specs.declared.event.Event as happened

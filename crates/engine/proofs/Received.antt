@@ -27,7 +27,7 @@ use Rattle.engine.specs.laws.lemmas.Feeding.{WithoutHomeStays, all-append, fed-s
 use Rattle.desk.specs.Words.{books}
 use Rattle.service.specs.Jobs.{job_of, job_reply_of}
 use Rattle.service.specs.lemmas.Homes.{at-home}
-use Rattle.nfs_values.specs.declared.offer.Offer.{Offer}
+use Rattle.rpc_msg.specs.declared.offer.Offer.{Offer}
 use Rattle.engine_feed.specs.declared.stop.Stop.{Stop}
 use Rattle.engine_feed.specs.declared.state.ConnectionState.{ConnectionState}
 use Rattle.engine_feed.specs.declared.state.CallsState.{CallsState}

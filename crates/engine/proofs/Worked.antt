@@ -52,7 +52,7 @@ use Rattle.engine.specs.declared.worker.Worker.{Worker}
 use Rattle.engine.specs.declared.worker.WorkerRun.TheVariants.{Begun, Worked}
 use Rattle.engine.specs.Seen.{running_as, running_seen, worker_seen, done_of, told_of}
 use Rattle.engine.specs.Workers.{worker_with}
-use Rattle.nfs_values.specs.declared.handle_form.HandleForm.{HandleForm}
+use Rattle.rpc_msg.specs.declared.handle_form.HandleForm.{HandleForm}
 use Rattle.rpc_msg.specs.Handles.{reply_told}
 use Rattle.engine.specs.Sound.{messages_in, running_messages, MayEnd}
 use Rattle.engine.proofs.Workers.{seen-ran, one-worker}

@@ -4,7 +4,7 @@ use Rattle.nfs_model.specs.Tree.{Layout}
 use Rattle.nfs_model.specs.Work as tasks
 use Rattle.nfs_model.specs.World as worlds
 use Rattle.nfs_model.specs.Events.Refusals as events
-use Rattle.nfs_values.specs.declared.offer.Offer.{Offer}
+use Rattle.rpc_msg.specs.declared.offer.Offer.{Offer}
 use Rattle.nfs_values.specs.Moment.{moment_of}
 use Rattle.affinity.specs.Affinity.{affinity_of}
 use Rattle.desk.specs.laws.Books.{now, stamps}

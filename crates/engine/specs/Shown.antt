@@ -7,7 +7,7 @@ use Rattle.nfs_model.specs.World.{Setup, World, all_running}
 use Rattle.nfs_model.specs.Headline.{Headline, IsOutcome, start, opening_world}
 use Rattle.nfs_model.specs.Events.Refusals as events
 use Rattle.nfs_model.specs.Events.Step.{Events, Runs}
-use Rattle.nfs_values.specs.declared.offer.Offer.{Offer}
+use Rattle.rpc_msg.specs.declared.offer.Offer.{Offer}
 use Rattle.depot.specs.Words.{view}
 use Rattle.desk.specs.Words.{books}
 use Rattle.filer_state.specs.declared.files.Files.{Files}

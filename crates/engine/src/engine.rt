@@ -5,7 +5,7 @@ ghost use Rattle.std.specs.Prelude.{slice_get, IfOk};
 ghost use Rattle.nfs_model.specs.World.{counts_of};
 ghost use Rattle.nfs_model.specs.Headline.{opening_world};
 ghost use Rattle.affinity.specs.Layout.{layout_of};
-ghost use Rattle.nfs_values.specs.Offer.{basic};
+ghost use Rattle.rpc_msg.specs.Offer.{basic};
 ghost use Rattle.engine_feed.specs.Seen.{entry_of};
 ghost use Rattle.engine.specs.counts.Counts.{parts_told, world_counts};
 ghost use Rattle.engine.specs.Engine.{output_in, stream_in};
@@ -34,7 +34,8 @@ use engine_feed::FinishedCall;
 use engine_feed::laws::{codecs_are_scans, streams_are_served};
 use filer_state::laws::parts_partition;
 use nfs_laws::laws::{events_keep_headline, opening_meets_headline};
-use nfs_values::{Offer, VolumeNumber};
+use nfs_values::VolumeNumber;
+use rpc_msg::Offer;
 use std::alloc::{AllocError, Global};
 use std::marker::Model;
 

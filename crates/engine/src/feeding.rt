@@ -12,7 +12,8 @@ use crate::event::{Done, Refusal};
 use crate::state::State;
 use engine_feed::{Calls, OpenConnection, Stop};
 use nfs_laws::laws::without_home_stays;
-use nfs_values::{ConnectionNumber, Offer};
+use nfs_values::ConnectionNumber;
+use rpc_msg::Offer;
 use slab::Slab;
 
 /// Takes bytes on the open connection that is kept under a key, where it is at no fault: how many,

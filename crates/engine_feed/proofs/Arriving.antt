@@ -9,7 +9,7 @@ use Rattle.rpc_record.specs.Feeds.{Feeds}
 use Rattle.rpc_record.specs.declared.reassembler.Step.{Step}
 use Rattle.rpc_record.specs.declared.reassembler.Step.TheVariants as steps
 use Rattle.nfs_model.specs.World.{Heard, Scanned}
-use Rattle.nfs_values.specs.declared.offer.Offer.{Offer}
+use Rattle.rpc_msg.specs.declared.offer.Offer.{Offer}
 use Rattle.engine_feed.specs.declared.state.ConnectionState.{ConnectionState}
 use Rattle.engine_feed.specs.Codec.{heard}
 use Rattle.engine_feed.specs.Numbers.{fault_number}

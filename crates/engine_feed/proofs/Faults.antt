@@ -1,7 +1,7 @@
 -- What a record adds to the fault and the count of a scan, whatever is offered.
 use Rattle.std.proofs.Common.{◌≡◌, ◌+◌, ℕ, List, [], ◌∷◌, ◌++◌, length, Option, Some, None, Result, Ok, Err, refl, sym, ap, ◌∙◌, arith, length-append}
 use Rattle.nfs_model.specs.World.{Heard, Scanned}
-use Rattle.nfs_values.specs.declared.offer.Offer.{Offer}
+use Rattle.rpc_msg.specs.declared.offer.Offer.{Offer}
 use Rattle.engine_feed.specs.Codec.{heard}
 use Rattle.engine_feed.specs.Streams.{served_of}
 use Rattle.engine_feed.specs.lemmas.Codec.{heard_is}

@@ -8,7 +8,7 @@ use Rattle.nfs_model.specs.World as worlds
 use Rattle.nfs_model.specs.World.{Heard, Scanned, World, Setup, is_crowded}
 use Rattle.nfs_model.specs.Events.Feed.{feeding, with_bytes, bytes_taken}
 use Rattle.nfs_laws.specs.Walk.{AtFault, reached, reached_by, is_complete, Walks, Stops}
-use Rattle.nfs_values.specs.declared.offer.Offer.{Offer}
+use Rattle.rpc_msg.specs.declared.offer.Offer.{Offer}
 use Rattle.engine_feed.specs.declared.state.ConnectionState.{ConnectionState}
 use Rattle.engine_feed.specs.declared.stop.StreamFault.{StreamFault}
 use Rattle.engine_feed.specs.declared.stop.StreamFault.TheVariants.{RecordTooLong}

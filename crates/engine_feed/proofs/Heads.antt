@@ -5,11 +5,11 @@ use Rattle.xdr.specs.Shape.{Value}
 use Rattle.xdr.specs.Reading.{read}
 use Rattle.nfs_model.specs.Types as model
 use Rattle.nfs_model.specs.World.{Heard}
-use Rattle.nfs_values.specs.declared.offer.Offer.{Offer}
+use Rattle.rpc_msg.specs.declared.offer.Offer.{Offer}
 use Rattle.nfs_values.specs.declared.procedure.Procedure.{Procedure}
 use Rattle.rpc_msg.specs.Heads.{Stop, Incomplete, Refuse, Body, ◌>>=◌, whole, version_at, numbers_shape, credential_at, available, of_version}
 use Rattle.rpc_msg.specs.Heads.{procedure_by, version_by, procedures_by, is_numbered, body_by, under, head_from, xid_at}
-use Rattle.nfs_values.specs.Offer.{form_of}
+use Rattle.rpc_msg.specs.Offer.{form_of}
 use Rattle.rpc_msg.specs.Records.{heard_from, heard_by}
 use Rattle.rpc_msg.specs.Replies.{auth_shape}
 

@@ -9,7 +9,7 @@ use Rattle.nfs_model.specs.World.{Codec, Setup, World, IsScan}
 use Rattle.nfs_model.specs.Events.Feed.{Feeds, feeding}
 use Rattle.nfs_model.specs.Events.Refusals.{takes_input}
 use Rattle.nfs_laws.specs.Walk.{Walks}
-use Rattle.nfs_values.specs.declared.offer.Offer.{Offer}
+use Rattle.rpc_msg.specs.declared.offer.Offer.{Offer}
 use Rattle.engine_feed.specs.declared.state.ConnectionState.{ConnectionState}
 use Rattle.engine_feed.specs.declared.state.CallsState.{CallsState}
 use Rattle.engine_feed.specs.declared.stop.Stop.{Stop}

@@ -4,7 +4,7 @@ use Rattle.std.specs.Prelude.{MatchOption}
 use Rattle.rpc_record.specs.Machine.{State}
 use Rattle.rpc_record.specs.Records.{HasFault, HasNoFault}
 use Rattle.rpc_record.specs.Stream.{IsReading, read_stream}
-use Rattle.nfs_values.specs.declared.offer.Offer.{Offer}
+use Rattle.rpc_msg.specs.declared.offer.Offer.{Offer}
 use Rattle.engine_feed.specs.Streams.{fault_at, scan_stream, IsFaultOf, IsServed}
 
 fault_is : (at : Option State) (rest : List ℕ) → MatchOption at (HasFault rest) (λ _. HasNoFault rest) → IsFaultOf rest (fault_at at)

@@ -5,7 +5,7 @@ use Rattle.nfs_model.specs.World as worlds
 use Rattle.nfs_model.specs.World.{is_crowded, Setup, World}
 use Rattle.nfs_model.specs.Events.Feed.{feeding, heard_in, MayStarveIf, bytes_taken}
 use Rattle.nfs_laws.specs.Walk.{Walks, AtFault, is_complete}
-use Rattle.nfs_values.specs.declared.offer.Offer.{Offer}
+use Rattle.rpc_msg.specs.declared.offer.Offer.{Offer}
 use Rattle.engine_feed.specs.declared.state.ConnectionState.{ConnectionState}
 use Rattle.engine_feed.specs.declared.state.CallsState.{CallsState}
 use Rattle.engine_feed.specs.declared.state.Arrival.{Arrival}

@@ -5,8 +5,9 @@ use Rattle.std.specs.List.{AllByRecursion}
 use Rattle.std.proofs.lemmas.List.{append-nil, map_push}
 use Rattle.rpc_record.specs.Machine.{State, Next, Goes, Ends, Faults, after}
 use Rattle.rpc_record.specs.Stream.{Reading, reading_at, byte_read, read_stream}
+use Rattle.nfs_model.specs.Types.{Reply}
 use Rattle.nfs_model.specs.World.{Heard, Scanned, IsScan, IsDecoded}
-use Rattle.nfs_values.specs.declared.offer.Offer.{Offer}
+use Rattle.rpc_msg.specs.declared.offer.Offer.{Offer}
 use Rattle.engine_feed.specs.Codec.{heard, reply_record_by}
 use Rattle.engine_feed.specs.Streams.{served_of, fault_at, codec}
 use Rattle.engine_feed.proofs.Scanning.{joined, read_stream-push, served_of-append}

@@ -4,7 +4,7 @@ use Rattle.std.proofs.lemmas.List.{append-nil}
 use Rattle.rpc_record.specs.Machine.{State, start, Next, Goes, Ends, Faults, More, Made, Fault, after, go, scan}
 use Rattle.rpc_record.specs.Stream.{read_stream}
 use Rattle.nfs_model.specs.World.{Scanned}
-use Rattle.nfs_values.specs.declared.offer.Offer.{Offer}
+use Rattle.rpc_msg.specs.declared.offer.Offer.{Offer}
 use Rattle.engine_feed.specs.Codec.{heard}
 use Rattle.engine_feed.specs.Streams.{served_of, scan_stream, IsQuiet, Completes}
 use Rattle.engine_feed.proofs.Scanning.{IsAt, joined, scan-goes, scan-whole, scan-faults}

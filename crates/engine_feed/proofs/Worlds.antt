@@ -6,7 +6,7 @@ use Rattle.std.proofs.lemmas.List.{append-nil}
 use Rattle.nfs_model.specs.World.{Heard, Scanned, Codec, Setup, World, Connection, is_crowded}
 use Rattle.nfs_model.specs.Events.Feed.{feeding, stream_in, stream_of, served_count, heard_in, MayStarveIf}
 use Rattle.nfs_laws.specs.Walk.{Reached, Further, Complete, AtFault, reached_by, reached, is_complete, byte_taken, Takes, TakesFault, Walks}
-use Rattle.nfs_values.specs.declared.offer.Offer.{Offer}
+use Rattle.rpc_msg.specs.declared.offer.Offer.{Offer}
 use Rattle.engine_feed.specs.Streams.{scan_stream, codec, IsQuiet, Completes}
 use Rattle.engine_feed.specs.Feeding.{TakesAll}
 use Rattle.nfs_model.specs.Events.Feed.{with_bytes, bytes_taken}

@@ -2,8 +2,8 @@
 use Rattle.std.specs.Prelude.{ℕ, List, Result}
 use Rattle.nfs_model.specs.Types.{Reply}
 use Rattle.nfs_model.specs.World.{Heard}
-use Rattle.nfs_values.specs.declared.offer.Offer.{Offer}
-use Rattle.nfs_values.specs.Offer.{form_of}
+use Rattle.rpc_msg.specs.declared.offer.Offer.{Offer}
+use Rattle.rpc_msg.specs.Offer.{form_of}
 use Rattle.rpc_msg.specs.Handles.{reply_told}
 use Rattle.rpc_msg.specs.Records as records
 use Rattle.rpc_msg.specs.Replies as replies

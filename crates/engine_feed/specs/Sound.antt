@@ -6,7 +6,7 @@ use Rattle.nfs_model.specs.Types as types
 use Rattle.nfs_model.specs.Tree.{Layout}
 use Rattle.nfs_model.specs.Serial.Starve.{may_starve_at_decoding}
 use Rattle.nfs_values.specs.declared.call.Call.{Call}
-use Rattle.nfs_values.specs.declared.offer.Offer.{Offer}
+use Rattle.rpc_msg.specs.declared.offer.Offer.{Offer}
 use Rattle.nfs_values.specs.Call.{call_of}
 use Rattle.rpc_msg.specs.Room.{reply_room}
 use Rattle.affinity.specs.Affinity.{affinity_of}

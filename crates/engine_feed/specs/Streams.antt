@@ -4,7 +4,7 @@ use Rattle.rpc_record.specs.Machine.{State}
 use Rattle.rpc_record.specs.Records.{Records, HasFault, HasNoFault}
 use Rattle.rpc_record.specs.Stream.{read_stream}
 use Rattle.nfs_model.specs.World.{Heard, Scanned, Codec}
-use Rattle.nfs_values.specs.declared.offer.Offer.{Offer}
+use Rattle.rpc_msg.specs.declared.offer.Offer.{Offer}
 use Rattle.engine_feed.specs.Codec.{heard, reply_record_by}
 
 -- a header that brings a record above the limit

@@ -1,7 +1,7 @@
 -- A connection and the calls on their way, as parts of a world.
 use Rattle.std.specs.Prelude.{◌≡◌, ℕ, length, Some, slice_get}
 use Rattle.nfs_model.specs.World.{Setup, World, Connection, all_running, changed_at}
-use Rattle.nfs_values.specs.declared.offer.Offer.{Offer}
+use Rattle.rpc_msg.specs.declared.offer.Offer.{Offer}
 use Rattle.engine_feed.specs.declared.state.ConnectionState.{ConnectionState}
 use Rattle.engine_feed.specs.declared.state.CallsState.{CallsState}
 use Rattle.engine_feed.specs.Seen.{connection_of, layout_in, waiting_of, finished_of, running_count}

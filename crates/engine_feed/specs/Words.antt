@@ -9,7 +9,7 @@ use Rattle.nfs_model.specs.Events.Feed.{Feeds, feeding, heard_in}
 use Rattle.nfs_model.specs.Events.Refusals.{is_open}
 use Rattle.nfs_laws.specs.Walk.{Walks}
 use Rattle.nfs_values.specs.declared.call.Call.{Call}
-use Rattle.nfs_values.specs.declared.offer.Offer.{Offer}
+use Rattle.rpc_msg.specs.declared.offer.Offer.{Offer}
 use Rattle.scheduler.specs.declared.message.Message.{Message}
 use Rattle.scheduler.specs.declared.message.Origin.{Origin}
 use Rattle.engine_feed.specs.declared.stop.Stop.{Stop}

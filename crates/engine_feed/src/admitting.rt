@@ -3,7 +3,7 @@
 ghost use Rattle.std.specs.Prelude.{◌≡◌, ◌+◌, ◌≤◌, ◌<◌, true, false, Some, None, length};
 ghost use Rattle.nfs_model.specs.Types as types;
 ghost use Rattle.nfs_model.specs.Server.{start_of_times};
-ghost use Rattle.nfs_values.specs.declared.offer.Offer.{Offer as OfferSeen};
+ghost use Rattle.rpc_msg.specs.declared.offer.Offer.{Offer as OfferSeen};
 ghost use Rattle.nfs_values.specs.Call.{call_of};
 ghost use Rattle.nfs_values.specs.Credential.{credential_of};
 ghost use Rattle.nfs_values.specs.Reply.{refusal_of, reply_of};
@@ -20,8 +20,8 @@ use crate::message::Request;
 use crate::state::{CallsState, ConnectionState};
 use affinity::homes::home_of;
 use nfs_laws::laws::without_home_stays;
-use nfs_values::{Call, Credential, Moment, Offer, Refusal, Reply};
-use rpc_msg::{refusals_fit, replies_fit, room_of_reply, tell};
+use nfs_values::{Call, Credential, Moment, Refusal, Reply};
+use rpc_msg::{Offer, refusals_fit, replies_fit, room_of_reply, tell};
 use scheduler::laws::nodes_have_queues;
 use scheduler::{Message, Origin};
 

@@ -7,7 +7,7 @@ ghost use Rattle.rpc_record.specs.Machine.{outcome};
 use crate::reading::{RecordRead, read_record};
 use crate::state::{Arrival, ConnectionState};
 use crate::stop::StreamFault;
-use nfs_values::Offer;
+use rpc_msg::Offer;
 use rpc_record::Step;
 
 /// Appends bytes that have their room.

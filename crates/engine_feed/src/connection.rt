@@ -4,7 +4,8 @@ use crate::calls::Calls;
 use crate::feeding::feed;
 use crate::state::ConnectionState;
 use crate::stop::Stop;
-use nfs_values::{ConnectionNumber, Offer};
+use nfs_values::ConnectionNumber;
+use rpc_msg::Offer;
 use rpc_record::Reassembler;
 use std::alloc::Global;
 use std::marker::Model;
@@ -37,7 +38,7 @@ impl OpenConnection {
     ghost use Rattle.std.specs.Prelude.{◌≡◌, ◌≤◌, is_none, length};
     ghost use Rattle.std.specs.List.{AllByRecursion};
     ghost use Rattle.nfs_model.specs.Events.Step.{new_connection};
-    ghost use Rattle.nfs_values.specs.declared.offer.Offer.{Offer as OfferSeen};
+    ghost use Rattle.rpc_msg.specs.declared.offer.Offer.{Offer as OfferSeen};
     ghost use Rattle.engine_feed.specs.Seen.{connection_of, owed_by, layout_in, messages_of};
     ghost use Rattle.engine_feed.specs.Sound.{IsAdmitted};
     ghost use Rattle.engine_feed.specs.Streams.{scan_stream};

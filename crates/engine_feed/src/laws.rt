@@ -3,7 +3,7 @@
 ghost use Rattle.std.specs.Prelude.{◌≡◌, List, ℕ};
 ghost use Rattle.nfs_model.specs.World.{IsScan};
 ghost use Rattle.rpc_record.specs.Stream.{AreBytes};
-ghost use Rattle.nfs_values.specs.declared.offer.Offer.{Offer};
+ghost use Rattle.rpc_msg.specs.declared.offer.Offer.{Offer};
 ghost use Rattle.engine_feed.specs.Streams.{IsServed, scan_stream, codec};
 
 use rpc_record::reading_is_exact;

@@ -6,7 +6,7 @@ ghost use Rattle.engine_feed.specs.Records.{IsReadAs, fault_of};
 
 use crate::message::{Heard, Request};
 use crate::stop::StreamFault;
-use nfs_values::Offer;
+use rpc_msg::Offer;
 use std::alloc::Global;
 
 /// What was read of a record.

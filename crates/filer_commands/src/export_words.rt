@@ -1,7 +1,6 @@
 //! The command line of `filer export`.
 
 use clap::{Arg, ArgAction, ArgMatches, value_parser};
-use nfs_values::Offer;
 use server::{MOST_NETWORKS, Network, Options, Peers, VolumePlan};
 use std::alloc::{AllocError, Global};
 use std::net::SocketAddr;
@@ -102,7 +101,7 @@ fn peers_in(matches: &ArgMatches<'_>) -> Option<Peers> {
     Some(Peers::Networks(networks))
 }
 
-/// What a server that clients mount is asked to do: without a total of connections it takes as many
+/// What a server that clients mount is asked to do, but for what it offers, which is of its run: without a total of connections it takes as many
 /// as there are numbers.
 pub(crate) fn options_in(matches: &ArgMatches<'_>) -> Option<Options> {
     let address = matches.get_str("listen")?.parse::<SocketAddr>().ok()?;
@@ -113,10 +112,5 @@ pub(crate) fn options_in(matches: &ArgMatches<'_>) -> Option<Options> {
     let plan = VolumePlan::export(u32::try_from(ranges).ok()?)?;
     let peers = peers_in(matches)?;
     let options = Options::new(address, volumes as usize, workers as usize, connections)?;
-    Some(
-        options
-            .with_offer(Offer::export())
-            .with_peers(peers)
-            .with_plan(plan),
-    )
+    Some(options.with_peers(peers).with_plan(plan))
 }

@@ -5,7 +5,8 @@ ghost use Rattle.std.specs.Prelude.{◌≤◌, IfOk};
 use crate::choice::Command;
 use crate::replay::{ProgramFault, print_fault, replay};
 use crate::words::command_told;
-use server::{Options, Peers, ServerFault, export, serve};
+use rpc_msg::Offer;
+use server::{Options, Peers, ServerFault, export, run_now, serve};
 use std::alloc::{AllocError, Global};
 use std::convert::AsStr;
 use std::fs::File;
@@ -134,6 +135,7 @@ where
     };
     keep_freed_memory(rt.alloc());
     let address = listener.local_addr().map_err(|_| ProgramFault::Listen)?;
+    let options = &options.with_offer(Offer::export(run_now(&rt)));
     tell_exports(err, options, &address);
     let served = if options.connections == u64::MAX {
         export(rt, rt.alloc(), &listener, options, out)

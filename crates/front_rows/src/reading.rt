@@ -10,7 +10,8 @@ use crate::texts::{
     NULL_IN_TWO, NULL_REPLY, SHORT, TOO_LONG,
 };
 use affinity::{Affinity, AggregateSpec, Layout, VolumeSpec};
-use nfs_values::{ConnectionNumber, Offer};
+use nfs_values::ConnectionNumber;
+use rpc_msg::Offer;
 use std::mem;
 use std::process::Abort;
 use std::sync::Wait;

@@ -11,7 +11,7 @@ use Rattle.lanes.specs.declared.device.Device as devices
 use Rattle.lanes.specs.declared.lane.Lane.{Lane}
 use Rattle.lanes.specs.Connections.{now_of, number_of}
 use Rattle.lanes.specs.Lanes.{Closes}
-use Rattle.lanes.specs.Story.{Life, HasLived, number_at, replies_to}
+use Rattle.lanes.specs.Story.{Life, HasLived, number_at, told_to}
 use Rattle.lanes.specs.Words.{boxes_in, connections_in, count_in, filer_in, index_in, offer_in, HasStory}
 use Rattle.lanes.specs.Writing.{Writes}
 use Rattle.lane_rows.specs.Written.{WasWritten}
@@ -25,7 +25,7 @@ module _ {D R : Type 0} {G : devices.Ghosts D} where
       let l = subst (λ (life : Life D). HasLived G.unread G.written (layout_in (filer_in lane)) (offer_in lane) s.came s.endings (boxes_in lane)
       (get (connections_in lane)) (number_at (index_in lane) (count_in lane) k.0) life) k.2 (s.each k.0 k.1) in
       let same : l.0 ≡ c = same_Some l.0 c (sym l.2 ∙ is) in
-      let w = subst (λ (x : Connection D). Writes G.written x.opened.value x l.1 (replies_to (number_of x) s.endings)) same l.5.writes in
+      let w = subst (λ (x : Connection D). Writes G.written x.opened.value x l.1 (told_to (offer_in lane) (number_of x) s.endings)) same l.5.writes in
       record {
         connection = c;
         stood = is;

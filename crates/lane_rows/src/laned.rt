@@ -12,7 +12,8 @@ use crate::texts::{
     NULL_UNAVAILABLE, TOO_LONG,
 };
 use lanes::{Came, Flags, LaneParts, Sent};
-use nfs_values::{Moment, Offer, Procedure, VolumeNumber};
+use nfs_values::{Moment, Procedure, VolumeNumber};
+use rpc_msg::Offer;
 use std::process::Abort;
 use std::sync::Wait;
 use std::thread;

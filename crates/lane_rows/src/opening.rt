@@ -7,7 +7,7 @@ ghost use Rattle.server.specs.Lanes.{AreLanesOf};
 use crate::memory::Memory;
 use affinity::Layout;
 use lanes::Lane;
-use nfs_values::Offer;
+use rpc_msg::Offer;
 use std::process::Abort;
 use std::sync::Arc;
 use turns::Filer;

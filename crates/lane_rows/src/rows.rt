@@ -10,7 +10,8 @@ use crate::texts::{
 };
 use affinity::{AggregateSpec, Layout, VolumeSpec};
 use lanes::{Came, Connection, Sent};
-use nfs_values::{ConnectionNumber, Offer};
+use nfs_values::ConnectionNumber;
+use rpc_msg::Offer;
 use std::mem;
 use std::process::Abort;
 

@@ -4,7 +4,7 @@ use denote.Param.Send.{IsSend, sendable, view_send}
 use denote.Param.SendFields.{as_row_send, declared_send}
 use Rattle.std.proofs.Crossing.{crosses, send, frees}
 use Rattle.slab.proofs.Slab.TheSendSync as slab
-use Rattle.nfs_values.proofs.offer.Offer.TheSendSync as offer
+use Rattle.rpc_msg.proofs.offer.Offer.TheSendSync as offer
 use Rattle.tcp_front.proofs.stream.Stopped.TheSendSync as stopped
 use Rattle.tcp_front.proofs.stream.Stream.TheSendSync as stream
 use Rattle.outboxes.specs.contracts.record.Record as Record

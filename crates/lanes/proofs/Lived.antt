@@ -7,8 +7,8 @@ use Rattle.std.proofs.lemmas.Bool.{eqb-false}
 use Rattle.std.proofs.lemmas.Map.Views.{exact_unsigned_eq}
 use Rattle.depot_rule.specs.Sums.{total}
 use Rattle.depot_rule.specs.lemmas.Sums.{total-append}
-use Rattle.nfs_values.specs.declared.offer.Offer.{Offer}
-use Rattle.nfs_values.specs.Offer.{form_of}
+use Rattle.rpc_msg.specs.declared.offer.Offer.{Offer}
+use Rattle.rpc_msg.specs.Offer.{form_of}
 use Rattle.turns.specs.Telling.{answer_told, message_told}
 use Rattle.nfs_model.specs.Tree.{Layout}
 use Rattle.nfs_model.specs.World as worlds

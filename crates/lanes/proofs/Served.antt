@@ -5,8 +5,8 @@ use Rattle.std.specs.FinMap.{get}
 use Rattle.std.proofs.lemmas.Bool.{eqb-false}
 use Rattle.std.proofs.lemmas.Map.Views.{exact_unsigned_eq}
 use Rattle.std.proofs.lemmas.List.{map_push}
-use Rattle.nfs_values.specs.declared.offer.Offer.{Offer}
-use Rattle.nfs_values.specs.Offer.{form_of}
+use Rattle.rpc_msg.specs.declared.offer.Offer.{Offer}
+use Rattle.rpc_msg.specs.Offer.{form_of}
 use Rattle.turns.specs.Telling.{answer_told, message_told}
 use Rattle.nfs_model.specs.Tree.{Layout}
 use Rattle.nfs_model.specs.volume.lemmas.Numbered.{itself, get-changed_at}

@@ -1,7 +1,7 @@
 -- What came to a lane's queue and outboxes.
 use Rattle.std.specs.Prelude.{◌≡◌, ℕ, Bool, ◌&&◌, nat_lt, List, [], ◌∷◌, ◌++◌, map}
 use Rattle.affinity.specs.declared.layout.Layout.{Layout}
-use Rattle.nfs_values.specs.declared.handle_form.HandleForm.{HandleForm}
+use Rattle.rpc_msg.specs.declared.handle_form.HandleForm.{HandleForm}
 use Rattle.outboxes.specs.Boxes.{Addressed, Boxes, put}
 use Rattle.turns.specs.Telling.{answer_told}
 use Rattle.tcp_front.specs.Admitted.{calls_of, seen_of}

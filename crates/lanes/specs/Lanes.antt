@@ -2,9 +2,9 @@
 use Rattle.std.specs.Prelude.{◌≡◌, ◌≢◌, ℕ, Bool, List, [], Option, Some, None, Result, Ok, Err}
 use Rattle.slab.specs.Slab.{Slab, get, Updates, with_value}
 use Rattle.nfs_model.specs.Tree.{Layout}
-use Rattle.nfs_values.specs.declared.handle_form.HandleForm.{HandleForm}
-use Rattle.nfs_values.specs.declared.offer.Offer.{Offer}
-use Rattle.nfs_values.specs.Offer.{form_of}
+use Rattle.rpc_msg.specs.declared.handle_form.HandleForm.{HandleForm}
+use Rattle.rpc_msg.specs.declared.offer.Offer.{Offer}
+use Rattle.rpc_msg.specs.Offer.{form_of}
 use Rattle.outboxes.specs.Boxes.{Boxes, shut, opened}
 use Rattle.lanes.specs.declared.connection.Connection.{Connection}
 use Rattle.lanes.specs.declared.connection.Flags.{Flags}

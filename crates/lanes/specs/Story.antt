@@ -4,8 +4,8 @@ use Rattle.std.specs.FinMap.{get}
 use Rattle.depot_rule.specs.Sums.{total}
 use Rattle.nfs_model.specs.Tree.{Layout}
 use Rattle.nfs_model.specs.World.{Heard, Message}
-use Rattle.nfs_values.specs.declared.offer.Offer.{Offer}
-use Rattle.nfs_values.specs.Offer.{form_of}
+use Rattle.rpc_msg.specs.declared.offer.Offer.{Offer}
+use Rattle.rpc_msg.specs.Offer.{form_of}
 use Rattle.turns.specs.Telling.{message_told}
 use Rattle.outboxes.specs.Boxes.{Addressed, addressed, Boxes}
 use Rattle.outboxes.specs.Messages.{ReplyMessage, message}

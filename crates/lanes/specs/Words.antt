@@ -3,7 +3,7 @@ use Rattle.std.specs.Prelude.{ℕ, List, Option}
 use Rattle.std.specs.Arc.{arc_value}
 use Rattle.slab.specs.Slab.{Slab, get}
 use Rattle.affinity.specs.declared.layout.Layout.{Layout}
-use Rattle.nfs_values.specs.declared.offer.Offer.{Offer}
+use Rattle.rpc_msg.specs.declared.offer.Offer.{Offer}
 use Rattle.outboxes.specs.Boxes.{Boxes}
 use Rattle.turns.specs.declared.message.Message.{Message}
 use Rattle.turns.specs.declared.shared.Filer.{Filer}

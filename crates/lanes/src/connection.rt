@@ -145,7 +145,7 @@ impl<D> Connection<D> {
 
 impl<D: Device> Connection<D> {
     ghost use Rattle.std.specs.Prelude.{[]};
-    ghost use Rattle.nfs_values.specs.declared.offer.Offer.{Offer};
+    ghost use Rattle.rpc_msg.specs.declared.offer.Offer.{Offer};
     ghost use Rattle.lanes.specs.Connections.{calls_to, now_of, number_of};
     ghost use Rattle.lanes.specs.Reading.{Reads};
     ghost use Rattle.lanes.specs.Writing.{Writes};

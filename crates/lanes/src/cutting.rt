@@ -7,7 +7,7 @@ ghost use Rattle.lanes.specs.Cutting.{HasCut};
 
 use crate::backlog::Backlog;
 use affinity::Layout;
-use nfs_values::Offer;
+use rpc_msg::Offer;
 use tcp_front::{RecordSink, Stopped, Stream, take_some};
 
 /// Cuts kept bytes as far as the sink has room.

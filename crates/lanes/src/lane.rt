@@ -19,7 +19,7 @@ mod writing;
 use crate::connection::Connection;
 use crate::device::Device;
 use crate::intake::Intake;
-use nfs_values::Offer;
+use rpc_msg::Offer;
 pub use parting::LaneParts;
 use slab::Slab;
 use std::sync::Arc;

@@ -8,7 +8,7 @@ use crate::cutting::{cut_kept, cut_new};
 use crate::device::Device;
 use crate::told::Told;
 use affinity::Layout;
-use nfs_values::Offer;
+use rpc_msg::Offer;
 use tcp_front::RecordSink;
 
 /// What a read of a connection came to.

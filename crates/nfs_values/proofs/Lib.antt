@@ -1,4 +1,3 @@
 pub mod Zeros
-pub mod Told
 pub mod Behind
 pub mod Groups

@@ -2,7 +2,6 @@ pub mod Moment
 pub mod ShortName
 pub mod Name
 pub mod Handle
-pub mod HandleForm
 pub mod Credential
 pub mod Status
 pub mod Unsupported

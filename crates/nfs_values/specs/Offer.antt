@@ -1,17 +1,11 @@
--- Which procedures are offered, and how handles are spelled.
+-- Which procedures are offered.
 use Rattle.std.specs.Prelude.{ℕ, Bool, true, false, get_or, map, replicate, ◌==◌, ◌&&◌}
 use Rattle.std.specs.List.{list_any}
-use Rattle.nfs_values.specs.declared.handle_form.HandleForm.{HandleForm}
-use Rattle.nfs_values.specs.declared.handle_form.HandleForm.TheVariants.{Plain, OfRun}
 use Rattle.nfs_values.specs.declared.offer.Offer.{Offer}
 use Rattle.nfs_values.specs.declared.procedure.Procedure.{Procedure}
 use Rattle.nfs_values.specs.declared.procedure.Procedure.TheVariants.{CheckAccess, ReadLink, MakeSymbolicLink, MakeDevice, MakeLink, ReadDirectoryPlus, FilesystemInfo}
 use Rattle.nfs_values.specs.declared.procedure.Procedure.TheVariants.{PathConfiguration, MountNull, Mount, ListMounts, Unmount, UnmountAll, ListExports}
 use Rattle.nfs_values.specs.Procedure.{all_procedures, numbers_of, place_of}
-
--- how handles are spelled
-abbrev pub form_of : Offer → HandleForm
-form_of offer = offer.handles
 
 -- whether an offer has a procedure
 abbrev pub offers : Offer → Procedure → Bool
@@ -41,11 +35,11 @@ is_basic procedure = true
 
 -- the offer of `replay` and `serve`
 abbrev pub basic : Offer
-basic = record { has = map is_basic all_procedures; handles = Plain }
+basic = record { has = map is_basic all_procedures }
 
--- the offer of a server that clients mount, in the run of this number: every procedure, and handles of the run
-abbrev pub export : ℕ → Offer
-export run = record { has = replicate 31 true; handles = OfRun run }
+-- the offer of a server that clients mount: every procedure
+abbrev pub export : Offer
+export = record { has = replicate 31 true }
 
 -- what is in it
 abbrev pub is_offered : Procedure → Bool

@@ -2,20 +2,18 @@
 
 ghost use Rattle.std.specs.Prelude.{◌≡◌, ◌≢◌, true, false, IfSome, None};
 
-use crate::handle_form::HandleForm;
 use crate::procedure::Procedure;
 
 /// Which procedures are offered: a set of them. A call of another is refused, as one of a number
-/// that no procedure has (PROC_UNAVAIL, RFC 5531 section 9). And how their handles are spelled.
+/// that no procedure has (PROC_UNAVAIL, RFC 5531 section 9).
 #[derive(Clone, Copy)]
 pub struct Offer {
     /// Of each procedure, at its place, whether it is offered.
     has: [bool; 31],
-    handles: HandleForm,
 }
 
 impl Offer {
-    ghost use Rattle.nfs_values.specs.Offer.{basic, export, form_of, offers, offers_program};
+    ghost use Rattle.nfs_values.specs.Offer.{basic, export, offers, offers_program};
     ghost use Rattle.nfs_values.specs.Procedure.{numbers_of};
     ghost use Rattle.nfs_values.specs.declared.procedure.Procedure.{Procedure as Known};
 
@@ -58,48 +56,34 @@ impl Offer {
                 false, // UnmountAll
                 false, // ListExports
             ],
-            handles: HandleForm::Plain,
         }
     }
 
-    /// The offer of a server that clients mount, in the run of this number: every procedure,
-    /// and handles of the run.
-    pub fn export(run: u64) -> Offer
-        ensures { result ≡ export run }
+    /// The offer of a server that clients mount: every procedure.
+    pub fn export() -> Offer
+        ensures { result ≡ export }
     {
-        Offer {
-            has: [true; 31],
-            handles: HandleForm::OfRun(run),
-        }
-    }
-
-    /// How handles are spelled.
-    pub fn handles(self) -> HandleForm
-        ensures { result ≡ form_of self }
-    {
-        self.handles
+        Offer { has: [true; 31] }
     }
 
     /// The offer with this procedure too.
     pub fn with(self, procedure: Procedure) -> Offer
         ensures this { offers result procedure ≡ true }
         ensures others { (p : Known) → p ≢ procedure → offers result p ≡ offers self p }
-        ensures handles { form_of result ≡ form_of self }
     {
-        let Offer { mut has, handles } = self;
+        let Offer { mut has } = self;
         has[procedure.place()] = true;
-        Offer { has, handles }
+        Offer { has }
     }
 
     /// The offer without this procedure.
     pub fn without(self, procedure: Procedure) -> Offer
         ensures this { offers result procedure ≡ false }
         ensures others { (p : Known) → p ≢ procedure → offers result p ≡ offers self p }
-        ensures handles { form_of result ≡ form_of self }
     {
-        let Offer { mut has, handles } = self;
+        let Offer { mut has } = self;
         has[procedure.place()] = false;
-        Offer { has, handles }
+        Offer { has }
     }
 
     /// Whether this procedure is offered.

@@ -1,5 +1,5 @@
 -- How many bytes the results of each procedure take.
-use Rattle.std.proofs.Common.{◌≡◌, ℕ, zero, suc, min, Option, Some, None, ◌+◌, ◌-◌, ◌*◌, ◌≤◌, Bool, true, false, cond, List, [], ◌∷◌, ◌++◌, length, map, replicate, refl, ap, ◌∙◌, arith}
+use Rattle.std.proofs.Common.{◌≡◌, ◌^◌, ℕ, zero, suc, min, take, Option, Some, None, ◌+◌, ◌-◌, ◌*◌, ◌≤◌, Bool, true, false, cond, List, [], ◌∷◌, ◌++◌, length, map, replicate, refl, ap, ◌∙◌, arith}
 use Rattle.std.specs.Prelude.{nat_le}
 use Rattle.std.specs.List.{flat_map, range_with_len}
 use Rattle.std.specs.Option.{option_map}
@@ -14,7 +14,7 @@ use Rattle.nfs_types.specs.Shapes.{◌&◌, handle_shape, after_shape, attribute
 use Rattle.nfs_model.specs.Serial.Mount.{volume_path, root_of, mounted, mount}
 use Rattle.nfs_types.specs.Results.{entry_shape, entry_value, entry_plus_shape, entry_plus_value, count_shape, count_value, export_value, exports_shape, answer_bytes}
 use Rattle.nfs_types.specs.lemmas.Absent.{length-absent_parts}
-use Rattle.nfs_values.specs.HandleForm.{told_in_run, verifier_of}
+use Rattle.rpc_msg.specs.HandleForm.{told_in_run, verifier_of}
 use Rattle.rpc_msg.specs.Handles.{answer_with}
 use Rattle.rpc_msg.specs.Replies.{reply_record}
 use Rattle.rpc_msg.specs.Room.{padded_size, lookup_room, made_room, change_room}

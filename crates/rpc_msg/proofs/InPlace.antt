@@ -5,7 +5,7 @@ use Rattle.std.proofs.lemmas.List.{length-append, drop_at}
 use Rattle.xdr.specs.Shape.{word, flag, spelling}
 use Rattle.xdr.specs.lemmas.Items.{IsBytes}
 use Rattle.nfs_model.specs.Types as model
-use Rattle.nfs_values.specs.declared.offer.Offer.{Offer}
+use Rattle.rpc_msg.specs.declared.offer.Offer.{Offer}
 use Rattle.nfs_values.specs.declared.procedure.Procedure.{Procedure}
 use Rattle.nfs_values.specs.Procedure.{numbers_of}
 use Rattle.rpc_msg.specs.Heads.{Call, head_by}

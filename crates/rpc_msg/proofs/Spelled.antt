@@ -11,9 +11,9 @@ use Rattle.xdr.specs.lemmas.Items.{IsBytes, Splits}
 use Rattle.xdr.specs.lemmas.Shapes.{found, all_found}
 use Rattle.xdr.specs.lemmas.Steps.{chosen}
 use Rattle.nfs_model.specs.Types as model
-use Rattle.nfs_values.specs.declared.offer.Offer.{Offer}
+use Rattle.rpc_msg.specs.declared.offer.Offer.{Offer}
 use Rattle.nfs_values.specs.declared.procedure.Procedure.{Procedure}
-use Rattle.nfs_values.specs.Offer.{offers}
+use Rattle.rpc_msg.specs.Offer.{offers}
 use Rattle.nfs_values.specs.Procedure.{all_procedures, numbers_of}
 use Rattle.nfs_types.specs.Shapes.{◌&◌}
 use Rattle.rpc_msg.specs.Replies.{auth_shape}

@@ -5,9 +5,9 @@ use Rattle.xdr.specs.Shape.{Word, Fixed, Value, Fits, word, padded, spelling}
 use Rattle.xdr.specs.Reading.{read}
 use Rattle.xdr.specs.lemmas.Shapes.{again, all_again}
 use Rattle.nfs_model.specs.Types as model
-use Rattle.nfs_values.specs.declared.offer.Offer.{Offer}
+use Rattle.rpc_msg.specs.declared.offer.Offer.{Offer}
 use Rattle.nfs_values.specs.declared.procedure.Procedure.{Procedure}
-use Rattle.nfs_values.specs.Offer.{offers}
+use Rattle.rpc_msg.specs.Offer.{offers}
 use Rattle.nfs_values.specs.Procedure.{numbers_of}
 use Rattle.nfs_types.specs.Shapes.{◌&◌}
 use Rattle.rpc_msg.specs.Replies.{auth_shape}

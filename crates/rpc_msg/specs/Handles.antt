@@ -1,9 +1,9 @@
 -- The handles of calls and replies, as they are spelled (nfs_fh3, RFC 1813 section 2.6).
 use Rattle.std.specs.Prelude.{ℕ, List}
 use Rattle.nfs_model.specs.Types as model
-use Rattle.nfs_values.specs.declared.handle_form.HandleForm.{HandleForm}
-use Rattle.nfs_values.specs.declared.handle_form.HandleForm.TheVariants.{Plain, OfRun}
-use Rattle.nfs_values.specs.HandleForm.{heard_in_run, told_in_run}
+use Rattle.rpc_msg.specs.declared.handle_form.HandleForm.{HandleForm}
+use Rattle.rpc_msg.specs.declared.handle_form.HandleForm.TheVariants.{Plain, OfRun}
+use Rattle.rpc_msg.specs.HandleForm.{heard_in_run, told_in_run}
 
 -- a call with another handle in place of each of its own (RFC 1813 section 3.3)
 abbrev pub call_with : (List ℕ → List ℕ) → model.Call → model.Call

@@ -7,9 +7,9 @@ use Rattle.xdr.specs.declared.fault.Fault.TheVariants.{Short}
 use Rattle.xdr.specs.Shape.{Shape, Word, Fixed, Opaque, Array, Value}
 use Rattle.xdr.specs.Reading.{Reads, read, all_of}
 use Rattle.nfs_model.specs.Types as model
-use Rattle.nfs_values.specs.declared.offer.Offer.{Offer}
+use Rattle.rpc_msg.specs.declared.offer.Offer.{Offer}
 use Rattle.nfs_values.specs.declared.procedure.Procedure.{Procedure}
-use Rattle.nfs_values.specs.Offer.{basic, offers, offers_program}
+use Rattle.rpc_msg.specs.Offer.{basic, offers, offers_program}
 use Rattle.nfs_values.specs.Procedure.{all_procedures, numbers_of}
 use Rattle.nfs_types.specs.Shapes.{◌&◌}
 use Rattle.rpc_msg.specs.Replies.{auth_shape}

@@ -3,9 +3,9 @@ use Rattle.std.specs.Prelude.{◌≡◌, ◌≢◌, ℕ, ◌+◌, ◌≤◌, ◌
 use Rattle.xdr.specs.Shape.{Shape, Word, Fixed, Value, Fits, Spells, padding, spelling}
 use Rattle.nfs_model.specs.Types as model
 use Rattle.nfs_model.specs.World.{Heard}
-use Rattle.nfs_values.specs.declared.offer.Offer.{Offer}
+use Rattle.rpc_msg.specs.declared.offer.Offer.{Offer}
 use Rattle.nfs_values.specs.declared.procedure.Procedure.{Procedure}
-use Rattle.nfs_values.specs.Offer.{basic, form_of, offers}
+use Rattle.rpc_msg.specs.Offer.{basic, form_of, offers}
 use Rattle.nfs_values.specs.Procedure.{numbers_of}
 use Rattle.nfs_types.specs.Arguments.{Asks}
 use Rattle.nfs_types.specs.Shapes.{◌&◌}

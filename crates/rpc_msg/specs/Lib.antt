@@ -4,6 +4,8 @@ pub mod Room
 pub mod Heads
 pub mod Calls
 pub mod Records
+pub mod HandleForm
+pub mod Offer
 pub mod Handles
 pub mod Hearing
 pub mod Seen

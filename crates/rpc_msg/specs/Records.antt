@@ -3,9 +3,9 @@ use Rattle.std.specs.Prelude.{ℕ, List, Result, Ok, Err}
 use Rattle.xdr.specs.declared.fault.Fault.{Fault as Unread}
 use Rattle.nfs_model.specs.Types as model
 use Rattle.nfs_model.specs.World.{Heard}
-use Rattle.nfs_values.specs.declared.handle_form.HandleForm.{HandleForm}
-use Rattle.nfs_values.specs.declared.offer.Offer.{Offer}
-use Rattle.nfs_values.specs.Offer.{basic, form_of}
+use Rattle.rpc_msg.specs.declared.handle_form.HandleForm.{HandleForm}
+use Rattle.rpc_msg.specs.declared.offer.Offer.{Offer}
+use Rattle.rpc_msg.specs.Offer.{basic, form_of}
 use Rattle.nfs_types.specs.Arguments.{asked}
 use Rattle.rpc_msg.specs.Handles.{call_heard}
 use Rattle.rpc_msg.specs.Heads.{Head, Call, Refused, Faulty, head_by}

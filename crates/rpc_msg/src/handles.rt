@@ -3,24 +3,25 @@
 ghost use Rattle.std.specs.Prelude.{◌≡◌};
 ghost use Rattle.nfs_values.specs.Answer.{answer_of};
 ghost use Rattle.nfs_values.specs.Call.{call_of};
-ghost use Rattle.nfs_values.specs.HandleForm.{heard_in_run, told_in_run};
+ghost use Rattle.rpc_msg.specs.HandleForm.{heard_in_run, told_in_run};
 ghost use Rattle.nfs_values.specs.Reply.{reply_of};
 ghost use Rattle.rpc_msg.specs.Handles.{answer_with, call_heard, call_with, reply_told};
 
-use nfs_values::{Answer, Call, FileHandle, HandleForm, Reply};
+use crate::handle_form::{HandleForm, heard_in_run, told_in_run};
+use nfs_values::{Answer, Call, FileHandle, Reply};
 
 /// Hears a handle in the run of this number.
 fn hear_handle(handle: &mut FileHandle, run: u64)
     ensures { handle.new ≡ heard_in_run run handle.old }
 {
-    *handle = handle.heard_in_run(run);
+    *handle = heard_in_run(handle, run);
 }
 
 /// Tells a handle in the run of this number.
 fn tell_handle(handle: &mut FileHandle, run: u64)
     ensures { handle.new ≡ told_in_run run handle.old }
 {
-    *handle = handle.told_in_run(run);
+    *handle = told_in_run(handle, run);
 }
 
 /// Hears the handles of a call in the run of this number.

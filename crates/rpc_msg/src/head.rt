@@ -13,10 +13,9 @@ ghost use Rattle.rpc_msg.specs.Seen.{numbers_value, stop_of, with_rest};
 use crate::credential::read_credential;
 use crate::fault::RecordFault;
 use crate::items::{opaque, word};
+use crate::offer::Offer;
 use crate::stop::Stop;
-use nfs_values::{
-    ADMIN_PROGRAM, Credential, MOUNT_PROGRAM, NFS_PROGRAM, Offer, Procedure, Refusal,
-};
+use nfs_values::{ADMIN_PROGRAM, Credential, MOUNT_PROGRAM, NFS_PROGRAM, Procedure, Refusal};
 
 /// The type of a message that is a call (msg_type, RFC 5531 section 9).
 const CALL: u32 = 0;

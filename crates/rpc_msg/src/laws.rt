@@ -1,12 +1,15 @@
 //! What holds of every record and of every reply. What is said of `heard` is said of the basic
 //! offer, and in a clause `any..` of every offer.
 
-ghost use Rattle.std.specs.Prelude.{◌≡◌, ◌⊎◌, ℕ, Bool, ◌≤◌, ◌<◌, List, length, Result, Ok, Err};
+ghost use Rattle.std.specs.Prelude.{◌≡◌, ◌≢◌, ◌⊎◌, ℕ, Bool, ◌≤◌, ◌<◌, List, ◌++◌, length};
+ghost use Rattle.std.specs.Prelude.{replicate, take, Result, Ok, Err};
 ghost use Rattle.std.specs.Prelude.{slice_index};
 ghost use Rattle.nfs_model.specs.Types as model;
 ghost use Rattle.nfs_model.specs.World.{Heard, IsDecoded};
-ghost use Rattle.nfs_values.specs.declared.handle_form.HandleForm.{HandleForm};
-ghost use Rattle.nfs_values.specs.declared.offer.Offer.{Offer};
+ghost use Rattle.rpc_msg.specs.declared.handle_form.HandleForm.{HandleForm};
+ghost use Rattle.rpc_msg.specs.declared.handle_form.HandleForm.TheVariants.{OfRun};
+ghost use Rattle.rpc_msg.specs.declared.offer.Offer.{Offer};
+ghost use Rattle.rpc_msg.specs.HandleForm.{handle_heard, handle_told, verifier_of};
 ghost use Rattle.nfs_values.specs.declared.procedure.Procedure.{Procedure};
 ghost use Rattle.rpc_msg.specs.Handles.{reply_told};
 ghost use Rattle.rpc_msg.specs.Heads.{Call, head_by, head_of};
@@ -42,6 +45,19 @@ pub fn replies_fit()
         → length (reply_record xid
         (reply_told form (model.Success (answer_without_home layout call))))
         ≤ reply_room volumes call }
+{}
+
+/// A handle that a run tells comes back to it as it was. In a run of another verifier it keeps its
+/// volume, and names fileid 0, which no file has.
+pub fn handles_come_back()
+    ensures same { (form : HandleForm) (handle : List ℕ)
+        → length handle ≡ 12
+        → handle_heard form (handle_told form handle) ≡ handle }
+    ensures other { (run other : ℕ) (handle : List ℕ)
+        → length handle ≡ 12
+        → verifier_of run ≢ verifier_of other
+        → handle_heard (OfRun other) (handle_told (OfRun run) handle)
+        ≡ take 4 handle ++ replicate 8 0 }
 {}
 
 /// A server is roomy as it begins, and each call leaves it so.

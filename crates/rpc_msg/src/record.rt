@@ -7,10 +7,12 @@ ghost use Rattle.rpc_msg.specs.Records.{heard, heard_by, heard_from};
 ghost use Rattle.rpc_msg.specs.Seen.{Hears, Tells};
 
 use crate::fault::RecordFault;
+use crate::handle_form::HandleForm;
 use crate::handles::hear;
 use crate::head::{Head, read_call_of};
+use crate::offer::Offer;
 use nfs_types::{Bad, decode_in_place};
-use nfs_values::{Call, Credential, HandleForm, Offer, Procedure, Refusal};
+use nfs_values::{Call, Credential, Procedure, Refusal};
 use std::alloc::Global;
 
 /// What a record asks.

@@ -2,7 +2,7 @@
 use Rattle.std.proofs.Common.{◌≡◌, ℕ, ◌+◌, List, [], All, length, ap, ◌∙◌, subst, sym, arith}
 use Rattle.depot_rule.specs.Sums.{total}
 use Rattle.lanes.specs.declared.lane.Lane.{Lane}
-use Rattle.nfs_values.specs.declared.offer.Offer.{Offer}
+use Rattle.rpc_msg.specs.declared.offer.Offer.{Offer}
 use Rattle.turns.specs.declared.shared.Filer.{Filer}
 use Rattle.server.specs.contracts.socket.SocketDevice.TheImpl.{ghosts}
 use Rattle.server.specs.declared.socket.Socket.{Socket}

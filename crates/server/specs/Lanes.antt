@@ -1,7 +1,7 @@
 -- Lanes of a filer, over any devices.
 use Rattle.std.specs.Prelude.{◌≡◌, ℕ, zero, suc, true, List, [], ◌∷◌, length, All}
 use Rattle.depot_rule.specs.Sums.{total}
-use Rattle.nfs_values.specs.declared.offer.Offer.{Offer}
+use Rattle.rpc_msg.specs.declared.offer.Offer.{Offer}
 use Rattle.lanes.specs.Words.{filer_in, identity_in, offer_in, place_in, put_in, waiting_in, worker_in, Identity}
 use Rattle.lanes.specs.declared.device.Device as devices
 use Rattle.lanes.specs.declared.lane.Lane.{Lane}

@@ -34,7 +34,7 @@ mod visits;
 
 pub use ending::{FilerEnd, end};
 pub use fault::ServerFault;
-pub use opening::open_lanes;
+pub use opening::{open_lanes, run_now};
 pub use options::Options;
 pub use peers::{MOST_NETWORKS, Network, Peers};
 pub use plan::VolumePlan;

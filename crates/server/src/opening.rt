@@ -1,6 +1,9 @@
 //! A filer that is opened, with its lanes.
 
-ghost use Rattle.std.specs.Prelude.{◌≡◌, ◌≤◌, ◌<◌, [], IfOk, vec_len, vec_capacity};
+ghost use Rattle.std.specs.Prelude.{◌≡◌, ◌≤◌, ◌<◌, ℕ, [], IfOk, vec_len, vec_capacity};
+ghost use Rattle.rpc_msg.specs.declared.handle_form.HandleForm.TheVariants.{OfRun};
+ghost use Rattle.rpc_msg.specs.HandleForm.{verifier_of};
+ghost use Rattle.rpc_msg.specs.Offer.{form_of};
 ghost use Rattle.std.specs.Arc.{arc_value};
 ghost use Rattle.lanes.specs.Words.{identity_in, worker_in};
 ghost use Rattle.server.specs.Lanes.{AllOffer, AreLanesOf, IsLaneOf};
@@ -11,7 +14,7 @@ use crate::options::MOST_VOLUMES;
 use crate::plan::VolumePlan;
 use affinity::{AggregateSpec, Layout, VolumeSpec};
 use lanes::{Device, Lane};
-use nfs_values::Offer;
+use rpc_msg::{HandleForm, Offer};
 use std::alloc::{AllocError, Global};
 use std::rt::Clock;
 use std::sync::Arc;
@@ -40,15 +43,25 @@ pub(crate) fn layout_of(
     }
 }
 
-/// A write verifier from the clock: seconds and nanoseconds, the highest byte first. It is 0 where
-/// the clock can't be read.
-pub(crate) fn verifier_now<R: Clock>(rt: &R) -> [u8; 8] {
+/// The number of a run that begins now, from the clock: seconds, and nanoseconds in its low half. It
+/// is 0 where the clock can't be read.
+pub fn run_now<R: Clock>(rt: &R) -> u64 {
     match rt.since_1970() {
         Ok(time) => {
             let seconds = time.as_secs() % (1 << 32);
-            ((seconds << 32) | u64::from(time.subsec_nanos())).to_be_bytes()
+            (seconds << 32) | u64::from(time.subsec_nanos())
         }
-        Err(_failed) => [0; 8],
+        Err(_failed) => 0,
+    }
+}
+
+/// The write verifier of a run with an offer: where its handles are of a run, that run's.
+pub(crate) fn verifier_for<R: Clock>(rt: &R, offer: Offer) -> [u8; 8]
+    ensures { (run : ℕ) → form_of offer ≡ OfRun run → result ≡ verifier_of run }
+{
+    match offer.handles() {
+        HandleForm::OfRun(run) => run.to_be_bytes(),
+        HandleForm::Plain => run_now(rt).to_be_bytes(),
     }
 }
 

@@ -4,7 +4,7 @@ ghost use Rattle.std.specs.Prelude.{◌≤◌, ◌<◌};
 
 use crate::peers::Peers;
 use crate::plan::VolumePlan;
-use nfs_values::Offer;
+use rpc_msg::Offer;
 use std::net::SocketAddr;
 
 /// The most volumes.
@@ -32,7 +32,7 @@ pub struct Options {
 
 impl Options {
     ghost use Rattle.std.specs.Prelude.{◌≡◌, IfNone, IfSome};
-    ghost use Rattle.nfs_values.specs.Offer.{basic};
+    ghost use Rattle.rpc_msg.specs.Offer.{basic};
     ghost use Rattle.server.specs.Asked.{IsBasic, IsInRange};
     ghost use Rattle.server.specs.declared.peers.Peers.TheVariants.{All};
 

@@ -20,7 +20,7 @@ use crate::crew::{Mail, join_all, start_all};
 use crate::ending::{FilerEnd, end};
 use crate::fault::{ServerFault, of_serving, of_start};
 use crate::mailbox::Mailbox;
-use crate::opening::{layout_of, open_lanes, verifier_now};
+use crate::opening::{layout_of, open_lanes, verifier_for};
 use crate::options::Options;
 use crate::room::Room;
 use crate::socket::Socket;
@@ -103,7 +103,7 @@ where
         Ok(common) => common,
         Err(_refused) => return Err(ServerFault::NoMemory),
     };
-    let verifier = verifier_now(&rt);
+    let verifier = verifier_for(&rt, options.offer);
     let (filer, mut lanes) = open_lanes(
         rt,
         alloc,

@@ -6,7 +6,7 @@ use Rattle.std.specs.Io.KnownBytes.{Consumes, IsAtEnd, Keeps}
 use Rattle.nfs_values.specs.declared.number.ConnectionNumber.{ConnectionNumber}
 use Rattle.nfs_model.specs.Tree.{Layout}
 use Rattle.nfs_model.specs.World.{Heard}
-use Rattle.nfs_values.specs.declared.offer.Offer.{Offer}
+use Rattle.rpc_msg.specs.declared.offer.Offer.{Offer}
 use Rattle.tcp_front.specs.declared.counted.Counted.{Counted}
 use Rattle.tcp_front.specs.declared.read_end.ReadEnd.TheVariants as ends
 use Rattle.tcp_front.specs.declared.stream.Stream.{Stream}

@@ -5,7 +5,7 @@ use Rattle.nfs_model.specs.Tree.{Layout}
 use Rattle.nfs_model.specs.Serial.AtOnce.{answer_without_home}
 use Rattle.nfs_values.specs.declared.call.Call.{Call}
 use Rattle.nfs_values.specs.Call.{call_of}
-use Rattle.nfs_values.specs.declared.handle_form.HandleForm.{HandleForm}
+use Rattle.rpc_msg.specs.declared.handle_form.HandleForm.{HandleForm}
 use Rattle.rpc_msg.specs.Handles.{reply_told}
 use Rattle.rpc_msg.specs.lemmas.Refusals.{refusal_told}
 use Rattle.rpc_msg.specs.Replies.{reply_record, IsRefusal}

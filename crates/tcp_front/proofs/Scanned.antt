@@ -5,7 +5,7 @@ use Rattle.std.proofs.lemmas.List.{append-nil, map-append}
 use Rattle.rpc_record.specs.Machine.{State, Next, Goes, Ends, Faults, after}
 use Rattle.rpc_record.specs.Stream.{Reading, reading_at, byte_read, read_on, read_stream}
 use Rattle.nfs_model.specs.World.{Heard, Scanned}
-use Rattle.nfs_values.specs.declared.offer.Offer.{Offer}
+use Rattle.rpc_msg.specs.declared.offer.Offer.{Offer}
 use Rattle.engine_feed.specs.Codec.{heard}
 use Rattle.engine_feed.specs.Streams.{fault_at, served_of, scan_stream}
 

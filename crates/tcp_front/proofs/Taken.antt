@@ -6,7 +6,7 @@ use Rattle.std.proofs.Math.Seq.{take-add}
 use Rattle.rpc_record.specs.Machine.{State}
 use Rattle.nfs_model.specs.Tree.{Layout}
 use Rattle.nfs_model.specs.World.{Heard}
-use Rattle.nfs_values.specs.declared.offer.Offer.{Offer}
+use Rattle.rpc_msg.specs.declared.offer.Offer.{Offer}
 use Rattle.tcp_front.specs.declared.stream.Stream.{Stream}
 use Rattle.tcp_front.specs.declared.stream.Stopped.{Stopped}
 use Rattle.tcp_front.specs.declared.stream.Stopped.TheVariants as stops

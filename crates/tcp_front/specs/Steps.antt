@@ -4,7 +4,7 @@ use Rattle.std.specs.Global.{Global}
 use Rattle.rpc_record.specs.Machine.{State, start}
 use Rattle.rpc_record.specs.Stream.{read_stream}
 use Rattle.nfs_values.specs.declared.number.ConnectionNumber.{ConnectionNumber}
-use Rattle.nfs_values.specs.declared.offer.Offer.{Offer}
+use Rattle.rpc_msg.specs.declared.offer.Offer.{Offer}
 use Rattle.nfs_model.specs.Types.{Asked}
 use Rattle.nfs_model.specs.Tree.{Layout}
 use Rattle.nfs_model.specs.World.{Heard}

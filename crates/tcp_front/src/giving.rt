@@ -3,7 +3,7 @@
 ghost use Rattle.std.specs.Prelude.{◌≡◌, ◌≤◌, [], ◌∷◌, true, length, OnOk, OnErr};
 ghost use Rattle.nfs_model.specs.Serial.AtOnce.{answer_without_home};
 ghost use Rattle.nfs_model.specs.Types as types;
-ghost use Rattle.nfs_values.specs.declared.handle_form.HandleForm.{HandleForm};
+ghost use Rattle.rpc_msg.specs.declared.handle_form.HandleForm.{HandleForm};
 ghost use Rattle.nfs_values.specs.Call.{call_of};
 ghost use Rattle.nfs_values.specs.Credential.{credential_of};
 ghost use Rattle.affinity.specs.Layout.{layout_of};

@@ -1,7 +1,7 @@
 //! Bytes up to the end of a record.
 
 ghost use Rattle.std.specs.Prelude.{◌≤◌, length};
-ghost use Rattle.nfs_values.specs.declared.offer.Offer.{Offer};
+ghost use Rattle.rpc_msg.specs.declared.offer.Offer.{Offer};
 ghost use Rattle.tcp_front.specs.Steps.{Comes};
 
 use crate::stream::Stopped;

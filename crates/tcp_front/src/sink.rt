@@ -4,7 +4,7 @@ ghost use Rattle.std.specs.Prelude.{OnOk, OnErr};
 ghost use Rattle.std.specs.Prelude.{◌≡◌, ◌≤◌, List, [], ◌∷◌, ◌++◌, Some, Bool, true, length};
 ghost use Rattle.nfs_model.specs.Home.{home};
 ghost use Rattle.nfs_model.specs.Tree as trees;
-ghost use Rattle.nfs_values.specs.declared.handle_form.HandleForm.{HandleForm};
+ghost use Rattle.rpc_msg.specs.declared.handle_form.HandleForm.{HandleForm};
 ghost use Rattle.nfs_values.specs.Call.{call_of};
 ghost use Rattle.nfs_values.specs.Reply.{reply_of};
 ghost use Rattle.affinity.specs.Affinity.{affinity_of};

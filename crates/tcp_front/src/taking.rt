@@ -13,7 +13,7 @@ use crate::sink::RecordSink;
 use crate::stream::{MOST_RECORDS, Stopped, Stream};
 use affinity::Layout;
 use engine_feed::{Heard, RecordRead, read_record};
-use nfs_values::Offer;
+use rpc_msg::Offer;
 use scheduler::Origin;
 
 /// Gives on a record under the next number.

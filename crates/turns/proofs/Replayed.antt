@@ -26,7 +26,7 @@ use Rattle.filer_state.specs.laws.lemmas.Opening.{opening-tree}
 use Rattle.outboxes.specs.Messages as replies
 use Rattle.outboxes.specs.Messages.{record_of}
 use Rattle.outboxes.specs.lemmas.Messages.{record_is}
-use Rattle.nfs_values.specs.declared.handle_form.HandleForm.{HandleForm}
+use Rattle.rpc_msg.specs.declared.handle_form.HandleForm.{HandleForm}
 use Rattle.rpc_msg.specs.Handles.{reply_told}
 use Rattle.rpc_msg.specs.Replies.{reply_record}
 use Rattle.rpc_msg.specs.Room.{IsRoomy, reply_room}

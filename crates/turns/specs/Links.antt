@@ -4,7 +4,7 @@ use Rattle.nfs_model.specs.Types.{SystemError}
 use Rattle.nfs_model.specs.Tree.{Layout}
 use Rattle.nfs_values.specs.Reply.{reply_of}
 use Rattle.nfs_values.specs.declared.moment.Moment.{Moment}
-use Rattle.nfs_values.specs.declared.handle_form.HandleForm.{HandleForm}
+use Rattle.rpc_msg.specs.declared.handle_form.HandleForm.{HandleForm}
 use Rattle.nfs_values.specs.declared.reply.Reply.{Reply}
 use Rattle.rpc_msg.specs.Handles.{reply_told}
 use Rattle.affinity.specs.Affinity.{affinity_of}

@@ -1,6 +1,6 @@
 -- Answers as they are told.
 use Rattle.std.specs.Prelude.{List, map}
-use Rattle.nfs_values.specs.declared.handle_form.HandleForm.{HandleForm}
+use Rattle.rpc_msg.specs.declared.handle_form.HandleForm.{HandleForm}
 use Rattle.outboxes.specs.Boxes.{Addressed, addressed}
 use Rattle.outboxes.specs.Messages.{ReplyMessage, message}
 use Rattle.rpc_msg.specs.Handles.{reply_told}

@@ -24,11 +24,11 @@ use affinity::{Kind, Layout};
 use depot::{Refusal, Seat};
 use desk::{NodeGrant, ParcelKinds, TaskNode};
 use filer_state::Files;
-use nfs_values::{HandleForm, Moment};
+use nfs_values::Moment;
+use rpc_msg::{HandleForm, replies_fit, servers_are_roomy};
 use parcels::{
     AggregateNode, LogicalNode, Parcel, RangeNode, SerialNode, StripeNode, VbnNode, VolumeNode,
 };
-use rpc_msg::{replies_fit, servers_are_roomy};
 use service::{JobReply, Service};
 use std::sync::Wait;
 
@@ -82,8 +82,8 @@ fn chain<N: TaskNode<Parcel<Files>, ParcelKinds>, R: Wait, G: Gate, H: Hint, S: 
     ensures chained { let L = layout_in filer.now in (s : Standing)
         → Stands L (verifier_in filer.now) s message (known pass.old) (node_lent L grant.old)
         (view seat.old)
-        → HasChained (TookTold handles S.took) L (verifier_in filer.now) s moment sink.old result told.new
-        (known pass.new) (node_lent L grant.new) (view seat.new) sink.new }
+        → HasChained (TookTold handles S.took) L (verifier_in filer.now) s moment sink.old
+        result told.new (known pass.new) (node_lent L grant.new) (view seat.new) sink.new }
 {
     let mut message = message;
     for _link in 1..most {
@@ -139,8 +139,8 @@ fn serve_all_on<N: TaskNode<Parcel<Files>, ParcelKinds>, R: Wait, G: Gate, H: Hi
     ensures placed { IfSome result.kept (IsPlaced (layout_in filer.now)) }
     ensures served { (s : Standing)
         → IsPicked s (view seat.old) (known pass.old) message
-        → HasServedOn (TookTold handles S.took) (layout_in filer.now) s moment sink.old result.chained sink.new
-        (left_standing (view seat.new) (known pass.new) result.kept) }
+        → HasServedOn (TookTold handles S.took) (layout_in filer.now) s moment sink.old
+        result.chained sink.new (left_standing (view seat.new) (known pass.new) result.kept) }
 {
     replies_fit();
     servers_are_roomy();
@@ -195,8 +195,8 @@ pub(crate) fn serve_all<R: Wait, G: Gate, H: Hint, S: AnswerSink>(
     ensures placed { IfSome result.kept (IsPlaced (layout_in filer.now)) }
     ensures served { (s : Standing)
         → IsPicked s (view seat.old) (known pass.old) message
-        → HasServedOn (TookTold handles S.took) (layout_in filer.now) s moment sink.old result.chained sink.new
-        (left_standing (view seat.new) (known pass.new) result.kept) }
+        → HasServedOn (TookTold handles S.took) (layout_in filer.now) s moment sink.old
+        result.chained sink.new (left_standing (view seat.new) (known pass.new) result.kept) }
 {
     match message.affinity().kind() {
         Kind::Range => serve_all_on::<RangeNode, R, G, H, S>(

@@ -14,9 +14,9 @@ ghost use Rattle.turns.specs.Turns.{job_of_message};
 use crate::answer::Answer;
 use crate::envelope::Envelope;
 use crate::telling::let_go;
-use nfs_values::{HandleForm, Moment};
+use nfs_values::Moment;
+use rpc_msg::{HandleForm, tell};
 use outboxes::Room;
-use rpc_msg::tell;
 use scheduler::Origin;
 use service::{Job, JobReply};
 

@@ -28,9 +28,9 @@ use affinity::{Affinity, Layout};
 use depot::Seat;
 use desk::{NodeGrant, ParcelKinds, TaskNode, finish_node, go_on_node, put_back_node};
 use filer_state::Files;
-use nfs_values::{HandleForm, Moment};
+use nfs_values::Moment;
+use rpc_msg::{HandleForm, replies_fit, servers_are_roomy};
 use parcels::{Node, Parcel};
-use rpc_msg::{replies_fit, servers_are_roomy};
 use service::{JobReply, Service};
 use std::sync::Wait;
 
@@ -169,8 +169,8 @@ pub(crate) fn link_on<
     ensures linked { let L = layout_in filer.now in (b : Standing)
         → Stands L (verifier_in filer.now) b message (known pass.old) (node_lent L grant.old)
         (view seat.old)
-        → HasLinked (TookTold handles S.took) L (verifier_in filer.now) b message moment (known pass.old)
-        (node_lent L grant.old) (view seat.old) sink.old result told.new (known pass.new)
+        → HasLinked (TookTold handles S.took) L (verifier_in filer.now) b message moment
+        (known pass.old) (node_lent L grant.old) (view seat.old) sink.old result told.new (known pass.new)
         (node_lent L grant.new) (view seat.new) sink.new }
 {
     replies_fit();
@@ -215,8 +215,8 @@ pub(crate) fn end_on<N: Node<Parcel<Files>>, G: Gate, S: AnswerSink>(
         CanEnd L (view seat.old) (node_lent L grant) tried told.old }
     ensures seat { IsSeatHere filer.now.depot seat.new }
     ensures splits { splits_left seat.new ≡ splits_left seat.old }
-    ensures ended { let L = layout_in filer.now in HasEnded (TookTold handles S.took) L (view seat.old)
-        (node_lent L grant) tried told.old sink.old (view seat.new) result sink.new }
+    ensures ended { let L = layout_in filer.now in
+        HasEnded (TookTold handles S.took) L (view seat.old) (node_lent L grant) tried told.old sink.old (view seat.new) result sink.new }
 {
     match tried {
         Tried::Moved(message, affinity) => {

@@ -3,7 +3,7 @@
 ghost use Rattle.std.specs.Prelude.{◌≡◌, ◌≤◌, length};
 ghost use Rattle.affinity.specs.Numbers.{number_of};
 ghost use Rattle.nfs_values.specs.Reply.{reply_of};
-ghost use Rattle.nfs_values.specs.declared.handle_form.HandleForm.{HandleForm as HandleFormSeen};
+ghost use Rattle.rpc_msg.specs.declared.handle_form.HandleForm.{HandleForm as HandleFormSeen};
 ghost use Rattle.nfs_values.specs.declared.reply.Reply.{Reply};
 ghost use Rattle.rpc_msg.specs.Handles.{reply_told};
 ghost use Rattle.parcels.specs.Exact.{kind_in};
@@ -31,12 +31,12 @@ use affinity::Kind;
 use depot::Seat;
 use desk::{NodeGrant, ParcelKinds, TaskNode, finish_node, put_back_node};
 use filer_state::Files;
-use nfs_values::{HandleForm, Moment};
+use nfs_values::Moment;
+use rpc_msg::{HandleForm, replies_fit, servers_are_roomy};
 use parcels::{
     AggregateNode, LogicalNode, Node, Parcel, RangeNode, SerialNode, StripeNode, VbnNode,
     VolumeNode,
 };
-use rpc_msg::{replies_fit, servers_are_roomy};
 use service::{JobReply, Service};
 
 /// Ends a message's call by its entry, and answers it.

@@ -8,7 +8,8 @@ use crate::shared_waiting::{Pass, SharedWaiting};
 use crate::turned::Gate;
 use crate::worker::Worker;
 use affinity::Layout;
-use nfs_values::{HandleForm, Moment};
+use nfs_values::Moment;
+use rpc_msg::HandleForm;
 use std::sync::Wait;
 
 impl Worker {
@@ -39,8 +40,8 @@ impl Worker {
     ) -> Chained
         requires { IsAt filer.now queue.now self.old }
         ensures inside { IsAt filer.now queue.now self.new }
-        ensures tried { HasTriedAll (TookTold handles S.took) (layout_in filer.now) (standing_of self.old) moment
-            sink.old result sink.new (standing_of self.new) }
+        ensures tried { HasTriedAll (TookTold handles S.took) (layout_in filer.now)
+            (standing_of self.old) moment sink.old result sink.new (standing_of self.new) }
         ensures few { HasDoneFew (turns_at_most most) (seat_view self.old) (seat_view self.new) }
         ensures share { HasShareOf (passed self.old) (passed self.new) }
         ensures seats { seats_in self.new ≡ seats_in self.old }
@@ -71,10 +72,10 @@ impl Worker {
     /// Turns for who has another pass of the queue beside: the call of the message that is kept, or
     /// else of the one that waits longest, and then, under the same grant, those of the messages
     /// after it that try the same node, at most so many. The answers go into a sink, with their
-    /// handles in a form. A message that
-    /// was picked and tries another node is kept, for the next turn. Where the node was refused, a
-    /// hint is left to who has it; and where one is left here, no more is picked. Where no message
-    /// is found, none waits by both passes, and so none at all where nobody else has a pass.
+    /// handles in a form. A message that was picked and tries another node is kept, for the next
+    /// turn. Where the node was refused, a hint is left to who has it; and where one is left here,
+    /// no more is picked. Where no message is found, none waits by both passes, and so none at all
+    /// where nobody else has a pass.
     pub fn turns_beside<R: Wait, G: Gate, H: Hint, S: AnswerSink>(
         &mut self,
         filer: &Filer,
@@ -93,8 +94,8 @@ impl Worker {
         requires key { (known other.old).key ≡ (passed self.old).key }
         ensures inside { IsAt filer.now queue.now self.new }
         ensures other { IsOf queue.now other.new × (known other.new ≡ known other.old) }
-        ensures turned { HasTurnedOn (TookTold handles S.took) (layout_in filer.now) (standing_of self.old) moment
-            sink.old result sink.new (standing_of self.new) }
+        ensures turned { HasTurnedOn (TookTold handles S.took) (layout_in filer.now)
+            (standing_of self.old) moment sink.old result sink.new (standing_of self.new) }
         ensures few { HasDoneFew (turns_at_most most) (seat_view self.old) (seat_view self.new) }
         ensures none { result ≡ Idle
             → Held 0 (Leaves (both (passed self.old) (known other.old))) }

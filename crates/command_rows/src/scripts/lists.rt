@@ -4,7 +4,8 @@ use crate::scripts::events::{holds, same};
 use crate::scripts::texts::{NULL, NULL_REPLY, NULL_UNAVAILABLE};
 use affinity::{AggregateSpec, Layout, VolumeSpec};
 use filer_commands::replay::{ConnectionNumber, Engine, Event, Worker, WorkerNumber, WorkerRun};
-use nfs_values::{Offer, Procedure};
+use nfs_values::Procedure;
+use rpc_msg::Offer;
 use std::process::Abort;
 
 /// The bytes that hex digits stand for.

@@ -2,7 +2,7 @@
 use Rattle.std.specs.Prelude.{◌≡◌, ℕ, List}
 use Rattle.std.proofs.Common.{refl}
 use Rattle.nfs_model.specs.Types.{Reply}
-use Rattle.nfs_values.specs.declared.offer.Offer.{Offer}
+use Rattle.rpc_msg.specs.declared.offer.Offer.{Offer}
 use Rattle.rpc_msg.specs.Records as records
 use Rattle.rpc_msg.specs.Replies as replies
 use Rattle.engine_feed.specs.Codec.{heard, reply_record}

@@ -5,7 +5,7 @@ use Rattle.std.specs.Io.KnownBytes.{Consumes}
 use Rattle.nfs_model.specs.Tree.{Layout}
 use Rattle.nfs_model.specs.World.{Heard, Scanned}
 use Rattle.outboxes.specs.Messages.{ReplyMessage}
-use Rattle.nfs_values.specs.declared.offer.Offer.{Offer}
+use Rattle.rpc_msg.specs.declared.offer.Offer.{Offer}
 use Rattle.engine_feed.specs.Numbers.{fault_number}
 use Rattle.engine_feed.specs.Streams.{scan_stream}
 use Rattle.tcp_front.specs.declared.stream.Stopped.{Stopped}

@@ -6,7 +6,7 @@ use crate::due::Due;
 use crate::intake::Intake;
 use crate::lane::Lane;
 use affinity::Layout;
-use nfs_values::Offer;
+use rpc_msg::Offer;
 use outboxes::Outboxes;
 use slab::Slab;
 use std::alloc::Global;

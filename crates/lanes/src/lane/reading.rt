@@ -12,7 +12,7 @@ use crate::intake::Intake;
 use crate::lane::Lane;
 use crate::reading::Came;
 use affinity::Layout;
-use nfs_values::Offer;
+use rpc_msg::Offer;
 use slab::Slab;
 use std::sync::Wait;
 

@@ -7,7 +7,8 @@ ghost use Rattle.lanes.specs.Queues.{count_kept};
 use crate::device::Device;
 use crate::intake::Intake;
 use crate::lane::Lane;
-use nfs_values::{HandleForm, Moment};
+use nfs_values::Moment;
+use rpc_msg::HandleForm;
 use std::sync::Wait;
 use turns::{Chained, Filer, Gate, Hint, Worker};
 
@@ -82,7 +83,7 @@ impl<D: Device, R: Wait> Lane<D, R> {
     ghost use Rattle.turns.specs.shared_waiting.Passes.{known};
     ghost use Rattle.turns.specs.Chains.{turns_at_most, HasDoneFew, HasPutAll, HasTurnedOn};
     ghost use Rattle.turns.specs.Turns.{standing_of};
-    ghost use Rattle.nfs_values.specs.Offer.{form_of};
+    ghost use Rattle.rpc_msg.specs.Offer.{form_of};
     ghost use Rattle.turns.specs.Telling.{TookTold};
     ghost use Rattle.turns.specs.Words.{layout_in, seat_view, seats_in};
     ghost use Rattle.lanes.specs.Queues.{HasNoneLeft};

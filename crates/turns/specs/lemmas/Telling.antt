@@ -1,6 +1,6 @@
 -- Answers that a sink took as they are told add up.
 use Rattle.std.proofs.Common.{◌≡◌, List, [], ◌∷◌, ◌++◌, map, refl, sym, ap, subst}
-use Rattle.nfs_values.specs.declared.handle_form.HandleForm.{HandleForm}
+use Rattle.rpc_msg.specs.declared.handle_form.HandleForm.{HandleForm}
 use Rattle.outboxes.specs.Boxes.{Addressed}
 use Rattle.turns.specs.Telling.{answer_told, TookTold}
 

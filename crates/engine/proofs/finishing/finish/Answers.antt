@@ -5,7 +5,7 @@ use Rattle.std.specs.Option.{option_copied}
 use Rattle.std.proofs.lemmas.List.{length-map, length-set}
 use Rattle.nfs_values.specs.Moment.{moment_of}
 use Rattle.nfs_model.specs.Types as types
-use Rattle.nfs_values.specs.Offer.{form_of}
+use Rattle.rpc_msg.specs.Offer.{form_of}
 use Rattle.nfs_values.specs.Reply.{reply_of}
 use Rattle.rpc_msg.specs.Handles.{reply_told}
 use Rattle.nfs_values.specs.declared.reply.Reply.{Reply}

@@ -5,7 +5,7 @@ use Rattle.nfs_model.specs.Server.{start_of_times}
 use Rattle.nfs_model.specs.World.{Codec}
 use Rattle.nfs_values.specs.Reply.{refusal_of}
 use Rattle.rpc_msg.specs.lemmas.Refusals.{refusal_is, refusal_told}
-use Rattle.nfs_values.specs.Offer.{form_of}
+use Rattle.rpc_msg.specs.Offer.{form_of}
 use Rattle.engine_feed.specs.Codec.{reply_record}
 use Rattle.engine_feed.specs.Seen.{waiting_of, entry_at}
 use Rattle.engine_feed.proofs.Records.{refusal-fits}

@@ -3,7 +3,7 @@ use Rattle.std.specs.Prelude.{true, None}
 use Rattle.nfs_model.specs.Types as types
 use Rattle.nfs_model.specs.Server.{start_of_times}
 use Rattle.nfs_model.specs.World.{Codec}
-use Rattle.nfs_values.specs.Offer.{form_of}
+use Rattle.rpc_msg.specs.Offer.{form_of}
 use Rattle.rpc_msg.specs.lemmas.Refusals.{refusal_told}
 use Rattle.engine_feed.specs.Codec.{reply_record}
 use Rattle.engine_feed.specs.Seen.{waiting_of, entry_at}

@@ -1,4 +1,4 @@
-use Rattle.nfs_values.specs.Offer.{basic}
+use Rattle.rpc_msg.specs.Offer.{basic}
 use Rattle.rpc_msg.proofs.SayingAgain.{exactly_garbage, exactly_call}
 use Rattle.rpc_msg.proofs.laws.arguments_are_spelled.Goals as goal
 

@@ -1,4 +1,4 @@
-use Rattle.nfs_values.specs.Offer.{basic}
+use Rattle.rpc_msg.specs.Offer.{basic}
 use Rattle.rpc_msg.proofs.Spelled.{call_found}
 use Rattle.rpc_msg.proofs.SpelledAgain.{call_again}
 use Rattle.rpc_msg.proofs.laws.call_heads_are_exact.Goals as goal

@@ -1,4 +1,4 @@
-use Rattle.nfs_values.specs.Offer.{basic}
+use Rattle.rpc_msg.specs.Offer.{basic}
 use Rattle.rpc_msg.proofs.SayingAgain.{exactly_bad, exactly_rejected}
 use Rattle.rpc_msg.proofs.laws.credentials_are_spelled.Goals as goal
 

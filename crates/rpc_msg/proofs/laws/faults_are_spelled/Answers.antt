@@ -1,4 +1,4 @@
-use Rattle.nfs_values.specs.Offer.{basic}
+use Rattle.rpc_msg.specs.Offer.{basic}
 use Rattle.rpc_msg.proofs.SayingAgain.{exactly_incomplete, exactly_no_call}
 use Rattle.rpc_msg.proofs.laws.faults_are_spelled.Goals as goal
 

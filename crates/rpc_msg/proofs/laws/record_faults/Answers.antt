@@ -1,4 +1,4 @@
-use Rattle.nfs_values.specs.Offer.{basic}
+use Rattle.rpc_msg.specs.Offer.{basic}
 use Rattle.rpc_msg.specs.lemmas.Hearing.{fault_of_record}
 use Rattle.rpc_msg.proofs.laws.record_faults.Goals as goal
 

@@ -1,4 +1,4 @@
-use Rattle.nfs_values.specs.Offer.{basic}
+use Rattle.rpc_msg.specs.Offer.{basic}
 use Rattle.rpc_msg.specs.lemmas.Hearing.{record_is_decoded}
 use Rattle.rpc_msg.proofs.laws.records_are_decoded.Goals as goal
 

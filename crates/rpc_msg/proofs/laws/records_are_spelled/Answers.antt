@@ -1,4 +1,4 @@
-use Rattle.nfs_values.specs.Offer.{basic}
+use Rattle.rpc_msg.specs.Offer.{basic}
 use Rattle.rpc_msg.proofs.Saying.{heard_is}
 use Rattle.rpc_msg.proofs.SayingAgain.{heard_again}
 use Rattle.rpc_msg.proofs.laws.records_are_spelled.Goals as goal

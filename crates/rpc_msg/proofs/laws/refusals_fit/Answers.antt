@@ -1,4 +1,4 @@
-use Rattle.nfs_values.specs.Offer.{basic}
+use Rattle.rpc_msg.specs.Offer.{basic}
 use Rattle.rpc_msg.specs.lemmas.Refusals.{refusal_refuses, refusal_fits}
 use Rattle.rpc_msg.proofs.laws.refusals_fit.Goals as goal
 

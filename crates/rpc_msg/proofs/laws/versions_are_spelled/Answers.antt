@@ -1,4 +1,4 @@
-use Rattle.nfs_values.specs.Offer.{basic}
+use Rattle.rpc_msg.specs.Offer.{basic}
 use Rattle.rpc_msg.proofs.SayingAgain.{exactly_rpc, exactly_program, exactly_version, exactly_procedure}
 use Rattle.rpc_msg.proofs.laws.versions_are_spelled.Goals as goal
 

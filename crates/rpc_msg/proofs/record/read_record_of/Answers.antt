@@ -1,7 +1,7 @@
-use Rattle.std.proofs.Common.{ℕ, List, sym, subst, ap, ◌∙◌, arith}
+use Rattle.std.proofs.Common.{ℕ, ◌-◌, List, length, drop, sym, subst, ap, ◌∙◌, arith}
 use Rattle.nfs_types.specs.lemmas.Bytes.{are_bytes}
 use Rattle.nfs_values.specs.Credential.{credential_of}
-use Rattle.nfs_values.specs.Offer.{form_of}
+use Rattle.rpc_msg.specs.Offer.{form_of}
 use Rattle.rpc_msg.specs.Heads.{Head, Call, head_by}
 use Rattle.rpc_msg.specs.Records.{heard_from}
 use Rattle.rpc_msg.specs.Seen.{Tells, head_seen}
@@ -25,4 +25,6 @@ returns-in-Call c =
     let end = arguments-end c.args.offer bytes k.xid k.procedure who k.arguments.now c.len.result (are_bytes bytes (λ i lt. omega (arith, lt))) says
     (c.len.ensures ∙ c.args.record.ok.0) in
     subst (λ (h : Head). Tells k.xid c.decode.result (heard_from (form_of c.args.offer) h)) (sym says)
-    (subst (λ (l : List ℕ). Tells k.xid c.decode.result (heard_from (form_of c.args.offer) (Call k.xid k.procedure who l))) end.there c.decode.ensures)
+    (subst (λ (l : List ℕ). Tells k.xid c.decode.result (heard_from (form_of c.args.offer) (Call k.xid k.procedure who l))) end.there
+    (subst (λ form. Tells k.xid c.decode.result (heard_from form (Call k.xid k.procedure who (drop (c.len.result - length k.arguments.now) bytes))))
+    c.handles-form.ensures c.decode.ensures))

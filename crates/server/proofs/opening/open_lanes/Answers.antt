@@ -7,7 +7,7 @@ use Rattle.turns.specs.shared_waiting.Balance.{both, IsWhole}
 use Rattle.turns.specs.shared_waiting.Passes.{known}
 use Rattle.turns.specs.Balance.{Passed}
 use Rattle.turns.specs.Words.{seats_in, IsAt}
-use Rattle.nfs_values.specs.declared.offer.Offer.{Offer}
+use Rattle.rpc_msg.specs.declared.offer.Offer.{Offer}
 use Rattle.lanes.specs.Words.{Identity}
 use Rattle.lanes.specs.declared.device.Device as devices
 use Rattle.lanes.specs.declared.lane.Lane.{Lane}

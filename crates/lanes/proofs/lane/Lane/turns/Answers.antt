@@ -2,7 +2,7 @@ use Rattle.std.proofs.Common.{◌≡◌, refl, sym, ap, subst, ◌∙◌, rules}
 use Rattle.std.specs.Arc.{arc_value}
 use Rattle.affinity.specs.declared.layout.Layout.{Layout}
 use Rattle.turns.specs.Chains.{HasPutAll, HasTurnedOn}
-use Rattle.nfs_values.specs.Offer.{form_of}
+use Rattle.rpc_msg.specs.Offer.{form_of}
 use Rattle.turns.specs.Telling.{TookTold}
 use Rattle.turns.specs.Turns.{standing_of}
 use Rattle.turns.specs.Words.{entries_in, layout_in, IsAt}

@@ -3,8 +3,8 @@
 use Rattle.std.specs.Prelude.{ℕ, List, [], ◌++◌, ◌==◌, length, take, drop, replicate, if◌then◌else◌}
 use Rattle.std.specs.Int.{w64, to_be_bytes}
 use Rattle.nfs_model.specs.Names.{same_name}
-use Rattle.nfs_values.specs.declared.handle_form.HandleForm.{HandleForm}
-use Rattle.nfs_values.specs.declared.handle_form.HandleForm.TheVariants.{Plain, OfRun}
+use Rattle.rpc_msg.specs.declared.handle_form.HandleForm.{HandleForm}
+use Rattle.rpc_msg.specs.declared.handle_form.HandleForm.TheVariants.{Plain, OfRun}
 
 -- the verifier of the run of a number
 abbrev pub verifier_of : ℕ → List ℕ

@@ -1,7 +1,7 @@
 use Rattle.std.proofs.Common.{◌≡◌, refl, ap, ◌∙◌, List, ℕ, ◌++◌, take, length}
-use Rattle.nfs_values.specs.HandleForm.{verifier_of}
-use Rattle.nfs_values.proofs.Told.{run_told}
-use Rattle.nfs_values.proofs.handle.FileHandle.told_in_run.Goals as goal
+use Rattle.rpc_msg.specs.HandleForm.{verifier_of}
+use Rattle.rpc_msg.proofs.Told.{run_told}
+use Rattle.rpc_msg.proofs.handle_form.told_in_run.Goals as goal
 
 pub returns : goal.returns
 returns c =

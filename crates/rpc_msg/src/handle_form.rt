@@ -1,0 +1,55 @@
+//! How handles are spelled.
+
+ghost use Rattle.std.specs.Prelude.{◌≡◌};
+ghost use Rattle.nfs_model.specs.Names.{same_name};
+ghost use Rattle.rpc_msg.specs.HandleForm.{heard_in_run as heard_so, told_in_run as told_so};
+
+use nfs_values::FileHandle;
+
+/// How many bytes a handle of the server has.
+const PLAIN_BYTES: usize = 12;
+
+/// How a server spells its handles, which are opaque to clients (nfs_fh3, RFC 1813 section 2.6).
+#[derive(Clone, Copy)]
+pub enum HandleForm {
+    /// As they are: volume and fileid.
+    Plain,
+    /// And then the verifier of the run, which has this number, so that those of another run are
+    /// stale.
+    OfRun(u64),
+}
+
+/// Whether two lists of bytes are one.
+fn is_same(bytes: &[u8], other: &[u8]) -> bool
+    ensures { result ≡ same_name bytes.now other.now }
+{
+    bytes == other
+}
+
+/// What came as a handle, as the server has it in the run of this number.
+pub(crate) fn heard_in_run(handle: &FileHandle, run: u64) -> FileHandle
+    ensures { result ≡ heard_so run handle.now }
+{
+    let bytes = handle.as_bytes();
+    if bytes.len() != 20 {
+        return FileHandle::new(&[]);
+    }
+    if is_same(&bytes[12..], &run.to_be_bytes()) {
+        return FileHandle::new(&bytes[..12]);
+    }
+    let mut other = [0; 12];
+    other[..4].copy_from_slice(&bytes[..4]);
+    FileHandle::new(&other)
+}
+
+/// A handle as it is told in the run of this number.
+pub(crate) fn told_in_run(handle: &FileHandle, run: u64) -> FileHandle
+    ensures { result ≡ told_so run handle.now }
+{
+    let bytes = handle.as_bytes();
+    let size = PLAIN_BYTES.min(bytes.len());
+    let mut told = [0; 20];
+    told[..size].copy_from_slice(&bytes[..size]);
+    told[size..size + 8].copy_from_slice(&run.to_be_bytes());
+    FileHandle::new(&told[..size + 8])
+}
