@@ -15,7 +15,7 @@ use Rattle.nfs_model.specs.Serial.Mount.{volume_path, root_of, mounted, mount}
 use Rattle.nfs_types.specs.Results.{entry_shape, entry_value, entry_plus_shape, entry_plus_value, count_shape, count_value, export_value, exports_shape, answer_bytes}
 use Rattle.nfs_types.specs.lemmas.Absent.{length-absent_parts}
 use Rattle.rpc_msg.specs.HandleForm.{told_in_run, verifier_of}
-use Rattle.rpc_msg.specs.Handles.{answer_with}
+use Rattle.rpc_msg.specs.Handles.{answer_with, listed_with}
 use Rattle.rpc_msg.specs.Replies.{reply_record}
 use Rattle.rpc_msg.specs.Room.{padded_size, lookup_room, made_room, change_room}
 
@@ -39,6 +39,7 @@ length-padded bytes =
 abbrev pub more_of : model.Answer → ℕ
 more_of (model.LookupDone handle object directory) = 8
 more_of (model.MadeDone handle object directory) = 8
+more_of (model.ReaddirplusDone directory page eof) = 8 * length page
 more_of (model.MountDone handle) = 8
 more_of answer = 0
 
@@ -170,9 +171,9 @@ abbrev pub entries_plus_size : List model.Listed → ℕ
 entries_plus_size [] = 0
 entries_plus_size (e ∷ es) = entry_plus_size e + entries_plus_size es
 
--- what is told of an entry takes no more than is reserved for it
+-- what is told of an entry takes no more than is reserved for it, with 8 bytes more for its handle
 abbrev pub IsShort : model.Listed → model.ListedPlus → Type 0
-IsShort e told = length (spelling entry_plus_shape (entry_plus_value told)) + 4 ≤ entry_plus_size e
+IsShort e told = length (spelling entry_plus_shape (entry_plus_value told)) + 12 ≤ entry_plus_size e
 
 attributes_told : Option model.Shown → List ℕ
 attributes_told attributes = spelling after_shape (option_map attributes_value attributes)
@@ -185,9 +186,13 @@ unfolding attributes_told
 length-attributes None = omega arith
 length-attributes (Some a) = omega arith
 
-length-handle : (handle : List ℕ) → length handle ≤ 20 → length (handle_told handle) ≤ 28
+length-handle : (handle : List ℕ) → length handle ≤ 12 → length (handle_told handle) ≤ 20
 unfolding handle_told
-length-handle handle h = omega (arith, length-padded handle, padded_more (length handle) 20 h)
+length-handle handle h = omega (arith, length-padded handle, padded_more (length handle) 12 h)
+
+length-optional : (handle : List ℕ) → length (handle_told handle) ≡ 8 + length (padded handle)
+unfolding handle_told
+length-optional handle = omega arith
 
 length-entry_plus : (t : model.ListedPlus)
     → length (spelling entry_plus_shape (entry_plus_value t))
@@ -198,8 +203,8 @@ length-entry_plus t =
     let handle = spelling (Optional handle_shape) (Some t.handle) in
     omega (arith, length-append (padded t.entry.name) (hyper t.entry.cookie ++ (attributes ++ handle)), length-append attributes handle)
 
--- a handle of at most 20 bytes
-pub entry_is_short : (e : model.Listed) (attributes : Option model.Shown) (handle : List ℕ) → length handle ≤ 20
+-- a handle of at most 12 bytes
+pub entry_is_short : (e : model.Listed) (attributes : Option model.Shown) (handle : List ℕ) → length handle ≤ 12
     → IsShort e (record { entry = e; attributes = attributes; handle = handle })
 entry_is_short e attributes handle h =
     omega (
@@ -211,7 +216,7 @@ entry_is_short e attributes handle h =
     )
 
 pub length-entries_plus : (told : model.Listed → model.ListedPlus) → ((e : model.Listed) → IsShort e (told e)) → (es : List model.Listed)
-    → length (linked (λ v. spelling entry_plus_shape v) (map entry_plus_value (map told es))) ≤ 4 + entries_plus_size es
+    → 8 * length es + length (linked (λ v. spelling entry_plus_shape v) (map entry_plus_value (map told es))) ≤ 4 + entries_plus_size es
 length-entries_plus told h [] = omega arith
 length-entries_plus told h (e ∷ es) =
     omega (
@@ -224,7 +229,7 @@ length-entries_plus told h (e ∷ es) =
 
 pub readdirplus_size : (told : model.Listed → model.ListedPlus) → ((e : model.Listed) → IsShort e (told e)) → (directory : model.Shown)
     (page : List model.Listed) (eof : Bool)
-    → length (answer_bytes (model.ReaddirplusDone directory (map told page) eof)) ≤ 108 + entries_plus_size page
+    → 8 * length page + length (answer_bytes (model.ReaddirplusDone directory (map told page) eof)) ≤ 108 + entries_plus_size page
 readdirplus_size told h directory page eof =
     let chain = linked (λ v. spelling entry_plus_shape v) (map entry_plus_value (map told page)) in
     let rest = spelling (Chain entry_plus_shape & Boolean) (map entry_plus_value (map told page), eof) in
@@ -270,6 +275,45 @@ handle_more run handle rest =
     let c = length-padded (told_in_run run handle) ∙ ap padded_size (length-told run handle) in
     omega (arith, a, b, c, length-padded handle, told_padded (length handle))
 
+-- an entry takes 8 bytes more at most, as it is told, and so a page of them 8 for each
+told_entry : (run : ℕ) (t : model.ListedPlus)
+    → length (spelling entry_plus_shape (entry_plus_value (listed_with (told_in_run run) t)))
+    ≤ 8 + length (spelling entry_plus_shape (entry_plus_value t))
+told_entry run t =
+    omega (
+      arith,
+      length-entry_plus t,
+      length-entry_plus (listed_with (told_in_run run) t),
+      handle_more run t.handle [],
+      length-optional t.handle,
+      length-optional (told_in_run run t.handle),
+    )
+
+told_entries : (run : ℕ) (page : List model.ListedPlus)
+    → length (linked (λ v. spelling entry_plus_shape v) (map entry_plus_value (map (listed_with (told_in_run run)) page)))
+    ≤ 8 * length page + length (linked (λ v. spelling entry_plus_shape v) (map entry_plus_value page))
+told_entries run [] = omega arith
+told_entries run (t ∷ ts) =
+    omega (
+      arith,
+      told_entries run ts,
+      told_entry run t,
+      length-append (spelling entry_plus_shape (entry_plus_value (listed_with (told_in_run run) t)))
+          (linked (λ v. spelling entry_plus_shape v) (map entry_plus_value (map (listed_with (told_in_run run)) ts))),
+      length-append (spelling entry_plus_shape (entry_plus_value t))
+          (linked (λ v. spelling entry_plus_shape v) (map entry_plus_value ts)),
+    )
+
+length-readdirplus : (directory : model.Shown) (page : List model.ListedPlus) (eof : Bool)
+    → length (answer_bytes (model.ReaddirplusDone directory page eof))
+    ≡ 104 + length (linked (λ v. spelling entry_plus_shape v) (map entry_plus_value page))
+length-readdirplus directory page eof =
+    let chain = linked (λ v. spelling entry_plus_shape v) (map entry_plus_value page) in
+    let rest = spelling (Chain entry_plus_shape & Boolean) (map entry_plus_value page, eof) in
+    let verifier = padded (replicate 8 0) in
+    let front : length (verifier ++ rest) ≡ 8 + length rest = length-append verifier rest in
+    omega (arith, front, length-append chain (word (flag eof)))
+
 -- results take so many bytes more at most, as they are told
 pub told_size : (run : ℕ) (answer : model.Answer)
     → length (answer_bytes (answer_with (told_in_run run) answer)) ≤ more_of answer + length (answer_bytes answer)
@@ -277,6 +321,13 @@ told_size run (model.LookupDone handle object directory) =
     omega (arith, handle_more run handle (spelling (after_shape & after_shape) (Some (attributes_value object), Some (attributes_value directory))))
 told_size run (model.MadeDone handle object directory) =
     omega (arith, handle_more run handle (spelling (after_shape & change_shape) (Some (attributes_value object), change_value directory)))
+told_size run (model.ReaddirplusDone directory page eof) =
+    omega (
+      arith,
+      told_entries run page,
+      length-readdirplus directory page eof,
+      length-readdirplus directory (map (listed_with (told_in_run run)) page) eof,
+    )
 told_size run (model.MountDone handle) = omega (arith, handle_more run handle (spelling (Array (2 ^ 32 - 1) Word) (1 ∷ 0 ∷ [])))
 told_size run answer = omega arith
 

@@ -1,14 +1,15 @@
 //! The handles of calls and replies, as they are spelled.
 
-ghost use Rattle.std.specs.Prelude.{◌≡◌};
-ghost use Rattle.nfs_values.specs.Answer.{answer_of};
+ghost use Rattle.std.specs.Prelude.{◌≡◌, map};
+ghost use Rattle.nfs_values.specs.Answer.{answer_of, entry_plus_of};
 ghost use Rattle.nfs_values.specs.Call.{call_of};
 ghost use Rattle.rpc_msg.specs.HandleForm.{heard_in_run, told_in_run};
 ghost use Rattle.nfs_values.specs.Reply.{reply_of};
-ghost use Rattle.rpc_msg.specs.Handles.{answer_with, call_heard, call_with, reply_told};
+ghost use Rattle.rpc_msg.specs.Handles.{answer_with, call_heard, call_with, listed_with};
+ghost use Rattle.rpc_msg.specs.Handles.{reply_told};
 
 use crate::handle_form::{HandleForm, heard_in_run, told_in_run};
-use nfs_values::{Answer, Call, FileHandle, Reply};
+use nfs_values::{Answer, Call, DirectoryEntryPlus, FileHandle, Reply};
 
 /// Hears a handle in the run of this number.
 fn hear_handle(handle: &mut FileHandle, run: u64)
@@ -44,6 +45,7 @@ fn hear_in_run(call: &mut Call, run: u64)
             hear_handle(&mut to.directory, run);
         }
         Call::ReadDirectory { directory, .. } => hear_handle(directory, run),
+        Call::ReadDirectoryPlus { directory, .. } => hear_handle(directory, run),
         Call::FilesystemStatus { handle } => hear_handle(handle, run),
         Call::FilesystemInfo { handle } => hear_handle(handle, run),
         Call::PathConfiguration { handle } => hear_handle(handle, run),
@@ -62,6 +64,16 @@ pub(crate) fn hear(call: &mut Call, form: HandleForm)
     }
 }
 
+/// Tells the handles of entries in the run of this number.
+fn tell_entries(entries: &mut [DirectoryEntryPlus], run: u64)
+    ensures { map entry_plus_of entries.new
+        ≡ map (listed_with (told_in_run run)) (map entry_plus_of entries.old) }
+{
+    for entry in entries.iter_mut() {
+        tell_handle(&mut entry.handle, run);
+    }
+}
+
 /// Tells the handles of results in the run of this number.
 fn tell_in_run(answer: &mut Answer, run: u64)
     ensures { answer_of answer.new ≡ answer_with (told_in_run run) (answer_of answer.old) }
@@ -70,6 +82,7 @@ fn tell_in_run(answer: &mut Answer, run: u64)
         Answer::Lookup(Ok(results)) => tell_handle(&mut results.handle, run),
         Answer::Create(Ok(results)) => tell_handle(&mut results.handle, run),
         Answer::MakeDirectory(Ok(results)) => tell_handle(&mut results.handle, run),
+        Answer::ReadDirectoryPlus(Ok(results)) => tell_entries(&mut results.entries, run),
         Answer::Mount(Ok(results)) => tell_handle(&mut results.handle, run),
         _ => {}
     }
