@@ -1,10 +1,9 @@
 -- READDIRPLUS of a set under Logical, as its checks come out.
-use Rattle.std.proofs.Common.{◌≡◌, ℕ, ◌+◌, ◌-◌, ◌<◌, ◌≤◌, Bool, true, false, List, [], ◌∷◌, length, map, Option, Some, None, sym, ap, ◌∙◌, refl, subst}
+use Rattle.std.proofs.Common.{◌≡◌, ℕ, ◌-◌, ◌<◌, ◌≤◌, Bool, true, false, List, [], ◌∷◌, length, map, None, sym, ap, ◌∙◌, refl, subst}
 use Rattle.std.proofs.Common.{arith, Result, Ok, Err}
 use Rattle.std.proofs.lemmas.Bool.Decides.{nat_tests}
-use Rattle.std.specs.Prelude.{min, not, ◌&&◌, ◌==◌, nat_lt, nat_le, if◌then◌else◌}
-use Rattle.std.specs.Result.{IsErr, result_ok}
-use Rattle.std.specs.Option.{option_map}
+use Rattle.std.specs.Prelude.{min, not, ◌&&◌, ◌==◌, nat_lt, if◌then◌else◌}
+use Rattle.std.specs.Result.{IsErr}
 use Rattle.std.specs.declared.alloc.AllocError.{AllocError}
 use Rattle.nfs_model.specs.Types.{Listed, ListedPlus, Shown, Answer, Success, ReaddirplusDone, Failed, BadCookie, TooSmall}
 use Rattle.nfs_model.specs.Tree.{Logical}
@@ -12,7 +11,7 @@ use Rattle.nfs_model.specs.Server.{most_bytes}
 use Rattle.nfs_model.specs.Work as works
 use Rattle.nfs_model.specs.Locate.{Fails}
 use Rattle.nfs_model.specs.Serial.Readdir.{above_cookie, fitting}
-use Rattle.nfs_model.specs.Serial.Readdirplus.{fitting_plus, page_plus, page_plus_of, paged_plus, readdirplus_from}
+use Rattle.nfs_model.specs.Serial.Readdirplus.{page_plus, page_plus_of, paged_plus, readdirplus_from}
 use Rattle.nfs_values.specs.Answer as answers
 use Rattle.nfs_values.specs.declared.answer.Answer.TheVariants.{ReadDirectoryPlus}
 use Rattle.nfs_values.specs.declared.answer.ReadDirectoryPlusResults.{ReadDirectoryPlusResults}

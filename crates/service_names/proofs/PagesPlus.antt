@@ -1,8 +1,8 @@
 -- A page of entries that fit by their names, and of these a page that fits whole.
-use Rattle.std.proofs.Common.{◌≡◌, ℕ, ◌-◌, ◌+◌, ◌<◌, ◌≤◌, Bool, true, false, Option, Some, None, Result, Ok, Err, List, length, map, refl, sym, ap, ◌∙◌, subst, arith}
+use Rattle.std.proofs.Common.{◌≡◌, ℕ, ◌-◌, ◌<◌, ◌≤◌, Bool, true, false, Result, Ok, Err, List, length, map, sym, ap, ◌∙◌, subst, arith}
 use Rattle.std.proofs.lemmas.Bool.Decides.{nat_tests}
 use Rattle.std.proofs.lemmas.List.{length-map}
-use Rattle.std.specs.Prelude.{OnErr, min, ◌&&◌, ◌==◌, nat_le, if◌then◌else◌}
+use Rattle.std.specs.Prelude.{OnErr, min, ◌&&◌, ◌==◌}
 use Rattle.nfs_model.specs.Types.{Listed, ListedPlus}
 use Rattle.nfs_model.specs.Serial.Readdir.{fitting}
 use Rattle.nfs_model.specs.Serial.Readdirplus.{fitting_plus}

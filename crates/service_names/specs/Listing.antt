@@ -8,7 +8,6 @@ use Rattle.nfs_model.specs.volume.Directories.{Page}
 use Rattle.nfs_model.specs.volume.Logical.{LogicalValue}
 use Rattle.filer_state.specs.changes.NameAnswers.{entries_of}
 use Rattle.nfs_values.specs.Answer.{entry_plus_of}
-use Rattle.nfs_values.specs.declared.answer.DirectoryEntryPlus.{DirectoryEntryPlus}
 use Rattle.service_names.specs.declared.listing_plus.PagePlus.{PagePlus}
 
 abbrev pub entry_here : ℕ → List ℕ → ℕ → Listed

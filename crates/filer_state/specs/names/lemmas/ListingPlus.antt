@@ -7,7 +7,7 @@ use Rattle.nfs_model.specs.Types.{Listed, ListedPlus, Shown, Success, BadCookie,
 use Rattle.nfs_model.specs.Tree.{Affinity}
 use Rattle.nfs_model.specs.Serial.Starve.{takes_memory}
 use Rattle.nfs_model.specs.Work.{Starved}
-use Rattle.nfs_model.specs.Server.{Node, Directory, VolumeState, most_bytes, handle_bytes}
+use Rattle.nfs_model.specs.Server.{Directory, VolumeState, most_bytes, handle_bytes}
 use Rattle.nfs_model.specs.Shown.{shown}
 use Rattle.nfs_model.specs.Locate.{Fails}
 use Rattle.nfs_model.specs.Serial.Readdir.{all_listed, above_cookie}
