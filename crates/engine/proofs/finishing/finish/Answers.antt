@@ -134,7 +134,7 @@ end_on-running-requires-clause-may c =
 
 -- ---- it ends in its connection
 
-module _ (c : goal.After-reply-1) where
+module _ (c : goal.After-reply-2-1) where
   abbrev s : State
   s = c.args.state.now
 
@@ -233,7 +233,7 @@ module _ (c : goal.After-drop) where
   ]
 
   -- what is said of the message that comes back is so of the one that was taken
-  told : types.Reply
+  abbrev told : types.Reply
   told = reply_of c.tell.new.reply
 
   is_told : told ≡ reply_told (form_of before.offer) (reply_of reply)

@@ -15,4 +15,4 @@ pub returns-in-Refused-clause-admitted : goal.returns-in-Refused-clause-admitted
 returns-in-Refused-clause-admitted c =
     let a = c.refuse in
     subst (λ (r : Request). HasHeard c.args.offer c.args.calls.now c.args.connection.now c.args.origin (asked_of r) false a.new.calls a.new.connection)
-    (sym c.in-Refused.is) a.ensures.admitted
+    (sym c.in-Refused.is) (a.ensures.admitted c.args.offer)
