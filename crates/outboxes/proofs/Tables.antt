@@ -76,16 +76,16 @@ pub fresh-again : (next step : ℕ) (old new : Waits) → NoneFrom next old → 
 fresh-again next step old new n some h q far =
     h q ∙ (ap (λ (b : Bool). cond b (Some []) (found old q)) (other next q (omega (arith, far, some))) ∙ n q (omega (arith, far)))
 
-module _ (next step : ℕ) (old new : Waits) where
+module _ (most next step : ℕ) (old new : Waits) where
   -- a connection more
   pub opens : ((q : ℕ) → found new q ≡ cond (is_at (nat_cmp next) q) (Some []) (found old q))
-      → boxes_of (next + step) step new ≡ opened (boxes_of next step old)
-  opens h = ap (λ m. record { next = next + step; step = step; waiting = m }) (same new (insert (waiting_of old) next []) (λ q.
+      → boxes_of most (next + step) step new ≡ opened (boxes_of most next step old)
+  opens h = ap (λ m. record { most = most; next = next + step; step = step; waiting = m }) (same new (insert (waiting_of old) next []) (λ q.
       h q ∙ sym (get-insert nat_cmp_total (waiting_of old) next [] q ∙ (λ i. cond (turned next q i) (Some []) (get-found old q i)))))
 
   -- a connection less
-  pub shuts : (k : ℕ) → ((q : ℕ) → found new q ≡ cond (is_at (nat_cmp k) q) None (found old q)) → boxes_of next step new ≡ shut k (boxes_of next step old)
-  shuts k h = ap (λ m. record { next = next; step = step; waiting = m }) (same new (remove (waiting_of old) k) (λ q.
+  pub shuts : (k : ℕ) → ((q : ℕ) → found new q ≡ cond (is_at (nat_cmp k) q) None (found old q)) → boxes_of most next step new ≡ shut k (boxes_of most next step old)
+  shuts k h = ap (λ m. record { most = most; next = next; step = step; waiting = m }) (same new (remove (waiting_of old) k) (λ q.
       h q ∙ sym (get-remove nat_cmp_total (waiting_of old) k q ∙ (λ i. cond (turned k q i) None (get-found old q i)))))
 
   -- what waits for one connection changed
@@ -101,19 +101,19 @@ module _ (next step : ℕ) (old new : Waits) where
 
   pub puts : (k : ℕ) (m : ReplyMessage)
       → ((q : ℕ) → found new q ≡ (if q == k then option_map (with_last m) (found old q) else found old q))
-      → boxes_of next step new ≡ put (record { connection = k; message = m }) (boxes_of next step old)
-  puts k m h = ap (λ w. record { next = next; step = step; waiting = w }) (changes (with_last m) k h)
+      → boxes_of most next step new ≡ put (record { connection = k; message = m }) (boxes_of most next step old)
+  puts k m h = ap (λ w. record { most = most; next = next; step = step; waiting = w }) (changes (with_last m) k h)
 
   -- the same, of a record and where it goes
   pub puts-addressed : (k : ℕ) (said : ReplyMessage) (a : Addressed) → addressed k said ≡ a
       → ((q : ℕ) → found new q ≡ (if q == k then option_map (with_last said) (found old q) else found old q))
-      → boxes_of next step new ≡ put a (boxes_of next step old)
-  puts-addressed k said a e h = puts k said h ∙ ap (λ (x : Addressed). put x (boxes_of next step old)) e
+      → boxes_of most next step new ≡ put a (boxes_of most next step old)
+  puts-addressed k said a e h = puts k said h ∙ ap (λ (x : Addressed). put x (boxes_of most next step old)) e
 
   pub takes : (k : ℕ)
       → ((q : ℕ) → found new q ≡ (if q == k then option_map (drop 1) (found old q) else found old q))
-      → boxes_of next step new ≡ taken k (boxes_of next step old)
-  takes k h = ap (λ w. record { next = next; step = step; waiting = w }) (changes (drop 1) k h)
+      → boxes_of most next step new ≡ taken k (boxes_of most next step old)
+  takes k h = ap (λ w. record { most = most; next = next; step = step; waiting = w }) (changes (drop 1) k h)
 
-  pub first : (k : ℕ) → first_in (found old k) ≡ oldest k (boxes_of next step old)
+  pub first : (k : ℕ) → first_in (found old k) ≡ oldest k (boxes_of most next step old)
   first k = ap first_in (sym (get-found old k))

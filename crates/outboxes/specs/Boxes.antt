@@ -7,9 +7,10 @@ use Rattle.std.specs.Ordering.{nat_cmp}
 use Rattle.nfs_model.specs.volume.Maps.{changed_at}
 use Rattle.outboxes.specs.Messages.{ReplyMessage}
 
--- The number that the next connection gets, by how much the one after that is larger, and what waits
--- for each connection that is open, the oldest first.
+-- How many connections may be open, the number that the next one gets, by how much the one after that
+-- is larger, and what waits for each connection that is open, the oldest first.
 pub record Boxes : Type 0 where
+  pub most : ℕ
   pub next : ℕ
   pub step : ℕ
   pub waiting : FinMap nat_cmp (List ReplyMessage)
@@ -17,8 +18,10 @@ pub record Boxes : Type 0 where
 -- its code, where replies have one
 abbrev pub coded_boxes : Coded (List ReplyMessage) → Coded Boxes
 coded_boxes code =
-    code_by (ℕ × (ℕ × FinMap nat_cmp (List ReplyMessage))) (coded× coded_ℕ (coded× coded_ℕ (maps.code coded_ℕ code)))
-    (λ b. (b.next, (b.step, b.waiting))) (λ p. record { next = p.0; step = p.1.0; waiting = p.1.1 }) (λ _. refl)
+    code_by (ℕ × (ℕ × (ℕ × FinMap nat_cmp (List ReplyMessage))))
+    (coded× coded_ℕ (coded× coded_ℕ (coded× coded_ℕ (maps.code coded_ℕ code))))
+    (λ b. (b.most, (b.next, (b.step, b.waiting))))
+    (λ p. record { most = p.0; next = p.1.0; step = p.1.1.0; waiting = p.1.1.1 }) (λ _. refl)
 
 -- a reply on its way to a connection
 pub record Addressed : Type 0 where
@@ -30,7 +33,7 @@ addressed connection message = record { connection = connection; message = messa
 
 -- ---- limits
 
--- the most connections that are open
+-- the most connections that are open, where no other number is given
 abbrev pub most_open : ℕ
 most_open = 64
 
@@ -44,7 +47,7 @@ most_bytes = 131072
 
 -- no connection can be opened
 abbrev pub IsFull : Boxes → Type 0
-IsFull b = (most_open ≤ len b.waiting) ⊎ (most_numbers ≤ b.next)
+IsFull b = (b.most ≤ len b.waiting) ⊎ (most_numbers ≤ b.next)
 
 -- ---- lanes
 
@@ -58,17 +61,17 @@ AreOfLane lane lanes b = (b.step ≡ lanes) × IsNumberOf lane lanes b.next
 
 -- ---- what calls do
 
--- before the first connection of one of so many lanes
-abbrev pub none_of : ℕ → ℕ → Boxes
-none_of lane lanes = record { next = lane; step = lanes; waiting = empty }
+-- before the first connection of one of so many lanes, at which so many may be open
+abbrev pub none_of : ℕ → ℕ → ℕ → Boxes
+none_of most lane lanes = record { most = most; next = lane; step = lanes; waiting = empty }
 
 -- before the first connection, where there is one lane alone
 abbrev pub none_open : Boxes
-none_open = none_of 0 1
+none_open = none_of most_open 0 1
 
 -- one connection more, under the next number
 abbrev pub opened : Boxes → Boxes
-opened b = record { next = b.next + b.step; step = b.step; waiting = insert b.waiting b.next [] }
+opened b = record { most = b.most; next = b.next + b.step; step = b.step; waiting = insert b.waiting b.next [] }
 
 -- a connection closed, and what waited for it gone; nothing where the number isn't open
 abbrev pub shut : ℕ → Boxes → Boxes

@@ -12,8 +12,8 @@ use Rattle.outboxes.specs.Messages.{ReplyMessage}
 abbrev pub waiting_of : List (ℕ × List ReplyMessage) → FinMap nat_cmp (List ReplyMessage)
 waiting_of es = from_entries es
 
-abbrev pub boxes_of : ℕ → ℕ → List (ℕ × List ReplyMessage) → Boxes
-boxes_of next step es = record { next = next; step = step; waiting = waiting_of es }
+abbrev pub boxes_of : ℕ → ℕ → ℕ → List (ℕ × List ReplyMessage) → Boxes
+boxes_of most next step es = record { most = most; next = next; step = step; waiting = waiting_of es }
 
 -- what waits for a connection changed, where it is open, and nothing else
 abbrev pub HasChanged : (List ReplyMessage → List ReplyMessage) → ℕ → BTreeMap ℕ (List ReplyMessage) → BTreeMap ℕ (List ReplyMessage) → Type 0

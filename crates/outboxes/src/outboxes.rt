@@ -24,7 +24,7 @@ ghost use Rattle.std.specs.Ordering.{nat_cmp};
 ghost use Rattle.nfs_values.specs.Reply.{reply_of};
 ghost use Rattle.outboxes.specs.Boxes.{addressed, first_in, most_bytes, with_last, IsFull};
 ghost use Rattle.outboxes.specs.Boxes.{none_of, none_open, oldest, opened, put, shut, taken};
-ghost use Rattle.outboxes.specs.Boxes.{most_numbers, AreOfLane, IsNumberOf};
+ghost use Rattle.outboxes.specs.Boxes.{most_numbers, most_open, AreOfLane, IsNumberOf};
 ghost use Rattle.outboxes.specs.Messages.{message, record_of};
 ghost use Rattle.outboxes.specs.Tables.{HasChanged};
 ghost use Rattle.outboxes.specs.declared.refusal.OpenRefusal.TheVariants as refusals;
@@ -40,7 +40,7 @@ use std::alloc::{AllocError, Global};
 use std::collections::BTreeMap;
 use std::marker::Model;
 
-/// The most connections that are open.
+/// The most connections that are open, where no other number is given.
 const MOST_OPEN: usize = 64;
 
 /// The most numbers that are given.
@@ -50,6 +50,8 @@ const MOST_NUMBERS: usize = 1 << 62;
 pub struct Outboxes {
     alloc: Global,
     by_number: BTreeMap<usize, Outbox>,
+    /// How many connections may be open.
+    most: usize,
     next: usize,
     /// By how much each number is larger than the one before.
     step: usize,
@@ -61,6 +63,7 @@ impl Drop for Outboxes {
         let Outboxes {
             alloc: _,
             by_number: _,
+            most: _,
             next: _,
             step: _,
         } = self;
@@ -77,13 +80,13 @@ impl Model for Outboxes {
 
     ghost use Rattle.outboxes.specs.Tables.{boxes_of, NoneFrom, IsStep};
 
-    ghost view = { λ o. boxes_of o.next o.step o.by_number.entries };
+    ghost view = { λ o. boxes_of o.most o.next o.step o.by_number.entries };
 
     ghost invariant = { λ o. NoneFrom o.next o.by_number.entries × IsStep o.step };
 }
 
 impl Outboxes {
-    /// No connection is open, and no number was given.
+    /// No connection is open, and no number was given. At most 64 will be open.
     pub fn new(alloc: Global) -> Outboxes
         ensures { result ≡ none_open }
     {
@@ -92,23 +95,35 @@ impl Outboxes {
 
     /// The outboxes of one of so many lanes: no connection is open, and numbers are given from the
     /// lane's own on, each larger by the count of lanes than the one before. So no two lanes give
-    /// one number (`lanes_are_apart`).
+    /// one number (`lanes_are_apart`). At most 64 connections will be open.
     pub fn of_lane(alloc: Global, lane: usize, lanes: usize) -> Outboxes
         requires lane { lane < lanes }
         requires few { lanes ≤ most_numbers }
-        ensures none { result ≡ none_of lane lanes }
+        ensures none { result ≡ none_of most_open lane lanes }
         ensures lane { AreOfLane lane lanes result }
+    {
+        Outboxes::with_room_for(alloc, MOST_OPEN, lane, lanes)
+    }
+
+    /// The same, where so many connections may be open.
+    pub fn with_room_for(alloc: Global, most: usize, lane: usize, lanes: usize) -> Outboxes
+        requires lane { lane < lanes }
+        requires few { lanes ≤ most_numbers }
+        ensures none { result ≡ none_of most lane lanes }
+        ensures lane { AreOfLane lane lanes result }
+        ensures most { result.most ≡ most }
     {
         Outboxes {
             alloc,
             by_number: BTreeMap::new(alloc),
+            most,
             next: lane,
             step: lanes,
         }
     }
 
     /// Opens a connection, for which nothing waits. Numbers rise, so that none is given twice. `Full`
-    /// where 64 are open or 2^62 numbers were given.
+    /// where as many are open as may be, or 2^62 numbers were given.
     pub fn open(&mut self) -> Result<ConnectionNumber, OpenRefusal>
         ensures number { IfOk result (λ connection. connection.0 ≡ self.old.next) }
         ensures fresh { get self.old.waiting self.old.next ≡ None }
@@ -120,7 +135,7 @@ impl Outboxes {
             → IfOk result (λ connection. IsNumberOf lane lanes connection.0)
             × AreOfLane lane lanes self.new }
     {
-        if self.by_number.len() >= MOST_OPEN {
+        if self.by_number.len() >= self.most {
             return Err(OpenRefusal::Full);
         }
         let number = self.next;

@@ -5,7 +5,7 @@ ghost use Rattle.std.specs.Prelude.{◌≡◌};
 /// Why a connection isn't opened. Nothing changed then.
 #[derive(Clone, Copy)]
 pub enum OpenRefusal {
-    /// 64 connections are open, or no number is left.
+    /// As many connections are open as may be, or no number is left.
     Full = 31,
     /// Memory ran out.
     NoMemory = 90,
