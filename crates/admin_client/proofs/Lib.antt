@@ -1,0 +1,2 @@
+pub mod Heads
+pub mod Items
