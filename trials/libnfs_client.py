@@ -1,0 +1,261 @@
+"""libnfs, a client in user space, over a running server: its programs, and its library's calls by ctypes."""
+
+import ctypes
+import ctypes.util
+import errno
+import os
+import random
+import shutil
+import stat
+import subprocess
+
+PROGRAMS = ("nfs-ls", "nfs-cat", "nfs-cp")
+SECONDS = 60
+SEED = 20_261_127
+MANY = 500
+
+
+class Unavailable(Exception):
+    """The client isn't there."""
+
+
+class Wrong(Exception):
+    """What the client shows isn't what it should."""
+
+
+def expect(got, wanted):
+    if got != wanted:
+        raise Wrong(f"got {got!r:.200}, not {wanted!r:.200}")
+
+
+class Attributes(ctypes.Structure):
+    """struct nfs_stat_64 of libnfs."""
+
+    _fields_ = [
+        (name, ctypes.c_uint64)
+        for name in "dev ino mode links uid gid rdev size block blocks atime mtime ctime atime_n mtime_n ctime_n used".split()
+    ]
+
+
+class Entry(ctypes.Structure):
+    """How struct nfsdirent of libnfs begins."""
+
+    _fields_ = [("next", ctypes.c_void_p), ("name", ctypes.c_char_p), ("inode", ctypes.c_uint64)]
+
+
+class Mounted:
+    """An export, mounted by the library. A call that fails raises OSError with the number of the error."""
+
+    def __init__(self, port, export):
+        found = ctypes.util.find_library("nfs")
+        if not found:
+            raise Unavailable("libnfs isn't there")
+        self.library = ctypes.CDLL(found)
+        for name in ("nfs_init_context", "nfs_parse_url_dir", "nfs_readdir"):
+            getattr(self.library, name).restype = ctypes.c_void_p
+        self.library.nfs_get_error.restype = ctypes.c_char_p
+        self.context = ctypes.c_void_p(self.library.nfs_init_context())
+        # the ports are set by what stands behind the address
+        url = ctypes.c_void_p(self.library.nfs_parse_url_dir(self.context, url_of(port, export).encode()))
+        self.library.nfs_destroy_url(url)
+        self.call("mount", "127.0.0.1", export)
+
+    def call(self, name, *arguments):
+        values = [it.encode() if isinstance(it, str) else it for it in arguments]
+        result = getattr(self.library, f"nfs_{name}")(self.context, *values)
+        if result < 0:
+            raise OSError(-result, f"{name}: {self.library.nfs_get_error(self.context)}")
+        return result
+
+    def open(self, path, flags):
+        file = ctypes.c_void_p()
+        self.call("open", path, flags, ctypes.byref(file))
+        return file
+
+    def write(self, file, offset, data):
+        while data:
+            count = self.call("pwrite", file, ctypes.c_uint64(offset), ctypes.c_uint64(len(data)), data)
+            offset, data = offset + count, data[count:]
+
+    def read(self, file, offset, count):
+        got = b""
+        while len(got) < count:
+            room = ctypes.create_string_buffer(count - len(got))
+            size = self.call("pread", file, ctypes.c_uint64(offset + len(got)), ctypes.c_uint64(len(room)), room)
+            if size == 0:
+                break
+            got += room.raw[:size]
+        return got
+
+    def attributes(self, path):
+        told = Attributes()
+        self.call("stat64", path, ctypes.byref(told))
+        return told
+
+    def names(self, path):
+        folder, names = ctypes.c_void_p(), []
+        self.call("opendir", path, ctypes.byref(folder))
+        while entry := self.library.nfs_readdir(self.context, folder):
+            names.append(Entry.from_address(entry).name.decode())
+        self.library.nfs_closedir(self.context, folder)
+        return sorted(names)
+
+    def end(self):
+        self.library.nfs_destroy_context(self.context)
+
+
+def url_of(port, path):
+    return f"nfs://127.0.0.1{path}?nfsport={port}&mountport={port}&version=3"
+
+
+def program(name, *arguments):
+    """What a program of libnfs prints."""
+    done = subprocess.run([name, *arguments], stdin=subprocess.DEVNULL, capture_output=True, timeout=SECONDS)
+    if done.returncode:
+        raise Wrong(f"{name} ends with status {done.returncode}: {done.stderr[-200:]!r}")
+    return done.stdout
+
+
+def refused(number, call, *arguments):
+    try:
+        call(*arguments)
+    except OSError as error:
+        expect(errno.errorcode.get(error.errno), errno.errorcode[number])
+    else:
+        raise Wrong(f"{arguments} isn't refused")
+
+
+# ---- the checks, in order; each has the server's port and a folder of its own
+
+
+def programs_copy_list_and_read(port, folder):
+    data = random.Random(SEED).randbytes(1_000_003)
+    (folder / "sent").write_bytes(data)
+    program("nfs-cp", str(folder / "sent"), url_of(port, "/vol0/copied"))
+    listed = program("nfs-ls", url_of(port, "/vol0")).decode().split("\n")
+    expect([line.split()[-2:] for line in listed if line], [["1000003", "copied"]])
+    expect(program("nfs-cat", url_of(port, "/vol0/copied")), data)
+    program("nfs-cp", url_of(port, "/vol0/copied"), str(folder / "back"))
+    expect((folder / "back").read_bytes() == data, True)
+
+
+def the_root_is_the_first_volume(port, folder):
+    expect(len(program("nfs-cat", url_of(port, "/vol0/copied"))), 1_000_003)
+    first = Mounted(port, "/")
+    expect(first.attributes("/copied").size, 1_000_003)
+    first.end()
+
+
+def another_export_is_refused(port, folder):
+    try:
+        Mounted(port, "/vol9")
+    except OSError:
+        return
+    raise Wrong("/vol9 is mounted")
+
+
+def directories_are_made_and_removed(port, folder):
+    volume = Mounted(port, "/vol0")
+    volume.call("mkdir", "/d")
+    volume.call("mkdir", "/d/e")
+    expect(stat.S_ISDIR(volume.attributes("/d/e").mode), True)
+    expect(volume.attributes("/d").links, 3)
+    refused(errno.EEXIST, volume.call, "mkdir", "/d")
+    refused(errno.ENOTEMPTY, volume.call, "rmdir", "/d")
+    volume.call("rmdir", "/d/e")
+    expect(volume.names("/d"), [".", ".."])
+    volume.call("rmdir", "/d")
+    refused(errno.ENOENT, volume.attributes, "/d")
+    volume.end()
+
+
+def names_are_moved_and_removed(port, folder):
+    volume = Mounted(port, "/vol0")
+    for name in ("one", "two"):
+        file = volume.open(f"/{name}", os.O_CREAT | os.O_RDWR)
+        volume.write(file, 0, name.encode())
+        volume.call("close", file)
+    volume.call("rename", "/one", "/two")
+    refused(errno.ENOENT, volume.attributes, "/one")
+    file = volume.open("/two", os.O_RDONLY)
+    expect(volume.read(file, 0, 10), b"one")
+    volume.call("close", file)
+    volume.call("unlink", "/two")
+    refused(errno.ENOENT, volume.attributes, "/two")
+    refused(errno.ENAMETOOLONG, volume.call, "mkdir", "/" + 256 * "n")
+    volume.end()
+
+
+def bytes_are_kept(port, folder):
+    volume, numbers, shadow = Mounted(port, "/vol0"), random.Random(SEED), bytearray()
+    file = volume.open("/shadowed", os.O_CREAT | os.O_RDWR)
+    for _ in range(300):
+        offset, count = numbers.randrange(400_000), numbers.randrange(1, 100_000)
+        kind = numbers.randrange(4)
+        if kind < 2:
+            data = numbers.randbytes(count)
+            shadow += bytes(max(0, offset + count - len(shadow)))
+            shadow[offset : offset + count] = data
+            volume.write(file, offset, data)
+        elif kind == 2:
+            expect(volume.read(file, offset, count) == shadow[offset : offset + count], True)
+        else:
+            size = offset // 2 + len(shadow) // 2
+            shadow = shadow[:size] + bytes(max(0, size - len(shadow)))
+            volume.call("ftruncate", file, ctypes.c_uint64(size))
+    expect(volume.attributes("/shadowed").size, len(shadow))
+    expect(volume.read(file, 0, 1_000_000) == shadow, True)
+    volume.call("close", file)
+    volume.end()
+
+
+def attributes_are_set(port, folder):
+    volume = Mounted(port, "/vol0")
+    volume.call("chmod", "/shadowed", 0o640)
+    volume.call("chown", "/shadowed", 1000, 1001)
+    told = volume.attributes("/shadowed")
+    expect((told.mode & 0o7777, told.uid, told.gid), (0o640, 1000, 1001))
+    volume.call("access", "/shadowed", os.R_OK | os.W_OK)
+    volume.end()
+
+
+def all_names_are_listed(port, folder):
+    volume = Mounted(port, "/vol1")
+    wanted = [f"{number:03d}-{'n' * (number % 60)}" for number in range(MANY)]
+    for name in wanted:
+        volume.call("close", volume.open("/" + name, os.O_CREAT | os.O_RDWR))
+    expect(volume.names("/"), sorted([".", "..", *wanted]))
+    for name in wanted:
+        volume.call("unlink", "/" + name)
+    expect(volume.names("/"), [".", ".."])
+    volume.end()
+
+
+CHECKS = (
+    programs_copy_list_and_read,
+    the_root_is_the_first_volume,
+    another_export_is_refused,
+    directories_are_made_and_removed,
+    names_are_moved_and_removed,
+    bytes_are_kept,
+    attributes_are_set,
+    all_names_are_listed,
+)
+
+
+def names():
+    return [check.__name__ for check in CHECKS]
+
+
+def try_server(port, folder):
+    """Puts the client through its checks: how many passed, and what failed."""
+    if not all(map(shutil.which, PROGRAMS)) or not ctypes.util.find_library("nfs"):
+        raise Unavailable("libnfs isn't there")
+    passed, failures = 0, []
+    for check in CHECKS:
+        try:
+            check(port, folder)
+            passed += 1
+        except (Wrong, OSError, subprocess.SubprocessError) as error:
+            failures.append(f"{check.__name__}: {error}")
+    return passed, failures

@@ -1,0 +1,147 @@
+"""A Linux kernel's NFS client over a running server: Debian's kernel in QEMU, by emulation alone, with busybox and `guest/`.
+
+The guest's 10.0.2.2 is this machine's 127.0.0.1, so that nothing leaves the machine and no port mapper is needed."""
+
+import re
+import shutil
+import subprocess
+import threading
+import time
+from pathlib import Path
+
+HERE = Path(__file__).resolve().parent
+EMULATOR = "qemu-system-x86_64"
+# What the client needs of the kernel, as modules; one that is built in has no file.
+MODULES = ("virtio_pci", "virtio_net", "sunrpc", "lockd", "dns_resolver", "nfs_acl", "nfs", "nfsv3")
+# How long a check and the whole guest may take, in seconds.
+CHECK_SECONDS, GUEST_SECONDS = 120, 600
+SEED = 20261127
+LINE = re.compile(r"check (\w+) (passed|failed: .*)")
+
+
+class Unavailable(Exception):
+    """What the client is made of can't be fetched here."""
+
+
+def names():
+    """The checks, in order."""
+    found = re.findall(r"^(\w+)\(\) \{", (HERE / "guest" / "checks").read_text(), re.MULTILINE)
+    return [name for name in found if name not in ("fail", "same", "equal", "refused", "bytes")]
+
+
+def run(command, folder, seconds):
+    try:
+        done = subprocess.run(command, cwd=folder, stdout=subprocess.PIPE, stderr=subprocess.STDOUT, text=True, timeout=seconds)
+    except (OSError, subprocess.TimeoutExpired) as error:
+        raise Unavailable(f"{command[0]}: {error}") from None
+    if done.returncode:
+        raise Unavailable(f"{' '.join(command)}: {done.stdout.strip()[-200:]}")
+    return done.stdout
+
+
+def kernel_package():
+    """The package of today's kernel for virtual machines."""
+    depends = run(["apt-cache", "depends", "linux-image-cloud-amd64"], ".", 60)
+    found = re.search(r"Depends: (linux-image-\d\S*)", depends)
+    if not found:
+        raise Unavailable("no package of a kernel is known")
+    return found.group(1)
+
+
+def is_known():
+    """Whether a kernel's package is."""
+    try:
+        return bool(kernel_package())
+    except Unavailable:
+        return False
+
+
+def in_order(modules):
+    """The files of modules, each behind those that it depends on."""
+    files = {path.stem.replace("-", "_"): path for path in modules.rglob("*.ko")}
+    ordered = []
+
+    def take(name):
+        path = files.get(name.replace("-", "_"))
+        if path is None or path in ordered:
+            return
+        depends = re.search(rb"\0depends=([^\0]*)\0", b"\0" + path.read_bytes())
+        for other in depends.group(1).decode().split(",") if depends else ():
+            if other:
+                take(other)
+        ordered.append(path)
+
+    for name in MODULES:
+        take(name)
+    return ordered
+
+
+def build(folder):
+    """Fetches kernel and busybox into a folder, and makes the guest's first file system: the paths of both."""
+    if not shutil.which(EMULATOR) or not shutil.which("cpio"):
+        raise Unavailable(f"{EMULATOR} or cpio isn't there")
+    for package in (kernel_package(), "busybox-static"):
+        run(["apt-get", "download", "-q", package], folder, 240)
+    unpacked, root = folder / "unpacked", folder / "root"
+    for package in folder.glob("*.deb"):
+        run(["dpkg-deb", "-x", str(package), str(unpacked)], folder, 120)
+    (root / "bin").mkdir(parents=True)
+    (root / "lib").mkdir()
+    shutil.copy(unpacked / "bin" / "busybox", root / "bin" / "busybox")
+    for name in ("init", "checks"):
+        shutil.copy(HERE / "guest" / name, root / name)
+    (root / "init").chmod(0o755)
+    modules = in_order(next(unpacked.rglob("lib/modules/*/kernel")))
+    for path in modules:
+        shutil.copy(path, root / "lib" / path.name)
+    (root / "modules").write_text("".join(f"/lib/{path.name}\n" for path in modules))
+    image = folder / "image"
+    run(["sh", "-c", f"find . | cpio -o -H newc -R 0:0 --quiet | gzip -1 > {image}"], root, 120)
+    return next(unpacked.rglob("vmlinuz-*")), image
+
+
+def start(kernel, image, port):
+    """The guest, whose console is its output."""
+    said = f"console=ttyS0 quiet loglevel=4 panic=-1 oops=panic mitigations=off random.trust_cpu=on filer.port={port}"
+    said += f" filer.limit={CHECK_SECONDS} filer.seed={SEED}"
+    command = [EMULATOR, "-accel", "tcg,thread=multi", "-cpu", "max", "-m", "512", "-smp", "2", "-nodefaults"]
+    command += ["-display", "none", "-no-reboot", "-monitor", "none", "-serial", "stdio", "-kernel", str(kernel)]
+    command += ["-initrd", str(image), "-append", said, "-netdev", "user,id=net,ipv6=off"]
+    command += ["-device", "virtio-net-pci,netdev=net,romfile="]
+    return subprocess.Popen(command, stdin=subprocess.DEVNULL, stdout=subprocess.PIPE, stderr=subprocess.STDOUT)
+
+
+def console(guest, seconds):
+    """The lines of the guest's console, until it ends or so many seconds are over."""
+    clock = threading.Timer(seconds, guest.kill)
+    clock.start()
+    try:
+        for line in guest.stdout:
+            yield line.decode(errors="replace").strip("\r\n")
+    finally:
+        clock.cancel()
+        guest.kill()
+        guest.wait()
+        guest.stdout.close()
+
+
+def try_server(port, folder):
+    """Puts the client through its checks: how many passed, and what failed."""
+    kernel, image = build(folder)
+    begin, passed, failures, ended, last = time.monotonic(), [], [], False, ""
+    for line in console(start(kernel, image, port), GUEST_SECONDS):
+        last = line or last
+        found = LINE.search(line)
+        if found and found.group(2) == "passed":
+            passed.append(found.group(1))
+        elif found:
+            failures.append(f"{found.group(1)}: {found.group(2)}")
+        elif re.search("Kernel panic|Oops|BUG:", line):
+            failures.append(line)
+        ended = ended or line == "guest ended"
+    told = len(passed) + len(failures)
+    for name in names()[told:]:
+        failures.append(f"{name}: the guest ended before it, after {time.monotonic() - begin:.0f} s, with {last!r}")
+    if not ended and told == len(names()):
+        failures.append(f"the guest didn't end well: {last!r}")
+    return len(passed), failures
