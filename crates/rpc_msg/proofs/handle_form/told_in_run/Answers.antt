@@ -1,4 +1,4 @@
-use Rattle.std.proofs.Common.{◌≡◌, refl, ap, ◌∙◌, List, ℕ, ◌++◌, take, length}
+use Rattle.std.proofs.Common.{◌≡◌, ap, ◌∙◌, List, ℕ, ◌++◌, take, length}
 use Rattle.rpc_msg.specs.HandleForm.{verifier_of}
 use Rattle.rpc_msg.proofs.Told.{run_told}
 use Rattle.rpc_msg.proofs.handle_form.told_in_run.Goals as goal

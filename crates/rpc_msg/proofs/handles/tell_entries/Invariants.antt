@@ -1,4 +1,4 @@
-use Rattle.std.proofs.Common.{◌≡◌, ◌++◌, map, take, drop, length}
+use Rattle.std.proofs.Common.{◌≡◌, map, take, drop}
 use Rattle.nfs_values.specs.Answer.{entry_plus_of}
 use Rattle.rpc_msg.specs.HandleForm.{told_in_run}
 use Rattle.rpc_msg.specs.Handles.{listed_with}
@@ -6,6 +6,5 @@ use Rattle.rpc_msg.proofs.handles.tell_entries.Given as goal
 
 abbrev pub invariant-loop-entry : goal.invariant-loop-entry
 invariant-loop-entry l =
-    (length l.entries ≡ length l.initial.entries)
-    × (map entry_plus_of (take l.entry-index l.entries) ≡ map (listed_with (told_in_run l.run)) (map entry_plus_of (take l.entry-index l.initial.entries)))
+    (map entry_plus_of (take l.entry-index l.entries) ≡ map (listed_with (told_in_run l.run)) (map entry_plus_of (take l.entry-index l.initial.entries)))
     × (drop l.entry-index l.entries ≡ drop l.entry-index l.initial.entries)
