@@ -1,5 +1,5 @@
 -- How many bytes the results of each procedure take.
-use Rattle.std.proofs.Common.{◌≡◌, ◌^◌, ℕ, zero, suc, min, take, Option, Some, None, ◌+◌, ◌-◌, ◌*◌, ◌≤◌, Bool, true, false, cond, List, [], ◌∷◌, ◌++◌, length, map, replicate, refl, ap, ◌∙◌, arith}
+use Rattle.std.proofs.Common.{◌≡◌, ◌^◌, ℕ, zero, suc, min, take, Option, Some, None, ◌+◌, ◌-◌, ◌*◌, ◌≤◌, Bool, true, false, cond, List, [], ◌∷◌, ◌++◌, length, map, replicate, refl, sym, subst, ap, ◌∙◌, arith}
 use Rattle.std.specs.Prelude.{nat_le}
 use Rattle.std.specs.List.{flat_map, range_with_len}
 use Rattle.std.specs.Option.{option_map}
@@ -275,19 +275,31 @@ handle_more run handle rest =
     let c = length-padded (told_in_run run handle) ∙ ap padded_size (length-told run handle) in
     omega (arith, a, b, c, length-padded handle, told_padded (length handle))
 
--- an entry takes 8 bytes more at most, as it is told, and so a page of them 8 for each
+-- a handle, an entry and a page, as they are told, take 8 bytes more at most, a page of them 8 for each
+told_handle : (run : ℕ) (handle : List ℕ) → length (handle_told (told_in_run run handle)) ≤ 8 + length (handle_told handle)
+told_handle run handle =
+    let c = length-padded (told_in_run run handle) ∙ ap padded_size (length-told run handle) in
+    omega (
+      arith,
+      c,
+      length-padded handle,
+      told_padded (length handle),
+      length-optional handle,
+      length-optional (told_in_run run handle),
+    )
+
 told_entry : (run : ℕ) (t : model.ListedPlus)
     → length (spelling entry_plus_shape (entry_plus_value (listed_with (told_in_run run) t)))
     ≤ 8 + length (spelling entry_plus_shape (entry_plus_value t))
 told_entry run t =
-    omega (
-      arith,
-      length-entry_plus t,
-      length-entry_plus (listed_with (told_in_run run) t),
-      handle_more run t.handle [],
-      length-optional t.handle,
-      length-optional (told_in_run run t.handle),
-    )
+    let front = 20 + length (padded t.entry.name) in
+    let attributes = length (attributes_told t.attributes) in
+    let old = length (handle_told t.handle) in
+    let new = length (handle_told (told_in_run run t.handle)) in
+    let more : new ≤ 8 + old = told_handle run t.handle in
+    let both : front + (attributes + new) ≤ 8 + (front + (attributes + old)) = omega (arith, more) in
+    subst (λ (n : ℕ). n ≤ 8 + length (spelling entry_plus_shape (entry_plus_value t))) (sym (length-entry_plus (listed_with (told_in_run run) t)))
+    (subst (λ (n : ℕ). front + (attributes + new) ≤ 8 + n) (sym (length-entry_plus t)) both)
 
 told_entries : (run : ℕ) (page : List model.ListedPlus)
     → length (linked (λ v. spelling entry_plus_shape v) (map entry_plus_value (map (listed_with (told_in_run run)) page)))

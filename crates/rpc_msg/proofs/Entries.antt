@@ -1,5 +1,5 @@
 -- Entries of a list that are changed one after the other.
-use Rattle.std.proofs.Common.{◌≡◌, ◌<◌, ℕ, zero, suc, ◌+◌, List, [], ◌∷◌, map, length, take, drop, get_or, slice_index_or, slice_set, refl, sym, ap, ◌∙◌, arith}
+use Rattle.std.proofs.Common.{◌≡◌, ◌<◌, ℕ, zero, suc, ◌+◌, List, [], ◌∷◌, map, length, take, drop, get_or, slice_index_or, slice_set, refl, ap, arith}
 
 one_changed : {A B : Type 0} (p : A → B) (t : B → B) (g : A → A) (i : ℕ) (xs ys : List A) (d : A) → ((a : A) → p (g a) ≡ t (p a)) → i < length ys
     → map p (take i xs) ≡ map t (map p (take i ys)) → drop i xs ≡ drop i ys

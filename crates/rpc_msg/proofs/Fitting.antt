@@ -4,7 +4,7 @@ use Rattle.std.proofs.Common.{refl, sym, ap, ◌∙◌, arith}
 use Rattle.std.specs.Prelude.{min, max, not, ◌==◌, nat_le, nat_lt, slice_get, slice_set}
 use Rattle.std.specs.FinMap.{get}
 use Rattle.std.proofs.lemmas.Bool.{ltb-false}
-use Rattle.std.proofs.lemmas.List.{length-set, length-take}
+use Rattle.std.proofs.lemmas.List.{length-map, length-set, length-take}
 use Rattle.nfs_model.specs.Types as model
 use Rattle.nfs_model.specs.Server.{opening_volume, opening_volumes, opening, FileNode, DirectoryNode, Node, File, Directory, VolumeState, Server, Named}
 use Rattle.nfs_model.specs.Server.{handle_bytes, handle_of, most_bytes}
@@ -268,7 +268,7 @@ module _ (told : model.Listed → model.ListedPlus) (short : (e : model.Listed) 
       → Fits (readdir_of count) volume (page_plus_of told directory remaining page)
   page_plus_fits count volume directory remaining page h =
       tells _ _ _ (record {
-        bytes = omega (arith, h, within count, readdirplus_size told short directory page (length page == length remaining));
+        bytes = omega (arith, h, within count, length-map page told, readdirplus_size told short directory page (length page == length remaining));
       })
 
   paged_plus_fits : (count : ℕ) (volume : VolumeState) (directory : model.Shown) (remaining page : List model.Listed)
