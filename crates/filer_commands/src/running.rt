@@ -4,8 +4,8 @@ ghost use Rattle.std.specs.Prelude.{◌≤◌, IfOk};
 
 use crate::choice::Command;
 use crate::replay::{ProgramFault, print_fault, replay};
-use crate::words::command_told;
-use server::{Options, Peers, ServerFault, export, serve};
+use crate::words::{command_told, print_help};
+use server::{Options, Peers, ServerFault, serve};
 use std::alloc::{AllocError, Global};
 use std::convert::AsStr;
 use std::fs::File;
@@ -80,6 +80,16 @@ fn print_version<W: Write>(out: &mut W) -> Result<u8, ProgramFault>
     }
 }
 
+/// Prints the help that the words ask for.
+fn help_out<S: AsStr, W: Write>(alloc: Global, words: &[S], out: &mut W) -> Result<u8, ProgramFault>
+    ensures { IfOk result (λ status. status ≤ 1) }
+{
+    match print_help(alloc, words, out) {
+        Ok(()) => Ok(0),
+        Err(fault) => Err(fault),
+    }
+}
+
 /// What a fault is, for people; what the command line is lacking was told before.
 fn describe(fault: ProgramFault) -> Option<&'static str> {
     match fault {
@@ -109,6 +119,7 @@ fn tell<E: Write>(err: &mut E, command: Command<'_>, fault: ProgramFault) {
             let address = options.address;
             writeln!(err, "filer export --listen {address}: {text}")
         }
+        Command::ExportHelp => writeln!(err, "filer export --help: {text}"),
         Command::Version => writeln!(err, "filer version: {text}"),
     };
 }
@@ -135,12 +146,7 @@ where
     keep_freed_memory(rt.alloc());
     let address = listener.local_addr().map_err(|_| ProgramFault::Listen)?;
     tell_exports(err, options, &address);
-    let served = if options.connections == u64::MAX {
-        export(rt, rt.alloc(), &listener, options, out)
-    } else {
-        serve(rt, rt.alloc(), &listener, options, out)
-    };
-    match served {
+    match serve(rt, rt.alloc(), &listener, options, out) {
         Ok(()) => Ok(0),
         Err(fault) => Err(of_server(fault)),
     }
@@ -184,6 +190,7 @@ where
         Command::Replay { path } => run_script(&rt, path, out),
         Command::Serve(options) => run_server(rt, &options, out),
         Command::Export(options) => run_export(rt, &options, out, err),
+        Command::ExportHelp => help_out(rt.alloc(), words, out),
         Command::Version => print_version(out),
     };
     if let Err(fault) = &ended {
