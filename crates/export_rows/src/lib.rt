@@ -1,6 +1,8 @@
-//! Who may connect to `filer export`, and its command lines.
+//! Who may connect to `filer export`, how many, and its command lines.
 #![tactic(auto)]
 
+#[cfg(test)]
+mod full;
 #[cfg(test)]
 mod lines;
 #[cfg(test)]

@@ -1,10 +1,10 @@
 //! Command lines of `filer export`.
 
-use filer_commands::{Command, ProgramFault, command};
-use server::Peers;
+use filer_commands::{Command, ProgramFault, command, program_told};
+use server::{Peers, WhenFull};
 
 /// Command lines that are none.
-const REFUSED: [&[&str]; 7] = [
+const REFUSED: [&[&str]; 8] = [
     &["filer", "export"],
     &["filer", "export", "--listen", "localhost:2049"],
     &[
@@ -39,7 +39,8 @@ const REFUSED: [&[&str]; 7] = [
         "--allow",
         "here",
     ],
-    &["filer", "export", "--help"],
+    &["filer", "help", "export"],
+    &["filer", "--help", "export"],
 ];
 
 #[test]
@@ -55,7 +56,9 @@ fn what_is_so_unless_it_is_said(rt: HostRuntime) {
     match command(rt.alloc(), &["filer", "export", "--listen", "127.0.0.1:0"]) {
         Ok(Command::Export(options)) => {
             assert!(&rt; options.volumes == 1 && options.workers == 2);
-            assert!(&rt; options.connections == u64::MAX);
+            assert!(&rt; options.connections.is_none());
+            assert!(&rt; options.admission.most_open == 1_024);
+            assert!(&rt; options.admission.when_full == WhenFull::IsClosed);
             assert!(&rt; options.plan.ranges == 16 && options.plan.stripes == 16);
             assert!(&rt; options.plan.mib == 64 && options.plan.spare == 128);
             assert!(&rt; matches!(options.peers, Peers::Loopback));
@@ -70,4 +73,18 @@ fn versions_are_asked(rt: HostRuntime) {
         Ok(Command::Version) => {}
         _ => panic!(&rt; "no version"),
     }
+}
+
+#[test]
+fn help_is_printed(rt: HostRuntime) {
+    let mut out = Vec::new(rt.alloc());
+    let mut err = Vec::new(rt.alloc());
+    let words = ["filer", "export", "--help"];
+    assert!(&rt; program_told(rt, &words, &mut out, &mut err) == 0);
+    assert!(&rt; out.starts_with(b"Serves clients that mount"));
+    assert!(&rt; err.is_empty());
+    let text = str::from_utf8(&out).ok().expect(&rt, "a text");
+    assert!(&rt; text.contains("Usage: filer export"));
+    assert!(&rt; text.contains("--allow <NETWORK>"));
+    assert!(&rt; text.contains("Examples:\n  filer export --listen"));
 }

@@ -11,6 +11,8 @@ pub enum Command<'a> {
     Serve(Options),
     /// Serve clients that mount.
     Export(Options),
+    /// Print the help of `export`.
+    ExportHelp,
     /// Print the version.
     Version,
 }

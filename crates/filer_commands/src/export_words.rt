@@ -1,23 +1,22 @@
 //! The command line of `filer export`.
 
+use crate::limits::{MOST_CONNECTIONS, MOST_RANGES, MOST_VOLUMES, MOST_WORKERS};
 use clap::{Arg, ArgAction, ArgMatches, value_parser};
-use server::{MOST_NETWORKS, Network, Options, Peers, VolumePlan};
+use server::{Admission, MOST_NETWORKS, Network, Options, Peers, VolumePlan, WhenFull};
 use std::alloc::{AllocError, Global};
 use std::net::SocketAddr;
 
-/// The most volumes, workers, ranges of a volume, and connections.
-const MOST_VOLUMES: i64 = 8;
-
-const MOST_WORKERS: i64 = 64;
-
-const MOST_RANGES: i64 = 16;
-
-const MOST_CONNECTIONS: i64 = 1_000_000;
+/// How connections are let in: 1,024 may be open, and others are closed at once.
+const ADMISSION: Admission = Admission {
+    most_open: 1_024,
+    when_full: WhenFull::IsClosed,
+};
 
 /// What stands behind the help of `export`.
 const EXAMPLE: &str = "\
-Example:
+Examples:
   filer export --listen 127.0.0.1:2049
+  filer export --listen 192.0.2.1:2049 --volumes 2 --workers 4 --allow 192.0.2.0/24
   mount -t nfs -o vers=3,proto=tcp,port=2049,mountport=2049,mountproto=tcp,nolock \
 127.0.0.1:/vol0 /mnt
 
@@ -101,16 +100,21 @@ fn peers_in(matches: &ArgMatches<'_>) -> Option<Peers> {
     Some(Peers::Networks(networks))
 }
 
-/// What a server that clients mount is asked to do, but for what it offers, which is of its run: without a total of connections it takes as many
-/// as there are numbers.
+/// What a server that clients mount is asked to do, but for what it offers, which is of its run:
+/// without a number of connections it goes on until it is ended.
 pub(crate) fn options_in(matches: &ArgMatches<'_>) -> Option<Options> {
     let address = matches.get_str("listen")?.parse::<SocketAddr>().ok()?;
     let volumes = matches.get_one::<u64>("volumes")?;
     let workers = matches.get_one::<u64>("workers")?;
     let ranges = matches.get_one::<u64>("ranges")?;
-    let connections = matches.get_one::<u64>("connections").unwrap_or(u64::MAX);
+    let connections = matches.get_one::<u64>("connections");
     let plan = VolumePlan::export(u32::try_from(ranges).ok()?)?;
     let peers = peers_in(matches)?;
     let options = Options::new(address, volumes as usize, workers as usize, connections)?;
-    Some(options.with_peers(peers).with_plan(plan))
+    Some(
+        options
+            .with_admission(ADMISSION)
+            .with_peers(peers)
+            .with_plan(plan),
+    )
 }

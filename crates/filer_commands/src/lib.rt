@@ -3,6 +3,7 @@
 
 mod choice;
 mod export_words;
+mod limits;
 pub mod replay;
 mod running;
 mod words;

@@ -4,9 +4,9 @@ ghost use Rattle.std.specs.Prelude.{◌≤◌, IfOk};
 
 use crate::choice::Command;
 use crate::replay::{ProgramFault, print_fault, replay};
-use crate::words::command_told;
+use crate::words::{command_told, print_help};
 use rpc_msg::Offer;
-use server::{Options, Peers, ServerFault, export, run_now, serve};
+use server::{Options, Peers, ServerFault, run_now, serve};
 use std::alloc::{AllocError, Global};
 use std::convert::AsStr;
 use std::fs::File;
@@ -81,6 +81,16 @@ fn print_version<W: Write>(out: &mut W) -> Result<u8, ProgramFault>
     }
 }
 
+/// Prints the help that the words ask for.
+fn help_out<S: AsStr, W: Write>(alloc: Global, words: &[S], out: &mut W) -> Result<u8, ProgramFault>
+    ensures { IfOk result (λ status. status ≤ 1) }
+{
+    match print_help(alloc, words, out) {
+        Ok(()) => Ok(0),
+        Err(fault) => Err(fault),
+    }
+}
+
 /// What a fault is, for people; what the command line is lacking was told before.
 fn describe(fault: ProgramFault) -> Option<&'static str> {
     match fault {
@@ -110,6 +120,7 @@ fn tell<E: Write>(err: &mut E, command: Command<'_>, fault: ProgramFault) {
             let address = options.address;
             writeln!(err, "filer export --listen {address}: {text}")
         }
+        Command::ExportHelp => writeln!(err, "filer export --help: {text}"),
         Command::Version => writeln!(err, "filer version: {text}"),
     };
 }
@@ -137,12 +148,7 @@ where
     let address = listener.local_addr().map_err(|_| ProgramFault::Listen)?;
     let options = &options.with_offer(Offer::export(run_now(&rt)));
     tell_exports(err, options, &address);
-    let served = if options.connections == u64::MAX {
-        export(rt, rt.alloc(), &listener, options, out)
-    } else {
-        serve(rt, rt.alloc(), &listener, options, out)
-    };
-    match served {
+    match serve(rt, rt.alloc(), &listener, options, out) {
         Ok(()) => Ok(0),
         Err(fault) => Err(of_server(fault)),
     }
@@ -186,6 +192,7 @@ where
         Command::Replay { path } => run_script(&rt, path, out),
         Command::Serve(options) => run_server(rt, &options, out),
         Command::Export(options) => run_export(rt, &options, out, err),
+        Command::ExportHelp => help_out(rt.alloc(), words, out),
         Command::Version => print_version(out),
     };
     if let Err(fault) = &ended {

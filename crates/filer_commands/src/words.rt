@@ -2,6 +2,7 @@
 
 use crate::choice::Command;
 use crate::export_words::{self, export};
+use crate::limits::{MOST_CONNECTIONS, MOST_VOLUMES, MOST_WORKERS};
 use crate::replay::ProgramFault;
 use clap::error::ErrorKind;
 use clap::{Arg, ArgAction, ArgMatches, Error, value_parser};
@@ -10,15 +11,6 @@ use std::alloc::{AllocError, Global};
 use std::convert::AsStr;
 use std::io::{self, Write};
 use std::net::SocketAddr;
-
-/// The most volumes of a server.
-const MOST_VOLUMES: i64 = 8;
-
-/// The most workers of a server.
-const MOST_WORKERS: i64 = 64;
-
-/// The most connections that a server takes.
-const MOST_CONNECTIONS: i64 = 1_000_000;
 
 /// What stands behind the help of `filer`, of `replay` and of `serve`.
 const EXAMPLES: &str = "\
@@ -127,7 +119,12 @@ fn options_in<'a>(matches: &ArgMatches<'a>) -> Option<Command<'a>> {
     let volumes = matches.get_one::<u64>("volumes")?;
     let workers = matches.get_one::<u64>("workers")?;
     let connections = matches.get_one::<u64>("connections")?;
-    let options = Options::new(address, volumes as usize, workers as usize, connections)?;
+    let options = Options::new(
+        address,
+        volumes as usize,
+        workers as usize,
+        Some(connections),
+    )?;
     Some(Command::Serve(options))
 }
 
@@ -149,6 +146,27 @@ fn fault_of(error: &Error) -> ProgramFault {
     }
 }
 
+/// Whether the words ask for the help of `export`, which was found so.
+fn asks_export_help<S: AsStr>(words: &[S], error: &Error) -> bool {
+    match (error.kind(), words.get(1)) {
+        (ErrorKind::DisplayHelp, Some(word)) => word.as_str() == "export",
+        _ => false,
+    }
+}
+
+/// Prints the help that the words ask for.
+pub(crate) fn print_help<'a, S: AsStr, W: Write>(
+    alloc: Global,
+    words: &'a [S],
+    out: &mut W,
+) -> Result<(), ProgramFault> {
+    let declared = declared(alloc)?;
+    match declared.try_get_matches_from(words) {
+        Ok(_matches) => Ok(()),
+        Err(error) => write!(out, "{error}").map_err(|_failed| ProgramFault::Output),
+    }
+}
+
 /// Tells that the address of a command line is none: all else that a parse admits is a command.
 fn tell_of_address<E: Write>(err: &mut E) {
     let _told = err.write_all(ADDRESS_HELP.as_bytes());
@@ -156,7 +174,8 @@ fn tell_of_address<E: Write>(err: &mut E) {
 
 /// The command that the words ask for; the first word is the program's name.
 ///
-/// `CommandLine` where the words are no command or ask for help, `NoMemory` where memory ran out.
+/// `CommandLine` where the words are no command or ask for help, but of `export`, `NoMemory` where
+/// memory ran out.
 pub fn command<'a, S: AsStr>(alloc: Global, words: &'a [S]) -> Result<Command<'a>, ProgramFault> {
     command_told(alloc, words, &mut io::sink())
 }
@@ -178,6 +197,9 @@ pub fn command_told<'a, S: AsStr, E: Write>(
             }
         },
         Err(error) => {
+            if asks_export_help(words, &error) {
+                return Ok(Command::ExportHelp);
+            }
             let _told = write!(err, "{error}");
             Err(fault_of(&error))
         }

@@ -23,7 +23,7 @@ where
     ensures count { vec_len result.1 ≡ 2 }
 {
     let room = Vec::with_capacity(rt.alloc(), 2).expect(&rt, "no memory");
-    match server::open_lanes(rt, rt.alloc(), offer, layout, [9; 8], 2, room) {
+    match server::open_lanes(rt, rt.alloc(), offer, layout, [9; 8], 2, 64, room) {
         Ok(opened) => opened,
         Err(_refused) => panic!(&rt; "no memory"),
     }

@@ -1,5 +1,7 @@
 -- What a server may be asked for.
 use Rattle.std.specs.Prelude.{◌≡◌, ℕ, ◌<◌, ◌≤◌}
+use Rattle.server.specs.declared.admission.Admission.{Admission}
+use Rattle.server.specs.declared.admission.WhenFull.TheVariants.{Waits}
 use Rattle.server.specs.declared.plan.VolumePlan.{VolumePlan}
 
 -- so many volumes and workers
@@ -13,3 +15,7 @@ AreRanges ranges = 0 < ranges × ranges ≤ 16
 -- the plan of `serve`: 4 ranges, 8 stripes, files of 16 MiB, and 16 spare ranges
 abbrev pub IsBasic : VolumePlan → Type 0
 IsBasic plan = (plan.ranges ≡ 4) × (plan.stripes ≡ 8) × (plan.mib ≡ 16) × (plan.spare ≡ 16)
+
+-- how `replay` and `serve` let connections in: 64 are open at most, and others wait
+abbrev pub IsUsual : Admission → Type 0
+IsUsual admission = (admission.most_open ≡ 64) × (admission.when_full ≡ Waits)

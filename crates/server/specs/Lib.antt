@@ -1,5 +1,7 @@
 pub mod Faults
 pub mod Lanes
+pub mod Networks
+pub mod Peers
 pub mod Queues
 pub mod Remains
 pub mod Rooms

@@ -1,16 +1,14 @@
 //! Connections that are accepted.
 
+use crate::admission::WhenFull;
 use crate::ends::Ends;
 use crate::mailbox::Mailbox;
-use crate::peers::Peers;
+use crate::options::Options;
 use crate::serve_fault::ServeFault;
-use std::net::{TcpListener, TcpStream};
+use std::net::{SocketAddr, TcpListener, TcpStream};
 use std::rt::Clock;
 use std::sync::{Arc, Wait};
 use std::time::Duration;
-
-/// The most connections that are open.
-const MOST_OPEN: u64 = 64;
 
 /// The milliseconds after which it is tried again to accept.
 const PAUSE: u64 = 100;
@@ -22,78 +20,118 @@ fn is_prepared(stream: &TcpStream) -> bool {
     stream.set_nonblocking(true).is_ok()
 }
 
-/// Leaves a stream for a lane. Where that can't be it is closed.
-fn hand_over<R: Wait>(rt: &R, mailbox: &Mailbox, ends: &Ends, stream: TcpStream) {
-    if !is_prepared(&stream) || !mailbox.leave(rt, stream) {
-        ends.add();
-    }
-}
-
-/// Leaves a stream for the lane whose turn it is, and tells whose it is next.
-fn give<R: Wait>(
-    rt: &R,
-    mailboxes: &[Arc<Mailbox>],
-    ends: &Ends,
+/// Where connections come in: what is asked of them, the lanes that they go to, and how many came.
+#[derive(Drop)]
+pub(crate) struct Door<'a> {
+    options: &'a Options,
+    mailboxes: &'a [Arc<Mailbox>],
+    ends: &'a Ends,
+    /// How many came, wrapping at 2^64.
+    came: u64,
+    /// The lane whose turn it is.
     turn: usize,
-    stream: TcpStream,
-) -> usize {
-    let turn = if turn < mailboxes.len() { turn } else { 0 };
-    match mailboxes.get(turn) {
-        Some(mailbox) => hand_over(rt, mailbox, ends, stream),
-        None => ends.add(),
-    }
-    turn + 1
 }
 
-/// Accepts so many connections, each while fewer than 64 are open, and leaves those of these peers
-/// for the lanes by turns. Others are closed before a byte is read, and count as ended. Where one
-/// can't be accepted no more are.
-pub(crate) fn accept_all<R: Wait>(
-    rt: &R,
-    listener: &TcpListener,
-    connections: u64,
-    peers: &Peers,
-    mailboxes: &[Arc<Mailbox>],
-    ends: &Ends,
-) -> Result<(), ServeFault> {
-    let mut turn = 0;
-    for opened in 0..connections {
-        ends.wait_for_fewer(rt, opened, MOST_OPEN);
-        let (stream, peer) = match listener.accept() {
-            Ok(accepted) => accepted,
-            Err(_failed) => return Err(ServeFault::AcceptFailed),
-        };
-        if peers.has(&peer.ip()) {
-            turn = give(rt, mailboxes, ends, turn, stream);
-        } else {
-            ends.add();
+impl<'a> Door<'a> {
+    /// Before the first connection.
+    pub(crate) fn new(
+        options: &'a Options,
+        mailboxes: &'a [Arc<Mailbox>],
+        ends: &'a Ends,
+    ) -> Door<'a> {
+        Door {
+            options,
+            mailboxes,
+            ends,
+            came: 0,
+            turn: 0,
         }
     }
-    Ok(())
+
+    /// Whether as many came as are wanted.
+    fn is_done(&self) -> bool {
+        match self.options.connections {
+            Some(connections) => self.came >= connections,
+            None => false,
+        }
+    }
+
+    /// Whether as many connections are open as may be.
+    fn is_full(&self) -> bool {
+        self.ends.open_of(self.came) >= self.options.admission.most_open
+    }
+
+    /// Waits for a place, where those that find none wait.
+    fn wait_for_place<R: Wait>(&self, rt: &R) {
+        let admission = &self.options.admission;
+        match admission.when_full {
+            WhenFull::Waits => self.ends.wait_for_fewer(rt, self.came, admission.most_open),
+            WhenFull::IsClosed => {}
+        }
+    }
+
+    /// Leaves a stream for the lane whose turn it is. Where that can't be it is closed.
+    fn hand_over<R: Wait>(&mut self, rt: &R, stream: TcpStream) -> bool {
+        let turn = if self.turn < self.mailboxes.len() {
+            self.turn
+        } else {
+            0
+        };
+        self.turn = turn.saturating_add(1);
+        match self.mailboxes.get(turn) {
+            Some(mailbox) => is_prepared(&stream) && mailbox.leave(rt, stream),
+            None => false,
+        }
+    }
+
+    /// Lets a connection in that has a place and comes from a peer that is served. Any other is
+    /// closed before a byte is read, and counts as ended.
+    fn let_in<R: Wait>(&mut self, rt: &R, stream: TcpStream, peer: &SocketAddr) {
+        let may_enter = !self.is_full() && self.options.peers.has(&peer.ip());
+        self.came = self.came.wrapping_add(1);
+        if !may_enter || !self.hand_over(rt, stream) {
+            self.ends.add();
+        }
+    }
+
+    /// A connection can't be accepted: whether to try again.
+    fn goes_on<R: Clock>(&self, rt: &R) -> bool {
+        match self.options.admission.when_full {
+            WhenFull::Waits => false,
+            WhenFull::IsClosed => {
+                rt.sleep(Duration::from_millis(PAUSE));
+                true
+            }
+        }
+    }
+
+    /// Waits until all that came have ended.
+    pub(crate) fn wait_for_all<R: Wait>(&self, rt: &R) {
+        self.ends.wait_for_fewer(rt, self.came, 1);
+    }
 }
 
-/// Accepts connections for as long as the program runs, each while fewer than 64 are open, and
-/// leaves those of these peers for the lanes by turns. Others are closed before a byte is read.
-/// Where one can't be accepted it tries again after a pause.
-pub(crate) fn accept_for_ever<R: Wait + Clock>(
+/// Accepts as many connections as are asked for, or for as long as the program runs, and lets them
+/// in. Where one can't be accepted no more are, or it is tried again after a pause, as the options
+/// say.
+pub(crate) fn accept_all<R: Wait + Clock>(
     rt: &R,
     listener: &TcpListener,
-    peers: &Peers,
-    mailboxes: &[Arc<Mailbox>],
-    ends: &Ends,
-) {
-    let mut opened = 0u64;
-    let mut turn = 0;
+    door: &mut Door<'_>,
+) -> Result<(), ServeFault> {
     for _ in rt.forever() {
-        ends.wait_for_fewer(rt, opened, MOST_OPEN);
+        if door.is_done() {
+            return Ok(());
+        }
+        door.wait_for_place(rt);
         match listener.accept() {
-            Ok((stream, peer)) => {
-                if peers.has(&peer.ip()) {
-                    opened = opened.wrapping_add(1);
-                    turn = give(rt, mailboxes, ends, turn, stream);
+            Ok((stream, peer)) => door.let_in(rt, stream, &peer),
+            Err(_failed) => {
+                if !door.goes_on(rt) {
+                    return Err(ServeFault::AcceptFailed);
                 }
             }
-            Err(_failed) => rt.sleep(Duration::from_millis(PAUSE)),
         }
     }
+    unreachable!()
 }

@@ -32,11 +32,16 @@ impl Ends {
         self.ended.ring();
     }
 
+    /// How many are open of so many that were opened.
+    pub(crate) fn open_of(&self, opened: u64) -> u64 {
+        opened.wrapping_sub(self.count.load(Ordering::SeqCst))
+    }
+
     /// Sleeps until of so many connections that were opened fewer than these are open.
     pub(crate) fn wait_for_fewer<R: Wait>(&self, rt: &R, opened: u64, open: u64) {
         for _ in rt.forever() {
             let seen = self.ended.rings();
-            if opened.wrapping_sub(self.count.load(Ordering::SeqCst)) < open {
+            if self.open_of(opened) < open {
                 return;
             }
             self.ended.wait_past(rt, seen);

@@ -2,6 +2,7 @@
 
 ghost use Rattle.server.specs.Lanes.{Stays};
 
+use crate::keys::{Keys, list};
 use crate::socket::Socket;
 use lanes::{Flags, Lane};
 use mio::event::Event;
@@ -19,13 +20,14 @@ fn after_event(flags: Flags, event: &Event) -> Flags {
     }
 }
 
-/// Keeps what an event tells of the connection of its token, if one has it.
-pub(crate) fn hear<R>(lane: &mut Lane<Socket, R>, event: &Event)
+/// Keeps what an event tells of the connection of its token, if one has it, and lists it.
+pub(crate) fn hear<R>(lane: &mut Lane<Socket, R>, keys: &mut Keys, event: &Event)
     ensures { Stays lane.old lane.new }
 {
     let key = event.token().0;
     if let Some(connection) = lane.connection(key) {
         let flags = after_event(connection.flags(), event);
         lane.set_flags(key, flags);
+        list(lane, keys, key);
     }
 }

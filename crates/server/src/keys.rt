@@ -1,33 +1,45 @@
-//! The keys of a lane's connections.
+//! The connections of a lane that have something to do.
 
-/// The keys of a lane's connections, as a round goes over them.
-#[derive(Clone, Copy)]
+ghost use Rattle.server.specs.Lanes.{Stays};
+
+use crate::socket::Socket;
+use lanes::{Flags, Lane};
+use std::alloc::{AllocError, Global};
+
+/// No connection has this key: a lane never has so many.
+const NO_KEY: usize = usize::MAX;
+
+/// The keys of a lane's connections that may have something to read, to write or to close. Each
+/// stands in it once; all others wait for word of the system, and a round doesn't look at them.
+#[derive(Drop)]
 pub(crate) struct Keys {
-    /// All keys that connections ever had are below.
-    end: usize,
-    /// The one that is visited first in this round.
+    listed: Vec<usize>,
+    /// The place that is visited first in this round.
     first: usize,
 }
 
 impl Keys {
-    /// None.
-    pub(crate) fn new() -> Keys {
-        Keys { end: 0, first: 0 }
-    }
-
-    /// A connection has this key.
-    pub(crate) fn add(&mut self, key: usize) {
-        self.end = self.end.max(key.saturating_add(1));
+    /// None, and room for so many.
+    pub(crate) fn new(alloc: Global, most: usize) -> Result<Keys, AllocError> {
+        Ok(Keys {
+            listed: Vec::with_capacity(alloc, most)?,
+            first: 0,
+        })
     }
 
     /// How many there are.
     pub(crate) fn len(&self) -> usize {
-        self.end
+        self.listed.len()
+    }
+
+    /// The key at a place.
+    pub(crate) fn at(&self, place: usize) -> usize {
+        self.listed.get(place).copied().unwrap_or(NO_KEY)
     }
 
     /// The next round begins with another one.
     pub(crate) fn turn(&mut self) {
-        self.first = if self.first < self.end.saturating_sub(1) {
+        self.first = if self.first < self.listed.len().saturating_sub(1) {
             self.first + 1
         } else {
             0
@@ -37,7 +49,57 @@ impl Keys {
     /// The key that is visited after so many others: those from the first on, and then those
     /// before it.
     pub(crate) fn visited(&self, others: usize) -> usize {
-        let key = self.first.saturating_add(others);
-        if key < self.end { key } else { key - self.end }
+        let place = self.first.saturating_add(others);
+        let end = self.listed.len();
+        self.at(if place < end { place } else { place - end })
+    }
+
+    /// Puts another key at a place.
+    pub(crate) fn put(&mut self, place: usize, key: usize) {
+        if let Some(at) = self.listed.get_mut(place) {
+            *at = key;
+        }
+    }
+
+    /// Keeps the first so many.
+    pub(crate) fn truncate(&mut self, kept: usize) {
+        self.listed.truncate(kept);
+    }
+
+    /// Puts a key last. There is room for as many as there are connections.
+    fn add(&mut self, key: usize) {
+        if self.listed.len() < self.listed.capacity() {
+            self.listed.push_reserved(key);
+        }
+    }
+}
+
+/// Lists the connection of a key, if it isn't yet.
+pub(crate) fn list<R>(lane: &mut Lane<Socket, R>, keys: &mut Keys, key: usize)
+    ensures { Stays lane.old lane.new }
+{
+    if let Some(connection) = lane.connection(key) {
+        let flags = connection.flags();
+        if !flags.is_listed {
+            keys.add(key);
+            let flags = Flags {
+                is_listed: true,
+                ..flags
+            };
+            lane.set_flags(key, flags);
+        }
+    }
+}
+
+/// The connection of a key isn't listed any more.
+pub(crate) fn unlist<R>(lane: &mut Lane<Socket, R>, key: usize)
+    ensures { Stays lane.old lane.new }
+{
+    if let Some(connection) = lane.connection(key) {
+        let flags = Flags {
+            is_listed: false,
+            ..connection.flags()
+        };
+        lane.set_flags(key, flags);
     }
 }

@@ -3,6 +3,7 @@
 #![tactic(auto)]
 
 mod accepting;
+mod admission;
 mod bell;
 mod common;
 mod crew;
@@ -14,6 +15,7 @@ mod hearing;
 mod keys;
 mod late_word;
 mod mailbox;
+mod network;
 mod opening;
 mod options;
 mod pace;
@@ -32,12 +34,14 @@ mod tends;
 mod untended;
 mod visits;
 
+pub use admission::{Admission, WhenFull};
 pub use ending::{FilerEnd, end};
 pub use fault::ServerFault;
+pub use network::Network;
 pub use opening::{open_lanes, run_now};
 pub use options::Options;
-pub use peers::{MOST_NETWORKS, Network, Peers};
+pub use peers::{MOST_NETWORKS, Peers};
 pub use plan::VolumePlan;
 pub use room::Room;
-pub use running::{export, serve};
+pub use running::serve;
 pub use socket::Socket;

@@ -11,9 +11,6 @@ use workers::StartRefusal;
 /// The token of the waker. No connection has it for a key.
 const WAKER: Token = Token(usize::MAX);
 
-/// How many streams a mailbox has room for without memory.
-const STREAMS: usize = 64;
-
 /// Streams that were accepted and that the thread of a lane has yet to open; and the word by which
 /// it is told to stop. Whoever leaves something wakes the thread.
 pub(crate) struct Mailbox {
@@ -37,9 +34,13 @@ impl Drop for Mailbox {
 }
 
 impl Mailbox {
-    /// An empty mailbox of the thread that waits by this poll.
-    pub(crate) fn new(alloc: Global, poll: &Poll) -> Result<Mailbox, StartRefusal> {
-        let Ok(streams) = Vec::with_capacity(alloc, STREAMS) else {
+    /// An empty mailbox of the thread that waits by this poll, with room for so many streams.
+    pub(crate) fn new(
+        alloc: Global,
+        poll: &Poll,
+        most_open: usize,
+    ) -> Result<Mailbox, StartRefusal> {
+        let Ok(streams) = Vec::with_capacity(alloc, most_open) else {
             return Err(StartRefusal::NoMemory);
         };
         let Ok(waker) = Waker::new(poll.registry(), WAKER) else {

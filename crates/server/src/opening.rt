@@ -86,7 +86,7 @@ fn open_queue(alloc: Global, filer: &Filer) -> Result<Queue, AllocError>
     })
 }
 
-/// A lane of a worker, this one of so many.
+/// A lane of a worker, this one of so many, with at most so many connections open.
 fn open_lane<D, R>(
     rt: R,
     alloc: Global,
@@ -97,6 +97,7 @@ fn open_lane<D, R>(
     worker: Worker,
     lane: usize,
     lanes: usize,
+    most_open: usize,
 ) -> Result<Lane<D, R>, AllocError>
 where
     D: Device + Drop,
@@ -110,11 +111,13 @@ where
         identity_in opened ≡ ((lane, lanes), offer, queue)) }
 {
     let filer = Arc::try_clone(filer)?;
-    Ok(Lane::new(rt, alloc, filer, offer, queue, admits, worker, lane, lanes))
+    Ok(Lane::new(
+        rt, alloc, filer, offer, queue, admits, worker, lane, lanes, most_open,
+    ))
 }
 
 /// All lanes of a filer, so many, which read by what is offered, with their connections over
-/// devices of one type.
+/// devices of one type, of which each lane has at most so many.
 pub fn open_lanes<D, R>(
     rt: R,
     alloc: Global,
@@ -122,6 +125,7 @@ pub fn open_lanes<D, R>(
     layout: Layout,
     verifier: [u8; 8],
     count: usize,
+    most_open: usize,
     mut lanes: Vec<Lane<D, R>>,
 ) -> Result<(Arc<Filer>, Vec<Lane<D, R>>), AllocError>
 where
@@ -151,10 +155,14 @@ where
         } = open_queue(alloc, &filer)?;
         let (first, second) = worker.split_with(&filer, &queue, &theirs, takes);
         worker = first;
-        let lane = open_lane(rt, alloc, &filer, offer, theirs, puts, second, index, count)?;
+        let lane = open_lane(
+            rt, alloc, &filer, offer, theirs, puts, second, index, count, most_open,
+        )?;
         lanes.push_reserved(lane);
     }
-    let lane = open_lane(rt, alloc, &filer, offer, queue, admits, worker, 0, count)?;
+    let lane = open_lane(
+        rt, alloc, &filer, offer, queue, admits, worker, 0, count, most_open,
+    )?;
     lanes.push_reserved(lane);
     Ok((filer, lanes))
 }

@@ -2,6 +2,7 @@
 
 ghost use Rattle.std.specs.Prelude.{◌≤◌, ◌<◌};
 
+use crate::admission::{Admission, MOST_OPEN, WhenFull};
 use crate::peers::Peers;
 use crate::plan::VolumePlan;
 use rpc_msg::Offer;
@@ -13,14 +14,16 @@ pub(crate) const MOST_VOLUMES: usize = 8;
 /// The most workers.
 pub(crate) const MOST_WORKERS: usize = 64;
 
-/// Where a server listens, how many volumes (1 to 8), workers (1 to 64) and connections it has, what
-/// it offers and to whom, and what its volumes have at the start.
+/// Where a server listens, how many volumes (1 to 8) and workers (1 to 64) it has, after how many
+/// connections it ends, if after any, how many may be open, what it offers and to whom, and what its
+/// volumes have at the start.
 #[derive(Clone, Copy)]
 pub struct Options {
     pub address: SocketAddr,
     pub volumes: usize,
     pub workers: usize,
-    pub connections: u64,
+    pub connections: Option<u64>,
+    pub admission: Admission,
     pub offer: Offer,
     pub peers: Peers,
     pub plan: VolumePlan,
@@ -33,21 +36,22 @@ pub struct Options {
 impl Options {
     ghost use Rattle.std.specs.Prelude.{◌≡◌, IfNone, IfSome};
     ghost use Rattle.rpc_msg.specs.Offer.{basic};
-    ghost use Rattle.server.specs.Asked.{IsBasic, IsInRange};
+    ghost use Rattle.server.specs.Asked.{IsBasic, IsInRange, IsUsual};
     ghost use Rattle.server.specs.declared.peers.Peers.TheVariants.{All};
 
     /// These options, where the numbers are in their ranges, and else none. The offer and the plan
-    /// are the basic ones, and everybody is served.
+    /// are the basic ones, everybody is served, and at most 64 connections are open, for which
+    /// others wait.
     pub fn new(
         address: SocketAddr,
         volumes: usize,
         workers: usize,
-        connections: u64,
+        connections: Option<u64>,
     ) -> Option<Options>
         ensures given { IfSome result (λ options. options.address ≡ address
             × options.volumes ≡ volumes × options.workers ≡ workers
-            × options.connections ≡ connections × options.offer ≡ basic
-            × IsBasic options.plan × options.peers ≡ All) }
+            × options.connections ≡ connections × IsUsual options.admission
+            × options.offer ≡ basic × IsBasic options.plan × options.peers ≡ All) }
         ensures in_range { IfSome result (λ options. IsInRange volumes workers) }
         ensures refused { IfNone result (IsInRange volumes workers → ⊥) }
     {
@@ -62,6 +66,10 @@ impl Options {
             volumes,
             workers,
             connections,
+            admission: Admission {
+                most_open: MOST_OPEN,
+                when_full: WhenFull::Waits,
+            },
             offer: Offer::basic(),
             peers: Peers::All,
             plan: VolumePlan::basic(),
@@ -76,6 +84,16 @@ impl Options {
         options.offer = offer;
         options
     }
+
+    /// The same options, with connections let in otherwise.
+    pub fn with_admission(self, admission: Admission) -> Options
+        ensures { result ≡ record self { admission = admission } }
+    {
+        let mut options = self;
+        options.admission = admission;
+        options
+    }
+
     /// The same options, to serve these peers alone.
     pub fn with_peers(self, peers: Peers) -> Options
         ensures { result ≡ record self { peers = peers } }

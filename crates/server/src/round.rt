@@ -39,7 +39,7 @@ fn longest_wait<R>(lane: &Lane<Socket, R>, station: &Station) -> Option<Duration
     if station.is_writing || lane.waiting() > 0 {
         return Some(Duration::ZERO);
     }
-    if !may_rest(lane, &station.pace) || any_is_due(lane, station.keys) {
+    if !may_rest(lane, &station.pace) || any_is_due(lane, &station.keys) {
         return Some(Duration::ZERO);
     }
     if !lane.worker().has_empty_hand() {
@@ -60,7 +60,7 @@ fn wait<R: Wait + Clock>(rt: &R, lane: &mut Lane<Socket, R>, station: &mut Stati
     match station.poll.poll(&mut station.events, longest) {
         Ok(()) => {
             for event in &station.events {
-                hear(lane, event);
+                hear(lane, &mut station.keys, event);
             }
         }
         // It isn't known of any reason. The lane goes on as if nothing was told.
@@ -80,13 +80,7 @@ fn take_mail<R: Wait>(rt: &R, lane: &mut Lane<Socket, R>, station: &mut Station)
     station.mailbox.take(rt, &mut station.mail);
     while let Some(stream) = station.mail.pop() {
         let registry = station.poll.registry();
-        open(
-            lane,
-            &mut station.keys,
-            registry,
-            &station.common.ends,
-            stream,
-        );
+        open(lane, registry, &station.common.ends, stream);
     }
 }
 
@@ -159,9 +153,9 @@ fn run_calls<R: Wait>(
     false
 }
 
-/// A round: what the sockets tell and what was left is taken, each connection is read once, calls
-/// are run, each connection's replies are written once, and then the lane tends once if no message
-/// waits.
+/// A round: what the sockets tell and what was left is taken, each listed connection is read once,
+/// calls are run, the replies of each listed connection are written once, and then the lane tends
+/// once if no message waits.
 pub(crate) fn round<R: Wait + Clock>(rt: &R, lane: &mut Lane<Socket, R>, station: &mut Station)
     ensures { Stays lane.old lane.new }
 {
@@ -174,8 +168,8 @@ pub(crate) fn round<R: Wait + Clock>(rt: &R, lane: &mut Lane<Socket, R>, station
         station.pace.tending.begin_anew();
     }
     let is_idle = run_calls(lane, &mut station.pace, &station.common, moment);
-    station.is_writing = write_all(lane, station.keys, &mut station.buffers);
-    close_ended(lane, station.keys, &station.common.ends);
+    station.is_writing = write_all(lane, &station.keys, &mut station.buffers);
+    close_ended(lane, &mut station.keys, &station.common.ends);
     if is_idle {
         tend(lane, &mut station.pace);
     } else {

@@ -14,7 +14,7 @@ ghost use Rattle.server.specs.Threads.{AllServe, AreThreadsOf, IsTaskFor};
 ghost use Rattle.server.specs.declared.socket.Socket as sockets;
 ghost use Rattle.turns.specs.declared.shared.Filer as filers;
 
-use crate::accepting::{accept_all, accept_for_ever};
+use crate::accepting::{Door, accept_all};
 use crate::common::Common;
 use crate::crew::{Mail, join_all, start_all};
 use crate::ending::{FilerEnd, end};
@@ -47,11 +47,12 @@ struct Running<R> {
     ghost wide: { (vec_len threads ≤ vec_capacity lanes) × (vec_len threads ≤ room.lanes) },
 }
 
-/// Gives each of these lanes what its thread will have beside it.
+/// Gives each of these lanes what its thread will have beside it, for at most so many connections.
 fn man_all<R: Net + Drop>(
     rt: &R,
     alloc: Global,
     common: &Arc<Common>,
+    most_open: usize,
     lanes: &mut Vec<Lane<Socket, R>>,
     tasks: &mut Vec<Task<R>>,
     boxes: &mut Vec<Arc<Mailbox>>,
@@ -71,7 +72,7 @@ fn man_all<R: Net + Drop>(
 {
     while let Some(lane) = lanes.pop() {
         let common = Arc::try_clone(common)?;
-        let station = match Station::new(alloc, rt, common) {
+        let station = match Station::new(alloc, rt, common, most_open) {
             Ok(station) => station,
             Err(refusal) => return Err(of_start(refusal)),
         };
@@ -94,6 +95,7 @@ where
         layout_of(alloc, options.volumes, options.plan)?,
         options.workers,
     );
+    let most_open = options.admission.most_open as usize;
     let lanes = Vec::with_capacity(alloc, workers)?;
     let mut threads = Vec::with_capacity(alloc, workers)?;
     let mut tasks = Vec::with_capacity(alloc, workers)?;
@@ -111,9 +113,12 @@ where
         layout,
         verifier,
         workers,
+        most_open,
         lanes,
     )?;
-    man_all(&rt, alloc, &common, &mut lanes, &mut tasks, &mut boxes)?;
+    man_all(
+        &rt, alloc, &common, most_open, &mut lanes, &mut tasks, &mut boxes,
+    )?;
     let mail = Mail { boxes, common };
     if !start_all(rt, &mut tasks, &mut threads) {
         mail.stop();
@@ -135,8 +140,9 @@ fn print_address<W: Write>(listener: &TcpListener, out: &mut W) -> Result<(), Se
     writeln!(out, "listening {address}").map_err(|_| ServerFault::Output)
 }
 
-/// Prints where a server listens, takes so many connections, and waits for their ends.
-fn accept<R: Wait, W: Write>(
+/// Prints where a server listens, takes the connections that are asked for, and waits for their
+/// ends.
+fn accept<R: Wait + Clock, W: Write>(
     rt: &R,
     mail: &Mail,
     listener: &TcpListener,
@@ -144,17 +150,10 @@ fn accept<R: Wait, W: Write>(
     out: &mut W,
 ) -> Result<(), ServerFault> {
     print_address(listener, out)?;
-    let (connections, peers) = (options.connections, &options.peers);
-    match accept_all(
-        rt,
-        listener,
-        connections,
-        peers,
-        &mail.boxes,
-        &mail.common.ends,
-    ) {
+    let mut door = Door::new(options, &mail.boxes, &mail.common.ends);
+    match accept_all(rt, listener, &mut door) {
         Ok(()) => {
-            mail.common.ends.wait_for_fewer(rt, connections, 1);
+            door.wait_for_all(rt);
             Ok(())
         }
         Err(fault) => Err(of_serving(fault)),
@@ -173,7 +172,7 @@ fn run<R, W>(
     out: &mut W,
 ) -> Result<FilerEnd, ServerFault>
 where
-    R: Threads + Wait + Drop,
+    R: Threads + Wait + Clock + Drop,
     W: Write,
     requires { AreThreadsOf (arc_value running.filer) running.threads.items }
     ensures { IfOk result (λ left. (lanes : List (laned.Lane sockets.Socket R
@@ -199,7 +198,8 @@ where
 
 /// Serves the connections of a listener: prints `listening` and the address that it is bound to,
 /// takes as many connections as the options say, waits for their ends, stops the lanes, and closes
-/// the filer, and prints `left` and how many messages weren't finished.
+/// the filer, and prints `left` and how many messages weren't finished. Where the options name no
+/// number of connections it goes on for as long as the program runs.
 pub fn serve<R, W>(
     rt: R,
     alloc: Global,
@@ -215,41 +215,4 @@ where
     let end = run(&rt, listener, options, running, out)?;
     let count = end.unfinished();
     writeln!(out, "left {count}").map_err(|_| ServerFault::Output)
-}
-
-/// Serves the connections of a listener for as long as the program runs: prints `listening` and the
-/// address that it is bound to, and serves the peers that the options name. It ends where it can't
-/// begin.
-pub fn export<R, W>(
-    rt: R,
-    alloc: Global,
-    listener: &TcpListener,
-    options: &Options,
-    out: &mut W,
-) -> Result<(), ServerFault>
-where
-    R: Threads + Wait + Clock + Net + Copy + Drop + Send + 'static,
-    W: Write,
-{
-    let running = start(rt, alloc, options)?;
-    let Running {
-        filer: _filer,
-        mail,
-        threads,
-        lanes,
-        room: _,
-    } = running;
-    let printed = print_address(listener, out);
-    if printed.is_ok() {
-        accept_for_ever(
-            &rt,
-            listener,
-            &options.peers,
-            &mail.boxes,
-            &mail.common.ends,
-        );
-    }
-    mail.stop();
-    let _lanes = join_all(&rt, threads, lanes);
-    printed
 }

@@ -18,9 +18,6 @@ const BLOCK: usize = 262_144;
 /// The most events that one poll gives.
 const EVENTS: usize = 128;
 
-/// The most streams that a thread takes from its mailbox without memory.
-const STREAMS: usize = 64;
-
 /// What a lane reads into, and what it joins replies in.
 #[derive(Drop)]
 pub(crate) struct Buffers {
@@ -76,16 +73,17 @@ impl Drop for Station {
 }
 
 impl Station {
-    /// A station of a server whose threads share this.
+    /// A station of a server whose threads share this, for at most so many connections.
     pub(crate) fn new(
         alloc: Global,
         net: &impl Net,
         common: Arc<Common>,
+        most_open: usize,
     ) -> Result<Station, StartRefusal> {
         let Ok(poll) = Poll::new(net) else {
             return Err(StartRefusal::NoThread);
         };
-        let Ok(mailbox) = Arc::new(alloc, Mailbox::new(alloc, &poll)?) else {
+        let Ok(mailbox) = Arc::new(alloc, Mailbox::new(alloc, &poll, most_open)?) else {
             return Err(StartRefusal::NoMemory);
         };
         Ok(Station {
@@ -93,10 +91,10 @@ impl Station {
             events: Events::with_capacity(alloc, EVENTS)?,
             mailbox,
             common,
-            keys: Keys::new(),
+            keys: Keys::new(alloc, most_open)?,
             buffers: Buffers::new(alloc)?,
             pace: Pace::new(),
-            mail: Vec::with_capacity(alloc, STREAMS)?,
+            mail: Vec::with_capacity(alloc, most_open)?,
             seen: 0,
             is_writing: false,
         })

@@ -3,7 +3,7 @@
 ghost use Rattle.server.specs.Lanes.{Stays};
 
 use crate::ends::Ends;
-use crate::keys::Keys;
+use crate::keys::{Keys, unlist};
 use crate::socket::Socket;
 use crate::station::Buffers;
 use lanes::{Came, Connection, Flags, Lane, Sent};
@@ -19,7 +19,6 @@ const MOST_WRITES: usize = 64;
 /// can't be opened it is closed.
 pub(crate) fn open<R>(
     lane: &mut Lane<Socket, R>,
-    keys: &mut Keys,
     registry: &Registry,
     ends: &Ends,
     stream: net::TcpStream,
@@ -33,9 +32,8 @@ pub(crate) fn open<R>(
         ends.add();
         return;
     }
-    match lane.open(socket) {
-        Ok(key) => keys.add(key),
-        Err(_closed) => ends.add(),
+    if lane.open(socket).is_err() {
+        ends.add();
     }
 }
 
@@ -56,9 +54,9 @@ fn is_due<R>(lane: &Lane<Socket, R>, key: usize) -> bool {
 }
 
 /// Whether a connection of a lane has something to read or to cut, and may be read.
-pub(crate) fn any_is_due<R>(lane: &Lane<Socket, R>, keys: Keys) -> bool {
-    for key in 0..keys.len() {
-        if is_due(lane, key) {
+pub(crate) fn any_is_due<R>(lane: &Lane<Socket, R>, keys: &Keys) -> bool {
+    for place in 0..keys.len() {
+        if is_due(lane, keys.at(place)) {
             return true;
         }
     }
@@ -101,7 +99,7 @@ fn read<R: Wait>(lane: &mut Lane<Socket, R>, key: usize, buffers: &mut Buffers)
     }
 }
 
-/// Reads each connection of a lane once that may be read, or cuts what is kept of it; in each round
+/// Reads each listed connection of a lane once that may be read, or cuts what is kept of it; in each round
 /// another one first.
 pub(crate) fn read_all<R: Wait>(lane: &mut Lane<Socket, R>, keys: &mut Keys, buffers: &mut Buffers)
     ensures { Stays lane.old lane.new }
@@ -150,12 +148,14 @@ fn write<R>(lane: &mut Lane<Socket, R>, key: usize, buffers: &mut Buffers) -> bo
     true
 }
 
-/// Writes the replies of each connection that may have some. Answers whether there may be more.
-pub(crate) fn write_all<R>(lane: &mut Lane<Socket, R>, keys: Keys, buffers: &mut Buffers) -> bool
+/// Writes the replies of each listed connection that may have some. Answers whether there may be
+/// more.
+pub(crate) fn write_all<R>(lane: &mut Lane<Socket, R>, keys: &Keys, buffers: &mut Buffers) -> bool
     ensures { Stays lane.old lane.new }
 {
     let mut is_left = false;
-    for key in 0..keys.len() {
+    for place in 0..keys.len() {
+        let key = keys.at(place);
         if is_writable(lane, key) && write(lane, key, buffers) {
             is_left = true;
         }
@@ -175,14 +175,30 @@ fn is_over<R>(lane: &Lane<Socket, R>, key: usize) -> bool {
     }
 }
 
-/// Closes the connections that are over.
-pub(crate) fn close_ended<R>(lane: &mut Lane<Socket, R>, keys: Keys, ends: &Ends)
+/// Whether a connection has something to do without word of the system: to read or to cut, where it
+/// may be read, or to write, where replies are due.
+fn is_busy<R>(lane: &Lane<Socket, R>, key: usize) -> bool {
+    is_due(lane, key) || is_writable(lane, key)
+}
+
+/// Closes the connections that are over, and lists those no longer that have nothing to do: a
+/// connection is over only after it was read or written, or the system told of it, and then it is
+/// listed.
+pub(crate) fn close_ended<R>(lane: &mut Lane<Socket, R>, keys: &mut Keys, ends: &Ends)
     ensures { Stays lane.old lane.new }
 {
-    for key in 0..keys.len() {
+    let mut kept = 0usize;
+    for place in 0..keys.len() {
+        let key = keys.at(place);
         if is_over(lane, key) {
             let _closed = lane.close(key);
             ends.add();
+        } else if is_busy(lane, key) {
+            keys.put(kept, key);
+            kept = kept.saturating_add(1);
+        } else {
+            unlist(lane, key);
         }
     }
+    keys.truncate(kept);
 }

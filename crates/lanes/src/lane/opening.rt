@@ -33,7 +33,7 @@ impl<D: Device, R> Lane<D, R> {
 
     /// One of so many lanes of a filer, which reads records by what is offered, with a queue of its
     /// own: a pass that will only admit, and a worker with the other pass. Neither has done
-    /// anything.
+    /// anything. At most so many connections will be open.
     pub fn new(
         rt: R,
         alloc: Global,
@@ -44,6 +44,7 @@ impl<D: Device, R> Lane<D, R> {
         worker: Worker,
         lane: usize,
         lanes: usize,
+        most_open: usize,
     ) -> Lane<D, R>
         requires lane { lane < lanes }
         requires few { lanes ≤ 1024 }
@@ -57,6 +58,7 @@ impl<D: Device, R> Lane<D, R> {
         ensures worker { worker_in result ≡ worker }
         ensures identity { identity_in result ≡ ((lane, lanes), offer, queue) }
         ensures numbers { AreOfLane lane lanes (boxes_in result) }
+        ensures open { (boxes_in result).most ≡ most_open }
     {
         Lane {
             index: lane,
@@ -69,7 +71,7 @@ impl<D: Device, R> Lane<D, R> {
                 queue,
                 pass,
                 worker,
-                outboxes: Outboxes::of_lane(alloc, lane, lanes),
+                outboxes: Outboxes::with_room_for(alloc, most_open, lane, lanes),
                 waiting: 0,
                 most: PLACES / lanes,
                 owed: Due::nothing(),
@@ -89,7 +91,7 @@ impl<D: Device, R> Lane<D, R> {
     }
 
     /// Opens a connection over a device, under the next key. The device comes back where there is
-    /// no memory, or where 64 connections are open.
+    /// no memory, or where as many connections are open as may be.
     pub fn open(&mut self, device: D) -> Result<usize, D>
         ensures opens { Opens (connections_in self.old) (boxes_in self.old) device result
             (connections_in self.new) (boxes_in self.new) }

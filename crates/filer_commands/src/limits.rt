@@ -1,0 +1,13 @@
+//! The largest numbers that a command line may name.
+
+/// The most volumes of a server.
+pub(crate) const MOST_VOLUMES: i64 = 8;
+
+/// The most workers of a server.
+pub(crate) const MOST_WORKERS: i64 = 64;
+
+/// The most ranges of a volume.
+pub(crate) const MOST_RANGES: i64 = 16;
+
+/// The most connections after which a server ends.
+pub(crate) const MOST_CONNECTIONS: i64 = 1_000_000;
