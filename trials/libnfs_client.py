@@ -247,14 +247,14 @@ def names():
     return [check.__name__ for check in CHECKS]
 
 
-def try_server(port, folder):
+def try_server(server, folder):
     """Puts the client through its checks: how many passed, and what failed."""
     if not all(map(shutil.which, PROGRAMS)) or not ctypes.util.find_library("nfs"):
         raise Unavailable("libnfs isn't there")
     passed, failures = 0, []
     for check in CHECKS:
         try:
-            check(port, folder)
+            check(server.port, folder)
             passed += 1
         except (Wrong, OSError, subprocess.SubprocessError) as error:
             failures.append(f"{check.__name__}: {error}")

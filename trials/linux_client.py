@@ -125,17 +125,19 @@ def console(guest, seconds):
         guest.stdout.close()
 
 
-def try_server(port, folder):
-    """Puts the client through its checks: how many passed, and what failed."""
+def try_server(server, folder):
+    """Puts the client through its checks: how many passed, and what failed. The server is started anew where the guest asks for it."""
     kernel, image = build(folder)
     begin, passed, failures, ended, last = time.monotonic(), [], [], False, ""
-    for line in console(start(kernel, image, port), GUEST_SECONDS):
+    for line in console(start(kernel, image, server.port), GUEST_SECONDS):
         last = line or last
         found = LINE.search(line)
         if found and found.group(2) == "passed":
             passed.append(found.group(1))
         elif found:
             failures.append(f"{found.group(1)}: {found.group(2)}")
+        elif line == "guest: restart":
+            server.restart()
         elif re.search("Kernel panic|Oops|BUG:", line):
             failures.append(line)
         ended = ended or line == "guest ended"
