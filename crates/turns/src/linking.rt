@@ -29,8 +29,8 @@ use depot::Seat;
 use desk::{NodeGrant, ParcelKinds, TaskNode, finish_node, go_on_node, put_back_node};
 use filer_state::Files;
 use nfs_values::Moment;
-use rpc_msg::{HandleForm, replies_fit, servers_are_roomy};
 use parcels::{Node, Parcel};
+use rpc_msg::{HandleForm, replies_fit, servers_are_roomy};
 use service::{JobReply, Service};
 use std::sync::Wait;
 
