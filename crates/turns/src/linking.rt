@@ -216,7 +216,8 @@ pub(crate) fn end_on<N: Node<Parcel<Files>>, G: Gate, S: AnswerSink>(
     ensures seat { IsSeatHere filer.now.depot seat.new }
     ensures splits { splits_left seat.new ≡ splits_left seat.old }
     ensures ended { let L = layout_in filer.now in
-        HasEnded (TookTold handles S.took) L (view seat.old) (node_lent L grant) tried told.old sink.old (view seat.new) result sink.new }
+        HasEnded (TookTold handles S.took) L (view seat.old) (node_lent L grant) tried told.old
+        sink.old (view seat.new) result sink.new }
 {
     match tried {
         Tried::Moved(message, affinity) => {
