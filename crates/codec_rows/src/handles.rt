@@ -45,7 +45,12 @@ fn handles_are_heard(rt: HostRuntime) {
 #[test]
 fn plain_handles_stay(rt: HostRuntime) {
     let basic = Offer::basic();
-    hears(&rt, basic, &[12, 3, 0, 5], &[0, 0, 0, 3, 0, 0, 0, 0, 0, 0, 0, 5]);
+    hears(
+        &rt,
+        basic,
+        &[12, 3, 0, 5],
+        &[0, 0, 0, 3, 0, 0, 0, 0, 0, 0, 0, 5],
+    );
     hears(&rt, basic, &[4, 7], &[0, 0, 0, 7]);
 }
 

@@ -2,7 +2,10 @@
 
 use crate::bytes::{bytes_of, holds, same};
 use nfs_types::{Bad, decode_call, encode_result};
-use nfs_values::{Answer, Call, Exports, FileHandle, Fileid, MountCall, MountResults, Named, Procedure, Refusal, Status, VolumeNumber};
+use nfs_values::{
+    Answer, Call, Exports, FileHandle, Fileid, MountCall, MountResults, Named, Procedure, Refusal,
+    Status, VolumeNumber,
+};
 use rpc_msg::{Head, Offer, read_call_of};
 use std::mem;
 use std::process::Abort;

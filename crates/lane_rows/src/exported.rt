@@ -30,25 +30,71 @@ const MOUNT: [u32; 14] = [
 
 /// Its reply: the handle of the root, and two flavors.
 const MOUNT_REPLY: [u32; 17] = [
-    0x8000_0040, 1, 1, 0, 0, 0, 0, 0, 20, 0, 0, 1, NINES, NINES, 2, 1, 0,
+    0x8000_0040,
+    1,
+    1,
+    0,
+    0,
+    0,
+    0,
+    0,
+    20,
+    0,
+    0,
+    1,
+    NINES,
+    NINES,
+    2,
+    1,
+    0,
 ];
 
 /// A GETATTR call of the root by that handle, xid 2.
 const OWN: [u32; 17] = [
-    0x8000_0040, 2, 0, 2, 100_003, 3, 1, 0, 0, 0, 0, 20, 0, 0, 1, NINES, NINES,
+    0x8000_0040,
+    2,
+    0,
+    2,
+    100_003,
+    3,
+    1,
+    0,
+    0,
+    0,
+    0,
+    20,
+    0,
+    0,
+    1,
+    NINES,
+    NINES,
 ];
 
 /// By a handle of another run, xid 3, and its reply, NFS3ERR_STALE.
 const OTHER: [u32; 17] = [
-    0x8000_0040, 3, 0, 2, 100_003, 3, 1, 0, 0, 0, 0, 20, 0, 0, 1, NINES, 8,
+    0x8000_0040,
+    3,
+    0,
+    2,
+    100_003,
+    3,
+    1,
+    0,
+    0,
+    0,
+    0,
+    20,
+    0,
+    0,
+    1,
+    NINES,
+    8,
 ];
 
 const STALE: [u32; 8] = [0x8000_001c, 3, 1, 0, 0, 0, 0, 70];
 
 /// By a handle without a verifier, xid 4, and its reply, NFS3ERR_BADHANDLE.
-const SHORT: [u32; 15] = [
-    0x8000_0038, 4, 0, 2, 100_003, 3, 1, 0, 0, 0, 0, 12, 0, 0, 1,
-];
+const SHORT: [u32; 15] = [0x8000_0038, 4, 0, 2, 100_003, 3, 1, 0, 0, 0, 0, 12, 0, 0, 1];
 
 const BAD: [u32; 8] = [0x8000_001c, 4, 1, 0, 0, 0, 0, 10_001];
 
@@ -75,9 +121,7 @@ const LOOKUP: [u32; 19] = [
     0x2e00_0000,
 ];
 
-const FOUND: [u32; 14] = [
-    0x8000_00e4, 5, 1, 0, 0, 0, 0, 0, 20, 0, 0, 1, NINES, NINES,
-];
+const FOUND: [u32; 14] = [0x8000_00e4, 5, 1, 0, 0, 0, 0, 0, 20, 0, 0, 1, NINES, NINES];
 
 #[test]
 fn handles_are_of_the_run(rt: HostRuntime) {

@@ -87,11 +87,7 @@ fn refuse<S: RecordSink>(sink: &mut S, origin: Origin, refusal: Refusal) -> Resu
     ensures layout { S.layout sink.new ≡ S.layout sink.old }
 {
     refusals_fit();
-    sink.answer(
-        origin.connection,
-        origin.xid,
-        &mut Reply::Refused(refusal),
-    )
+    sink.answer(origin.connection, origin.xid, &mut Reply::Refused(refusal))
 }
 
 /// Gives on what a record asks.

@@ -25,10 +25,10 @@ use depot::{Refusal, Seat};
 use desk::{NodeGrant, ParcelKinds, TaskNode};
 use filer_state::Files;
 use nfs_values::Moment;
-use rpc_msg::{HandleForm, replies_fit, servers_are_roomy};
 use parcels::{
     AggregateNode, LogicalNode, Parcel, RangeNode, SerialNode, StripeNode, VbnNode, VolumeNode,
 };
+use rpc_msg::{HandleForm, replies_fit, servers_are_roomy};
 use service::{JobReply, Service};
 use std::sync::Wait;
 

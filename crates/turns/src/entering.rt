@@ -15,8 +15,8 @@ use crate::answer::Answer;
 use crate::envelope::Envelope;
 use crate::telling::let_go;
 use nfs_values::Moment;
-use rpc_msg::{HandleForm, tell};
 use outboxes::Room;
+use rpc_msg::{HandleForm, tell};
 use scheduler::Origin;
 use service::{Job, JobReply};
 

@@ -29,8 +29,8 @@ use depot::Seat;
 use desk::{NodeGrant, ParcelKinds, TaskNode, finish_node, go_on_node, put_back_node};
 use filer_state::Files;
 use nfs_values::Moment;
-use rpc_msg::{HandleForm, replies_fit, servers_are_roomy};
 use parcels::{Node, Parcel};
+use rpc_msg::{HandleForm, replies_fit, servers_are_roomy};
 use service::{JobReply, Service};
 use std::sync::Wait;
 
@@ -216,7 +216,8 @@ pub(crate) fn end_on<N: Node<Parcel<Files>>, G: Gate, S: AnswerSink>(
     ensures seat { IsSeatHere filer.now.depot seat.new }
     ensures splits { splits_left seat.new ≡ splits_left seat.old }
     ensures ended { let L = layout_in filer.now in
-        HasEnded (TookTold handles S.took) L (view seat.old) (node_lent L grant) tried told.old sink.old (view seat.new) result sink.new }
+        HasEnded (TookTold handles S.took) L (view seat.old) (node_lent L grant) tried told.old
+        sink.old (view seat.new) result sink.new }
 {
     match tried {
         Tried::Moved(message, affinity) => {

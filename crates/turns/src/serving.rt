@@ -32,11 +32,11 @@ use depot::Seat;
 use desk::{NodeGrant, ParcelKinds, TaskNode, finish_node, put_back_node};
 use filer_state::Files;
 use nfs_values::Moment;
-use rpc_msg::{HandleForm, replies_fit, servers_are_roomy};
 use parcels::{
     AggregateNode, LogicalNode, Node, Parcel, RangeNode, SerialNode, StripeNode, VbnNode,
     VolumeNode,
 };
+use rpc_msg::{HandleForm, replies_fit, servers_are_roomy};
 use service::{JobReply, Service};
 
 /// Ends a message's call by its entry, and answers it.

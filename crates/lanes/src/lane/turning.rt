@@ -102,7 +102,8 @@ impl<D: Device, R: Wait> Lane<D, R> {
         most: usize,
     ) -> Chained
         ensures turned { let form = form_of (offer_in self.old) in
-            HasTurnedOn (TookTold form HasPutAll) (layout_in (filer_in self.old)) (standing_of (worker_in self.old)) moment (boxes_in self.old) result
+            HasTurnedOn (TookTold form HasPutAll) (layout_in (filer_in self.old))
+            (standing_of (worker_in self.old)) moment (boxes_in self.old) result
             (boxes_in self.new) (standing_of (worker_in self.new)) }
         ensures few { HasDoneFew (turns_at_most most) (seat_view (worker_in self.old))
             (seat_view (worker_in self.new)) }

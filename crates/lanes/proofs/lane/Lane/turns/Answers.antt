@@ -46,7 +46,7 @@ returns-clause-turned g c =
     let same : c.deref.result.now ≡ arc_value l.filer = search rules in
     subst (λ (f : Filer). HasTurnedOn (TookTold (form_of l.offer) HasPutAll) (layout_in f) (standing_of l.intake.worker) c.args.moment l.intake.outboxes
     c.turns.result i.outboxes (standing_of i.worker)) same (subst (λ form. HasTurnedOn (TookTold form HasPutAll) (layout_in c.deref.result.now) (standing_of l.intake.worker) c.args.moment
-          l.intake.outboxes c.turns.result i.outboxes (standing_of i.worker)) c.handles-handles.ensures c.turns.ensures.turned)
+    l.intake.outboxes c.turns.result i.outboxes (standing_of i.worker)) c.handles-handles.ensures c.turns.ensures.turned)
 
 pub returns-clause-identity : goal.returns-clause-identity
 returns-clause-identity g c =
