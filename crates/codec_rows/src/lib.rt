@@ -7,6 +7,7 @@ mod arguments;
 mod bytes;
 #[cfg(test)]
 mod handles;
+#[cfg(test)]
 mod heads;
 #[cfg(test)]
 mod mounting;
