@@ -101,7 +101,7 @@ pub may-end : RepliesFit → (layout : Layout) (m : Message Call) → IsAdmitted
     → Works (record { asked = Ask (call_of m.call) (credential_of m.credential); affinity = affinity_of m.affinity; moment = moment }) store (outcome_of o)
     after
     → MovesOn layout m.call (outcome_of o) → MayEnd layout m o
-may-end fit layout m admitted moment store after roomy (Replied reply) works moves form =
+may-end fit layout m admitted moment store after roomy (Replied reply) works moves = λ form.
     let call = call_of m.call in
     let xid = m.origin.xid in
     let same : reply_of reply ≡ (serial store.server (Ask call (credential_of m.credential)) moment false).reply = works.1 in
@@ -110,7 +110,7 @@ may-end fit layout m admitted moment store after roomy (Replied reply) works mov
     let fits = fit form (length layout.volumes) store.server call (credential_of m.credential) moment false xid roomy in
     let room = admitted.room in
     omega (arith, spelled, told, fits, room)
-may-end fit layout m admitted moment store after roomy Starved works moves form =
+may-end fit layout m admitted moment store after roomy Starved works moves = λ form.
     let xid = m.origin.xid in
     let spelled = ap (λ bs. length bs) (reply_record_is xid (reply_told form types.SystemError)) in
     let fits = fit form (length layout.volumes) store.server (call_of m.call) (credential_of m.credential) moment true xid roomy in
