@@ -41,9 +41,10 @@ pub room-send : IsSend Room.the_row
 room-send = view_send RoomInside.the_row _ _ _ _ room-inside-send
 
 outboxes-inside-send : IsSend OutboxesInside.the_row
-outboxes-inside-send = struct-send OutboxesInside.the_type
-    (search sendable depth 20,
-    (search (outbox-send, BTreeMap-send, crosses, sendable) depth 20, (search sendable depth 20, (search sendable depth 20, (search sendable depth 20, tt)))))
+outboxes-inside-send = struct-send OutboxesInside.the_type (
+  search sendable depth 20,
+  (search (outbox-send, BTreeMap-send, crosses, sendable) depth 20, (search sendable depth 20, (search sendable depth 20, (search sendable depth 20, tt)))),
+)
 
 pub outboxes-send : IsSend Outboxes.the_row
 outboxes-send = view_send OutboxesInside.the_row _ _ _ _ outboxes-inside-send
