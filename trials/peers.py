@@ -121,17 +121,34 @@ def records_of(data):
     return records, data[at:]
 
 
+def fits(found, reply):
+    """Whether a reply may answer what was heard."""
+    return found.is_reply(reply) if isinstance(found, Call) else found == reply
+
+
 def match(heard, replies):
-    """Takes from what is owed what came. Answers what is owed still."""
-    owed = list(heard)
+    """Takes from what is owed what came. Answers what is owed still. Calls under one xid may be answered in any order, so that a
+    reply which fits another's call too is given to that one where nothing else fits."""
+    owed, given = list(range(len(heard))), {}
+
+    def give(reply, seen):
+        for place in owed:
+            if fits(heard[place], reply):
+                owed.remove(place)
+                given[place] = reply
+                return True
+        for place, other in list(given.items()):
+            if place not in seen and fits(heard[place], reply):
+                seen.add(place)
+                if give(other, seen):
+                    given[place] = reply
+                    return True
+        return False
+
     for reply in replies:
-        for place, found in enumerate(owed):
-            if found.is_reply(reply) if isinstance(found, Call) else found == reply:
-                del owed[place]
-                break
-        else:
+        if not give(reply, set()):
             raise Differs(f"a reply that answers nothing: {reply[:60].hex()}")
-    return owed
+    return [heard[place] for place in owed]
 
 
 def compare(stream, data, was_reset):
