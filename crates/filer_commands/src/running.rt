@@ -6,7 +6,7 @@ use crate::choice::Command;
 use crate::replay::{ProgramFault, print_fault, replay};
 use crate::words::{command_told, print_help};
 use rpc_msg::Offer;
-use server::{Options, Peers, ServerFault, run_now, serve};
+use server::{Options, Peers, ServerFault, run_now, serve, serve_told};
 use std::alloc::{AllocError, Global};
 use std::convert::AsStr;
 use std::fs::File;
@@ -148,7 +148,7 @@ where
     let address = listener.local_addr().map_err(|_| ProgramFault::Listen)?;
     let options = &options.with_offer(Offer::export(run_now(&rt)));
     tell_exports(err, options, &address);
-    match serve(rt, rt.alloc(), &listener, options, out) {
+    match serve_told(rt, rt.alloc(), &listener, options, out, err) {
         Ok(()) => Ok(0),
         Err(fault) => Err(of_server(fault)),
     }

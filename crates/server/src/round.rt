@@ -3,6 +3,7 @@
 ghost use Rattle.std.specs.Prelude.{IfNone};
 ghost use Rattle.server.specs.Lanes.{IsAtRest, Stays};
 
+use crate::closing::{close_ended, close_idle};
 use crate::common::Common;
 use crate::hearing::hear;
 use crate::late_word::LateWord;
@@ -10,7 +11,7 @@ use crate::pace::Pace;
 use crate::socket::Socket;
 use crate::station::Station;
 use crate::tends::{may_rest, put_down, tend};
-use crate::visits::{any_is_due, close_ended, open, read_all, write_all};
+use crate::visits::{any_is_due, open, read_all, write_all};
 use lanes::Lane;
 use nfs_values::Moment;
 use std::rt::Clock;
@@ -68,8 +69,8 @@ fn wait<R: Wait + Clock>(rt: &R, lane: &mut Lane<Socket, R>, station: &mut Stati
     }
 }
 
-/// Opens connections of the streams that were left, if some were.
-fn take_mail<R: Wait>(rt: &R, lane: &mut Lane<Socket, R>, station: &mut Station)
+/// Opens connections of the streams that were left, if some were, in a second.
+fn take_mail<R: Wait>(lane: &mut Lane<Socket, R>, station: &mut Station, rt: &R, now: u32)
     ensures { Stays lane.old lane.new }
 {
     let left = station.mailbox.left();
@@ -78,9 +79,8 @@ fn take_mail<R: Wait>(rt: &R, lane: &mut Lane<Socket, R>, station: &mut Station)
     }
     station.seen = left;
     station.mailbox.take(rt, &mut station.mail);
-    while let Some(stream) = station.mail.pop() {
-        let registry = station.poll.registry();
-        open(lane, registry, &station.common.ends, stream);
+    while let Some(arrival) = station.mail.pop() {
+        open(lane, station, rt, arrival, now);
     }
 }
 
@@ -155,21 +155,22 @@ fn run_calls<R: Wait>(
 
 /// A round: what the sockets tell and what was left is taken, each listed connection is read once,
 /// calls are run, the replies of each listed connection are written once, and then the lane tends
-/// once if no message waits.
+/// once if no message waits. Where others wait for a place, idle connections are closed.
 pub(crate) fn round<R: Wait + Clock>(rt: &R, lane: &mut Lane<Socket, R>, station: &mut Station)
     ensures { Stays lane.old lane.new }
 {
     wait(rt, lane, station);
     station.pace.patience.give_way(rt);
-    take_mail(rt, lane, station);
-    read_all(lane, &mut station.keys, &mut station.buffers);
     let moment = station.pace.time(rt);
+    take_mail(lane, station, rt, moment.seconds);
+    read_all(lane, station, moment.seconds);
     if station.common.untended.take(moment) {
         station.pace.tending.begin_anew();
     }
     let is_idle = run_calls(lane, &mut station.pace, &station.common, moment);
     station.is_writing = write_all(lane, &station.keys, &mut station.buffers);
-    close_ended(lane, &mut station.keys, &station.common.ends);
+    close_ended(lane, station, rt);
+    close_idle(lane, station, rt, moment.seconds);
     if is_idle {
         tend(lane, &mut station.pace);
     } else {
