@@ -1,7 +1,8 @@
 //! What is told at most once a second.
 
-ghost use Rattle.std.specs.Prelude.{◌≡◌, ◌<◌, ◌+◌, min, None, Some};
-ghost use Rattle.clerk.specs.Quotas.{is_due, left_of};
+ghost use Rattle.std.specs.Prelude.{◌≡◌, ◌↔◌, ◌<◌, ◌+◌, ◌-◌, min};
+ghost use Rattle.std.specs.Prelude.{IfNone, IfSome, IsNone, IsSome, OnSome};
+ghost use Rattle.clerk.specs.Quotas.{told_at, IsDue};
 
 /// The milliseconds between two lines of one kind.
 const APART: u64 = 1_000;
@@ -31,9 +32,10 @@ impl Quota {
 
     /// How often it happened, if that is to be told now: then not again for a second.
     pub fn take(&mut self, now: u64) -> Option<u64>
-        ensures due { is_due self.old now ≡ true → result ≡ Some self.old.count }
-        ensures later { is_due self.old now ≡ false → result ≡ None }
-        ensures after { self.new ≡ left_of self.old now }
+        ensures due { IsSome result ↔ IsDue self.old now }
+        ensures count { IfSome result (λ count. count ≡ self.old.count) }
+        ensures told { OnSome result (self.new ≡ told_at now) }
+        ensures kept { IfNone result (self.new ≡ self.old) }
     {
         if self.count == 0 || now < self.next {
             return None;
@@ -45,7 +47,10 @@ impl Quota {
     }
 
     /// In how many milliseconds it is to be told, if it happened.
-    pub fn wait(&self, now: u64) -> Option<u64> {
+    pub fn wait(&self, now: u64) -> Option<u64>
+        ensures none { IsNone result ↔ (self.now.count ≡ 0) }
+        ensures wait { IfSome result (λ wait. wait ≡ self.now.next - now) }
+    {
         if self.count == 0 {
             return None;
         }

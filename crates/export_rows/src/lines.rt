@@ -4,7 +4,7 @@ use filer_commands::{Command, ProgramFault, command, program_told};
 use server::{Peers, WhenFull};
 
 /// Command lines that are none.
-const REFUSED: [&[&str]; 8] = [
+const REFUSED: [&[&str]; 11] = [
     &["filer", "export"],
     &["filer", "export", "--listen", "localhost:2049"],
     &[
@@ -39,6 +39,16 @@ const REFUSED: [&[&str]; 8] = [
         "--allow",
         "here",
     ],
+    &["filer", "export", "--listen", "127.0.0.1:0", "--idle", "0"],
+    &[
+        "filer",
+        "export",
+        "--listen",
+        "127.0.0.1:0",
+        "--idle",
+        "86401",
+    ],
+    &["filer", "export", "--listen", "127.0.0.1:0", "--log", "all"],
     &["filer", "help", "export"],
     &["filer", "--help", "export"],
 ];
@@ -62,6 +72,30 @@ fn what_is_so_unless_it_is_said(rt: HostRuntime) {
             assert!(&rt; options.plan.ranges == 16 && options.plan.stripes == 16);
             assert!(&rt; options.plan.mib == 64 && options.plan.spare == 128);
             assert!(&rt; matches!(options.peers, Peers::Loopback));
+            assert!(&rt; !options.log);
+            let idle = options.idle.expect(&rt, "an idle time");
+            assert!(&rt; idle.seconds == 600);
+        }
+        _ => panic!(&rt; "no export"),
+    }
+}
+
+#[test]
+fn what_is_said(rt: HostRuntime) {
+    let words = [
+        "filer",
+        "export",
+        "--log",
+        "--listen",
+        "127.0.0.1:0",
+        "--idle",
+        "86400",
+    ];
+    match command(rt.alloc(), &words) {
+        Ok(Command::Export(options)) => {
+            assert!(&rt; options.log);
+            let idle = options.idle.expect(&rt, "an idle time");
+            assert!(&rt; idle.seconds == 86_400);
         }
         _ => panic!(&rt; "no export"),
     }
@@ -86,5 +120,8 @@ fn help_is_printed(rt: HostRuntime) {
     let text = str::from_utf8(&out).ok().expect(&rt, "a text");
     assert!(&rt; text.contains("Usage: filer export"));
     assert!(&rt; text.contains("--allow <NETWORK>"));
+    assert!(&rt; text.contains("--idle <SECONDS>"));
+    assert!(&rt; text.contains("[default: 600]"));
+    assert!(&rt; text.contains("--log "));
     assert!(&rt; text.contains("Examples:\n  filer export --listen"));
 }

@@ -59,7 +59,8 @@ fn close<R: Wait>(
             reason,
         };
         station.common.note(rt, event);
-        let _closed = lane.close(key);
+        // Its place is free before its peer is told.
+        let _device = lane.close(key);
         station.common.ends.add();
     }
 }
