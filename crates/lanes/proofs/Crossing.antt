@@ -81,7 +81,13 @@ intake-send R r = declared_send (Intake.the_type R) (
                 search sendable depth 20,
                 (
                   search sendable depth 20,
-                  (search (due.the_send, sendable) depth 20, (search (form.the_send, sendable) depth 20, (search sendable depth 20, (search (counts.the_send, sendable) depth 20, tt)))),
+                  (
+                    search (due.the_send, sendable) depth 20,
+                    (
+                      search (form.the_send, sendable) depth 20,
+                      (search sendable depth 20, (search (counts.the_send, sendable) depth 20, tt)),
+                    ),
+                  ),
                 ),
               ),
             ),

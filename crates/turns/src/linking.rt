@@ -170,8 +170,8 @@ pub(crate) fn link_on<
         → Stands L (verifier_in filer.now) b message (known pass.old) (node_lent L grant.old)
         (view seat.old)
         → HasLinked (TookTold handles S.took) L (verifier_in filer.now) b message moment
-        (known pass.old) (node_lent L grant.old) (view seat.old) sink.old result told.new (known pass.new)
-        (node_lent L grant.new) (view seat.new) sink.new }
+        (known pass.old) (node_lent L grant.old) (view seat.old) sink.old result told.new
+        (known pass.new) (node_lent L grant.new) (view seat.new) sink.new }
 {
     replies_fit();
     servers_are_roomy();
