@@ -28,6 +28,8 @@ pub struct Journal {
     /// the last error, or 0.
     failed: AtomicU64,
     error: AtomicU64,
+    /// How many calls were refused since that was told.
+    refused: AtomicU64,
     /// Whether the clerk was woken and hasn't looked since.
     is_woken: AtomicBool,
     has_ended: AtomicBool,
@@ -44,6 +46,7 @@ impl Drop for Journal {
             turned_away: _,
             failed: _,
             error: _,
+            refused: _,
             is_woken: _,
             has_ended: _,
             waker: _,
@@ -62,6 +65,7 @@ impl Journal {
             turned_away: AtomicU64::new(0),
             failed: AtomicU64::new(0),
             error: AtomicU64::new(0),
+            refused: AtomicU64::new(0),
             is_woken: AtomicBool::new(false),
             has_ended: AtomicBool::new(false),
             waker: Waker::new(registry, WAKER)?,
@@ -101,6 +105,14 @@ impl Journal {
         self.wake();
     }
 
+    /// Calls were refused, where that is told.
+    pub fn refuse(&self, calls: u64) {
+        if self.is_log {
+            self.refused.fetch_add(calls, Ordering::SeqCst);
+            self.wake();
+        }
+    }
+
     /// Tells the clerk that nothing more is left.
     pub fn end(&self) {
         self.has_ended.store(true, Ordering::SeqCst);
@@ -137,7 +149,12 @@ impl Journal {
         self.failed.swap(0, Ordering::SeqCst)
     }
 
-    /// Why the last one couldn't, by the system's number, where that is known.
+    /// How many calls were refused since this was asked.
+    pub(crate) fn take_refused(&self) -> u64 {
+        self.refused.swap(0, Ordering::SeqCst)
+    }
+
+    /// Why the last one couldn't be accepted, by the system's number, where that is known.
     pub(crate) fn last_error(&self) -> Option<i32> {
         let code = i32::try_from(self.error.load(Ordering::SeqCst)).unwrap_or(0);
         if code == 0 { None } else { Some(code) }

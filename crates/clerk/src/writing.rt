@@ -1,9 +1,11 @@
 //! The clerk.
 
 use crate::clock::milliseconds;
+use crate::counts::Counts;
 use crate::journal::{Journal, MOST_EVENTS};
 use crate::page::Page;
-use crate::quota::Quota;
+use crate::period::Period;
+use crate::report::Inquiry;
 use mio::{Events, Poll};
 use std::alloc::Global;
 use std::io::{self, Write};
@@ -23,9 +25,6 @@ pub struct Clerk {
     poll: Poll,
     events: Events,
     page: Page,
-    turned_away: Quota,
-    failed: Quota,
-    dropped: Quota,
 }
 
 // By hand, so that crates above have no proof of the drop of each of its parts.
@@ -35,9 +34,6 @@ impl Drop for Clerk {
             poll: _,
             events: _,
             page: _,
-            turned_away: _,
-            failed: _,
-            dropped: _,
         } = self;
     }
 }
@@ -49,9 +45,6 @@ impl Clerk {
             poll: Poll::new(net)?,
             events: Events::with_capacity(alloc, EVENTS)?,
             page: Page::new(alloc)?,
-            turned_away: Quota::new(),
-            failed: Quota::new(),
-            dropped: Quota::new(),
         })
     }
 
@@ -70,65 +63,45 @@ impl Clerk {
         }
     }
 
-    /// Puts what is told at most once a second, where it may be told now.
-    fn put_counts<E: Write>(&mut self, journal: &Journal, now: u64, err: &mut E) {
-        self.turned_away.add(journal.take_turned_away());
-        self.failed.add(journal.take_failed());
-        self.dropped.add(journal.take_dropped());
-        if let Some(count) = self.turned_away.take(now) {
-            let line = format_args!("closed at once, since as many are open as may be: {count}");
-            self.page.put(&line, err);
-        }
-        if let Some(count) = self.failed.take(now) {
-            self.put_failed(journal.last_error(), count, err);
-        }
-        if let Some(count) = self.dropped.take(now) {
-            self.page
-                .put(&format_args!("lines that were left out: {count}"), err);
-        }
+    /// Writes all that may be told now.
+    fn write<R: Wait, I: Inquiry, E: Write>(
+        &mut self,
+        rt: &R,
+        journal: &Journal,
+        inquiry: &I,
+        counts: &mut Counts,
+        now: u64,
+        err: &mut E,
+    ) {
+        journal.look();
+        self.put_events(rt, journal, err);
+        counts.gather(journal);
+        counts.put(&mut self.page, journal, now, err);
+        counts.put_refusals(&mut self.page, inquiry, now, err);
+        counts.put_report(&mut self.page, inquiry, now, err);
+        self.page.flush(err);
     }
 
-    /// Puts how many connections couldn't be accepted, and why the last of them.
-    fn put_failed<E: Write>(&mut self, error: Option<i32>, count: u64, err: &mut E) {
-        match error {
-            Some(code) => {
-                let error = io::Error::from_raw_os_error(code);
-                self.page
-                    .put(&format_args!("can't be accepted: {count}, {error}"), err);
-            }
-            None => self
-                .page
-                .put(&format_args!("can't be accepted: {count}"), err),
-        }
-    }
-
-    /// How long the clerk may sleep: without an end where nothing is kept back.
-    fn longest_sleep(&self, now: u64) -> Option<Duration> {
-        let mut longest: Option<u64> = None;
-        for quota in [self.turned_away, self.failed, self.dropped] {
-            if let Some(wait) = quota.wait(now) {
-                longest = Some(longest.map_or(wait, |other| other.min(wait)));
-            }
-        }
-        longest.map(Duration::from_millis)
-    }
-
-    /// Sleeps until it is woken, or for so long.
-    fn sleep<R: Clock>(&mut self, rt: &R, longest: Option<Duration>) {
+    /// Sleeps until it is woken, or for so many milliseconds.
+    fn sleep<R: Clock>(&mut self, rt: &R, longest: Option<u64>) {
+        let longest = longest.map(Duration::from_millis);
         if self.poll.poll(&mut self.events, longest).is_err() {
             rt.sleep(Duration::from_millis(PAUSE));
         }
     }
 }
 
-/// Writes what is left in the journal of this clerk, until that has ended and all is written. It
-/// sleeps while there is nothing.
-pub fn write_until_end<R: Wait + Clock, E: Write>(
+/// Writes what is left in the journal of this clerk, until that has ended and all is written; and
+/// with a period statistics, after each and at the end. It sleeps while there is nothing.
+pub fn write_until_end<R: Wait + Clock, I: Inquiry, E: Write>(
     rt: &R,
     clerk: &mut Clerk,
     journal: &Journal,
+    inquiry: &I,
+    period: Option<Period>,
     err: &mut E,
 ) {
+    let mut counts = Counts::new(period, milliseconds(rt));
     for _ in rt.forever() {
         let has_ended = journal.has_ended();
         let now = if has_ended {
@@ -136,13 +109,10 @@ pub fn write_until_end<R: Wait + Clock, E: Write>(
         } else {
             milliseconds(rt)
         };
-        journal.look();
-        clerk.put_events(rt, journal, err);
-        clerk.put_counts(journal, now, err);
-        clerk.page.flush(err);
+        clerk.write(rt, journal, inquiry, &mut counts, now, err);
         if has_ended {
             return;
         }
-        clerk.sleep(rt, clerk.longest_sleep(now));
+        clerk.sleep(rt, counts.wait(now));
     }
 }

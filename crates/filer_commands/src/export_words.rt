@@ -1,6 +1,8 @@
 //! The command line of `filer export`.
 
-use crate::limits::{MOST_CONNECTIONS, MOST_IDLE, MOST_RANGES, MOST_VOLUMES, MOST_WORKERS};
+use crate::limits::{
+    MOST_CONNECTIONS, MOST_IDLE, MOST_MINUTES, MOST_RANGES, MOST_VOLUMES, MOST_WORKERS,
+};
 use clap::{Arg, ArgAction, ArgMatches, value_parser};
 use server::{Admission, IdleTime, MOST_NETWORKS, Network, Options, Peers, VolumePlan, WhenFull};
 use std::alloc::{AllocError, Global};
@@ -78,11 +80,18 @@ fn with_lines<'a>(
         .long("log")
         .help("Tells of each connection on standard error")
         .action(ArgAction::SetTrue);
-    command.arg(log)
+    let statistics = optional(
+        alloc,
+        "stats",
+        "MINUTES",
+        "Tells so often what was served, 1 to 1440 [never]",
+    )
+    .value_parser(value_parser!(u64).range(1..=MOST_MINUTES));
+    command.arg(log)?.arg(statistics)
 }
 
 /// `export --listen ADDR [--volumes N] [--workers N] [--ranges N] [--connections N]
-/// [--allow NETWORK].. [--idle SECONDS] [--log]`, in any order.
+/// [--allow NETWORK].. [--idle SECONDS] [--log] [--stats MINUTES]`, in any order.
 pub(crate) fn export<'a>(alloc: Global) -> Result<clap::Command<'a>, AllocError> {
     let listen = optional(
         alloc,
@@ -140,12 +149,17 @@ pub(crate) fn options_in(matches: &ArgMatches<'_>) -> Option<Options> {
     let plan = VolumePlan::export(u32::try_from(ranges).ok()?)?;
     let peers = peers_in(matches)?;
     let options = Options::new(address, volumes as usize, workers as usize, connections)?;
-    Some(
-        options
-            .with_admission(ADMISSION)
-            .with_peers(peers)
-            .with_plan(plan)
-            .with_idle(idle)
-            .with_log(matches.get_flag("log")),
-    )
+    let options = options
+        .with_admission(ADMISSION)
+        .with_peers(peers)
+        .with_plan(plan)
+        .with_idle(idle)
+        .with_log(matches.get_flag("log"));
+    match matches.get_one::<u64>("stats") {
+        Some(minutes) => {
+            let period = Period::new(u32::try_from(minutes).ok()?)?;
+            Some(options.with_statistics(period))
+        }
+        None => Some(options),
+    }
 }

@@ -68,7 +68,7 @@ impl<'a> Door<'a> {
 
     /// Whether as many connections are open as may be.
     fn is_full(&self) -> bool {
-        self.common.ends.open_of(self.came) >= self.options.admission.most_open
+        self.common.ends.open() >= self.options.admission.most_open
     }
 
     /// Waits for a place, where those that find none wait.
@@ -77,7 +77,7 @@ impl<'a> Door<'a> {
         match admission.when_full {
             WhenFull::Waits => {
                 let most = admission.most_open;
-                self.common.ends.wait_for_fewer(rt, self.came, most);
+                self.common.ends.wait_for_fewer(rt, most);
             }
             WhenFull::IsClosed => {}
         }
@@ -114,6 +114,7 @@ impl<'a> Door<'a> {
     fn let_in<R: Wait + Clock>(&mut self, rt: &R, stream: TcpStream, peer: SocketAddr) {
         let is_full = self.is_full();
         self.came = self.came.wrapping_add(1);
+        self.common.ends.come();
         if !self.options.peers.has(&peer.ip()) {
             self.common.note(rt, Event::NotAllowed { peer });
         } else if is_full {
@@ -142,7 +143,7 @@ impl<'a> Door<'a> {
 
     /// Waits until all that came have ended.
     pub(crate) fn wait_for_all<R: Wait>(&self, rt: &R) {
-        self.common.ends.wait_for_fewer(rt, self.came, 1);
+        self.common.ends.wait_for_fewer(rt, 1);
     }
 }
 

@@ -9,15 +9,37 @@ use crate::socket::Socket;
 use crate::station::Station;
 use crate::visits::{is_due, is_writable};
 use clerk::{Event, Reason};
+use engine_feed::StreamFault;
 use lanes::{Connection, Lane};
 use std::sync::Wait;
+use tcp_front::Stopped;
+
+/// Why bytes of a connection were taken no further.
+fn reason_of_stop(stopped: Stopped) -> Reason {
+    match stopped {
+        Stopped::Fault(StreamFault::RecordTooLong) => Reason::RecordTooLong,
+        Stopped::Fault(StreamFault::BadHeader) => Reason::BadHeader,
+        Stopped::Fault(StreamFault::NotACall) => Reason::NotACall,
+        Stopped::NoMemory => Reason::NoMemory,
+        Stopped::NumbersUsed => Reason::NumbersUsed,
+    }
+}
 
 /// Why no more is read of a connection or written to it.
 fn reason_of(connection: &Connection<Socket>, guest: Guest) -> Reason {
-    if connection.is_broken() || guest.has_failed {
+    if connection.is_broken() {
         return Reason::SocketFailed;
     }
-    Reason::PeerClosed
+    match connection.stopped() {
+        Some(stopped) => reason_of_stop(stopped),
+        None => {
+            if guest.has_failed {
+                Reason::SocketFailed
+            } else {
+                Reason::PeerClosed
+            }
+        }
+    }
 }
 
 /// Whether nothing more is read of a connection and no reply is owed to it, or its device failed.

@@ -3,6 +3,7 @@
 use crate::accepting::{Door, accept_all};
 use crate::crew::Mail;
 use crate::fault::{ServerFault, of_serving};
+use crate::inquiry::Asked;
 use crate::options::Options;
 use clerk::{Clerk, write_until_end};
 use std::io::Write;
@@ -51,11 +52,14 @@ fn take_and_end<R: Wait + Clock>(
     taken
 }
 
-/// Writes what is left for the clerk, until nothing more is.
-fn write<R: Wait + Clock, E: Write>(rt: &R, mail: &Mail, scribe: Scribe<'_, E>) {
+/// Writes what is left for the clerk, until nothing more is, and statistics, as the options say.
+fn write<R: Wait + Clock, E: Write>(rt: &R, mail: &Mail, options: &Options, scribe: Scribe<'_, E>) {
     let Scribe { mut clerk, err } = scribe;
+    let asked = Asked {
+        common: &mail.common,
+    };
     if let Some(journal) = &mail.common.journal {
-        write_until_end(rt, &mut clerk, journal, err);
+        write_until_end(rt, &mut clerk, journal, &asked, options.statistics, err);
     }
 }
 
@@ -79,7 +83,7 @@ where
     let (taken, ()) = thread::join(
         rt,
         move || take_and_end(&there, mail, listener, options),
-        move || write(rt, mail, scribe),
+        move || write(rt, mail, options, scribe),
     );
     taken
 }

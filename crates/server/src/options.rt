@@ -6,6 +6,7 @@ use crate::admission::{Admission, MOST_OPEN, WhenFull};
 use crate::idle::IdleTime;
 use crate::peers::Peers;
 use crate::plan::VolumePlan;
+use clerk::Period;
 use rpc_msg::Offer;
 use std::net::SocketAddr;
 
@@ -17,8 +18,8 @@ pub(crate) const MOST_WORKERS: usize = 64;
 
 /// Where a server listens, how many volumes (1 to 8) and workers (1 to 64) it has, after how many
 /// connections it ends, if after any, how many may be open, what it offers and to whom, what its
-/// volumes have at the start, after how long a connection is idle, if ever, and whether each
-/// connection is told of.
+/// volumes have at the start, after how long a connection is idle, if ever, whether each connection
+/// is told of, and how often statistics are, if they are.
 #[derive(Clone, Copy)]
 pub struct Options {
     pub address: SocketAddr,
@@ -31,6 +32,7 @@ pub struct Options {
     pub plan: VolumePlan,
     pub idle: Option<IdleTime>,
     pub log: bool,
+    pub statistics: Option<Period>,
     pub ghost some_volume: { 0 < volumes },
     pub ghost volumes_fit: { volumes ≤ 8 },
     pub ghost some_worker: { 0 < workers },
@@ -45,7 +47,7 @@ impl Options {
 
     /// These options, where the numbers are in their ranges, and else none. The offer and the plan
     /// are the basic ones, everybody is served, at most 64 connections are open, for which others
-    /// wait, none is ever idle, and none is told of.
+    /// wait, none is ever idle, none is told of, and no statistics are.
     pub fn new(
         address: SocketAddr,
         volumes: usize,
@@ -56,7 +58,7 @@ impl Options {
             × options.volumes ≡ volumes × options.workers ≡ workers
             × options.connections ≡ connections × IsUsual options.admission
             × options.offer ≡ basic × IsBasic options.plan × options.peers ≡ All
-            × options.idle ≡ None × options.log ≡ false) }
+            × options.idle ≡ None × options.log ≡ false × options.statistics ≡ None) }
         ensures in_range { IfSome result (λ options. IsInRange volumes workers) }
         ensures refused { IfNone result (IsInRange volumes workers → ⊥) }
     {
@@ -80,6 +82,7 @@ impl Options {
             plan: VolumePlan::basic(),
             idle: None,
             log: false,
+            statistics: None,
         })
     }
 
@@ -134,6 +137,15 @@ impl Options {
     {
         let mut options = self;
         options.log = log;
+        options
+    }
+
+    /// The same options, with statistics that are told so often.
+    pub fn with_statistics(self, period: Period) -> Options
+        ensures { result ≡ record self { statistics = Some period } }
+    {
+        let mut options = self;
+        options.statistics = Some(period);
         options
     }
 }

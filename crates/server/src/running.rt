@@ -89,7 +89,7 @@ fn share(
     options: &Options,
     journal: Option<Journal>,
 ) -> Result<Arc<Common>, AllocError> {
-    match Arc::new(alloc, Common::new(options.idle, journal)) {
+    match Arc::new(alloc, Common::new(alloc, options, journal)?) {
         Ok(common) => Ok(common),
         Err(_refused) => Err(AllocError),
     }

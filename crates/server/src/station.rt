@@ -3,6 +3,7 @@
 ghost use Rattle.std.specs.Prelude.{◌<◌, length};
 
 use crate::common::Common;
+use crate::counting::Counting;
 use crate::guests::Guests;
 use crate::keys::Keys;
 use crate::mailbox::{Arrival, Mailbox};
@@ -48,6 +49,8 @@ pub(crate) struct Station {
     pub(crate) guests: Guests,
     pub(crate) buffers: Buffers,
     pub(crate) pace: Pace,
+    /// What is counted, where that is told.
+    pub(crate) counting: Option<Counting>,
     /// Room for the streams of the mailbox.
     pub(crate) mail: Vec<Arrival>,
     /// How often a stream had been left when the mailbox was last emptied.
@@ -70,6 +73,7 @@ impl Drop for Station {
             guests: _,
             buffers: _,
             pace: _,
+            counting: _,
             mail: _,
             seen: _,
             cleared: _,
@@ -92,6 +96,11 @@ impl Station {
         let Ok(mailbox) = Arc::new(alloc, Mailbox::new(alloc, &poll, most_open)?) else {
             return Err(StartRefusal::NoMemory);
         };
+        let counting = if common.tallies.is_empty() {
+            None
+        } else {
+            Some(Counting::new(alloc)?)
+        };
         Ok(Station {
             poll,
             events: Events::with_capacity(alloc, EVENTS)?,
@@ -101,6 +110,7 @@ impl Station {
             guests: Guests::new(alloc, most_open)?,
             buffers: Buffers::new(alloc)?,
             pace: Pace::new(),
+            counting,
             mail: Vec::with_capacity(alloc, most_open)?,
             seen: 0,
             cleared: 0,
