@@ -20,6 +20,17 @@ const NULL_REPLY: [u8; 28] = [
     0x80, 0, 0, 24, 0, 0, 0, 7, 0, 0, 0, 1, 0, 0, 0, 0, 0, 0, 0, 0, 0, 0, 0, 0, 0, 0, 0, 0,
 ];
 
+/// NULL of MOUNT version 3, which a server that offers files alone doesn't have.
+const MOUNT: [u8; 44] = [
+    0x80, 0, 0, 40, 0, 0, 0, 7, 0, 0, 0, 0, 0, 0, 0, 2, 0, 1, 0x86, 0xa5, 0, 0, 0, 3, 0, 0, 0, 0,
+    0, 0, 0, 0, 0, 0, 0, 0, 0, 0, 0, 0, 0, 0, 0, 0,
+];
+
+/// Its reply: as that of NULL, but for the status 1, PROG_UNAVAIL.
+const MOUNT_REPLY: [u8; 28] = [
+    0x80, 0, 0, 24, 0, 0, 0, 7, 0, 0, 0, 1, 0, 0, 0, 0, 0, 0, 0, 0, 0, 0, 0, 0, 0, 0, 0, 1,
+];
+
 /// A connection whose reads don't wait forever.
 pub(crate) fn connect<R>(rt: &R, address: SocketAddr) -> TcpStream
 where
@@ -37,6 +48,14 @@ pub(crate) fn is_served(rt: &impl Abort, stream: &mut TcpStream) {
     let mut reply = [0; 28];
     stream.read_exact(&mut reply).expect(rt, "a reply");
     assert!(rt; reply == NULL_REPLY);
+}
+
+/// Looks whether a call of MOUNT is refused on a connection.
+pub(crate) fn is_refused(rt: &impl Abort, stream: &mut TcpStream) {
+    stream.write_all(&MOUNT).expect(rt, "a write");
+    let mut reply = [0; 28];
+    stream.read_exact(&mut reply).expect(rt, "a reply");
+    assert!(rt; reply == MOUNT_REPLY);
 }
 
 /// Waits until the server closes a connection.

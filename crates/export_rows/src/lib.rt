@@ -19,3 +19,5 @@ mod log;
 mod networks;
 #[cfg(test)]
 mod quotas;
+#[cfg(test)]
+mod reports;

@@ -4,7 +4,7 @@ use filer_commands::{Command, ProgramFault, command, program_told};
 use server::{Peers, WhenFull};
 
 /// Command lines that are none.
-const REFUSED: [&[&str]; 11] = [
+const REFUSED: [&[&str]; 13] = [
     &["filer", "export"],
     &["filer", "export", "--listen", "localhost:2049"],
     &[
@@ -49,6 +49,15 @@ const REFUSED: [&[&str]; 11] = [
         "86401",
     ],
     &["filer", "export", "--listen", "127.0.0.1:0", "--log", "all"],
+    &["filer", "export", "--listen", "127.0.0.1:0", "--stats", "0"],
+    &[
+        "filer",
+        "export",
+        "--listen",
+        "127.0.0.1:0",
+        "--stats",
+        "1441",
+    ],
     &["filer", "help", "export"],
     &["filer", "--help", "export"],
 ];
@@ -72,7 +81,7 @@ fn what_is_so_unless_it_is_said(rt: HostRuntime) {
             assert!(&rt; options.plan.ranges == 16 && options.plan.stripes == 16);
             assert!(&rt; options.plan.mib == 64 && options.plan.spare == 128);
             assert!(&rt; matches!(options.peers, Peers::Loopback));
-            assert!(&rt; !options.log);
+            assert!(&rt; !options.log && options.statistics.is_none());
             let idle = options.idle.expect(&rt, "an idle time");
             assert!(&rt; idle.seconds == 600);
         }
@@ -90,10 +99,14 @@ fn what_is_said(rt: HostRuntime) {
         "127.0.0.1:0",
         "--idle",
         "86400",
+        "--stats",
+        "1440",
     ];
     match command(rt.alloc(), &words) {
         Ok(Command::Export(options)) => {
             assert!(&rt; options.log);
+            let period = options.statistics.expect(&rt, "a period");
+            assert!(&rt; period.minutes == 1_440);
             let idle = options.idle.expect(&rt, "an idle time");
             assert!(&rt; idle.seconds == 86_400);
         }
@@ -123,5 +136,6 @@ fn help_is_printed(rt: HostRuntime) {
     assert!(&rt; text.contains("--idle <SECONDS>"));
     assert!(&rt; text.contains("[default: 600]"));
     assert!(&rt; text.contains("--log "));
+    assert!(&rt; text.contains("--stats <MINUTES>"));
     assert!(&rt; text.contains("Examples:\n  filer export --listen"));
 }

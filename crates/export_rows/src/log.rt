@@ -3,6 +3,7 @@
 use crate::client::{connect, is_closed, is_served};
 use crate::host::{ONE, options_for, start};
 use server::{Network, Peers};
+use std::io::Write;
 use std::net::Shutdown;
 
 #[test]
@@ -51,5 +52,23 @@ fn one_that_finds_no_place_is_always_told_of(rt: HostRuntime) {
     drop(first);
     let told = server.join(&rt);
     let wanted = "closed at once, since as many are open as may be: 1\n";
+    assert!(&rt; told.as_slice() == wanted.as_bytes());
+}
+
+#[test]
+fn a_stream_at_fault_is_told_of(rt: HostRuntime) {
+    let (address, server) = start(rt, options_for(&rt, 1).with_log(true));
+    let mut client = connect(&rt, address);
+    let peer = client.local_addr().expect(&rt, "an address");
+    // A record of 8 bytes: the xid 7 of a reply (RFC 5531 section 9).
+    let reply = [0x80, 0, 0, 8, 0, 0, 0, 7, 0, 0, 0, 1];
+    client.write_all(&reply).expect(&rt, "a write");
+    is_closed(&rt, &mut client);
+    let told = server.join(&rt);
+    let wanted = format!(in rt.alloc();
+        "connection 0 opened: {peer}\n\
+         connection 0 closed: {peer}, a record that is no call\n"
+    )
+    .expect(&rt, "memory");
     assert!(&rt; told.as_slice() == wanted.as_bytes());
 }

@@ -4,7 +4,9 @@ use crate::limits::{
     MOST_CONNECTIONS, MOST_IDLE, MOST_MINUTES, MOST_RANGES, MOST_VOLUMES, MOST_WORKERS,
 };
 use clap::{Arg, ArgAction, ArgMatches, value_parser};
-use server::{Admission, IdleTime, MOST_NETWORKS, Network, Options, Peers, VolumePlan, WhenFull};
+use server::{
+    Admission, IdleTime, MOST_NETWORKS, Network, Options, Peers, Period, VolumePlan, WhenFull,
+};
 use std::alloc::{AllocError, Global};
 use std::net::SocketAddr;
 

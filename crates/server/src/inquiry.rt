@@ -18,7 +18,10 @@ impl Inquiry for Asked<'_> {
         self.common.ends.open()
     }
 
-    fn used(&self) -> Option<Used> {
-        None
+    fn used(&self) -> Used {
+        Used {
+            blocks: None,
+            inodes: None,
+        }
     }
 }
