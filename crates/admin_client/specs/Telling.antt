@@ -1,15 +1,16 @@
 -- What replies to calls of the admin program tell (our profile, by RFC 5531 section 9).
-use Rattle.std.specs.Prelude.{◌≡◌, ℕ, List, map, ◌==◌, ◌⊎◌, Option, Some, None, Result, Ok, Err, if◌then◌else◌}
+use Rattle.std.specs.Prelude.{◌≡◌, ℕ, ◌^◌, ◌<◌, List, map, ◌==◌, ◌⊎◌, Option, Some, None, Result, Ok, Err, if◌then◌else◌}
 use Rattle.std.proofs.Common.{inl, inr}
 use Rattle.xdr.specs.declared.fault.Fault.{Fault}
 use Rattle.xdr.specs.Shape.{Shape, Void, Word, Hyper, Case, NoCase, Value}
 use Rattle.xdr.specs.Reading.{Reads, all_of, all_read, read}
+use Rattle.nfs_model.specs.Types as model
 use Rattle.nfs_types.specs.Shapes.{◌&◌}
 use Rattle.nfs_types.specs.Results.{census_shape, count_shape, count_value}
 use Rattle.nfs_values.specs.declared.answer.VolumeCount.{VolumeCount}
 use Rattle.nfs_values.specs.Answer.{count_of}
 use Rattle.rpc_msg.specs.Replies.{auth_shape, versions_shape}
-use Rattle.admin_client.specs.declared.census.Census.{Census}
+use Rattle.admin_client.specs.declared.volumes.Census.{Census}
 use Rattle.admin_client.specs.declared.growth.Growth.{Growth}
 use Rattle.admin_client.specs.declared.growth.Growth.TheVariants.{Grown, NoVolume, NoRange, TooManyRanges, TooFewSpare}
 use Rattle.admin_client.specs.declared.refusal.CallRefusal.{CallRefusal}
@@ -112,29 +113,38 @@ census_value census = map counted_value census.volumes.items
 
 -- ---- what a reply tells
 
-infixl 10 ◌>>=◌
-abbrev pub ◌>>=◌ : {A B : Type 0} → Result A AdminFault → (A → Result B AdminFault) → Result B AdminFault
-(Ok x) >>= f = f x
-(Err fault) >>= f = Err fault
-
 -- what is read, or that it is malformed
 abbrev pub formed : {A : Type 0} → Result A Fault → Result A AdminFault
 formed (Ok x) = Ok x
 formed (Err fault) = Err (Malformed fault)
 
--- the bytes behind a head, where the call was done; behind one that refuses it there are none
+-- a refusal, where nothing is left behind it
+abbrev pub refused_where : CallRefusal → Result (Unit {0}) Fault → Result (List ℕ) AdminFault
+refused_where refusal (Ok none) = Err (Refused refusal)
+refused_where refusal (Err fault) = Err (Malformed fault)
+
+-- the bytes behind a head, where the call was done
 abbrev pub behind : Option CallRefusal → List ℕ → Result (List ℕ) AdminFault
 behind None rest = Ok rest
-behind (Some refusal) rest = formed (all_read rest) >>= λ _. Err (Refused refusal)
+behind (Some refusal) rest = refused_where refusal (all_read rest)
 
--- the results in a reply to the call of this xid
+-- behind the head that was read, where it is of this xid
+abbrev pub results_behind : ℕ → Reads (Value head_shape) → Result (List ℕ) AdminFault
+results_behind xid (Ok h) = if h.0.0 == xid then behind (refusal_of (body_in h.0.1)) h.1 else Err OfAnotherCall
+results_behind xid (Err fault) = Err (Malformed fault)
+
+-- the bytes of the results in a reply to the call of this xid
 abbrev pub results_at : ℕ → List ℕ → Result (List ℕ) AdminFault
-results_at xid bytes =
-    formed (read head_shape bytes) >>= λ h. if h.0.0 == xid then behind (refusal_of (body_in h.0.1)) h.1 else Err OfAnotherCall
+results_at xid bytes = results_behind xid (read head_shape bytes)
+
+-- results of this type, of which nothing is left
+abbrev pub told_behind : (results : Shape) → Result (List ℕ) AdminFault → Result (Value results) AdminFault
+told_behind results (Ok rest) = formed (all_of results rest)
+told_behind results (Err fault) = Err fault
 
 -- what a reply to the call of this xid tells, whose results are of this type
 abbrev pub told_by : (results : Shape) → ℕ → List ℕ → Result (Value results) AdminFault
-told_by results xid bytes = results_at xid bytes >>= λ rest. formed (all_of results rest)
+told_by results xid bytes = told_behind results (results_at xid bytes)
 
 -- what a call returned, seen by view, is what the reply tells
 abbrev pub Tells : {X Y : Type 0} → (X → Y) → Result X AdminFault → Result Y AdminFault → Type 0
@@ -151,3 +161,34 @@ abbrev pub GivesCounts : {X : Type 0} → (X → List VolumeCount) → Result X 
 GivesCounts view (Ok counts) reads new = reads ≡ Ok (map counted_value (view counts), new)
 GivesCounts view (Err NoMemory) reads new = Unit {0}
 GivesCounts view (Err fault) reads new = formed reads ≡ Err fault
+
+-- ---- what a server of ours replies
+
+-- the head of a call that was done
+abbrev pub success : ℕ → Value auth_shape → Value head_shape
+success xid verifier = (xid, inl (inl (verifier, inl tt)))
+
+-- the answer to GROW
+abbrev pub answer_of : Growth → model.Answer
+answer_of (Grown blocks) = model.GrowDone blocks
+answer_of NoVolume = model.Failed model.NoEntry 0
+answer_of NoRange = model.Failed model.Invalid 0
+answer_of TooManyRanges = model.Failed model.TooBig 0
+answer_of TooFewSpare = model.Failed model.NoSpace 0
+
+-- the reply that refuses a call
+abbrev pub refused_by : CallRefusal → model.Reply
+refused_by refusals.ProgramUnavailable = model.ProgramUnavailable
+refused_by (refusals.ProgramMismatch low high) = model.ProgramMismatch low high
+refused_by refusals.ProcedureUnavailable = model.ProcedureUnavailable
+refused_by refusals.GarbageArguments = model.GarbageArguments
+refused_by refusals.SystemError = model.SystemError
+refused_by (refusals.RpcMismatch low high) = model.RpcMismatch low high
+refused_by (refusals.AuthError number) = model.AuthError number
+
+-- its numbers are of 32 bits
+abbrev pub RefusalFits : CallRefusal → Type 0
+RefusalFits (refusals.ProgramMismatch low high) = (low < 2 ^ 32) × (high < 2 ^ 32)
+RefusalFits (refusals.RpcMismatch low high) = (low < 2 ^ 32) × (high < 2 ^ 32)
+RefusalFits (refusals.AuthError number) = number < 2 ^ 32
+RefusalFits refusal = Unit {0}

@@ -1,5 +1,6 @@
 //! What a call may come to in place of results.
 
+ghost use Rattle.std.specs.Prelude.{◌≡◌};
 ghost use Rattle.admin_client.specs.declared.fault.AdminFault.TheVariants.{Malformed, NoMemory};
 
 use crate::refusal::CallRefusal;
@@ -8,7 +9,7 @@ use std::io;
 use xdr::Fault;
 
 /// Why a call gives no results.
-#[derive(Clone, Copy, Debug, PartialEq, Eq)]
+#[derive(Clone, Copy, PartialEq, Eq)]
 pub enum AdminFault {
     /// The stream can't be written or read.
     Stream,

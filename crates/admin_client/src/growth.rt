@@ -6,7 +6,7 @@ ghost use Rattle.admin_client.specs.Telling.{growth_shape, growth_value};
 use xdr::{Cursor, Fault};
 
 /// What GROW tells (our profile).
-#[derive(Clone, Copy, Debug, PartialEq, Eq)]
+#[derive(Clone, Copy, PartialEq, Eq)]
 pub enum Growth {
     /// The volume has so many blocks now, of 4,096 bytes.
     Grown { blocks: u64 },

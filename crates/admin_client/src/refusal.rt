@@ -1,7 +1,7 @@
 //! Why a server does not do a call.
 
 /// Why a server does not do a call (accept_stat, reject_stat and auth_stat, RFC 5531 section 9).
-#[derive(Clone, Copy, Debug, PartialEq, Eq)]
+#[derive(Clone, Copy, PartialEq, Eq)]
 pub enum CallRefusal {
     /// PROG_UNAVAIL: it has no admin program.
     ProgramUnavailable,

@@ -5,11 +5,11 @@ ghost use Rattle.nfs_types.specs.Results.{census_shape};
 ghost use Rattle.admin_client.specs.Telling.{Tells, TellsCensus, growth_shape, growth_value};
 ghost use Rattle.admin_client.specs.Telling.{results_at, told_by};
 
-use crate::census::Census;
 use crate::counts::read_counts;
 use crate::fault::AdminFault;
 use crate::growth::{Growth, read_outcome};
 use crate::head::{read_head, refusal};
+use crate::volumes::Census;
 use std::alloc::Global;
 use xdr::Cursor;
 

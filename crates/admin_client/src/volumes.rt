@@ -12,7 +12,7 @@ pub struct Census {
 }
 
 /// Blocks of all volumes.
-#[derive(Clone, Copy, Debug, PartialEq, Eq)]
+#[derive(Clone, Copy, PartialEq, Eq)]
 pub struct BlockTotals {
     pub total: u64,
     /// Those in files.
