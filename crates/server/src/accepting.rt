@@ -17,7 +17,7 @@ const PAUSE: u64 = 100;
 
 /// Makes a stream as a lane wants it: no call on it waits, and a short reply doesn't wait for more;
 /// where the latter fails it only comes later.
-fn is_prepared(stream: &TcpStream) -> bool {
+pub(crate) fn is_prepared(stream: &TcpStream) -> bool {
     let _set = stream.set_nodelay(true);
     stream.set_nonblocking(true).is_ok()
 }
@@ -92,7 +92,9 @@ impl<'a> Door<'a> {
         };
         self.turn = turn.saturating_add(1);
         match self.mailboxes.get(turn) {
-            Some(mailbox) => { is_prepared(&stream) && mailbox.leave(rt, Arrival { stream, peer }) }
+            Some(mailbox) => {
+                is_prepared(&stream) && mailbox.leave(rt, Arrival::of(stream, peer))
+            }
             None => false,
         }
     }

@@ -74,13 +74,14 @@ fn close<R: Wait>(
 {
     if let Some(connection) = lane.connection(key) {
         let connection = connection.number();
-        let peer = station.guests.at(key).peer;
-        let event = Event::Closed {
-            connection,
-            peer,
-            reason,
-        };
-        station.common.note(rt, event);
+        if let Some(peer) = station.guests.at(key).peer {
+            let event = Event::Closed {
+                connection,
+                peer,
+                reason,
+            };
+            station.common.note(rt, event);
+        }
         // Its place is free before its peer is told.
         let _device = lane.close(key);
         station.common.ends.add();

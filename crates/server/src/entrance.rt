@@ -6,8 +6,9 @@ use crate::fault::{ServerFault, of_serving};
 use crate::inquiry::Asked;
 use crate::options::Options;
 use clerk::{Clerk, write_until_end};
+use std::alloc::Global;
 use std::io::Write;
-use std::net::TcpListener;
+use std::net::{Net, TcpListener, TcpStream};
 use std::rt::Clock;
 use std::sync::Wait;
 use std::thread;
@@ -18,6 +19,7 @@ use std::thread::Threads;
 pub(crate) struct Scribe<'a, E> {
     pub(crate) clerk: Clerk,
     pub(crate) err: &'a mut E,
+    pub(crate) alloc: Global,
 }
 
 /// Takes the connections that are asked for, and waits for their ends.
@@ -74,6 +76,7 @@ pub(crate) fn accept<R, E>(
 ) -> Result<(), ServerFault>
 where
     R: Threads + Wait + Clock + Copy + Send,
+    R: Net<Listener = TcpListener, Stream = TcpStream>,
     E: Write,
 {
     let Some(scribe) = scribe else {

@@ -1,12 +1,13 @@
 //! What a lane's thread knows of its connections beside the lane.
 
 use std::alloc::{AllocError, Global};
-use std::net::{IpAddr, Ipv4Addr, SocketAddr};
+use std::net::SocketAddr;
 
 /// What a lane's thread knows of a connection.
 #[derive(Clone, Copy)]
 pub(crate) struct Guest {
-    pub(crate) peer: SocketAddr,
+    /// None is the server itself, of which nobody is told.
+    pub(crate) peer: Option<SocketAddr>,
     /// The second in which it was heard of last.
     pub(crate) heard: u32,
     /// Whether it couldn't be read.
@@ -22,7 +23,7 @@ pub(crate) struct Guests {
 /// What stands at a key that no connection had.
 fn nobody() -> Guest {
     Guest {
-        peer: SocketAddr::new(IpAddr::V4(Ipv4Addr::new(0, 0, 0, 0)), 0),
+        peer: None,
         heard: 0,
         has_failed: false,
     }
@@ -47,7 +48,7 @@ impl Guests {
     }
 
     /// A connection of a peer was opened in a second.
-    pub(crate) fn admit(&mut self, key: usize, peer: SocketAddr, now: u32) {
+    pub(crate) fn admit(&mut self, key: usize, peer: Option<SocketAddr>, now: u32) {
         if let Some(guest) = self.by_key.get_mut(key) {
             *guest = Guest {
                 peer,

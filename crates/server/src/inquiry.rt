@@ -1,26 +1,93 @@
 //! What the clerk asks of a server.
 
-use crate::common::Common;
+use crate::accepting::is_prepared;
+use crate::crew::Mail;
+use crate::mailbox::Arrival;
+use admin_client::census;
 use clerk::{Inquiry, Used};
 use statistics::Tally;
+use std::alloc::Global;
+use std::net::{Net, TcpListener, TcpStream};
+use std::sync::Wait;
+use std::time::Duration;
 
-/// What the clerk asks of a server whose threads share this.
-pub(crate) struct Asked<'a> {
-    pub(crate) common: &'a Common,
+/// How many seconds the clerk waits for an answer.
+const PATIENCE: u64 = 5;
+
+/// What the clerk asks of a server whose lanes these are.
+pub(crate) struct Asked<'a, R> {
+    pub(crate) rt: &'a R,
+    pub(crate) alloc: Global,
+    pub(crate) mail: &'a Mail,
 }
 
-impl Inquiry for Asked<'_> {
+/// Both ends of a connection over the loopback, if it can be had. Who else connects meanwhile is
+/// refused.
+fn connect_both<R>(rt: &R) -> Option<(TcpStream, TcpStream)>
+where
+    R: Net<Listener = TcpListener, Stream = TcpStream>,
+{
+    let listener = TcpListener::bind(rt, "127.0.0.1:0").ok()?;
+    let near = TcpStream::connect(rt, listener.local_addr().ok()?).ok()?;
+    let (far, peer) = listener.accept().ok()?;
+    if near.local_addr().ok()? != peer {
+        return None;
+    }
+    Some((near, far))
+}
+
+impl<R> Asked<'_, R>
+where
+    R: Wait + Net<Listener = TcpListener, Stream = TcpStream>,
+{
+    /// A connection to the first lane, which nobody is told of, and which isn't one of those that
+    /// are asked for.
+    fn connect(&self) -> Option<TcpStream> {
+        let mailbox = self.mail.boxes.first()?;
+        let (near, far) = connect_both(self.rt)?;
+        let patience = Some(Duration::from_secs(PATIENCE));
+        near.set_read_timeout(patience).ok()?;
+        near.set_write_timeout(patience).ok()?;
+        if !is_prepared(&far) {
+            return None;
+        }
+        let arrival = Arrival {
+            stream: far,
+            peer: None,
+        };
+        self.mail.common.ends.come();
+        if !mailbox.leave(self.rt, arrival) {
+            self.mail.common.ends.add();
+            return None;
+        }
+        Some(near)
+    }
+
+    /// How many blocks of all volumes are in files.
+    fn blocks(&self) -> Option<u64> {
+        let mut stream = self.connect()?;
+        match census(&mut stream, self.alloc) {
+            Ok(census) => Some(census.totals().used),
+            Err(_fault) => None,
+        }
+    }
+}
+
+impl<R> Inquiry for Asked<'_, R>
+where
+    R: Wait + Net<Listener = TcpListener, Stream = TcpStream>,
+{
     fn tallies(&self) -> &[Tally] {
-        &self.common.tallies
+        &self.mail.common.tallies
     }
 
     fn open(&self) -> u64 {
-        self.common.ends.open()
+        self.mail.common.ends.open()
     }
 
     fn used(&self) -> Used {
         Used {
-            blocks: None,
+            blocks: self.blocks(),
             inodes: None,
         }
     }

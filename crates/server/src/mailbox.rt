@@ -11,11 +11,21 @@ use workers::StartRefusal;
 /// The token of the waker. No connection has it for a key.
 const WAKER: Token = Token(usize::MAX);
 
-/// A stream that was accepted, and its peer.
+/// A stream that was accepted, and its peer; none is the server itself, of which nobody is told.
 #[derive(Drop)]
 pub(crate) struct Arrival {
     pub(crate) stream: TcpStream,
-    pub(crate) peer: SocketAddr,
+    pub(crate) peer: Option<SocketAddr>,
+}
+
+impl Arrival {
+    /// A stream of a peer.
+    pub(crate) fn of(stream: TcpStream, peer: SocketAddr) -> Arrival {
+        Arrival {
+            stream,
+            peer: Some(peer),
+        }
+    }
 }
 
 /// Streams that were accepted and that the thread of a lane has yet to open; and the word by which

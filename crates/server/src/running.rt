@@ -30,7 +30,7 @@ use clerk::{Clerk, Journal};
 use lanes::{Device, Lane};
 use std::alloc::{AllocError, Global};
 use std::io::{self, Write};
-use std::net::{Net, SocketAddr, TcpListener};
+use std::net::{Net, SocketAddr, TcpListener, TcpStream};
 use std::rt::Clock;
 use std::sync::{Arc, Wait};
 use std::thread::Threads;
@@ -164,6 +164,7 @@ fn take_all<R, W, E>(
 ) -> Result<(), ServerFault>
 where
     R: Threads + Wait + Clock + Copy + Send,
+    R: Net<Listener = TcpListener, Stream = TcpStream>,
     W: Write,
     E: Write,
 {
@@ -185,6 +186,7 @@ fn run<R, W, E>(
 ) -> Result<FilerEnd, ServerFault>
 where
     R: Threads + Wait + Clock + Copy + Drop + Send,
+    R: Net<Listener = TcpListener, Stream = TcpStream>,
     W: Write,
     E: Write,
     requires { AreThreadsOf (arc_value running.filer) running.threads.items }
@@ -221,7 +223,8 @@ pub fn serve<R, W>(
     out: &mut W,
 ) -> Result<(), ServerFault>
 where
-    R: Threads + Wait + Clock + Net + Copy + Drop + Send + 'static,
+    R: Threads + Wait + Clock + Net<Listener = TcpListener, Stream = TcpStream>,
+    R: Copy + Drop + Send + 'static,
     W: Write,
 {
     let running = start(rt, alloc, options, None)?;
@@ -242,7 +245,8 @@ pub fn serve_told<R, W, E>(
     err: &mut E,
 ) -> Result<(), ServerFault>
 where
-    R: Threads + Wait + Clock + Net + Copy + Drop + Send + 'static,
+    R: Threads + Wait + Clock + Net<Listener = TcpListener, Stream = TcpStream>,
+    R: Copy + Drop + Send + 'static,
     W: Write,
     E: Write,
 {
@@ -251,7 +255,7 @@ where
         .journal(alloc, options.log)
         .map_err(|error| of_clerk(&error))?;
     let running = start(rt, alloc, options, Some(journal))?;
-    let scribe = Some(Scribe { clerk, err });
+    let scribe = Some(Scribe { clerk, err, alloc });
     let end = run(&rt, listener, options, running, out, scribe)?;
     print_left(&end, out)
 }

@@ -50,13 +50,15 @@ pub(crate) fn open<R: Wait>(
     match register(lane, station.poll.registry(), stream) {
         Some(key) => {
             station.guests.admit(key, peer, now);
-            if let Some(connection) = lane.connection(key) {
+            if let (Some(connection), Some(peer)) = (lane.connection(key), peer) {
                 let connection = connection.number();
                 common.note(rt, Event::Opened { connection, peer });
             }
         }
         None => {
-            common.note(rt, Event::NotServed { peer });
+            if let Some(peer) = peer {
+                common.note(rt, Event::NotServed { peer });
+            }
             common.ends.add();
         }
     }
