@@ -3,11 +3,11 @@
 use statistics::{ReplyKind, Tally, Totals};
 use std::fmt;
 
-/// How many blocks and inodes all volumes use, where that is known.
+/// How many blocks and inodes all volumes use.
 #[derive(Clone, Copy, PartialEq, Eq, Debug)]
 pub struct Used {
-    pub blocks: Option<u64>,
-    pub inodes: Option<u64>,
+    pub blocks: u64,
+    pub inodes: u64,
 }
 
 /// What the clerk asks of the server whose lines it writes.
@@ -18,8 +18,8 @@ pub trait Inquiry {
     /// How many connections are open.
     fn open(&self) -> u64;
 
-    /// What all volumes use, as far as can be told.
-    fn used(&self) -> Used;
+    /// What all volumes use, where that can be told.
+    fn used(&self) -> Option<Used>;
 }
 
 /// What all lanes counted so far.
@@ -72,26 +72,16 @@ pub(crate) fn has_refusals(totals: &Totals) -> bool {
 pub struct Report {
     pub totals: Totals,
     pub open: u64,
-    pub used: Used,
+    pub used: Option<Used>,
 }
 
 impl fmt::Display for Report {
     fn fmt<W: fmt::Write>(&self, f: &mut fmt::Formatter<W>) -> fmt::Result {
         let (totals, open) = (&self.totals, self.open);
         write!(f, "{totals}; connections {open}")?;
-        write_used(f, "blocks", self.used.blocks)?;
-        write_used(f, "inodes", self.used.inodes)
-    }
-}
-
-/// Writes how many of something are in use, or `?`.
-fn write_used<W: fmt::Write>(
-    f: &mut fmt::Formatter<W>,
-    name: &str,
-    count: Option<u64>,
-) -> fmt::Result {
-    match count {
-        Some(count) => write!(f, ", {name} {count}"),
-        None => write!(f, ", {name} ?"),
+        match self.used {
+            Some(Used { blocks, inodes }) => write!(f, ", blocks {blocks}, inodes {inodes}"),
+            None => write!(f, ", blocks ?, inodes ?"),
+        }
     }
 }

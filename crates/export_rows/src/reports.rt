@@ -18,6 +18,7 @@ fn what_was_served_is_told_at_the_end(rt: HostRuntime) {
     let text = str::from_utf8(&told).ok().expect(&rt, "a text");
     assert!(&rt; text.starts_with("calls 2: NULL 2; p50 "));
     assert!(&rt; text.contains(" us; refused: PROG_UNAVAIL 1; busy 0, starved 0; connections 0, "));
+    assert!(&rt; text.ends_with("; connections 0, blocks 0, inodes 1\n"));
     assert!(&rt; text.lines().count() == 1);
 }
 
@@ -38,10 +39,10 @@ fn a_line_with_nothing_to_tell(rt: HostRuntime) {
     let report = Report {
         totals: Totals::new(),
         open: 3,
-        used: Used {
-            blocks: Some(120),
-            inodes: Some(17),
-        },
+        used: Some(Used {
+            blocks: 120,
+            inodes: 17,
+        }),
     };
     let line = format!(in rt.alloc(); "{report}").expect(&rt, "memory");
     let wanted = "calls 0; p50 0 us, p99 0 us; busy 0, starved 0; connections 3, \

@@ -3,8 +3,10 @@
 use crate::accepting::is_prepared;
 use crate::crew::Mail;
 use crate::mailbox::Arrival;
+use crate::usage::inodes;
 use admin_client::census;
 use clerk::{Inquiry, Used};
+use rpc_msg::HandleForm;
 use statistics::Tally;
 use std::alloc::Global;
 use std::net::{Net, TcpListener, TcpStream};
@@ -19,6 +21,8 @@ pub(crate) struct Asked<'a, R> {
     pub(crate) rt: &'a R,
     pub(crate) alloc: Global,
     pub(crate) mail: &'a Mail,
+    /// How its handles are spelled.
+    pub(crate) form: HandleForm,
 }
 
 /// Both ends of a connection over the loopback, if it can be had. Who else connects meanwhile is
@@ -63,13 +67,16 @@ where
         Some(near)
     }
 
-    /// How many blocks of all volumes are in files.
-    fn blocks(&self) -> Option<u64> {
+    /// How many blocks of all volumes are in files, and how many inodes these use.
+    fn ask(&self) -> Option<(u64, u64)> {
         let mut stream = self.connect()?;
-        match census(&mut stream, self.alloc) {
-            Ok(census) => Some(census.totals().used),
-            Err(_fault) => None,
+        let census = census(&mut stream, self.alloc).ok()?;
+        let mut used = 0u64;
+        for volume in &census.volumes {
+            let number = volume.volume.0;
+            used = used.saturating_add(inodes(&mut stream, self.alloc, number, self.form)?);
         }
+        Some((census.totals().used, used))
     }
 }
 
@@ -85,10 +92,8 @@ where
         self.mail.common.ends.open()
     }
 
-    fn used(&self) -> Used {
-        Used {
-            blocks: self.blocks(),
-            inodes: None,
-        }
+    fn used(&self) -> Option<Used> {
+        let (blocks, inodes) = self.ask()?;
+        Some(Used { blocks, inodes })
     }
 }

@@ -39,6 +39,7 @@ mod station;
 mod task;
 mod tends;
 mod untended;
+mod usage;
 mod visits;
 
 pub use admission::{Admission, WhenFull};
