@@ -10,11 +10,11 @@ use std::net::{Net, SocketAddr, TcpListener, TcpStream};
 use std::rt::Clock;
 use std::time::{Duration, Instant};
 
-/// How long a server may take to be reached, and from then on to have answered.
-const PATIENCE: Duration = Duration::from_secs(10);
+/// How many seconds a server may take to be reached, and from then on to have answered.
+const PATIENCE: u64 = 10;
 
-/// The shortest time for which a read waits.
-const LEAST: Duration = Duration::from_millis(1);
+/// The shortest time for which a read or a write waits, in milliseconds.
+const LEAST: u64 = 1;
 
 /// A stream whose reads and writes fail once it has been open for too long.
 #[derive(Drop)]
@@ -27,8 +27,9 @@ struct Patient<'a, R> {
 impl<R: Clock> Patient<'_, R> {
     /// How long it may still wait.
     fn left(&self) -> io::Result<Duration> {
-        let left = PATIENCE.saturating_sub(self.opened.elapsed(self.clock)?);
-        if left < LEAST {
+        let passed = self.opened.elapsed(self.clock)?;
+        let left = Duration::from_secs(PATIENCE).saturating_sub(passed);
+        if left < Duration::from_millis(LEAST) {
             return Err(io::Error::from(ErrorKind::TimedOut));
         }
         Ok(left)
@@ -58,7 +59,7 @@ fn connect<R>(rt: &R, server: SocketAddr) -> io::Result<Patient<'_, R>>
 where
     R: Clock + Net<Listener = TcpListener, Stream = TcpStream>,
 {
-    let stream = TcpStream::connect_timeout(rt, &server, PATIENCE)?;
+    let stream = TcpStream::connect_timeout(rt, &server, Duration::from_secs(PATIENCE))?;
     Ok(Patient {
         stream,
         clock: rt,
