@@ -19,6 +19,12 @@ HasNext view (Err Cut) bytes = HasNoRecord bytes × HasNoFault bytes
 HasNext view (Err TooLong) bytes = HasFault bytes
 HasNext view (Err fault) bytes = Unit {0}
 
+-- the stream itself failed
+abbrev pub IsFailure : AdminFault → Type 0
+IsFailure Stream = Unit {0}
+IsFailure Late = Unit {0}
+IsFailure fault = ⊥
+
 -- a fault of the stream, and not of what was read
 abbrev pub IsOfStream : AdminFault → Type 0
 IsOfStream Stream = Unit {0}

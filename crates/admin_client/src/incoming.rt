@@ -38,11 +38,10 @@ pub fn next_record<R: Read>(alloc: Global, stream: &mut R) -> Result<Vec<u8>, Ad
     for _turn in 0..u64::MAX {
         match stream.read(&mut block) {
             Ok(0) => return Err(AdminFault::Cut),
-            Ok(size) => {
-                if let Some(ended) = take(&mut records, &block[..size]) {
-                    return ended;
-                }
-            }
+            Ok(size) => match take(&mut records, &block[..size]) {
+                Some(ended) => return ended,
+                None => {}
+            },
             Err(error) => {
                 if error.kind() != ErrorKind::Interrupted {
                     return Err(AdminFault::of_stream(&error));
