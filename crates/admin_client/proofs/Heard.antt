@@ -73,9 +73,9 @@ is_call offer xid (Grow volume ranges) small e = record {
 }
 
 arguments_asked : (call : AdminCall) → CallFits call → asked (procedure_of call) (arguments_of call) ≡ Ok (model_call call)
-arguments_asked Census fits = asked_again procedures.Census [] model.Census (tt, ((tt, refl), refl))
+arguments_asked Census fits = asked_again procedures.Census [] model.Census (tt, (tt, refl), refl)
 arguments_asked (Grow volume ranges) fits =
-    asked_again procedures.Grow (spelling growing_shape (volume.0, ranges)) (model.Grow volume.0 ranges) ((volume.0, ranges), ((fits, refl), refl))
+    asked_again procedures.Grow (spelling growing_shape (volume.0, ranges)) (model.Grow volume.0 ranges) ((volume.0, ranges), (fits, refl), refl)
 
 -- it has no handle
 call_same : (form : HandleForm) (call : AdminCall) → call_heard form (model_call call) ≡ model_call call

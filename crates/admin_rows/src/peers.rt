@@ -78,7 +78,7 @@ fn a_server_that_is_not_there(rt: HostRuntime) {
     drop(listener);
     let ended = census(rt, address);
     assert!(&rt; ended.status == 1);
-    assert!(&rt; ended.out.as_slice() == b"fault 67\n");
+    assert!(&rt; ended.out.as_slice() == b"fault 67\n".as_slice());
     assert!(&rt;
         ended
             .err
