@@ -1,15 +1,14 @@
 -- A call over a stream and its reply.
-use Rattle.std.proofs.Common.{◌≡◌, ℕ, List, Option, Some, None, Result, Ok, Err, IfOk, subst}
+use Rattle.std.proofs.Common.{ℕ, List, Option, Result, Ok, Err, IfOk}
 use Rattle.std.specs.Prelude.{IfSome}
 use Rattle.std.specs.Io.KnownBytes.{Appends}
-use Rattle.xdr.specs.Shape.{Value}
 use Rattle.nfs_types.specs.Results.{census_shape}
 use Rattle.admin_client.specs.declared.fault.AdminFault.{AdminFault}
 use Rattle.admin_client.specs.declared.fault.AdminFault.TheVariants.{Stream, Late, Cut, TooLong, Malformed, OfAnotherCall, Refused, NoMemory}
 use Rattle.admin_client.specs.declared.growth.Growth.{Growth}
 use Rattle.admin_client.specs.declared.volumes.Census.{Census}
 use Rattle.admin_client.specs.Telling.{Tells, TellsCensus, census_value, growth_shape, growth_value, told_by}
-use Rattle.admin_client.specs.Incoming.{BeginsWith, HasNext, HasReply, IsOfStream}
+use Rattle.admin_client.specs.Incoming.{HasNext, HasReply, IsOfStream}
 use Rattle.admin_client.specs.Over.{TellsOver}
 
 -- the record that comes behind the call is its reply

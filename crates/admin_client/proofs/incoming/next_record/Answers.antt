@@ -1,4 +1,4 @@
-use Rattle.std.proofs.Common.{◌≡◌, ℕ, ◌+◌, ◌-◌, ◌<◌, List, [], ◌++◌, length, take, Option, Vec, Global, refl, sym, ap, subst, ◌∙◌, arith}
+use Rattle.std.proofs.Common.{◌≡◌, ℕ, ◌<◌, ◌++◌, length, take, Option, Vec, Global, sym, subst, arith}
 use Rattle.rpc_record.specs.Machine.{State}
 use Rattle.admin_client.specs.Incoming.{IsOpen}
 use Rattle.admin_client.proofs.Pieces.{consumed_end, consumed_kept, consumed_more, end_known, failure_known, read_ended, taken_known, taken_fault}
