@@ -17,7 +17,6 @@ from peers import (
     connect,
     handle,
     hold,
-    opaque,
     read_all,
     read_arguments,
     read_reply,
@@ -25,8 +24,9 @@ from peers import (
     reset,
     write_arguments,
 )
-from plain import accepted, words
+from plain import accepted
 from stream_rows import JOINED, LIMITS, ROWS, WAITS, octets
+from xdr import opaque, words
 
 # More than the trials take.
 CONNECTIONS = 800

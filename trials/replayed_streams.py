@@ -6,10 +6,10 @@ import subprocess
 import tempfile
 
 from made_streams import made
-from plain import NFS, Call, Stream, are_results
-from stream_rows import JOINED, LIMITS, RESULTS, ROWS, WAITS, octets
+from plain import Call, Stream, basic
+from stream_rows import JOINED, LIMITS, ROWS, WAITS, octets
 
-VOLUMES = 2
+SERVICE = basic(2)
 LAYOUT = ["aggregate 1", "volume 0 1", "volume 0 1", "start 2 0102030405060708"]
 # A WRITE is tried in its stripe, under Volume Logical and under Volume.
 ROUNDS = 3
@@ -38,7 +38,7 @@ class Case:
         self.name, self.pieces, self.number = name, pieces, number
         self.is_empty = is_empty
         self.lines, self.steps, self.parts = [], [], []
-        stream = Stream(VOLUMES)
+        stream = Stream(SERVICE)
         for piece in pieces:
             line, step = len(self.lines), len(self.steps)
             self.feed(stream, piece)
@@ -61,7 +61,7 @@ class Case:
         """Calls that wait are begun, worked and finished, in as many rounds as they may need."""
         waiting = []
         for call in calls:
-            reply = call.of_an_empty_server(VOLUMES) if self.is_empty else None
+            reply = call.of_an_empty_server() if self.is_empty else None
             self.is_empty = self.is_empty and call.procedure in (1, 3, 6, 16, 18, 21)
             waiting.append((call, reply))
         rounds = len(calls) if all(reply for _, reply in waiting) else ROUNDS * len(calls)
@@ -74,7 +74,7 @@ class Case:
     def compare_round(self, lines, call, wanted):
         """Looks whether a call is answered as it has to be, or moves. Answers whether it is answered."""
         begun, worked, finished = (next(lines, "nothing") for _ in range(3))
-        granted = f"granted logical {call.volume(VOLUMES)}" if wanted else "granted "
+        granted = f"granted logical {call.node()[0]}" if wanted else "granted "
         if not begun.startswith(granted):
             raise Differs(f"wanted {granted}, got {begun[:100]}")
         if wanted is None and worked.startswith("move ") and finished == "back":
@@ -214,7 +214,7 @@ def made_streams(seed, count):
     """Generated streams, whole or cut."""
     rng = random.Random(seed)
     for k in range(count):
-        stream = made(rng)
+        stream = made(rng, SERVICE)
         cuts = sorted(rng.randrange(len(stream) + 1) for _ in range(rng.choice((0, 0, 1, 3))))
         pieces = [stream[i:k] for i, k in zip([0] + cuts, cuts + [len(stream)])]
         yield f"generated stream {k} of seed {seed}", pieces
@@ -228,21 +228,17 @@ def in_parts(streams, count):
 def play_rows(filer):
     """The worked rows, with what they give typed by hand, through the plain reader and through the program."""
     passed, failures = 0, []
-    waiting = lambda found: found.of_an_empty_server(VOLUMES) if isinstance(found, Call) else found
+    waiting = lambda found: found.of_an_empty_server() if isinstance(found, Call) else found
     for number, (stream, reply) in enumerate(ROWS):
-        heard = Stream(VOLUMES).feed(octets(stream))[2]
+        heard = Stream(SERVICE).feed(octets(stream))[2]
         waits = reply.startswith(WAITS)
         good = [waiting(found) for found in heard] == [octets(reply.removeprefix(WAITS))]
         good = good and isinstance(heard[0], Call) == waits
         passed += good
         failures += [] if good else [f"the plain reader on row {number}"]
-    for number, (results, are_some) in enumerate(RESULTS):
-        good = are_results(NFS, 17, octets(results)) == are_some
-        passed += good
-        failures += [] if good else [f"the plain reader on results {number}"]
     for name, stream, taken, stop, reply in LIMITS:
         wanted = (taken, stop, [] if reply is None else [octets(reply)])
-        good = Stream(VOLUMES).feed(stream) == wanted
+        good = Stream(SERVICE).feed(stream) == wanted
         script = [*LAYOUT, "open", f"feed 0 {stream.hex()}"]
         lines = ["conn 0", f"taken {taken} stop {stop}"]
         lines += [] if reply is None else [f"out 0 {reply.replace(' ', '')}"]

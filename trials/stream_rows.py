@@ -64,20 +64,6 @@ ROWS = [
 ]
 JOINED = b"".join(octets(stream) for stream, _ in ROWS)
 
-# Results of READDIRPLUS, and whether they are some: a page of the root's own entry, the same with its attributes left out, one without
-# its handle, one with its handle before its attributes, and a failure with and without a place for attributes.
-ENTRY = "00000001 00000000 00000001 00000001 2e000000 00000000 00000001"
-END = "00000000 00000001"
-PAGE = f"00000000 00000001 {ROOT} 00000000 00000000 {ENTRY}"
-RESULTS = [
-    (f"{PAGE} 00000001 {ROOT} 00000001 {handle('00000001')} {END}", True),
-    (f"{PAGE} 00000000 00000001 {handle('00000001')} {END}", True),
-    (f"{PAGE} 00000001 {ROOT} {END}", False),
-    (f"{PAGE} 00000001 {handle('00000001')} 00000001 {ROOT} {END}", False),
-    ("00002715 00000000", True),
-    ("00002715", False),
-]
-
 # Streams at a limit or at fault: their bytes, what is taken, where it stops, and the reply.
 LIMITS = [
     ("an empty record", octets("80000000"), 4, 12, None),
