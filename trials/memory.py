@@ -13,7 +13,7 @@ from pathlib import Path
 HERE = Path(__file__).resolve().parent
 
 # What may be written to the error output of a program that ends with a fault: a line for people.
-WORDS = re.compile(rb"(error|filer (replay|serve) [^\n]+): [^\n]+\n")
+WORDS = re.compile(rb"(error|filer (replay|serve|export) [^\n]+): [^\n]+\n")
 
 # Words of the page, as in refuse.c.
 COUNTING, FROM_ACCEPT, REFUSED_CALL, ALL_AFTER, CALLS, REFUSALS, PAGE_WORDS = range(7)
