@@ -28,13 +28,13 @@ def hold(is_so, what):
 class Server:
     """`filer serve` or `filer export`, for so many connections, or without an end where their number is None."""
 
-    def __init__(self, filer, connections, workers=2, command="serve"):
+    def __init__(self, filer, connections, workers=2, command="serve", options=()):
         volumes = ["--volumes", str(BASIC.volumes)]
         numbers = [*volumes, "--workers", str(workers)]
         numbers += [] if connections is None else ["--connections", str(connections)]
         # what `export` says on standard error is for people
         self.process = subprocess.Popen(
-            [filer, command, "--listen", "127.0.0.1:0", *numbers],
+            [filer, command, "--listen", "127.0.0.1:0", *numbers, *options],
             stdout=subprocess.PIPE,
             stderr=subprocess.DEVNULL if command == "export" else None,
             text=True,
