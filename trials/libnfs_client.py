@@ -186,6 +186,23 @@ def names_are_moved_and_removed(port, folder):
     volume.end()
 
 
+def links_and_devices_are_refused(port, folder):
+    volume = Mounted(port, "/vol0")
+    for asked in (
+        ("symlink", "/copied", "/symbolic"),
+        ("link", "/copied", "/hard"),
+        ("mknod", "/device", stat.S_IFCHR | 0o644, 0x103),
+        ("mknod", "/fifo", stat.S_IFIFO | 0o644, 0),
+    ):
+        try:
+            volume.call(*asked)
+        except OSError:
+            continue
+        raise Wrong(f"{asked} isn't refused")
+    expect(volume.names("/"), [".", "..", "copied"])
+    volume.end()
+
+
 def bytes_are_kept(port, folder):
     volume, numbers, shadow = Mounted(port, "/vol0"), random.Random(SEED), bytearray()
     file = volume.open("/shadowed", os.O_CREAT | os.O_RDWR)
@@ -237,6 +254,7 @@ CHECKS = (
     another_export_is_refused,
     directories_are_made_and_removed,
     names_are_moved_and_removed,
+    links_and_devices_are_refused,
     bytes_are_kept,
     attributes_are_set,
     all_names_are_listed,
