@@ -172,9 +172,9 @@ def compare(stream, data, was_reset, service=BASIC, known=lambda found: found):
     hold(was_reset or not owed, f"{len(owed)} replies are missing")
 
 
-def call(xid, procedure, arguments=b"", program=NFS):
+def call(xid, procedure, arguments=b"", program=NFS, version=None):
     """A record with a call that has neither credential nor verifier."""
-    body = words(xid, 0, 2, program, VERSIONS[program], procedure, 0, 0, 0, 0) + arguments
+    body = words(xid, 0, 2, program, version or VERSIONS[program], procedure, 0, 0, 0, 0) + arguments
     return words(0x8000_0000 | len(body)) + body
 
 
