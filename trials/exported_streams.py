@@ -1,5 +1,5 @@
-"""Streams over TCP for `filer export` with nothing but roots, by which nothing is changed, and each reply compared with what
-the plain reader says."""
+"""Streams over TCP for `filer export` with nothing but roots, by which nothing is changed, and
+each reply compared with what the plain reader says."""
 
 import socket
 import time
@@ -63,7 +63,8 @@ def send(address, source, pieces):
 
 
 def changed(stream):
-    """A stream byte by byte, cut in two everywhere, each beginning, and each byte changed in three ways."""
+    """A stream byte by byte, cut in two everywhere, each beginning, and each byte changed in
+    three ways."""
     yield "byte by byte", [stream[i : i + 1] for i in range(len(stream))]
     for i, byte in enumerate(stream):
         yield f"cut at {i}", [stream[:i], stream[i:]]

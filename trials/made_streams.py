@@ -5,7 +5,20 @@ import struct
 from plain import ADMIN, MOUNT, NFS, VERSIONS
 from xdr import words
 
-HUGE = (0xFFFF_FFFF, 0x7FFF_FFFF, 0x8000_0000, 0x8000_0001, 0x0002_0000, 0x0002_0001, 0x0001_0001, 401, 400, 65, 64, 17)
+HUGE = (
+    0xFFFF_FFFF,
+    0x7FFF_FFFF,
+    0x8000_0000,
+    0x8000_0001,
+    0x0002_0000,
+    0x0002_0001,
+    0x0001_0001,
+    401,
+    400,
+    65,
+    64,
+    17,
+)
 
 
 def opaque(data, size=None):
@@ -14,11 +27,13 @@ def opaque(data, size=None):
 
 
 def handle(rng, service):
-    """Mostly of one of two volumes and of a file that may be there; some end as those of another run do, some without or with
-    a verifier where the server's others are."""
+    """Mostly of one of two volumes and of a file that may be there; some end as those of another
+    run do, some without or with a verifier where the server's others are."""
     if rng.random() < 0.1:
         return opaque(rng.randbytes(rng.choice((0, 1, 8, 11, 12, 13, 19, 20, 21, 63, 64, 65, 300))))
-    volume, fileid = rng.choice((0, 0, 0, 1, 1, 2, 0xFFFF_FFFF)), rng.choice((1, 1, 1, 2, 3, rng.randrange(300)))
+    volume, fileid = rng.choice((0, 0, 0, 1, 1, 2, 0xFFFF_FFFF)), rng.choice(
+        (1, 1, 1, 2, 3, rng.randrange(300))
+    )
     node = service.handle(volume, fileid)
     kind = rng.random()
     if kind < 0.04:
@@ -30,45 +45,85 @@ def handle(rng, service):
 
 def name(rng):
     size = rng.choice((0, 1, 1, 2, 3, 22, 23, 24, 254, 255, 256, 2000))
-    return opaque(rng.choice((b".", b"..", b"/", b"\0", bytes(rng.choice(b"abcdefgh") for _ in range(size)))))
+    return opaque(
+        rng.choice((b".", b"..", b"/", b"\0", bytes(rng.choice(b"abcdefgh") for _ in range(size))))
+    )
 
 
 def to_set(rng):
     """sattr3."""
     some = lambda data: words(1) + data if rng.random() < 0.4 else words(0)
-    size = struct.pack(">Q", rng.choice((0, 1, 4096, 8193, 100_000, 16_777_216, 16_777_217, 2**64 - 1)))
+    size = struct.pack(
+        ">Q", rng.choice((0, 1, 4096, 8193, 100_000, 16_777_216, 16_777_217, 2**64 - 1))
+    )
     parts = [some(words(rng.randrange(2**32))) for _ in range(3)] + [some(size)]
     for _ in range(2):
         how = rng.randrange(3)
-        parts.append(words(how) + (words(rng.randrange(100), rng.choice((0, 999_999_999, 10**9))) if how == 2 else b""))
+        parts.append(
+            words(how)
+            + (
+                words(rng.randrange(100), rng.choice((0, 999_999_999, 10**9)))
+                if how == 2
+                else b""
+            )
+        )
     return b"".join(parts)
 
 
 def place(rng):
     """An offset and a count."""
-    offset = rng.choice((0, 1, 4095, 4096, 262_140, 262_144, 16_777_215, 16_777_216, 2**63, 2**64 - 1, rng.randrange(10**6)))
+    offset = rng.choice(
+        (
+            0,
+            1,
+            4095,
+            4096,
+            262_140,
+            262_144,
+            16_777_215,
+            16_777_216,
+            2**63,
+            2**64 - 1,
+            rng.randrange(10**6),
+        )
+    )
     return struct.pack(">QI", offset, rng.choice((0, 1, 4, 4096, 8192, 65_537, 2**32 - 1)))
 
 
 def device(rng):
     """mknoddata3 of any kind, and of none."""
     kind = rng.choice((0, 1, 2, 3, 4, 5, 6, 7, 8, 2**32 - 1))
-    behind = {3: to_set(rng) + words(1, 3), 4: to_set(rng) + words(8, 0), 6: to_set(rng), 7: to_set(rng)}
+    behind = {
+        3: to_set(rng) + words(1, 3),
+        4: to_set(rng) + words(8, 0),
+        6: to_set(rng),
+        7: to_set(rng),
+    }
     return words(kind) + behind.get(kind, b"")
 
 
 def path(rng):
     """What MNT and UMNT name."""
     size = rng.choice((0, 1, 5, 1023, 1024, 1025, 60_000))
-    return opaque(rng.choice((b"/", b"/vol0", b"/vol1", b"/vol2", b"/vol00", b"vol0", b"//vol0", b"/" + b"p" * size)))
+    return opaque(
+        rng.choice(
+            (b"/", b"/vol0", b"/vol1", b"/vol2", b"/vol00", b"vol0", b"//vol0", b"/" + b"p" * size)
+        )
+    )
 
 
 def page(rng, service, procedure):
     """What READDIR and READDIRPLUS ask for."""
-    cookie, count = rng.choice((0, 0, 1, 2, 3, 2**64 - 1)), rng.choice((0, 103, 104, 159, 160, 247, 248, 2000, 2**32 - 1))
+    cookie, count = rng.choice((0, 0, 1, 2, 3, 2**64 - 1)), rng.choice(
+        (0, 103, 104, 159, 160, 247, 248, 2000, 2**32 - 1)
+    )
     verifier = rng.choice((bytes(8), bytes(8), bytes(8), rng.randbytes(8)))
     asked = handle(rng, service) + struct.pack(">Q8s", cookie, verifier)
-    return asked + (words(count) if procedure == 16 else words(rng.choice((0, 23, 27, 28, 2000, 2**32 - 1)), count))
+    return asked + (
+        words(count)
+        if procedure == 16
+        else words(rng.choice((0, 23, 27, 28, 2000, 2**32 - 1)), count)
+    )
 
 
 def arguments(rng, service, procedure):
@@ -112,10 +167,16 @@ def credential(rng):
         return words(0, 0)
     if kind < 0.9:
         groups = rng.choice((0, 1, 16, 17))
-        body = words(rng.randrange(2**32)) + opaque(b"m" * rng.choice((0, 1, 7, 255, 256))) + words(1000, 100, groups)
+        body = (
+            words(rng.randrange(2**32))
+            + opaque(b"m" * rng.choice((0, 1, 7, 255, 256)))
+            + words(1000, 100, groups)
+        )
         return words(1) + opaque(body + words(*range(groups)))
     body = rng.randbytes(rng.choice((0, 1, 3, 4, 400, 401)))
-    return words(rng.choice((0, 0, 1, 2, 6))) + opaque(body, rng.choice((None, None, rng.choice(HUGE))))
+    return words(rng.choice((0, 0, 1, 2, 6))) + opaque(
+        body, rng.choice((None, None, rng.choice(HUGE)))
+    )
 
 
 def asked(rng, service):
@@ -153,13 +214,17 @@ def in_fragments(rng, body):
     cuts = sorted(rng.randrange(len(body) + 1) for _ in range(rng.randrange(1, 6)))
     parts = [body[i:k] for i, k in zip([0] + cuts, cuts + [len(body)])]
     last = len(parts) - 1
-    return b"".join(words((0x8000_0000 if i == last else 0) | len(part)) + part for i, part in enumerate(parts))
+    return b"".join(
+        words((0x8000_0000 if i == last else 0) | len(part)) + part for i, part in enumerate(parts)
+    )
 
 
 def calls(rng, service):
     """Some records, each in one fragment or in more."""
     records = [call(rng, service) for _ in range(rng.choice((1, 1, 2, 3)))]
-    return b"".join(framed(body) if rng.random() < 0.8 else in_fragments(rng, body) for body in records)
+    return b"".join(
+        framed(body) if rng.random() < 0.8 else in_fragments(rng, body) for body in records
+    )
 
 
 def with_bits_turned(rng, service):

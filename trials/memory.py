@@ -1,4 +1,5 @@
-"""What the trials of refused memory share: the library that refuses, and a program that is run with it."""
+"""What the trials of refused memory share: the library that refuses, and a program that is run
+with it."""
 
 import atexit
 import mmap
@@ -42,7 +43,15 @@ def scratch():
 def build_library(folder):
     """Builds refuse.c in a folder, and answers the path of the library."""
     library = folder / "refuse.so"
-    options = ["-O1", "-fno-builtin", "-fPIC", "-shared", "-o", str(library), str(HERE / "refuse.c")]
+    options = [
+        "-O1",
+        "-fno-builtin",
+        "-fPIC",
+        "-shared",
+        "-o",
+        str(library),
+        str(HERE / "refuse.c"),
+    ]
     subprocess.run(compiler() + options, check=True)
     return library
 

@@ -1,5 +1,5 @@
-"""Calls that `filer export` alone answers, as clients make them among the others: what they are told, and that they change
-nothing (RFC 1813 sections 3.3 and appendix I, docs/SPECIFICATION.md)."""
+"""Calls that `filer export` alone answers, as clients make them among the others: what they are
+told, and that they change nothing (RFC 1813 sections 3.3 and appendix I, docs/SPECIFICATION.md)."""
 
 import wire
 from owners import BLOCK, DIRECTORY, REGULAR, ROOT, Call, Owner, Wrong, expect
@@ -35,7 +35,9 @@ def mount_call(name, procedure, arguments, results, may_starve=False, status=Non
     def judge(reader):
         expect(name, reader.bytes(len(results)), results)
 
-    return Call(name, procedure, arguments, judge, program=MOUNT, may_starve=may_starve, status=status)
+    return Call(
+        name, procedure, arguments, judge, program=MOUNT, may_starve=may_starve, status=status
+    )
 
 
 def of_another_version(procedure, version):
@@ -45,7 +47,13 @@ def of_another_version(procedure, version):
         expect("the versions of MOUNT", (reader.word(), reader.word()), (3, 3))
 
     return Call(
-        "MOUNT", procedure, opaque(b"/"), judge, program=(100005, version), status=None, accepted=wire.PROG_MISMATCH
+        "MOUNT",
+        procedure,
+        opaque(b"/"),
+        judge,
+        program=(100005, version),
+        status=None,
+        accepted=wire.PROG_MISMATCH,
     )
 
 
@@ -55,7 +63,9 @@ def mount_calls(files):
     return [
         lambda: mount_root(files),
         lambda: mount_call("MOUNT's NULL", 0, b"", b""),
-        lambda: mount_call("MNT", 1, opaque(LONG_PATH.encode()), b"", may_starve=True, status=wire.NOENT),
+        lambda: mount_call(
+            "MNT", 1, opaque(LONG_PATH.encode()), b"", may_starve=True, status=wire.NOENT
+        ),
         lambda: mount_call("DUMP", 2, b"", words(0)),
         lambda: mount_call("UMNT", 3, opaque(LONG_PATH.encode()), b"", may_starve=True),
         lambda: mount_call("UMNTALL", 4, b"", b""),
@@ -87,7 +97,8 @@ def entry_plus(reader, files, sizes):
 
 
 def list_plus(files, directory, names, sizes):
-    """READDIRPLUS of a directory below the root, or of the root, that has these names, with fileids and kinds."""
+    """READDIRPLUS of a directory below the root, or of the root, that has these names, with
+    fileids and kinds."""
     wanted = {".": (directory, DIRECTORY), "..": (ROOT, DIRECTORY)} | names
 
     def judge(reader):
@@ -136,7 +147,10 @@ class MountedOwner(Owner):
     def list_home_plus(self):
         """READDIRPLUS of the directory, where no other call runs."""
         sizes = {"data": (self.size, BLOCK * len(self.blocks))}
-        names = {name: (fileid, kind_of(name in self.subdirectories)) for name, fileid in self.names.items()}
+        names = {
+            name: (fileid, kind_of(name in self.subdirectories))
+            for name, fileid in self.names.items()
+        }
         return list_plus(self.files, self.directory, names, sizes)
 
     def list_root_plus(self, directories):
@@ -145,14 +159,25 @@ class MountedOwner(Owner):
 
     def refused(self, name, procedure, arguments, parts, may_starve=True):
         """A call on links and devices."""
-        return Call(name, procedure, arguments, no_parts(name, parts), may_starve=may_starve, status=wire.NOTSUPP)
+        return Call(
+            name,
+            procedure,
+            arguments,
+            no_parts(name, parts),
+            may_starve=may_starve,
+            status=wire.NOTSUPP,
+        )
 
     def make_symbolic_link(self):
-        arguments = self.files.entry(self.directory, LONG_NAME) + wire.UNSET + opaque(LONG_PATH.encode())
+        arguments = (
+            self.files.entry(self.directory, LONG_NAME) + wire.UNSET + opaque(LONG_PATH.encode())
+        )
         return self.refused("SYMLINK", 10, arguments, 2)
 
     def make_device(self):
-        arguments = self.files.entry(self.directory, LONG_NAME) + words(4) + wire.UNSET + words(1, 3)
+        arguments = (
+            self.files.entry(self.directory, LONG_NAME) + words(4) + wire.UNSET + words(1, 3)
+        )
         return self.refused("MKNOD", 11, arguments, 2)
 
     def make_link(self):
@@ -167,6 +192,11 @@ class MountedOwner(Owner):
         return calls if self.directory is None else [*calls, self.list_home_plus]
 
     def further_calls(self, directories):
-        own = [self.access, self.info, self.configuration, lambda: self.list_root_plus(directories())]
+        own = [
+            self.access,
+            self.info,
+            self.configuration,
+            lambda: self.list_root_plus(directories()),
+        ]
         refused = [self.read_link, self.make_symbolic_link, self.make_device, self.make_link]
         return own + refused + mount_calls(self.files)

@@ -1,5 +1,5 @@
-"""What clients make on a server, as far as their calls were answered: the calls, what their replies have to be, and what they then
-change of what is expected."""
+"""What clients make on a server, as far as their calls were answered: the calls, what their
+replies have to be, and what they then change of what is expected."""
 
 import wire
 from wire import NFS, hyper, opaque, words
@@ -17,7 +17,15 @@ class Call:
     """A call, what its reply has to be, and what it then changes of what is expected."""
 
     def __init__(
-        self, name, procedure, arguments, judge, may_starve=False, program=NFS, status=wire.OK, accepted=wire.SUCCESS
+        self,
+        name,
+        procedure,
+        arguments,
+        judge,
+        may_starve=False,
+        program=NFS,
+        status=wire.OK,
+        accepted=wire.SUCCESS,
     ):
         self.name = name
         self.program, self.procedure, self.arguments = program, procedure, arguments
@@ -45,7 +53,8 @@ def expect(name, got, wanted):
 
 
 class Owner:
-    """What one client made, as far as its calls were answered: a directory with names, and a file with data."""
+    """What one client made, as far as its calls were answered: a directory with names, and a
+    file with data."""
 
     def __init__(self, number, files):
         self.name = "abc"[number]
@@ -76,27 +85,43 @@ class Owner:
         def judge(reader):
             self.directory = made(reader, self.files)
 
-        return Call("MKDIR", 9, self.files.entry(ROOT, self.name) + wire.UNSET, judge, may_starve=True)
+        return Call(
+            "MKDIR", 9, self.files.entry(ROOT, self.name) + wire.UNSET, judge, may_starve=True
+        )
 
     def make_file(self):
         def judge(reader):
             self.file = made(reader, self.files)
             self.names["data"] = self.file
 
-        return Call("CREATE", 8, self.files.entry(self.directory, "data") + words(1) + wire.UNSET, judge, may_starve=True)
+        return Call(
+            "CREATE",
+            8,
+            self.files.entry(self.directory, "data") + words(1) + wire.UNSET,
+            judge,
+            may_starve=True,
+        )
 
     def create(self, name):
         def judge(reader):
             self.names[name] = made(reader, self.files)
 
-        return Call("CREATE", 8, self.files.entry(self.directory, name) + words(1) + wire.UNSET, judge, may_starve=True)
+        return Call(
+            "CREATE",
+            8,
+            self.files.entry(self.directory, name) + words(1) + wire.UNSET,
+            judge,
+            may_starve=True,
+        )
 
     def make_directory(self, name):
         def judge(reader):
             self.names[name] = made(reader, self.files)
             self.subdirectories.add(name)
 
-        return Call("MKDIR", 9, self.files.entry(self.directory, name) + wire.UNSET, judge, may_starve=True)
+        return Call(
+            "MKDIR", 9, self.files.entry(self.directory, name) + wire.UNSET, judge, may_starve=True
+        )
 
     def remove(self, name):
         def judge(reader):
@@ -118,7 +143,14 @@ class Owner:
                 self.subdirectories.add(new)
 
         arguments = self.files.entry(self.directory, old) + self.files.entry(self.directory, new)
-        return Call("RENAME", 14, arguments, judge, may_starve=there, status=wire.OK if there else wire.NOENT)
+        return Call(
+            "RENAME",
+            14,
+            arguments,
+            judge,
+            may_starve=there,
+            status=wire.OK if there else wire.NOENT,
+        )
 
     def write(self, offset, data):
         def judge(reader):
@@ -128,7 +160,9 @@ class Owner:
             self.keep(offset, data)
 
         fills = offset // BLOCK not in self.blocks
-        arguments = self.files.handle(self.file) + hyper(offset) + words(len(data), 2) + opaque(data)
+        arguments = (
+            self.files.handle(self.file) + hyper(offset) + words(len(data), 2) + opaque(data)
+        )
         return Call("WRITE", 7, arguments, judge, may_starve=fills)
 
     def read(self, block):
@@ -137,10 +171,18 @@ class Owner:
         def judge(reader):
             reader.maybe(reader.attributes)
             expect("READ's count", reader.word(), len(wanted))
-            expect("READ's end of file", reader.word(), int(block * BLOCK + len(wanted) >= self.size))
+            expect(
+                "READ's end of file", reader.word(), int(block * BLOCK + len(wanted) >= self.size)
+            )
             expect("READ", reader.opaque(), wanted)
 
-        return Call("READ", 6, self.files.handle(self.file) + hyper(block * BLOCK) + words(BLOCK), judge, may_starve=len(wanted) > 0)
+        return Call(
+            "READ",
+            6,
+            self.files.handle(self.file) + hyper(block * BLOCK) + words(BLOCK),
+            judge,
+            may_starve=len(wanted) > 0,
+        )
 
     def read_start(self):
         wanted = self.bytes_of_block(0)[:16]
@@ -149,7 +191,9 @@ class Owner:
             reader.maybe(reader.attributes)
             expect("READ", (reader.word(), reader.word(), reader.opaque()), (16, 0, wanted))
 
-        return Call("READ", 6, self.files.handle(self.file) + hyper(0) + words(16), judge, may_starve=True)
+        return Call(
+            "READ", 6, self.files.handle(self.file) + hyper(0) + words(16), judge, may_starve=True
+        )
 
     def lookup(self):
         def judge(reader):
@@ -162,7 +206,13 @@ class Owner:
     def look_at_file(self):
         def judge(reader):
             got = reader.attributes()
-            wanted = {"type": REGULAR, "links": 1, "size": self.size, "used": BLOCK * len(self.blocks), "fileid": self.file}
+            wanted = {
+                "type": REGULAR,
+                "links": 1,
+                "size": self.size,
+                "used": BLOCK * len(self.blocks),
+                "fileid": self.file,
+            }
             expect("GETATTR", got, wanted)
 
         return Call("GETATTR", 1, self.files.handle(self.file), judge)
@@ -183,7 +233,8 @@ class Owner:
         return calls if self.file is None else [*calls, self.look_at_file]
 
     def further_calls(self, _directories):
-        """Calls that a round has beside those of each way to serve; `directories` gives what the root has."""
+        """Calls that a round has beside those of each way to serve; `directories` gives what the
+        root has."""
         return []
 
 
@@ -209,7 +260,13 @@ def entries(reader):
 
 
 def list_directory(files, fileid, judge):
-    return Call("READDIR", 16, files.handle(fileid) + hyper(0) + bytes(8) + words(65536), judge, may_starve=True)
+    return Call(
+        "READDIR",
+        16,
+        files.handle(fileid) + hyper(0) + bytes(8) + words(65536),
+        judge,
+        may_starve=True,
+    )
 
 
 def null():

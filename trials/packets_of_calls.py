@@ -1,4 +1,5 @@
-"""Calls of each procedure of `export`, such as succeed and such as fail, with what a dissector has to show of them."""
+"""Calls of each procedure of `export`, such as succeed and such as fail, with what a dissector
+has to show of them."""
 
 import results
 from peers import hold
@@ -7,7 +8,8 @@ from xdr import hyper, opaque, words
 
 NAMES = {
     NFS: (
-        "NULL GETATTR SETATTR LOOKUP ACCESS READLINK READ WRITE CREATE MKDIR SYMLINK MKNOD REMOVE RMDIR RENAME LINK READDIR"
+        "NULL GETATTR SETATTR LOOKUP ACCESS READLINK READ WRITE CREATE MKDIR SYMLINK MKNOD REMOVE"
+        " RMDIR RENAME LINK READDIR"
         " READDIRPLUS FSSTAT FSINFO PATHCONF COMMIT"
     ).split(),
     MOUNT: "NULL MNT DUMP UMNT UMNTALL EXPORT".split(),
@@ -22,8 +24,15 @@ LARGE = 65_536
 class Asked:
     """A call, with the results that it has to get, as far as these are said: a status, or all."""
 
-    def __init__(self, service, program, procedure, arguments=b"", status=results.OK, version=None, user=USER):
-        self.service, self.program, self.procedure, self.arguments = service, program, procedure, arguments
+    def __init__(
+        self, service, program, procedure, arguments=b"", status=results.OK, version=None, user=USER
+    ):
+        self.service, self.program, self.procedure, self.arguments = (
+            service,
+            program,
+            procedure,
+            arguments,
+        )
         self.version, self.status, self.user = version or VERSIONS[program], status, user
         names = NAMES[program]
         # one that isn't there is shown by its number
@@ -37,13 +46,19 @@ class Asked:
     def heard(self, reply):
         """Looks whether the reply is one to this call, and keeps what a CREATE or MKDIR made."""
         found = call_of(self.body, self.service)
-        hold(reply == found if isinstance(found, bytes) else found.is_reply(reply), f"{self.name} is answered {reply[:60].hex()}")
+        hold(
+            reply == found if isinstance(found, bytes) else found.is_reply(reply),
+            f"{self.name} is answered {reply[:60].hex()}",
+        )
         if self.status is not None:
-            hold(reply[28:32] == words(self.status), f"{self.name} is answered with the status {reply[28:32].hex()}")
+            hold(
+                reply[28:32] == words(self.status),
+                f"{self.name} is answered with the status {reply[28:32].hex()}",
+            )
 
     def is_shown(self, protocol, protocols, info, way):
-        """Whether this is how a dissector shows the call or its reply, by the name of its protocol, those of all protocols in the
-        packet, and its words."""
+        """Whether this is how a dissector shows the call or its reply, by the name of its
+        protocol, those of all protocols in the packet, and its words."""
         is_named = info.startswith(f"V{self.version} {self.name} {way}")
         if self.program == ADMIN:
             # a program of which it knows nothing, and no name of a procedure
@@ -62,8 +77,8 @@ def to_write(file, data):
 
 
 def on_nodes(service):
-    """Calls of NFS that succeed, in an order in which they can. The root of a new run has fileid 1, and what is made in it 2, 3
-    and so on (docs/SPECIFICATION.md)."""
+    """Calls of NFS that succeed, in an order in which they can. The root of a new run has fileid
+    1, and what is made in it 2, 3 and so on (docs/SPECIFICATION.md)."""
     root, file, directory = (opaque(service.handle(0, fileid)) for fileid in (1, 2, 5))
     entry = lambda name: root + opaque(name)
     page = root + hyper(0) + bytes(8)
@@ -100,7 +115,9 @@ def on_nodes(service):
 def on_links_and_devices(service):
     """Those that aren't supported."""
     root, entry = opaque(service.handle(0)), opaque(service.handle(0)) + opaque(b"link")
-    refused = lambda procedure, arguments: Asked(service, NFS, procedure, arguments, results.NOTSUPP)
+    refused = lambda procedure, arguments: Asked(
+        service, NFS, procedure, arguments, results.NOTSUPP
+    )
     return [
         refused(results.READLINK, root),
         refused(results.SYMLINK, entry + UNSET + opaque(b"/target")),
@@ -163,6 +180,9 @@ def calls(service):
     admin = [Asked(service, ADMIN, procedure, status=None) for procedure in (0, 1)]
     admin.append(Asked(service, ADMIN, 2, words(0, 1)))
     refused = [Asked(service, NFS, 99, status=None, user=words(0, 0))]
-    nulls = [Asked(service, NFS, 0, status=None), Asked(service, NFS, 0, status=None, user=words(0, 0))]
+    nulls = [
+        Asked(service, NFS, 0, status=None),
+        Asked(service, NFS, 0, status=None, user=words(0, 0)),
+    ]
     nfs = on_nodes(service) + on_links_and_devices(service) + on_nothing(service)
     return nulls + on_mounts(service) + nfs + admin + refused

@@ -1,4 +1,5 @@
-"""A server over TCP, known by its address and by what it prints alone, and peers that talk to it."""
+"""A server over TCP, known by its address and by what it prints alone, and peers that talk to
+it."""
 
 import contextlib
 import errno
@@ -26,7 +27,8 @@ def hold(is_so, what):
 
 
 class Server:
-    """`filer serve` or `filer export`, for so many connections, or without an end where their number is None."""
+    """`filer serve` or `filer export`, for so many connections, or without an end where their
+    number is None."""
 
     def __init__(self, filer, connections, workers=2, command="serve", options=()):
         volumes = ["--volumes", str(BASIC.volumes)]
@@ -136,8 +138,9 @@ def fits(found, reply):
 
 
 def match(heard, replies):
-    """Takes from what is owed what came. Answers what is owed still. Calls under one xid may be answered in any order, so that a
-    reply which fits another's call too is given to that one where nothing else fits."""
+    """Takes from what is owed what came. Answers what is owed still. Calls under one xid may be
+    answered in any order, so that a reply which fits another's call too is given to that one
+    where nothing else fits."""
     owed, given = list(range(len(heard))), {}
 
     def give(reply, seen):
@@ -161,8 +164,9 @@ def match(heard, replies):
 
 
 def compare(stream, data, was_reset, service=BASIC, known=lambda found: found):
-    """Looks whether these are the replies that a stream is owed; of a call `known` tells the reply, where it can be said. A
-    server that stops at a fault may reset what it doesn't read, and replies on their way can be lost by that."""
+    """Looks whether these are the replies that a stream is owed; of a call `known` tells the
+    reply, where it can be said. A server that stops at a fault may reset what it doesn't read,
+    and replies on their way can be lost by that."""
     _, fault, heard = Stream(service).feed(stream)
     heard = [known(found) for found in heard]
     hold(fault or not was_reset, "a reset without a fault")
@@ -174,7 +178,9 @@ def compare(stream, data, was_reset, service=BASIC, known=lambda found: found):
 
 def call(xid, procedure, arguments=b"", program=NFS, version=None):
     """A record with a call that has neither credential nor verifier."""
-    body = words(xid, 0, 2, program, version or VERSIONS[program], procedure, 0, 0, 0, 0) + arguments
+    body = (
+        words(xid, 0, 2, program, version or VERSIONS[program], procedure, 0, 0, 0, 0) + arguments
+    )
     return words(0x8000_0000 | len(body)) + body
 
 
@@ -252,8 +258,8 @@ class Client:
 
 
 def export_at(address):
-    """What the `export` at an address offers: MNT of the first volume tells its run's verifier, behind the volume and fileid of
-    the root (RFC 1813, appendix I, section 5.2.1)."""
+    """What the `export` at an address offers: MNT of the first volume tells its run's verifier,
+    behind the volume and fileid of the root (RFC 1813, appendix I, section 5.2.1)."""
     client = Client(address)
     client.peer.sendall(call(1, 1, opaque(b"/vol0"), MOUNT))
     reply = client.take()

@@ -17,7 +17,13 @@ RECORD_TOO_LONG, BAD_HEADER, NOT_A_CALL = 11, 12, 13
 NOBODY = (65_534, (65_534,))
 MIB = 2**20
 
-NOT_BASIC = (results.ACCESS, results.READDIRPLUS, results.FSINFO, results.PATHCONF, *LINKS_AND_DEVICES)
+NOT_BASIC = (
+    results.ACCESS,
+    results.READDIRPLUS,
+    results.FSINFO,
+    results.PATHCONF,
+    *LINKS_AND_DEVICES,
+)
 BASIC = {NFS: {0, *FAILURE_PARTS} - set(NOT_BASIC), ADMIN: {0, 1, 2}}
 ALL = {NFS: {0, *FAILURE_PARTS}, MOUNT: set(range(6)), ADMIN: {0, 1, 2}}
 
@@ -57,7 +63,13 @@ def arguments_of_mount(r, procedure):
 def arguments_of_nfs(r, procedure):
     """The parts of a call's arguments that say what it asks."""
     parts = ()
-    if procedure in (results.GETATTR, results.READLINK, results.FSSTAT, results.FSINFO, results.PATHCONF):
+    if procedure in (
+        results.GETATTR,
+        results.READLINK,
+        results.FSSTAT,
+        results.FSINFO,
+        results.PATHCONF,
+    ):
         parts = (r.handle(),)
     elif procedure == results.SETATTR:
         parts = (r.handle(),)
@@ -201,8 +213,8 @@ def user_of(body):
 
 
 def call_of(data, service):
-    """What a record is: a fault's number, a reply that refuses it, or a Call. The first that applies
-    decides."""
+    """What a record is: a fault's number, a reply that refuses it, or a Call. The first that
+    applies decides."""
     size = len(data)
     at = lambda place: int.from_bytes(data[place : place + 4], "big")
     if size < 8:
@@ -254,7 +266,8 @@ class Stream:
         self.head, self.left, self.is_last, self.body = b"", 0, False, b""
 
     def next_record(self, data):
-        """How many bytes are taken up to the end of a record or a fault, and the record if one ends there."""
+        """How many bytes are taken up to the end of a record or a fault, and the record if one
+        ends there."""
         taken = 0
         while True:
             if self.left == 0 and not (len(self.head) == 4):
@@ -280,7 +293,8 @@ class Stream:
                 return taken, whole
 
     def feed(self, data):
-        """How many bytes are taken, the fault that stops it or 0, and what the records are: replies and calls that wait."""
+        """How many bytes are taken, the fault that stops it or 0, and what the records are:
+        replies and calls that wait."""
         taken, heard = 0, []
         while taken < len(data):
             count, whole = self.next_record(data[taken:])

@@ -1,4 +1,5 @@
-"""Streams that are fed to `filer replay`, and each line compared with what the plain reader says."""
+"""Streams that are fed to `filer replay`, and each line compared with what the plain reader
+says."""
 
 import itertools
 import random
@@ -52,7 +53,9 @@ class Case:
             return
         taken, fault, heard = stream.feed(piece)
         self.steps.append(f"taken {taken} stop {fault}")
-        self.steps += [f"out {self.number} {reply.hex()}" for reply in heard if not isinstance(reply, Call)]
+        self.steps += [
+            f"out {self.number} {reply.hex()}" for reply in heard if not isinstance(reply, Call)
+        ]
         waiting = [found for found in heard if isinstance(found, Call)]
         if waiting:
             self.run(waiting)
@@ -72,7 +75,8 @@ class Case:
         return ["open", *self.lines, f"close {self.number}"]
 
     def compare_round(self, lines, call, wanted):
-        """Looks whether a call is answered as it has to be, or moves. Answers whether it is answered."""
+        """Looks whether a call is answered as it has to be, or moves. Answers whether it is
+        answered."""
         begun, worked, finished = (next(lines, "nothing") for _ in range(3))
         granted = f"granted logical {call.node()[0]}" if wanted else "granted "
         if not begun.startswith(granted):
@@ -87,7 +91,8 @@ class Case:
         return True
 
     def compare_rounds(self, lines, waiting, rounds):
-        """Looks whether calls are run in their order, where one that moves waits behind all others."""
+        """Looks whether calls are run in their order, where one that moves waits behind all
+        others."""
         waiting = list(waiting)
         for _ in range(rounds):
             if not waiting:
@@ -207,7 +212,11 @@ def changed_streams():
     for name, i, changed in changed_bytes():
         yield name, [changed]
         yield f"{name}, and cut there", [changed[:i], changed[i:]]
-        yield f"{name}, one by one near it", [changed[:i], *(changed[k : k + 1] for k in range(i, i + 80)), changed[i + 80 :]]
+        yield f"{name}, one by one near it", [
+            changed[:i],
+            *(changed[k : k + 1] for k in range(i, i + 80)),
+            changed[i + 80 :],
+        ]
 
 
 def made_streams(seed, count):
@@ -226,7 +235,8 @@ def in_parts(streams, count):
 
 
 def play_rows(filer):
-    """The worked rows, with what they give typed by hand, through the plain reader and through the program."""
+    """The worked rows, with what they give typed by hand, through the plain reader and through
+    the program."""
     passed, failures = 0, []
     waiting = lambda found: found.of_an_empty_server() if isinstance(found, Call) else found
     for number, (stream, reply) in enumerate(ROWS):

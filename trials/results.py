@@ -19,9 +19,9 @@ MNT, DUMP, UMNT, UMNTALL, EXPORT = range(1, 6)
 
 # Of each procedure of NFS that has a status: how many optional parts its failure arm has.
 FAILURE_PARTS = {
-    GETATTR: 0, SETATTR: 2, LOOKUP: 1, ACCESS: 1, READLINK: 1, READ: 1, WRITE: 2, CREATE: 2, MKDIR: 2,
-    SYMLINK: 2, MKNOD: 2, REMOVE: 2, RMDIR: 2, RENAME: 4, LINK: 3, READDIR: 1, READDIRPLUS: 1,
-    FSSTAT: 1, FSINFO: 1, PATHCONF: 1, COMMIT: 2,
+    GETATTR: 0, SETATTR: 2, LOOKUP: 1, ACCESS: 1, READLINK: 1, READ: 1, WRITE: 2, CREATE: 2,
+    MKDIR: 2, SYMLINK: 2, MKNOD: 2, REMOVE: 2, RMDIR: 2, RENAME: 4, LINK: 3, READDIR: 1,
+    READDIRPLUS: 1, FSSTAT: 1, FSINFO: 1, PATHCONF: 1, COMMIT: 2,
 }  # fmt: skip
 # Of some procedures: which failures they may tell, other than those that are told at once.
 FAILURES = {
@@ -31,8 +31,8 @@ FAILURES = {
 }  # fmt: skip
 
 MOST_BYTES = 65_536
-# Set apart in a page for the attributes, the verifier, the end of the list and eof; and what an entry
-# of READDIRPLUS needs more than one of READDIR, for its attributes and a handle of 20 bytes.
+# Set apart in a page for the attributes, the verifier, the end of the list and eof; and what an
+# entry of READDIRPLUS needs more than one of READDIR, for its attributes and a handle of 20 bytes.
 PAGE_ENDS, PLUS = 104, 116
 # FSINFO (section 3.3.19) behind the attributes: reads and writes of at most and preferably 65,536
 # bytes in multiples of 4,096, listings of 65,536, then behind the largest size of a file times by 1
@@ -239,7 +239,8 @@ def empty_lookup(call, volume):
 
 
 def of_an_empty_server(call):
-    """The results of a server with nothing but roots, or a status, where the call changes nothing."""
+    """The results of a server with nothing but roots, or a status, where the call changes
+    nothing."""
     volume, fileid = call.node()
     procedure, root = call.procedure, root_attributes(volume)
     if fileid != 1:

@@ -1,5 +1,5 @@
-"""`filer serve` or `filer export` with one allocation refused, from the first connection on. The server is known by its address,
-its output and its exit status alone."""
+"""`filer serve` or `filer export` with one allocation refused, from the first connection on. The
+server is known by its address, its output and its exit status alone."""
 
 import os
 import re
@@ -11,7 +11,18 @@ from collections import namedtuple
 import wire
 from memory import WORDS, Page, environment
 from mounted import MountedOwner, mount_root
-from owners import BLOCK, ROOT, Call, Owner, Wrong, entries, expect, list_directory, look_at_root, null
+from owners import (
+    BLOCK,
+    ROOT,
+    Call,
+    Owner,
+    Wrong,
+    entries,
+    expect,
+    list_directory,
+    look_at_root,
+    null,
+)
 from wire import ADMIN, Files
 
 # How long an answer, or the server's end, may take, in seconds.
@@ -30,7 +41,8 @@ TOLD = re.compile(rb"(exported: [^\n]+\n)*(may connect: [^\n]+\n)?(mount [^\n]+\
 
 
 class Way(namedtuple("Way", "command blocks owner")):
-    """A way to serve: the command, how many blocks its volume has, and what a client makes on it."""
+    """A way to serve: the command, how many blocks its volume has, and what a client makes on
+    it."""
 
 
 SERVE, EXPORT = Way("serve", 4096, Owner), Way("export", 16384, MountedOwner)
@@ -40,17 +52,36 @@ class Server:
     """A server with the library that refuses."""
 
     def __init__(self, filer, command, environment, connections):
-        words = [command, "--listen", "127.0.0.1:0", "--volumes", "1", "--workers", "2", "--connections", str(connections)]
+        words = [
+            command,
+            "--listen",
+            "127.0.0.1:0",
+            "--volumes",
+            "1",
+            "--workers",
+            "2",
+            "--connections",
+            str(connections),
+        ]
         self.process = subprocess.Popen(
-            [filer] + words, env=environment, stdin=subprocess.DEVNULL, stdout=subprocess.PIPE, stderr=subprocess.PIPE
+            [filer] + words,
+            env=environment,
+            stdin=subprocess.DEVNULL,
+            stdout=subprocess.PIPE,
+            stderr=subprocess.PIPE,
         )
         self.printed = None
         # the first line: where it listens, or why it doesn't
         self.first = self.process.stdout.readline().decode()
-        self.port = int(self.first.rsplit(":", 1)[1]) if self.first.startswith("listening 127.0.0.1:") else None
+        self.port = (
+            int(self.first.rsplit(":", 1)[1])
+            if self.first.startswith("listening 127.0.0.1:")
+            else None
+        )
 
     def wait(self, seconds):
-        """What it printed since it listens and its status, once it has ended within so many seconds."""
+        """What it printed since it listens and its status, once it has ended within so many
+        seconds."""
         try:
             self.process.wait(seconds)
         except subprocess.TimeoutExpired:
@@ -122,8 +153,8 @@ class Link:
 
 
 class Trial:
-    """A server one of whose allocations is refused; its clients wait for each reply, or send batches, in so many
-    rounds."""
+    """A server one of whose allocations is refused; its clients wait for each reply, or send
+    batches, in so many rounds."""
 
     def __init__(self, way, filer, library, folder, refused, in_batches, rounds):
         self.way, self.rounds, self.files = way, rounds, Files()
@@ -137,7 +168,8 @@ class Trial:
         self.links = []
 
     def check(self):
-        """Tries it; answers how many calls of the allocator there were, and whether one was refused."""
+        """Tries it; answers how many calls of the allocator there were, and whether one was
+        refused."""
         try:
             self.serve()
         finally:
@@ -170,7 +202,8 @@ class Trial:
         expect("the server's end", ended, ("left 0\n", 0))
 
     def open(self):
-        """Opens a connection, and makes a call. Where memory runs out at this, the connection ends and the others go on."""
+        """Opens a connection, and makes a call. Where memory runs out at this, the connection
+        ends and the others go on."""
         self.xid += 1
         got = None
         try:
@@ -214,8 +247,8 @@ class Trial:
         return False
 
     def run(self, preferred, make_call):
-        """Makes a call, and waits for its reply. Where it isn't answered, or not for want of memory, nothing has changed, and
-        the same call again succeeds."""
+        """Makes a call, and waits for its reply. Where it isn't answered, or not for want of
+        memory, nothing has changed, and the same call again succeeds."""
         while True:
             call = make_call()
             link = self.link(preferred)
@@ -229,8 +262,8 @@ class Trial:
             self.look()
 
     def run_batch(self, batches):
-        """Sends batches of calls, each on its connection, and waits for all replies. A connection that ends has answered all
-        calls before one, and none from it on."""
+        """Sends batches of calls, each on its connection, and waits for all replies. A
+        connection that ends has answered all calls before one, and none from it on."""
         sent = []
         for link, calls in batches:
             numbered = {}
@@ -249,7 +282,9 @@ class Trial:
                     self.is_unanswered("a batch")
                     is_strange = True
                     if list(numbered) != order[len(order) - len(numbered) :]:
-                        raise Wrong("a connection ends, and has answered a call after one that it hasn't")
+                        raise Wrong(
+                            "a connection ends, and has answered a call after one that it hasn't"
+                        )
                     break
                 xid = wire.reply(record)[0]
                 if xid not in numbered:
@@ -294,7 +329,9 @@ class Trial:
             open_links = [(at, link) for at, link in enumerate(self.links) if link.is_open]
             batches = []
             for at, link in open_links:
-                batches.append((link, [make_call() for make_call in self.calls(self.owners[at], number)]))
+                batches.append(
+                    (link, [make_call() for make_call in self.calls(self.owners[at], number)])
+                )
             self.run_batch(batches)
             return
         turns = [self.calls(owner, number) for owner in self.owners]
@@ -332,16 +369,26 @@ class Trial:
         def judge(reader):
             reader.maybe(reader.attributes)
             total, free = self.way.blocks * BLOCK, (self.way.blocks - blocks) * BLOCK
-            expect("FSSTAT's bytes", (reader.hyper(), reader.hyper(), reader.hyper()), (total, free, free))
+            expect(
+                "FSSTAT's bytes",
+                (reader.hyper(), reader.hyper(), reader.hyper()),
+                (total, free, free),
+            )
             left = MOST_INODES - inodes
-            expect("FSSTAT's inodes", (reader.hyper(), reader.hyper(), reader.hyper()), (MOST_INODES, left, left))
+            expect(
+                "FSSTAT's inodes",
+                (reader.hyper(), reader.hyper(), reader.hyper()),
+                (MOST_INODES, left, left),
+            )
             expect("FSSTAT's stability", reader.word(), 0)
 
         return Call("FSSTAT", 18, self.files.handle(ROOT), judge)
 
     def census(self):
         def judge(reader):
-            expect("CENSUS", (reader.word(), reader.word(), reader.hyper()), (1, 0, self.way.blocks))
+            expect(
+                "CENSUS", (reader.word(), reader.word(), reader.hyper()), (1, 0, self.way.blocks)
+            )
             reader.hyper()
 
         return Call("CENSUS", 1, b"", judge, may_starve=True, program=ADMIN, status=None)
@@ -355,7 +402,10 @@ class Trial:
         for owner in self.owners:
             calls += owner.looks()
             if owner.file is not None:
-                calls += [lambda owner=owner, block=block: owner.read(block) for block in range(2 + self.rounds)]
+                calls += [
+                    lambda owner=owner, block=block: owner.read(block)
+                    for block in range(2 + self.rounds)
+                ]
         for make_call in calls:
             for _ in range(2):
                 call = make_call()
@@ -373,7 +423,8 @@ class Trial:
 
 
 class Exhausted(Trial):
-    """A server without any memory from one allocation on, which has some again once its clients have made their calls."""
+    """A server without any memory from one allocation on, which has some again once its clients
+    have made their calls."""
 
     def __init__(self, way, filer, library, folder, refused, rounds):
         super().__init__(way, filer, library, folder, 0, True, rounds)
@@ -393,7 +444,9 @@ class Exhausted(Trial):
             batches = []
             for at, owner in enumerate(self.owners):
                 if self.links[at].is_open and owner.file is not None:
-                    batches.append((self.links[at], [make_call() for make_call in self.calls(owner, number)]))
+                    batches.append(
+                        (self.links[at], [make_call() for make_call in self.calls(owner, number)])
+                    )
             self.run_batch(batches)
         self.page.refuse_no_more()
         self.open()
@@ -418,7 +471,8 @@ class Exhausted(Trial):
 
 
 class Start(Trial):
-    """A server one of whose allocations is refused, from its start on, that serves one connection."""
+    """A server one of whose allocations is refused, from its start on, that serves one
+    connection."""
 
     def __init__(self, way, filer, library, folder, refused):
         self.page = Page(folder, f"page-{os.getpid()}")
@@ -433,7 +487,9 @@ class Start(Trial):
         if self.server.port is None:
             output, status = self.server.wait(PATIENCE) or ("", None)
             if (self.server.first + output, status) not in LACKING + (("fault 60\n", 2),):
-                raise Wrong(f"it prints {self.server.first + output!r} and ends with status {status}")
+                raise Wrong(
+                    f"it prints {self.server.first + output!r} and ends with status {status}"
+                )
             if not self.page.refusals:
                 raise Wrong("it has no memory where none was refused")
             return

@@ -1,4 +1,5 @@
-"""Generated hostile streams over TCP: each has a connection of its own, and its replies are compared."""
+"""Generated hostile streams over TCP: each has a connection of its own, and its replies are
+compared."""
 
 import random
 import socket
@@ -54,7 +55,9 @@ def job(task):
                 try_stream(address, source, service, stream, rng)
                 passed += 1
             except Differs as difference:
-                failures.append(f"stream {k} of seed {seed} over TCP ({stream[:40].hex()}): {difference}")
+                failures.append(
+                    f"stream {k} of seed {seed} over TCP ({stream[:40].hex()}): {difference}"
+                )
                 if len(failures) > 20:
                     break
             if k % BETWEEN == BETWEEN - 1:

@@ -11,11 +11,14 @@ SOON = 20
 
 
 class Told(Server):
-    """`filer export` with options; `reads` says whether its standard error is read at all from the start on."""
+    """`filer export` with options; `reads` says whether its standard error is read at all from
+    the start on."""
 
     def __init__(self, filer, *options, reads=True):
         words = [filer, "export", "--listen", "127.0.0.1:0", *options]
-        self.process = subprocess.Popen(words, stdout=subprocess.PIPE, stderr=subprocess.PIPE, text=True)
+        self.process = subprocess.Popen(
+            words, stdout=subprocess.PIPE, stderr=subprocess.PIPE, text=True
+        )
         first = self.process.stdout.readline().split()
         hold(len(first) == 2 and first[0] == "listening", f"no address: {first}")
         host, port = first[1].rsplit(":", 1)
@@ -47,7 +50,10 @@ class Told(Server):
             if found:
                 return found[0]
             hold(time.monotonic() < end, f"no line tells {what}: {self.told()[-4:]}")
-            hold(self.process.poll() is None, f"the server ended, with status {self.process.returncode}")
+            hold(
+                self.process.poll() is None,
+                f"the server ended, with status {self.process.returncode}",
+            )
             time.sleep(0.02)
 
     def line(self, wanted):
@@ -60,9 +66,16 @@ class Told(Server):
     def ask(self, *words, status=0):
         """What `filer` prints that is asked of this server: standard output and standard error."""
         done = subprocess.run(
-            [self.process.args[0], *words], stdin=subprocess.DEVNULL, capture_output=True, text=True, timeout=60
+            [self.process.args[0], *words],
+            stdin=subprocess.DEVNULL,
+            capture_output=True,
+            text=True,
+            timeout=60,
         )
-        hold(done.returncode == status, f"{words[0]} ends with status {done.returncode}: {done.stdout} {done.stderr}")
+        hold(
+            done.returncode == status,
+            f"{words[0]} ends with status {done.returncode}: {done.stdout} {done.stderr}",
+        )
         return done.stdout, done.stderr
 
     def __exit__(self, *_):

@@ -1,4 +1,5 @@
-"""Calls of NFS version 3, MOUNT and the admin program as bytes, and replies read (RFC 4506, 5531 and 1813)."""
+"""Calls of NFS version 3, MOUNT and the admin program as bytes, and replies read (RFC 4506, 5531
+and 1813)."""
 
 import struct
 
@@ -10,7 +11,8 @@ OK, NOENT, NOTSUPP = 0, 2, 10004
 
 
 class Files:
-    """How a server names files: by 12 bytes, with the verifier of its run behind them where it has one."""
+    """How a server names files: by 12 bytes, with the verifier of its run behind them where it
+    has one."""
 
     def __init__(self, verifier=b""):
         self.verifier = verifier

@@ -1,4 +1,5 @@
-"""XDR (RFC 4506) read from left to right, with the types of RFC 1813 that calls and results share."""
+"""XDR (RFC 4506) read from left to right, with the types of RFC 1813 that calls and results
+share."""
 
 import struct
 from collections import namedtuple
@@ -120,7 +121,8 @@ class Reader:
 
 
 class Attributes(namedtuple("Attributes", "kind mode links uid gid size used fsid fileid")):
-    """What fattr3 (section 2.6) tells of a file or a directory; device numbers and times are left out."""
+    """What fattr3 (section 2.6) tells of a file or a directory; device numbers and times are
+    left out."""
 
     @staticmethod
     def read(spelled):
