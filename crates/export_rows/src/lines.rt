@@ -4,7 +4,7 @@ use filer_commands::{Command, ProgramFault, command, program_told};
 use server::{Peers, WhenFull};
 
 /// Command lines that are none.
-const REFUSED: [&[&str]; 8] = [
+const REFUSED: [&[&str]; 13] = [
     &["filer", "export"],
     &["filer", "export", "--listen", "localhost:2049"],
     &[
@@ -39,6 +39,25 @@ const REFUSED: [&[&str]; 8] = [
         "--allow",
         "here",
     ],
+    &["filer", "export", "--listen", "127.0.0.1:0", "--idle", "0"],
+    &[
+        "filer",
+        "export",
+        "--listen",
+        "127.0.0.1:0",
+        "--idle",
+        "86401",
+    ],
+    &["filer", "export", "--listen", "127.0.0.1:0", "--log", "all"],
+    &["filer", "export", "--listen", "127.0.0.1:0", "--stats", "0"],
+    &[
+        "filer",
+        "export",
+        "--listen",
+        "127.0.0.1:0",
+        "--stats",
+        "1441",
+    ],
     &["filer", "help", "export"],
     &["filer", "--help", "export"],
 ];
@@ -62,6 +81,34 @@ fn what_is_so_unless_it_is_said(rt: HostRuntime) {
             assert!(&rt; options.plan.ranges == 16 && options.plan.stripes == 16);
             assert!(&rt; options.plan.mib == 64 && options.plan.spare == 128);
             assert!(&rt; matches!(options.peers, Peers::Loopback));
+            assert!(&rt; !options.log && options.statistics.is_none());
+            let idle = options.idle.expect(&rt, "an idle time");
+            assert!(&rt; idle.seconds == 600);
+        }
+        _ => panic!(&rt; "no export"),
+    }
+}
+
+#[test]
+fn what_is_said(rt: HostRuntime) {
+    let words = [
+        "filer",
+        "export",
+        "--log",
+        "--listen",
+        "127.0.0.1:0",
+        "--idle",
+        "86400",
+        "--stats",
+        "1440",
+    ];
+    match command(rt.alloc(), &words) {
+        Ok(Command::Export(options)) => {
+            assert!(&rt; options.log);
+            let period = options.statistics.expect(&rt, "a period");
+            assert!(&rt; period.minutes == 1_440);
+            let idle = options.idle.expect(&rt, "an idle time");
+            assert!(&rt; idle.seconds == 86_400);
         }
         _ => panic!(&rt; "no export"),
     }
@@ -86,5 +133,9 @@ fn help_is_printed(rt: HostRuntime) {
     let text = str::from_utf8(&out).ok().expect(&rt, "a text");
     assert!(&rt; text.contains("Usage: filer export"));
     assert!(&rt; text.contains("--allow <NETWORK>"));
+    assert!(&rt; text.contains("--idle <SECONDS>"));
+    assert!(&rt; text.contains("[default: 600]"));
+    assert!(&rt; text.contains("--log "));
+    assert!(&rt; text.contains("--stats <MINUTES>"));
     assert!(&rt; text.contains("Examples:\n  filer export --listen"));
 }

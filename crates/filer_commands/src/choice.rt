@@ -1,6 +1,8 @@
 //! What a command line may ask for.
 
+use crate::admin_running::Growing;
 use server::Options;
+use std::net::SocketAddr;
 
 /// A command, with its arguments.
 #[derive(Clone, Copy)]
@@ -11,8 +13,12 @@ pub enum Command<'a> {
     Serve(Options),
     /// Serve clients that mount.
     Export(Options),
-    /// Print the help of `export`.
-    ExportHelp,
+    /// Tell how many blocks the volumes of a running server have.
+    Census { server: SocketAddr },
+    /// Add ranges to a volume of a running server.
+    Grow(Growing),
+    /// Print the help of `export`, `census` or `grow`.
+    Help,
     /// Print the version.
     Version,
 }

@@ -1,8 +1,12 @@
 //! The command line of `filer export`.
 
-use crate::limits::{MOST_CONNECTIONS, MOST_RANGES, MOST_VOLUMES, MOST_WORKERS};
+use crate::limits::{
+    MOST_CONNECTIONS, MOST_IDLE, MOST_MINUTES, MOST_RANGES, MOST_VOLUMES, MOST_WORKERS,
+};
 use clap::{Arg, ArgAction, ArgMatches, value_parser};
-use server::{Admission, MOST_NETWORKS, Network, Options, Peers, VolumePlan, WhenFull};
+use server::{
+    Admission, IdleTime, MOST_NETWORKS, Network, Options, Peers, Period, VolumePlan, WhenFull,
+};
 use std::alloc::{AllocError, Global};
 use std::net::SocketAddr;
 
@@ -39,15 +43,11 @@ fn optional<'a>(alloc: Global, name: &'a str, value: &'a str, help: &'a str) -> 
         .action(ArgAction::Set)
 }
 
-/// `export --listen ADDR [--volumes N] [--workers N] [--ranges N] [--connections N]
-/// [--allow NETWORK]..`, in any order.
-pub(crate) fn export<'a>(alloc: Global) -> Result<clap::Command<'a>, AllocError> {
-    let listen = optional(
-        alloc,
-        "listen",
-        "ADDR",
-        "Address and port, as 127.0.0.1:2049",
-    );
+/// Options that say who may connect, and for how long.
+fn with_guests<'a>(
+    alloc: Global,
+    command: clap::Command<'a>,
+) -> Result<clap::Command<'a>, AllocError> {
     let connections = optional(
         alloc,
         "connections",
@@ -62,7 +62,46 @@ pub(crate) fn export<'a>(alloc: Global) -> Result<clap::Command<'a>, AllocError>
         "Who may connect, as 10.0.0.0/8 [loopback]",
     )
     .action(ArgAction::Append);
-    clap::Command::new(alloc, "export")
+    let idle = optional(
+        alloc,
+        "idle",
+        "SECONDS",
+        "Silence after which a connection gives way to others, 1 to 86400",
+    )
+    .value_parser(value_parser!(u64).range(1..=MOST_IDLE))
+    .default_value("600");
+    command.arg(connections)?.arg(allow)?.arg(idle)
+}
+
+/// Options that say what is told on standard error.
+fn with_lines<'a>(
+    alloc: Global,
+    command: clap::Command<'a>,
+) -> Result<clap::Command<'a>, AllocError> {
+    let log = Arg::new(alloc, "log")
+        .long("log")
+        .help("Tells of each connection on standard error")
+        .action(ArgAction::SetTrue);
+    let statistics = optional(
+        alloc,
+        "stats",
+        "MINUTES",
+        "Tells so often what was served, 1 to 1440 [never]",
+    )
+    .value_parser(value_parser!(u64).range(1..=MOST_MINUTES));
+    command.arg(log)?.arg(statistics)
+}
+
+/// `export --listen ADDR [--volumes N] [--workers N] [--ranges N] [--connections N]
+/// [--allow NETWORK].. [--idle SECONDS] [--log] [--stats MINUTES]`, in any order.
+pub(crate) fn export<'a>(alloc: Global) -> Result<clap::Command<'a>, AllocError> {
+    let listen = optional(
+        alloc,
+        "listen",
+        "ADDR",
+        "Address and port, as 127.0.0.1:2049",
+    );
+    let command = clap::Command::new(alloc, "export")
         .about("Serves clients that mount, until it is ended")
         .after_help(EXAMPLE)
         .arg(listen.required(true))?
@@ -80,9 +119,8 @@ pub(crate) fn export<'a>(alloc: Global) -> Result<clap::Command<'a>, AllocError>
             MOST_RANGES,
             "16",
             "Ranges of 4 MiB a volume, 1 to 16",
-        ))?
-        .arg(connections)?
-        .arg(allow)
+        ))?;
+    with_lines(alloc, with_guests(alloc, command)?)
 }
 
 /// Whose connections are served: of the own machine, where no network is named.
@@ -108,13 +146,22 @@ pub(crate) fn options_in(matches: &ArgMatches<'_>) -> Option<Options> {
     let workers = matches.get_one::<u64>("workers")?;
     let ranges = matches.get_one::<u64>("ranges")?;
     let connections = matches.get_one::<u64>("connections");
+    let idle = matches.get_one::<u64>("idle")?;
+    let idle = IdleTime::new(u32::try_from(idle).ok()?)?;
     let plan = VolumePlan::export(u32::try_from(ranges).ok()?)?;
     let peers = peers_in(matches)?;
     let options = Options::new(address, volumes as usize, workers as usize, connections)?;
-    Some(
-        options
-            .with_admission(ADMISSION)
-            .with_peers(peers)
-            .with_plan(plan),
-    )
+    let options = options
+        .with_admission(ADMISSION)
+        .with_peers(peers)
+        .with_plan(plan)
+        .with_idle(idle)
+        .with_log(matches.get_flag("log"));
+    match matches.get_one::<u64>("stats") {
+        Some(minutes) => {
+            let period = Period::new(u32::try_from(minutes).ok()?)?;
+            Some(options.with_statistics(period))
+        }
+        None => Some(options),
+    }
 }

@@ -1,6 +1,9 @@
 //! The program's command line, and the commands that it names: `replay` runs a script of events.
 #![tactic(auto)]
 
+mod admin_printing;
+mod admin_running;
+mod admin_words;
 mod choice;
 mod export_words;
 mod limits;
@@ -9,6 +12,7 @@ mod running;
 mod words;
 
 pub use crate::replay::{ProgramFault, print_fault};
+pub use admin_running::Growing;
 pub use choice::Command;
 pub use running::{program, program_told};
 pub use words::{command, command_told};

@@ -11,3 +11,9 @@ pub(crate) const MOST_RANGES: i64 = 16;
 
 /// The most connections after which a server ends.
 pub(crate) const MOST_CONNECTIONS: i64 = 1_000_000;
+
+/// The most seconds after which a connection may be taken for idle.
+pub(crate) const MOST_IDLE: i64 = 86_400;
+
+/// The most minutes between two lines of statistics.
+pub(crate) const MOST_MINUTES: i64 = 1_440;

@@ -2,11 +2,12 @@
 
 ghost use Rattle.std.specs.Prelude.{◌≤◌, IfOk};
 
+use crate::admin_running::{run_census, run_grow};
 use crate::choice::Command;
 use crate::replay::{ProgramFault, print_fault, replay};
 use crate::words::{command_told, print_help};
 use rpc_msg::Offer;
-use server::{Options, Peers, ServerFault, run_now, serve};
+use server::{Options, Peers, ServerFault, run_now, serve, serve_told};
 use std::alloc::{AllocError, Global};
 use std::convert::AsStr;
 use std::fs::File;
@@ -91,10 +92,14 @@ fn help_out<S: AsStr, W: Write>(alloc: Global, words: &[S], out: &mut W) -> Resu
     }
 }
 
-/// What a fault is, for people; what the command line is lacking was told before.
+/// What a fault is, for people; what the command line is lacking was told before, and why a running
+/// server doesn't answer.
 fn describe(fault: ProgramFault) -> Option<&'static str> {
     match fault {
-        ProgramFault::CommandLine => None,
+        ProgramFault::CommandLine
+        | ProgramFault::Connect
+        | ProgramFault::Reply
+        | ProgramFault::CallRefused => None,
         ProgramFault::File => Some("the file can't be read"),
         ProgramFault::Listen => Some("the address can't be listened at"),
         ProgramFault::Accept => Some("a connection can't be accepted"),
@@ -120,7 +125,12 @@ fn tell<E: Write>(err: &mut E, command: Command<'_>, fault: ProgramFault) {
             let address = options.address;
             writeln!(err, "filer export --listen {address}: {text}")
         }
-        Command::ExportHelp => writeln!(err, "filer export --help: {text}"),
+        Command::Census { server } => writeln!(err, "filer census --server {server}: {text}"),
+        Command::Grow(growing) => {
+            let server = growing.server;
+            writeln!(err, "filer grow --server {server}: {text}")
+        }
+        Command::Help => writeln!(err, "filer --help: {text}"),
         Command::Version => writeln!(err, "filer version: {text}"),
     };
 }
@@ -148,7 +158,7 @@ where
     let address = listener.local_addr().map_err(|_| ProgramFault::Listen)?;
     let options = &options.with_offer(Offer::export(run_now(&rt)));
     tell_exports(err, options, &address);
-    match serve(rt, rt.alloc(), &listener, options, out) {
+    match serve_told(rt, rt.alloc(), &listener, options, out, err) {
         Ok(()) => Ok(0),
         Err(fault) => Err(of_server(fault)),
     }
@@ -192,7 +202,9 @@ where
         Command::Replay { path } => run_script(&rt, path, out),
         Command::Serve(options) => run_server(rt, &options, out),
         Command::Export(options) => run_export(rt, &options, out, err),
-        Command::ExportHelp => help_out(rt.alloc(), words, out),
+        Command::Census { server } => run_census(&rt, server, out, err),
+        Command::Grow(growing) => run_grow(&rt, growing, out, err),
+        Command::Help => help_out(rt.alloc(), words, out),
         Command::Version => print_version(out),
     };
     if let Err(fault) = &ended {

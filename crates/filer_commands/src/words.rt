@@ -1,5 +1,6 @@
 //! The command line.
 
+use crate::admin_words::{self, census, grow};
 use crate::choice::Command;
 use crate::export_words::{self, export};
 use crate::limits::{MOST_CONNECTIONS, MOST_VOLUMES, MOST_WORKERS};
@@ -17,7 +18,9 @@ const EXAMPLES: &str = "\
 Examples:
   filer replay script.txt
   filer serve --listen 127.0.0.1:2049 --volumes 1 --workers 2 --connections 1
-  filer export --listen 127.0.0.1:2049";
+  filer export --listen 127.0.0.1:2049
+  filer census --server 127.0.0.1:2049
+  filer grow --volume 0 --ranges 1 --server 127.0.0.1:2049";
 
 const REPLAY_EXAMPLE: &str = "\
 Example:
@@ -31,8 +34,9 @@ Whoever can reach the address may do everything: bind to 127.0.0.1 or a private 
 
 /// What is told where an address can't be read.
 const ADDRESS_HELP: &str = "\
-error: the value for '--listen <ADDR>' is no address, or one for '--allow <NETWORK>' is no network:
-an IP address and a port are wanted, as 127.0.0.1:2049, and at most 16 networks, as 10.0.0.0/8
+error: the value for '--listen <ADDR>' is no address, or that for '--server <ADDR>', or one for
+'--allow <NETWORK>' is no network: an IP address and a port are wanted, as 127.0.0.1:2049, and at
+most 16 networks, as 10.0.0.0/8
 
 For more information, try '--help'.
 ";
@@ -104,6 +108,8 @@ fn declared<'a>(alloc: Global) -> Result<clap::Command<'a>, AllocError> {
         .subcommand(replay(alloc)?)?
         .subcommand(serve(alloc)?)?
         .subcommand(export(alloc)?)?
+        .subcommand(census(alloc)?)?
+        .subcommand(grow(alloc)?)?
         .subcommand(version(alloc))
 }
 
@@ -134,6 +140,8 @@ fn chosen<'a>(matches: &ArgMatches<'a>) -> Option<Command<'a>> {
         Some(("replay", inner)) => path_in(inner),
         Some(("serve", inner)) => options_in(inner),
         Some(("export", inner)) => Some(Command::Export(export_words::options_in(inner)?)),
+        Some(("census", inner)) => admin_words::census_in(inner),
+        Some(("grow", inner)) => admin_words::grow_in(inner),
         Some(("version", _)) => Some(Command::Version),
         _ => None,
     }
@@ -146,10 +154,12 @@ fn fault_of(error: &Error) -> ProgramFault {
     }
 }
 
-/// Whether the words ask for the help of `export`, which was found so.
-fn asks_export_help<S: AsStr>(words: &[S], error: &Error) -> bool {
+/// Whether the words ask for the help of `export`, `census` or `grow`, which was found so.
+fn asks_command_help<S: AsStr>(words: &[S], error: &Error) -> bool {
     match (error.kind(), words.get(1)) {
-        (ErrorKind::DisplayHelp, Some(word)) => word.as_str() == "export",
+        (ErrorKind::DisplayHelp, Some(word)) => {
+            matches!(word.as_str(), "export" | "census" | "grow")
+        }
         _ => false,
     }
 }
@@ -174,8 +184,8 @@ fn tell_of_address<E: Write>(err: &mut E) {
 
 /// The command that the words ask for; the first word is the program's name.
 ///
-/// `CommandLine` where the words are no command or ask for help, but of `export`, `NoMemory` where
-/// memory ran out.
+/// `CommandLine` where the words are no command or ask for help, but of `export`, `census` and
+/// `grow`, `NoMemory` where memory ran out.
 pub fn command<'a, S: AsStr>(alloc: Global, words: &'a [S]) -> Result<Command<'a>, ProgramFault> {
     command_told(alloc, words, &mut io::sink())
 }
@@ -197,8 +207,8 @@ pub fn command_told<'a, S: AsStr, E: Write>(
             }
         },
         Err(error) => {
-            if asks_export_help(words, &error) {
-                return Ok(Command::ExportHelp);
+            if asks_command_help(words, &error) {
+                return Ok(Command::Help);
             }
             let _told = write!(err, "{error}");
             Err(fault_of(&error))

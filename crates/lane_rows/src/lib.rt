@@ -9,6 +9,8 @@ mod chained;
 #[cfg(test)]
 mod closing;
 #[cfg(test)]
+mod counting;
+#[cfg(test)]
 mod exported;
 #[cfg(test)]
 mod gathered;

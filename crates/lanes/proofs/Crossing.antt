@@ -4,6 +4,7 @@ use denote.Param.Send.{IsSend, sendable, view_send}
 use denote.Param.SendFields.{as_row_send, declared_send}
 use Rattle.std.proofs.Crossing.{crosses, send, frees}
 use Rattle.slab.proofs.Slab.TheSendSync as slab
+use Rattle.statistics.proofs.counts.ReplyCounts.TheSendSync as counts
 use Rattle.rpc_msg.proofs.handle_form.HandleForm.TheSendSync as form
 use Rattle.rpc_msg.proofs.offer.Offer.TheSendSync as offer
 use Rattle.tcp_front.proofs.stream.Stopped.TheSendSync as stopped
@@ -80,7 +81,13 @@ intake-send R r = declared_send (Intake.the_type R) (
                 search sendable depth 20,
                 (
                   search sendable depth 20,
-                  (search (due.the_send, sendable) depth 20, (search (form.the_send, sendable) depth 20, (search sendable depth 20, tt))),
+                  (
+                    search (due.the_send, sendable) depth 20,
+                    (
+                      search (form.the_send, sendable) depth 20,
+                      (search sendable depth 20, (search (counts.the_send, sendable) depth 20, tt)),
+                    ),
+                  ),
                 ),
               ),
             ),

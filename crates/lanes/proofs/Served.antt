@@ -104,9 +104,11 @@ module _ {D : Type 0} (unread written : D → Option (List ℕ)) (layout : Layou
   lived-at-once [] boxes slots came endings number life h =
       subst (λ (l : List Ending). HasLived unread written layout offer came l boxes slots number life) (sym (append-nil endings)) h
   lived-at-once (x ∷ xs) boxes slots came endings number life h =
-      subst (λ (l : List Ending). HasLived unread written layout offer came l (all_put (map (answer_told (form_of offer)) xs) (put (answer_told (form_of offer) x) boxes)) slots number life)
+      subst (λ (l : List Ending). HasLived unread written layout offer came l
+      (all_put (map (answer_told (form_of offer)) xs) (put (answer_told (form_of offer) x) boxes)) slots number life)
       (append_assoc endings (AtOnce x ∷ []) (map AtOnce xs))
-      (lived-at-once xs (put (answer_told (form_of offer) x) boxes) slots came (endings ++ AtOnce x ∷ []) number life (lived-put boxes slots came endings (AtOnce x) x refl number life h))
+      (lived-at-once xs (put (answer_told (form_of offer) x) boxes) slots came (endings ++ AtOnce x ∷ []) number life
+      (lived-put boxes slots came endings (AtOnce x) x refl number life h))
 
   -- ---- another connection goes on
 

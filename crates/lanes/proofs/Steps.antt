@@ -117,9 +117,11 @@ module _ {D : Type 0} (unread written : D → Option (List ℕ)) (layout : Layou
       story-reads unread written layout offer lane lanes entries (known sink.pass).put sink.outboxes (get slab) s (get slab') key c after is
       (sets-at slab slab' key c after is now) number same (known sink'.pass).put h.heard sink'.outboxes h.given.put h.given.boxes_are
       (λ before r. subst (λ (x : Connection D). Reads offer unread c.opened.value x (before ++ h.heard)) (sym on.is)
-      (reads-on unread written HasTakenIn has_room_in layout offer c (owing_in c.owed (form_of offer) sink) size result on.between sink' h c.opened.value before r))
+      (reads-on unread written HasTakenIn has_room_in layout offer c (owing_in c.owed (form_of offer) sink) size result on.between sink' h
+      c.opened.value before r))
       (λ waiting replies r. subst (λ (x : Connection D). Writes written c.opened.value x waiting replies) (sym on.is)
-      (writes-kept unread written HasTakenIn has_room_in layout offer c (owing_in c.owed (form_of offer) sink) size result on.between sink' h c.opened.value waiting replies
+      (writes-kept unread written HasTakenIn has_room_in layout offer c (owing_in c.owed (form_of offer) sink) size result on.between sink' h
+      c.opened.value waiting replies
       r)))
 
   pub reads-told : {R : Type 0} (layout' : Layout) (slab slab' : Slab (Connection D)) (key : ℕ) (sink sink' : Intake R)
@@ -256,7 +258,8 @@ module _ {D : Type 0} (unread written : D → Option (List ℕ)) (layout : Layou
         → Known s boxes → Known t (put (answer_told (form_of offer) a) boxes)
     done-told s t boxes a d once k =
         let f = d.finished in
-        subst (λ (es : List FilerEntry). ∥ Story unread written layout offer lane lanes es messages (put (answer_told (form_of offer) a) boxes) slots ∥₁) (sym f.entries)
+        subst (λ (es : List FilerEntry). ∥ Story unread written layout offer lane lanes es messages (put (answer_told (form_of offer) a) boxes) slots ∥₁)
+        (sym f.entries)
         (∥∥₁_map k (λ y. story-ends unread written layout offer lane lanes (entries_of s.view) messages boxes slots y f.entry a
         (replied d.message moment a f.entry f.is) (served-one d.message moment a f.entry f.is) (subst (Once messages) f.entries once)))
 
@@ -283,7 +286,8 @@ module _ {D : Type 0} (unread written : D → Option (List ℕ)) (layout : Layou
     ends-same between chains.Idle after d = ap entries_of d.view
 
     pub turns-told : (s : Standing) (boxes boxes' : Boxes) (chained : Chained) (t : Standing)
-        → HasTurnedOn (TookTold (form_of offer) HasPutAll) layout s moment boxes chained boxes' t → Once messages (entries_of t.view) → Known s boxes → Known t boxes'
+        → HasTurnedOn (TookTold (form_of offer) HasPutAll) layout s moment boxes chained boxes' t → Once messages (entries_of t.view)
+        → Known s boxes → Known t boxes'
     turns-told s boxes boxes' chained t h once k =
         let same = ends-same h.between chained t h.ends in
         subst (λ (b : Boxes). Known t b) (sym h.told)
@@ -322,7 +326,8 @@ module _ {D : Type 0} (unread written : D → Option (List ℕ)) (layout : Layou
 -- ---- under a key
 
 module _ {D R : Type 0} (unread written : D → Option (List ℕ)) (layout : Layout) (offer : Offer) where
-  pub read-owing : (c : Connection D) (start sink sink' : Intake R) (size : ℕ) (result : Came) (between : Connection D) → start ≡ owing_in c.owed (form_of offer) sink
+  pub read-owing : (c : Connection D) (start sink sink' : Intake R) (size : ℕ) (result : Came) (between : Connection D)
+      → start ≡ owing_in c.owed (form_of offer) sink
       → HasRead unread written HasTakenIn has_room_in layout offer c start size result between sink'
       → HasRead unread written HasTakenIn has_room_in layout offer c (owing_in c.owed (form_of offer) sink) size result between sink'
   read-owing c start sink sink' size result between e h =

@@ -25,6 +25,10 @@ kept_of c = c.kept
 abbrev pub rest_of : {D : Type 0} → Connection D → List ℕ
 rest_of c = c.rest
 
+-- why no more of it is read, if it isn't
+abbrev pub stopped_of : {D : Type 0} → Connection D → Option Stopped
+stopped_of c = c.stopped
+
 abbrev pub has_stopped : Option Stopped → Type 0
 has_stopped None = ⊥
 has_stopped (Some stopped) = ⊤

@@ -52,7 +52,7 @@ pub struct Connection<D> {
 
 impl<D> Connection<D> {
     ghost use Rattle.lanes.specs.Connections.{flagged, now_of, number_of, owing};
-    ghost use Rattle.lanes.specs.Connections.{IsStopped};
+    ghost use Rattle.lanes.specs.Connections.{stopped_of, IsStopped};
     ghost use Rattle.std.specs.Prelude.{◌↔◌, [], false, IsTrue};
 
     /// The number of the connection.
@@ -67,6 +67,13 @@ impl<D> Connection<D> {
         ensures { IsTrue result ↔ IsStopped self.now }
     {
         self.stopped.is_some()
+    }
+
+    /// Why no more of it is read, if it isn't.
+    pub fn stopped(&self) -> Option<Stopped>
+        ensures { result ≡ stopped_of self.now }
+    {
+        self.stopped
     }
 
     /// Whether nothing more is written to it.

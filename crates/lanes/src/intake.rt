@@ -12,6 +12,7 @@ use nfs_values::{Call, ConnectionNumber, Reply};
 use outboxes::Outboxes;
 use rpc_msg::{HandleForm, tell};
 use scheduler::Message;
+use statistics::{ReplyCounts, ReplyKind};
 use std::alloc::{AllocError, Global};
 use std::snapshot::Snapshot;
 use std::sync::Wait;
@@ -46,6 +47,8 @@ pub struct Intake<R> {
     pub(crate) handles: HandleForm,
     /// How many calls that may leave blocks to tend were admitted, wrapping at 2^64.
     pub(crate) leaving: u64,
+    /// The replies that were made at once.
+    pub(crate) at_once: ReplyCounts,
     pub ghost of: { IsOf queue pass },
     pub ghost layout: { layout_known (known pass) ≡ Some (layout_in filer.value) },
     pub ghost takes: { TakesFrom queue worker },
@@ -120,9 +123,11 @@ impl<R: Wait> RecordSink for Intake<R> {
         xid: u32,
         reply: &mut Reply,
     ) -> Result<(), AllocError> {
+        let kind = ReplyKind::of(reply);
         tell(reply, self.handles);
         self.outboxes.put_at_once(connection, xid, reply)?;
         self.owed.add(0);
+        self.at_once.count(kind);
         Ok(())
     }
 

@@ -84,7 +84,8 @@ module _ (most next step : ℕ) (old new : Waits) where
       h q ∙ sym (get-insert nat_cmp_total (waiting_of old) next [] q ∙ (λ i. cond (turned next q i) (Some []) (get-found old q i)))))
 
   -- a connection less
-  pub shuts : (k : ℕ) → ((q : ℕ) → found new q ≡ cond (is_at (nat_cmp k) q) None (found old q)) → boxes_of most next step new ≡ shut k (boxes_of most next step old)
+  pub shuts : (k : ℕ) → ((q : ℕ) → found new q ≡ cond (is_at (nat_cmp k) q) None (found old q))
+      → boxes_of most next step new ≡ shut k (boxes_of most next step old)
   shuts k h = ap (λ m. record { most = most; next = next; step = step; waiting = m }) (same new (remove (waiting_of old) k) (λ q.
       h q ∙ sym (get-remove nat_cmp_total (waiting_of old) k q ∙ (λ i. cond (turned k q i) None (get-found old q i)))))
 

@@ -122,8 +122,8 @@ impl Outboxes {
         }
     }
 
-    /// Opens a connection, for which nothing waits. Numbers rise, so that none is given twice. `Full`
-    /// where as many are open as may be, or 2^62 numbers were given.
+    /// Opens a connection, for which nothing waits. Numbers rise, so that none is given twice.
+    /// `Full` where as many are open as may be, or 2^62 numbers were given.
     pub fn open(&mut self) -> Result<ConnectionNumber, OpenRefusal>
         ensures number { IfOk result (λ connection. connection.0 ≡ self.old.next) }
         ensures fresh { get self.old.waiting self.old.next ≡ None }

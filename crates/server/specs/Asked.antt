@@ -19,3 +19,7 @@ IsBasic plan = (plan.ranges ≡ 4) × (plan.stripes ≡ 8) × (plan.mib ≡ 16) 
 -- how `replay` and `serve` let connections in: 64 are open at most, and others wait
 abbrev pub IsUsual : Admission → Type 0
 IsUsual admission = (admission.most_open ≡ 64) × (admission.when_full ≡ Waits)
+
+-- so many seconds after which a connection is idle
+abbrev pub AreIdleSeconds : ℕ → Type 0
+AreIdleSeconds seconds = 0 < seconds × seconds ≤ 86400

@@ -1,10 +1,12 @@
 //! Connections that are accepted.
 
 use crate::admission::WhenFull;
-use crate::ends::Ends;
-use crate::mailbox::Mailbox;
+use crate::common::Common;
+use crate::mailbox::{Arrival, Mailbox};
 use crate::options::Options;
 use crate::serve_fault::ServeFault;
+use clerk::Event;
+use std::io;
 use std::net::{SocketAddr, TcpListener, TcpStream};
 use std::rt::Clock;
 use std::sync::{Arc, Wait};
@@ -15,9 +17,17 @@ const PAUSE: u64 = 100;
 
 /// Makes a stream as a lane wants it: no call on it waits, and a short reply doesn't wait for more;
 /// where the latter fails it only comes later.
-fn is_prepared(stream: &TcpStream) -> bool {
+pub(crate) fn is_prepared(stream: &TcpStream) -> bool {
     let _set = stream.set_nodelay(true);
     stream.set_nonblocking(true).is_ok()
+}
+
+/// The second of the clock, or 0 where it can't be read.
+fn second_now<R: Clock>(rt: &R) -> u64 {
+    match rt.since_1970() {
+        Ok(time) => time.as_secs(),
+        Err(_failed) => 0,
+    }
 }
 
 /// Where connections come in: what is asked of them, the lanes that they go to, and how many came.
@@ -25,7 +35,7 @@ fn is_prepared(stream: &TcpStream) -> bool {
 pub(crate) struct Door<'a> {
     options: &'a Options,
     mailboxes: &'a [Arc<Mailbox>],
-    ends: &'a Ends,
+    common: &'a Common,
     /// How many came, wrapping at 2^64.
     came: u64,
     /// The lane whose turn it is.
@@ -37,12 +47,12 @@ impl<'a> Door<'a> {
     pub(crate) fn new(
         options: &'a Options,
         mailboxes: &'a [Arc<Mailbox>],
-        ends: &'a Ends,
+        common: &'a Common,
     ) -> Door<'a> {
         Door {
             options,
             mailboxes,
-            ends,
+            common,
             came: 0,
             turn: 0,
         }
@@ -58,20 +68,23 @@ impl<'a> Door<'a> {
 
     /// Whether as many connections are open as may be.
     fn is_full(&self) -> bool {
-        self.ends.open_of(self.came) >= self.options.admission.most_open
+        self.common.ends.open() >= self.options.admission.most_open
     }
 
     /// Waits for a place, where those that find none wait.
     fn wait_for_place<R: Wait>(&self, rt: &R) {
         let admission = &self.options.admission;
         match admission.when_full {
-            WhenFull::Waits => self.ends.wait_for_fewer(rt, self.came, admission.most_open),
+            WhenFull::Waits => {
+                let most = admission.most_open;
+                self.common.ends.wait_for_fewer(rt, most);
+            }
             WhenFull::IsClosed => {}
         }
     }
 
     /// Leaves a stream for the lane whose turn it is. Where that can't be it is closed.
-    fn hand_over<R: Wait>(&mut self, rt: &R, stream: TcpStream) -> bool {
+    fn hand_over<R: Wait>(&mut self, rt: &R, stream: TcpStream, peer: SocketAddr) -> bool {
         let turn = if self.turn < self.mailboxes.len() {
             self.turn
         } else {
@@ -79,26 +92,51 @@ impl<'a> Door<'a> {
         };
         self.turn = turn.saturating_add(1);
         match self.mailboxes.get(turn) {
-            Some(mailbox) => is_prepared(&stream) && mailbox.leave(rt, stream),
+            Some(mailbox) => {
+                is_prepared(&stream) && mailbox.leave(rt, Arrival::of(stream, peer))
+            }
             None => false,
         }
     }
 
-    /// Lets a connection in that has a place and comes from a peer that is served. Any other is
-    /// closed before a byte is read, and counts as ended.
-    fn let_in<R: Wait>(&mut self, rt: &R, stream: TcpStream, peer: &SocketAddr) {
-        let may_enter = !self.is_full() && self.options.peers.has(&peer.ip());
-        self.came = self.came.wrapping_add(1);
-        if !may_enter || !self.hand_over(rt, stream) {
-            self.ends.add();
+    /// Tells that a connection finds no place, and has the lanes close those that are idle.
+    fn turn_away<R: Clock>(&self, rt: &R) {
+        if let Some(journal) = &self.common.journal {
+            journal.turn_away();
+        }
+        if self.common.crowd.leave(second_now(rt)) {
+            for mailbox in self.mailboxes {
+                mailbox.wake();
+            }
         }
     }
 
-    /// A connection can't be accepted: whether to try again.
-    fn goes_on<R: Clock>(&self, rt: &R) -> bool {
+    /// Lets a connection in that comes from a peer that is served and has a place. Any other is
+    /// closed before a byte is read, and counts as ended.
+    fn let_in<R: Wait + Clock>(&mut self, rt: &R, stream: TcpStream, peer: SocketAddr) {
+        let is_full = self.is_full();
+        self.came = self.came.wrapping_add(1);
+        self.common.ends.come();
+        if !self.options.peers.has(&peer.ip()) {
+            self.common.note(rt, Event::NotAllowed { peer });
+        } else if is_full {
+            self.turn_away(rt);
+        } else if self.hand_over(rt, stream, peer) {
+            return;
+        } else {
+            self.common.note(rt, Event::NotServed { peer });
+        }
+        self.common.ends.add();
+    }
+
+    /// A connection can't be accepted: whether to try again, after a pause.
+    fn goes_on<R: Clock>(&self, rt: &R, error: &io::Error) -> bool {
         match self.options.admission.when_full {
             WhenFull::Waits => false,
             WhenFull::IsClosed => {
+                if let Some(journal) = &self.common.journal {
+                    journal.fail(error);
+                }
                 rt.sleep(Duration::from_millis(PAUSE));
                 true
             }
@@ -107,7 +145,7 @@ impl<'a> Door<'a> {
 
     /// Waits until all that came have ended.
     pub(crate) fn wait_for_all<R: Wait>(&self, rt: &R) {
-        self.ends.wait_for_fewer(rt, self.came, 1);
+        self.common.ends.wait_for_fewer(rt, 1);
     }
 }
 
@@ -125,9 +163,9 @@ pub(crate) fn accept_all<R: Wait + Clock>(
         }
         door.wait_for_place(rt);
         match listener.accept() {
-            Ok((stream, peer)) => door.let_in(rt, stream, &peer),
-            Err(_failed) => {
-                if !door.goes_on(rt) {
+            Ok((stream, peer)) => door.let_in(rt, stream, peer),
+            Err(error) => {
+                if !door.goes_on(rt, &error) {
                     return Err(ServeFault::AcceptFailed);
                 }
             }

@@ -1,11 +1,13 @@
-//! Connections that have ended, counted.
+//! Connections that came and have ended, counted.
 
 use crate::bell::Bell;
 use std::sync::Wait;
 use std::sync::atomic::{AtomicU64, Ordering};
 
-/// How many connections have ended, wrapping at 2^64, and the bell that is rung where one ends.
+/// How many connections came and have ended, wrapping at 2^64, and the bell that is rung where one
+/// ends.
 pub(crate) struct Ends {
+    came: AtomicU64,
     count: AtomicU64,
     ended: Bell,
 }
@@ -13,17 +15,27 @@ pub(crate) struct Ends {
 // By hand, so that crates above have no proof of the drop of each of its parts.
 impl Drop for Ends {
     fn drop(self) {
-        let Ends { count: _, ended: _ } = self;
+        let Ends {
+            came: _,
+            count: _,
+            ended: _,
+        } = self;
     }
 }
 
 impl Ends {
-    /// None has ended.
+    /// None came.
     pub(crate) fn new() -> Ends {
         Ends {
+            came: AtomicU64::new(0),
             count: AtomicU64::new(0),
             ended: Bell::new(),
         }
+    }
+
+    /// A connection came.
+    pub(crate) fn come(&self) {
+        self.came.fetch_add(1, Ordering::SeqCst);
     }
 
     /// A connection has ended.
@@ -32,16 +44,17 @@ impl Ends {
         self.ended.ring();
     }
 
-    /// How many are open of so many that were opened.
-    pub(crate) fn open_of(&self, opened: u64) -> u64 {
-        opened.wrapping_sub(self.count.load(Ordering::SeqCst))
+    /// How many are open. The ends are read first: what ends meanwhile still counts as open.
+    pub(crate) fn open(&self) -> u64 {
+        let ended = self.count.load(Ordering::SeqCst);
+        self.came.load(Ordering::SeqCst).wrapping_sub(ended)
     }
 
-    /// Sleeps until of so many connections that were opened fewer than these are open.
-    pub(crate) fn wait_for_fewer<R: Wait>(&self, rt: &R, opened: u64, open: u64) {
+    /// Sleeps until fewer than these are open.
+    pub(crate) fn wait_for_fewer<R: Wait>(&self, rt: &R, open: u64) {
         for _ in rt.forever() {
             let seen = self.ended.rings();
-            if self.open_of(opened) < open {
+            if self.open() < open {
                 return;
             }
             self.ended.wait_past(rt, seen);

@@ -5,6 +5,7 @@ ghost use Rattle.server.specs.Faults.{fault_of_start, fault_of_serving};
 
 use crate::serve_fault::ServeFault;
 use std::alloc::AllocError;
+use std::io::{self, ErrorKind};
 use workers::StartRefusal;
 
 /// Why a server ends before its work is done.
@@ -20,6 +21,14 @@ pub enum ServerFault {
     NoMemory,
     /// A line can't be printed.
     Output,
+}
+
+/// Why no clerk can be had, as a server's fault: memory, or a descriptor by which it would wait.
+pub(crate) fn of_clerk(error: &io::Error) -> ServerFault {
+    match error.kind() {
+        ErrorKind::OutOfMemory => ServerFault::NoMemory,
+        _ => ServerFault::Thread,
+    }
 }
 
 impl From<AllocError> for ServerFault {

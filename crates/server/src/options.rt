@@ -3,8 +3,10 @@
 ghost use Rattle.std.specs.Prelude.{◌≤◌, ◌<◌};
 
 use crate::admission::{Admission, MOST_OPEN, WhenFull};
+use crate::idle::IdleTime;
 use crate::peers::Peers;
 use crate::plan::VolumePlan;
+use clerk::Period;
 use rpc_msg::Offer;
 use std::net::SocketAddr;
 
@@ -15,8 +17,9 @@ pub(crate) const MOST_VOLUMES: usize = 8;
 pub(crate) const MOST_WORKERS: usize = 64;
 
 /// Where a server listens, how many volumes (1 to 8) and workers (1 to 64) it has, after how many
-/// connections it ends, if after any, how many may be open, what it offers and to whom, and what its
-/// volumes have at the start.
+/// connections it ends, if after any, how many may be open, what it offers and to whom, what its
+/// volumes have at the start, after how long a connection is idle, if ever, whether each connection
+/// is told of, and how often statistics are, if they are.
 #[derive(Clone, Copy)]
 pub struct Options {
     pub address: SocketAddr,
@@ -27,6 +30,9 @@ pub struct Options {
     pub offer: Offer,
     pub peers: Peers,
     pub plan: VolumePlan,
+    pub idle: Option<IdleTime>,
+    pub log: bool,
+    pub statistics: Option<Period>,
     pub ghost some_volume: { 0 < volumes },
     pub ghost volumes_fit: { volumes ≤ 8 },
     pub ghost some_worker: { 0 < workers },
@@ -34,14 +40,14 @@ pub struct Options {
 }
 
 impl Options {
-    ghost use Rattle.std.specs.Prelude.{◌≡◌, IfNone, IfSome};
+    ghost use Rattle.std.specs.Prelude.{◌≡◌, IfNone, IfSome, None, false};
     ghost use Rattle.rpc_msg.specs.Offer.{basic};
     ghost use Rattle.server.specs.Asked.{IsBasic, IsInRange, IsUsual};
     ghost use Rattle.server.specs.declared.peers.Peers.TheVariants.{All};
 
     /// These options, where the numbers are in their ranges, and else none. The offer and the plan
-    /// are the basic ones, everybody is served, and at most 64 connections are open, for which
-    /// others wait.
+    /// are the basic ones, everybody is served, at most 64 connections are open, for which others
+    /// wait, none is ever idle, none is told of, and no statistics are.
     pub fn new(
         address: SocketAddr,
         volumes: usize,
@@ -51,7 +57,8 @@ impl Options {
         ensures given { IfSome result (λ options. options.address ≡ address
             × options.volumes ≡ volumes × options.workers ≡ workers
             × options.connections ≡ connections × IsUsual options.admission
-            × options.offer ≡ basic × IsBasic options.plan × options.peers ≡ All) }
+            × options.offer ≡ basic × IsBasic options.plan × options.peers ≡ All
+            × options.idle ≡ None × options.log ≡ false × options.statistics ≡ None) }
         ensures in_range { IfSome result (λ options. IsInRange volumes workers) }
         ensures refused { IfNone result (IsInRange volumes workers → ⊥) }
     {
@@ -73,6 +80,9 @@ impl Options {
             offer: Offer::basic(),
             peers: Peers::All,
             plan: VolumePlan::basic(),
+            idle: None,
+            log: false,
+            statistics: None,
         })
     }
 
@@ -109,6 +119,33 @@ impl Options {
     {
         let mut options = self;
         options.plan = plan;
+        options
+    }
+
+    /// The same options, with connections that are idle after so long.
+    pub fn with_idle(self, idle: IdleTime) -> Options
+        ensures { result ≡ record self { idle = Some idle } }
+    {
+        let mut options = self;
+        options.idle = Some(idle);
+        options
+    }
+
+    /// The same options, where each connection is told of or not.
+    pub fn with_log(self, log: bool) -> Options
+        ensures { result ≡ record self { log = log } }
+    {
+        let mut options = self;
+        options.log = log;
+        options
+    }
+
+    /// The same options, with statistics that are told so often.
+    pub fn with_statistics(self, period: Period) -> Options
+        ensures { result ≡ record self { statistics = Some period } }
+    {
+        let mut options = self;
+        options.statistics = Some(period);
         options
     }
 }

@@ -3,14 +3,16 @@
 ghost use Rattle.std.specs.Prelude.{IfNone};
 ghost use Rattle.server.specs.Lanes.{IsAtRest, Stays};
 
+use crate::closing::{close_ended, close_idle};
 use crate::common::Common;
+use crate::counting::count_round;
 use crate::hearing::hear;
 use crate::late_word::LateWord;
 use crate::pace::Pace;
 use crate::socket::Socket;
 use crate::station::Station;
 use crate::tends::{may_rest, put_down, tend};
-use crate::visits::{any_is_due, close_ended, open, read_all, write_all};
+use crate::visits::{any_is_due, open, read_all, write_all};
 use lanes::Lane;
 use nfs_values::Moment;
 use std::rt::Clock;
@@ -68,8 +70,8 @@ fn wait<R: Wait + Clock>(rt: &R, lane: &mut Lane<Socket, R>, station: &mut Stati
     }
 }
 
-/// Opens connections of the streams that were left, if some were.
-fn take_mail<R: Wait>(rt: &R, lane: &mut Lane<Socket, R>, station: &mut Station)
+/// Opens connections of the streams that were left, if some were, in a second.
+fn take_mail<R: Wait>(lane: &mut Lane<Socket, R>, station: &mut Station, rt: &R, now: u32)
     ensures { Stays lane.old lane.new }
 {
     let left = station.mailbox.left();
@@ -78,9 +80,8 @@ fn take_mail<R: Wait>(rt: &R, lane: &mut Lane<Socket, R>, station: &mut Station)
     }
     station.seen = left;
     station.mailbox.take(rt, &mut station.mail);
-    while let Some(stream) = station.mail.pop() {
-        let registry = station.poll.registry();
-        open(lane, registry, &station.common.ends, stream);
+    while let Some(arrival) = station.mail.pop() {
+        open(lane, station, rt, arrival, now);
     }
 }
 
@@ -110,7 +111,14 @@ fn run_some<R: Wait>(
         wanted: &common.wanted,
         patience: pace.patience,
     };
-    lane.turns(&Unwatched, &word, moment, most)
+    match common.counter(lane.index()) {
+        Some(counter) => {
+            let chained = lane.turns(&counter, &word, moment, most);
+            counter.see(&chained);
+            chained
+        }
+        None => lane.turns(&Unwatched, &word, moment, most),
+    }
 }
 
 /// Makes turns until no message waits, or 64. Answers whether the last found none.
@@ -153,23 +161,62 @@ fn run_calls<R: Wait>(
     false
 }
 
+/// Takes what was left and reads each listed connection once. Answers how many messages wait then.
+fn read_round<R: Wait>(
+    lane: &mut Lane<Socket, R>,
+    station: &mut Station,
+    rt: &R,
+    moment: Moment,
+) -> usize
+    ensures { Stays lane.old lane.new }
+{
+    take_mail(lane, station, rt, moment.seconds);
+    let before = lane.waiting();
+    read_all(lane, station, moment.seconds);
+    let waiting = lane.waiting();
+    if let Some(counting) = &mut station.counting {
+        counting.put(moment, waiting.saturating_sub(before));
+    }
+    waiting
+}
+
+/// Counts what was finished in a round, where that is told: of so many messages that waited once
+/// it had read, at a moment at which it began.
+fn count<R: Clock>(
+    lane: &Lane<Socket, R>,
+    station: &mut Station,
+    rt: &R,
+    waited: usize,
+    begun: Moment,
+) {
+    let (Some(counting), Some(counter)) = (
+        &mut station.counting,
+        station.common.counter(lane.index()),
+    ) else {
+        return;
+    };
+    let ended = station.pace.time(rt);
+    count_round(lane, counting, &counter, waited, begun, ended);
+}
+
 /// A round: what the sockets tell and what was left is taken, each listed connection is read once,
 /// calls are run, the replies of each listed connection are written once, and then the lane tends
-/// once if no message waits.
+/// once if no message waits. Where others wait for a place, idle connections are closed.
 pub(crate) fn round<R: Wait + Clock>(rt: &R, lane: &mut Lane<Socket, R>, station: &mut Station)
     ensures { Stays lane.old lane.new }
 {
     wait(rt, lane, station);
     station.pace.patience.give_way(rt);
-    take_mail(rt, lane, station);
-    read_all(lane, &mut station.keys, &mut station.buffers);
     let moment = station.pace.time(rt);
+    let waiting = read_round(lane, station, rt, moment);
     if station.common.untended.take(moment) {
         station.pace.tending.begin_anew();
     }
     let is_idle = run_calls(lane, &mut station.pace, &station.common, moment);
     station.is_writing = write_all(lane, &station.keys, &mut station.buffers);
-    close_ended(lane, &mut station.keys, &station.common.ends);
+    count(lane, station, rt, waiting, moment);
+    close_ended(lane, station, rt);
+    close_idle(lane, station, rt, moment.seconds);
     if is_idle {
         tend(lane, &mut station.pace);
     } else {

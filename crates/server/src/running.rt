@@ -14,11 +14,11 @@ ghost use Rattle.server.specs.Threads.{AllServe, AreThreadsOf, IsTaskFor};
 ghost use Rattle.server.specs.declared.socket.Socket as sockets;
 ghost use Rattle.turns.specs.declared.shared.Filer as filers;
 
-use crate::accepting::{Door, accept_all};
 use crate::common::Common;
 use crate::crew::{Mail, join_all, start_all};
 use crate::ending::{FilerEnd, end};
-use crate::fault::{ServerFault, of_serving, of_start};
+use crate::entrance::{Scribe, accept};
+use crate::fault::{ServerFault, of_clerk, of_start};
 use crate::mailbox::Mailbox;
 use crate::opening::{layout_of, open_lanes, verifier_for};
 use crate::options::Options;
@@ -26,10 +26,11 @@ use crate::room::Room;
 use crate::socket::Socket;
 use crate::station::Station;
 use crate::task::{Task, Thread};
+use clerk::{Clerk, Journal};
 use lanes::{Device, Lane};
-use std::alloc::Global;
-use std::io::Write;
-use std::net::{Net, SocketAddr, TcpListener};
+use std::alloc::{AllocError, Global};
+use std::io::{self, Write};
+use std::net::{Net, SocketAddr, TcpListener, TcpStream};
 use std::rt::Clock;
 use std::sync::{Arc, Wait};
 use std::thread::Threads;
@@ -82,39 +83,44 @@ fn man_all<R: Net + Drop>(
     Ok(())
 }
 
+/// What the threads of a server with these options share.
+fn share(
+    alloc: Global,
+    options: &Options,
+    journal: Option<Journal>,
+) -> Result<Arc<Common>, AllocError> {
+    match Arc::new(alloc, Common::new(alloc, options, journal)?) {
+        Ok(common) => Ok(common),
+        Err(_refused) => Err(AllocError),
+    }
+}
+
 /// Opens a filer with as many lanes as the options have workers, which read by what they offer, and
 /// starts their threads. Where one can't be started those that run are stopped.
-fn start<R>(rt: R, alloc: Global, options: &Options) -> Result<Running<R>, ServerFault>
+fn start<R>(
+    rt: R,
+    alloc: Global,
+    options: &Options,
+    journal: Option<Journal>,
+) -> Result<Running<R>, ServerFault>
 where
     R: Threads + Wait + Clock + Net + Copy + Drop + Send + 'static,
     ensures threads { IfOk result (λ r. AreThreadsOf (arc_value r.filer) r.threads.items) }
     ensures offer { IfOk result (λ r. AllServe options.now.offer r.threads.items) }
     ensures count { IfOk result (λ r. length r.threads.items ≡ options.now.workers) }
 {
-    let (layout, workers) = (
-        layout_of(alloc, options.volumes, options.plan)?,
-        options.workers,
-    );
+    let layout = layout_of(alloc, options.volumes, options.plan)?;
+    let (workers, offer) = (options.workers, options.offer);
     let most_open = options.admission.most_open as usize;
     let lanes = Vec::with_capacity(alloc, workers)?;
     let mut threads = Vec::with_capacity(alloc, workers)?;
     let mut tasks = Vec::with_capacity(alloc, workers)?;
     let mut boxes = Vec::with_capacity(alloc, workers)?;
     let room = Room::new(alloc, workers)?;
-    let common = match Arc::new(alloc, Common::new()) {
-        Ok(common) => common,
-        Err(_refused) => return Err(ServerFault::NoMemory),
-    };
-    let verifier = verifier_for(&rt, options.offer);
+    let common = share(alloc, options, journal)?;
+    let verifier = verifier_for(&rt, offer);
     let (filer, mut lanes) = open_lanes(
-        rt,
-        alloc,
-        options.offer,
-        layout,
-        verifier,
-        workers,
-        most_open,
-        lanes,
+        rt, alloc, offer, layout, verifier, workers, most_open, lanes,
     )?;
     man_all(
         &rt, alloc, &common, most_open, &mut lanes, &mut tasks, &mut boxes,
@@ -140,40 +146,49 @@ fn print_address<W: Write>(listener: &TcpListener, out: &mut W) -> Result<(), Se
     writeln!(out, "listening {address}").map_err(|_| ServerFault::Output)
 }
 
+/// Prints how many messages weren't finished.
+fn print_left<W: Write>(end: &FilerEnd, out: &mut W) -> Result<(), ServerFault> {
+    let count = end.unfinished();
+    writeln!(out, "left {count}").map_err(|_| ServerFault::Output)
+}
+
 /// Prints where a server listens, takes the connections that are asked for, and waits for their
-/// ends.
-fn accept<R: Wait + Clock, W: Write>(
+/// ends, while a clerk writes what happens, if there is one.
+fn take_all<R, W, E>(
     rt: &R,
     mail: &Mail,
     listener: &TcpListener,
     options: &Options,
     out: &mut W,
-) -> Result<(), ServerFault> {
+    scribe: Option<Scribe<'_, E>>,
+) -> Result<(), ServerFault>
+where
+    R: Threads + Wait + Clock + Copy + Send,
+    R: Net<Listener = TcpListener, Stream = TcpStream>,
+    W: Write,
+    E: Write,
+{
     print_address(listener, out)?;
-    let mut door = Door::new(options, &mail.boxes, &mail.common.ends);
-    match accept_all(rt, listener, &mut door) {
-        Ok(()) => {
-            door.wait_for_all(rt);
-            Ok(())
-        }
-        Err(fault) => Err(of_serving(fault)),
-    }
+    accept(rt, mail, listener, options, scribe)
 }
 
 /// Serves as many connections of a listener as the options say to their ends, and stops the lanes.
 /// Where one can't be accepted no more are, and those that are open are closed. What comes back is
 /// what is left of a filer that was served to its end, by the lanes that its threads were started
 /// with.
-fn run<R, W>(
+fn run<R, W, E>(
     rt: &R,
     listener: &TcpListener,
     options: &Options,
     running: Running<R>,
     out: &mut W,
+    scribe: Option<Scribe<'_, E>>,
 ) -> Result<FilerEnd, ServerFault>
 where
-    R: Threads + Wait + Clock + Drop,
+    R: Threads + Wait + Clock + Copy + Drop + Send,
+    R: Net<Listener = TcpListener, Stream = TcpStream>,
     W: Write,
+    E: Write,
     requires { AreThreadsOf (arc_value running.filer) running.threads.items }
     ensures { IfOk result (λ left. (lanes : List (laned.Lane sockets.Socket R
         ⟦<Socket as Device>⟧))
@@ -187,7 +202,7 @@ where
         lanes,
         room,
     } = running;
-    let accepted = accept(rt, &mail, listener, options, out);
+    let accepted = take_all(rt, &mail, listener, options, out, scribe);
     mail.stop();
     let lanes = join_all(rt, threads, lanes);
     match accepted {
@@ -208,11 +223,39 @@ pub fn serve<R, W>(
     out: &mut W,
 ) -> Result<(), ServerFault>
 where
-    R: Threads + Wait + Clock + Net + Copy + Drop + Send + 'static,
+    R: Threads + Wait + Clock + Net<Listener = TcpListener, Stream = TcpStream>,
+    R: Copy + Drop + Send + 'static,
     W: Write,
 {
-    let running = start(rt, alloc, options)?;
-    let end = run(&rt, listener, options, running, out)?;
-    let count = end.unfinished();
-    writeln!(out, "left {count}").map_err(|_| ServerFault::Output)
+    let running = start(rt, alloc, options, None)?;
+    let none: Option<Scribe<'_, io::Sink>> = None;
+    let end = run(&rt, listener, options, running, out, none)?;
+    print_left(&end, out)
+}
+
+/// The same, and tells by a second writer what people want to know of connections: as the options
+/// say, and always where connections are closed for want of a place or can't be accepted. Whatever
+/// becomes of that writer, the connections are served.
+pub fn serve_told<R, W, E>(
+    rt: R,
+    alloc: Global,
+    listener: &TcpListener,
+    options: &Options,
+    out: &mut W,
+    err: &mut E,
+) -> Result<(), ServerFault>
+where
+    R: Threads + Wait + Clock + Net<Listener = TcpListener, Stream = TcpStream>,
+    R: Copy + Drop + Send + 'static,
+    W: Write,
+    E: Write,
+{
+    let clerk = Clerk::new(alloc, &rt).map_err(|error| of_clerk(&error))?;
+    let journal = clerk
+        .journal(alloc, options.log)
+        .map_err(|error| of_clerk(&error))?;
+    let running = start(rt, alloc, options, Some(journal))?;
+    let scribe = Some(Scribe { clerk, err, alloc });
+    let end = run(&rt, listener, options, running, out, scribe)?;
+    print_left(&end, out)
 }

@@ -3,12 +3,14 @@
 ghost use Rattle.std.specs.Prelude.{◌<◌, length};
 
 use crate::common::Common;
+use crate::counting::Counting;
+use crate::guests::Guests;
 use crate::keys::Keys;
-use crate::mailbox::Mailbox;
+use crate::mailbox::{Arrival, Mailbox};
 use crate::pace::Pace;
 use mio::{Events, Poll};
 use std::alloc::{AllocError, Global};
-use std::net::{Net, TcpStream};
+use std::net::Net;
 use std::sync::Arc;
 use workers::StartRefusal;
 
@@ -44,12 +46,17 @@ pub(crate) struct Station {
     pub(crate) mailbox: Arc<Mailbox>,
     pub(crate) common: Arc<Common>,
     pub(crate) keys: Keys,
+    pub(crate) guests: Guests,
     pub(crate) buffers: Buffers,
     pub(crate) pace: Pace,
+    /// What is counted, where that is told.
+    pub(crate) counting: Option<Counting>,
     /// Room for the streams of the mailbox.
-    pub(crate) mail: Vec<TcpStream>,
+    pub(crate) mail: Vec<Arrival>,
     /// How often a stream had been left when the mailbox was last emptied.
     pub(crate) seen: u64,
+    /// The second of the last word of a crowd upon which idle connections were closed.
+    pub(crate) cleared: u64,
     /// Whether there may be replies that weren't written, though the socket has room.
     pub(crate) is_writing: bool,
 }
@@ -63,10 +70,13 @@ impl Drop for Station {
             mailbox: _,
             common: _,
             keys: _,
+            guests: _,
             buffers: _,
             pace: _,
+            counting: _,
             mail: _,
             seen: _,
+            cleared: _,
             is_writing: _,
         } = self;
     }
@@ -86,16 +96,24 @@ impl Station {
         let Ok(mailbox) = Arc::new(alloc, Mailbox::new(alloc, &poll, most_open)?) else {
             return Err(StartRefusal::NoMemory);
         };
+        let counting = if common.tallies.is_empty() {
+            None
+        } else {
+            Some(Counting::new(alloc)?)
+        };
         Ok(Station {
             poll,
             events: Events::with_capacity(alloc, EVENTS)?,
             mailbox,
             common,
             keys: Keys::new(alloc, most_open)?,
+            guests: Guests::new(alloc, most_open)?,
             buffers: Buffers::new(alloc)?,
             pace: Pace::new(),
+            counting,
             mail: Vec::with_capacity(alloc, most_open)?,
             seen: 0,
+            cleared: 0,
             is_writing: false,
         })
     }

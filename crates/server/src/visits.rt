@@ -2,10 +2,12 @@
 
 ghost use Rattle.server.specs.Lanes.{Stays};
 
-use crate::ends::Ends;
-use crate::keys::{Keys, unlist};
+use crate::guests::Guests;
+use crate::keys::Keys;
+use crate::mailbox::Arrival;
 use crate::socket::Socket;
-use crate::station::Buffers;
+use crate::station::{Buffers, Station};
+use clerk::Event;
 use lanes::{Came, Connection, Flags, Lane, Sent};
 use mio::net::TcpStream;
 use mio::{Interest, Registry, Token};
@@ -15,25 +17,50 @@ use std::sync::Wait;
 /// The most writes of one visit. Each but the last went out whole.
 const MOST_WRITES: usize = 64;
 
-/// Opens a connection of a stream: registered once, for both ways, before the lane has it. Where it
-/// can't be opened it is closed.
-pub(crate) fn open<R>(
+/// Registers a socket once, for both ways, and gives it to the lane as a connection. Answers its
+/// key, or none where it can't be served.
+fn register<R>(
     lane: &mut Lane<Socket, R>,
     registry: &Registry,
-    ends: &Ends,
     stream: net::TcpStream,
-)
+) -> Option<usize>
     ensures { Stays lane.old lane.new }
 {
     let token = Token(lane.next_key());
     let mut socket = Socket(TcpStream::from_std(stream));
     let both = Interest::READABLE | Interest::WRITABLE;
     if registry.register(&mut socket.0, token, both).is_err() {
-        ends.add();
-        return;
+        return None;
     }
-    if lane.open(socket).is_err() {
-        ends.add();
+    lane.open(socket).ok()
+}
+
+/// Opens a connection of a stream that arrived, in a second. Where it can't be served it is closed.
+pub(crate) fn open<R: Wait>(
+    lane: &mut Lane<Socket, R>,
+    station: &mut Station,
+    rt: &R,
+    arrival: Arrival,
+    now: u32,
+)
+    ensures { Stays lane.old lane.new }
+{
+    let Arrival { stream, peer } = arrival;
+    let common = &station.common;
+    match register(lane, station.poll.registry(), stream) {
+        Some(key) => {
+            station.guests.admit(key, peer, now);
+            if let (Some(connection), Some(peer)) = (lane.connection(key), peer) {
+                let connection = connection.number();
+                common.note(rt, Event::Opened { connection, peer });
+            }
+        }
+        None => {
+            if let Some(peer) = peer {
+                common.note(rt, Event::NotServed { peer });
+            }
+            common.ends.add();
+        }
     }
 }
 
@@ -44,7 +71,7 @@ fn has_more(connection: &Connection<Socket>) -> bool {
 }
 
 /// Whether a connection has something to read or to cut, and may be read.
-fn is_due<R>(lane: &Lane<Socket, R>, key: usize) -> bool {
+pub(crate) fn is_due<R>(lane: &Lane<Socket, R>, key: usize) -> bool {
     match lane.connection(key) {
         Some(connection) => {
             has_more(connection) && !connection.is_stopped() && lane.may_owe(connection.owed())
@@ -89,32 +116,36 @@ fn after_read(flags: Flags, came: Came, block: usize) -> Flags {
 }
 
 /// Reads a connection once, or cuts what is kept of it.
-fn read<R: Wait>(lane: &mut Lane<Socket, R>, key: usize, buffers: &mut Buffers)
+fn read<R: Wait>(lane: &mut Lane<Socket, R>, key: usize, guests: &mut Guests, buffers: &mut Buffers)
     ensures { Stays lane.old lane.new }
 {
     let came = lane.read(key, &mut buffers.block);
+    if came == Came::Failed {
+        guests.fail(key);
+    }
     if let Some(connection) = lane.connection(key) {
         let flags = after_read(connection.flags(), came, buffers.block.len());
         lane.set_flags(key, flags);
     }
 }
 
-/// Reads each listed connection of a lane once that may be read, or cuts what is kept of it; in each round
-/// another one first.
-pub(crate) fn read_all<R: Wait>(lane: &mut Lane<Socket, R>, keys: &mut Keys, buffers: &mut Buffers)
+/// Reads each listed connection of a lane once that may be read, or cuts what is kept of it; in
+/// each round another one first. All that are listed were heard of in this second.
+pub(crate) fn read_all<R: Wait>(lane: &mut Lane<Socket, R>, station: &mut Station, now: u32)
     ensures { Stays lane.old lane.new }
 {
-    keys.turn();
-    for others in 0..keys.len() {
-        let key = keys.visited(others);
+    station.keys.turn();
+    for others in 0..station.keys.len() {
+        let key = station.keys.visited(others);
+        station.guests.hear(key, now);
         if is_due(lane, key) {
-            read(lane, key, buffers);
+            read(lane, key, &mut station.guests, &mut station.buffers);
         }
     }
 }
 
 /// Whether replies may wait for a connection, and its socket may have room.
-fn is_writable<R>(lane: &Lane<Socket, R>, key: usize) -> bool {
+pub(crate) fn is_writable<R>(lane: &Lane<Socket, R>, key: usize) -> bool {
     match lane.connection(key) {
         Some(connection) => {
             !connection.flags().is_blocked && (connection.due() > 0 || connection.has_rest())
@@ -161,44 +192,4 @@ pub(crate) fn write_all<R>(lane: &mut Lane<Socket, R>, keys: &Keys, buffers: &mu
         }
     }
     is_left
-}
-
-/// Whether nothing more is read of a connection and no reply is owed to it, or its device failed.
-fn is_over<R>(lane: &Lane<Socket, R>, key: usize) -> bool {
-    match lane.connection(key) {
-        Some(connection) => {
-            let is_read = connection.is_stopped()
-                || connection.flags().has_ended && !connection.has_kept();
-            connection.is_broken() || is_read && connection.due() == 0 && !connection.has_rest()
-        }
-        None => false,
-    }
-}
-
-/// Whether a connection has something to do without word of the system: to read or to cut, where it
-/// may be read, or to write, where replies are due.
-fn is_busy<R>(lane: &Lane<Socket, R>, key: usize) -> bool {
-    is_due(lane, key) || is_writable(lane, key)
-}
-
-/// Closes the connections that are over, and lists those no longer that have nothing to do: a
-/// connection is over only after it was read or written, or the system told of it, and then it is
-/// listed.
-pub(crate) fn close_ended<R>(lane: &mut Lane<Socket, R>, keys: &mut Keys, ends: &Ends)
-    ensures { Stays lane.old lane.new }
-{
-    let mut kept = 0usize;
-    for place in 0..keys.len() {
-        let key = keys.at(place);
-        if is_over(lane, key) {
-            let _closed = lane.close(key);
-            ends.add();
-        } else if is_busy(lane, key) {
-            keys.put(kept, key);
-            kept = kept.saturating_add(1);
-        } else {
-            unlist(lane, key);
-        }
-    }
-    keys.truncate(kept);
 }

@@ -100,7 +100,8 @@ HasCarried layout v call hand (Done reply) w = Carries layout v call hand (job_r
 HasCarried layout v call hand (Refused back refusal) w = (back ≡ hand) × (entries_of w ≡ entries_of v) × IsRefusedFor layout v call refusal w
 
 -- a depot granted a seat the parcels of an inner call, and its run came to this, and left them so
-pub record HasRunInner (layout : Layout) (v : FilerView) (call : InnerCall) (hand : Hand) (outcome : InnerOutcome) (l : FilerLent) (w : FilerView) : Type 0 where
+pub record HasRunInner (layout : Layout) (v : FilerView) (call : InnerCall) (hand : Hand) (outcome : InnerOutcome) (l : FilerLent)
+    (w : FilerView) : Type 0 where
   pub before : FilerLent
   pub granted : IsGranted kind_in filer_behaviour layout v (inner_node call) before w
   pub done : IsDone (InnerHasRun call hand) layout before outcome l

@@ -38,7 +38,7 @@ pub use chained::{AnswerSink, Chained, Hint, Wanted};
 pub use envelope::Envelope;
 pub use message::Message;
 pub use parts::WorkerParts;
-pub use service::{BatchInHand, Service};
+pub use service::{BatchInHand, JobReply, Service};
 pub use shared::Filer;
 pub use shared_outboxes::{OutboxesPass, SharedOutboxes};
 pub use tend::{Tend, TendRefusal, Tended};

@@ -170,8 +170,8 @@ pub(crate) fn link_on<
         → Stands L (verifier_in filer.now) b message (known pass.old) (node_lent L grant.old)
         (view seat.old)
         → HasLinked (TookTold handles S.took) L (verifier_in filer.now) b message moment
-        (known pass.old) (node_lent L grant.old) (view seat.old) sink.old result told.new (known pass.new)
-        (node_lent L grant.new) (view seat.new) sink.new }
+        (known pass.old) (node_lent L grant.old) (view seat.old) sink.old result told.new
+        (known pass.new) (node_lent L grant.new) (view seat.new) sink.new }
 {
     replies_fit();
     servers_are_roomy();
@@ -192,6 +192,7 @@ pub(crate) fn link_on<
     if !go_on_by::<N>(filer, seat, grant, &entry, told) {
         return Link::Over(Tried::Entered(entry, Some(next)));
     }
+    gate.finish(told);
     gate.pass(place);
     gate.pass(place_of(next.origin(), Stage::Begun));
     sink.take_answer(answered(entry, told, handles));
@@ -229,6 +230,7 @@ pub(crate) fn end_on<N: Node<Parcel<Files>>, G: Gate, S: AnswerSink>(
         }
         Tried::Entered(entry, next) => {
             finish_node::<Service, N>(&filer.depot, seat, grant, &entry.job, told);
+            gate.finish(told);
             gate.pass(place_of(entry.origin, Stage::Ended));
             sink.take_answer(answered(entry, told, handles));
             next

@@ -40,12 +40,13 @@ use rpc_msg::{HandleForm, replies_fit, servers_are_roomy};
 use service::{JobReply, Service};
 
 /// Ends a message's call by its entry, and answers it.
-fn answer<N: Node<Parcel<Files>>>(
+fn answer<N: Node<Parcel<Files>>, G: Gate>(
     filer: &Filer,
     seat: &mut Seat<Service>,
     grant: NodeGrant<Parcel<Files>, N>,
     message: Envelope,
     moment: Moment,
+    gate: &G,
     told: &mut JobReply,
     starved: bool,
 ) -> Answer
@@ -69,6 +70,7 @@ fn answer<N: Node<Parcel<Files>>>(
 {
     let entry = enter(message, moment, starved);
     finish_node::<Service, N>(&filer.depot, seat, grant, &entry.job, told);
+    gate.finish(told);
     answered(entry, told, HandleForm::Plain)
 }
 
@@ -103,12 +105,12 @@ fn serve_on<N: TaskNode<Parcel<Files>, ParcelKinds>, G: Gate>(
     };
     match outcome {
         Ended::Replied => {
-            let answer = answer(filer, seat, grant, message, moment, &mut told, false);
+            let answer = answer(filer, seat, grant, message, moment, gate, &mut told, false);
             gate.pass(place);
             Served::Done(answer)
         }
         Ended::Starved => {
-            let answer = answer(filer, seat, grant, message, moment, &mut told, true);
+            let answer = answer(filer, seat, grant, message, moment, gate, &mut told, true);
             gate.pass(place);
             Served::Done(answer)
         }

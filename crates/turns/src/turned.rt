@@ -5,6 +5,8 @@ use crate::envelope::Envelope;
 use affinity::Affinity;
 use depot::Refusal;
 use nfs_values::ConnectionNumber;
+use service::JobReply;
+use statistics::Tally;
 
 /// What came of a turn.
 pub enum Turn {
@@ -49,6 +51,9 @@ pub struct Place {
 pub trait Gate {
     /// A call came to a place.
     fn pass(&self, place: Place);
+
+    /// A call was finished by its entry, of which this was told. One that moves isn't finished.
+    fn finish(&self, _told: &JobReply) {}
 }
 
 /// What lets every call pass.
@@ -57,4 +62,15 @@ pub struct Unwatched;
 
 impl Gate for Unwatched {
     fn pass(&self, _place: Place) {}
+}
+
+/// It counts what is told of calls that are finished.
+impl Gate for Tally {
+    fn pass(&self, _place: Place) {}
+
+    fn finish(&self, told: &JobReply) {
+        if let JobReply::Replied(reply) = told {
+            self.count(reply);
+        }
+    }
 }

@@ -24,6 +24,15 @@ pub enum ProgramFault {
     /// A thread can't be started.
     #[error("fault 66")]
     Thread,
+    /// A running server can't be reached.
+    #[error("fault 67")]
+    Connect,
+    /// A running server gives no reply, or none that can be read.
+    #[error("fault 68")]
+    Reply,
+    /// A running server refuses a call.
+    #[error("fault 69")]
+    CallRefused,
     /// Memory ran out.
     #[error("refused 90")]
     NoMemory,
@@ -69,6 +78,9 @@ impl ProgramFault {
             | ProgramFault::Listen
             | ProgramFault::Accept
             | ProgramFault::Thread
+            | ProgramFault::Connect
+            | ProgramFault::Reply
+            | ProgramFault::CallRefused
             | ProgramFault::NoMemory
             | ProgramFault::BadLine { .. }
             | ProgramFault::Output => 1,

@@ -3,6 +3,7 @@
 use crate::device::Device;
 use crate::intake::MOST_OWED;
 use crate::lane::Lane;
+use statistics::ReplyCounts;
 use turns::{Filer, Worker};
 
 impl<D: Device, R> Lane<D, R> {
@@ -40,6 +41,11 @@ impl<D: Device, R> Lane<D, R> {
     /// How many calls that may leave blocks to tend were admitted, wrapping at 2^64.
     pub fn leaving_calls(&self) -> u64 {
         self.intake.leaving
+    }
+
+    /// The replies that were made at once, to records that no worker answers, by kind.
+    pub fn at_once(&self) -> &ReplyCounts {
+        &self.intake.at_once
     }
 
     /// Whether so much may be owed to a connection that is read further.

@@ -9,6 +9,7 @@ use affinity::Layout;
 use outboxes::Outboxes;
 use rpc_msg::Offer;
 use slab::Slab;
+use statistics::ReplyCounts;
 use std::alloc::Global;
 use std::snapshot::Snapshot;
 use std::sync::Arc;
@@ -77,6 +78,7 @@ impl<D: Device, R> Lane<D, R> {
                 owed: Due::nothing(),
                 handles: offer.handles(),
                 leaving: 0,
+                at_once: ReplyCounts::new(),
             },
             filer,
             connections: Slab::new(alloc),

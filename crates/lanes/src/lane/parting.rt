@@ -53,6 +53,7 @@ impl<D: Device + Drop, R: Drop> Lane<D, R> {
             owed: _,
             handles: _,
             leaving: _,
+            at_once: _,
         } = intake;
         LaneParts {
             worker,

@@ -2,7 +2,8 @@
 use Rattle.std.proofs.lemmas.Nat.{pow_pos}
 use Rattle.std.proofs.Math.Seq.{drop-append_seam}
 use Rattle.std.specs.Prelude.{Option, None}
-use Rattle.std.proofs.Common.{◌≡◌, ◌≢◌, ℕ, suc, ◌+◌, ◌*◌, ◌-◌, ◌^◌, ◌<◌, List, [], ◌∷◌, ◌++◌, length, drop, set, sym, refl, ap, ◌∙◌, subst, arith, ⊎_elim, zero-mul, mul-pos}
+use Rattle.std.proofs.Common.{◌≡◌, ◌≢◌, ℕ, suc, ◌+◌, ◌*◌, ◌-◌, ◌^◌, ◌<◌, List, [], ◌∷◌, ◌++◌, length, drop, set, sym, refl, ap, ◌∙◌, subst, arith}
+use Rattle.std.proofs.Common.{⊎_elim, zero-mul, mul-pos}
 use mathlib.Core.Option.{some, some-ne-none}
 use lib.ListN.{get_elem?}
 use Rattle.crossbeam_queue.specs.Fifo.{Pushes, Pops, Forks, Merges, Learns}
@@ -11,7 +12,8 @@ use Rattle.atomic_table.proofs.Lists.{set_else}
 use Rattle.depot_rule.specs.Sums.{total}
 use Rattle.depot_rule.specs.lemmas.Sums.{total-append}
 use Rattle.turns.specs.declared.shared_waiting.view.View.{View}
-use Rattle.turns.specs.shared_waiting.Balance.{part, added, taken, opening, left, right, both, spent, keyed, grown, HasGrown, Balanced, IsWhole, Leaves, FitsIn, AllFit}
+use Rattle.turns.specs.shared_waiting.Balance.{part, added, taken, opening, left, right, both, spent, keyed, grown, HasGrown, Balanced, IsWhole, Leaves}
+use Rattle.turns.specs.shared_waiting.Balance.{FitsIn, AllFit}
 use Rattle.turns.proofs.shared_waiting.Sums.{total-set, total-alone, total-at, power, halves, joined, part-none}
 
 -- what was there of two passes and what came beside it

@@ -23,7 +23,8 @@ loop-link-init g c =
       up = omega arith;
       few = omega arith;
       placed = c.requires.placed;
-      gone = λ s stands. begins (TookTold c.args.handles g.S.AnswerSink.took) (told_none c.args.handles g.S.AnswerSink.took g.met.S.AnswerSink.took_none) L (verifier_in c.args.filer.now) s c.args.moment c.args.sink.now
+      gone = λ s stands. begins (TookTold c.args.handles g.S.AnswerSink.took)
+          (told_none c.args.handles g.S.AnswerSink.took g.met.S.AnswerSink.took_none) L (verifier_in c.args.filer.now) s c.args.moment c.args.sink.now
           c.args.message (known c.args.pass.now) (node_lent L c.args.grant.now) (view c.args.seat.now) stands;
     }
 
@@ -64,7 +65,8 @@ loop-link-preserved g c =
       placed = subst (λ (x : Link). IsNextPlaced L x) c.in-On.is c.link_on.ensures.placed;
       gone = λ s stands.
           let gone = c.loop-link.invariant.gone s stands in
-          goes-on took (told_more c.args.handles g.S.AnswerSink.took g.met.S.AnswerSink.took_more) L ver s c.args.moment c.args.sink.now c.loop-link.sink c.link_on.new.sink m pass pass' l l' w w'
+          goes-on took (told_more c.args.handles g.S.AnswerSink.took g.met.S.AnswerSink.took_more) L ver s c.args.moment c.args.sink.now
+          c.loop-link.sink c.link_on.new.sink m pass pass' l l' w w'
           gone c.in-On.next c.link_on.new.told
           (subst (λ (x : Link). HasLinked took L ver gone.between m c.args.moment pass l w c.loop-link.sink x c.link_on.new.told pass' l' w'
           c.link_on.new.sink) c.in-On.is
@@ -116,7 +118,8 @@ returns-in-Over-clause-chained g c s stands =
     let w = view c.loop-link.seat in
     let w' = view c.link_on.new.seat in
     let gone = c.loop-link.invariant.gone s stands in
-    stops took (told_more c.args.handles g.S.AnswerSink.took g.met.S.AnswerSink.took_more) L ver s c.args.moment c.args.sink.now c.loop-link.sink c.link_on.new.sink m pass pass' l l' w w'
+    stops took (told_more c.args.handles g.S.AnswerSink.took g.met.S.AnswerSink.took_more) L ver s c.args.moment c.args.sink.now c.loop-link.sink
+    c.link_on.new.sink m pass pass' l l' w w'
     gone c.in-Over.tried c.link_on.new.told
     (subst (λ (x : Link). HasLinked took L ver gone.between m c.args.moment pass l w c.loop-link.sink x c.link_on.new.told pass' l' w'
     c.link_on.new.sink) c.in-Over.is
@@ -138,12 +141,14 @@ returns-clause-few g c =
 pub returns-clause-placed : goal.returns-clause-placed
 returns-clause-placed g c =
     let L = layout_in c.args.filer.now in
-    last-placed (TookTold c.args.handles g.S.AnswerSink.took) (told_more c.args.handles g.S.AnswerSink.took g.met.S.AnswerSink.took_more) L (verifier_in c.args.filer.now) c.requires.stands.0 c.args.moment c.loop-link.message
+    last-placed (TookTold c.args.handles g.S.AnswerSink.took) (told_more c.args.handles g.S.AnswerSink.took g.met.S.AnswerSink.took_more) L
+    (verifier_in c.args.filer.now) c.requires.stands.0 c.args.moment c.loop-link.message
     (node_lent L c.loop-link.grant) (node_lent L c.try_on.new.grant) c.try_on.result c.try_on.new.told c.try_on.ensures.ran
 
 pub returns-clause-chained : goal.returns-clause-chained
 returns-clause-chained g c s stands =
     let L = layout_in c.args.filer.now in
-    lasts (TookTold c.args.handles g.S.AnswerSink.took) (told_more c.args.handles g.S.AnswerSink.took g.met.S.AnswerSink.took_more) L (verifier_in c.args.filer.now) s c.args.moment c.args.sink.now c.loop-link.sink
+    lasts (TookTold c.args.handles g.S.AnswerSink.took) (told_more c.args.handles g.S.AnswerSink.took g.met.S.AnswerSink.took_more) L
+    (verifier_in c.args.filer.now) s c.args.moment c.args.sink.now c.loop-link.sink
     c.loop-link.message c.loop-link.invariant.placed (known c.loop-link.pass) (node_lent L c.loop-link.grant) (node_lent L c.try_on.new.grant)
     (view c.loop-link.seat) (c.loop-link.invariant.gone s stands) c.try_on.result c.try_on.new.told c.try_on.ensures.ran

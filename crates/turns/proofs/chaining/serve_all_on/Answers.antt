@@ -61,9 +61,11 @@ end_on-kept-requires-clause-can g c =
     let s = left_standing v pass (Some c.args.message) in
     let stands = stands-first L ver s c.args.message v pass (picked-kept v pass (Some c.args.message) c.args.message refl)
     c.requires.ready (node_lent L c.in-Ok.grant) (view c.begin_on.new.seat) c.requires.seat.1.0 c.in-Ok.ensures.granted in
-    can-end (TookTold c.args.handles g.S.AnswerSink.took) (told_more c.args.handles g.S.AnswerSink.took g.met.S.AnswerSink.took_more) L ver s c.args.moment c.args.filer.now.depot.layout.lawful c.args.sink.now
+    can-end (TookTold c.args.handles g.S.AnswerSink.took) (told_more c.args.handles g.S.AnswerSink.took g.met.S.AnswerSink.took_more) L ver s
+    c.args.moment c.args.filer.now.depot.layout.lawful c.args.sink.now
     c.chain-tried.new.sink c.chain-tried.new.sink c.chain-tried.new.told (known c.chain-tried.new.pass) (node_lent L c.chain-tried.new.grant)
-    (view c.chain-tried.new.seat) c.chain-tried.result c.has_eight.ensures c.servers_are_roomy.ensures.begins c.servers_are_roomy.ensures.stays c.replies_fit.ensures.offered
+    (view c.chain-tried.new.seat) c.chain-tried.result c.has_eight.ensures c.servers_are_roomy.ensures.begins c.servers_are_roomy.ensures.stays
+    c.replies_fit.ensures.offered
     (c.chain-tried.ensures.chained s stands)
 
 pub returns-clause-ready : goal.returns-clause-ready
@@ -75,9 +77,11 @@ returns-clause-ready g c =
     let s = left_standing v pass (Some c.args.message) in
     let stands = stands-first L ver s c.args.message v pass (picked-kept v pass (Some c.args.message) c.args.message refl)
     c.requires.ready (node_lent L c.in-Ok.grant) (view c.begin_on.new.seat) c.requires.seat.1.0 c.in-Ok.ensures.granted in
-    end-ready (TookTold c.args.handles g.S.AnswerSink.took) (told_more c.args.handles g.S.AnswerSink.took g.met.S.AnswerSink.took_more) L ver s c.args.moment c.args.filer.now.depot.layout.lawful c.args.sink.now
+    end-ready (TookTold c.args.handles g.S.AnswerSink.took) (told_more c.args.handles g.S.AnswerSink.took g.met.S.AnswerSink.took_more) L ver s
+    c.args.moment c.args.filer.now.depot.layout.lawful c.args.sink.now
     c.chain-tried.new.sink c.end_on-kept.new.sink c.chain-tried.new.told (known c.chain-tried.new.pass) (node_lent L c.chain-tried.new.grant)
-    (view c.chain-tried.new.seat) (view c.end_on-kept.new.seat) c.end_on-kept.result c.chain-tried.result (c.chain-tried.ensures.chained s stands) c.end_on-kept.ensures.ended
+    (view c.chain-tried.new.seat) (view c.end_on-kept.new.seat) c.end_on-kept.result c.chain-tried.result (c.chain-tried.ensures.chained s stands)
+    c.end_on-kept.ensures.ended
 
 pub returns-clause-few : goal.returns-clause-few
 returns-clause-few g c =
@@ -85,7 +89,8 @@ returns-clause-few g c =
     let begun = granted-size L (view c.args.seat.now) (view c.begin_on.new.seat) (affinity_of c.args.message.affinity) (node_lent L c.in-Ok.grant)
     c.in-Ok.ensures.granted in
     let few = c.chain-tried.ensures.few in
-    let ended = ended-size (TookTold c.args.handles g.S.AnswerSink.took) L (view c.chain-tried.new.seat) (view c.end_on-kept.new.seat) (node_lent L c.chain-tried.new.grant)
+    let ended = ended-size (TookTold c.args.handles g.S.AnswerSink.took) L (view c.chain-tried.new.seat) (view c.end_on-kept.new.seat)
+    (node_lent L c.chain-tried.new.grant)
     c.end_on-kept.result c.chain-tried.new.sink c.end_on-kept.new.sink c.chain-tried.result c.chain-tried.new.told c.end_on-kept.ensures.ended in
     omega (arith, begun, few, ended)
 
@@ -98,9 +103,11 @@ returns-clause-placed g c =
     let s = left_standing v pass (Some c.args.message) in
     let stands = stands-first L ver s c.args.message v pass (picked-kept v pass (Some c.args.message) c.args.message refl)
     c.requires.ready (node_lent L c.in-Ok.grant) (view c.begin_on.new.seat) c.requires.seat.1.0 c.in-Ok.ensures.granted in
-    end-placed (TookTold c.args.handles g.S.AnswerSink.took) (told_more c.args.handles g.S.AnswerSink.took g.met.S.AnswerSink.took_more) L ver s c.args.moment c.args.filer.now.depot.layout.lawful c.args.sink.now
+    end-placed (TookTold c.args.handles g.S.AnswerSink.took) (told_more c.args.handles g.S.AnswerSink.took g.met.S.AnswerSink.took_more) L ver s
+    c.args.moment c.args.filer.now.depot.layout.lawful c.args.sink.now
     c.chain-tried.new.sink c.end_on-kept.new.sink c.chain-tried.new.told (known c.chain-tried.new.pass) (node_lent L c.chain-tried.new.grant)
-    (view c.chain-tried.new.seat) (view c.end_on-kept.new.seat) c.end_on-kept.result c.chain-tried.result (c.chain-tried.ensures.chained s stands) c.end_on-kept.ensures.ended
+    (view c.chain-tried.new.seat) (view c.end_on-kept.new.seat) c.end_on-kept.result c.chain-tried.result (c.chain-tried.ensures.chained s stands)
+    c.end_on-kept.ensures.ended
     c.chain-tried.ensures.placed
 
 pub returns-clause-served : goal.returns-clause-served
@@ -112,6 +119,8 @@ returns-clause-served g c s picked =
     (node_lent L c.in-Ok.grant) (view c.begin_on.new.seat) c.requires.seat.1.0 c.in-Ok.ensures.granted in
     subst (λ (x : Chained). HasServedOn took L s c.args.moment c.args.sink.now x c.end_on-kept.new.sink
     (left_standing (view c.end_on-kept.new.seat) (known c.chain-tried.new.pass) c.end_on-kept.result)) (sym c.ended_by-chained.ensures)
-    (end-served took (told_more c.args.handles g.S.AnswerSink.took g.met.S.AnswerSink.took_more) L ver s c.args.moment c.args.filer.now.depot.layout.lawful c.args.sink.now
+    (end-served took (told_more c.args.handles g.S.AnswerSink.took g.met.S.AnswerSink.took_more) L ver s c.args.moment
+    c.args.filer.now.depot.layout.lawful c.args.sink.now
     c.chain-tried.new.sink c.end_on-kept.new.sink c.chain-tried.new.told (known c.chain-tried.new.pass) (node_lent L c.chain-tried.new.grant)
-    (view c.chain-tried.new.seat) (view c.end_on-kept.new.seat) c.end_on-kept.result c.chain-tried.result (c.chain-tried.ensures.chained s stands) c.end_on-kept.ensures.ended)
+    (view c.chain-tried.new.seat) (view c.end_on-kept.new.seat) c.end_on-kept.result c.chain-tried.result (c.chain-tried.ensures.chained s stands)
+    c.end_on-kept.ensures.ended)

@@ -23,5 +23,6 @@ returns-in-Entered-clause-ended g c =
       subst (λ (j : Job). IsFinished filer_behaviour w (number_of L l.affinity) (entry_of L l.affinity l.parcels j c.args.told.now) u) c.deref.ensures
           c.finish_node.ensures.finished,
       refl,
-      λ reply is. subst (λ (a : Addressed). g.S.AnswerSink.took c.args.sink.now (a ∷ []) c.take_answer.new.self) (c.answered.ensures reply is) c.take_answer.ensures,
+      λ reply is. subst (λ (a : Addressed). g.S.AnswerSink.took c.args.sink.now (a ∷ []) c.take_answer.new.self) (c.answered.ensures reply is)
+          c.take_answer.ensures,
     )

@@ -116,7 +116,8 @@ returns-clause-linked g c b stands =
     link-on L c.args.filer.now.depot.layout.lawful (verifier_in c.args.filer.now) b c.args.message c.requires.placed c.args.moment
     (known c.args.pass.now) l (view c.args.seat.now) stands c.try_on.new.told l' c.in-Entered.entry
     (entered-so L c.args.message c.args.moment l l' c.try_on.result c.try_on.new.told c.in-Entered.entry _ c.in-Entered.is c.try_on.ensures.ran)
-    (known c.pick_ahead.new.pass) (view c.go_on_by.new.seat) (TookTold c.args.handles g.S.AnswerSink.took) c.args.sink.now c.take_answer.new.self c.in-Some.next c.answered.new.told same
+    (known c.pick_ahead.new.pass) (view c.go_on_by.new.seat) (TookTold c.args.handles g.S.AnswerSink.took) c.args.sink.now c.take_answer.new.self
+    c.in-Some.next c.answered.new.told same
     (subst (λ (k : Option Message). IsAhead (known c.args.pass.now) (known c.pick_ahead.new.pass) k) c.in-Some.is c.pick_ahead.ensures.ahead)
     gone.0 gone.1 gone.2
     (λ reply is. subst (λ (a : Addressed). g.S.AnswerSink.took c.args.sink.now (a ∷ []) c.take_answer.new.self) (c.answered.ensures reply is)

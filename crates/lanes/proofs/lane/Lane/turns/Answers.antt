@@ -35,7 +35,8 @@ invariant_of-self g c =
           (turns-told _ _ (layout_in (arc_value l.filer)) l.offer l.index l.count (known l.intake.pass).put _ c.args.moment
           (standing_of l.intake.worker) l.intake.outboxes i.outboxes c.turns.result (standing_of i.worker)
           (subst (λ (f : Filer). HasTurnedOn (TookTold (form_of l.offer) HasPutAll) (layout_in f) (standing_of l.intake.worker) c.args.moment l.intake.outboxes
-          c.turns.result i.outboxes (standing_of i.worker)) same (subst (λ form. HasTurnedOn (TookTold form HasPutAll) (layout_in c.deref.result.now) (standing_of l.intake.worker) c.args.moment
+          c.turns.result i.outboxes (standing_of i.worker)) same
+          (subst (λ form. HasTurnedOn (TookTold form HasPutAll) (layout_in c.deref.result.now) (standing_of l.intake.worker) c.args.moment
           l.intake.outboxes c.turns.result i.outboxes (standing_of i.worker)) c.handles-handles.ensures c.turns.ensures.turned)) c.turns.ensures.once l.story);
     }
 
@@ -45,7 +46,8 @@ returns-clause-turned g c =
     let i = c.turns.new.self in
     let same : c.deref.result.now ≡ arc_value l.filer = search rules in
     subst (λ (f : Filer). HasTurnedOn (TookTold (form_of l.offer) HasPutAll) (layout_in f) (standing_of l.intake.worker) c.args.moment l.intake.outboxes
-    c.turns.result i.outboxes (standing_of i.worker)) same (subst (λ form. HasTurnedOn (TookTold form HasPutAll) (layout_in c.deref.result.now) (standing_of l.intake.worker) c.args.moment
+    c.turns.result i.outboxes (standing_of i.worker)) same
+    (subst (λ form. HasTurnedOn (TookTold form HasPutAll) (layout_in c.deref.result.now) (standing_of l.intake.worker) c.args.moment
     l.intake.outboxes c.turns.result i.outboxes (standing_of i.worker)) c.handles-handles.ensures c.turns.ensures.turned)
 
 pub returns-clause-identity : goal.returns-clause-identity

@@ -7,7 +7,8 @@ use Rattle.turns.proofs.worker.Worker.pick_beside.Goals as goal
 pub invariant_of-self : goal.invariant_of-self
 invariant_of-self g c =
     record {
-      balance = picks (known c.args.self.now.pass) (known c.next_beside.new.pass) c.args.self.now.kept c.next_beside.result (entries_of (view c.args.self.now.seat))
+      balance = picks (known c.args.self.now.pass) (known c.next_beside.new.pass) c.args.self.now.kept c.next_beside.result
+          (entries_of (view c.args.self.now.seat))
           c.args.self.now.balance (rw c.take-kept.ensures.value at c.next_beside.ensures.next) c.next_beside.ensures.put;
       in_hand = c.args.self.now.in_hand;
       none_open = c.args.self.now.none_open;

@@ -17,8 +17,10 @@ invariant_of-self-2 g c =
     let t = left_standing (view c.serve_all-kept.new.seat) (known c.serve_all-kept.new.pass) c.serve_all-kept.result.kept in
     let served = c.serve_all-kept.ensures.served s (picked-kept s.view s.pass s.kept c.in-Some.message kept) in
     record {
-      balance = served-even (TookTold c.args.handles g.S.AnswerSink.took) L s t c.args.moment c.args.sink.now _ c.serve_all-kept.new.sink served c.args.self.now.balance;
-      in_hand = served-hand (TookTold c.args.handles g.S.AnswerSink.took) L s t c.args.moment c.args.sink.now _ c.serve_all-kept.new.sink served (batches_in c.args.self.now.hand)
+      balance = served-even (TookTold c.args.handles g.S.AnswerSink.took) L s t c.args.moment c.args.sink.now _ c.serve_all-kept.new.sink served
+          c.args.self.now.balance;
+      in_hand = served-hand (TookTold c.args.handles g.S.AnswerSink.took) L s t c.args.moment c.args.sink.now _ c.serve_all-kept.new.sink served
+          (batches_in c.args.self.now.hand)
           c.args.self.now.in_hand;
       none_open = c.serve_all-kept.ensures.ready.none_open;
     }
@@ -28,12 +30,14 @@ returns-clause-inside g c = record {
   seat = c.serve_all-kept.ensures.seat;
   opened = c.serve_all-kept.ensures.ready.opened;
   pass = c.serve_all-kept.ensures.of;
-  layout = known-still (layout_in c.args.filer.now) (known c.args.self.now.pass) (known c.serve_all-kept.new.pass) c.serve_all-kept.ensures.share c.requires.layout;
+  layout = known-still (layout_in c.args.filer.now) (known c.args.self.now.pass) (known c.serve_all-kept.new.pass) c.serve_all-kept.ensures.share
+      c.requires.layout;
   hand = c.requires.hand;
   kept = c.serve_all-kept.ensures.placed;
 }
 
 pub returns-clause-tried : goal.returns-clause-tried
 returns-clause-tried g c =
-    tried-all (TookTold c.args.handles g.S.AnswerSink.took) (layout_in c.args.filer.now) (standing_of c.args.self.now) _ c.args.moment c.args.sink.now c.serve_all-kept.new.sink
+    tried-all (TookTold c.args.handles g.S.AnswerSink.took) (layout_in c.args.filer.now) (standing_of c.args.self.now) _ c.args.moment c.args.sink.now
+    c.serve_all-kept.new.sink
     c.in-Some.message (rw c.take.ensures.value at c.in-Some.is) _ c.serve_all-kept.ensures.served

@@ -19,8 +19,10 @@ invariant_of-self-2 g c =
     record {
       balance = tried-even L v w c.in-Some.message c.args.moment c.serve.result c.told-kept.result.0 c.told-kept.result.1 (known c.args.self.now.pass)
           c.serve.ensures.served c.told-kept.ensures
-          (subst (λ (k : Option Message). IsEven (known c.args.self.now.pass) (entries_of v) k) (rw c.take.ensures.value at c.in-Some.is) c.args.self.now.balance);
-      in_hand = tried-hand L v w c.in-Some.message c.args.moment c.serve.result (batches_in c.args.self.now.hand) c.serve.ensures.served c.args.self.now.in_hand;
+          (subst (λ (k : Option Message). IsEven (known c.args.self.now.pass) (entries_of v) k) (rw c.take.ensures.value at c.in-Some.is)
+          c.args.self.now.balance);
+      in_hand = tried-hand L v w c.in-Some.message c.args.moment c.serve.result (batches_in c.args.self.now.hand) c.serve.ensures.served
+          c.args.self.now.in_hand;
       none_open = c.serve.ensures.ready.none_open;
     }
 
@@ -40,5 +42,6 @@ returns-clause-inside g c =
 
 pub returns-clause-tried : goal.returns-clause-tried
 returns-clause-tried g c =
-    has-tried (layout_in c.args.filer.now) c.args.self.now _ c.in-Some.message c.args.moment c.serve.result c.told-kept.result.1 (rw c.take.ensures.value at c.in-Some.is)
+    has-tried (layout_in c.args.filer.now) c.args.self.now _ c.in-Some.message c.args.moment c.serve.result c.told-kept.result.1
+    (rw c.take.ensures.value at c.in-Some.is)
     c.serve.ensures.served c.told-kept.ensures

@@ -1,7 +1,7 @@
 use Rattle.std.proofs.Common.{◌≡◌}
 use Rattle.lanes.specs.Words.{filer_in, identity_in}
 use Rattle.server.specs.Lanes.{seats_of}
-use Rattle.server.proofs.visits.close_ended.Given as goal
+use Rattle.server.proofs.closing.close_ended.Given as goal
 
 abbrev pub invariant-loop-place : goal.invariant-loop-place
 invariant-loop-place g l = record {

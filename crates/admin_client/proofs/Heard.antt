@@ -1,0 +1,93 @@
+-- What a server hears of a call.
+use Rattle.std.proofs.Common.{◌≡◌, ℕ, ◌^◌, ◌<◌, Bool, true, ◌&&◌, eqb, List, [], ◌++◌, Some, Ok, Err, refl, sym, ap, ◌∙◌, arith, inl}
+use Rattle.std.proofs.lemmas.List.Folds.{list_any_at}
+use Rattle.xdr.specs.Shape.{Fits, spelling}
+use Rattle.nfs_model.specs.Types as model
+use Rattle.nfs_model.specs.World.{Heard}
+use Rattle.nfs_values.specs.declared.procedure.Procedure.{Procedure}
+use Rattle.nfs_values.specs.declared.procedure.Procedure.TheVariants as procedures
+use Rattle.nfs_values.specs.Procedure.{all_procedures, numbers_of}
+use Rattle.nfs_types.specs.Arguments.{asked, growing_shape}
+use Rattle.nfs_types.specs.lemmas.Exact.{asked_again}
+use Rattle.rpc_msg.specs.declared.handle_form.HandleForm.{HandleForm}
+use Rattle.rpc_msg.specs.declared.handle_form.HandleForm.TheVariants.{Plain, OfRun}
+use Rattle.rpc_msg.specs.declared.offer.Offer.{Offer}
+use Rattle.rpc_msg.specs.Offer.{form_of, offers, offers_program}
+use Rattle.rpc_msg.specs.Replies.{auth_shape, no_verifier}
+use Rattle.rpc_msg.specs.Heads.{Head, Call, head_by, known_version, nobody, version_by}
+use Rattle.rpc_msg.specs.Calls.{IsCallBy, call_shape, call_value}
+use Rattle.rpc_msg.specs.Handles.{call_heard}
+use Rattle.rpc_msg.specs.Records.{asked_by, heard_from, heard_by}
+use Rattle.rpc_msg.specs.Hearing.{AsksForBy}
+use Rattle.admin_client.specs.declared.call.AdminCall.{AdminCall}
+use Rattle.admin_client.specs.declared.call.AdminCall.TheVariants.{Census, Grow}
+use Rattle.admin_client.specs.Asking.{arguments_of, call_bytes, number_of, model_call, procedure_of, CallFits}
+
+-- that a call's spelling is found again, as `rpc_msg` has it
+abbrev pub FoundAgain : Type 0
+FoundAgain = (offer : Offer) (bytes : List ℕ) (xid : ℕ) (procedure : Procedure) (who : model.Credential) (arguments : List ℕ)
+    → IsCallBy offer bytes xid procedure who arguments → head_by offer bytes ≡ Call xid procedure who arguments
+
+-- the program is offered where one of its procedures is
+census_offered : (offer : Offer) → offers offer procedures.Census ≡ true → version_by offer 536870913 ≡ Some 1
+census_offered offer e =
+    let test : Procedure → Bool = λ p. offers offer p && eqb (numbers_of p).0 536870913 in
+    let one : offers_program offer 536870913 ≡ true = list_any_at test all_procedures 23 procedures.Census (omega arith) (rw e refl) in
+    rw one refl
+
+grow_offered : (offer : Offer) → offers offer procedures.Grow ≡ true → version_by offer 536870913 ≡ Some 1
+grow_offered offer e =
+    let test : Procedure → Bool = λ p. offers offer p && eqb (numbers_of p).0 536870913 in
+    let one : offers_program offer 536870913 ≡ true = list_any_at test all_procedures 24 procedures.Grow (omega arith) (rw e refl) in
+    rw one refl
+
+verifier_fits : Fits auth_shape no_verifier
+verifier_fits = (omega arith, (omega arith, omega arith))
+
+call_fits : (xid number : ℕ) → xid < 2 ^ 32 → number < 3 → Fits call_shape (call_value xid (536870913, number) 1 no_verifier no_verifier)
+call_fits xid number small few =
+    (small, (omega arith, (omega arith, (omega arith, (omega arith, (omega arith, (verifier_fits, verifier_fits)))))))
+
+-- it is spelled as a call that is offered
+is_call : (offer : Offer) (xid : ℕ) (call : AdminCall) → xid < 2 ^ 32 → offers offer (procedure_of call) ≡ true
+    → IsCallBy offer (call_bytes xid call) xid (procedure_of call) nobody (arguments_of call)
+is_call offer xid Census small e = record {
+  version = 1;
+  cred = no_verifier;
+  verf = no_verifier;
+  offered = e;
+  version_is = census_offered offer e;
+  acts_for = inl (refl, refl);
+  fits = call_fits xid 1 small (omega arith);
+  bytes_are = refl;
+}
+is_call offer xid (Grow volume ranges) small e = record {
+  version = 1;
+  cred = no_verifier;
+  verf = no_verifier;
+  offered = e;
+  version_is = grow_offered offer e;
+  acts_for = inl (refl, refl);
+  fits = call_fits xid 2 small (omega arith);
+  bytes_are = refl;
+}
+
+arguments_asked : (call : AdminCall) → CallFits call → asked (procedure_of call) (arguments_of call) ≡ Ok (model_call call)
+arguments_asked Census fits = asked_again procedures.Census [] model.Census (tt, ((tt, refl), refl))
+arguments_asked (Grow volume ranges) fits =
+    asked_again procedures.Grow (spelling growing_shape (volume.0, ranges)) (model.Grow volume.0 ranges) ((volume.0, ranges), ((fits, refl), refl))
+
+-- it has no handle
+call_same : (form : HandleForm) (call : AdminCall) → call_heard form (model_call call) ≡ model_call call
+call_same Plain call = refl
+call_same (OfRun run) Census = refl
+call_same (OfRun run) (Grow volume ranges) = refl
+
+abbrev heard_as : ℕ → model.Call → Heard
+heard_as xid call = record { xid = xid; asked = model.Ask call nobody }
+
+pub call_is_heard : FoundAgain → (offer : Offer) (xid : ℕ) (call : AdminCall) → xid < 2 ^ 32 → CallFits call
+    → offers offer (procedure_of call) ≡ true → AsksForBy offer (call_bytes xid call) xid (model_call call) nobody
+call_is_heard again offer xid call small fits e =
+    ap (heard_from (form_of offer)) (again offer (call_bytes xid call) xid (procedure_of call) nobody (arguments_of call) (is_call offer xid call small e))
+    ∙ rw (arguments_asked call fits) (ap (λ (c : model.Call). Ok (heard_as xid c)) (call_same (form_of offer) call))

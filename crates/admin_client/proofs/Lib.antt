@@ -1,0 +1,4 @@
+pub mod Items
+pub mod Heads
+pub mod Pieces
+pub mod Heard

@@ -1,0 +1,4 @@
+pub mod Asking
+pub mod Telling
+pub mod Incoming
+pub mod Over

@@ -1,0 +1,3 @@
+pub mod Quotas
+pub mod Times
+pub mod Periods

@@ -1,0 +1,90 @@
+//! The command lines of `census` and `grow`.
+
+use crate::admin_running::Growing;
+use crate::choice::Command;
+use clap::{Arg, ArgAction, ArgMatches, value_parser};
+use nfs_values::VolumeNumber;
+use std::alloc::{AllocError, Global};
+use std::net::SocketAddr;
+
+/// What stands behind the help of `census`.
+const CENSUS_EXAMPLE: &str = "\
+Example:
+  filer census --server 127.0.0.1:2049
+
+It prints a row for each volume: its number, how many blocks of 4,096 bytes it has, how many of
+them are in files, and how many are not.";
+
+/// What stands behind the help of `grow`.
+const GROW_EXAMPLE: &str = "\
+Example:
+  filer grow --volume 0 --ranges 1 --server 127.0.0.1:2049
+
+A range has 1,024 blocks of 4,096 bytes. A volume has at most 16 ranges, and those that are added
+are taken from the spare ones of the server.";
+
+/// An option that has to be given, with its value.
+fn option<'a>(alloc: Global, name: &'a str, value: &'a str, help: &'a str) -> Arg<'a> {
+    Arg::new(alloc, name)
+        .long(name)
+        .value_name(value)
+        .help(help)
+        .required(true)
+        .action(ArgAction::Set)
+}
+
+/// `--server ADDR`.
+fn server<'a>(alloc: Global) -> Arg<'a> {
+    option(
+        alloc,
+        "server",
+        "ADDR",
+        "Where it listens, as 127.0.0.1:2049",
+    )
+}
+
+/// An option with a number of 32 bits.
+fn number<'a>(alloc: Global, name: &'a str, value: &'a str, help: &'a str) -> Arg<'a> {
+    option(alloc, name, value, help).value_parser(value_parser!(u32))
+}
+
+/// `census --server ADDR`.
+pub(crate) fn census<'a>(alloc: Global) -> Result<clap::Command<'a>, AllocError> {
+    clap::Command::new(alloc, "census")
+        .about("Prints how many blocks the volumes of a running server have")
+        .after_help(CENSUS_EXAMPLE)
+        .arg(server(alloc))
+}
+
+/// `grow --volume V --ranges N --server ADDR`, in any order.
+pub(crate) fn grow<'a>(alloc: Global) -> Result<clap::Command<'a>, AllocError> {
+    clap::Command::new(alloc, "grow")
+        .about("Adds ranges to a volume of a running server")
+        .after_help(GROW_EXAMPLE)
+        .arg(number(alloc, "volume", "V", "The volume's number, from 0"))?
+        .arg(number(alloc, "ranges", "N", "How many ranges are added"))?
+        .arg(server(alloc))
+}
+
+/// The server's address.
+fn server_in(matches: &ArgMatches<'_>) -> Option<SocketAddr> {
+    matches.get_str("server")?.parse::<SocketAddr>().ok()
+}
+
+/// What `census` asks for.
+pub(crate) fn census_in<'a>(matches: &ArgMatches<'a>) -> Option<Command<'a>> {
+    let server = server_in(matches)?;
+    Some(Command::Census { server })
+}
+
+/// What `grow` asks for.
+pub(crate) fn grow_in<'a>(matches: &ArgMatches<'a>) -> Option<Command<'a>> {
+    let server = server_in(matches)?;
+    let volume = VolumeNumber(matches.get_one::<u32>("volume")?);
+    let ranges = matches.get_one::<u32>("ranges")?;
+    Some(Command::Grow(Growing {
+        server,
+        volume,
+        ranges,
+    }))
+}

@@ -1,0 +1,92 @@
+//! Connections that are taken while a clerk writes what happens to them.
+
+use crate::accepting::{Door, accept_all};
+use crate::crew::Mail;
+use crate::fault::{ServerFault, of_serving};
+use crate::inquiry::Asked;
+use crate::options::Options;
+use clerk::{Clerk, write_until_end};
+use std::alloc::Global;
+use std::io::Write;
+use std::net::{Net, TcpListener, TcpStream};
+use std::rt::Clock;
+use std::sync::Wait;
+use std::thread;
+use std::thread::Threads;
+
+/// A clerk, and where it writes.
+#[derive(Drop)]
+pub(crate) struct Scribe<'a, E> {
+    pub(crate) clerk: Clerk,
+    pub(crate) err: &'a mut E,
+    pub(crate) alloc: Global,
+}
+
+/// Takes the connections that are asked for, and waits for their ends.
+fn take_connections<R: Wait + Clock>(
+    rt: &R,
+    mail: &Mail,
+    listener: &TcpListener,
+    options: &Options,
+) -> Result<(), ServerFault> {
+    let mut door = Door::new(options, &mail.boxes, &mail.common);
+    match accept_all(rt, listener, &mut door) {
+        Ok(()) => {
+            door.wait_for_all(rt);
+            Ok(())
+        }
+        Err(fault) => Err(of_serving(fault)),
+    }
+}
+
+/// Takes the connections that are asked for, waits for their ends, and tells the clerk that nothing
+/// more is left.
+fn take_and_end<R: Wait + Clock>(
+    rt: &R,
+    mail: &Mail,
+    listener: &TcpListener,
+    options: &Options,
+) -> Result<(), ServerFault> {
+    let taken = take_connections(rt, mail, listener, options);
+    if let Some(journal) = &mail.common.journal {
+        journal.end();
+    }
+    taken
+}
+
+/// Writes what is left for the clerk, until nothing more is, and statistics, as the options say.
+fn write<R: Wait + Clock, E: Write>(rt: &R, mail: &Mail, options: &Options, scribe: Scribe<'_, E>) {
+    let Scribe { mut clerk, err } = scribe;
+    let asked = Asked {
+        common: &mail.common,
+    };
+    if let Some(journal) = &mail.common.journal {
+        write_until_end(rt, &mut clerk, journal, &asked, options.statistics, err);
+    }
+}
+
+/// Takes the connections that are asked for, and waits for their ends, while a clerk writes what
+/// happens, if there is one: each on a thread, or where none can be made one after the other.
+pub(crate) fn accept<R, E>(
+    rt: &R,
+    mail: &Mail,
+    listener: &TcpListener,
+    options: &Options,
+    scribe: Option<Scribe<'_, E>>,
+) -> Result<(), ServerFault>
+where
+    R: Threads + Wait + Clock + Copy + Send,
+    R: Net<Listener = TcpListener, Stream = TcpStream>,
+    E: Write,
+{
+    let Some(scribe) = scribe else {
+        return take_connections(rt, mail, listener, options);
+    };
+    let there = *rt;
+    let (taken, ()) = thread::join(
+        rt,
+        move || take_and_end(&there, mail, listener, options),
+        move || write(rt, mail, options, scribe),
+    );
+    taken
+}

@@ -1,0 +1,29 @@
+-- Buckets of times, in microseconds.
+use Rattle.std.specs.Prelude.{◌≡◌, ℕ, ◌+◌, ◌-◌, ◌*◌, ◌/◌, ◌%◌, ◌^◌, ◌<◌, ◌≤◌, nat_lt, if◌then◌else◌, List, length, slice_index, slice_set, min, sum, take}
+use Rattle.statistics.specs.Wrapping.{wrapping_sum}
+
+-- the longest time of a bucket: each up to 3 has one of its own, and from there on each power of two has four up to the next one
+abbrev pub top_of : ℕ → ℕ
+top_of bucket = if nat_lt bucket 4 then bucket else (bucket % 4 + 5) * 2 ^ (bucket / 4 - 1) - 1
+
+-- a time is in the first bucket whose longest time isn't below it
+pub record IsBucketOf (time bucket : ℕ) : Type 0 where
+  pub fits : time ≤ top_of bucket
+  pub first : (before : ℕ) → before + 1 ≡ bucket → top_of before < time
+
+-- so many calls took so long each, of which times above 2^32 - 1 aren't told apart
+pub record HasPut (time calls : ℕ) (before after : List ℕ) : Type 0 where
+  pub bucket : ℕ
+  pub is : IsBucketOf (min time (2 ^ 32 - 1)) bucket
+  pub put : after ≡ slice_set before bucket (wrapping_sum (slice_index before bucket) calls)
+
+-- by the end of a bucket so many percent of the calls are through
+abbrev pub AreThrough : List ℕ → ℕ → ℕ → Type 0
+AreThrough counts percent bucket = percent * sum counts ≤ 100 * sum (take (bucket + 1) counts)
+
+-- the longest time of the first bucket by whose end so many percent of the calls are through
+pub record IsPercentile (counts : List ℕ) (percent time : ℕ) : Type 0 where
+  pub bucket : ℕ
+  pub is : time ≡ top_of bucket
+  pub through : AreThrough counts percent bucket
+  pub first : (before : ℕ) → before < bucket → AreThrough counts percent before → ⊥

@@ -1,0 +1,137 @@
+//! What was counted, in all, and the line that tells it.
+
+ghost use Rattle.std.specs.Prelude.{◌≡◌, ◌%◌, ◌^◌, min, sum, take};
+
+use crate::counts::ReplyCounts;
+use crate::histogram::Histogram;
+use crate::kind::ReplyKind;
+use crate::tally::Tally;
+use std::fmt;
+
+/// Replies by kind, times of calls, and how often a node was refused. Each count wraps at 2^64.
+#[derive(Clone, Copy)]
+pub struct Totals {
+    replies: ReplyCounts,
+    times: Histogram,
+    busy: u64,
+}
+
+impl Totals {
+    ghost use Rattle.statistics.specs.Buckets.{IsPercentile};
+    ghost use Rattle.statistics.specs.Counts.{count_of, kinds_in};
+    ghost use Rattle.statistics.specs.Histogram.{buckets_in};
+    ghost use Rattle.statistics.specs.Totals.{busy_in, replies_in, times_in};
+    ghost use Rattle.statistics.specs.Totals.{HasAdded, IsNothing, IsSince};
+
+    /// Nothing was counted.
+    pub fn new() -> Totals
+        ensures { IsNothing result }
+    {
+        Totals {
+            replies: ReplyCounts::new(),
+            times: Histogram::new(),
+            busy: 0,
+        }
+    }
+
+    /// These replies, times and refusals of nodes.
+    pub fn from_parts(replies: ReplyCounts, times: Histogram, busy: u64) -> Totals
+        ensures replies { replies_in result ≡ replies }
+        ensures times { times_in result ≡ times }
+        ensures busy { busy_in result ≡ busy }
+    {
+        Totals {
+            replies,
+            times,
+            busy,
+        }
+    }
+
+    /// Adds what a thread counted so far.
+    pub fn add(&mut self, tally: &Tally) {
+        self.plus(&tally.read());
+    }
+
+    /// The counts of both together.
+    pub fn plus(&mut self, more: &Totals)
+        ensures { HasAdded self.old more.now self.new }
+    {
+        self.replies.add(&more.replies);
+        self.times.add(&more.times);
+        self.busy = self.busy.wrapping_add(more.busy);
+    }
+
+    /// What was counted since an earlier time, at which the counts were those.
+    pub fn since(&self, earlier: &Totals) -> Totals
+        ensures { IsSince self.now earlier.now result }
+    {
+        Totals {
+            replies: self.replies.since(&earlier.replies),
+            times: self.times.since(&earlier.times),
+            busy: self.busy.wrapping_sub(earlier.busy),
+        }
+    }
+
+    /// The longest time of the bucket in which so many percent of the timed calls are through, in
+    /// microseconds; 0 where no call was timed (`Histogram::percentile`).
+    pub fn percentile(&self, percent: u32) -> u64
+        ensures { IsPercentile (buckets_in (times_in self.now)) (min percent 100) result }
+    {
+        self.times.percentile(percent)
+    }
+
+    /// How many calls were answered with results, whatever they told.
+    pub fn calls(&self) -> u64
+        ensures { result ≡ sum (take 27 (kinds_in (replies_in self.now))) % 2 ^ 64 }
+    {
+        self.replies.answered()
+    }
+
+    /// How many replies of this kind there were: to calls of a procedure, or refusals of a kind.
+    pub fn replies(&self, kind: ReplyKind) -> u64
+        ensures { result ≡ count_of (replies_in self.now) kind }
+    {
+        self.replies.of(kind)
+    }
+
+    /// How often a node was refused, since another lane had it.
+    pub fn busy(&self) -> u64
+        ensures { result ≡ busy_in self.now }
+    {
+        self.busy
+    }
+}
+
+/// Writes how many replies there were of each of these kinds, but for those of which there were
+/// none: the first after `before`, the others after a comma.
+fn write_kinds<W: fmt::Write>(
+    f: &mut fmt::Formatter<W>,
+    replies: &ReplyCounts,
+    kinds: &[ReplyKind],
+    before: &str,
+) -> fmt::Result {
+    let mut between = before;
+    for kind in kinds {
+        let count = replies.of(*kind);
+        if count > 0 {
+            let name = kind.name();
+            write!(f, "{between}{name} {count}")?;
+            between = ", ";
+        }
+    }
+    Ok(())
+}
+
+impl fmt::Display for Totals {
+    fn fmt<W: fmt::Write>(&self, f: &mut fmt::Formatter<W>) -> fmt::Result {
+        let calls = self.calls();
+        write!(f, "calls {calls}")?;
+        write_kinds(f, &self.replies, &ReplyKind::PROCEDURES, ": ")?;
+        let (half, most) = (self.percentile(50), self.percentile(99));
+        write!(f, "; p50 {half} us, p99 {most} us")?;
+        write_kinds(f, &self.replies, &ReplyKind::REFUSALS, "; refused: ")?;
+        let busy = self.busy;
+        let starved = self.replies(ReplyKind::SystemError);
+        write!(f, "; busy {busy}, starved {starved}")
+    }
+}
