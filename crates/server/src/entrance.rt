@@ -55,10 +55,21 @@ fn take_and_end<R: Wait + Clock>(
 }
 
 /// Writes what is left for the clerk, until nothing more is, and statistics, as the options say.
-fn write<R: Wait + Clock, E: Write>(rt: &R, mail: &Mail, options: &Options, scribe: Scribe<'_, E>) {
-    let Scribe { mut clerk, err } = scribe;
+fn write<R, E>(rt: &R, mail: &Mail, options: &Options, scribe: Scribe<'_, E>)
+where
+    R: Wait + Clock + Net<Listener = TcpListener, Stream = TcpStream>,
+    E: Write,
+{
+    let Scribe {
+        mut clerk,
+        err,
+        alloc,
+    } = scribe;
     let asked = Asked {
-        common: &mail.common,
+        rt,
+        alloc,
+        mail,
+        form: options.offer.handles(),
     };
     if let Some(journal) = &mail.common.journal {
         write_until_end(rt, &mut clerk, journal, &asked, options.statistics, err);

@@ -1,0 +1,2 @@
+pub mod Sums
+pub mod Tops

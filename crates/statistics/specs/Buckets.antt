@@ -17,13 +17,13 @@ pub record HasPut (time calls : ℕ) (before after : List ℕ) : Type 0 where
   pub is : IsBucketOf (min time (2 ^ 32 - 1)) bucket
   pub put : after ≡ slice_set before bucket (wrapping_sum (slice_index before bucket) calls)
 
--- by the end of a bucket so many percent of the calls are through
-abbrev pub AreThrough : List ℕ → ℕ → ℕ → Type 0
-AreThrough counts percent bucket = percent * sum counts ≤ 100 * sum (take (bucket + 1) counts)
+-- how many calls are through by the end of a bucket
+abbrev pub through_by : List ℕ → ℕ → ℕ
+through_by counts bucket = sum (take (bucket + 1) counts)
 
 -- the longest time of the first bucket by whose end so many percent of the calls are through
 pub record IsPercentile (counts : List ℕ) (percent time : ℕ) : Type 0 where
   pub bucket : ℕ
   pub is : time ≡ top_of bucket
-  pub through : AreThrough counts percent bucket
-  pub first : (before : ℕ) → before < bucket → AreThrough counts percent before → ⊥
+  pub through : percent * sum counts ≤ 100 * through_by counts bucket
+  pub first : (before : ℕ) → before < bucket → 100 * through_by counts before < percent * sum counts

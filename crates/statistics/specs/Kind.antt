@@ -65,7 +65,8 @@ abbrev pub kind_of : Reply → ReplyKind
 kind_of (replies.Success answer) = answer_kind answer
 kind_of (replies.Refused refusal) = refusal_kind refusal
 
--- the place of a kind among all: procedures by their numbers (RFC 1813 section 3.3), those of MOUNT, those of the admin program, and refusals
+-- the place of a kind among all: procedures by their numbers (RFC 1813 section 3.3), those of MOUNT, those of the admin program,
+-- refusals, and that memory ran out
 abbrev pub place_of : ReplyKind → ℕ
 place_of Null = 0
 place_of GetAttributes = 1
@@ -98,6 +99,6 @@ place_of ProgramUnavailable = 27
 place_of ProgramMismatch = 28
 place_of ProcedureUnavailable = 29
 place_of GarbageArguments = 30
-place_of SystemError = 31
-place_of RpcMismatch = 32
-place_of AuthError = 33
+place_of RpcMismatch = 31
+place_of AuthError = 32
+place_of SystemError = 33

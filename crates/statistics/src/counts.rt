@@ -1,6 +1,6 @@
 //! Replies, counted by kind.
 
-ghost use Rattle.std.specs.Prelude.{◌≡◌, ◌≢◌, ◌%◌, ◌^◌, replicate, sum, take};
+ghost use Rattle.std.specs.Prelude.{◌≡◌, ◌≢◌, ◌%◌, ◌^◌, replicate, slice_range, sum, take};
 
 use crate::kind::{KINDS, ReplyKind};
 use crate::wrapping::{add_each, less_each, sum_of};
@@ -52,6 +52,14 @@ impl ReplyCounts {
         ensures { result.now ≡ kinds_in self.now }
     {
         &self.counts
+    }
+
+    /// How many gave none, but for those that told that memory ran out.
+    pub fn refused(&self) -> u64
+        ensures { result ≡ sum (slice_range (kinds_in self.now) 27 33) % 2 ^ 64 }
+    {
+        let first = ReplyKind::PROCEDURES.len();
+        sum_of(&self.counts[first..first + ReplyKind::REFUSALS.len()])
     }
 
     /// How many gave results.

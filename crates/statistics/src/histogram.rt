@@ -1,7 +1,7 @@
 //! How long calls took.
 
-ghost use Rattle.std.specs.Prelude.{◌≡◌, ◌-◌, ◌<◌, ◌^◌, length, min, replicate, sum};
-ghost use Rattle.statistics.specs.Buckets.{top_of, IsBucketOf};
+ghost use Rattle.std.specs.Prelude.{◌≡◌, ℕ, ◌+◌, ◌-◌, ◌*◌, ◌<◌, ◌≤◌, ◌^◌, min, replicate, sum};
+ghost use Rattle.statistics.specs.Buckets.{through_by, top_of, IsBucketOf};
 
 use crate::wrapping::{add_each, less_each};
 
@@ -25,10 +25,10 @@ fn longest_in(bucket: usize) -> u64
     (quarters << (bucket / 4 - 1)) - 1
 }
 
-/// The bucket of a time.
+/// The bucket of a time. One of twice as long a time is four buckets further.
 fn bucket_of_short(micros: u32) -> usize
     ensures bucket { IsBucketOf micros result }
-    ensures within { result < 124 }
+    ensures few { (k : ℕ) → micros < 2 ^ (k + 3) → result < 4 * (k + 2) }
 {
     if micros < 8 {
         micros as usize
@@ -46,15 +46,32 @@ pub(crate) fn bucket_of(micros: u64) -> usize
 }
 
 /// The sum of counts.
-fn total_of(counts: &[u64]) -> u128
-    requires { length counts.now ≡ 124 }
-    ensures { result ≡ sum counts.now }
+fn total_of(counts: &[u64; BUCKETS]) -> u128
+    ensures sum { result ≡ sum counts.now }
+    ensures few { result ≤ 124 * 2 ^ 64 }
 {
     let mut total: u128 = 0;
     for count in counts {
         total += u128::from(*count);
     }
     total
+}
+
+/// The first bucket by whose end hundred times the calls are so many.
+fn first_through(counts: &[u64; BUCKETS], share: u128) -> usize
+    requires { share ≤ 100 * sum counts.now }
+    ensures within { result < 124 }
+    ensures through { share ≤ 100 * through_by counts.now result }
+    ensures first { (k : ℕ) → k < result → 100 * through_by counts.now k < share }
+{
+    let mut through: u128 = 0;
+    for (bucket, count) in counts.iter().enumerate() {
+        through += u128::from(*count);
+        if share <= 100 * through {
+            return bucket;
+        }
+    }
+    unreachable!()
 }
 
 /// How many calls took how long, by buckets of times. Each count wraps at 2^64.
@@ -99,14 +116,7 @@ impl Histogram {
         ensures { IsPercentile (buckets_in self.now) (min percent 100) result }
     {
         let share = u128::from(percent.min(100)) * total_of(&self.counts);
-        let mut passed: u128 = 0;
-        for (bucket, count) in self.counts.iter().enumerate() {
-            passed += u128::from(*count);
-            if share <= 100 * passed {
-                return longest_in(bucket);
-            }
-        }
-        unreachable!()
+        longest_in(first_through(&self.counts, share))
     }
 
     /// The calls of both together.

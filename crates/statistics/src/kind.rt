@@ -1,5 +1,9 @@
 //! Kinds of replies.
 
+ghost use Rattle.std.specs.Prelude.{◌≡◌, ◌<◌};
+ghost use Rattle.statistics.specs.Kind.{answer_kind, kind_of, place_of};
+ghost use Rattle.statistics.specs.Kind.{refusal_kind, unsupported_kind};
+
 use nfs_values::{Answer, Refusal, Reply, UnsupportedProcedure};
 
 /// What a reply tells of: the procedure whose results it gives (RFC 1813 section 3.3 and appendix
@@ -39,10 +43,10 @@ pub enum ReplyKind {
     ProgramMismatch,
     ProcedureUnavailable,
     GarbageArguments,
-    /// Memory ran out.
-    SystemError,
     RpcMismatch,
     AuthError,
+    /// Memory ran out.
+    SystemError,
 }
 
 /// How many kinds there are.
@@ -202,9 +206,9 @@ impl ReplyKind {
             ReplyKind::ProgramMismatch => "PROG_MISMATCH",
             ReplyKind::ProcedureUnavailable => "PROC_UNAVAIL",
             ReplyKind::GarbageArguments => "GARBAGE_ARGS",
-            ReplyKind::SystemError => "SYSTEM_ERR",
             ReplyKind::RpcMismatch => "RPC_MISMATCH",
             ReplyKind::AuthError => "AUTH_ERROR",
+            ReplyKind::SystemError => "SYSTEM_ERR",
         }
     }
 }

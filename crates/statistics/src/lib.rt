@@ -15,4 +15,4 @@ pub use counts::ReplyCounts;
 pub use histogram::Histogram;
 pub use kind::ReplyKind;
 pub use tally::Tally;
-pub use totals::Totals;
+pub use totals::{Refusals, Totals};

@@ -1,6 +1,6 @@
 //! What was counted, in all, and the line that tells it.
 
-ghost use Rattle.std.specs.Prelude.{◌≡◌, ◌%◌, ◌^◌, min, sum, take};
+ghost use Rattle.std.specs.Prelude.{◌≡◌, ◌%◌, ◌^◌, min, slice_range, sum, take};
 
 use crate::counts::ReplyCounts;
 use crate::histogram::Histogram;
@@ -87,6 +87,20 @@ impl Totals {
         self.replies.answered()
     }
 
+    /// How many calls were refused, but for those for which there was no memory.
+    pub fn refused(&self) -> u64
+        ensures { result ≡ sum (slice_range (kinds_in (replies_in self.now)) 27 33) % 2 ^ 64 }
+    {
+        self.replies.refused()
+    }
+
+    /// The refusals, to be told.
+    pub fn refusals(&self) -> Refusals<'_> {
+        Refusals {
+            replies: &self.replies,
+        }
+    }
+
     /// How many replies of this kind there were: to calls of a procedure, or refusals of a kind.
     pub fn replies(&self, kind: ReplyKind) -> u64
         ensures { result ≡ count_of (replies_in self.now) kind }
@@ -100,6 +114,13 @@ impl Totals {
     {
         self.busy
     }
+}
+
+/// Refusals by kind, but for calls for which there was no memory. Told, it is `refused: ` and how
+/// many there were of each kind, or nothing where there were none.
+#[derive(Clone, Copy)]
+pub struct Refusals<'a> {
+    replies: &'a ReplyCounts,
 }
 
 /// Writes how many replies there were of each of these kinds, but for those of which there were
@@ -122,6 +143,12 @@ fn write_kinds<W: fmt::Write>(
     Ok(())
 }
 
+impl fmt::Display for Refusals<'_> {
+    fn fmt<W: fmt::Write>(&self, f: &mut fmt::Formatter<W>) -> fmt::Result {
+        write_kinds(f, self.replies, &ReplyKind::REFUSALS, "refused: ")
+    }
+}
+
 impl fmt::Display for Totals {
     fn fmt<W: fmt::Write>(&self, f: &mut fmt::Formatter<W>) -> fmt::Result {
         let calls = self.calls();
@@ -129,7 +156,10 @@ impl fmt::Display for Totals {
         write_kinds(f, &self.replies, &ReplyKind::PROCEDURES, ": ")?;
         let (half, most) = (self.percentile(50), self.percentile(99));
         write!(f, "; p50 {half} us, p99 {most} us")?;
-        write_kinds(f, &self.replies, &ReplyKind::REFUSALS, "; refused: ")?;
+        if self.refused() > 0 {
+            let refusals = self.refusals();
+            write!(f, "; {refusals}")?;
+        }
         let busy = self.busy;
         let starved = self.replies(ReplyKind::SystemError);
         write!(f, "; busy {busy}, starved {starved}")
