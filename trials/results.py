@@ -238,11 +238,16 @@ def empty_lookup(call, volume):
     return opaque(call.service.handle(volume)) + root + root
 
 
+# Procedures by which nothing changes, and that run by names and attributes alone.
+LOOKS = (GETATTR, LOOKUP, ACCESS, READDIR, READDIRPLUS, FSINFO, PATHCONF)
+
+
 def of_an_empty_server(call):
-    """The results of a server with nothing but roots, or a status, where the call changes
-    nothing."""
+    """The results of a server with nothing but roots, or a status; None where that isn't said."""
     volume, fileid = call.node()
     procedure, root = call.procedure, root_attributes(volume)
+    if procedure not in LOOKS:
+        return None
     if fileid != 1:
         return STALE
     if procedure == GETATTR:
@@ -256,6 +261,4 @@ def of_an_empty_server(call):
         return empty_page(call, volume)
     if procedure == FSINFO:
         return words(1) + root + SIZES + hyper(call.service.largest) + TIMES_AND_PROPERTIES
-    if procedure == PATHCONF:
-        return words(1) + root + LIMITS_OF_A_PATH
-    return None
+    return words(1) + root + LIMITS_OF_A_PATH
