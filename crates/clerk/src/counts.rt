@@ -4,8 +4,8 @@ use crate::journal::Journal;
 use crate::page::Page;
 use crate::period::Period;
 use crate::quota::Quota;
-use crate::report::{Inquiry, Refusals, Report, has_refusals, totals_of};
-use statistics::Totals;
+use crate::report::{Inquiry, Report, totals_of};
+use statistics::{ReplyKind, Totals};
 use std::io::{self, Write};
 
 /// What was counted when it was told last, and what waits until it may be told.
@@ -55,6 +55,17 @@ fn put_failed<E: Write>(page: &mut Page, error: Option<i32>, count: u64, err: &m
             page.put(&format_args!("can't be accepted: {count}, {error}"), err);
         }
         None => page.put(&format_args!("can't be accepted: {count}"), err),
+    }
+}
+
+/// Puts the refusals among what was counted, by kind, and for how many calls there was no memory.
+fn put_refused<E: Write>(page: &mut Page, since: &Totals, err: &mut E) {
+    if since.refused() > 0 {
+        page.put(&since.refusals(), err);
+    }
+    let starved = since.replies(ReplyKind::SystemError);
+    if starved > 0 {
+        page.put(&format_args!("out of memory for calls: {starved}"), err);
     }
 }
 
@@ -114,10 +125,8 @@ impl Counts {
         }
         let totals = totals_of(inquiry.tallies());
         let since = totals.since(&self.at_refusal);
-        if has_refusals(&since) {
-            page.put(&Refusals(&since), err);
-            self.at_refusal = totals;
-        }
+        put_refused(page, &since, err);
+        self.at_refusal = totals;
     }
 
     /// Puts the line of statistics, if it is due.

@@ -16,6 +16,6 @@ pub use event::{Event, Reason};
 pub use journal::Journal;
 pub use period::Period;
 pub use quota::Quota;
-pub use report::{Inquiry, Refusals, Report, Used};
+pub use report::{Inquiry, Report, Used};
 pub use times::{Span, Times};
 pub use writing::{Clerk, write_until_end};

@@ -23,7 +23,7 @@ pub struct Times {
 
 impl Times {
     ghost use Rattle.std.specs.Prelude.{◌↔◌, ◌≤◌, ◌++◌, ◌⊎◌, [], replicate, true, false};
-    ghost use Rattle.std.specs.Prelude.{IfNone, IfOk, IfSome, IsNone};
+    ghost use Rattle.std.specs.Prelude.{IfNone, IfOk, IfSome, IsNone, None};
     ghost use Rattle.clerk.specs.Times.{times_in};
 
     /// No call, and room for so many times.
@@ -48,6 +48,19 @@ impl Times {
         self.behind.push_back(Span { since, calls }).is_ok()
     }
 
+    /// Takes the calls that came first, if there are some.
+    fn next(&mut self) -> Option<Span>
+        ensures some { IfSome result (λ span.
+            times_in self.old ≡ replicate span.calls span.since ++ times_in self.new) }
+        ensures first { self.new.first ≡ None }
+        ensures none { IfNone result ((times_in self.old ≡ []) × (times_in self.new ≡ [])) }
+    {
+        if let Some(span) = self.first.take() {
+            return Some(span);
+        }
+        self.behind.pop_front()
+    }
+
     /// Takes the first calls, as many as came at one time, but at most so many.
     pub fn take(&mut self, most: usize) -> Option<Span>
         ensures taken { IfSome result (λ span.
@@ -59,12 +72,8 @@ impl Times {
         if most == 0 {
             return None;
         }
-        let span = match self.first.take() {
-            Some(span) => span,
-            None => match self.behind.pop_front() {
-                Some(span) => span,
-                None => return None,
-            },
+        let Some(span) = self.next() else {
+            return None;
         };
         if span.calls <= most {
             return Some(span);

@@ -2,7 +2,7 @@
 
 use crate::client::{connect, is_refused, is_served};
 use crate::host::{options_for, start};
-use clerk::{Period, Refusals, Report, Times, Used};
+use clerk::{Period, Report, Times, Used};
 use statistics::Totals;
 
 #[test]
@@ -48,8 +48,6 @@ fn a_line_with_nothing_to_tell(rt: HostRuntime) {
     let wanted = "calls 0; p50 0 us, p99 0 us; busy 0, starved 0; connections 3, \
                   blocks 120, inodes 17";
     assert!(&rt; line.as_str() == wanted);
-    let none = format!(in rt.alloc(); "{}", Refusals(&report.totals)).expect(&rt, "memory");
-    assert!(&rt; none.is_empty());
 }
 
 #[test]

@@ -17,6 +17,7 @@ const MICROSECONDS_OF_A_SECOND: u64 = 1_000_000;
 const NANOSECONDS_OF_A_MICROSECOND: u32 = 1_000;
 
 /// Where a lane counts, and where it leaves word of what is refused.
+#[derive(Clone, Copy)]
 pub(crate) struct Counter<'a> {
     pub(crate) tally: &'a Tally,
     pub(crate) journal: &'a Journal,

@@ -17,6 +17,7 @@ use std::time::Duration;
 const PATIENCE: u64 = 5;
 
 /// What the clerk asks of a server whose lanes these are.
+#[derive(Drop)]
 pub(crate) struct Asked<'a, R> {
     pub(crate) rt: &'a R,
     pub(crate) alloc: Global,

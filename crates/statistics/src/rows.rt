@@ -4,6 +4,7 @@ use crate::{Histogram, ReplyCounts, ReplyKind, Tally, Totals};
 use nfs_values::{Answer, AuthFault, Refusal, Reply, Status, UnsupportedProcedure};
 use std::alloc::AllocError;
 use std::test::Fail;
+use std::thread;
 
 /// Times and the longest of their buckets, in microseconds: up to 7 each for itself, and then four
 /// buckets between a power of two and the next.
@@ -220,4 +221,12 @@ fn two_lanes_make_one_line(rt: HostRuntime) -> Result<(), AllocError> {
         "calls 1: DUMP 1; p50 7 us, p99 7 us; refused: GARBAGE_ARGS 1; busy 0, starved 0"
     );
     Ok(())
+}
+
+#[test]
+fn another_thread_reads(rt: HostRuntime) {
+    let tally = Tally::new();
+    let (_counted, seen) = thread::join(&rt, || tally.busy(), || tally.read().busy());
+    assert!(rt; seen <= 1);
+    assert_eq!(rt; tally.read().busy(), 1);
 }
