@@ -36,35 +36,31 @@ LACKING = (("refused 90\n", 1), ("fault 66\n", 1))
 
 MOST_INODES = 65536
 
-# What `export` tells people as it starts.
-TOLD = re.compile(rb"(exported: [^\n]+\n)*(may connect: [^\n]+\n)?(mount [^\n]+\n)?")
+# What `export` tells people as it starts, and then of connections and calls.
+TOLD = re.compile(
+    rb"(exported: [^\n]+\n)*(may connect: [^\n]+\n)?(mount [^\n]+\n)?"
+    rb"((connection \d+ (opened|closed)|can't be served|can't be accepted|refused): [^\n]+\n"
+    rb"|(out of memory for calls|lines that were left out): \d+\n|calls \d+[:;] [^\n]+\n)*"
+)
 
 
-class Way(namedtuple("Way", "command blocks owner")):
-    """A way to serve: the command, how many blocks its volume has, and what a client makes on
-    it."""
+class Way(namedtuple("Way", "command options blocks owner")):
+    """A way to serve: the command with what it is to tell, how many blocks its volume has, and
+    what a client makes on it."""
 
 
-SERVE, EXPORT = Way("serve", 4096, Owner), Way("export", 16384, MountedOwner)
+SERVE = Way("serve", [], 4096, Owner)
+EXPORT = Way("export", ["--log", "--stats", "1"], 16384, MountedOwner)
 
 
 class Server:
     """A server with the library that refuses."""
 
-    def __init__(self, filer, command, environment, connections):
-        words = [
-            command,
-            "--listen",
-            "127.0.0.1:0",
-            "--volumes",
-            "1",
-            "--workers",
-            "2",
-            "--connections",
-            str(connections),
-        ]
+    def __init__(self, filer, way, environment, connections):
+        words = [filer, way.command, "--listen", "127.0.0.1:0", "--volumes", "1", "--workers", "2"]
+        words += ["--connections", str(connections), *way.options]
         self.process = subprocess.Popen(
-            [filer] + words,
+            words,
             env=environment,
             stdin=subprocess.DEVNULL,
             stdout=subprocess.PIPE,
@@ -164,7 +160,7 @@ class Trial:
         self.xid = 0
         self.strange = 0
         self.owners = [way.owner(number, self.files) for number in range(CLIENTS)]
-        self.server = Server(filer, way.command, environment(library, self.page), CLIENTS + 1)
+        self.server = Server(filer, way, environment(library, self.page), CLIENTS + 1)
         self.links = []
 
     def check(self):
@@ -479,7 +475,7 @@ class Start(Trial):
         self.page.set(counting=1, refused=refused)
         self.xid = 0
         self.strange = 0
-        self.server = Server(filer, way.command, environment(library, self.page), 1)
+        self.server = Server(filer, way, environment(library, self.page), 1)
         self.links = []
 
     def serve(self):
