@@ -1,5 +1,5 @@
 -- Times of spans.
-use Rattle.std.proofs.Common.{◌≡◌, ◌∙◌, ℕ, ◌+◌, ◌-◌, ◌≤◌, List, [], ◌∷◌, ◌++◌, Option, Some, None, refl, sym, ap, arith, append_assoc}
+use Rattle.std.proofs.Common.{◌≡◌, ◌∙◌, ℕ, ◌-◌, ◌≤◌, List, [], ◌∷◌, ◌++◌, Option, None, refl, sym, ap, arith, append_assoc}
 use Rattle.std.specs.Prelude.{replicate, Bool, true, if◌then◌else◌}
 use Rattle.std.proofs.lemmas.List.{append-nil, replicate-append-replicate}
 use Rattle.clerk.specs.declared.times.Span.{Span}

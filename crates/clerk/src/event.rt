@@ -5,7 +5,7 @@ use std::fmt;
 use std::net::SocketAddr;
 
 /// Why a connection was closed.
-#[derive(Clone, Copy, PartialEq, Eq, Debug)]
+#[derive(Clone, Copy)]
 pub enum Reason {
     /// Its peer closed it, and all replies were written.
     PeerClosed,
@@ -42,7 +42,7 @@ impl Reason {
 }
 
 /// What happened to a connection. Its number is none of another connection of the server.
-#[derive(Clone, Copy, PartialEq, Eq, Debug)]
+#[derive(Clone, Copy)]
 pub enum Event {
     /// It was opened.
     Opened {

@@ -4,7 +4,7 @@ use statistics::{Tally, Totals};
 use std::fmt;
 
 /// How many blocks and inodes all volumes use.
-#[derive(Clone, Copy, PartialEq, Eq, Debug)]
+#[derive(Clone, Copy)]
 pub struct Used {
     pub blocks: u64,
     pub inodes: u64,

@@ -28,6 +28,7 @@ mod options;
 mod pace;
 mod peers;
 mod plan;
+mod printing;
 mod remains;
 mod room;
 mod round;

@@ -43,8 +43,8 @@ pub(crate) fn layout_of(
     }
 }
 
-/// The number of a run that begins now, from the clock: seconds, and nanoseconds in its low half. It
-/// is 0 where the clock can't be read.
+/// The number of a run that begins now, from the clock: seconds, and nanoseconds in its low half.
+/// It is 0 where the clock can't be read.
 pub fn run_now<R: Clock>(rt: &R) -> u64 {
     match rt.since_1970() {
         Ok(time) => {

@@ -22,6 +22,7 @@ use crate::fault::{ServerFault, of_clerk, of_start};
 use crate::mailbox::Mailbox;
 use crate::opening::{layout_of, open_lanes, verifier_for};
 use crate::options::Options;
+use crate::printing::{print_address, print_left};
 use crate::room::Room;
 use crate::socket::Socket;
 use crate::station::Station;
@@ -30,7 +31,7 @@ use clerk::{Clerk, Journal};
 use lanes::{Device, Lane};
 use std::alloc::{AllocError, Global};
 use std::io::{self, Write};
-use std::net::{Net, SocketAddr, TcpListener, TcpStream};
+use std::net::{Net, TcpListener, TcpStream};
 use std::rt::Clock;
 use std::sync::{Arc, Wait};
 use std::thread::Threads;
@@ -95,6 +96,20 @@ fn share(
     }
 }
 
+/// Stops the threads that run, since one can't be started.
+fn give_up<R: Threads + Drop>(
+    rt: &R,
+    mail: &Mail,
+    threads: Vec<Thread<R>>,
+    lanes: Vec<Lane<Socket, R>>,
+) -> ServerFault
+    requires { vec_len lanes + vec_len threads ≤ vec_capacity lanes }
+{
+    mail.stop();
+    let _lanes = join_all(rt, threads, lanes);
+    ServerFault::Thread
+}
+
 /// Opens a filer with as many lanes as the options have workers, which read by what they offer, and
 /// starts their threads. Where one can't be started those that run are stopped.
 fn start<R>(
@@ -127,9 +142,7 @@ where
     )?;
     let mail = Mail { boxes, common };
     if !start_all(rt, &mut tasks, &mut threads) {
-        mail.stop();
-        let _lanes = join_all(&rt, threads, lanes);
-        return Err(ServerFault::Thread);
+        return Err(give_up(&rt, &mail, threads, lanes));
     }
     Ok(Running {
         filer,
@@ -138,18 +151,6 @@ where
         lanes,
         room,
     })
-}
-
-/// Prints where a server listens.
-fn print_address<W: Write>(listener: &TcpListener, out: &mut W) -> Result<(), ServerFault> {
-    let address: SocketAddr = listener.local_addr().map_err(|_| ServerFault::Listen)?;
-    writeln!(out, "listening {address}").map_err(|_| ServerFault::Output)
-}
-
-/// Prints how many messages weren't finished.
-fn print_left<W: Write>(end: &FilerEnd, out: &mut W) -> Result<(), ServerFault> {
-    let count = end.unfinished();
-    writeln!(out, "left {count}").map_err(|_| ServerFault::Output)
 }
 
 /// Prints where a server listens, takes the connections that are asked for, and waits for their
