@@ -1,4 +1,5 @@
-"""Peers that harm themselves: others are served as if they weren't there, and what they asked whole is done."""
+"""Peers that harm themselves: others are served as if they weren't there, and what they asked
+whole is done."""
 
 import contextlib
 import pathlib
@@ -17,7 +18,6 @@ from peers import (
     connect,
     handle,
     hold,
-    opaque,
     read_all,
     read_arguments,
     read_reply,
@@ -25,8 +25,9 @@ from peers import (
     reset,
     write_arguments,
 )
-from plain import accepted, words
+from plain import accepted
 from stream_rows import JOINED, LIMITS, ROWS, WAITS, octets
+from xdr import opaque, words
 
 # More than the trials take.
 CONNECTIONS = 800
@@ -64,7 +65,10 @@ class Others:
             (18, handle(1)),
         ]
         self.answers = [setup.ask(*asked) for asked in self.asked]
-        hold(setup.read(file, 100, 10_000) == (bytes(range(256)) * 40)[100:10_100], "bytes that were written")
+        hold(
+            setup.read(file, 100, 10_000) == (bytes(range(256)) * 40)[100:10_100],
+            "bytes that were written",
+        )
         setup.close()
         self.failures, self.is_over, self.turns = [], False, 0
         self.threads = [threading.Thread(target=self.ask_on, args=(address,)) for _ in range(count)]
@@ -74,7 +78,10 @@ class Others:
             client = Client(address)
             while not self.is_over:
                 for asked, answer in zip(self.asked, self.answers):
-                    hold(client.ask(*asked) == answer, f"another peer's reply to procedure {asked[0]} differs")
+                    hold(
+                        client.ask(*asked) == answer,
+                        f"another peer's reply to procedure {asked[0]} differs",
+                    )
                 self.turns += 1
             client.close()
         except (Differs, OSError) as difference:
@@ -122,8 +129,8 @@ def one_byte_at_a_time(address):
 
 
 def one_byte_a_second(address):
-    """Peers that send one byte a second, in a mark, in a head and at the end of a record, hold up no other, and get their
-    replies."""
+    """Peers that send one byte a second, in a mark, in a head and at the end of a record, hold
+    up no other, and get their replies."""
     record = call(5, 1, handle(0))
     starts = [*range(7), *range(40, 46), *range(len(record) - 7, len(record) - 4)]
     peers = [connect(address) for _ in starts]
@@ -142,9 +149,13 @@ def one_byte_a_second(address):
 
 
 def fault_behind_calls(address):
-    """The calls before a fault are answered, and then the server closes the connection by itself."""
+    """The calls before a fault are answered, and then the server closes the connection by
+    itself."""
     for fault in (octets("ffffffff"), octets("80000000"), octets("80000008 00000001 00000001")):
-        stream = b"".join(call(xid, xid % 2, handle(0) if xid % 2 else b"") for xid in range(200)) + fault
+        stream = (
+            b"".join(call(xid, xid % 2, handle(0) if xid % 2 else b"") for xid in range(200))
+            + fault
+        )
         peer = connect(address)
         peer.sendall(stream)
         data, was_reset = read_all(peer)
@@ -154,10 +165,14 @@ def fault_behind_calls(address):
 
 
 def half_closed(address):
-    """All replies come after the peer's end of input, small ones and large ones; half a record is dropped."""
+    """All replies come after the peer's end of input, small ones and large ones; half a record
+    is dropped."""
     client = Client(address)
     file = client.create(0, b"holes", PIECE * 4)
-    calls = [call(xid, 1, handle(0)) if xid % 3 else call(xid, 6, read_arguments(file, 0, PIECE)) for xid in range(300)]
+    calls = [
+        call(xid, 1, handle(0)) if xid % 3 else call(xid, 6, read_arguments(file, 0, PIECE))
+        for xid in range(300)
+    ]
     for part in (b"", call(300, 1, handle(0))[:-1]):
         stream = b"".join(calls) + part
         peer = connect(address)
@@ -169,7 +184,8 @@ def half_closed(address):
 
 
 def asks_and_never_reads(address, count):
-    """A connection on which a thread sends so many calls for 64 KiB, and ends its input behind them."""
+    """A connection on which a thread sends so many calls for 64 KiB, and ends its input behind
+    them."""
     client = Client(address)
     file = client.look_up(0, b"large") or client.create(0, b"large", PIECE * 2)
     client.close()
@@ -188,7 +204,8 @@ def asks_and_never_reads(address, count):
 
 
 def never_reads(address):
-    """Others are served while the server can't get rid of its replies. Then the peer reads them, and all are there."""
+    """Others are served while the server can't get rid of its replies. Then the peer reads them,
+    and all are there."""
     count = 1000
     with Others(address):
         peer, thread = asks_and_never_reads(address, count)
@@ -215,7 +232,8 @@ def never_read_and_gone(address):
 
 
 def resets_in_a_call(address):
-    """A record that isn't whole has no effect, wherever it is broken off; the whole one before it has its own."""
+    """A record that isn't whole has no effect, wherever it is broken off; the whole one before
+    it has its own."""
     client = Client(address)
     file = client.create(0, b"broken")
     client.write(file, 0, b"a" * 5000)
@@ -237,9 +255,12 @@ def resets_in_a_call(address):
 
 
 def resets_behind_calls(address):
-    """Peers that send whole calls and reset, before a reply, between replies, or with half a call behind, harm no other; their
-    places are free again."""
-    calls = b"".join(call(xid, 6, read_arguments(handle(1), 0, 10)) if xid % 2 else call(xid, 1, handle(0)) for xid in range(99))
+    """Peers that send whole calls and reset, before a reply, between replies, or with half a
+    call behind, harm no other; their places are free again."""
+    calls = b"".join(
+        call(xid, 6, read_arguments(handle(1), 0, 10)) if xid % 2 else call(xid, 1, handle(0))
+        for xid in range(99)
+    )
     with Others(address):
         for turn in range(4):
             peers = [connect(address) for _ in range(24)]
@@ -260,13 +281,16 @@ def closes_at_once(address):
             peer = connect(address)
             peer.sendall(call(k, 8, handle(0) + opaque(name) + words(1, 0, 0, 0, 0, 0, 0)))
             peer.close()
-            hold(until(lambda: client.look_up(0, name)), f"the call of a peer that closed isn't done ({k})")
+            hold(
+                until(lambda: client.look_up(0, name)),
+                f"the call of a peer that closed isn't done ({k})",
+            )
     client.close()
 
 
 def closes_while_calls_run(address):
-    """A peer sends many WRITEs and goes away while they run: a beginning of them is done, the first at least where the
-    peer only closes, and all others are served as without it."""
+    """A peer sends many WRITEs and goes away while they run: a beginning of them is done, the
+    first at least where the peer only closes, and all others are served as without it."""
     client, rng = Client(address), random.Random(1)
     count = 16
     with Others(address):
@@ -274,7 +298,9 @@ def closes_while_calls_run(address):
             file = client.create(0, b"run%d" % (k % 2))
             peer = connect(address)
             pieces = [bytes([i + 1]) * PIECE for i in range(count)]
-            stream = b"".join(call(i, 7, write_arguments(file, i * PIECE, pieces[i])) for i in range(count))
+            stream = b"".join(
+                call(i, 7, write_arguments(file, i * PIECE, pieces[i])) for i in range(count)
+            )
             sender = threading.Thread(target=send_quietly, args=(peer, stream))
             sender.start()
             is_reset = k % 3 == 2
@@ -286,8 +312,13 @@ def closes_while_calls_run(address):
             sender.join()
             peer.close()
             is_done = lambda: client.read(file, 0, 1) == b"\1"
-            hold(k % 3 or until(is_done), "a call that came whole before its peer closed isn't done")
-            hold(until(lambda: is_beginning(client, file, pieces)), "calls are done that aren't a beginning of those sent")
+            hold(
+                k % 3 or until(is_done), "a call that came whole before its peer closed isn't done"
+            )
+            hold(
+                until(lambda: is_beginning(client, file, pieces)),
+                "calls are done that aren't a beginning of those sent",
+            )
             client.ask(12, handle(0) + opaque(b"run%d" % (k % 2)))
     client.close()
 
@@ -298,9 +329,12 @@ def send_quietly(peer, stream):
 
 
 def is_beginning(client, file, pieces):
-    """Whether the pieces that a file has are those up to some place, each whole, and stay so for a while."""
+    """Whether the pieces that a file has are those up to some place, each whole, and stay so for
+    a while."""
     found = [client.read(file, i * PIECE, PIECE) for i in range(len(pieces))]
-    count = next((i for i, (data, piece) in enumerate(zip(found, pieces)) if data != piece), len(pieces))
+    count = next(
+        (i for i, (data, piece) in enumerate(zip(found, pieces)) if data != piece), len(pieces)
+    )
     if any(any(data) for data in found[count:]):
         return False
     time.sleep(0.05)
@@ -344,12 +378,18 @@ def more_than_places(address):
 
 def ticks(process):
     """How long all threads of a process have run, in hundredths of a second (Linux)."""
-    told = pathlib.Path(f"/proc/{process.pid}/stat").read_text(encoding="ascii").rpartition(")")[2].split()
+    told = (
+        pathlib.Path(f"/proc/{process.pid}/stat")
+        .read_text(encoding="ascii")
+        .rpartition(")")[2]
+        .split()
+    )
     return int(told[11]) + int(told[12])
 
 
 def rests(server):
-    """Where nothing comes the threads sleep, though connections are open, half a record is there and a peer doesn't read."""
+    """Where nothing comes the threads sleep, though connections are open, half a record is there
+    and a peer doesn't read."""
     idle = [connect(server.address) for _ in range(10)]
     idle[0].sendall(call(1, 1, handle(0))[:30])
     peer, thread = asks_and_never_reads(server.address, 500)

@@ -1,4 +1,5 @@
-"""libnfs, a client in user space, over a running server: its programs, and its library's calls by ctypes."""
+"""libnfs, a client in user space, over a running server: its programs, and its library's calls
+by ctypes."""
 
 import ctypes
 import ctypes.util
@@ -33,7 +34,10 @@ class Attributes(ctypes.Structure):
 
     _fields_ = [
         (name, ctypes.c_uint64)
-        for name in "dev ino mode links uid gid rdev size block blocks atime mtime ctime atime_n mtime_n ctime_n used".split()
+        for name in (
+            "dev ino mode links uid gid rdev size block blocks atime mtime ctime"
+            " atime_n mtime_n ctime_n used"
+        ).split()
     ]
 
 
@@ -44,7 +48,8 @@ class Entry(ctypes.Structure):
 
 
 class Mounted:
-    """An export, mounted by the library. A call that fails raises OSError with the number of the error."""
+    """An export, mounted by the library. A call that fails raises OSError with the number of the
+    error."""
 
     def __init__(self, port, export):
         found = ctypes.util.find_library("nfs")
@@ -56,7 +61,9 @@ class Mounted:
         self.library.nfs_get_error.restype = ctypes.c_char_p
         self.context = ctypes.c_void_p(self.library.nfs_init_context())
         # the ports are set by what stands behind the address
-        url = ctypes.c_void_p(self.library.nfs_parse_url_dir(self.context, url_of(port, export).encode()))
+        url = ctypes.c_void_p(
+            self.library.nfs_parse_url_dir(self.context, url_of(port, export).encode())
+        )
         self.library.nfs_destroy_url(url)
         self.call("mount", "127.0.0.1", export)
 
@@ -74,14 +81,18 @@ class Mounted:
 
     def write(self, file, offset, data):
         while data:
-            count = self.call("pwrite", file, ctypes.c_uint64(offset), ctypes.c_uint64(len(data)), data)
+            count = self.call(
+                "pwrite", file, ctypes.c_uint64(offset), ctypes.c_uint64(len(data)), data
+            )
             offset, data = offset + count, data[count:]
 
     def read(self, file, offset, count):
         got = b""
         while len(got) < count:
             room = ctypes.create_string_buffer(count - len(got))
-            size = self.call("pread", file, ctypes.c_uint64(offset + len(got)), ctypes.c_uint64(len(room)), room)
+            size = self.call(
+                "pread", file, ctypes.c_uint64(offset + len(got)), ctypes.c_uint64(len(room)), room
+            )
             if size == 0:
                 break
             got += room.raw[:size]
@@ -110,7 +121,9 @@ def url_of(port, path):
 
 def program(name, *arguments):
     """What a program of libnfs prints."""
-    done = subprocess.run([name, *arguments], stdin=subprocess.DEVNULL, capture_output=True, timeout=SECONDS)
+    done = subprocess.run(
+        [name, *arguments], stdin=subprocess.DEVNULL, capture_output=True, timeout=SECONDS
+    )
     if done.returncode:
         raise Wrong(f"{name} ends with status {done.returncode}: {done.stderr[-200:]!r}")
     return done.stdout
@@ -186,6 +199,23 @@ def names_are_moved_and_removed(port, folder):
     volume.end()
 
 
+def links_and_devices_are_refused(port, folder):
+    volume = Mounted(port, "/vol0")
+    for asked in (
+        ("symlink", "/copied", "/symbolic"),
+        ("link", "/copied", "/hard"),
+        ("mknod", "/device", stat.S_IFCHR | 0o644, 0x103),
+        ("mknod", "/fifo", stat.S_IFIFO | 0o644, 0),
+    ):
+        try:
+            volume.call(*asked)
+        except OSError:
+            continue
+        raise Wrong(f"{asked} isn't refused")
+    expect(volume.names("/"), [".", "..", "copied"])
+    volume.end()
+
+
 def bytes_are_kept(port, folder):
     volume, numbers, shadow = Mounted(port, "/vol0"), random.Random(SEED), bytearray()
     file = volume.open("/shadowed", os.O_CREAT | os.O_RDWR)
@@ -237,6 +267,7 @@ CHECKS = (
     another_export_is_refused,
     directories_are_made_and_removed,
     names_are_moved_and_removed,
+    links_and_devices_are_refused,
     bytes_are_kept,
     attributes_are_set,
     all_names_are_listed,

@@ -1,4 +1,5 @@
-"""What the trials of refused memory share: the library that refuses, and a program that is run with it."""
+"""What the trials of refused memory share: the library that refuses, and a program that is run
+with it."""
 
 import atexit
 import mmap
@@ -13,7 +14,7 @@ from pathlib import Path
 HERE = Path(__file__).resolve().parent
 
 # What may be written to the error output of a program that ends with a fault: a line for people.
-WORDS = re.compile(rb"(error|filer (replay|serve) [^\n]+): [^\n]+\n")
+WORDS = re.compile(rb"(error|filer (replay|serve|export) [^\n]+): [^\n]+\n")
 
 # Words of the page, as in refuse.c.
 COUNTING, FROM_ACCEPT, REFUSED_CALL, ALL_AFTER, CALLS, REFUSALS, PAGE_WORDS = range(7)
@@ -42,7 +43,15 @@ def scratch():
 def build_library(folder):
     """Builds refuse.c in a folder, and answers the path of the library."""
     library = folder / "refuse.so"
-    options = ["-O1", "-fno-builtin", "-fPIC", "-shared", "-o", str(library), str(HERE / "refuse.c")]
+    options = [
+        "-O1",
+        "-fno-builtin",
+        "-fPIC",
+        "-shared",
+        "-o",
+        str(library),
+        str(HERE / "refuse.c"),
+    ]
     subprocess.run(compiler() + options, check=True)
     return library
 

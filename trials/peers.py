@@ -1,4 +1,5 @@
-"""A server over TCP, known by its address and by what it prints alone, and peers that talk to it."""
+"""A server over TCP, known by its address and by what it prints alone, and peers that talk to
+it."""
 
 import contextlib
 import errno
@@ -7,9 +8,10 @@ import struct
 import subprocess
 import time
 
-from plain import ADMIN, NFS, Call, Stream, accepted, call_of, words
+from plain import NFS, MOUNT, VERSIONS, Call, Stream, accepted, basic, call_of, exporting
+from xdr import opaque, words
 
-VOLUMES = 2
+BASIC = basic(2)
 SECONDS = 30
 # Linux: a port is chosen for the whole path, so that each pair of addresses has all ports.
 IP_BIND_ADDRESS_NO_PORT = 24
@@ -25,16 +27,25 @@ def hold(is_so, what):
 
 
 class Server:
-    """`filer serve`, for so many connections."""
+    """`filer serve` or `filer export`, for so many connections, or without an end where their
+    number is None."""
 
-    def __init__(self, filer, connections, workers=2):
-        numbers = ["--volumes", str(VOLUMES), "--workers", str(workers), "--connections", str(connections)]
-        command = [filer, "serve", "--listen", "127.0.0.1:0", *numbers]
-        self.process = subprocess.Popen(command, stdout=subprocess.PIPE, text=True)
+    def __init__(self, filer, connections, workers=2, command="serve", options=()):
+        volumes = ["--volumes", str(BASIC.volumes)]
+        numbers = [*volumes, "--workers", str(workers)]
+        numbers += [] if connections is None else ["--connections", str(connections)]
+        # what `export` says on standard error is for people
+        self.process = subprocess.Popen(
+            [filer, command, "--listen", "127.0.0.1:0", *numbers, *options],
+            stdout=subprocess.PIPE,
+            stderr=subprocess.DEVNULL if command == "export" else None,
+            text=True,
+        )
         first = self.process.stdout.readline().split()
         hold(len(first) == 2 and first[0] == "listening", f"no address: {first}")
         host, port = first[1].rsplit(":", 1)
         self.address = (host, int(port))
+        self.service = BASIC if command == "serve" else export_at(self.address)
 
     def use_up(self, seconds):
         """Connects until the server has had all of its connections and ends."""
@@ -127,8 +138,9 @@ def fits(found, reply):
 
 
 def match(heard, replies):
-    """Takes from what is owed what came. Answers what is owed still. Calls under one xid may be answered in any order, so that a
-    reply which fits another's call too is given to that one where nothing else fits."""
+    """Takes from what is owed what came. Answers what is owed still. Calls under one xid may be
+    answered in any order, so that a reply which fits another's call too is given to that one
+    where nothing else fits."""
     owed, given = list(range(len(heard))), {}
 
     def give(reply, seen):
@@ -151,10 +163,12 @@ def match(heard, replies):
     return [heard[place] for place in owed]
 
 
-def compare(stream, data, was_reset):
-    """Looks whether these are the replies that a stream is owed. A server that stops at a fault may reset what it
-    doesn't read, and replies on their way can be lost by that."""
-    _, fault, heard = Stream(VOLUMES).feed(stream)
+def compare(stream, data, was_reset, service=BASIC, known=lambda found: found):
+    """Looks whether these are the replies that a stream is owed; of a call `known` tells the
+    reply, where it can be said. A server that stops at a fault may reset what it doesn't read,
+    and replies on their way can be lost by that."""
+    _, fault, heard = Stream(service).feed(stream)
+    heard = [known(found) for found in heard]
     hold(fault or not was_reset, "a reset without a fault")
     replies, rest = records_of(data)
     owed = match(heard, replies)
@@ -162,14 +176,12 @@ def compare(stream, data, was_reset):
     hold(was_reset or not owed, f"{len(owed)} replies are missing")
 
 
-def call(xid, procedure, arguments=b"", program=NFS):
+def call(xid, procedure, arguments=b"", program=NFS, version=None):
     """A record with a call that has neither credential nor verifier."""
-    body = words(xid, 0, 2, program, 1 if program == ADMIN else 3, procedure, 0, 0, 0, 0) + arguments
+    body = (
+        words(xid, 0, 2, program, version or VERSIONS[program], procedure, 0, 0, 0, 0) + arguments
+    )
     return words(0x8000_0000 | len(body)) + body
-
-
-def opaque(data):
-    return words(len(data)) + data + bytes(-len(data) % 4)
 
 
 def handle(volume, fileid=1):
@@ -187,8 +199,9 @@ def write_arguments(file, offset, data):
 class Client:
     """A peer that asks one call at a time, and waits for its reply."""
 
-    def __init__(self, address, source="127.0.0.1"):
+    def __init__(self, address, source="127.0.0.1", service=BASIC):
         self.peer, self.xid, self.rest = connect(address, source), 0, b""
+        self.service = service
 
     def take(self):
         """The next reply."""
@@ -207,9 +220,8 @@ class Client:
         record = call(self.xid, procedure, arguments, program)
         self.peer.sendall(record)
         reply = self.take()
-        found = call_of(record[4:])
-        wanted = found.at_once(VOLUMES)
-        hold(found.is_reply(reply) and wanted in (None, reply), f"no reply to procedure {procedure}: {reply[:60].hex()}")
+        found = call_of(record[4:], self.service)
+        hold(found.is_reply(reply), f"no reply to procedure {procedure}: {reply[:60].hex()}")
         return reply[28:]
 
     def null(self):
@@ -243,6 +255,19 @@ class Client:
         self.peer.shutdown(socket.SHUT_WR)
         hold(self.peer.recv(1) == b"" and not self.rest, "a reply too many")
         self.peer.close()
+
+
+def export_at(address):
+    """What the `export` at an address offers: MNT of the first volume tells its run's verifier,
+    behind the volume and fileid of the root (RFC 1813, appendix I, section 5.2.1)."""
+    client = Client(address)
+    client.peer.sendall(call(1, 1, opaque(b"/vol0"), MOUNT))
+    reply = client.take()
+    verifier = reply[48:56]
+    wanted = accepted(1, 0, words(0) + opaque(words(0, 0, 1) + verifier) + words(2, 1, 0))
+    hold(reply == wanted, f"no reply to MNT: {reply[:80].hex()}")
+    client.close()
+    return exporting(BASIC.volumes, verifier)
 
 
 def read_reply(xid, data, is_end):

@@ -1,214 +1,127 @@
 """A plain reader of streams, records and calls, and a plain writer of replies.
 
-It is written from RFC 4506 (XDR), RFC 5531 (RPC, record marking), RFC 1813 (NFS version 3) and the choices of
-docs/SPECIFICATION.md, and knows nothing of the program: it says what the program has to do.
+It is written from RFC 4506 (XDR), RFC 5531 (RPC, record marking), RFC 1813 (NFS version 3, MOUNT)
+and the choices of docs/SPECIFICATION.md, and knows nothing of the program: it says what the program
+has to do.
 """
 
-import struct
+import results
+from results import BADHANDLE, FAILURE_PARTS, LINKS_AND_DEVICES, NOENT, NOTSUPP, OK, XDEV
+from xdr import NoSpelling, Reader, hyper, words
 
 MOST_OF_A_RECORD = 131_072
-NFS, ADMIN = 100_003, 0x2000_0001
+NFS, MOUNT, ADMIN = 100_003, 100_005, 0x2000_0001
+VERSIONS = {NFS: 3, MOUNT: 3, ADMIN: 1}
 RECORD_TOO_LONG, BAD_HEADER, NOT_A_CALL = 11, 12, 13
-OK, NOENT, ACCES, XDEV, NOTDIR, NAMETOOLONG, STALE, BADHANDLE = 0, 2, 13, 18, 20, 63, 70, 10_001
+# Whom a call without a credential acts for: uid, gid and further groups.
+NOBODY = (65_534, (65_534,))
+MIB = 2**20
+
+NOT_BASIC = (
+    results.ACCESS,
+    results.READDIRPLUS,
+    results.FSINFO,
+    results.PATHCONF,
+    *LINKS_AND_DEVICES,
+)
+BASIC = {NFS: {0, *FAILURE_PARTS} - set(NOT_BASIC), ADMIN: {0, 1, 2}}
+ALL = {NFS: {0, *FAILURE_PARTS}, MOUNT: set(range(6)), ADMIN: {0, 1, 2}}
 
 
-class NoSpelling(Exception):
-    """Bytes that spell no value of a type."""
+class Service:
+    """What a server offers, of how many volumes, and how its handles end."""
+
+    def __init__(self, offer, volumes, largest, verifier=b""):
+        self.offer, self.volumes, self.largest, self.verifier = offer, volumes, largest, verifier
+
+    def handle(self, volume, fileid=1):
+        return words(volume) + hyper(fileid) + self.verifier
+
+    def node(self, handle):
+        """The volume and fileid that a handle names, or None where it is bad. One of another run
+        names fileid 0, which no file has."""
+        volume, fileid = int.from_bytes(handle[:4], "big"), int.from_bytes(handle[4:12], "big")
+        if len(handle) != 12 + len(self.verifier) or volume >= self.volumes:
+            return None
+        return volume, fileid if handle[12:] == self.verifier else 0
 
 
-class Reader:
-    """Bytes that are read from left to right, by the grammar of XDR (RFC 4506)."""
-
-    def __init__(self, data):
-        self.data, self.at = data, 0
-
-    def fixed(self, size):
-        """Fixed opaque data with their padding, which has to be zero."""
-        whole = (size + 3) // 4 * 4
-        part = self.data[self.at : self.at + whole]
-        if len(part) < whole or any(part[size:]):
-            raise NoSpelling
-        self.at += whole
-        return part[:size]
-
-    def word(self):
-        return int.from_bytes(self.fixed(4), "big")
-
-    def hyper(self):
-        return int.from_bytes(self.fixed(8), "big")
-
-    def choice(self, *values):
-        value = self.word()
-        if value not in values:
-            raise NoSpelling
-        return value
-
-    def boolean(self):
-        return self.choice(0, 1) == 1
-
-    def opaque(self, most=2**32):
-        size = self.word()
-        if size > most:
-            raise NoSpelling
-        return self.fixed(size)
-
-    def optional(self, read):
-        return read() if self.boolean() else None
-
-    def end(self):
-        if self.at != len(self.data):
-            raise NoSpelling
-
-    # Types of RFC 1813, section 2.5 and 2.6.
-
-    def handle(self):
-        return self.opaque(64)
-
-    def where(self):
-        """diropargs3."""
-        return self.handle(), self.opaque()
-
-    def time(self):
-        return self.word(), self.word()
-
-    def time_to_set(self):
-        return self.time() if self.choice(0, 1, 2) == 2 else None
-
-    def to_set(self):
-        """sattr3."""
-        for _ in range(3):
-            self.optional(self.word)
-        self.optional(self.hyper)
-        self.time_to_set()
-        self.time_to_set()
-
-    def attributes(self):
-        """fattr3, of a file or a directory."""
-        self.choice(1, 2)
-        return self.fixed(80)
-
-    def wcc_data(self):
-        self.optional(lambda: self.fixed(24))
-        self.optional(self.attributes)
-
-    def entries(self):
-        """The entries of a READDIR."""
-        while self.boolean():
-            self.hyper()
-            self.opaque(255)
-            self.hyper()
-
-    def entries_plus(self):
-        """The entries of a READDIRPLUS, each with a handle."""
-        while self.boolean():
-            self.hyper()
-            self.opaque(255)
-            self.hyper()
-            self.optional(self.attributes)
-            self.choice(1)
-            self.handle()
+def basic(volumes):
+    """`replay` and `serve`."""
+    return Service(BASIC, volumes, 16 * MIB)
 
 
-def arguments(program, procedure, data):
-    """The parts of a call's arguments that say where it goes: handles and names, or numbers."""
-    r = Reader(data)
+def exporting(volumes, verifier):
+    """`export`, whose handles have the verifier of the run."""
+    return Service(ALL, volumes, 64 * MIB, verifier)
+
+
+def arguments_of_mount(r, procedure):
+    return (r.opaque(),) if procedure in (results.MNT, results.UMNT) else ()
+
+
+def arguments_of_nfs(r, procedure):
+    """The parts of a call's arguments that say what it asks."""
     parts = ()
-    if program == ADMIN:
-        parts = (r.word(), r.word()) if procedure == 2 else ()
-    elif procedure in (1, 18):  # GETATTR, FSSTAT
+    if procedure in (
+        results.GETATTR,
+        results.READLINK,
+        results.FSSTAT,
+        results.FSINFO,
+        results.PATHCONF,
+    ):
         parts = (r.handle(),)
-    elif procedure == 2:  # SETATTR
+    elif procedure == results.SETATTR:
         parts = (r.handle(),)
         r.to_set()
         r.optional(r.time)
-    elif procedure in (3, 12, 13):  # LOOKUP, REMOVE, RMDIR
+    elif procedure in (results.LOOKUP, results.REMOVE, results.RMDIR):
         parts = r.where()
-    elif procedure == 6:  # READ
+    elif procedure == results.ACCESS:
+        parts = (r.handle(), r.word())
+    elif procedure in (results.READ, results.COMMIT):
         parts = (r.handle(), r.hyper(), r.word())
-    elif procedure == 7:  # WRITE
+    elif procedure == results.WRITE:
         parts = (r.handle(), r.hyper(), r.word())
         r.choice(0, 1, 2)
         r.opaque()
-    elif procedure == 8:  # CREATE
+    elif procedure == results.CREATE:
         parts = r.where()
         if r.choice(0, 1, 2) == 2:
             r.fixed(8)
         else:
             r.to_set()
-    elif procedure == 9:  # MKDIR
+    elif procedure == results.MKDIR:
         parts = r.where()
         r.to_set()
-    elif procedure == 14:  # RENAME
+    elif procedure == results.SYMLINK:
+        parts = r.where()
+        r.to_set()
+        parts += (r.opaque(),)
+    elif procedure == results.MKNOD:
+        parts = (*r.where(), r.device())
+    elif procedure == results.RENAME:
         parts = r.where() + r.where()
-    elif procedure == 16:  # READDIR
+    elif procedure == results.LINK:
+        parts = (r.handle(), *r.where())
+    elif procedure == results.READDIR:
         parts = (r.handle(), r.hyper(), r.fixed(8), r.word())
-    elif procedure == 17:  # READDIRPLUS
+    elif procedure == results.READDIRPLUS:
         parts = (r.handle(), r.hyper(), r.fixed(8), r.word(), r.word())
-    elif procedure == 21:  # COMMIT
-        parts = (r.handle(), r.hyper(), r.word())
-    r.end()
     return parts
 
 
-# Of each procedure of NFS that has a status: how many optional parts its failure arm has.
-FAILURE_PARTS = {1: 0, 2: 2, 3: 1, 6: 1, 7: 2, 8: 2, 9: 2, 12: 2, 13: 2, 14: 4, 16: 1, 17: 1, 18: 1, 21: 2}
-# READDIRPLUS is read, but `replay` and `serve` don't offer it.
-SERVED = {NFS: {0, *FAILURE_PARTS} - {17}, ADMIN: {0, 1, 2}}
-
-
-def ok_arm(r, procedure):
-    """Reads the results of a procedure of NFS that went well."""
-    present = lambda read: r.choice(1) and read()
-    if procedure == 1:
-        r.attributes()
-    elif procedure in (2, 12, 13, 14):
-        for _ in range(2 if procedure == 14 else 1):
-            present(lambda: r.fixed(24)), present(r.attributes)
-    elif procedure == 3:
-        r.handle(), present(r.attributes), present(r.attributes)
-    elif procedure == 6:
-        r.choice(0)
-        count = r.word()
-        r.boolean()
-        if len(r.opaque(65_536)) != count:
-            raise NoSpelling
-    elif procedure == 7:
-        r.choice(0), r.choice(0), r.word(), r.choice(2), r.fixed(8)
-    elif procedure in (8, 9):
-        present(r.handle), present(r.attributes), present(lambda: r.fixed(24)), present(r.attributes)
-    elif procedure == 16:
-        present(r.attributes), r.fixed(8), r.entries(), r.boolean()
-    elif procedure == 17:
-        present(r.attributes), r.fixed(8), r.entries_plus(), r.boolean()
-    elif procedure == 18:
-        present(r.attributes), r.fixed(48), r.choice(0)
-    elif procedure == 21:
-        present(lambda: r.fixed(24)), present(r.attributes), r.fixed(8)
-
-
-def are_results(program, procedure, data):
-    """Whether bytes are results of a procedure, of any server and call."""
+def arguments(program, procedure, data):
+    """The parts of a call's arguments: handles, names and numbers."""
     r = Reader(data)
-    try:
-        if program == NFS and procedure != 0:
-            if r.word() == OK:
-                ok_arm(r, procedure)
-            else:
-                for _ in range(FAILURE_PARTS[procedure]):
-                    r.choice(0)
-        elif program == ADMIN and procedure == 1:
-            for _ in range(r.word()):
-                r.word(), r.hyper(), r.hyper()
-        elif program == ADMIN and procedure == 2 and r.word() == OK:
-            r.hyper()
-        r.end()
-    except NoSpelling:
-        return False
-    return True
-
-
-def words(*values):
-    return struct.pack(f">{len(values)}I", *values)
+    if program == NFS:
+        parts = arguments_of_nfs(r, procedure)
+    elif program == MOUNT:
+        parts = arguments_of_mount(r, procedure)
+    else:
+        parts = (r.word(), r.word()) if procedure == 2 else ()
+    r.end()
+    return parts
 
 
 def record(body):
@@ -216,8 +129,8 @@ def record(body):
     return words(0x8000_0000 | len(body)) + body
 
 
-def accepted(xid, status, results=b""):
-    return record(words(xid, 1, 0, 0, 0, status) + results)
+def accepted(xid, status, results_of_it=b""):
+    return record(words(xid, 1, 0, 0, 0, status) + results_of_it)
 
 
 def denied(xid, *arm):
@@ -225,85 +138,83 @@ def denied(xid, *arm):
 
 
 class Call:
-    """A call that is served, with what has to be known of its arguments."""
+    """A call that is served, with what has to be known of its arguments, and for whom it acts."""
 
-    def __init__(self, xid, program, procedure, parts):
-        self.xid, self.program, self.procedure, self.parts = xid, program, procedure, parts
+    def __init__(self, service, xid, program, procedure, user, parts):
+        self.service, self.xid, self.user, self.parts = service, xid, user, parts
+        self.program, self.procedure = program, procedure
+        self.is_nfs = program == NFS
+
+    def succeeded(self, results_of_it):
+        return accepted(self.xid, 0, results_of_it)
 
     def failure(self, status):
-        return accepted(self.xid, 0, words(status, *[0] * FAILURE_PARTS[self.procedure]))
+        return self.succeeded(words(status, *[0] * FAILURE_PARTS[self.procedure]))
 
-    def volume(self, volumes, part=0):
-        """The number of the volume that a handle names, if there is one."""
-        handle = self.parts[part]
-        volume = int.from_bytes(handle[:4], "big")
-        return volume if len(handle) == 12 and volume < volumes else None
+    def node(self, part=0):
+        """The volume and the fileid that a handle names, if it may name one."""
+        return self.service.node(self.parts[part])
 
-    def at_once(self, volumes):
+    def at_once(self):
         """The reply to a call that waits for nothing, or None."""
         if self.procedure == 0:
             return accepted(self.xid, 0)
         if self.program == ADMIN:
-            unknown = self.procedure == 2 and self.parts[0] >= volumes
-            return accepted(self.xid, 0, words(NOENT)) if unknown else None
-        if self.volume(volumes) is None:
+            is_unknown = self.procedure == 2 and self.parts[0] >= self.service.volumes
+            return self.succeeded(words(NOENT)) if is_unknown else None
+        if self.program == MOUNT:
+            return self.succeeded(results.mount_results(self.procedure, self.parts, self.service))
+        if self.procedure in LINKS_AND_DEVICES:
+            return self.failure(NOTSUPP)
+        if self.node() is None:
             return self.failure(BADHANDLE)
-        if self.procedure == 14:
-            target = self.volume(volumes, 2)
-            if target is None:
+        if self.procedure == results.RENAME:
+            if self.node(2) is None:
                 return self.failure(BADHANDLE)
-            if target != self.volume(volumes):
+            if self.node(2)[0] != self.node()[0]:
                 return self.failure(XDEV)
         return None
 
-    def of_an_empty_server(self, volumes):
-        """The reply of a server with nothing but roots, to a GETATTR or a LOOKUP; else None."""
-        if self.program != NFS or self.procedure not in (1, 3):
+    def of_an_empty_server(self):
+        """The reply of a server with nothing but roots, to a call that changes nothing and waits;
+        None where that isn't said."""
+        if not self.is_nfs:
             return None
-        fileid = int.from_bytes(self.parts[0][4:], "big")
-        if fileid != 1:
-            return self.failure(STALE)
-        root = root_attributes(self.volume(volumes))
-        if self.procedure == 1:
-            return accepted(self.xid, 0, words(OK) + root)
-        name = self.parts[1]
-        if len(name) > 255:
-            return self.failure(NAMETOOLONG)
-        if not name or b"/" in name or b"\0" in name:
-            return self.failure(ACCES)
-        if name not in (b".", b".."):
-            return self.failure(NOENT)
-        present = words(1) + root
-        return accepted(self.xid, 0, words(OK, 12) + self.parts[0] + present + present)
+        found = results.of_an_empty_server(self)
+        if isinstance(found, int):
+            return self.failure(found)
+        return found and self.succeeded(words(OK) + found)
 
     def is_reply(self, reply):
         """Whether bytes may be the reply to this call that a server gives which had memory."""
-        head = words(0x8000_0000 | (len(reply) - 4), self.xid, 1, 0, 0, 0, 0) if len(reply) >= 28 else None
-        return reply[:28] == head and are_results(self.program, self.procedure, reply[28:])
+        known = self.at_once()
+        if known:
+            return reply == known
+        if len(reply) < 28:
+            return False
+        head = words(0x8000_0000 | (len(reply) - 4), self.xid, 1, 0, 0, 0, 0)
+        return reply[:28] == head and results.are_results(self, reply[28:])
 
 
-def root_attributes(volume):
-    """fattr3 of a root as a run begins: a directory of mode 0755, two links, size 4096, its volume as fsid."""
-    return words(2, 0o755, 2, 0, 0, 0, 4096, 0, 0, 0, 0, 0, volume, 0, 1, 0, 0, 0, 0, 0, 0)
-
-
-def is_user(body):
-    """Whether a credential's body is exactly one authsys_parms (RFC 5531, appendix A)."""
+def user_of(body):
+    """Whom a credential's body names that is exactly one authsys_parms (RFC 5531, appendix A): the
+    uid and all groups; else None."""
     r = Reader(body)
     try:
-        r.word(), r.opaque(255), r.word(), r.word()
-        count = r.word()
+        r.word(), r.opaque(255)
+        uid, gid, count = r.word(), r.word(), r.word()
         if count > 16:
-            return False
-        r.fixed(4 * count)
+            return None
+        groups = [r.word() for _ in range(count)]
         r.end()
     except NoSpelling:
-        return False
-    return True
+        return None
+    return uid, (gid, *groups)
 
 
-def call_of(data):
-    """What a record is: a fault's number, a reply that refuses it, or a Call. The first that applies decides."""
+def call_of(data, service):
+    """What a record is: a fault's number, a reply that refuses it, or a Call. The first that
+    applies decides."""
     size = len(data)
     at = lambda place: int.from_bytes(data[place : place + 4], "big")
     if size < 8:
@@ -326,35 +237,37 @@ def call_of(data):
     if size < behind:
         return BAD_HEADER
     body, padding = data[32 : 32 + length], data[32 + length : behind]
-    if any(padding) or (flavor == 1 and not is_user(body)):
+    user = user_of(body) if flavor == 1 else NOBODY
+    if any(padding) or user is None:
         return denied(xid, 1, 1)
     verifier = Reader(data[behind:])
     try:
         verifier.word(), verifier.opaque(400)
     except NoSpelling:
         return BAD_HEADER
-    if program not in SERVED:
+    if program not in service.offer:
         return accepted(xid, 1)
-    served_version = 3 if program == NFS else 1
-    if version != served_version:
-        return accepted(xid, 2, words(served_version, served_version))
-    if procedure not in SERVED[program]:
+    if version != VERSIONS[program]:
+        return accepted(xid, 2, words(VERSIONS[program], VERSIONS[program]))
+    if procedure not in service.offer[program]:
         return accepted(xid, 3)
     try:
-        return Call(xid, program, procedure, arguments(program, procedure, data[behind + verifier.at :]))
+        parts = arguments(program, procedure, data[behind + verifier.at :])
     except NoSpelling:
         return accepted(xid, 4)
+    return Call(service, xid, program, procedure, user, parts)
 
 
 class Stream:
     """The bytes of a connection, however cut (RFC 5531, section 11)."""
 
-    def __init__(self, volumes):
-        self.volumes, self.fault = volumes, 0
+    def __init__(self, service):
+        self.service, self.fault = service, 0
         self.head, self.left, self.is_last, self.body = b"", 0, False, b""
 
     def next_record(self, data):
-        """How many bytes are taken up to the end of a record or a fault, and the record if one ends there."""
+        """How many bytes are taken up to the end of a record or a fault, and the record if one
+        ends there."""
         taken = 0
         while True:
             if self.left == 0 and not (len(self.head) == 4):
@@ -380,7 +293,8 @@ class Stream:
                 return taken, whole
 
     def feed(self, data):
-        """How many bytes are taken, the fault that stops it or 0, and what the records are: replies and calls that wait."""
+        """How many bytes are taken, the fault that stops it or 0, and what the records are:
+        replies and calls that wait."""
         taken, heard = 0, []
         while taken < len(data):
             count, whole = self.next_record(data[taken:])
@@ -389,11 +303,11 @@ class Stream:
                 break
             if whole is None:
                 continue
-            found = call_of(whole)
+            found = call_of(whole, self.service)
             if isinstance(found, int):
                 self.fault = found
                 break
             if isinstance(found, Call):
-                found = found.at_once(self.volumes) or found
+                found = found.at_once() or found
             heard.append(found)
         return taken, self.fault, heard

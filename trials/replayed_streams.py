@@ -1,4 +1,5 @@
-"""Streams that are fed to `filer replay`, and each line compared with what the plain reader says."""
+"""Streams that are fed to `filer replay`, and each line compared with what the plain reader
+says."""
 
 import itertools
 import random
@@ -6,10 +7,10 @@ import subprocess
 import tempfile
 
 from made_streams import made
-from plain import NFS, Call, Stream, are_results
-from stream_rows import JOINED, LIMITS, RESULTS, ROWS, WAITS, octets
+from plain import Call, Stream, basic
+from stream_rows import JOINED, LIMITS, ROWS, WAITS, octets
 
-VOLUMES = 2
+SERVICE = basic(2)
 LAYOUT = ["aggregate 1", "volume 0 1", "volume 0 1", "start 2 0102030405060708"]
 # A WRITE is tried in its stripe, under Volume Logical and under Volume.
 ROUNDS = 3
@@ -38,7 +39,7 @@ class Case:
         self.name, self.pieces, self.number = name, pieces, number
         self.is_empty = is_empty
         self.lines, self.steps, self.parts = [], [], []
-        stream = Stream(VOLUMES)
+        stream = Stream(SERVICE)
         for piece in pieces:
             line, step = len(self.lines), len(self.steps)
             self.feed(stream, piece)
@@ -52,7 +53,9 @@ class Case:
             return
         taken, fault, heard = stream.feed(piece)
         self.steps.append(f"taken {taken} stop {fault}")
-        self.steps += [f"out {self.number} {reply.hex()}" for reply in heard if not isinstance(reply, Call)]
+        self.steps += [
+            f"out {self.number} {reply.hex()}" for reply in heard if not isinstance(reply, Call)
+        ]
         waiting = [found for found in heard if isinstance(found, Call)]
         if waiting:
             self.run(waiting)
@@ -61,7 +64,7 @@ class Case:
         """Calls that wait are begun, worked and finished, in as many rounds as they may need."""
         waiting = []
         for call in calls:
-            reply = call.of_an_empty_server(VOLUMES) if self.is_empty else None
+            reply = call.of_an_empty_server() if self.is_empty else None
             self.is_empty = self.is_empty and call.procedure in (1, 3, 6, 16, 18, 21)
             waiting.append((call, reply))
         rounds = len(calls) if all(reply for _, reply in waiting) else ROUNDS * len(calls)
@@ -72,9 +75,10 @@ class Case:
         return ["open", *self.lines, f"close {self.number}"]
 
     def compare_round(self, lines, call, wanted):
-        """Looks whether a call is answered as it has to be, or moves. Answers whether it is answered."""
+        """Looks whether a call is answered as it has to be, or moves. Answers whether it is
+        answered."""
         begun, worked, finished = (next(lines, "nothing") for _ in range(3))
-        granted = f"granted logical {call.volume(VOLUMES)}" if wanted else "granted "
+        granted = f"granted logical {call.node()[0]}" if wanted else "granted "
         if not begun.startswith(granted):
             raise Differs(f"wanted {granted}, got {begun[:100]}")
         if wanted is None and worked.startswith("move ") and finished == "back":
@@ -87,7 +91,8 @@ class Case:
         return True
 
     def compare_rounds(self, lines, waiting, rounds):
-        """Looks whether calls are run in their order, where one that moves waits behind all others."""
+        """Looks whether calls are run in their order, where one that moves waits behind all
+        others."""
         waiting = list(waiting)
         for _ in range(rounds):
             if not waiting:
@@ -207,14 +212,18 @@ def changed_streams():
     for name, i, changed in changed_bytes():
         yield name, [changed]
         yield f"{name}, and cut there", [changed[:i], changed[i:]]
-        yield f"{name}, one by one near it", [changed[:i], *(changed[k : k + 1] for k in range(i, i + 80)), changed[i + 80 :]]
+        yield f"{name}, one by one near it", [
+            changed[:i],
+            *(changed[k : k + 1] for k in range(i, i + 80)),
+            changed[i + 80 :],
+        ]
 
 
 def made_streams(seed, count):
     """Generated streams, whole or cut."""
     rng = random.Random(seed)
     for k in range(count):
-        stream = made(rng)
+        stream = made(rng, SERVICE)
         cuts = sorted(rng.randrange(len(stream) + 1) for _ in range(rng.choice((0, 0, 1, 3))))
         pieces = [stream[i:k] for i, k in zip([0] + cuts, cuts + [len(stream)])]
         yield f"generated stream {k} of seed {seed}", pieces
@@ -226,23 +235,20 @@ def in_parts(streams, count):
 
 
 def play_rows(filer):
-    """The worked rows, with what they give typed by hand, through the plain reader and through the program."""
+    """The worked rows, with what they give typed by hand, through the plain reader and through
+    the program."""
     passed, failures = 0, []
-    waiting = lambda found: found.of_an_empty_server(VOLUMES) if isinstance(found, Call) else found
+    waiting = lambda found: found.of_an_empty_server() if isinstance(found, Call) else found
     for number, (stream, reply) in enumerate(ROWS):
-        heard = Stream(VOLUMES).feed(octets(stream))[2]
+        heard = Stream(SERVICE).feed(octets(stream))[2]
         waits = reply.startswith(WAITS)
         good = [waiting(found) for found in heard] == [octets(reply.removeprefix(WAITS))]
         good = good and isinstance(heard[0], Call) == waits
         passed += good
         failures += [] if good else [f"the plain reader on row {number}"]
-    for number, (results, are_some) in enumerate(RESULTS):
-        good = are_results(NFS, 17, octets(results)) == are_some
-        passed += good
-        failures += [] if good else [f"the plain reader on results {number}"]
     for name, stream, taken, stop, reply in LIMITS:
         wanted = (taken, stop, [] if reply is None else [octets(reply)])
-        good = Stream(VOLUMES).feed(stream) == wanted
+        good = Stream(SERVICE).feed(stream) == wanted
         script = [*LAYOUT, "open", f"feed 0 {stream.hex()}"]
         lines = ["conn 0", f"taken {taken} stop {stop}"]
         lines += [] if reply is None else [f"out 0 {reply.replace(' ', '')}"]

@@ -1,14 +1,29 @@
-"""`filer serve` with one allocation refused, from the first connection on. The server is known by its address, its output
-and its exit status alone."""
+"""`filer serve` or `filer export` with one allocation refused, from the first connection on. The
+server is known by its address, its output and its exit status alone."""
 
 import os
+import re
 import signal
 import socket
 import subprocess
+from collections import namedtuple
 
 import wire
 from memory import WORDS, Page, environment
-from wire import ADMIN, NFS, handle, hyper, opaque, words
+from mounted import MountedOwner, mount_root
+from owners import (
+    BLOCK,
+    ROOT,
+    Call,
+    Owner,
+    Wrong,
+    entries,
+    expect,
+    list_directory,
+    look_at_root,
+    null,
+)
+from wire import ADMIN, Files
 
 # How long an answer, or the server's end, may take, in seconds.
 PATIENCE = 30
@@ -19,32 +34,50 @@ CLIENTS = 3
 # How the server ends where it has no memory for a connection, or for a thread.
 LACKING = (("refused 90\n", 1), ("fault 66\n", 1))
 
-ROOT = 1
-REGULAR, DIRECTORY = 1, 2
-BLOCK = 4096
-TOTAL_BLOCKS = 4096
 MOST_INODES = 65536
 
+# What `export` tells people as it starts, and then of connections and calls.
+TOLD = re.compile(
+    rb"(exported: [^\n]+\n)*(may connect: [^\n]+\n)?(mount [^\n]+\n)?"
+    rb"((connection \d+ (opened|closed)|can't be served|can't be accepted|refused): [^\n]+\n"
+    rb"|(out of memory for calls|lines that were left out): \d+\n|calls \d+[:;] [^\n]+\n)*"
+)
 
-class Wrong(Exception):
-    """What the server shows isn't what it should."""
+
+class Way(namedtuple("Way", "command options blocks owner")):
+    """A way to serve: the command with what it is to tell, how many blocks its volume has, and
+    what a client makes on it."""
+
+
+SERVE = Way("serve", [], 4096, Owner)
+EXPORT = Way("export", ["--log", "--stats", "1"], 16384, MountedOwner)
 
 
 class Server:
     """A server with the library that refuses."""
 
-    def __init__(self, filer, environment, connections):
-        words = ["serve", "--listen", "127.0.0.1:0", "--volumes", "1", "--workers", "2", "--connections", str(connections)]
+    def __init__(self, filer, way, environment, connections):
+        words = [filer, way.command, "--listen", "127.0.0.1:0", "--volumes", "1", "--workers", "2"]
+        words += ["--connections", str(connections), *way.options]
         self.process = subprocess.Popen(
-            [filer] + words, env=environment, stdin=subprocess.DEVNULL, stdout=subprocess.PIPE, stderr=subprocess.PIPE
+            words,
+            env=environment,
+            stdin=subprocess.DEVNULL,
+            stdout=subprocess.PIPE,
+            stderr=subprocess.PIPE,
         )
         self.printed = None
         # the first line: where it listens, or why it doesn't
         self.first = self.process.stdout.readline().decode()
-        self.port = int(self.first.rsplit(":", 1)[1]) if self.first.startswith("listening 127.0.0.1:") else None
+        self.port = (
+            int(self.first.rsplit(":", 1)[1])
+            if self.first.startswith("listening 127.0.0.1:")
+            else None
+        )
 
     def wait(self, seconds):
-        """What it printed since it listens and its status, once it has ended within so many seconds."""
+        """What it printed since it listens and its status, once it has ended within so many
+        seconds."""
         try:
             self.process.wait(seconds)
         except subprocess.TimeoutExpired:
@@ -55,6 +88,7 @@ class Server:
         if self.printed is None:
             self.printed = self.process.stdout.read().decode()
             told = self.process.stderr.read()
+            told = told[TOLD.match(told).end() :]
             if told and (status == 0 or not WORDS.fullmatch(told)):
                 raise Wrong(f"the server writes to its error output: {told[:200]!r}")
         return self.printed, status
@@ -114,222 +148,24 @@ class Link:
         self.socket.close()
 
 
-class Call:
-    """A call, what its reply has to be, and what it then changes of what is expected."""
-
-    def __init__(self, name, procedure, arguments, judge, may_starve=False, program=NFS, status=wire.OK):
-        self.name = name
-        self.program, self.procedure, self.arguments = program, procedure, arguments
-        self.judge = judge
-        self.may_starve = may_starve
-        self.status = status
-
-    def record(self, xid):
-        return wire.record(xid, self.program, self.procedure, self.arguments)
-
-    def take(self, reader):
-        """Compares a reply with what it has to be."""
-        try:
-            if self.status is not None and reader.word() != self.status:
-                raise Wrong(f"{self.name} is answered with another status than {self.status}")
-            self.judge(reader)
-            reader.end()
-        except ValueError as error:
-            raise Wrong(f"{self.name}: {error}")
-
-
-def expect(name, got, wanted):
-    if got != wanted:
-        raise Wrong(f"{name} gives {got!r:.200}, not {wanted!r:.200}")
-
-
-class Owner:
-    """What one client made, as far as its calls were answered: a directory with names, and a file with data."""
-
-    def __init__(self, number):
-        self.name = "abc"[number]
-        self.directory = None
-        self.file = None
-        self.names = {}
-        self.content = bytearray()
-        self.blocks = set()
-        self.subdirectories = set()
-
-    @property
-    def size(self):
-        return len(self.content)
-
-    def keep(self, offset, data):
-        """What a WRITE writes within one block."""
-        self.content += bytes(max(0, offset + len(data) - self.size))
-        self.content[offset : offset + len(data)] = data
-        self.blocks.add(offset // BLOCK)
-
-    def bytes_of_block(self, block):
-        return bytes(self.content[block * BLOCK : (block + 1) * BLOCK])
-
-    # Calls, each of which changes what is expected once it was answered.
-
-    def make_home(self):
-        def judge(reader):
-            self.directory = made(reader)
-
-        return Call("MKDIR", 9, wire.entry(ROOT, self.name) + wire.UNSET, judge, may_starve=True)
-
-    def make_file(self):
-        def judge(reader):
-            self.file = made(reader)
-            self.names["data"] = self.file
-
-        return Call("CREATE", 8, wire.entry(self.directory, "data") + words(1) + wire.UNSET, judge, may_starve=True)
-
-    def create(self, name):
-        def judge(reader):
-            self.names[name] = made(reader)
-
-        return Call("CREATE", 8, wire.entry(self.directory, name) + words(1) + wire.UNSET, judge, may_starve=True)
-
-    def make_directory(self, name):
-        def judge(reader):
-            self.names[name] = made(reader)
-            self.subdirectories.add(name)
-
-        return Call("MKDIR", 9, wire.entry(self.directory, name) + wire.UNSET, judge, may_starve=True)
-
-    def remove(self, name):
-        def judge(reader):
-            reader.before_and_after()
-            self.names.pop(name, None)
-
-        status = wire.OK if name in self.names else wire.NOENT
-        return Call("REMOVE", 12, wire.entry(self.directory, name), judge, status=status)
-
-    def rename(self, old, new):
-        there = old in self.names
-
-        def judge(reader):
-            reader.before_and_after()
-            reader.before_and_after()
-            if there:
-                self.names[new] = self.names.pop(old)
-                self.subdirectories.remove(old)
-                self.subdirectories.add(new)
-
-        arguments = wire.entry(self.directory, old) + wire.entry(self.directory, new)
-        return Call("RENAME", 14, arguments, judge, may_starve=there, status=wire.OK if there else wire.NOENT)
-
-    def write(self, offset, data):
-        def judge(reader):
-            reader.before_and_after()
-            expect("WRITE", (reader.word(), reader.word()), (len(data), 2))
-            reader.bytes(8)
-            self.keep(offset, data)
-
-        fills = offset // BLOCK not in self.blocks
-        arguments = handle(self.file) + hyper(offset) + words(len(data), 2) + opaque(data)
-        return Call("WRITE", 7, arguments, judge, may_starve=fills)
-
-    def read(self, block):
-        wanted = self.bytes_of_block(block)
-
-        def judge(reader):
-            reader.maybe(reader.attributes)
-            expect("READ's count", reader.word(), len(wanted))
-            expect("READ's end of file", reader.word(), int(block * BLOCK + len(wanted) >= self.size))
-            expect("READ", reader.opaque(), wanted)
-
-        return Call("READ", 6, handle(self.file) + hyper(block * BLOCK) + words(BLOCK), judge, may_starve=len(wanted) > 0)
-
-    def read_start(self):
-        wanted = self.bytes_of_block(0)[:16]
-
-        def judge(reader):
-            reader.maybe(reader.attributes)
-            expect("READ", (reader.word(), reader.word(), reader.opaque()), (16, 0, wanted))
-
-        return Call("READ", 6, handle(self.file) + hyper(0) + words(16), judge, may_starve=True)
-
-    def lookup(self):
-        def judge(reader):
-            expect("LOOKUP", reader.fileid(), self.file)
-            reader.maybe(reader.attributes)
-            reader.maybe(reader.attributes)
-
-        return Call("LOOKUP", 3, wire.entry(self.directory, "data"), judge)
-
-    def look_at_file(self):
-        def judge(reader):
-            got = reader.attributes()
-            wanted = {"type": REGULAR, "links": 1, "size": self.size, "used": BLOCK * len(self.blocks), "fileid": self.file}
-            expect("GETATTR", got, wanted)
-
-        return Call("GETATTR", 1, handle(self.file), judge)
-
-    def list_home(self):
-        wanted = {".": self.directory, "..": ROOT} | self.names
-
-        def judge(reader):
-            attributes = reader.maybe(reader.attributes)
-            expect("READDIR's links", attributes["links"], 2 + len(self.subdirectories))
-            expect("READDIR", entries(reader), wanted)
-
-        return list_directory(self.directory, judge)
-
-
-def made(reader):
-    """The fileid that a CREATE or MKDIR made."""
-    fileid = reader.maybe(reader.fileid)
-    expect("the attributes of what was made", reader.maybe(reader.attributes)["fileid"], fileid)
-    reader.before_and_after()
-    return fileid
-
-
-def entries(reader):
-    """The names of a READDIR with their fileids, in a list that is whole."""
-    reader.bytes(8)
-    found = {}
-    while reader.word():
-        fileid, name, _cookie = reader.hyper(), reader.opaque().decode(), reader.hyper()
-        if name in found:
-            raise Wrong(f"READDIR gives {name} twice")
-        found[name] = fileid
-    expect("READDIR's end", reader.word(), 1)
-    return found
-
-
-def list_directory(fileid, judge):
-    return Call("READDIR", 16, handle(fileid) + hyper(0) + bytes(8) + words(65536), judge, may_starve=True)
-
-
-def null():
-    return Call("NULL", 0, b"", lambda reader: None, status=None)
-
-
-def look_at_root():
-    def judge(reader):
-        got = reader.attributes()
-        expect("GETATTR of the root", (got["type"], got["fileid"]), (DIRECTORY, ROOT))
-
-    return Call("GETATTR", 1, handle(ROOT), judge)
-
-
 class Trial:
-    """A server one of whose allocations is refused; its clients wait for each reply, or send batches, in so many
-    rounds."""
+    """A server one of whose allocations is refused; its clients wait for each reply, or send
+    batches, in so many rounds."""
 
-    def __init__(self, filer, library, folder, refused, in_batches, rounds):
-        self.rounds = rounds
+    def __init__(self, way, filer, library, folder, refused, in_batches, rounds):
+        self.way, self.rounds, self.files = way, rounds, Files()
         self.page = Page(folder, f"page-{os.getpid()}")
         self.page.set(from_accept=1, refused=refused)
         self.in_batches = in_batches
         self.xid = 0
         self.strange = 0
-        self.owners = [Owner(number) for number in range(CLIENTS)]
-        self.server = Server(filer, environment(library, self.page), CLIENTS + 1)
+        self.owners = [way.owner(number, self.files) for number in range(CLIENTS)]
+        self.server = Server(filer, way, environment(library, self.page), CLIENTS + 1)
         self.links = []
 
     def check(self):
-        """Tries it; answers how many calls of the allocator there were, and whether one was refused."""
+        """Tries it; answers how many calls of the allocator there were, and whether one was
+        refused."""
         try:
             self.serve()
         finally:
@@ -343,6 +179,8 @@ class Trial:
             raise Wrong(f"it prints {self.server.first!r} as it starts")
         for _ in range(CLIENTS):
             self.open()
+        if self.way is EXPORT:
+            self.run(0, lambda: mount_root(self.files))
         self.prepare()
         for number in range(self.rounds):
             self.play_round(number)
@@ -360,7 +198,8 @@ class Trial:
         expect("the server's end", ended, ("left 0\n", 0))
 
     def open(self):
-        """Opens a connection, and makes a call. Where memory runs out at this, the connection ends and the others go on."""
+        """Opens a connection, and makes a call. Where memory runs out at this, the connection
+        ends and the others go on."""
         self.xid += 1
         got = None
         try:
@@ -399,13 +238,13 @@ class Trial:
                 raise Wrong(f"{call.name} is starved")
             reader.end()
             return True
-        expect(f"the status of {call.name}", status, wire.SUCCESS)
+        expect(f"what becomes of {call.name}", status, call.accepted)
         call.take(reader)
         return False
 
     def run(self, preferred, make_call):
-        """Makes a call, and waits for its reply. Where it isn't answered, or not for want of memory, nothing has changed, and
-        the same call again succeeds."""
+        """Makes a call, and waits for its reply. Where it isn't answered, or not for want of
+        memory, nothing has changed, and the same call again succeeds."""
         while True:
             call = make_call()
             link = self.link(preferred)
@@ -419,8 +258,8 @@ class Trial:
             self.look()
 
     def run_batch(self, batches):
-        """Sends batches of calls, each on its connection, and waits for all replies. A connection that ends has answered all
-        calls before one, and none from it on."""
+        """Sends batches of calls, each on its connection, and waits for all replies. A
+        connection that ends has answered all calls before one, and none from it on."""
         sent = []
         for link, calls in batches:
             numbered = {}
@@ -439,7 +278,9 @@ class Trial:
                     self.is_unanswered("a batch")
                     is_strange = True
                     if list(numbered) != order[len(order) - len(numbered) :]:
-                        raise Wrong("a connection ends, and has answered a call after one that it hasn't")
+                        raise Wrong(
+                            "a connection ends, and has answered a call after one that it hasn't"
+                        )
                     break
                 xid = wire.reply(record)[0]
                 if xid not in numbered:
@@ -447,6 +288,10 @@ class Trial:
                 is_strange |= self.take(numbered.pop(xid), record, xid)
         if is_strange:
             self.look()
+
+    def is_mounted(self):
+        """Whether handles are known; those of `serve` are from the start."""
+        return self.way is SERVE or self.files.verifier
 
     def prepare(self):
         for number, owner in enumerate(self.owners):
@@ -459,19 +304,20 @@ class Trial:
         """The calls of a round, none of which depends on another."""
         fresh = (2 + number) * BLOCK
         return [
-            look_at_root,
+            lambda: look_at_root(self.files),
             lambda: owner.create(f"r{number}"),
             lambda: owner.write(fresh, f"{owner.name}{number}".encode() * 40),
             lambda: owner.write(BLOCK + 8 * number, f"over{number:04}".encode()),
             lambda: owner.remove(f"r{number - 1}"),
-            owner.read_start if owner.size else look_at_root,
+            owner.read_start if owner.size else lambda: look_at_root(self.files),
             owner.lookup,
-            lambda: list_directory(ROOT, self.judge_root),
+            lambda: list_directory(self.files, ROOT, self.judge_root),
             null,
             lambda: owner.make_directory(f"m{number}"),
             lambda: owner.rename(f"m{number - 1}", f"n{number - 1}"),
             self.space,
             self.census,
+            *owner.further_calls(self.directories),
         ]
 
     def play_round(self, number):
@@ -479,7 +325,9 @@ class Trial:
             open_links = [(at, link) for at, link in enumerate(self.links) if link.is_open]
             batches = []
             for at, link in open_links:
-                batches.append((link, [make_call() for make_call in self.calls(self.owners[at], number)]))
+                batches.append(
+                    (link, [make_call() for make_call in self.calls(self.owners[at], number)])
+                )
             self.run_batch(batches)
             return
         turns = [self.calls(owner, number) for owner in self.owners]
@@ -491,21 +339,23 @@ class Trial:
 
     def judge_root(self, reader):
         reader.maybe(reader.attributes)
-        wanted = {".": ROOT, "..": ROOT}
-        wanted |= {owner.name: owner.directory for owner in self.owners if owner.directory is not None}
-        expect("READDIR of the root", entries(reader), wanted)
+        expect("READDIR of the root", entries(reader), {".": ROOT, "..": ROOT} | self.directories())
+
+    def directories(self):
+        """The directories that the clients made in the root."""
+        return {owner.name: owner.directory for owner in self.owners if owner.directory is not None}
 
     def space(self):
         """FSSTAT, by which only its volume's size is known while others make calls."""
 
         def judge(reader):
             reader.maybe(reader.attributes)
-            expect("FSSTAT's size", reader.hyper(), TOTAL_BLOCKS * BLOCK)
+            expect("FSSTAT's size", reader.hyper(), self.way.blocks * BLOCK)
             reader.bytes(16)
             expect("FSSTAT's inodes", reader.hyper(), MOST_INODES)
             reader.bytes(20)
 
-        return Call("FSSTAT", 18, handle(ROOT), judge)
+        return Call("FSSTAT", 18, self.files.handle(ROOT), judge)
 
     def exact_space(self):
         """FSSTAT where no other call runs."""
@@ -514,30 +364,44 @@ class Trial:
 
         def judge(reader):
             reader.maybe(reader.attributes)
-            free = (TOTAL_BLOCKS - blocks) * BLOCK
-            expect("FSSTAT's bytes", (reader.hyper(), reader.hyper(), reader.hyper()), (TOTAL_BLOCKS * BLOCK, free, free))
+            total, free = self.way.blocks * BLOCK, (self.way.blocks - blocks) * BLOCK
+            expect(
+                "FSSTAT's bytes",
+                (reader.hyper(), reader.hyper(), reader.hyper()),
+                (total, free, free),
+            )
             left = MOST_INODES - inodes
-            expect("FSSTAT's inodes", (reader.hyper(), reader.hyper(), reader.hyper()), (MOST_INODES, left, left))
+            expect(
+                "FSSTAT's inodes",
+                (reader.hyper(), reader.hyper(), reader.hyper()),
+                (MOST_INODES, left, left),
+            )
             expect("FSSTAT's stability", reader.word(), 0)
 
-        return Call("FSSTAT", 18, handle(ROOT), judge)
+        return Call("FSSTAT", 18, self.files.handle(ROOT), judge)
 
     def census(self):
         def judge(reader):
-            expect("CENSUS", (reader.word(), reader.word(), reader.hyper()), (1, 0, TOTAL_BLOCKS))
+            expect(
+                "CENSUS", (reader.word(), reader.word(), reader.hyper()), (1, 0, self.way.blocks)
+            )
             reader.hyper()
 
         return Call("CENSUS", 1, b"", judge, may_starve=True, program=ADMIN, status=None)
 
     def look(self):
         """Compares all that is there with what the answered calls made. No other call runs."""
-        calls = [lambda: list_directory(ROOT, self.judge_root), self.exact_space]
+        if not self.is_mounted():
+            # nothing was made, and no handle is known
+            return
+        calls = [lambda: list_directory(self.files, ROOT, self.judge_root), self.exact_space]
         for owner in self.owners:
-            if owner.directory is not None:
-                calls.append(owner.list_home)
+            calls += owner.looks()
             if owner.file is not None:
-                calls.append(owner.look_at_file)
-                calls += [lambda owner=owner, block=block: owner.read(block) for block in range(2 + self.rounds)]
+                calls += [
+                    lambda owner=owner, block=block: owner.read(block)
+                    for block in range(2 + self.rounds)
+                ]
         for make_call in calls:
             for _ in range(2):
                 call = make_call()
@@ -555,27 +419,35 @@ class Trial:
 
 
 class Exhausted(Trial):
-    """A server without any memory from one allocation on, which has some again once its clients have made their calls."""
+    """A server without any memory from one allocation on, which has some again once its clients
+    have made their calls."""
 
-    def __init__(self, filer, library, folder, refused, rounds):
-        super().__init__(filer, library, folder, 0, True, rounds)
+    def __init__(self, way, filer, library, folder, refused, rounds):
+        super().__init__(way, filer, library, folder, 0, True, rounds)
         self.page.set(from_accept=1, refused=refused, all_after=1)
 
     def serve(self):
         for _ in range(CLIENTS):
             self.open()
+        if self.way is EXPORT:
+            self.try_once(0, lambda: mount_root(self.files))
         for at, owner in enumerate(self.owners):
-            self.try_once(at, owner.make_home)
+            if self.is_mounted():
+                self.try_once(at, owner.make_home)
             if owner.directory is not None:
                 self.try_once(at, owner.make_file)
         for number in range(self.rounds):
             batches = []
             for at, owner in enumerate(self.owners):
                 if self.links[at].is_open and owner.file is not None:
-                    batches.append((self.links[at], [make_call() for make_call in self.calls(owner, number)]))
+                    batches.append(
+                        (self.links[at], [make_call() for make_call in self.calls(owner, number)])
+                    )
             self.run_batch(batches)
         self.page.refuse_no_more()
         self.open()
+        if not self.is_mounted():
+            self.run(-1, lambda: mount_root(self.files))
         super().look()
         self.finish()
 
@@ -595,14 +467,15 @@ class Exhausted(Trial):
 
 
 class Start(Trial):
-    """A server one of whose allocations is refused, from its start on, that serves one connection."""
+    """A server one of whose allocations is refused, from its start on, that serves one
+    connection."""
 
-    def __init__(self, filer, library, folder, refused):
+    def __init__(self, way, filer, library, folder, refused):
         self.page = Page(folder, f"page-{os.getpid()}")
         self.page.set(counting=1, refused=refused)
         self.xid = 0
         self.strange = 0
-        self.server = Server(filer, environment(library, self.page), 1)
+        self.server = Server(filer, way, environment(library, self.page), 1)
         self.links = []
 
     def serve(self):
@@ -610,7 +483,9 @@ class Start(Trial):
         if self.server.port is None:
             output, status = self.server.wait(PATIENCE) or ("", None)
             if (self.server.first + output, status) not in LACKING + (("fault 60\n", 2),):
-                raise Wrong(f"it prints {self.server.first + output!r} and ends with status {status}")
+                raise Wrong(
+                    f"it prints {self.server.first + output!r} and ends with status {status}"
+                )
             if not self.page.refusals:
                 raise Wrong("it has no memory where none was refused")
             return

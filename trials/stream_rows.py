@@ -2,8 +2,11 @@
 
 
 def call(xid, procedure):
-    """A call of NFS version 3 with neither credential nor verifier, without its header and arguments."""
-    return f"{xid} 00000000 00000002 000186a3 00000003 {procedure} 00000000 00000000 00000000 00000000"
+    """A call of NFS version 3 with neither credential nor verifier, without its header and
+    arguments."""
+    return (
+        f"{xid} 00000000 00000002 000186a3 00000003 {procedure} 00000000 00000000 00000000 00000000"
+    )
 
 
 def answer(xid, status):
@@ -21,7 +24,8 @@ def octets(text):
 
 
 ROOT = (
-    "00000002 000001ed 00000002 00000000 00000000 00000000 00001000 00000000 00000000 00000000 00000000 00000000"
+    "00000002 000001ed 00000002 00000000 00000000 00000000 00001000 00000000 00000000 00000000"
+    " 00000000 00000000"
     " 00000000 00000000 00000001 00000000 00000000 00000000 00000000 00000000 00000000"
 )
 NULL = f"80000028 {call('00000001', '00000000')}"
@@ -29,7 +33,8 @@ NULL_REPLY = f"80000018 {answer('00000001', '00000000')}"
 GETATTR = f"80000038 {call('00000002', '00000001')} {handle('00000001')}"
 GETATTR_REPLY = f"80000070 {answer('00000002', '00000000')} 00000000 {ROOT}"
 
-# The streams, each with its replies in order; WAITS marks a reply to a call that waits for a worker.
+# The streams, each with its replies in order; WAITS marks a reply to a call that waits for a
+# worker.
 WAITS = "waits "
 ROWS = [
     (NULL, NULL_REPLY),
@@ -41,15 +46,20 @@ ROWS = [
     ),
     (GETATTR, WAITS + GETATTR_REPLY),
     # RPC version 3, and no more
-    ("8000000c 00000003 00000000 00000003", "80000018 00000003 00000001 00000001 00000000 00000002 00000002"),
+    (
+        "8000000c 00000003 00000000 00000003",
+        "80000018 00000003 00000001 00000001 00000000 00000002 00000002",
+    ),
     # version 2, procedure 99, program 100005
     (
-        "80000028 00000005 00000000 00000002 000186a3 00000002 00000000 00000000 00000000 00000000 00000000",
+        "80000028 00000005 00000000 00000002 000186a3 00000002 00000000 00000000 00000000 00000000"
+        " 00000000",
         f"80000020 {answer('00000005', '00000002')} 00000003 00000003",
     ),
     (f"80000028 {call('00000005', '00000063')}", f"80000018 {answer('00000005', '00000003')}"),
     (
-        "80000028 00000005 00000000 00000002 000186a5 00000003 00000000 00000000 00000000 00000000 00000000",
+        "80000028 00000005 00000000 00000002 000186a5 00000003 00000000 00000000 00000000 00000000"
+        " 00000000",
         f"80000018 {answer('00000005', '00000001')}",
     ),
     # LOOKUP of a name with padding that isn't zero, and with a word behind it
@@ -64,25 +74,17 @@ ROWS = [
 ]
 JOINED = b"".join(octets(stream) for stream, _ in ROWS)
 
-# Results of READDIRPLUS, and whether they are some: a page of the root's own entry, the same with its attributes left out, one without
-# its handle, one with its handle before its attributes, and a failure with and without a place for attributes.
-ENTRY = "00000001 00000000 00000001 00000001 2e000000 00000000 00000001"
-END = "00000000 00000001"
-PAGE = f"00000000 00000001 {ROOT} 00000000 00000000 {ENTRY}"
-RESULTS = [
-    (f"{PAGE} 00000001 {ROOT} 00000001 {handle('00000001')} {END}", True),
-    (f"{PAGE} 00000000 00000001 {handle('00000001')} {END}", True),
-    (f"{PAGE} 00000001 {ROOT} {END}", False),
-    (f"{PAGE} 00000001 {handle('00000001')} 00000001 {ROOT} {END}", False),
-    ("00002715 00000000", True),
-    ("00002715", False),
-]
-
 # Streams at a limit or at fault: their bytes, what is taken, where it stops, and the reply.
 LIMITS = [
     ("an empty record", octets("80000000"), 4, 12, None),
     ("a fragment of 2^31 - 1 bytes", octets("ffffffff"), 4, 11, None),
-    ("a full record, and one byte more", octets("00020000") + bytes(131_072) + octets("80000001"), 131_080, 11, None),
+    (
+        "a full record, and one byte more",
+        octets("00020000") + bytes(131_072) + octets("80000001"),
+        131_080,
+        11,
+        None,
+    ),
     (
         "GETATTR with zeros behind it, a record of 131,072 bytes",
         octets(f"80020000 {call('00000001', '00000001')} {handle('00000001')}") + bytes(131_016),

@@ -1,4 +1,5 @@
-"""Generated hostile streams over TCP: each has a connection of its own, and its replies are compared."""
+"""Generated hostile streams over TCP: each has a connection of its own, and its replies are
+compared."""
 
 import random
 import socket
@@ -23,7 +24,7 @@ def send(peer, stream, rng):
         pass
 
 
-def try_stream(address, source, stream, rng):
+def try_stream(address, source, service, stream, rng):
     """Gives a stream to the server. One in ten peers goes away, in one of two ways."""
     peer = connect(address, source)
     try:
@@ -35,7 +36,7 @@ def try_stream(address, source, stream, rng):
             peer.sendall(stream)
         else:
             send(peer, stream, rng)
-            compare(stream, *read_all(peer))
+            compare(stream, *read_all(peer), service)
     except (TimeoutError, OSError) as error:
         raise Differs(f"{type(error).__name__}: {error}") from None
     finally:
@@ -44,17 +45,19 @@ def try_stream(address, source, stream, rng):
 
 def job(task):
     """So many streams of one seed, from one address."""
-    address, source, seed, count = task
+    address, source, service, seed, count = task
     rng, passed, failures = random.Random(seed), 0, []
     try:
-        client = Client(address, source)
+        client = Client(address, source, service)
         for k in range(count):
-            stream = made(rng)
+            stream = made(rng, service)
             try:
-                try_stream(address, source, stream, rng)
+                try_stream(address, source, service, stream, rng)
                 passed += 1
             except Differs as difference:
-                failures.append(f"stream {k} of seed {seed} over TCP ({stream[:40].hex()}): {difference}")
+                failures.append(
+                    f"stream {k} of seed {seed} over TCP ({stream[:40].hex()}): {difference}"
+                )
                 if len(failures) > 20:
                     break
             if k % BETWEEN == BETWEEN - 1:
@@ -65,13 +68,15 @@ def job(task):
     return passed, failures
 
 
-def run(filer, pool, jobs, seed, streams):
+def run(filer, pool, jobs, seed, streams, command):
     """So many streams in one run of a server, by as many processes as the pool has."""
     count = -(-streams // jobs)
     passed, failures = 0, []
     try:
-        with Server(filer, jobs * (count + 1) + 1, workers=4) as server:
-            tasks = [(server.address, f"127.0.1.{k + 1}", seed + k, count) for k in range(jobs)]
+        # `export` has one connection more, by which its run's verifier is asked for
+        with Server(filer, jobs * (count + 1) + 2, workers=4, command=command) as server:
+            at = lambda k: (server.address, f"127.0.1.{k + 1}", server.service)
+            tasks = [(*at(k), seed + k, count) for k in range(jobs)]
             for good, bad in pool.imap_unordered(job, tasks):
                 passed += good
                 failures += bad
@@ -82,5 +87,5 @@ def run(filer, pool, jobs, seed, streams):
                 server.end()
                 passed += 1
     except (Differs, OSError) as difference:
-        failures.append(f"the server of generated streams: {difference}")
+        failures.append(f"the server of generated streams ({command}): {difference}")
     return passed, failures

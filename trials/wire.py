@@ -1,31 +1,36 @@
-"""Calls of NFS version 3 and of the admin program as bytes, and replies read (RFC 4506, 5531 and 1813)."""
+"""Calls of NFS version 3, MOUNT and the admin program as bytes, and replies read (RFC 4506, 5531
+and 1813)."""
 
 import struct
 
-NFS, ADMIN = (100003, 3), (0x20000001, 1)
-SUCCESS, SYSTEM_ERR = 0, 5
-OK, NOENT = 0, 2
+from xdr import hyper, opaque, words
+
+NFS, MOUNT, ADMIN = (100003, 3), (100005, 3), (0x20000001, 1)
+SUCCESS, PROG_MISMATCH, SYSTEM_ERR = 0, 2, 5
+OK, NOENT, NOTSUPP = 0, 2, 10004
 
 
-def words(*values):
-    return struct.pack(f">{len(values)}I", *values)
+class Files:
+    """How a server names files: by 12 bytes, with the verifier of its run behind them where it
+    has one."""
 
+    def __init__(self, verifier=b""):
+        self.verifier = verifier
 
-def hyper(value):
-    return struct.pack(">Q", value)
+    def handle(self, fileid, volume=0):
+        return opaque(words(volume) + hyper(fileid) + self.verifier)
 
+    def entry(self, directory, name):
+        """The arguments that name an entry of a directory."""
+        return self.handle(directory) + opaque(name.encode())
 
-def opaque(data):
-    return words(len(data)) + data + bytes(-len(data) % 4)
-
-
-def handle(fileid, volume=0):
-    return opaque(words(volume) + hyper(fileid))
-
-
-def entry(directory, name):
-    """The arguments that name an entry of a directory."""
-    return handle(directory) + opaque(name.encode())
+    def fileid(self, reader):
+        """The fileid of a handle in a reply, of volume 0."""
+        given = reader.opaque()
+        fileid = int.from_bytes(given[4:12], "big")
+        if opaque(given) != self.handle(fileid):
+            raise ValueError("a handle of another form, volume or run")
+        return fileid
 
 
 UNSET = words(0, 0, 0, 0, 0, 0)
@@ -61,10 +66,6 @@ class Reader:
         data = self.bytes(size)
         self.bytes(-size % 4)
         return data
-
-    def fileid(self):
-        """The fileid of a handle."""
-        return struct.unpack(">IQ", self.opaque())[1]
 
     def attributes(self):
         """Attributes: type, size, used and fileid among them."""

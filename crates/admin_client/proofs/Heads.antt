@@ -1,5 +1,5 @@
 -- Replies as they are read.
-use Rattle.std.proofs.Common.{◌≡◌, ◌≢◌, ℕ, ◌^◌, ◌<◌, Bool, true, false, cond, eqb, List, [], ◌++◌, Option, Some, None, Result, Ok, Err, refl, sym, ap, subst, ◌∙◌, append_assoc, arith, inl, inr, map}
+use Rattle.std.proofs.Common.{◌≡◌, ℕ, ◌^◌, ◌<◌, Bool, true, false, cond, eqb, List, [], ◌++◌, Option, Some, None, Result, Ok, Err, refl, ap, ◌∙◌, arith, inl, inr, map}
 use Rattle.std.proofs.lemmas.Bool.{eqb-true, eq-eqb}
 use Rattle.xdr.specs.declared.fault.Fault.{Fault}
 use Rattle.xdr.specs.Shape.{Shape, Case, NoCase, Value, Fits, spelling}
@@ -10,7 +10,7 @@ use Rattle.nfs_model.specs.Types as model
 use Rattle.nfs_types.specs.Results.{answer_bytes, census_shape, count_value}
 use Rattle.rpc_msg.specs.Replies.{auth_shape, no_verifier, reply_bytes}
 use Rattle.admin_client.specs.declared.fault.AdminFault.{AdminFault}
-use Rattle.admin_client.specs.declared.fault.AdminFault.TheVariants.{Malformed, OfAnotherCall, Refused}
+use Rattle.admin_client.specs.declared.fault.AdminFault.TheVariants.{OfAnotherCall, Refused}
 use Rattle.admin_client.specs.declared.growth.Growth.{Growth}
 use Rattle.admin_client.specs.declared.growth.Growth.TheVariants.{Grown, NoVolume, NoRange, TooManyRanges, TooFewSpare}
 use Rattle.admin_client.specs.declared.refusal.CallRefusal.{CallRefusal}

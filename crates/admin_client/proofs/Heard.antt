@@ -1,5 +1,5 @@
 -- What a server hears of a call.
-use Rattle.std.proofs.Common.{◌≡◌, ℕ, ◌^◌, ◌<◌, Bool, true, ◌&&◌, eqb, List, [], ◌++◌, Some, Ok, Err, refl, sym, ap, ◌∙◌, arith, inl}
+use Rattle.std.proofs.Common.{◌≡◌, ℕ, ◌^◌, ◌<◌, Bool, true, ◌&&◌, eqb, List, [], Some, Ok, refl, ap, ◌∙◌, arith, inl}
 use Rattle.std.proofs.lemmas.List.Folds.{list_any_at}
 use Rattle.xdr.specs.Shape.{Fits, spelling}
 use Rattle.nfs_model.specs.Types as model
@@ -14,14 +14,14 @@ use Rattle.rpc_msg.specs.declared.handle_form.HandleForm.TheVariants.{Plain, OfR
 use Rattle.rpc_msg.specs.declared.offer.Offer.{Offer}
 use Rattle.rpc_msg.specs.Offer.{form_of, offers, offers_program}
 use Rattle.rpc_msg.specs.Replies.{auth_shape, no_verifier}
-use Rattle.rpc_msg.specs.Heads.{Head, Call, head_by, known_version, nobody, version_by}
+use Rattle.rpc_msg.specs.Heads.{Call, head_by, nobody, version_by}
 use Rattle.rpc_msg.specs.Calls.{IsCallBy, call_shape, call_value}
 use Rattle.rpc_msg.specs.Handles.{call_heard}
-use Rattle.rpc_msg.specs.Records.{asked_by, heard_from, heard_by}
+use Rattle.rpc_msg.specs.Records.{heard_from}
 use Rattle.rpc_msg.specs.Hearing.{AsksForBy}
 use Rattle.admin_client.specs.declared.call.AdminCall.{AdminCall}
 use Rattle.admin_client.specs.declared.call.AdminCall.TheVariants.{Census, Grow}
-use Rattle.admin_client.specs.Asking.{arguments_of, call_bytes, number_of, model_call, procedure_of, CallFits}
+use Rattle.admin_client.specs.Asking.{arguments_of, call_bytes, model_call, procedure_of, CallFits}
 
 -- that a call's spelling is found again, as `rpc_msg` has it
 abbrev pub FoundAgain : Type 0
@@ -73,9 +73,9 @@ is_call offer xid (Grow volume ranges) small e = record {
 }
 
 arguments_asked : (call : AdminCall) → CallFits call → asked (procedure_of call) (arguments_of call) ≡ Ok (model_call call)
-arguments_asked Census fits = asked_again procedures.Census [] model.Census (tt, ((tt, refl), refl))
+arguments_asked Census fits = asked_again procedures.Census [] model.Census (tt, (tt, refl), refl)
 arguments_asked (Grow volume ranges) fits =
-    asked_again procedures.Grow (spelling growing_shape (volume.0, ranges)) (model.Grow volume.0 ranges) ((volume.0, ranges), ((fits, refl), refl))
+    asked_again procedures.Grow (spelling growing_shape (volume.0, ranges)) (model.Grow volume.0 ranges) ((volume.0, ranges), (fits, refl), refl)
 
 -- it has no handle
 call_same : (form : HandleForm) (call : AdminCall) → call_heard form (model_call call) ≡ model_call call

@@ -1,11 +1,13 @@
 -- Pieces of a stream.
-use Rattle.std.proofs.Common.{◌≡◌, ℕ, ◌+◌, ◌<◌, true, List, [], ◌++◌, length, take, drop, Option, Some, None, refl, sym, ap, subst, ◌∙◌, append_assoc, arith}
+use Rattle.std.proofs.Common.{◌≡◌, ℕ, ◌<◌, true, List, [], ◌++◌, length, take, drop, Option, Some, None, refl, sym, ap, subst, ◌∙◌, append_assoc, arith}
 use Rattle.std.proofs.lemmas.List.{take-append-drop, length-append, append-nil}
-use Rattle.std.specs.Prelude.{IfSome}
+use Rattle.std.specs.Prelude.{IfSome, IfErr, Result, Ok, Err}
 use Rattle.std.specs.Io.KnownBytes.{Consumes, Keeps, IsAtEnd}
 use Rattle.rpc_record.specs.Records.{IsRecord, IsAtFault, HasFault, HasNoFault, HasNoRecord, header, fragment, front}
-use Rattle.rpc_record.specs.Machine.{start}
-use Rattle.admin_client.specs.Incoming.{BeginsWith, IsOpen}
+use Rattle.rpc_record.specs.Machine.{State, start}
+use Rattle.admin_client.specs.declared.fault.AdminFault.{AdminFault}
+use Rattle.admin_client.specs.declared.fault.AdminFault.TheVariants.{Stream, Late, Cut, TooLong, Malformed, OfAnotherCall, Refused, NoMemory}
+use Rattle.admin_client.specs.Incoming.{BeginsWith, HasNext, IsFailure, IsOfStream, IsOpen, Takes}
 
 -- ---- what is in a piece
 
@@ -84,6 +86,51 @@ end_known (Some l) (Some m) read p q r f =
     (subst HasNoRecord all r, subst HasNoFault all f)
 
 -- nothing is said of it
-pub nothing_known : (a : Option (List ℕ)) → IfSome a (λ bytes. Unit {0})
+nothing_known : (a : Option (List ℕ)) → IfSome a (λ bytes. Unit {0})
 nothing_known None = tt
 nothing_known (Some l) = tt
+
+pub consumed_end : (a b c : Option (List ℕ)) (xs : List ℕ) → Consumes a b xs → Consumes b c [] → Consumes a c xs
+consumed_end None b c xs p q = tt
+consumed_end (Some l) None c xs p q = absurd p
+consumed_end (Some l) (Some m) None xs p q = absurd q
+consumed_end (Some l) (Some m) (Some n) xs p q = p ∙ ap (λ (t : List ℕ). xs ++ t) q
+
+-- a read that gave nothing is at the end
+pub read_ended : (b c : Option (List ℕ)) (n : ℕ) (block : List ℕ) → n ≡ 0 → 0 < length block
+    → Consumes b c (take n block) × (n ≡ 0 → 0 < length block → IsAtEnd c) → Consumes b c [] × IsAtEnd c
+read_ended b c n block e some r = (subst (λ (m : ℕ). Consumes b c (take m block)) e r.0, r.1 e some)
+
+module _ {X : Type 0} (view : X → List ℕ) where
+  pub failure_known : (a : Option (List ℕ)) (fault : AdminFault) → IsFailure fault → IfSome a (HasNext view (Err fault))
+  failure_known a Stream f = nothing_known a
+  failure_known a Late f = nothing_known a
+  failure_known a Cut f = absurd f
+  failure_known a TooLong f = absurd f
+  failure_known a NoMemory f = absurd f
+  failure_known a (Malformed fault) f = absurd f
+  failure_known a OfAnotherCall f = absurd f
+  failure_known a (Refused refusal) f = absurd f
+
+  pub taken_known : (a c : Option (List ℕ)) (came piece : List ℕ) (r : Result X AdminFault) (new : Option State) → Consumes a c (came ++ piece)
+      → Takes view came piece (Some r) new → IfSome a (HasNext view r)
+  taken_known a c came piece (Ok made) new p t = begins_known a c (view made) (came ++ piece) p t
+  taken_known a c came piece (Err Stream) new p t = absurd t
+  taken_known a c came piece (Err Late) new p t = absurd t
+  taken_known a c came piece (Err Cut) new p t = absurd t
+  taken_known a c came piece (Err TooLong) new p t = fault_known a c (came ++ piece) p t
+  taken_known a c came piece (Err NoMemory) new p t = nothing_known a
+  taken_known a c came piece (Err (Malformed fault)) new p t = absurd t
+  taken_known a c came piece (Err OfAnotherCall) new p t = absurd t
+  taken_known a c came piece (Err (Refused refusal)) new p t = absurd t
+
+  pub taken_fault : (came piece : List ℕ) (r : Result X AdminFault) (new : Option State) → Takes view came piece (Some r) new → IfErr r IsOfStream
+  taken_fault came piece (Ok made) new t = tt
+  taken_fault came piece (Err Stream) new t = absurd t
+  taken_fault came piece (Err Late) new t = absurd t
+  taken_fault came piece (Err Cut) new t = absurd t
+  taken_fault came piece (Err TooLong) new t = tt
+  taken_fault came piece (Err NoMemory) new t = tt
+  taken_fault came piece (Err (Malformed fault)) new t = absurd t
+  taken_fault came piece (Err OfAnotherCall) new t = absurd t
+  taken_fault came piece (Err (Refused refusal)) new t = absurd t

@@ -1,7 +1,7 @@
 -- The calls of the admin program as bytes (our profile, by RFC 5531 sections 8.2, 9 and 10.1).
 use Rattle.std.specs.Prelude.{ℕ, ◌^◌, ◌<◌, List, [], ◌++◌}
 use Rattle.std.specs.List.{flat_map}
-use Rattle.xdr.specs.Shape.{Value, word, spelling}
+use Rattle.xdr.specs.Shape.{word, spelling}
 use Rattle.nfs_model.specs.Types as model
 use Rattle.nfs_values.specs.declared.procedure.Procedure.{Procedure}
 use Rattle.nfs_values.specs.declared.procedure.Procedure.TheVariants as procedures

@@ -12,15 +12,27 @@ abbrev pub BeginsWith : List ℕ → List ℕ → Type 0
 BeginsWith made bytes = (spelled : List ℕ) × (after : List ℕ) × (bytes ≡ spelled ++ after) × IsRecord made spelled
 
 -- What these bytes of a stream are answered with: a record, seen by view, with which they begin; that they end before one is whole; or that
--- a header among them brings it above the limit. Nothing is said of them where the stream fails or memory runs out.
+-- a header among them brings it above the limit. Nothing is said of them at another fault.
 abbrev pub HasNext : {X : Type 0} → (X → List ℕ) → Result X AdminFault → List ℕ → Type 0
 HasNext view (Ok made) bytes = BeginsWith (view made) bytes
 HasNext view (Err Cut) bytes = HasNoRecord bytes × HasNoFault bytes
 HasNext view (Err TooLong) bytes = HasFault bytes
-HasNext view (Err Stream) bytes = Unit {0}
-HasNext view (Err Late) bytes = Unit {0}
-HasNext view (Err NoMemory) bytes = Unit {0}
-HasNext view (Err fault) bytes = ⊥
+HasNext view (Err fault) bytes = Unit {0}
+
+-- the stream itself failed
+abbrev pub IsFailure : AdminFault → Type 0
+IsFailure Stream = Unit {0}
+IsFailure Late = Unit {0}
+IsFailure fault = ⊥
+
+-- a fault of the stream, and not of what was read
+abbrev pub IsOfStream : AdminFault → Type 0
+IsOfStream Stream = Unit {0}
+IsOfStream Late = Unit {0}
+IsOfStream Cut = Unit {0}
+IsOfStream TooLong = Unit {0}
+IsOfStream NoMemory = Unit {0}
+IsOfStream fault = ⊥
 
 -- no record is whole yet and no header is at fault, where these bytes have come
 abbrev pub IsOpen : List ℕ → Option State → Type 0

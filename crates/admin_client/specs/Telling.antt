@@ -1,5 +1,5 @@
 -- What replies to calls of the admin program tell (our profile, by RFC 5531 section 9).
-use Rattle.std.specs.Prelude.{◌≡◌, ℕ, ◌^◌, ◌<◌, List, map, ◌==◌, ◌⊎◌, Option, Some, None, Result, Ok, Err, if◌then◌else◌}
+use Rattle.std.specs.Prelude.{◌≡◌, ℕ, ◌^◌, ◌<◌, List, map, ◌==◌, Option, Some, None, Result, Ok, Err, if◌then◌else◌}
 use Rattle.std.proofs.Common.{inl, inr}
 use Rattle.xdr.specs.declared.fault.Fault.{Fault}
 use Rattle.xdr.specs.Shape.{Shape, Void, Word, Hyper, Case, NoCase, Value}

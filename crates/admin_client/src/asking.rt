@@ -1,10 +1,10 @@
 //! A call over a stream, and its reply.
 
-ghost use Rattle.std.specs.Prelude.{IfOk, true};
+ghost use Rattle.std.specs.Prelude.{IfOk, IfErr, true};
 ghost use Rattle.rpc_record.specs.Records.{fragment};
 ghost use Rattle.nfs_types.specs.Results.{census_shape};
 ghost use Rattle.admin_client.specs.Asking.{call_bytes};
-ghost use Rattle.admin_client.specs.Incoming.{HasReply};
+ghost use Rattle.admin_client.specs.Incoming.{HasReply, IsOfStream};
 ghost use Rattle.admin_client.specs.Telling.{growth_shape, growth_value, census_value};
 ghost use Rattle.admin_client.specs.Over.{TellsOver};
 
@@ -27,8 +27,9 @@ fn ask<S: Read + Write>(
     alloc: Global,
     call: AdminCall,
 ) -> Result<Vec<u8>, AdminFault>
-    ensures { IfOk result (λ reply. HasReply S.contents S.remaining stream.old
+    ensures reply { IfOk result (λ reply. HasReply S.contents S.remaining stream.old
         (fragment true (call_bytes XID call)) reply.items) }
+    ensures faults { IfErr result IsOfStream }
 {
     let message = call_record(alloc, XID, call)?;
     match stream.write_all(&message) {

@@ -46,8 +46,13 @@ impl From<Fault> for AdminFault {
 }
 
 impl AdminFault {
+    ghost use Rattle.admin_client.specs.Incoming.{IsFailure, IsOfStream};
+
     /// Why a stream can't be written or read: `Late` where it waited, else `Stream`.
-    pub(crate) fn of_stream(error: &io::Error) -> AdminFault {
+    pub(crate) fn of_stream(error: &io::Error) -> AdminFault
+        ensures failed { IsFailure result }
+        ensures of_stream { IsOfStream result }
+    {
         match error.kind() {
             io::ErrorKind::WouldBlock | io::ErrorKind::TimedOut => AdminFault::Late,
             _ => AdminFault::Stream,

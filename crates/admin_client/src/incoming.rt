@@ -1,7 +1,7 @@
 //! The record that a stream has next.
 
-ghost use Rattle.std.specs.Prelude.{List, ℕ, IfSome};
-ghost use Rattle.admin_client.specs.Incoming.{HasNext, IsOpen, Takes};
+ghost use Rattle.std.specs.Prelude.{List, ℕ, IfSome, IfErr};
+ghost use Rattle.admin_client.specs.Incoming.{HasNext, IsOfStream, IsOpen, Takes};
 
 use crate::fault::AdminFault;
 use rpc_record::{Reassembler, Step};
@@ -30,18 +30,18 @@ fn take(records: &mut Reassembler, piece: &[u8]) -> Option<Result<Vec<u8>, Admin
 /// The next record of a stream, however it is cut (RFC 5531 section 11). What has come behind it
 /// is lost.
 pub fn next_record<R: Read>(alloc: Global, stream: &mut R) -> Result<Vec<u8>, AdminFault>
-    ensures { IfSome (R.remaining stream.old) (HasNext (λ made. made.items) result) }
+    ensures next { IfSome (R.remaining stream.old) (HasNext (λ made. made.items) result) }
+    ensures faults { IfErr result IsOfStream }
 {
     let mut records = Reassembler::new(alloc);
     let mut block = [0; BLOCK];
-    for _ in 0..u64::MAX {
+    for _turn in 0..u64::MAX {
         match stream.read(&mut block) {
             Ok(0) => return Err(AdminFault::Cut),
-            Ok(size) => {
-                if let Some(ended) = take(&mut records, &block[..size]) {
-                    return ended;
-                }
-            }
+            Ok(size) => match take(&mut records, &block[..size]) {
+                Some(ended) => return ended,
+                None => {}
+            },
             Err(error) => {
                 if error.kind() != ErrorKind::Interrupted {
                     return Err(AdminFault::of_stream(&error));

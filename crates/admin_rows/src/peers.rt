@@ -25,27 +25,27 @@ const TOO_LONG: [u8; 4] = [0x80, 2, 0, 1];
 const PEERS: [(&[u8], &str, &str); 5] = [
     (
         &PROG_UNAVAIL,
-        "fault 69\n",
+        "fault 72\n",
         "the server refuses the call: PROG_UNAVAIL, it has no admin program\n",
     ),
     (
         &CUT,
-        "fault 68\n",
+        "fault 71\n",
         "the server ended the connection before it had answered\n",
     ),
     (
         &OTHER,
-        "fault 68\n",
+        "fault 71\n",
         "the server's answer is the reply to another call\n",
     ),
     (
         &NO_REPLY,
-        "fault 68\n",
+        "fault 71\n",
         "the server's answer is no reply of an admin program\n",
     ),
     (
         &TOO_LONG,
-        "fault 68\n",
+        "fault 71\n",
         "the server's answer is longer than a record may be\n",
     ),
 ];
@@ -78,7 +78,7 @@ fn a_server_that_is_not_there(rt: HostRuntime) {
     drop(listener);
     let ended = census(rt, address);
     assert!(&rt; ended.status == 1);
-    assert!(&rt; ended.out.as_slice() == b"fault 67\n");
+    assert!(&rt; ended.out.as_slice() == b"fault 70\n".as_slice());
     assert!(&rt;
         ended
             .err

@@ -74,7 +74,7 @@ fn lines_that_are_none(rt: HostRuntime) {
 fn what_is_so_unless_it_is_said(rt: HostRuntime) {
     match command(rt.alloc(), &["filer", "export", "--listen", "127.0.0.1:0"]) {
         Ok(Command::Export(options)) => {
-            assert!(&rt; options.volumes == 1 && options.workers == 2);
+            assert!(&rt; options.volumes == 1 && options.workers == 4);
             assert!(&rt; options.connections.is_none());
             assert!(&rt; options.admission.most_open == 1_024);
             assert!(&rt; options.admission.when_full == WhenFull::IsClosed);

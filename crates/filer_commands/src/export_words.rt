@@ -2,6 +2,7 @@
 
 use crate::limits::{
     MOST_CONNECTIONS, MOST_IDLE, MOST_MINUTES, MOST_RANGES, MOST_VOLUMES, MOST_WORKERS,
+    USUAL_WORKERS,
 };
 use clap::{Arg, ArgAction, ArgMatches, value_parser};
 use server::{
@@ -101,18 +102,19 @@ pub(crate) fn export<'a>(alloc: Global) -> Result<clap::Command<'a>, AllocError>
         "ADDR",
         "Address and port, as 127.0.0.1:2049",
     );
+    let workers = optional(
+        alloc,
+        "workers",
+        "N",
+        "Threads that serve, 1 to 64 [one a processor, at most 4]",
+    )
+    .value_parser(value_parser!(u64).range(1..=MOST_WORKERS));
     let command = clap::Command::new(alloc, "export")
         .about("Serves clients that mount, until it is ended")
         .after_help(EXAMPLE)
         .arg(listen.required(true))?
         .arg(number(alloc, "volumes", MOST_VOLUMES, "1", "Volumes, 1 to 8"))?
-        .arg(number(
-            alloc,
-            "workers",
-            MOST_WORKERS,
-            "2",
-            "Threads that serve, 1 to 64",
-        ))?
+        .arg(workers)?
         .arg(number(
             alloc,
             "ranges",
@@ -138,19 +140,23 @@ fn peers_in(matches: &ArgMatches<'_>) -> Option<Peers> {
     Some(Peers::Networks(networks))
 }
 
-/// What a server that clients mount is asked to do, but for what it offers, which is of its run:
-/// without a number of connections it goes on until it is ended.
-pub(crate) fn options_in(matches: &ArgMatches<'_>) -> Option<Options> {
+/// What a server that clients mount is asked to do, on a machine of so many processors, but for
+/// what it offers, which is of its run: without a number of connections it goes on until it is
+/// ended.
+pub(crate) fn options_in(matches: &ArgMatches<'_>, processors: usize) -> Option<Options> {
     let address = matches.get_str("listen")?.parse::<SocketAddr>().ok()?;
     let volumes = matches.get_one::<u64>("volumes")?;
-    let workers = matches.get_one::<u64>("workers")?;
+    let workers = match matches.get_one::<u64>("workers") {
+        Some(workers) => workers as usize,
+        None => processors.clamp(1, USUAL_WORKERS),
+    };
     let ranges = matches.get_one::<u64>("ranges")?;
     let connections = matches.get_one::<u64>("connections");
     let idle = matches.get_one::<u64>("idle")?;
     let idle = IdleTime::new(u32::try_from(idle).ok()?)?;
     let plan = VolumePlan::export(u32::try_from(ranges).ok()?)?;
     let peers = peers_in(matches)?;
-    let options = Options::new(address, volumes as usize, workers as usize, connections)?;
+    let options = Options::new(address, volumes as usize, workers, connections)?;
     let options = options
         .with_admission(ADMISSION)
         .with_peers(peers)

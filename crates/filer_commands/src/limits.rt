@@ -6,6 +6,9 @@ pub(crate) const MOST_VOLUMES: i64 = 8;
 /// The most workers of a server.
 pub(crate) const MOST_WORKERS: i64 = 64;
 
+/// The most workers of `export` where no number is named.
+pub(crate) const USUAL_WORKERS: usize = 4;
+
 /// The most ranges of a volume.
 pub(crate) const MOST_RANGES: i64 = 16;
 

@@ -7,15 +7,16 @@ use crate::choice::Command;
 use crate::replay::{ProgramFault, print_fault, replay};
 use crate::words::{command_told, print_help};
 use rpc_msg::Offer;
-use server::{Options, Peers, ServerFault, run_now, serve, serve_told};
+use server::{Options, ServerFault, run_now, serve, serve_told};
 use std::alloc::{AllocError, Global};
 use std::convert::AsStr;
 use std::fs::File;
 use std::io::{self, Write};
 use std::net::{Net, SocketAddr, TcpListener, TcpStream};
+use std::num::NonZeroUsize;
 use std::rt::{Clock, Files};
 use std::sync::Wait;
-use std::thread::Threads;
+use std::thread::{Threads, available_parallelism};
 
 /// What ends a server, as what ends the program.
 fn of_server(fault: ServerFault) -> ProgramFault {
@@ -174,12 +175,11 @@ fn tell_exports<E: Write>(err: &mut E, options: &Options, address: &SocketAddr) 
             "exported: /vol{volume}, {size} MiB, files of at most 64 MiB"
         );
     }
-    let who = match &options.peers {
-        Peers::All => "everybody",
-        Peers::Loopback => "this machine alone",
-        Peers::Networks(_) => "the networks that were named",
-    };
-    let _told = writeln!(err, "may connect: {who}; modes are told and guard nothing");
+    let peers = &options.peers;
+    let _told = writeln!(
+        err,
+        "may connect: {peers}; modes are told and guard nothing"
+    );
     let _told = writeln!(
         err,
         "mount -t nfs -o vers=3,proto=tcp,port={port},mountport={port},mountproto=tcp,nolock \
@@ -197,7 +197,8 @@ where
     E: Write,
     ensures { IfOk result (λ status. status ≤ 1) }
 {
-    let command = command_told(rt.alloc(), words, err)?;
+    let processors = available_parallelism(&rt).map_or(1, NonZeroUsize::get);
+    let command = command_told(rt.alloc(), words, processors, err)?;
     let ended = match command {
         Command::Replay { path } => run_script(&rt, path, out),
         Command::Serve(options) => run_server(rt, &options, out),

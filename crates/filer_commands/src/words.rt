@@ -3,7 +3,7 @@
 use crate::admin_words::{self, census, grow};
 use crate::choice::Command;
 use crate::export_words::{self, export};
-use crate::limits::{MOST_CONNECTIONS, MOST_VOLUMES, MOST_WORKERS};
+use crate::limits::{MOST_CONNECTIONS, MOST_VOLUMES, MOST_WORKERS, USUAL_WORKERS};
 use crate::replay::ProgramFault;
 use clap::error::ErrorKind;
 use clap::{Arg, ArgAction, ArgMatches, Error, value_parser};
@@ -134,12 +134,15 @@ fn options_in<'a>(matches: &ArgMatches<'a>) -> Option<Command<'a>> {
     Some(Command::Serve(options))
 }
 
-/// What was parsed, as a command.
-fn chosen<'a>(matches: &ArgMatches<'a>) -> Option<Command<'a>> {
+/// What was parsed, as a command on a machine of so many processors.
+fn chosen<'a>(matches: &ArgMatches<'a>, processors: usize) -> Option<Command<'a>> {
     match matches.subcommand() {
         Some(("replay", inner)) => path_in(inner),
         Some(("serve", inner)) => options_in(inner),
-        Some(("export", inner)) => Some(Command::Export(export_words::options_in(inner)?)),
+        Some(("export", inner)) => {
+            let options = export_words::options_in(inner, processors)?;
+            Some(Command::Export(options))
+        }
         Some(("census", inner)) => admin_words::census_in(inner),
         Some(("grow", inner)) => admin_words::grow_in(inner),
         Some(("version", _)) => Some(Command::Version),
@@ -182,24 +185,27 @@ fn tell_of_address<E: Write>(err: &mut E) {
     let _told = err.write_all(ADDRESS_HELP.as_bytes());
 }
 
-/// The command that the words ask for; the first word is the program's name.
+/// The command that the words ask for; the first word is the program's name. Where no number of
+/// workers is named, `export` has four.
 ///
 /// `CommandLine` where the words are no command or ask for help, but of `export`, `census` and
 /// `grow`, `NoMemory` where memory ran out.
 pub fn command<'a, S: AsStr>(alloc: Global, words: &'a [S]) -> Result<Command<'a>, ProgramFault> {
-    command_told(alloc, words, &mut io::sink())
+    command_told(alloc, words, USUAL_WORKERS, &mut io::sink())
 }
 
-/// The same, and where the words are no command it tells for people what is wrong with them and
-/// how they would be right, or the help that they ask for.
+/// The same on a machine of so many processors: where no number of workers is named, `export` has
+/// as many, but at most four. Where the words are no command it tells for people what is wrong
+/// with them and how they would be right, or the help that they ask for.
 pub fn command_told<'a, S: AsStr, E: Write>(
     alloc: Global,
     words: &'a [S],
+    processors: usize,
     err: &mut E,
 ) -> Result<Command<'a>, ProgramFault> {
     let declared = declared(alloc)?;
     match declared.try_get_matches_from(words) {
-        Ok(matches) => match chosen(&matches) {
+        Ok(matches) => match chosen(&matches, processors) {
             Some(command) => Ok(command),
             None => {
                 tell_of_address(err);

@@ -3,6 +3,7 @@
 ghost use Rattle.std.specs.Prelude.{◌≡◌, ◌↔◌, ◌≤◌, ◌<◌, IsTrue};
 ghost use Rattle.server.specs.Networks.{width_of, Agree, IsIn};
 
+use std::fmt;
 use std::net::IpAddr;
 
 /// The addresses whose first bits are those of one address (RFC 4632 section 3.1).
@@ -89,5 +90,12 @@ impl Network {
             }
             _ => false,
         }
+    }
+}
+
+impl fmt::Display for Network {
+    fn fmt<W: fmt::Write>(&self, f: &mut fmt::Formatter<W>) -> fmt::Result {
+        let (address, bits) = (self.address, self.bits);
+        write!(f, "{address}/{bits}")
     }
 }

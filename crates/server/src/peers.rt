@@ -4,6 +4,7 @@ ghost use Rattle.std.specs.Prelude.{◌↔◌, Any, IsTrue};
 ghost use Rattle.server.specs.Peers.{IsNamed, Serves};
 
 use crate::network::Network;
+use std::fmt;
 use std::net::IpAddr;
 
 /// The most networks that may be named.
@@ -46,6 +47,29 @@ impl Peers {
             Peers::All => true,
             Peers::Loopback => address.is_loopback(),
             Peers::Networks(networks) => is_in_some(networks, address),
+        }
+    }
+}
+
+/// Tells networks, each after a comma but the first.
+fn write_networks<W: fmt::Write>(
+    f: &mut fmt::Formatter<W>,
+    networks: &[Option<Network>],
+) -> fmt::Result {
+    let mut between = "";
+    for network in networks.iter().flatten() {
+        write!(f, "{between}{network}")?;
+        between = ", ";
+    }
+    Ok(())
+}
+
+impl fmt::Display for Peers {
+    fn fmt<W: fmt::Write>(&self, f: &mut fmt::Formatter<W>) -> fmt::Result {
+        match self {
+            Peers::All => f.write_str("everybody"),
+            Peers::Loopback => f.write_str("this machine alone"),
+            Peers::Networks(networks) => write_networks(f, networks),
         }
     }
 }

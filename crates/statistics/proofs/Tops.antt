@@ -52,17 +52,17 @@ above time b long fits = lt_of_not-le {n = b} {m = 3} (λ (h : b ≤ 3). not_bel
 first_further : (m b before : ℕ) → 8 ≤ m → IsBucketOf (m / 2) b → 4 ≤ b → before + 1 ≡ b + 4 → top_of before < m
 first_further m b before long is four e =
     elim (eq-or-lt_of_le four) [
-      inl same ↦
-        let at : 7 ≡ before = omega (arith, same, e) in
-        let short : 7 < m = omega (arith, long) in
-        subst (λ n. top_of n < m) at short
-    | inr more ↦
-        let at : (b - 1) + 4 ≡ before = omega (arith, more, e) in
-        let up : (b - 1) + 1 ≡ b = omega (arith, more) in
-        let enough : 4 ≤ b - 1 = omega (arith, more) in
-        let further = top_of-further (b - 1) enough in
-        let half : top_of (b - 1) < m / 2 = is.first (b - 1) up in
-        subst (λ n. top_of n < m) at (omega (arith, further, half))
+      | inl same ↦
+          let at : 7 ≡ before = omega (arith, same, e) in
+          let short : 7 < m = omega (arith, long) in
+          subst (λ n. top_of n < m) at short
+      | inr more ↦
+          let at : (b - 1) + 4 ≡ before = omega (arith, more, e) in
+          let up : (b - 1) + 1 ≡ b = omega (arith, more) in
+          let enough : 4 ≤ b - 1 = omega (arith, more) in
+          let further = top_of-further (b - 1) enough in
+          let half : top_of (b - 1) < m / 2 = is.first (b - 1) up in
+          subst (λ n. top_of n < m) at (omega (arith, further, half))
     ]
 
 -- a time of twice as long is four buckets further

@@ -25,13 +25,13 @@ pub enum ProgramFault {
     #[error("fault 66")]
     Thread,
     /// A running server can't be reached.
-    #[error("fault 67")]
+    #[error("fault 70")]
     Connect,
     /// A running server gives no reply, or none that can be read.
-    #[error("fault 68")]
+    #[error("fault 71")]
     Reply,
     /// A running server refuses a call.
-    #[error("fault 69")]
+    #[error("fault 72")]
     CallRefused,
     /// Memory ran out.
     #[error("refused 90")]

@@ -1,0 +1,130 @@
+"""XDR (RFC 4506) read from left to right, with the types of RFC 1813 that calls and results
+share."""
+
+import struct
+from collections import namedtuple
+
+
+def words(*values):
+    return struct.pack(f">{len(values)}I", *values)
+
+
+def hyper(value):
+    return struct.pack(">Q", value)
+
+
+def opaque(data):
+    """Variable opaque data."""
+    return words(len(data)) + data + bytes(-len(data) % 4)
+
+
+class NoSpelling(Exception):
+    """Bytes that spell no value of a type."""
+
+
+def must(is_so):
+    if not is_so:
+        raise NoSpelling
+
+
+class Reader:
+    """Bytes that are read from left to right, by the grammar of XDR (RFC 4506)."""
+
+    def __init__(self, data):
+        self.data, self.at = data, 0
+
+    def fixed(self, size):
+        """Fixed opaque data with their padding, which has to be zero."""
+        whole = (size + 3) // 4 * 4
+        part = self.data[self.at : self.at + whole]
+        if len(part) < whole or any(part[size:]):
+            raise NoSpelling
+        self.at += whole
+        return part[:size]
+
+    def word(self):
+        return int.from_bytes(self.fixed(4), "big")
+
+    def hyper(self):
+        return int.from_bytes(self.fixed(8), "big")
+
+    def choice(self, *values):
+        value = self.word()
+        if value not in values:
+            raise NoSpelling
+        return value
+
+    def boolean(self):
+        return self.choice(0, 1) == 1
+
+    def opaque(self, most=2**32):
+        size = self.word()
+        if size > most:
+            raise NoSpelling
+        return self.fixed(size)
+
+    def optional(self, read):
+        return read() if self.boolean() else None
+
+    def present(self, read):
+        """An optional part that has to be there."""
+        self.choice(1)
+        return read()
+
+    def end(self):
+        if self.at != len(self.data):
+            raise NoSpelling
+
+    # Types of RFC 1813, section 2.5 and 2.6.
+
+    def handle(self):
+        return self.opaque(64)
+
+    def where(self):
+        """diropargs3."""
+        return self.handle(), self.opaque()
+
+    def time(self):
+        return self.word(), self.word()
+
+    def time_to_set(self):
+        return self.time() if self.choice(0, 1, 2) == 2 else None
+
+    def to_set(self):
+        """sattr3."""
+        for _ in range(3):
+            self.optional(self.word)
+        self.optional(self.hyper)
+        self.time_to_set()
+        self.time_to_set()
+
+    def device(self):
+        """What mknoddata3 has behind its kind (section 3.3.11)."""
+        kind = self.choice(*range(1, 8))
+        if kind in (3, 4, 6, 7):
+            self.to_set()
+        if kind in (3, 4):
+            self.fixed(8)
+        return kind
+
+    def attributes(self):
+        """fattr3, of a file or a directory."""
+        spelled = self.fixed(84)
+        told = Attributes.read(spelled)
+        must(told.kind in (1, 2))
+        return told
+
+    def wcc_data(self):
+        """wcc_data with both of its parts."""
+        self.present(lambda: self.fixed(24))
+        return self.present(self.attributes)
+
+
+class Attributes(namedtuple("Attributes", "kind mode links uid gid size used fsid fileid")):
+    """What fattr3 (section 2.6) tells of a file or a directory; device numbers and times are
+    left out."""
+
+    @staticmethod
+    def read(spelled):
+        *first, size, used, _device, fsid, fileid = struct.unpack(">5I5Q", spelled[:60])
+        return Attributes(*first, size, used, fsid, fileid)
