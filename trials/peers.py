@@ -41,11 +41,19 @@ class Server:
             stderr=subprocess.DEVNULL if command == "export" else None,
             text=True,
         )
+        try:
+            self.address = self.listening()
+            self.service = BASIC if command == "serve" else export_at(self.address)
+        except (Differs, OSError):
+            self.__exit__()
+            raise
+
+    def listening(self):
+        """Where it listens, which it prints first."""
         first = self.process.stdout.readline().split()
         hold(len(first) == 2 and first[0] == "listening", f"no address: {first}")
         host, port = first[1].rsplit(":", 1)
-        self.address = (host, int(port))
-        self.service = BASIC if command == "serve" else export_at(self.address)
+        return host, int(port)
 
     def use_up(self, seconds):
         """Connects until the server has had all of its connections and ends."""

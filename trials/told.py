@@ -19,10 +19,12 @@ class Told(Server):
         self.process = subprocess.Popen(
             words, stdout=subprocess.PIPE, stderr=subprocess.PIPE, text=True
         )
-        first = self.process.stdout.readline().split()
-        hold(len(first) == 2 and first[0] == "listening", f"no address: {first}")
-        host, port = first[1].rsplit(":", 1)
-        self.address = (host, int(port))
+        try:
+            self.address = self.listening()
+        except Differs:
+            self.process.kill()
+            self.process.wait()
+            raise
         self.lines, self.came, self.lock = [], [], threading.Lock()
         self.reader = threading.Thread(target=self.read, daemon=True)
         if reads:
