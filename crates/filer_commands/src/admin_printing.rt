@@ -35,19 +35,8 @@ pub(crate) fn print_census<W: Write>(out: &mut W, census: &Census) -> Result<(),
     print_totals(out, census.totals())
 }
 
-/// Why a volume isn't grown, if it isn't.
-fn why_not(growth: Growth) -> Option<&'static str> {
-    match growth {
-        Growth::Grown { .. } => None,
-        Growth::NoVolume => Some("NOENT, there is no such volume"),
-        Growth::NoRange => Some("INVAL, no range is asked for"),
-        Growth::TooManyRanges => Some("FBIG, it would have more than 16 ranges"),
-        Growth::TooFewSpare => Some("NOSPC, not so many ranges are spare"),
-    }
-}
-
-/// Prints how many ranges a volume was given and how many blocks it has, or why it wasn't grown.
-/// Whether it was.
+/// Prints how many ranges a volume was given and how many blocks it has, or why it isn't grown.
+/// Whether it is.
 pub(crate) fn print_growth<W: Write>(
     out: &mut W,
     volume: VolumeNumber,
@@ -55,18 +44,22 @@ pub(crate) fn print_growth<W: Write>(
     growth: Growth,
 ) -> Result<bool, ProgramFault> {
     let volume = volume.0;
-    if let Some(why) = why_not(growth) {
-        writeln!(out, "volume {volume} isn't grown: {why}").map_err(of_output)?;
-        return Ok(false);
-    }
-    if let Growth::Grown { blocks } = growth {
-        writeln!(
-            out,
-            "volume {volume}: ranges added {ranges}, blocks now {blocks}"
-        )
-        .map_err(of_output)?;
-    }
-    Ok(true)
+    let why = match growth {
+        Growth::Grown { blocks } => {
+            writeln!(
+                out,
+                "volume {volume}: ranges added {ranges}, blocks now {blocks}"
+            )
+            .map_err(of_output)?;
+            return Ok(true);
+        }
+        Growth::NoVolume => "NOENT, there is no such volume",
+        Growth::NoRange => "INVAL, no range is asked for",
+        Growth::TooManyRanges => "FBIG, it would have more than 16 ranges",
+        Growth::TooFewSpare => "NOSPC, not so many ranges are spare",
+    };
+    writeln!(out, "volume {volume} isn't grown: {why}").map_err(of_output)?;
+    Ok(false)
 }
 
 /// Tells why a server doesn't do a call.
