@@ -56,10 +56,13 @@ fn write_networks<W: fmt::Write>(
     f: &mut fmt::Formatter<W>,
     networks: &[Option<Network>],
 ) -> fmt::Result {
-    let mut between = "";
+    let mut is_first = true;
     for network in networks.iter().flatten() {
-        write!(f, "{between}{network}")?;
-        between = ", ";
+        if !is_first {
+            f.write_str(", ")?;
+        }
+        is_first = false;
+        write!(f, "{network}")?;
     }
     Ok(())
 }

@@ -80,8 +80,10 @@ fn take_mail<R: Wait>(lane: &mut Lane<Socket, R>, station: &mut Station, rt: &R,
     }
     station.seen = left;
     station.mailbox.take(rt, &mut station.mail);
-    while let Some(arrival) = station.mail.pop() {
-        open(lane, station, rt, arrival, now);
+    for _ in 0..station.mail.len() {
+        if let Some(arrival) = station.mail.pop() {
+            open(lane, station, rt, arrival, now);
+        }
     }
 }
 

@@ -2,10 +2,12 @@
 
 use admin_client::next_record;
 use rpc_msg::HandleForm;
-use rpc_record::frame;
 use std::alloc::{AllocError, Global};
 use std::io::{Read, Write};
 use xdr::{Cursor, put_u32};
+
+/// The bit of a fragment's header that marks the record's last (RFC 5531 section 11).
+const LAST_FRAGMENT: u32 = 0x8000_0000;
 
 /// The xid of a call. Its reply is the first record that comes behind it.
 const XID: u32 = 1;
@@ -32,19 +34,24 @@ fn put_words(out: &mut Vec<u8>, words: &[u32]) -> Result<(), AllocError> {
     Ok(())
 }
 
-/// The record of FSSTAT of a volume's root, whose handle is spelled in this form.
+/// The record of FSSTAT of a volume's root, whose handle is spelled in this form: one fragment, the
+/// last (RFC 5531 section 11), of the head and of the handle with its size.
 fn call_of(alloc: Global, volume: u32, form: HandleForm) -> Result<Vec<u8>, AllocError> {
-    let mut message = Vec::new(alloc);
-    put_words(&mut message, &HEAD)?;
+    let mut framed = Vec::new(alloc);
     match form {
-        HandleForm::Plain => put_words(&mut message, &[12, volume, 0, ROOT])?,
+        HandleForm::Plain => {
+            put_words(&mut framed, &[LAST_FRAGMENT + 56])?;
+            put_words(&mut framed, &HEAD)?;
+            put_words(&mut framed, &[12, volume, 0, ROOT])?;
+        }
         HandleForm::OfRun(run) => {
-            let low = run % (1 << 32);
-            let run = [(run >> 32) as u32, low as u32];
-            put_words(&mut message, &[20, volume, 0, ROOT, run[0], run[1]])?;
+            let (high, low) = ((run >> 32) as u32, (run % (1 << 32)) as u32);
+            put_words(&mut framed, &[LAST_FRAGMENT + 64])?;
+            put_words(&mut framed, &HEAD)?;
+            put_words(&mut framed, &[20, volume, 0, ROOT, high, low])?;
         }
     }
-    frame(alloc, &message)
+    Ok(framed)
 }
 
 /// How many inodes are in use by a reply of FSSTAT, if it tells that.

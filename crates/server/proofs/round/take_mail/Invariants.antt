@@ -3,12 +3,9 @@ use Rattle.lanes.specs.Words.{filer_in, identity_in}
 use Rattle.server.specs.Lanes.{seats_of}
 use Rattle.server.proofs.round.take_mail.Given as goal
 
-abbrev pub invariant-loop-arrival : goal.invariant-loop-arrival
-invariant-loop-arrival g l = record {
+abbrev pub invariant-loop : goal.invariant-loop
+invariant-loop g l = record {
   filer : filer_in l.lane ≡ filer_in l.fn.lane;
   identity : identity_in l.lane ≡ identity_in l.fn.lane;
   seats : seats_of l.lane ≡ seats_of l.fn.lane;
 }
-
-abbrev pub decreases-loop-arrival : goal.decreases-loop-arrival
-decreases-loop-arrival g l = l.station.mail.len
