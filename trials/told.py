@@ -15,7 +15,7 @@ class Told(Server):
     the start on."""
 
     def __init__(self, filer, *options, reads=True):
-        words = [filer, "export", "--listen", "127.0.0.1:0", *options]
+        words = [filer, "export", "--listen", "127.0.0.1:0", "--workers", "2", *options]
         self.process = subprocess.Popen(
             words, stdout=subprocess.PIPE, stderr=subprocess.PIPE, text=True
         )
