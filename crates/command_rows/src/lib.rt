@@ -2,11 +2,15 @@
 #![tactic(auto)]
 
 #[cfg(test)]
+mod admin;
+#[cfg(test)]
 mod calls;
 #[cfg(test)]
 mod client;
 #[cfg(test)]
 mod crowd;
+#[cfg(test)]
+mod export;
 #[cfg(test)]
 mod lines;
 #[cfg(test)]

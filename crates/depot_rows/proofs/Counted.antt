@@ -9,7 +9,7 @@ use Rattle.parcels.specs.declared.family.Parcel.{Parcel}
 use Rattle.parcels.specs.Exact.{kind_in}
 use Rattle.parcels.specs.Filled.{volume_alike, aggregate_alike, serial_alike}
 use Rattle.parcels.specs.NumberIn.{number_in}
-use Rattle.parcels.specs.Places.{alone, or_else, in_places}
+use Rattle.parcels.specs.Slots.{alone, or_else, in_places}
 use Rattle.parcels.specs.Sets.{volume_around, aggregate_number}
 use Rattle.parcels.specs.Sets.{range_parcels, vbn_parcels, stripe_parcels, logical_parcels, volume_parcels, aggregate_parcels, serial_parcels}
 use Rattle.parcels.specs.declared.family.Parcel.TheVariants.{Range, Vbn, Stripe, Logical, Volume, Aggregate, Serial}

@@ -1,2 +1,2 @@
-mod Places
+mod Slots
 mod Worked

@@ -1,5 +1,5 @@
 pub mod Any
-pub mod Places
+pub mod Slots
 pub mod Refusal
 pub mod Tasks
 pub mod Words

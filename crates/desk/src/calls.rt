@@ -40,12 +40,12 @@ impl<M: Machine, K: NodeKinds<M::Parcel>> Desk<M, K> {
             &self.depot,
             &mut self.seat,
             affinity,
-            &mut self.places[worker],
+            &mut self.slots[worker],
         ) {
             Ok(()) => Ok(()),
             Err(Refused::Busy { node: _, word: _ }) => Err(Refusal::Taken),
             Err(Refused::Worn) => {
-                if is_taken(self.depot.layout(), self.places.as_slice(), affinity) {
+                if is_taken(self.depot.layout(), self.slots.as_slice(), affinity) {
                     return Err(Refusal::Taken);
                 }
                 Err(Refusal::Worn)
@@ -61,7 +61,7 @@ impl<M: Machine, K: NodeKinds<M::Parcel>> Desk<M, K> {
         ensures worked { HasWorked (W.does task) (books self.old) worker result
             (books self.new) }
     {
-        work_in::<M::Parcel, K, W>(self.depot.layout(), &mut self.places[worker], task)
+        work_in::<M::Parcel, K, W>(self.depot.layout(), &mut self.slots[worker], task)
     }
 
     /// Ends a worker's call by an entry of the history, with its parcels as they are.
@@ -77,7 +77,7 @@ impl<M: Machine, K: NodeKinds<M::Parcel>> Desk<M, K> {
         finish_in(
             &self.depot,
             &mut self.seat,
-            &mut self.places[worker],
+            &mut self.slots[worker],
             call,
             reply,
         );
@@ -91,6 +91,6 @@ impl<M: Machine, K: NodeKinds<M::Parcel>> Desk<M, K> {
         ensures kept { IsKept self.new }
         ensures back { HasPutBack (books self.old) worker (books self.new) }
     {
-        put_back_in(&self.depot, &mut self.seat, &mut self.places[worker]);
+        put_back_in(&self.depot, &mut self.seat, &mut self.slots[worker]);
     }
 }

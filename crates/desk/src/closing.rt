@@ -25,7 +25,7 @@ impl<M: Machine, K: NodeKinds<M::Parcel>> Desk<M, K> {
         let Desk {
             depot,
             seat,
-            places: _,
+            slots: _,
         } = self;
         depot.close::<K::Serial>(seat)
     }

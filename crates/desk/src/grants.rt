@@ -1,4 +1,4 @@
-//! Grants of nodes of any kind, begun and ended in a worker's place.
+//! Grants of nodes of any kind, begun and ended in a worker's slot.
 
 ghost use Rattle.std.specs.Prelude.{◌≡◌, Some, None, OnOk, IfErr, IsSomeAnd};
 ghost use Rattle.affinity.specs.Affinity.{affinity_of};
@@ -9,13 +9,13 @@ ghost use Rattle.depot.specs.Words.{machine_of, layout_in, view, splits_left};
 ghost use Rattle.depot.specs.Words.{IsSeatHere, IsNodeOf};
 ghost use Rattle.desk.specs.laws.Backing.{IsGranted, CanFinish, CanPutBack};
 ghost use Rattle.desk.specs.Any.{small_lent, large_lent};
-ghost use Rattle.desk.specs.Places.{granted};
+ghost use Rattle.desk.specs.Slots.{granted};
 
 use crate::grant::{LargeGrant, SmallGrant};
 use crate::kinds::NodeKinds;
 use crate::nodes::{begin_node, finish_node, put_back_node};
-use crate::place::Place;
 use crate::putting::{put_large, put_small};
+use crate::slot::Slot;
 use affinity::{Affinity, Kind};
 use depot::{Depot, Refusal, Seat};
 use depot_rule::machine::Machine;
@@ -27,23 +27,23 @@ fn begin_aggregate<M: Machine, K: NodeKinds<M::Parcel>>(
     depot: &Depot<M>,
     seat: &mut Seat<M>,
     affinity: Affinity,
-    place: &mut Place<M::Parcel, K>,
+    slot: &mut Slot<M::Parcel, K>,
 ) -> Result<(), Refusal>
     requires seat { IsSeatHere depot.now seat.old }
     requires node { IsNodeOf (layout_in depot.now) K.Aggregate.KIND affinity }
-    requires idle { granted place.old ≡ None }
+    requires idle { granted slot.old ≡ None }
     ensures seat { IsSeatHere depot.now seat.new }
     ensures splits { splits_left seat.new ≡ splits_left seat.old }
     ensures granted { let L = layout_in depot.now in OnOk result ((lends : _)
-        × (granted place.new ≡ Some lends)
+        × (granted slot.new ≡ Some lends)
         × IsGranted M.Parcel.kind (machine_of seat.old) L (view seat.old) (affinity_of affinity)
         (lends L) (view seat.new)) }
     ensures refused { IfErr result (λ refusal.
         IsRefused (layout_in depot.now) (view seat.old) affinity refusal (view seat.new)) }
-    ensures idle { IfErr result (λ refusal. granted place.new ≡ None) }
+    ensures idle { IfErr result (λ refusal. granted slot.new ≡ None) }
 {
     let node = begin_node::<M, K::Aggregate>(depot, seat, affinity)?;
-    put_large(place, LargeGrant::Aggregate(node));
+    put_large(slot, LargeGrant::Aggregate(node));
     Ok(())
 }
 
@@ -54,70 +54,70 @@ fn begin_serial<M: Machine, K: NodeKinds<M::Parcel>>(
     depot: &Depot<M>,
     seat: &mut Seat<M>,
     affinity: Affinity,
-    place: &mut Place<M::Parcel, K>,
+    slot: &mut Slot<M::Parcel, K>,
 ) -> Result<(), Refusal>
     requires seat { IsSeatHere depot.now seat.old }
     requires node { IsNodeOf (layout_in depot.now) K.Serial.KIND affinity }
-    requires idle { granted place.old ≡ None }
+    requires idle { granted slot.old ≡ None }
     ensures seat { IsSeatHere depot.now seat.new }
     ensures splits { splits_left seat.new ≡ splits_left seat.old }
     ensures granted { let L = layout_in depot.now in OnOk result ((lends : _)
-        × (granted place.new ≡ Some lends)
+        × (granted slot.new ≡ Some lends)
         × IsGranted M.Parcel.kind (machine_of seat.old) L (view seat.old) (affinity_of affinity)
         (lends L) (view seat.new)) }
     ensures refused { IfErr result (λ refusal.
         IsRefused (layout_in depot.now) (view seat.old) affinity refusal (view seat.new)) }
-    ensures idle { IfErr result (λ refusal. granted place.new ≡ None) }
+    ensures idle { IfErr result (λ refusal. granted slot.new ≡ None) }
 {
     let node = begin_node::<M, K::Serial>(depot, seat, affinity)?;
-    put_large(place, LargeGrant::Serial(node));
+    put_large(slot, LargeGrant::Serial(node));
     Ok(())
 }
 
-/// Begins a call on a node of whichever kind. Its grant is made in an idle worker's place, where it
+/// Begins a call on a node of whichever kind. Its grant is made in an idle worker's slot, where it
 /// stays. A refusal leaves the worker idle.
 pub(crate) fn begin_in<M: Machine, K: NodeKinds<M::Parcel>>(
     depot: &Depot<M>,
     seat: &mut Seat<M>,
     affinity: Affinity,
-    place: &mut Place<M::Parcel, K>,
+    slot: &mut Slot<M::Parcel, K>,
 ) -> Result<(), Refusal>
     requires seat { IsSeatHere depot.now seat.old }
     requires node { IsNode (layout_in depot.now) (affinity_of affinity) }
-    requires idle { granted place.old ≡ None }
+    requires idle { granted slot.old ≡ None }
     ensures seat { IsSeatHere depot.now seat.new }
     ensures splits { splits_left seat.new ≡ splits_left seat.old }
     ensures granted { let L = layout_in depot.now in OnOk result ((lends : _)
-        × (granted place.new ≡ Some lends)
+        × (granted slot.new ≡ Some lends)
         × IsGranted M.Parcel.kind (machine_of seat.old) L (view seat.old) (affinity_of affinity)
         (lends L) (view seat.new)) }
     ensures refused { IfErr result (λ refusal.
         IsRefused (layout_in depot.now) (view seat.old) affinity refusal (view seat.new)) }
-    ensures idle { IfErr result (λ refusal. granted place.new ≡ None) }
+    ensures idle { IfErr result (λ refusal. granted slot.new ≡ None) }
 {
     match affinity.kind() {
         Kind::Range => {
             let node = begin_node::<M, K::Range>(depot, seat, affinity)?;
-            put_small(place, SmallGrant::Range(node));
+            put_small(slot, SmallGrant::Range(node));
         }
         Kind::VolumeVbn => {
             let node = begin_node::<M, K::Vbn>(depot, seat, affinity)?;
-            put_small(place, SmallGrant::Vbn(node));
+            put_small(slot, SmallGrant::Vbn(node));
         }
         Kind::Stripe => {
             let node = begin_node::<M, K::Stripe>(depot, seat, affinity)?;
-            put_small(place, SmallGrant::Stripe(node));
+            put_small(slot, SmallGrant::Stripe(node));
         }
         Kind::VolumeLogical => {
             let node = begin_node::<M, K::Logical>(depot, seat, affinity)?;
-            put_small(place, SmallGrant::Logical(node));
+            put_small(slot, SmallGrant::Logical(node));
         }
         Kind::Volume => {
             let node = begin_node::<M, K::Volume>(depot, seat, affinity)?;
-            put_small(place, SmallGrant::Volume(node));
+            put_small(slot, SmallGrant::Volume(node));
         }
-        Kind::Aggregate => begin_aggregate(depot, seat, affinity, place)?,
-        Kind::Serial => begin_serial(depot, seat, affinity, place)?,
+        Kind::Aggregate => begin_aggregate(depot, seat, affinity, slot)?,
+        Kind::Serial => begin_serial(depot, seat, affinity, slot)?,
     }
     Ok(())
 }
@@ -180,24 +180,24 @@ fn finish_large<M: Machine, K: NodeKinds<M::Parcel>>(
 pub(crate) fn finish_in<M: Machine, K: NodeKinds<M::Parcel>>(
     depot: &Depot<M>,
     seat: &mut Seat<M>,
-    place: &mut Place<M::Parcel, K>,
+    slot: &mut Slot<M::Parcel, K>,
     call: &M::Call,
     reply: &M::Reply,
 )
     requires seat { IsSeatHere depot.now seat.old }
-    requires can { let L = layout_in depot.now in IsSomeAnd (granted place.old) (λ lends.
+    requires can { let L = layout_in depot.now in IsSomeAnd (granted slot.old) (λ lends.
         CanFinish M.Parcel.kind (machine_of seat.old) L (view seat.old) (lends L)
         call.now reply.now) }
     ensures seat { IsSeatHere depot.now seat.new }
     ensures splits { splits_left seat.new ≡ splits_left seat.old }
-    ensures finished { let L = layout_in depot.now in IsSomeAnd (granted place.old) (λ lends.
+    ensures finished { let L = layout_in depot.now in IsSomeAnd (granted slot.old) (λ lends.
         IsFinished (machine_of seat.old) (view seat.old) (number_of L (lends L).affinity)
         (entry_of L (lends L).affinity (lends L).parcels call.now reply.now) (view seat.new)) }
-    ensures idle { granted place.new ≡ None }
+    ensures idle { granted slot.new ≡ None }
 {
-    match place.small.take() {
+    match slot.small.take() {
         Some(grant) => finish_small(depot, seat, grant, call, reply),
-        None => match place.large.take() {
+        None => match slot.large.take() {
             Some(grant) => finish_large(depot, seat, grant, call, reply),
             None => unreachable!(),
         },
@@ -254,20 +254,20 @@ fn put_back_large<M: Machine, K: NodeKinds<M::Parcel>>(
 pub(crate) fn put_back_in<M: Machine, K: NodeKinds<M::Parcel>>(
     depot: &Depot<M>,
     seat: &mut Seat<M>,
-    place: &mut Place<M::Parcel, K>,
+    slot: &mut Slot<M::Parcel, K>,
 )
     requires seat { IsSeatHere depot.now seat.old }
-    requires can { let L = layout_in depot.now in IsSomeAnd (granted place.old) (λ lends.
+    requires can { let L = layout_in depot.now in IsSomeAnd (granted slot.old) (λ lends.
         CanPutBack L (view seat.old) (lends L)) }
     ensures seat { IsSeatHere depot.now seat.new }
     ensures splits { splits_left seat.new ≡ splits_left seat.old }
-    ensures ended { let L = layout_in depot.now in IsSomeAnd (granted place.old) (λ lends.
+    ensures ended { let L = layout_in depot.now in IsSomeAnd (granted slot.old) (λ lends.
         IsEnded (view seat.old) (number_of L (lends L).affinity) (view seat.new)) }
-    ensures idle { granted place.new ≡ None }
+    ensures idle { granted slot.new ≡ None }
 {
-    match place.small.take() {
+    match slot.small.take() {
         Some(grant) => put_back_small(depot, seat, grant),
-        None => match place.large.take() {
+        None => match slot.large.take() {
             Some(grant) => put_back_large(depot, seat, grant),
             None => unreachable!(),
         },

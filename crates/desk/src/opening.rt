@@ -1,30 +1,30 @@
 //! A desk at the start.
 
 ghost use Rattle.std.specs.Prelude.{◌≡◌, None, replicate, IfOk};
-ghost use Rattle.desk.specs.Places.{all_granted};
+ghost use Rattle.desk.specs.Slots.{all_granted};
 
 use crate::desk::Desk;
 use crate::kinds::NodeKinds;
-use crate::place::Place;
-use crate::putting::idle_place;
+use crate::putting::idle_slot;
+use crate::slot::Slot;
 use affinity::{HasKind, Layout};
 use depot::Depot;
 use depot_rule::machine::Machine;
 use parcels::Node;
 use std::alloc::{AllocError, Global};
 
-/// The places of so many idle workers.
-fn idle_places<T: HasKind, K: NodeKinds<T>>(
+/// The slots of so many idle workers.
+fn idle_slots<T: HasKind, K: NodeKinds<T>>(
     alloc: Global,
     count: usize,
-) -> Result<Vec<Place<T, K>>, AllocError>
-    ensures { IfOk result (λ places. all_granted places.items ≡ replicate count None) }
+) -> Result<Vec<Slot<T, K>>, AllocError>
+    ensures { IfOk result (λ slots. all_granted slots.items ≡ replicate count None) }
 {
-    let mut places = Vec::with_capacity(alloc, count)?;
+    let mut slots = Vec::with_capacity(alloc, count)?;
     for _done in 0..count {
-        places.push(idle_place())?;
+        slots.push(idle_slot())?;
     }
-    Ok(places)
+    Ok(slots)
 }
 
 impl<M: Machine, K: NodeKinds<M::Parcel>> Desk<M, K> {
@@ -52,13 +52,9 @@ impl<M: Machine, K: NodeKinds<M::Parcel>> Desk<M, K> {
         ensures opened { let L = layout_of layout in IfOk result (λ desk. books desk
             ≡ opening_books L (all_parcels K.Serial.parcels L parcels) workers) }
     {
-        let places = idle_places::<M::Parcel, K>(alloc, workers)?;
+        let slots = idle_slots::<M::Parcel, K>(alloc, workers)?;
         match Depot::<M>::new::<K::Serial>(alloc, layout, parcels) {
-            Ok((depot, seat)) => Ok(Desk {
-                depot,
-                seat,
-                places,
-            }),
+            Ok((depot, seat)) => Ok(Desk { depot, seat, slots }),
             Err(_) => Err(AllocError),
         }
     }

@@ -4,7 +4,7 @@ ghost use Rattle.std.specs.Prelude.{◌≡◌, ◌↔◌, true, length};
 
 use crate::desk::Desk;
 use crate::kinds::NodeKinds;
-use crate::putting::is_idle_place;
+use crate::putting::is_idle_slot;
 use crate::taken::is_taken;
 use affinity::{Affinity, Layout};
 use depot_rule::machine::Machine;
@@ -26,23 +26,23 @@ impl<M: Machine, K: NodeKinds<M::Parcel>> Desk<M, K> {
     pub fn worker_count(&self) -> usize
         ensures { result ≡ length (books self.now).lent }
     {
-        self.places.len()
+        self.slots.len()
     }
 
     /// Whether a worker is there and was lent nothing.
     pub fn is_idle(&self, worker: usize) -> bool
         ensures { (result ≡ true) ↔ IsIdle (books self.now) worker }
     {
-        if worker >= self.places.len() {
+        if worker >= self.slots.len() {
             return false;
         }
-        is_idle_place(&self.places[worker])
+        is_idle_slot(&self.slots[worker])
     }
 
     /// Whether something is lent that excludes an affinity. It goes over the workers once.
     pub fn is_taken(&self, affinity: Affinity) -> bool
         ensures { (result ≡ true) ↔ IsTaken (books self.now) (affinity_of affinity) }
     {
-        is_taken(self.depot.layout(), &self.places, affinity)
+        is_taken(self.depot.layout(), &self.slots, affinity)
     }
 }

@@ -5,11 +5,11 @@ ghost use Rattle.affinity.specs.Affinity.{affinity_of};
 ghost use Rattle.affinity.specs.Layout.{layout_of};
 ghost use Rattle.desk.specs.laws.Backing.{excludes_lent, IsTakenIn};
 ghost use Rattle.desk.specs.Any.{small_lent, large_lent};
-ghost use Rattle.desk.specs.Places.{granted, all_granted, shown};
+ghost use Rattle.desk.specs.Slots.{granted, all_granted, shown};
 
 use crate::grant::{LargeGrant, SmallGrant};
 use crate::kinds::NodeKinds;
-use crate::place::Place;
+use crate::slot::Slot;
 use affinity::{Affinity, HasKind, Layout};
 
 /// What was granted of a volume or below one.
@@ -46,13 +46,13 @@ fn affinity_in_large<T: HasKind, K: NodeKinds<T>>(
 /// Whether what a worker has excludes an affinity.
 fn is_excluded<T: HasKind, K: NodeKinds<T>>(
     layout: &Layout,
-    place: &Place<T, K>,
+    slot: &Slot<T, K>,
     affinity: Affinity,
 ) -> bool
     ensures { let L = layout_of layout.now in
-        result ≡ excludes_lent L (affinity_of affinity) (option_map (shown L) (granted place.now)) }
+        result ≡ excludes_lent L (affinity_of affinity) (option_map (shown L) (granted slot.now)) }
 {
-    match (&place.small, &place.large) {
+    match (&slot.small, &slot.large) {
         (Some(grant), _) => affinity.excludes(affinity_in_small(layout, grant), layout),
         (None, Some(grant)) => affinity.excludes(affinity_in_large(layout, grant), layout),
         (None, None) => false,
@@ -62,14 +62,14 @@ fn is_excluded<T: HasKind, K: NodeKinds<T>>(
 /// Whether a worker has something that excludes an affinity.
 pub(crate) fn is_taken<T: HasKind, K: NodeKinds<T>>(
     layout: &Layout,
-    places: &[Place<T, K>],
+    slots: &[Slot<T, K>],
     affinity: Affinity,
 ) -> bool
     ensures { let L = layout_of layout.now in
-        (result ≡ true) ↔ IsTakenIn shown L (all_granted places.now) (affinity_of affinity) }
+        (result ≡ true) ↔ IsTakenIn shown L (all_granted slots.now) (affinity_of affinity) }
 {
-    for worker in 0..places.len() {
-        if is_excluded(layout, &places[worker], affinity) {
+    for worker in 0..slots.len() {
+        if is_excluded(layout, &slots[worker], affinity) {
             return true;
         }
     }

@@ -7,11 +7,11 @@ ghost use Rattle.nfs_model.specs.Tree as trees;
 ghost use Rattle.desk.specs.laws.Books.{Lent};
 ghost use Rattle.desk.specs.laws.Backing.{IsWhole, IsDone};
 ghost use Rattle.desk.specs.Any.{small_lent, large_lent};
-ghost use Rattle.desk.specs.Places.{granted};
+ghost use Rattle.desk.specs.Slots.{granted};
 
 use crate::grant::{LargeGrant, SmallGrant};
 use crate::kinds::NodeKinds;
-use crate::place::Place;
+use crate::slot::Slot;
 use crate::task::Task;
 use affinity::{HasKind, Layout};
 
@@ -83,25 +83,25 @@ fn work_large<T: HasKind, K: NodeKinds<T>, W: Task<T, K>>(
     }
 }
 
-/// Does a task on what lies in a place.
+/// Does a task on what lies in a slot.
 pub(crate) fn work_in<T: HasKind, K: NodeKinds<T>, W: Task<T, K>>(
     layout: &Layout,
-    place: &mut Place<T, K>,
+    slot: &mut Slot<T, K>,
     task: W,
 ) -> W::Output
-    requires node { let L = layout_of layout.now in IsSomeAnd (granted place.old) (λ lends.
+    requires node { let L = layout_of layout.now in IsSomeAnd (granted slot.old) (λ lends.
         IsNode L (lends L).affinity) }
-    requires whole { let L = layout_of layout.now in IsSomeAnd (granted place.old) (λ lends.
+    requires whole { let L = layout_of layout.now in IsSomeAnd (granted slot.old) (λ lends.
         IsWhole T.kind L (lends L)) }
-    requires asks { let L = layout_of layout.now in IsSomeAnd (granted place.old) (λ lends.
+    requires asks { let L = layout_of layout.now in IsSomeAnd (granted slot.old) (λ lends.
         W.asks task L (lends L).affinity (lends L).parcels) }
-    ensures done { let L = layout_of layout.now in IsSomeAnd (granted place.old) (λ before.
-        (after : trees.Layout → Lent T) × (granted place.new ≡ Some after)
+    ensures done { let L = layout_of layout.now in IsSomeAnd (granted slot.old) (λ before.
+        (after : trees.Layout → Lent T) × (granted slot.new ≡ Some after)
         × IsWhole T.kind L (after L) × IsDone (W.does task) L (before L) result (after L)) }
 {
-    match &mut place.small {
+    match &mut slot.small {
         Some(grant) => work_small::<T, K, W>(layout, grant, task),
-        None => match &mut place.large {
+        None => match &mut slot.large {
             Some(grant) => work_large::<T, K, W>(layout, grant, task),
             None => unreachable!(),
         },

@@ -10,7 +10,7 @@ use Rattle.nfs_model.specs.Names.{without_name}
 use Rattle.nfs_values.specs.declared.number.Cookie.{Cookie}
 use Rattle.nfs_model.specs.volume.Directories.{DirectoryValue, Rises, found, added, removed, entry_added, empty_directory}
 use Rattle.directories.specs.Entries.{under, has, without, dropped}
-use Rattle.directories.specs.Index.{name_cmp, name_in, name_under, name_at, is_listed, IsIndex, IsIndexed, IsPlace, NamesRise}
+use Rattle.directories.specs.Index.{name_cmp, name_in, name_under, name_at, is_listed, IsIndex, IsIndexed, IsPosition, NamesRise}
 use Rattle.directories.proofs.Orders.{with-itself, all-at, all-take, all-drop, all-agree, sorted-agree, sorted-insert, sorted-filter}
 use Rattle.directories.proofs.Rising.{rises-push, rises-without, without-none}
 use Rattle.directories.proofs.Names.{differ-push, differ-without, without-same}
@@ -93,10 +93,10 @@ names-kept es index e x =
     all-known (λ c. name_under (es ++ e ∷ []) c ≡ name_under es c) index
     (λ c t. ap (λ (o : Option Listed). name_in o) (under-push es e c.0 (x.same c.0 ∙ t)))
 
-index-added : (d : DirectoryValue) (index : List Cookie) (place : ℕ) (c : Cookie) (name : List ℕ) (fileid : ℕ) → IsIndexed d index
-    → IsPlace d index name place
-    → c.0 ≡ d.next → IsIndex (added name fileid d).list (insert index place c)
-index-added d index place c name fileid x p is =
+index-added : (d : DirectoryValue) (index : List Cookie) (position : ℕ) (c : Cookie) (name : List ℕ) (fileid : ℕ) → IsIndexed d index
+    → IsPosition d index name position
+    → c.0 ≡ d.next → IsIndex (added name fileid d).list (insert index position c)
+index-added d index position c name fileid x p is =
     let e = entry_added name fileid d in
     let f = name_under d.list in
     let g = name_under (d.list ++ e ∷ []) in
@@ -106,23 +106,23 @@ index-added d index place c name fileid x p is =
     (under-pushed d.list e c.0 (subst (λ k. has d.list k ≡ false) (sym is) (none-at-next 3 d.list d.next x.directory.cookies)) (sym is)) in
     let agrees = λ (y : Cookie). g y ≡ f y in
     record {
-      count = let i = length-insert index place c in let l = length-append d.list (e ∷ []) in let s = x.index.count in omega (arith, i, l, s);
+      count = let i = length-insert index position c in let l = length-append d.list (e ∷ []) in let s = x.index.count in omega (arith, i, l, s);
       same = λ k. has-push d.list e k
-          ∙ (ap (λ b. b || (e.cookie == k)) (x.index.same k) ∙ (ap (λ n. is_listed index k || (n == k)) (sym is) ∙ sym (listed-insert index place c k)));
+          ∙ (ap (λ b. b || (e.cookie == k)) (x.index.same k) ∙ (ap (λ n. is_listed index k || (n == k)) (sym is) ∙ sym (listed-insert index position c k)));
       sorted =
-          sorted-insert g index place c name (sorted-agree f g index kept x.index.sorted) here
-          (all-agree f g (take place index) name Less (all-take agrees index place kept) p.before)
-          (all-agree f g (drop place index) name Greater (all-drop agrees index place kept) p.after);
+          sorted-insert g index position c name (sorted-agree f g index kept x.index.sorted) here
+          (all-agree f g (take position index) name Less (all-take agrees index position kept) p.before)
+          (all-agree f g (drop position index) name Greater (all-drop agrees index position kept) p.after);
     }
 
-pub indexed-added : (d : DirectoryValue) (index : List Cookie) (place : ℕ) (c : Cookie) (name : List ℕ) (fileid : ℕ) → IsIndexed d index
-    → IsPlace d index name place → found d name ≡ None → c.0 ≡ d.next → IsIndexed (added name fileid d) (insert index place c)
-indexed-added d index place c name fileid x p f is = record {
+pub indexed-added : (d : DirectoryValue) (index : List Cookie) (position : ℕ) (c : Cookie) (name : List ℕ) (fileid : ℕ) → IsIndexed d index
+    → IsPosition d index name position → found d name ≡ None → c.0 ≡ d.next → IsIndexed (added name fileid d) (insert index position c)
+indexed-added d index position c name fileid x p f is = record {
   directory = record {
     cookies = rises-push 3 d.list d.next (entry_added name fileid d) refl x.directory.cookies;
     names = differ-push d.list (entry_added name fileid d) x.directory.names f;
   };
-  index = index-added d index place c name fileid x p is;
+  index = index-added d index position c name fileid x p is;
 }
 
 pub indexed-empty : IsIndexed empty_directory []
@@ -237,16 +237,16 @@ names-left es k (x ∷ xs) = by (x.0 == k) refl (names-left es k xs)
     by true p r = r
     by false p r = (ap (λ (o : Option Listed). name_in o) (under-without es k x.0 (sym p)), r)
 
-pub indexed-dropped : (d : DirectoryValue) (index : List Cookie) (place : ℕ) (c : Cookie) → IsIndexed d index → slice_get index place ≡ Some c
-    → IsIndexed (dropped c.0 d) (remove index place)
-indexed-dropped d index place c x g =
-    let gone = index-removed d.list index place c x.index.sorted g in
-    let there : has d.list c.0 ≡ true = x.index.same c.0 ∙ listed-here index place c g in
+pub indexed-dropped : (d : DirectoryValue) (index : List Cookie) (position : ℕ) (c : Cookie) → IsIndexed d index → slice_get index position ≡ Some c
+    → IsIndexed (dropped c.0 d) (remove index position)
+indexed-dropped d index position c x g =
+    let gone = index-removed d.list index position c x.index.sorted g in
+    let there : has d.list c.0 ≡ true = x.index.same c.0 ∙ listed-here index position c g in
     record {
       directory = record { cookies = rises-without 3 d.list d.next c.0 x.directory.cookies; names = differ-without d.list c.0 x.directory.names };
       index = record {
         count =
-            let a = length-removed index place c g in let b = length-without 3 d.list d.next c.0 x.directory.cookies there in let s = x.index.count in
+            let a = length-removed index position c g in let b = length-without 3 d.list d.next c.0 x.directory.cookies there in let s = x.index.count in
             omega (arith, a, b, s);
         same = λ q. has-without d.list c.0 q
             ∙ (ap (λ b. if q == c.0 then false else b) (x.index.same q) ∙ (sym (listed-without index c.0 q) ∙ ap (λ l. is_listed l q) (sym gone)));
@@ -258,17 +258,17 @@ indexed-dropped d index place c x g =
     }
 
 -- the entry of a name is the one that is dropped
-pub dropped-removed : (d : DirectoryValue) (index : List Cookie) (place : ℕ) (c : Cookie) (name : List ℕ) → IsIndexed d index
-    → name_at d.list index place ≡ Some name
-    → slice_get index place ≡ Some c → dropped c.0 d ≡ removed name d
-dropped-removed d index place c name x n g = by (under c.0 d.list) refl
+pub dropped-removed : (d : DirectoryValue) (index : List Cookie) (position : ℕ) (c : Cookie) (name : List ℕ) → IsIndexed d index
+    → name_at d.list index position ≡ Some name
+    → slice_get index position ≡ Some c → dropped c.0 d ≡ removed name d
+dropped-removed d index position c name x n g = by (under c.0 d.list) refl
   where
     there : has d.list c.0 ≡ true
-    there = x.index.same c.0 ∙ listed-here index place c g
+    there = x.index.same c.0 ∙ listed-here index position c g
 
     by : (o : Option Listed) → o ≡ under c.0 d.list → dropped c.0 d ≡ removed name d
     by None p = absurd (grind (arith, p, there))
     by (Some e) p =
-        let is : e.name ≡ name = name-here d.list index place c e name n g (sym p) in
+        let is : e.name ≡ name = name-here d.list index position c e name n g (sym p) in
         let same = without-same 3 d.list d.next c.0 e x.directory.cookies x.directory.names (sym p) in
         ap (λ (l : List Listed). record d { list = l }) (same ∙ ap (λ m. without_name m d.list) is)

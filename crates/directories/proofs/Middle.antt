@@ -10,14 +10,14 @@ use Rattle.directories.specs.Index.{name_cmp, name_under, name_at, NamesRise, Al
 use Rattle.directories.proofs.Halved.{digit-less}
 use Rattle.directories.proofs.Orders.{all-before, all-after, same-names}
 
--- the element at a place, as code reads it
+-- the element at a position, as code reads it
 abbrev pub read_at : List Cookie → ℕ → Cookie
 read_at index i = get_or index i (record { 0 = 0 })
 
-pub at-place : (index : List Cookie) (i : ℕ) → i < length index → slice_get index i ≡ Some (read_at index i)
-at-place [] i l = absurd (omega (arith, l))
-at-place (x ∷ index) zero l = refl
-at-place (x ∷ index) (suc i) l = at-place index i (omega (arith, l))
+pub at-position : (index : List Cookie) (i : ℕ) → i < length index → slice_get index i ≡ Some (read_at index i)
+at-position [] i l = absurd (omega (arith, l))
+at-position (x ∷ index) zero l = refl
+at-position (x ∷ index) (suc i) l = at-position index i (omega (arith, l))
 
 pub less-middle : (es : List Listed) (index : List Cookie) (name : List ℕ) (i : ℕ) (c : Cookie) → NamesRise es index → slice_get index i ≡ Some c
     → name_cmp (name_under es c) name ≡ Less → AllCompare es name Less (take (i + 1) index)

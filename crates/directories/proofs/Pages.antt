@@ -106,15 +106,15 @@ abbrev pub entry_in_slot : List Slot → ℕ → Listed
 entry_in_slot slots s = entry_or_none (in_slot slots s)
 
 -- a run, and what comes behind it
-pub run-ahead : (slots : List Slot) (order run : List ℕ) (place : ℕ) → take (length run) (drop place order) ≡ run
-    → in_order slots run ++ drop (place + length run) (in_order slots order) ≡ drop place (in_order slots order)
-run-ahead slots order run place e =
+pub run-ahead : (slots : List Slot) (order run : List ℕ) (position : ℕ) → take (length run) (drop position order) ≡ run
+    → in_order slots run ++ drop (position + length run) (in_order slots order) ≡ drop position (in_order slots order)
+run-ahead slots order run position e =
     let all = in_order slots order in
-    let front : take (length run) (drop place all) ≡ in_order slots run =
-    ap (λ l. take (length run) l) (drop-map (entry_in_slot slots) place order)
-    ∙ (take-map (entry_in_slot slots) (length run) (drop place order) ∙ ap (λ l. in_order slots l) e) in
-    ap (λ l. l ++ drop (place + length run) all) (sym front)
-    ∙ (ap (λ l. take (length run) (drop place all) ++ l) (sym (drop-drop (length run) place all)) ∙ take-append-drop (length run) (drop place all))
+    let front : take (length run) (drop position all) ≡ in_order slots run =
+    ap (λ l. take (length run) l) (drop-map (entry_in_slot slots) position order)
+    ∙ (take-map (entry_in_slot slots) (length run) (drop position order) ∙ ap (λ l. in_order slots l) e) in
+    ap (λ l. l ++ drop (position + length run) all) (sym front)
+    ∙ (ap (λ l. take (length run) (drop position all) ++ l) (sym (drop-drop (length run) position all)) ∙ take-append-drop (length run) (drop position all))
 
 -- where a run ends all of it is copied
 pub run-copied : (copied : List DirectoryEntry) (left : ℕ) (es more whole : List Listed) (n : ℕ) → SoFar copied left n (es ++ more) whole → length es ≡ n
@@ -122,27 +122,27 @@ pub run-copied : (copied : List DirectoryEntry) (left : ℕ) (es more whole : Li
 run-copied copied left es more whole n h l = ap (λ d. listed copied ++ fitting left d) (sym (drop_at es more n l)) ∙ h
 
 -- the slots of a run are filled
-pub run-filled : (slots : List Slot) (order run : List ℕ) (place : ℕ) → AllByRecursion (λ s. is_some (in_slot slots s) ≡ true) order
-    → take (length run) (drop place order) ≡ run → AllByRecursion (λ s. is_some (in_slot slots s) ≡ true) run
-run-filled slots order run place a e =
+pub run-filled : (slots : List Slot) (order run : List ℕ) (position : ℕ) → AllByRecursion (λ s. is_some (in_slot slots s) ≡ true) order
+    → take (length run) (drop position order) ≡ run → AllByRecursion (λ s. is_some (in_slot slots s) ≡ true) run
+run-filled slots order run position a e =
     subst (λ l. AllByRecursion (λ s. is_some (in_slot slots s) ≡ true) l) e
-    (all-take (λ s. is_some (in_slot slots s) ≡ true) (drop place order) (length run) (all-drop (λ s. is_some (in_slot slots s) ≡ true) order place a))
+    (all-take (λ s. is_some (in_slot slots s) ≡ true) (drop position order) (length run) (all-drop (λ s. is_some (in_slot slots s) ≡ true) order position a))
 
 -- what a run leaves to be copied
-pub run-next : (old new : List DirectoryEntry) (left place : ℕ) (rest : Option ℕ) (slots : List Slot) (order run : List ℕ) (whole : List Listed)
-    → SoFar old left place (in_order slots order) whole → take (length run) (drop place order) ≡ run
+pub run-next : (old new : List DirectoryEntry) (left position : ℕ) (rest : Option ℕ) (slots : List Slot) (order run : List ℕ) (whole : List Listed)
+    → SoFar old left position (in_order slots order) whole → take (length run) (drop position order) ≡ run
     → ((more : List Listed) → listed new ++ fitting_in rest more ≡ listed old ++ fitting left (in_order slots run ++ more))
-    → listed new ++ fitting_in rest (drop (place + length run) (in_order slots order)) ≡ whole
-run-next old new left place rest slots order run whole h e f =
-    f (drop (place + length run) (in_order slots order)) ∙ (ap (λ l. listed old ++ fitting left l) (run-ahead slots order run place e) ∙ h)
+    → listed new ++ fitting_in rest (drop (position + length run) (in_order slots order)) ≡ whole
+run-next old new left position rest slots order run whole h e f =
+    f (drop (position + length run) (in_order slots order)) ∙ (ap (λ l. listed old ++ fitting left l) (run-ahead slots order run position e) ∙ h)
 
 -- where one of a run fits, some fit of all
-pub run-fits : (initial old : List DirectoryEntry) (left place : ℕ) (slots : List Slot) (order run : List ℕ) (page : List Listed)
-    → SoFar old left place (in_order slots order) (listed initial ++ page) → length initial ≤ length old → take (length run) (drop place order) ≡ run
+pub run-fits : (initial old : List DirectoryEntry) (left position : ℕ) (slots : List Slot) (order run : List ℕ) (page : List Listed)
+    → SoFar old left position (in_order slots order) (listed initial ++ page) → length initial ≤ length old → take (length run) (drop position order) ≡ run
     → ((more : List Listed) → 0 < length (fitting left (in_order slots run ++ more))) → 0 < length page
-run-fits initial old left place slots order run page h n e f =
-    some-after initial old (fitting left (drop place (in_order slots order))) page h n
-    (subst (λ (l : List Listed). 0 < length (fitting left l)) (run-ahead slots order run place e) (f (drop (place + length run) (in_order slots order))))
+run-fits initial old left position slots order run page h n e f =
+    some-after initial old (fitting left (drop position (in_order slots order))) page h n
+    (subst (λ (l : List Listed). 0 < length (fitting left l)) (run-ahead slots order run position e) (f (drop (position + length run) (in_order slots order))))
 
 none-in-none : (rest : Option ℕ) → length (fitting_in rest []) ≡ 0
 none-in-none None = refl

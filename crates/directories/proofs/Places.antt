@@ -1,4 +1,4 @@
--- Entries by their places.
+-- Entries by their positions.
 use Rattle.std.proofs.Common.{◌≡◌, refl, ap, ℕ, zero, suc, ◌+◌, ◌-◌, ◌<◌, ◌≤◌, true}
 use Rattle.std.proofs.Common.{List, [], ◌∷◌, ◌++◌, length, take, drop, Some, is_some, arith, add-one}
 use Rattle.std.specs.List.{slice_get}
@@ -27,10 +27,10 @@ above-middle es cookie i e h s l = above-from 3 es h.0 cookie i e h.1 s l
 pub is-positive : (es : List Listed) (cookie : ℕ) → IsRising es → has es cookie ≡ true → 1 ≤ cookie
 is-positive es cookie h t = let m = at-least 3 es h.0 cookie h.1 t in omega arith
 
-pub place-is : (es : List Listed) (cookie i : ℕ) → IsRising es → has es cookie ≡ true → above_cookie (cookie - 1) es ≡ drop i es
+pub position-is : (es : List Listed) (cookie i : ℕ) → IsRising es → has es cookie ≡ true → above_cookie (cookie - 1) es ≡ drop i es
     → under cookie es ≡ slice_get es i
-place-is es zero i h t a = let m = is-positive es 0 h t in absurd (omega (arith, m))
-place-is es (suc cookie) i h t a = let e : suc cookie - 1 ≡ cookie = omega arith in first-above 3 es h.0 cookie i h.1 t (rw e at a)
+position-is es zero i h t a = let m = is-positive es 0 h t in absurd (omega (arith, m))
+position-is es (suc cookie) i h t a = let e : suc cookie - 1 ≡ cookie = omega arith in first-above 3 es h.0 cookie i h.1 t (rw e at a)
 
 -- ---- entries copied
 

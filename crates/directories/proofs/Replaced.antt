@@ -10,7 +10,7 @@ use Rattle.nfs_model.specs.Types.{Listed}
 use Rattle.nfs_values.specs.declared.number.Cookie.{Cookie}
 use Rattle.nfs_model.specs.volume.Directories.{DirectoryValue, added, removed, entry_added}
 use Rattle.directories.specs.Entries.{has, without, dropped}
-use Rattle.directories.specs.Index.{name_cmp, name_under, name_at, IsIndexed, IsPlace}
+use Rattle.directories.specs.Index.{name_cmp, name_under, name_at, IsIndexed, IsPosition}
 use Rattle.directories.proofs.Orders.{turned-greater, all-at, all-take, all-drop, all-so, all-agree}
 use Rattle.directories.proofs.Found.{found-nowhere, known-here}
 use Rattle.directories.proofs.Changed.{has-push, none-at-next, names-left, index-removed, indexed-added, dropped-removed}
@@ -55,29 +55,29 @@ module _ (f : Cookie → List ℕ) where
       (all-so (λ z. name_cmp (f y) (f z) ≡ Less) (λ z. name_cmp (f z) (f y) ≡ Greater) (λ z p. turned-greater (f y) (f z) p) xs s.0)
   after-it (y ∷ xs) (suc i) x s g = after-it xs i x s.1 g
 
--- the name at a place of an index
-name-there : (es : List Listed) (index : List Cookie) (place : ℕ) (c : Cookie) (name : List ℕ) → name_at es index place ≡ Some name
-    → slice_get index place ≡ Some c → name_under es c ≡ name
-name-there es [] place c name n g = absurd (grind (arith, g))
+-- the name at a position of an index
+name-there : (es : List Listed) (index : List Cookie) (position : ℕ) (c : Cookie) (name : List ℕ) → name_at es index position ≡ Some name
+    → slice_get index position ≡ Some c → name_under es c ≡ name
+name-there es [] position c name n g = absurd (grind (arith, g))
 name-there es (x ∷ index) zero c name n g =
     let same : x ≡ c = grind (arith, g) in let there : name_under es x ≡ name = grind (arith, n) in
     ap (λ (y : Cookie). name_under es y) (sym same) ∙ there
-name-there es (x ∷ index) (suc place) c name n g = name-there es index place c name n g
+name-there es (x ∷ index) (suc position) c name n g = name-there es index position c name n g
 
 -- where its entry is dropped, a name belongs where it was
-place-left : (d : DirectoryValue) (index : List Cookie) (place : ℕ) (c : Cookie) (name : List ℕ) → IsIndexed d index
-    → name_at d.list index place ≡ Some name → slice_get index place ≡ Some c → IsPlace (dropped c.0 d) (remove index place) name place
-place-left d index place c name x n g = record {
-  before = all-agree f h (take place rest) name Less (all-take agrees rest place kept)
-      (subst (λ l. AllByRecursion (λ y. name_cmp (f y) name ≡ Less) l) (sym (taken-of-removed index place))
-      (subst (λ m. AllByRecursion (λ y. name_cmp (f y) m ≡ Less) (take place index)) named (before-it f index place c x.index.sorted g)));
-  after = all-agree f h (drop place rest) name Greater (all-drop agrees rest place kept)
-      (subst (λ l. AllByRecursion (λ y. name_cmp (f y) name ≡ Greater) l) (sym (dropped-of-removed index place))
-      (subst (λ m. AllByRecursion (λ y. name_cmp (f y) m ≡ Greater) (drop (suc place) index)) named (after-it f index place c x.index.sorted g)));
+position-left : (d : DirectoryValue) (index : List Cookie) (position : ℕ) (c : Cookie) (name : List ℕ) → IsIndexed d index
+    → name_at d.list index position ≡ Some name → slice_get index position ≡ Some c → IsPosition (dropped c.0 d) (remove index position) name position
+position-left d index position c name x n g = record {
+  before = all-agree f h (take position rest) name Less (all-take agrees rest position kept)
+      (subst (λ l. AllByRecursion (λ y. name_cmp (f y) name ≡ Less) l) (sym (taken-of-removed index position))
+      (subst (λ m. AllByRecursion (λ y. name_cmp (f y) m ≡ Less) (take position index)) named (before-it f index position c x.index.sorted g)));
+  after = all-agree f h (drop position rest) name Greater (all-drop agrees rest position kept)
+      (subst (λ l. AllByRecursion (λ y. name_cmp (f y) name ≡ Greater) l) (sym (dropped-of-removed index position))
+      (subst (λ m. AllByRecursion (λ y. name_cmp (f y) m ≡ Greater) (drop (suc position) index)) named (after-it f index position c x.index.sorted g)));
 }
   where
     rest : List Cookie
-    rest = remove index place
+    rest = remove index position
 
     f : Cookie → List ℕ
     f = name_under d.list
@@ -89,10 +89,10 @@ place-left d index place c name x n g = record {
     agrees y = h y ≡ f y
 
     named : f c ≡ name
-    named = name-there d.list index place c name n g
+    named = name-there d.list index position c name n g
 
     kept : AllByRecursion agrees rest
-    kept = subst (λ l. AllByRecursion agrees l) (sym (index-removed d.list index place c x.index.sorted g)) (names-left d.list c.0 index)
+    kept = subst (λ l. AllByRecursion agrees l) (sym (index-removed d.list index position c x.index.sorted g)) (names-left d.list c.0 index)
 
 -- ---- an entry replaced
 
@@ -126,19 +126,19 @@ pub still-has : (d : DirectoryValue) (name : List ℕ) (fileid k : ℕ) → has 
 still-has d name fileid k t = has-push d.list (entry_added name fileid d) k ∙ ap (λ b. b || (d.next == k)) t
 
 -- the entry that comes, and then the one that goes
-pub replaced : (d : DirectoryValue) (index : List Cookie) (place : ℕ) (c : Cookie) (name : List ℕ) (fileid : ℕ) → IsIndexed d index
-    → name_at d.list index place ≡ Some name → slice_get index place ≡ Some c → dropped c.0 (added name fileid d) ≡ added name fileid (removed name d)
-replaced d index place c name fileid x n g =
-    dropped-added d index c.0 name fileid x (known-here d.list index place c x.index g)
-    ∙ ap (λ e. added name fileid e) (dropped-removed d index place c name x n g)
+pub replaced : (d : DirectoryValue) (index : List Cookie) (position : ℕ) (c : Cookie) (name : List ℕ) (fileid : ℕ) → IsIndexed d index
+    → name_at d.list index position ≡ Some name → slice_get index position ≡ Some c → dropped c.0 (added name fileid d) ≡ added name fileid (removed name d)
+replaced d index position c name fileid x n g =
+    dropped-added d index c.0 name fileid x (known-here d.list index position c x.index g)
+    ∙ ap (λ e. added name fileid e) (dropped-removed d index position c name x n g)
 
-pub indexed-replaced : (d : DirectoryValue) (index : List Cookie) (place : ℕ) (c new : Cookie) (name : List ℕ) (fileid : ℕ) → IsIndexed d index
-    → name_at d.list index place ≡ Some name → slice_get index place ≡ Some c → place < length index → new.0 ≡ d.next
-    → IsIndexed (dropped c.0 (added name fileid d)) (slice_set index place new)
-indexed-replaced d index place c new name fileid x n g l next =
-    let less = still-indexed d index place c name x n g in
-    let place-of = place-left d index place c name x n g in
-    let nowhere = found-nowhere (dropped c.0 d) (remove index place) place name less place-of in
-    subst (λ e. IsIndexed e (slice_set index place new)) (sym (dropped-added d index c.0 name fileid x (known-here d.list index place c x.index g)))
-    (subst (λ i. IsIndexed (added name fileid (dropped c.0 d)) i) (sym (set-is index place new l))
-    (indexed-added (dropped c.0 d) (remove index place) place new name fileid less place-of nowhere next))
+pub indexed-replaced : (d : DirectoryValue) (index : List Cookie) (position : ℕ) (c new : Cookie) (name : List ℕ) (fileid : ℕ) → IsIndexed d index
+    → name_at d.list index position ≡ Some name → slice_get index position ≡ Some c → position < length index → new.0 ≡ d.next
+    → IsIndexed (dropped c.0 (added name fileid d)) (slice_set index position new)
+indexed-replaced d index position c new name fileid x n g l next =
+    let less = still-indexed d index position c name x n g in
+    let position-of = position-left d index position c name x n g in
+    let nowhere = found-nowhere (dropped c.0 d) (remove index position) position name less position-of in
+    subst (λ e. IsIndexed e (slice_set index position new)) (sym (dropped-added d index c.0 name fileid x (known-here d.list index position c x.index g)))
+    (subst (λ i. IsIndexed (added name fileid (dropped c.0 d)) i) (sym (set-is index position new l))
+    (indexed-added (dropped c.0 d) (remove index position) position new name fileid less position-of nowhere next))

@@ -217,7 +217,7 @@ still-one (x ∷ order) (suc i) s q l is o t = by (x == q) (still-one order i s 
     by true r u = refl
     by false r u = r u
 
--- what the order without a place has
+-- what the order without a position has
 pub order-less : (slots new : List Slot) (order : List ℕ) (next cookie i s : ℕ) → IsOrdered slots order next → has (in_order slots order) cookie ≡ true
     → under cookie (in_order slots order) ≡ slice_get (in_order slots order) i → i < length order → s ≡ get_or order i 0 → Becomes s None slots new
     → in_order new (remove order i) ≡ without cookie (in_order slots order)
@@ -244,7 +244,7 @@ ordered-less slots new order next cookie i s h t u l is b = record {
 
 -- ---- reading by the order
 
--- the slot that is read at a place
+-- the slot that is read at a position
 pub read-there : (order : List ℕ) (i s : ℕ) → slice_get order i ≡ Some s → s ≡ get_or order i 0
 read-there order i s g = sym (get_or_from_slice_get order i s 0 g)
 
@@ -258,7 +258,7 @@ pub element-at : (slots : List Slot) (order : List ℕ) (i s : ℕ) (e : Listed)
     → slice_get (in_order slots order) i ≡ Some e
 element-at slots order i s e l is u = order-at slots order i s l is ∙ ap (λ (o : Option Listed). Some (entry_or_none o)) u
 
--- the slot at the place of a cookie has the entry under it
+-- the slot at the position of a cookie has the entry under it
 pub slot-under : (slots : List Slot) (order : List ℕ) (cookie i s : ℕ) → IsRising (in_order slots order)
     → under cookie (in_order slots order) ≡ slice_get (in_order slots order) i → i < length order → s ≡ get_or order i 0
     → in_slot slots s ≡ under cookie (in_order slots order)
@@ -280,10 +280,10 @@ slot-guessed slots order next cookie s h c = by (in_slot slots s) refl c
         let one = h.known s (ap (λ (o : Option Listed). is_some o) (sym p)) in
         subst (λ k. Some e ≡ under k (in_order slots order)) same (sym (under-slot 3 slots order next s e h.rising one (sym p)))
 
--- a place of an entry is in the order
-pub place-inside : (slots : List Slot) (order : List ℕ) (cookie i : ℕ) → has (in_order slots order) cookie ≡ true
+-- a position of an entry is in the order
+pub position-inside : (slots : List Slot) (order : List ℕ) (cookie i : ℕ) → has (in_order slots order) cookie ≡ true
     → under cookie (in_order slots order) ≡ slice_get (in_order slots order) i → i < length order
-place-inside slots order cookie i t u =
+position-inside slots order cookie i t u =
     let w = is-within (in_order slots order) i (ap (λ (x : Option Listed). is_some x) (sym u) ∙ t) in
     let n = length-order slots order in omega (arith, w, n)
 

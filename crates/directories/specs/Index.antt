@@ -42,9 +42,9 @@ AllCompare es name order index = AllByRecursion (λ c. name_cmp (name_under es c
 abbrev pub is_listed : List Cookie → ℕ → Bool
 is_listed index cookie = list_any (λ (c : Cookie). c.0 == cookie) index
 
--- the name at a place of an index
+-- the name at a position of an index
 abbrev pub name_at : List Listed → List Cookie → ℕ → Option (List ℕ)
-name_at es index place = option_map (name_under es) (slice_get index place)
+name_at es index position = option_map (name_under es) (slice_get index position)
 
 -- An index has the cookies of all entries and no others, and their names rise.
 pub record IsIndex (es : List Listed) (index : List Cookie) : Type 0 where
@@ -57,14 +57,14 @@ pub record IsIndexed (d : DirectoryValue) (by_name : List Cookie) : Type 0 where
   pub directory : IsDirectory d
   pub index : IsIndex d.list by_name
 
--- a name is at a place of an index
+-- a name is at a position of an index
 abbrev pub IsAt : DirectoryValue → List Cookie → List ℕ → ℕ → Type 0
-IsAt d index name place = name_at d.list index place ≡ Some name
+IsAt d index name position = name_at d.list index position ≡ Some name
 
--- A name isn't in an index, and belongs at a place of it.
-pub record IsPlace (d : DirectoryValue) (index : List Cookie) (name : List ℕ) (place : ℕ) : Type 0 where
-  pub before : AllCompare d.list name Less (take place index)
-  pub after : AllCompare d.list name Greater (drop place index)
+-- A name isn't in an index, and belongs at a position of it.
+pub record IsPosition (d : DirectoryValue) (index : List Cookie) (name : List ℕ) (position : ℕ) : Type 0 where
+  pub before : AllCompare d.list name Less (take position index)
+  pub after : AllCompare d.list name Greater (drop position index)
 
 -- a fileid as a number
 abbrev pub fileid_number : Option Fileid → Option ℕ

@@ -31,12 +31,12 @@ ghost use Rattle.directories.specs.Entries.{
   page_value,
   page_behind,
 };
-ghost use Rattle.directories.specs.Index.{IsAt, IsIndexed, IsPlace, cookies};
+ghost use Rattle.directories.specs.Index.{IsAt, IsIndexed, IsPosition, cookies};
 ghost use Rattle.directories.specs.Index.{fileid_number};
 
 use crate::entries::Entries;
 use crate::page::Page;
-use crate::search::find_place;
+use crate::search::find_position;
 use crate::sequences::Sequence;
 use crate::spot::Spot;
 use nfs_values::{Cookie, DirectoryEntry, Fileid, Name};
@@ -121,11 +121,11 @@ impl Directory {
         ensures answer { fileid_number result.0 ≡ fileid_found self.now name.now }
         ensures compared { result.1 ≤ binary_digits (length self.now.list) }
     {
-        let search = find_place(&self.entries, &self.by_name, name);
+        let search = find_position(&self.entries, &self.by_name, name);
         if !search.is_there {
             return (None, search.compared);
         }
-        let spot = self.by_name.at(search.place);
+        let spot = self.by_name.at(search.position);
         let entry = self.entries.at(spot.cookie, spot.slot);
         (Some(entry.fileid), search.compared)
     }
@@ -138,8 +138,8 @@ impl Directory {
         ensures ok { OnOk result (self.new ≡ added name fileid.0 self.old) }
         ensures err { OnErr result (self.new ≡ self.old) }
     {
-        let place = find_place(&self.entries, &self.by_name, name.as_bytes()).place;
-        add_at(&mut self.entries, &mut self.by_name, place, name, fileid)
+        let position = find_position(&self.entries, &self.by_name, name.as_bytes()).position;
+        add_at(&mut self.entries, &mut self.by_name, position, name, fileid)
     }
 
     /// Adds an entry in the place of the one with its name, if there is one, and answers the fileid
@@ -151,12 +151,12 @@ impl Directory {
         ensures was { IfOk result (λ was. fileid_number was ≡ fileid_found self.old name) }
         ensures err { OnErr result (self.new ≡ self.old) }
     {
-        let search = find_place(&self.entries, &self.by_name, name.as_bytes());
+        let search = find_position(&self.entries, &self.by_name, name.as_bytes());
         if !search.is_there {
             add_at(
                 &mut self.entries,
                 &mut self.by_name,
-                search.place,
+                search.position,
                 name,
                 fileid,
             )?;
@@ -165,7 +165,7 @@ impl Directory {
         let was = replace_at(
             &mut self.entries,
             &mut self.by_name,
-            search.place,
+            search.position,
             name,
             fileid,
         )?;
@@ -177,11 +177,11 @@ impl Directory {
         ensures there { result ≡ is_some (found self.old name.now) }
         ensures left { self.new ≡ removed name.now self.old }
     {
-        let search = find_place(&self.entries, &self.by_name, name);
+        let search = find_position(&self.entries, &self.by_name, name);
         if !search.is_there {
             return false;
         }
-        let spot = self.by_name.remove(search.place);
+        let spot = self.by_name.remove(search.position);
         self.entries.remove(spot.cookie);
         true
     }
@@ -218,50 +218,50 @@ impl Directory {
     }
 }
 
-/// Adds an entry with a name that belongs at a place of the index. Where there is no memory for it
+/// Adds an entry with a name that belongs at a position of the index. Where there is no memory for it
 /// nothing changes.
 fn add_at(
     entries: &mut Entries,
     by_name: &mut Sequence<Spot>,
-    place: usize,
+    position: usize,
     name: Name,
     fileid: Fileid,
 ) -> Result<(), AllocError>
     requires cookies { entries.old.next < 2 ^ 63 }
     requires indexed { IsIndexed entries.old (cookies by_name.old) }
-    requires within { place ≤ length by_name.old }
-    requires place { IsPlace entries.old (cookies by_name.old) name place }
+    requires within { position ≤ length by_name.old }
+    requires position { IsPosition entries.old (cookies by_name.old) name position }
     ensures indexed { IsIndexed entries.new (cookies by_name.new) }
     ensures ok { OnOk result (entries.new ≡ added name fileid.0 entries.old) }
     ensures err { OnErr result (entries.new ≡ entries.old) }
 {
     let room = by_name.room()?;
     let (cookie, slot) = entries.add(name, fileid)?;
-    by_name.insert(room, place, Spot { cookie, slot });
+    by_name.insert(room, position, Spot { cookie, slot });
     Ok(())
 }
 
-/// Adds an entry in the place of the one with its name, which is at a place of the index, and
+/// Adds an entry in the place of the one with its name, which is at a position of the index, and
 /// answers the fileid of that one. Where there is no memory for it nothing changes.
 fn replace_at(
     entries: &mut Entries,
     by_name: &mut Sequence<Spot>,
-    place: usize,
+    position: usize,
     name: Name,
     fileid: Fileid,
 ) -> Result<Fileid, AllocError>
     requires cookies { entries.old.next < 2 ^ 63 }
     requires indexed { IsIndexed entries.old (cookies by_name.old) }
-    requires there { IsAt entries.old (cookies by_name.old) name place }
+    requires there { IsAt entries.old (cookies by_name.old) name position }
     ensures indexed { IsIndexed entries.new (cookies by_name.new) }
     ensures ok { OnOk result (entries.new ≡ added name fileid.0 (removed name entries.old)) }
     ensures was { IfOk result (λ was. Some was.0 ≡ fileid_found entries.old name) }
     ensures err { OnErr result (entries.new ≡ entries.old) }
 {
-    let old = by_name.at(place);
+    let old = by_name.at(position);
     let was = entries.at(old.cookie, old.slot).fileid;
     let (cookie, slot) = entries.add(name, fileid)?;
     entries.remove(old.cookie);
-    by_name.set(place, Spot { cookie, slot });
+    by_name.set(position, Spot { cookie, slot });
     Ok(was)
 }

@@ -131,8 +131,8 @@ impl Entries {
         requires { has self.old.list cookie.0 ≡ true }
         ensures { self.new ≡ dropped cookie.0 self.old }
     {
-        let place = place_of(&self.slots, &self.order, cookie);
-        let slot = self.order.remove(place);
+        let position = position_of(&self.slots, &self.order, cookie);
+        let slot = self.order.remove(position);
         vacate(&mut self.slots, slot, self.vacant);
         self.vacant = slot;
     }
@@ -150,7 +150,7 @@ impl Entries {
             ≡ page_behind (listed entries.old.items) (page self.now cookie.0 room)) }
         ensures err { OnErr result (0 < length (page self.now cookie.0 room).entries) }
     {
-        let after = place_after(&self.slots, &self.order, cookie);
+        let after = position_after(&self.slots, &self.order, cookie);
         let remaining = self.order.len() - after;
         let before = entries.len();
         append_fitting(alloc, &self.slots, &self.order, after, room, entries)?;
@@ -167,22 +167,22 @@ fn slot_of(slots: &[Slot], order: &Sequence<u32>, cookie: Cookie, guess: u32) ->
     if holds(slots, guess, cookie) {
         return guess;
     }
-    order.at(place_of(slots, order, cookie))
+    order.at(position_of(slots, order, cookie))
 }
 
-/// The place in the order of the entry under a cookie that has one.
-fn place_of(slots: &[Slot], order: &Sequence<u32>, cookie: Cookie) -> usize
+/// The position in the order of the entry under a cookie that has one.
+fn position_of(slots: &[Slot], order: &Sequence<u32>, cookie: Cookie) -> usize
     requires rising { IsRising (in_order slots.now order.now) }
     requires there { has (in_order slots.now order.now) cookie.0 ≡ true }
     ensures within { result < length order.now }
-    ensures place { let entries = in_order slots.now order.now in
+    ensures position { let entries = in_order slots.now order.now in
         under cookie.0 entries ≡ slice_get entries result }
 {
-    place_after(slots, order, Cookie(cookie.0 - 1))
+    position_after(slots, order, Cookie(cookie.0 - 1))
 }
 
 /// How many entries have a cookie at or below one.
-fn place_after(slots: &[Slot], order: &Sequence<u32>, cookie: Cookie) -> usize
+fn position_after(slots: &[Slot], order: &Sequence<u32>, cookie: Cookie) -> usize
     requires { IsRising (in_order slots.now order.now) }
     ensures within { result ≤ length order.now }
     ensures after { let entries = in_order slots.now order.now in
@@ -203,7 +203,7 @@ fn place_after(slots: &[Slot], order: &Sequence<u32>, cookie: Cookie) -> usize
     low
 }
 
-/// Appends the entries from a place of the order on that fit into a number of bytes. Memory runs
+/// Appends the entries from a position of the order on that fit into a number of bytes. Memory runs
 /// out only where one fits.
 fn append_fitting(
     alloc: Global,
@@ -220,14 +220,14 @@ fn append_fitting(
         (0 < length (fitting room (drop after (in_order slots.now order.now)))) }
 {
     let mut left = room;
-    let mut place = after;
-    while place < order.len() {
-        let run = order.run_at(place);
+    let mut position = after;
+    while position < order.len() {
+        let run = order.run_at(position);
         match copy_run(alloc, slots, run, left, copied)? {
             Some(rest) => left = rest,
             None => return Ok(()),
         }
-        place += run.len();
+        position += run.len();
     }
     Ok(())
 }

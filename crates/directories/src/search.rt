@@ -3,7 +3,7 @@
 ghost use Rattle.std.specs.Prelude.{◌≡◌, ◌≤◌, length, true, false, Some};
 ghost use Rattle.directories.specs.Entries.{has};
 ghost use Rattle.directories.specs.Digits.{binary_digits};
-ghost use Rattle.directories.specs.Index.{IsIndex, IsAt, IsPlace, cookies, name_cmp};
+ghost use Rattle.directories.specs.Index.{IsIndex, IsAt, IsPosition, cookies, name_cmp};
 ghost use Rattle.directories.specs.Index.{name_under};
 
 use crate::entries::Entries;
@@ -15,20 +15,20 @@ use std::cmp::Ordering;
 #[derive(Clone, Copy)]
 pub struct Search {
     /// Where in the index the name is, or where it belongs.
-    pub place: usize,
+    pub position: usize,
     pub is_there: bool,
     /// How many names were compared.
     pub compared: usize,
 }
 
 /// Searches an index for a name by halving.
-pub fn find_place(entries: &Entries, index: &Sequence<Spot>, name: &[u8]) -> Search
+pub fn find_position(entries: &Entries, index: &Sequence<Spot>, name: &[u8]) -> Search
     requires { IsIndex entries.now.list (cookies index.now) }
-    ensures within { result.place ≤ length index.now }
+    ensures within { result.position ≤ length index.now }
     ensures there { result.is_there ≡ true
-        → IsAt entries.now (cookies index.now) name.now result.place }
+        → IsAt entries.now (cookies index.now) name.now result.position }
     ensures absent { result.is_there ≡ false
-        → IsPlace entries.now (cookies index.now) name.now result.place }
+        → IsPosition entries.now (cookies index.now) name.now result.position }
     ensures compared { result.compared ≤ binary_digits (length index.now) }
 {
     let mut low = 0;
@@ -44,7 +44,7 @@ pub fn find_place(entries: &Entries, index: &Sequence<Spot>, name: &[u8]) -> Sea
             Ordering::Greater => high = middle,
             Ordering::Equal => {
                 return Search {
-                    place: middle,
+                    position: middle,
                     is_there: true,
                     compared,
                 };
@@ -52,7 +52,7 @@ pub fn find_place(entries: &Entries, index: &Sequence<Spot>, name: &[u8]) -> Sea
         }
     }
     Search {
-        place: low,
+        position: low,
         is_there: false,
         compared,
     }

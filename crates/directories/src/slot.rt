@@ -17,7 +17,7 @@ ghost use Rattle.directories.specs.Slots.{in_slot, has_cookie, Becomes, PutInto}
 use nfs_values::{Cookie, DirectoryEntry};
 use std::alloc::AllocError;
 
-/// A place for an entry.
+/// A position for an entry.
 #[derive(Drop)]
 pub enum Slot {
     Filled(DirectoryEntry),

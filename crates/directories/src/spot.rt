@@ -1,4 +1,4 @@
-//! What the index of names has at a place.
+//! What the index of names has at a position.
 
 use nfs_values::Cookie;
 

@@ -10,7 +10,7 @@ use Rattle.std.specs.FinSet.{FinSet}
 use Rattle.nfs_model.specs.volume.Directories.{DirectoryValue, empty_directory}
 use Rattle.nfs_model.specs.volume.Inodes.{InodesValue, opening_inodes}
 use Rattle.nfs_model.specs.volume.Logical.{LogicalValue}
-use Rattle.nfs_model.specs.volume.Stripes.{StripeValue, OfFolder, empty_stripe, folder_card_set}
+use Rattle.nfs_model.specs.volume.Stripes.{StripeValue, OfDirectory, empty_stripe, directory_card_set}
 use Rattle.filer_state.specs.state.Names.{root}
 use Rattle.filer_state.specs.state.Opening.{opening_logical, opening_stripe}
 
@@ -26,9 +26,9 @@ single-insert {X} k x =
     ∙ ap (cond (eq_by_cmp nat_cmp q k) (Some x)) (get-empty nat_cmp q) ∙ sym (get-from_sorted nat_cmp ((k, x) ∷ []) q tt))
 
 pub stripe-begun : (verifier : List ℕ) (stripes largest : ℕ) (made s : StripeValue) → made ≡ empty_stripe verifier stripes largest
-    → s ≡ folder_card_set root made → s ≡ opening_stripe verifier stripes largest
+    → s ≡ directory_card_set root made → s ≡ opening_stripe verifier stripes largest
 stripe-begun verifier stripes largest made s is with_card =
-    with_card ∙ ap (folder_card_set root) is ∙ (λ j. record (empty_stripe verifier stripes largest) { cards = single-insert root OfFolder j })
+    with_card ∙ ap (directory_card_set root) is ∙ (λ j. record (empty_stripe verifier stripes largest) { cards = single-insert root OfDirectory j })
 
 module _ (verifier : List ℕ) (stripes largest : ℕ) where
   -- of these parts

@@ -1,8 +1,8 @@
 pub mod Running
 pub mod Growing
 pub mod Laws
-pub mod Space
-pub mod SpaceLaws
+pub mod FilesystemStatus
+pub mod FilesystemStatusLaws
 pub mod Census
 pub mod CensusLaws
 pub mod lemmas

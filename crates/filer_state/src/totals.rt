@@ -3,4 +3,4 @@
 
 mod laws;
 
-pub use laws::{census_is_right, growing_calls_are_right, space_is_right};
+pub use laws::{census_is_right, filesystem_status_is_right, growing_calls_are_right};

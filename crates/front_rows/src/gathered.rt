@@ -18,7 +18,7 @@ pub struct Gathered {
     pub calls: Vec<Message<Call>>,
     pub outboxes: Outboxes,
     /// How often it was told of what came.
-    pub wakes: u64,
+    pub reads_ended: u64,
 }
 
 impl Gathered {
@@ -30,7 +30,7 @@ impl Gathered {
             layout: layout.copied(alloc)?,
             calls: Vec::new(alloc),
             outboxes: Outboxes::new(alloc),
-            wakes: 0,
+            reads_ended: 0,
         })
     }
 }
@@ -57,8 +57,8 @@ impl RecordSink for Gathered {
         self.outboxes.put_at_once(connection, xid, reply)
     }
 
-    fn wake(&mut self) {
-        self.wakes = self.wakes.saturating_add(1);
+    fn read_ended(&mut self) {
+        self.reads_ended = self.reads_ended.saturating_add(1);
     }
 
     ghost came_none = { λ s. gathered_none s.calls.items s.outboxes };

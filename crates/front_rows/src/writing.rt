@@ -82,7 +82,7 @@ pub(crate) fn waiting_for(rt: &(impl Abort + AllocGlobal + Wait), records: &[&[u
         &mut sink,
     );
     assert!(rt; end.number() == 0);
-    assert!(rt; sink.wakes == 1);
+    assert!(rt; sink.reads_ended == 1);
     mem::forget(reader);
     mem::forget((stream, layout));
     let Gathered { outboxes, .. } = sink;

@@ -26,7 +26,7 @@ attributes_value a = record {
 
 abbrev pub kind_value : InodeKind → values.InodeKind
 kind_value (RegularFile size filled verifier) = values.RegularFile size filled (option_map (λ (v : Verifier). v.0) verifier)
-kind_value (Directory parent subdirectories) = values.Folder parent.0 subdirectories
+kind_value (Directory parent subdirectories) = values.DirectoryKind parent.0 subdirectories
 
 abbrev pub inode_value : Inode → values.Inode
 inode_value i = record { attributes = attributes_value i.attributes; kind = kind_value i.kind }

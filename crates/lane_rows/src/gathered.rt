@@ -85,7 +85,7 @@ impl RecordSink for Gathered {
         Ok(())
     }
 
-    fn wake(&mut self) {}
+    fn read_ended(&mut self) {}
 
     ghost came_none = { λ s. gathered_none s.calls.items s.outboxes };
 

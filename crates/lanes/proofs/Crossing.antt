@@ -11,8 +11,8 @@ use Rattle.tcp_front.proofs.stream.Stopped.TheSendSync as stopped
 use Rattle.tcp_front.proofs.stream.Stream.TheSendSync as stream
 use Rattle.outboxes.specs.contracts.record.Record as Record
 use Rattle.outboxes.specs.contracts.record.Record.TheInside as RecordInside
-use Rattle.outboxes.specs.contracts.said.Said as Said
-use Rattle.outboxes.specs.contracts.said.Said.TheInside as SaidInside
+use Rattle.outboxes.specs.contracts.numbered_reply.NumberedReply as NumberedReply
+use Rattle.outboxes.specs.contracts.numbered_reply.NumberedReply.TheInside as NumberedReplyInside
 use Rattle.turns.proofs.crossings.Outboxes.{outboxes-send}
 use Rattle.turns.proofs.crossings.Structs.{struct-send}
 use Rattle.turns.proofs.Crossing.{envelope-send, worker-send, filer-send, filer-sync}
@@ -30,12 +30,12 @@ use Rattle.lanes.specs.contracts.rest.Rest as Rest
 use Rattle.lanes.specs.contracts.rest.Rest.TheInside as RestInside
 use Rattle.lanes.specs.declared.device.Device as devices
 
-said-send : IsSend Said.the_row
-said-send = view_send SaidInside.the_row _ _ _ _
-    (struct-send SaidInside.the_type (search sendable depth 20, (search (crosses, sendable) depth 20, tt)))
+numbered-send : IsSend NumberedReply.the_row
+numbered-send = view_send NumberedReplyInside.the_row _ _ _ _
+    (struct-send NumberedReplyInside.the_type (search sendable depth 20, (search (crosses, sendable) depth 20, tt)))
 
 record-send : IsSend Record.the_row
-record-send = view_send RecordInside.the_row _ _ _ _ (struct-send RecordInside.the_type (search (crosses, sendable) depth 20, (said-send, tt)))
+record-send = view_send RecordInside.the_row _ _ _ _ (struct-send RecordInside.the_type (search (crosses, sendable) depth 20, (numbered-send, tt)))
 
 rest-send : IsSend Rest.the_row
 rest-send = view_send RestInside.the_row _ _ _ _

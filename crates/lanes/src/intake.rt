@@ -131,7 +131,7 @@ impl<R: Wait> RecordSink for Intake<R> {
         Ok(())
     }
 
-    fn wake(&mut self) {}
+    fn read_ended(&mut self) {}
 
     ghost came_none = { taken_none };
 

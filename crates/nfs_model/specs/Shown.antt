@@ -4,7 +4,7 @@ use Rattle.std.specs.Prelude.{◌∷◌, length, Option, Some, None, if◌then�
 use Rattle.std.specs.Ordering.{nat_cmp}
 use Rattle.std.specs.FinMap.{FinMap, get}
 use Rattle.std.specs.FinSet as sets
-use Rattle.nfs_model.specs.Types.{Moment, Listed, Shown, Before, Wcc, Regular, Folder}
+use Rattle.nfs_model.specs.Types.{Moment, Listed, Shown, Before, Wcc, Regular, DirectoryKind}
 use Rattle.nfs_model.specs.Server.{Attributes, FileNode, Node, File, Directory, VolumeState, block_size}
 
 -- whether a moment is no later than another
@@ -70,7 +70,7 @@ shown volume fileid (File f) = record {
   ctime = (effective_attributes f.touch f.attributes).ctime;
 }
 shown volume fileid (Directory d) = record {
-  kind = Folder;
+  kind = DirectoryKind;
   mode = d.attributes.mode;
   links = 2 + subdirectories volume.nodes d.list;
   uid = d.attributes.uid;

@@ -131,7 +131,7 @@ status_word TooSmall = 10005
 -- ftype3: NF3REG and NF3DIR (RFC 1813 section 2.6)
 pub data Kind : Type 0 where
   Regular : Kind
-  Folder : Kind
+  DirectoryKind : Kind
 
 -- fattr3, the attributes that a reply shows (RFC 1813 section 2.6); rdev is zero
 pub record Shown : Type 0 where

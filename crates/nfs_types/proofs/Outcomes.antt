@@ -19,7 +19,7 @@ use Rattle.nfs_values.specs.declared.answer.PathConfigurationResults.{PathConfig
 use Rattle.nfs_values.specs.declared.answer.CommitResults.{CommitResults}
 use Rattle.nfs_values.specs.declared.mount.MountResults.{MountResults}
 use Rattle.nfs_values.specs.Answer.{entry_of, entry_plus_of, entries_listed_plus, space_of, attributes_shown, attributes_set, looked_up, access_told, bytes_read, bytes_written, node_made, name_gone}
-use Rattle.nfs_values.specs.Answer.{name_moved, entries_listed, space_told, info_told, path_told, file_committed, volume_grown, volume_mounted, result_of}
+use Rattle.nfs_values.specs.Answer.{name_moved, entries_listed, filesystem_status_told, info_told, path_told, file_committed, volume_grown, volume_mounted, result_of}
 use Rattle.nfs_values.specs.Attributes.{shown_of, change_of}
 use Rattle.nfs_types.specs.Shapes.{attributes_shape, attributes_value, change_shape, change_value}
 use Rattle.nfs_types.specs.Results.{lookup_shape, lookup_value, access_results_shape, access_value, read_shape, read_value, write_shape, write_value}
@@ -80,8 +80,8 @@ pub listed_plus_bytes : (result : Result ReadDirectoryPlusResults Status)
 listed_plus_bytes = arm readdirplus_shape (λ r. readdirplus_value (shown_of r.directory) (map entry_plus_of r.entries.items) r.eof) entries_listed_plus 1 (λ r. refl)
 
 pub space_bytes : (result : Result FilesystemStatusResults Status)
-    → answer_bytes (result_of space_told 1 result) ≡ result_bytes fsstat_shape (λ r. fsstat_value (shown_of r.root) (space_of r)) 1 result
-space_bytes = arm fsstat_shape (λ r. fsstat_value (shown_of r.root) (space_of r)) space_told 1 (λ r. refl)
+    → answer_bytes (result_of filesystem_status_told 1 result) ≡ result_bytes fsstat_shape (λ r. fsstat_value (shown_of r.root) (space_of r)) 1 result
+space_bytes = arm fsstat_shape (λ r. fsstat_value (shown_of r.root) (space_of r)) filesystem_status_told 1 (λ r. refl)
 
 pub info_bytes : (result : Result FilesystemInfoResults Status)
     → answer_bytes (result_of info_told 1 result) ≡ result_bytes fsinfo_shape (λ r. fsinfo_value (shown_of r.root) r.largest) 1 result

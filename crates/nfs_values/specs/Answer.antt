@@ -89,8 +89,8 @@ space_of r = record {
   free_inodes = r.free_inodes;
 }
 
-abbrev pub space_told : FilesystemStatusResults → model.Answer
-space_told r = model.FsstatDone (shown_of r.root) (space_of r)
+abbrev pub filesystem_status_told : FilesystemStatusResults → model.Answer
+filesystem_status_told r = model.FsstatDone (shown_of r.root) (space_of r)
 
 abbrev pub info_told : FilesystemInfoResults → model.Answer
 info_told r = model.FsinfoDone (shown_of r.root) r.largest
@@ -138,7 +138,7 @@ answer_of (RemoveDirectory result) = result_of name_gone 2 result
 answer_of (Rename result) = result_of name_moved 4 result
 answer_of (ReadDirectory result) = result_of entries_listed 1 result
 answer_of (ReadDirectoryPlus result) = result_of entries_listed_plus 1 result
-answer_of (FilesystemStatus result) = result_of space_told 1 result
+answer_of (FilesystemStatus result) = result_of filesystem_status_told 1 result
 answer_of (FilesystemInfo result) = result_of info_told 1 result
 answer_of (PathConfiguration result) = result_of path_told 1 result
 answer_of (Commit result) = result_of file_committed 2 result

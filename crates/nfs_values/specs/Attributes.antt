@@ -10,12 +10,12 @@ use Rattle.nfs_values.specs.Moment.{moment_of}
 -- a kind, as the model has it
 abbrev pub kind_of : FileKind → model.Kind
 kind_of Regular = model.Regular
-kind_of Directory = model.Folder
+kind_of Directory = model.DirectoryKind
 
 -- NF3REG and NF3DIR (RFC 1813 section 2.6)
 abbrev pub kind_word : model.Kind → ℕ
 kind_word model.Regular = 1
-kind_word model.Folder = 2
+kind_word model.DirectoryKind = 2
 
 -- attributes, as the model has them
 abbrev pub shown_of : Attributes → model.Shown

@@ -8,7 +8,7 @@ pub mod Unsupported
 pub mod Attributes
 pub mod Set
 pub mod Procedure
-pub mod Offer
+pub mod ProcedureSet
 pub mod Bytes
 pub mod Mount
 pub mod Call

@@ -106,10 +106,10 @@ module _ (most next step : ℕ) (old new : Waits) where
   puts k m h = ap (λ w. record { most = most; next = next; step = step; waiting = w }) (changes (with_last m) k h)
 
   -- the same, of a record and where it goes
-  pub puts-addressed : (k : ℕ) (said : ReplyMessage) (a : Addressed) → addressed k said ≡ a
-      → ((q : ℕ) → found new q ≡ (if q == k then option_map (with_last said) (found old q) else found old q))
+  pub puts-addressed : (k : ℕ) (numbered : ReplyMessage) (a : Addressed) → addressed k numbered ≡ a
+      → ((q : ℕ) → found new q ≡ (if q == k then option_map (with_last numbered) (found old q) else found old q))
       → boxes_of most next step new ≡ put a (boxes_of most next step old)
-  puts-addressed k said a e h = puts k said h ∙ ap (λ (x : Addressed). put x (boxes_of most next step old)) e
+  puts-addressed k numbered a e h = puts k numbered h ∙ ap (λ (x : Addressed). put x (boxes_of most next step old)) e
 
   pub takes : (k : ℕ)
       → ((q : ℕ) → found new q ≡ (if q == k then option_map (drop 1) (found old q) else found old q))

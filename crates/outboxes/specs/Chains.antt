@@ -6,9 +6,9 @@ use Rattle.outboxes.specs.declared.chain.Row.TheVariants.{End, More}
 
 abbrev pub messages_of : Row → List ReplyMessage
 messages_of End = []
-messages_of (More link) = link.value.said ∷ link.value.rest
+messages_of (More link) = link.value.numbered ∷ link.value.rest
 
 -- the bytes of the first record are those of what it says
 abbrev pub IsWritten : Row → Type 0
 IsWritten End = Unit {0}
-IsWritten (More link) = link.value.bytes.items ≡ record_of link.value.said
+IsWritten (More link) = link.value.bytes.items ≡ record_of link.value.numbered

@@ -6,7 +6,7 @@ use Rattle.outboxes.specs.declared.chain.Link.{Link}
 
 -- it says this, and its bytes spell it
 abbrev pub IsOf : ReplyMessage → Link → Type 0
-IsOf m link = (link.said ≡ m) × (link.bytes.items ≡ record_of m)
+IsOf m link = (link.numbered ≡ m) × (link.bytes.items ≡ record_of m)
 
 -- it has no bytes, and room for so many
 abbrev pub IsBlank : ℕ → Link → Type 0
@@ -16,4 +16,4 @@ IsBlank n link = (link.bytes.items ≡ []) × (n ≤ vec_capacity link.bytes)
 abbrev pub IsPopped : List ReplyMessage → Option (Box Link) → List ReplyMessage → Type 0
 IsPopped old None new = (old ≡ []) × (new ≡ [])
 IsPopped old (Some link) new =
-    (old ≡ link.value.said ∷ new) × ((link.value.bytes.items ≡ record_of link.value.said) × (link.value.rest ≡ []))
+    (old ≡ link.value.numbered ∷ new) × ((link.value.bytes.items ≡ record_of link.value.numbered) × (link.value.rest ≡ []))

@@ -24,9 +24,9 @@ impl Model for AddressedRecord {
 
     ghost Value = { Addressed };
 
-    ghost view = { λ a. addressed a.connection.0 a.link.value.said };
+    ghost view = { λ a. addressed a.connection.0 a.link.value.numbered };
 
-    ghost invariant = { λ a. a.link.value.bytes.items ≡ record_of a.link.value.said };
+    ghost invariant = { λ a. a.link.value.bytes.items ≡ record_of a.link.value.numbered };
 }
 
 impl AddressedRecord {
@@ -57,13 +57,13 @@ impl AddressedRecord {
     pub fn xid(&self) -> u32
         ensures { result ≡ self.now.message.xid }
     {
-        self.link.said.xid()
+        self.link.numbered.xid()
     }
 
     /// Its connection, and its record.
     pub(crate) fn into_parts(self) -> (ConnectionNumber, Box<Link>)
-        ensures is { addressed result.0.0 result.1.value.said ≡ self }
-        ensures written { result.1.value.bytes.items ≡ record_of result.1.value.said }
+        ensures is { addressed result.0.0 result.1.value.numbered ≡ self }
+        ensures written { result.1.value.bytes.items ≡ record_of result.1.value.numbered }
     {
         let AddressedRecord { connection, link } = self;
         (connection, link)

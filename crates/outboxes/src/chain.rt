@@ -3,7 +3,7 @@
 ghost use Rattle.std.specs.Prelude.{◌≡◌, ◌↔◌, ◌∷◌, [], reverse, IsTrue};
 ghost use Rattle.outboxes.specs.Messages.{record_of};
 
-use crate::said::Said;
+use crate::numbered_reply::NumberedReply;
 use std::marker::Model;
 use std::mem;
 
@@ -26,7 +26,7 @@ enum Row {
 #[derive(Drop)]
 pub(crate) struct Link {
     pub(crate) bytes: Vec<u8>,
-    pub(crate) said: Said,
+    pub(crate) numbered: NumberedReply,
     pub(crate) rest: Chain,
 }
 
@@ -71,8 +71,8 @@ impl Chain {
 
     /// Puts a record in front.
     pub(crate) fn push(&mut self, mut link: Box<Link>)
-        requires { link.value.bytes.items ≡ record_of link.value.said }
-        ensures { self.new ≡ link.value.said ∷ self.old }
+        requires { link.value.bytes.items ≡ record_of link.value.numbered }
+        ensures { self.new ≡ link.value.numbered ∷ self.old }
     {
         link.rest = mem::replace(self, Chain::new());
         self.row = Row::More(link);

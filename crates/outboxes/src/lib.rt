@@ -5,12 +5,12 @@ mod addressed_record;
 mod chain;
 mod lanes;
 mod link;
+mod numbered_reply;
 mod outbox;
 mod outboxes;
 mod record;
 mod refusal;
 mod room;
-mod said;
 
 pub use addressed_record::AddressedRecord;
 pub use lanes::lanes_are_apart;

@@ -7,7 +7,7 @@ ghost use Rattle.outboxes.specs.Messages.{message, record_of};
 ghost use Rattle.outboxes.specs.Popped.{IsBlank, IsOf};
 
 use crate::chain::{Chain, Link};
-use crate::said::Said;
+use crate::numbered_reply::NumberedReply;
 use nfs_values::{Refusal, Reply};
 use rpc_msg::{move_reply_record, write_reply_record};
 use std::alloc::{AllocError, Global};
@@ -19,11 +19,18 @@ pub(crate) fn blank(alloc: Global, bytes: usize) -> Result<Box<Link>, AllocError
 {
     let bytes = Vec::with_capacity(alloc, bytes)?;
     let nothing = Reply::Refused(Refusal::SystemError);
-    let said = Said::new(0, &nothing);
+    let numbered = NumberedReply::new(0, &nothing);
     // It has no memory of its own, and so it isn't moved to be dropped.
     mem::forget(nothing);
     let rest = Chain::new();
-    Ok(Box::new(alloc, Link { bytes, said, rest })?)
+    Ok(Box::new(
+        alloc,
+        Link {
+            bytes,
+            numbered,
+            rest,
+        },
+    )?)
 }
 
 /// Writes a reply into a blank record.
@@ -37,7 +44,7 @@ pub(crate) fn write(link: &mut Link, xid: u32, reply: &Reply) -> Result<(), Allo
 {
     match write_reply_record(&mut link.bytes, xid, reply) {
         Ok(()) => {
-            link.said = Said::new(xid, reply);
+            link.numbered = NumberedReply::new(xid, reply);
             Ok(())
         }
         Err(refused) => Err(refused),
@@ -54,10 +61,10 @@ pub(crate) fn move_in(link: &mut Link, xid: u32, reply: &mut Reply) -> Result<()
         ≤ vec_capacity link.old.bytes
         → IsOk result }
 {
-    let said = Said::new(xid, reply);
+    let numbered = NumberedReply::new(xid, reply);
     match move_reply_record(&mut link.bytes, xid, reply) {
         Ok(()) => {
-            link.said = said;
+            link.numbered = numbered;
             Ok(())
         }
         Err(refused) => Err(refused),

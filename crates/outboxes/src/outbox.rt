@@ -39,8 +39,8 @@ impl Outbox {
 
     /// Puts a record behind all others. It takes no memory.
     pub(crate) fn put(&mut self, link: Box<Link>)
-        requires { link.value.bytes.items ≡ record_of link.value.said }
-        ensures { self.new ≡ self.old ++ link.value.said ∷ [] }
+        requires { link.value.bytes.items ≡ record_of link.value.numbered }
+        ensures { self.new ≡ self.old ++ link.value.numbered ∷ [] }
     {
         self.back.push(link);
     }
@@ -57,10 +57,10 @@ impl Outbox {
             Some(link) => {
                 let Link {
                     bytes,
-                    said,
+                    numbered,
                     rest: _,
                 } = Box::into_inner(link);
-                Some(Record::new(bytes, said))
+                Some(Record::new(bytes, numbered))
             }
             None => None,
         }

@@ -211,8 +211,8 @@ fn insert(outboxes: &mut BTreeMap<usize, Outbox>, number: usize) -> Result<(), O
 
 /// Puts a record behind what waits for a connection, if that is open.
 fn put_into(outboxes: &mut BTreeMap<usize, Outbox>, connection: ConnectionNumber, link: Box<Link>)
-    requires { link.value.bytes.items ≡ record_of link.value.said }
-    ensures { HasChanged (with_last link.value.said) connection.0 outboxes.old outboxes.new }
+    requires { link.value.bytes.items ≡ record_of link.value.numbered }
+    ensures { HasChanged (with_last link.value.numbered) connection.0 outboxes.old outboxes.new }
 {
     if let Some(outbox) = outboxes.get_mut(&connection.0) {
         outbox.put(link);

@@ -3,14 +3,14 @@
 ghost use Rattle.std.specs.Prelude.{◌≡◌, ◌≤◌, length};
 ghost use Rattle.outboxes.specs.Messages.{record_of};
 
-use crate::said::Said;
+use crate::numbered_reply::NumberedReply;
 use std::marker::Model;
 
 /// The record of a reply, to be written to its connection.
 #[derive(Drop)]
 pub struct Record {
     bytes: Vec<u8>,
-    said: Said,
+    numbered: NumberedReply,
 }
 
 impl Model for Record {
@@ -19,9 +19,9 @@ impl Model for Record {
 
     ghost Value = { ReplyMessage };
 
-    ghost view = { λ r. r.said };
+    ghost view = { λ r. r.numbered };
 
-    ghost invariant = { λ r. r.bytes.items ≡ record_of r.said };
+    ghost invariant = { λ r. r.bytes.items ≡ record_of r.numbered };
 }
 
 impl Record {
@@ -40,10 +40,10 @@ impl Record {
     }
 
     /// A record of these bytes, which spell what it says.
-    pub(crate) fn new(bytes: Vec<u8>, said: Said) -> Record
-        requires { bytes.items ≡ record_of said }
-        ensures { result ≡ said }
+    pub(crate) fn new(bytes: Vec<u8>, numbered: NumberedReply) -> Record
+        requires { bytes.items ≡ record_of numbered }
+        ensures { result ≡ numbered }
     {
-        Record { bytes, said }
+        Record { bytes, numbered }
     }
 }

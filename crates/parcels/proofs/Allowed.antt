@@ -4,7 +4,7 @@ use Rattle.std.specs.Prelude.{IfSome}
 use Rattle.std.proofs.lemmas.Bool.{eq-eqb}
 use Rattle.nfs_model.specs.Tree.{Layout, Serial, Aggregate, Volume, Logical, Stripe, Vbn, Range, stripes_of, aggregate_of}
 use Rattle.affinity.specs.Numbers.{number_of}
-use Rattle.parcels.specs.Places.{or_else, in_place, in_places}
+use Rattle.parcels.specs.Slots.{or_else, in_slot, in_places}
 use Rattle.parcels.specs.Sets.{range_parcels, vbn_parcels, stripe_parcels, logical_parcels, volume_parcels, aggregate_parcels, serial_parcels}
 use Rattle.parcels.specs.declared.family.Parcel.{Parcel}
 use Rattle.parcels.specs.declared.family.Parcel.TheVariants as parcels
@@ -15,7 +15,7 @@ use Rattle.parcels.specs.declared.sets.LogicalHeld.{LogicalHeld}
 use Rattle.parcels.specs.declared.sets.VolumeHeld.{VolumeHeld}
 use Rattle.parcels.specs.declared.sets.AggrHeld.{AggrHeld}
 use Rattle.parcels.specs.declared.sets.SerialHeld.{SerialHeld}
-use Rattle.parcels.proofs.Allowing.{allowed-alone, allowed-first, allowed-second, allowed-own, allowed-rest, allowed-place}
+use Rattle.parcels.proofs.Allowing.{allowed-alone, allowed-first, allowed-second, allowed-own, allowed-rest, allowed-slot}
 use Rattle.parcels.proofs.Apart.{ranges-apart, stripes-apart, sets_of_volumes-apart, sets_of_aggregates-apart, ranges-elsewhere}
 use Rattle.parcels.proofs.Apart.{stripes-elsewhere, halves-elsewhere, halves-apart, volumes-elsewhere, aggregates-elsewhere}
 
@@ -38,10 +38,10 @@ module _ {P R B S L V A X : Type 0} (layout : Layout) (Q : ℕ → Parcel P R B 
     vbn_own_allowed = allowed-own Q (number_of layout (Vbn v)) (parcels.Vbn held.own)
         (λ k. in_places (λ r. true) (λ r range. range_parcels layout (Range v r) range k) held.ranges.at 16) h
 
-    pub ranges_allowed : (r : ℕ) → r < 16 → (k : ℕ) → IfSome (in_place (λ range. range_parcels layout (Range v r) range k) (slice_get held.ranges.at r)) (Q k)
+    pub ranges_allowed : (r : ℕ) → r < 16 → (k : ℕ) → IfSome (in_slot (λ range. range_parcels layout (Range v r) range k) (slice_get held.ranges.at r)) (Q k)
     unfolding vbn_parcels
     ranges_allowed r l =
-        allowed-place (λ r range. range_parcels layout (Range v r) range) (λ r. true) Q held.ranges.at 16 r l refl (ranges-apart layout v r)
+        allowed-slot (λ r range. range_parcels layout (Range v r) range) (λ r. true) Q held.ranges.at 16 r l refl (ranges-apart layout v r)
         (allowed-rest Q (number_of layout (Vbn v)) (parcels.Vbn held.own)
         (λ k. in_places (λ r. true) (λ r range. range_parcels layout (Range v r) range k) held.ranges.at 16) (ranges-elsewhere layout v held) h)
 
@@ -54,10 +54,10 @@ module _ {P R B S L V A X : Type 0} (layout : Layout) (Q : ℕ → Parcel P R B 
         (λ k. in_places (λ i. true) (λ i stripe. stripe_parcels layout (Stripe v i) stripe k) held.stripes.at (stripes_of layout v)) h
 
     pub stripes_allowed : (i : ℕ) → i < stripes_of layout v → (k : ℕ)
-        → IfSome (in_place (λ stripe. stripe_parcels layout (Stripe v i) stripe k) (slice_get held.stripes.at i)) (Q k)
+        → IfSome (in_slot (λ stripe. stripe_parcels layout (Stripe v i) stripe k) (slice_get held.stripes.at i)) (Q k)
     unfolding logical_parcels
     stripes_allowed i l =
-        allowed-place (λ i stripe. stripe_parcels layout (Stripe v i) stripe) (λ i. true) Q held.stripes.at (stripes_of layout v) i l refl
+        allowed-slot (λ i stripe. stripe_parcels layout (Stripe v i) stripe) (λ i. true) Q held.stripes.at (stripes_of layout v) i l refl
         (stripes-apart layout v i)
         (allowed-rest Q (number_of layout (Logical v)) (parcels.Logical held.own)
         (λ k. in_places (λ i. true) (λ i stripe. stripe_parcels layout (Stripe v i) stripe k) held.stripes.at (stripes_of layout v))
@@ -93,10 +93,10 @@ module _ {P R B S L V A X : Type 0} (layout : Layout) (Q : ℕ → Parcel P R B 
         (λ k. in_places (λ v. aggregate_of layout v == a) (λ v volume. volume_parcels layout (Volume v) volume k) held.volumes.at (length layout.volumes)) h
 
     pub volumes_allowed : (v : ℕ) → v < length layout.volumes → aggregate_of layout v ≡ a → (k : ℕ)
-        → IfSome (in_place (λ volume. volume_parcels layout (Volume v) volume k) (slice_get held.volumes.at v)) (Q k)
+        → IfSome (in_slot (λ volume. volume_parcels layout (Volume v) volume k) (slice_get held.volumes.at v)) (Q k)
     unfolding aggregate_parcels
     volumes_allowed v l on =
-        allowed-place (λ v volume. volume_parcels layout (Volume v) volume) (λ v. aggregate_of layout v == a) Q held.volumes.at
+        allowed-slot (λ v volume. volume_parcels layout (Volume v) volume) (λ v. aggregate_of layout v == a) Q held.volumes.at
         (length layout.volumes) v l (eq-eqb (aggregate_of layout v) a on) (λ k. sets_of_volumes-apart layout v k l)
         (allowed-rest Q (2 + a) (parcels.Aggregate held.own)
         (λ k. in_places (λ v. aggregate_of layout v == a) (λ v volume. volume_parcels layout (Volume v) volume k) held.volumes.at
@@ -111,10 +111,10 @@ module _ {P R B S L V A X : Type 0} (layout : Layout) (Q : ℕ → Parcel P R B 
         (λ k. in_places (λ a. true) (λ a aggregate. aggregate_parcels layout (Aggregate a) aggregate k) held.aggregates.at (length layout.spare)) h
 
     pub aggregates_allowed : (a : ℕ) → a < length layout.spare → (k : ℕ)
-        → IfSome (in_place (λ aggregate. aggregate_parcels layout (Aggregate a) aggregate k) (slice_get held.aggregates.at a)) (Q k)
+        → IfSome (in_slot (λ aggregate. aggregate_parcels layout (Aggregate a) aggregate k) (slice_get held.aggregates.at a)) (Q k)
     unfolding serial_parcels
     aggregates_allowed a l =
-        allowed-place (λ a aggregate. aggregate_parcels layout (Aggregate a) aggregate) (λ a. true) Q held.aggregates.at (length layout.spare) a l
+        allowed-slot (λ a aggregate. aggregate_parcels layout (Aggregate a) aggregate) (λ a. true) Q held.aggregates.at (length layout.spare) a l
         refl (λ k. sets_of_aggregates-apart layout a k l)
         (allowed-rest Q 1 (parcels.Serial held.own)
         (λ k. in_places (λ a. true) (λ a aggregate. aggregate_parcels layout (Aggregate a) aggregate k) held.aggregates.at (length layout.spare))

@@ -1,9 +1,9 @@
--- Of two parts of a set, or of two places, one has nothing at a number.
+-- Of two parts of a set, or of two slots, one has nothing at a number.
 use Rattle.std.proofs.Common.{◌≡◌, ℕ, zero, suc, ◌+◌, ◌<◌, ◌≤◌, true, ◌==◌, None, length, refl, sym, subst, arith, ◌⊎◌, inl, inr, ⊎_elim}
 use Rattle.std.proofs.lemmas.Bool.{cases_eq, cases_order}
 use Rattle.nfs_model.specs.Tree.{Layout, Aggregate, Volume, Logical, Stripe, Vbn, Range, stripes_of, aggregate_of}
 use Rattle.affinity.specs.Numbers.{number_of, volume_number}
-use Rattle.parcels.specs.Places.{or_else, in_places}
+use Rattle.parcels.specs.Slots.{or_else, in_places}
 use Rattle.parcels.specs.Sets.{range_parcels, vbn_parcels, stripe_parcels, logical_parcels, volume_parcels, aggregate_parcels}
 use Rattle.parcels.specs.declared.family.Parcel.TheVariants as parcels
 use Rattle.parcels.specs.declared.sets.RangeHeld.{RangeHeld}
@@ -53,7 +53,7 @@ in_volumes layout k (suc n) =
     (in_volumes layout k n)
 
 module _ {P R B S L V A X : Type 0} (layout : Layout) where
-  -- ---- places
+  -- ---- slots
 
   pub ranges-apart : (v r k : ℕ)
       → ((j : ℕ) → j < r → (held : RangeHeld P R B S L V A X) → range_parcels layout (Range v j) held k ≡ None) ⊎

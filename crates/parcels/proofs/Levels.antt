@@ -8,7 +8,7 @@ use Rattle.affinity.specs.Tree.{IsNode}
 use Rattle.parcels.specs.Children.{child, children, has_child}
 use Rattle.parcels.specs.Exact.{Under, HasParcel, HasExactly, IsVacant, kind_in}
 use Rattle.parcels.specs.Moved.{Moved}
-use Rattle.parcels.specs.Places.{alone, or_else, in_places}
+use Rattle.parcels.specs.Slots.{alone, or_else, in_places}
 use Rattle.parcels.specs.Sets.{range_parcels, stripe_parcels, vbn_parcels, logical_parcels, volume_parcels, aggregate_parcels, serial_parcels}
 use Rattle.parcels.specs.declared.family.Parcel.{Parcel}
 use Rattle.parcels.specs.declared.family.Parcel.TheVariants as parcels

@@ -2,7 +2,7 @@
 use Rattle.std.proofs.Common.{◌≡◌, ◌≢◌, ℕ, ◌+◌, Bool, List, Option, Some, None, refl, sym, ◌∙◌, ap, subst, arith, slice_get, ⊎_elim}
 use Rattle.std.specs.Prelude.{if◌then◌else◌}
 use Rattle.std.proofs.lemmas.Bool.{cases_eq}
-use Rattle.parcels.specs.Places.{alone, or_else, in_place, in_places}
+use Rattle.parcels.specs.Slots.{alone, or_else, in_slot, in_places}
 use Rattle.parcels.specs.Moved.{Moved}
 use Rattle.parcels.proofs.PlaceLemmas.{alone-there, alone-none, in_places-same, in_places-any}
 
@@ -51,7 +51,7 @@ module _ {T : Type 0} where
   given-others f g n x m k e = sym (taken-others g f n x m k e)
 
   module _ {H : Type 0} (u : ℕ → Bool) (p : ℕ → H → ℕ → Option T) where
-    -- no place yet
+    -- no slot yet
     pub moved-none : (xs : List (Option H)) (f : ℕ → Option T) (k : ℕ) → Moved (f k) (in_places u (λ j held. p j held k) xs 0) (f k)
     unfolding in_places
     moved-none xs f k = refl
@@ -75,27 +75,27 @@ module _ {T : Type 0} (f g h : ℕ → Option T) (s t : ℕ → Option T) where
   put-both m n k = given-both (f k) (s k) (g k) (t k) (h k) (m k) (n k)
 
 module _ {T H : Type 0} (u : ℕ → Bool) (p : ℕ → H → ℕ → Option T) where
-  -- what is in a place more, if it is in use, was taken and put there
-  pub gathered-step : (xs ys : List (Option H)) (i : ℕ) (place : Option H) (f g h : ℕ → Option T)
-      → slice_get ys i ≡ Some place → ((j : ℕ) → j ≢ i → slice_get ys j ≡ slice_get xs j)
+  -- what is in a slot more, if it is in use, was taken and put there
+  pub gathered-step : (xs ys : List (Option H)) (i : ℕ) (slot : Option H) (f g h : ℕ → Option T)
+      → slice_get ys i ≡ Some slot → ((j : ℕ) → j ≢ i → slice_get ys j ≡ slice_get xs j)
       → ((k : ℕ) → Moved (f k) (in_places u (λ j held. p j held k) xs i) (g k))
-      → ((k : ℕ) → Moved (g k) (if u i then in_place (λ held. p i held k) (Some place) else None) (h k))
+      → ((k : ℕ) → Moved (g k) (if u i then in_slot (λ held. p i held k) (Some slot) else None) (h k))
       → (k : ℕ) → Moved (f k) (in_places u (λ j held. p j held k) ys (i + 1)) (h k)
-  gathered-step xs ys i place f g h there others before step k =
+  gathered-step xs ys i slot f g h there others before step k =
       subst (λ o. Moved (f k) o (h k))
-      (sym (in_places-any u (λ j held. p j held k) ys i place there
-      ∙ ap (λ o. or_else o (if u i then in_place (λ held. p i held k) (Some place) else None))
+      (sym (in_places-any u (λ j held. p j held k) ys i slot there
+      ∙ ap (λ o. or_else o (if u i then in_slot (λ held. p i held k) (Some slot) else None))
       (in_places-same u (λ j held. p j held k) xs ys i (λ j l. others j (λ (same : j ≡ i). let no : ⊥ = omega arith in no)))))
-      (moved-both (f k) (in_places u (λ j held. p j held k) xs i) (g k) (if u i then in_place (λ held. p i held k) (Some place) else None) (h k)
+      (moved-both (f k) (in_places u (λ j held. p j held k) xs i) (g k) (if u i then in_slot (λ held. p i held k) (Some slot) else None) (h k)
       (before k) (step k))
 
-  -- what is in a place more was given back, if the place is in use
-  pub scattered-any : (xs : List (Option H)) (i : ℕ) (place : Option H) (f g h : ℕ → Option T)
-      → slice_get xs i ≡ Some place
+  -- what is in a slot more was given back, if the slot is in use
+  pub scattered-any : (xs : List (Option H)) (i : ℕ) (slot : Option H) (f g h : ℕ → Option T)
+      → slice_get xs i ≡ Some slot
       → ((k : ℕ) → Moved (g k) (in_places u (λ j held. p j held k) xs i) (f k))
-      → ((k : ℕ) → Moved (h k) (if u i then in_place (λ held. p i held k) (Some place) else None) (g k))
+      → ((k : ℕ) → Moved (h k) (if u i then in_slot (λ held. p i held k) (Some slot) else None) (g k))
       → (k : ℕ) → Moved (h k) (in_places u (λ j held. p j held k) xs (i + 1)) (f k)
-  scattered-any xs i place f g h there before step k =
-      subst (λ o. Moved (h k) o (f k)) (sym (in_places-any u (λ j held. p j held k) xs i place there))
-      (given-both (f k) (in_places u (λ j held. p j held k) xs i) (g k) (if u i then in_place (λ held. p i held k) (Some place) else None) (h k)
+  scattered-any xs i slot f g h there before step k =
+      subst (λ o. Moved (h k) o (f k)) (sym (in_places-any u (λ j held. p j held k) xs i slot there))
+      (given-both (f k) (in_places u (λ j held. p j held k) xs i) (g k) (if u i then in_slot (λ held. p i held k) (Some slot) else None) (h k)
       (before k) (step k))

@@ -11,7 +11,7 @@ use Rattle.parcels.proofs.Exactness.{range-from, stripe-from, vbn-from, logical-
 use Rattle.parcels.proofs.Exactness.{range-to, stripe-to, volume-to, aggregate-to}
 use Rattle.parcels.proofs.Steps.{stripes-after, ranges-after, stripe-after, range-after, volume-after, volumes-after, aggregate-after, aggregates-after}
 
--- a place within the number of places is of a node
+-- a slot within the number of slots is of a node
 pub child_known : (layout : Layout) (p : Affinity) (i : ℕ) → IsNode layout p → i < children layout p → IsNode layout (child p i)
 child_known layout Serial i node l = l
 child_known layout (Aggregate a) i node l = l

@@ -9,11 +9,11 @@ use Rattle.parcels.proofs.Parts.{logical-over, vbn-over, volume-over, logical-ou
 
 -- ---- loops
 
--- what is so from place i on
+-- what is so from slot i on
 pub fewer : (W Z : ℕ → Type 0) (i n : ℕ) → ((j : ℕ) → j ≢ i → j < n → W j → Z j) → ((j : ℕ) → i ≤ j → j < n → W j) → (j : ℕ) → i + 1 ≤ j → j < n → Z j
 fewer W Z i n over before j low high = over j (λ e. omega arith) high (before j (omega arith) high)
 
--- what is so up to place i
+-- what is so up to slot i
 pub more : (W Z : ℕ → Type 0) (i : ℕ) → ((j : ℕ) → W j → Z j) → ((j : ℕ) → j < i → W j) → Z i → (j : ℕ) → j < i + 1 → Z j
 more W Z i over before here j below =
     ⊎_elim

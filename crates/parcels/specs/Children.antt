@@ -1,9 +1,9 @@
--- The nodes below a node whose set has places for theirs. Only functions within the crate speak of them.
+-- The nodes below a node whose set has slots for theirs. Only functions within the crate speak of them.
 use Rattle.std.specs.Prelude.{◌≡◌, ℕ, ◌<◌, ◌==◌, Bool, true, List, Option, None, length, if◌then◌else◌}
 use Rattle.nfs_model.specs.Tree.{Layout, Affinity, Serial, Aggregate, Volume, Logical, Stripe, Vbn, Range, stripes_of, aggregate_of}
-use Rattle.parcels.specs.Places.{in_place, in_places}
+use Rattle.parcels.specs.Slots.{in_slot, in_places}
 
--- the node of a place; a node without places has itself there
+-- the node of a slot; a node without slots has itself there
 abbrev pub child : Affinity → ℕ → Affinity
 child Serial i = Aggregate i
 child (Aggregate a) i = Volume i
@@ -13,7 +13,7 @@ child (Stripe v j) i = Stripe v j
 child (Vbn v) i = Range v i
 child (Range v r) i = Range v r
 
--- how many places a node's set has
+-- how many slots a node's set has
 abbrev pub most_children : Affinity → ℕ
 most_children Serial = 2
 most_children (Aggregate a) = 8
@@ -33,7 +33,7 @@ children layout (Stripe v j) = 0
 children layout (Vbn v) = 16
 children layout (Range v r) = 0
 
--- whether a place is in use: an aggregate has those volumes that the layout puts on it
+-- whether a slot is in use: an aggregate has those volumes that the layout puts on it
 abbrev pub has_child : Layout → Affinity → ℕ → Bool
 has_child layout Serial i = true
 has_child layout (Aggregate a) i = aggregate_of layout i == a
@@ -43,15 +43,15 @@ has_child layout (Stripe v j) i = true
 has_child layout (Vbn v) i = true
 has_child layout (Range v r) i = true
 
--- a fact of the node of each place that is in use
+-- a fact of the node of each slot that is in use
 abbrev pub EachChild : Layout → Affinity → (Affinity → Type 0) → Type 0
 EachChild layout parent Q = (i : ℕ) → i < children layout parent → has_child layout parent i ≡ true → Q (child parent i)
 
 module _ {H T : Type 0} (parcels : Layout → Affinity → H → ℕ → Option T) (layout : Layout) (parent : Affinity) where
-  -- the parcels of the set in a place, if the place is in use
+  -- the parcels of the set in a slot, if the slot is in use
   abbrev pub child_parcels : ℕ → Option (Option H) → ℕ → Option T
-  child_parcels i place k = if has_child layout parent i then in_place (λ held. parcels layout (child parent i) held k) place else None
+  child_parcels i slot k = if has_child layout parent i then in_slot (λ held. parcels layout (child parent i) held k) slot else None
 
-  -- the parcels of the sets in all places that are in use
+  -- the parcels of the sets in all slots that are in use
   abbrev pub children_parcels : List (Option H) → ℕ → Option T
-  children_parcels places k = in_places (λ i. has_child layout parent i) (λ i held. parcels layout (child parent i) held k) places (children layout parent)
+  children_parcels slots k = in_places (λ i. has_child layout parent i) (λ i held. parcels layout (child parent i) held k) slots (children layout parent)

@@ -1,4 +1,4 @@
--- Two sets of one form: a place is filled in both or in neither, and what is in it is of one form too.
+-- Two sets of one form: a slot is filled in both or in neither, and what is in it is of one form too.
 use Rattle.std.specs.Prelude.{◌≡◌, ℕ, Bool, true, false, List, Option, Some, None, slice_get}
 use Rattle.parcels.specs.declared.sets.RangeHeld.{RangeHeld}
 use Rattle.parcels.specs.declared.sets.VbnHeld.{VbnHeld}
@@ -8,23 +8,23 @@ use Rattle.parcels.specs.declared.sets.VolumeHeld.{VolumeHeld}
 use Rattle.parcels.specs.declared.sets.AggrHeld.{AggrHeld}
 use Rattle.parcels.specs.declared.sets.SerialHeld.{SerialHeld}
 
--- whether something is in a place, if there is one
+-- whether something is in a slot, if there is one
 abbrev pub is_filled : {H : Type 0} → Option (Option H) → Bool
 is_filled None = false
 is_filled (Some None) = false
 is_filled (Some (Some held)) = true
 
 module _ {H : Type 0} where
-  -- each place is filled in both or in neither
+  -- each slot is filled in both or in neither
   abbrev pub AreFilledAlike : List (Option H) → List (Option H) → Type 0
   AreFilledAlike old new = (i : ℕ) → is_filled (slice_get old i) ≡ is_filled (slice_get new i)
 
-  -- what is in a place in both
+  -- what is in a slot in both
   abbrev pub InEachPlace : (H → H → Type 0) → List (Option H) → List (Option H) → Type 0
   InEachPlace Q old new = (i : ℕ) (x y : H) → slice_get old i ≡ Some (Some x) → slice_get new i ≡ Some (Some y) → Q x y
 
 module _ {P R B S L V A X : Type 0} where
-  -- one parcel has no places
+  -- one parcel has no slots
   abbrev pub range_alike : RangeHeld P R B S L V A X → RangeHeld P R B S L V A X → Type 0
   range_alike old new = Unit {0}
 

@@ -3,7 +3,7 @@ use Rattle.std.specs.Prelude.{ℕ, ◌==◌, true, Option, length}
 use Rattle.nfs_model.specs.Tree as trees
 use Rattle.nfs_model.specs.Tree.{Affinity, Layout, stripes_of, aggregate_of}
 use Rattle.affinity.specs.Numbers.{number_of}
-use Rattle.parcels.specs.Places.{alone, or_else, in_places}
+use Rattle.parcels.specs.Slots.{alone, or_else, in_places}
 use Rattle.parcels.specs.declared.family.Parcel.{Parcel}
 use Rattle.parcels.specs.declared.family.Parcel.TheVariants.{Range, Vbn, Stripe, Logical, Volume, Aggregate, Serial}
 use Rattle.parcels.specs.declared.sets.RangeHeld.{RangeHeld}

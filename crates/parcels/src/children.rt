@@ -1,4 +1,4 @@
-//! The nodes below a node whose set has places for theirs.
+//! The nodes below a node whose set has slots for theirs.
 
 ghost use Rattle.std.specs.Prelude.{◌≡◌, ◌≤◌};
 ghost use Rattle.affinity.specs.Affinity.{affinity_of};
@@ -7,7 +7,7 @@ ghost use Rattle.parcels.specs.Children.{child, children, has_child, most_childr
 
 use affinity::{Affinity, Layout, MOST_RANGES};
 
-/// The node of a place.
+/// The node of a slot.
 pub(crate) fn child(parent: Affinity, index: u32) -> Affinity
     ensures { affinity_of result ≡ child (affinity_of parent) index }
 {
@@ -28,7 +28,7 @@ pub(crate) fn child(parent: Affinity, index: u32) -> Affinity
     }
 }
 
-/// How many places are for nodes of the layout.
+/// How many slots are for nodes of the layout.
 pub(crate) fn child_count(layout: &Layout, parent: Affinity) -> u32
     ensures count { result ≡ children (layout_of layout.now) (affinity_of parent) }
     ensures most { result ≤ most_children (affinity_of parent) }
@@ -44,7 +44,7 @@ pub(crate) fn child_count(layout: &Layout, parent: Affinity) -> u32
     }
 }
 
-/// Whether a place is in use.
+/// Whether a slot is in use.
 pub(crate) fn has_child(layout: &Layout, parent: Affinity, index: u32) -> bool
     ensures { result ≡ has_child (layout_of layout.now) (affinity_of parent) index }
 {

@@ -9,13 +9,13 @@ ghost use Rattle.parcels.specs.Children.{EachChild, child, has_child, most_child
 ghost use Rattle.parcels.specs.Children.{child_parcels, children_parcels};
 ghost use Rattle.parcels.specs.Exact.{AllPlaced, AllVacant, HasParcel, kind_in};
 ghost use Rattle.parcels.specs.Moved.{AllMoved};
-ghost use Rattle.parcels.specs.Places.{alone};
+ghost use Rattle.parcels.specs.Slots.{alone};
 
 use crate::children::{child, child_count, has_child};
 use crate::family::{Family, Parcel};
 use crate::node::Node;
-use crate::places::Slots;
 use crate::shelf::Shelf;
+use crate::slots::Slots;
 use affinity::{Affinity, HasKind, Layout};
 
 /// Takes the parcel of a node.
@@ -53,7 +53,7 @@ pub(crate) fn gather_at<T: HasKind, K: Node<T>, S: Shelf<T>>(
     K::gather(shelf, layout, affinity)
 }
 
-/// Takes the set of the node of a place, if the place is in use.
+/// Takes the set of the node of a slot, if the slot is in use.
 fn gather_child<T: HasKind, K: Node<T>, S: Shelf<T>>(
     shelf: &mut S,
     layout: &Layout,
@@ -78,12 +78,12 @@ fn gather_child<T: HasKind, K: Node<T>, S: Shelf<T>>(
     Some(gather_at::<T, K, S>(shelf, layout, child(parent, index)))
 }
 
-/// Takes the sets of the nodes of all places.
+/// Takes the sets of the nodes of all slots.
 pub(crate) fn gather_children<T: HasKind, K: Node<T>, C: Slots<K::Held>, S: Shelf<T>>(
     shelf: &mut S,
     layout: &Layout,
     parent: Affinity,
-    places: &mut C,
+    slots: &mut C,
 )
     requires node { IsNode (layout_of layout.now) (affinity_of parent) }
     requires kind { (i : ℕ) → kind_of (child (affinity_of parent) i) ≡ K.KIND }
@@ -91,7 +91,7 @@ pub(crate) fn gather_children<T: HasKind, K: Node<T>, C: Slots<K::Held>, S: Shel
     requires there { EachChild (layout_of layout.now) (affinity_of parent)
         (λ node. AllPlaced T.kind (layout_of layout.now) node (S.at shelf.old)) }
     ensures moved { AllMoved (S.at shelf.old)
-        (children_parcels K.parcels (layout_of layout.now) (affinity_of parent) (C.at places.new))
+        (children_parcels K.parcels (layout_of layout.now) (affinity_of parent) (C.at slots.new))
         (S.at shelf.new) }
     ensures gone { EachChild (layout_of layout.now) (affinity_of parent)
         (λ node. AllVacant (layout_of layout.now) node (S.at shelf.new)) }
@@ -99,6 +99,6 @@ pub(crate) fn gather_children<T: HasKind, K: Node<T>, C: Slots<K::Held>, S: Shel
 {
     for index in 0..child_count(layout, parent) {
         let held = gather_child::<T, K, S>(shelf, layout, parent, index);
-        places.fill(index as usize, held);
+        slots.fill(index as usize, held);
     }
 }

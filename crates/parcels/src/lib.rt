@@ -9,10 +9,10 @@ mod hand;
 mod node;
 mod nodes;
 mod numbers;
-mod places;
 mod scatter;
 mod sets;
 mod shelf;
+mod slots;
 mod vec_shelf;
 
 pub use family::{Family, Parcel};
@@ -22,7 +22,7 @@ pub use nodes::{
     AggregateNode, LogicalNode, RangeNode, SerialNode, StripeNode, VbnNode, VolumeNode,
 };
 pub use numbers::Numbers;
-pub use places::{Places, eight_places, sixteen_places, two_places};
 pub use sets::{AggrHeld, LogicalHeld, RangeHeld, SerialHeld, StripeHeld, VbnHeld, VolumeHeld};
 pub use shelf::Shelf;
+pub use slots::{SlotArray, eight_slots, sixteen_slots, two_slots};
 pub use vec_shelf::VecShelf;

@@ -31,7 +31,7 @@ pub trait Node<T: HasKind> {
     // The parcels of a set by the numbers of their nodes.
     ghost parcels: { trees.Layout → trees.Affinity → Self.Held → ℕ → Option T };
 
-    // The two sets have something in the same places, here and below.
+    // The two sets have something in the same slots, here and below.
     ghost alike: { Self.Held → Self.Held → Type 0 };
 
     /// Puts a node's set together from a shelf. No memory is taken.
@@ -63,7 +63,7 @@ pub trait Node<T: HasKind> {
         → HasExactly T.kind layout affinity (parcels layout affinity held)
         → kind_of affinity ≡ KIND };
 
-    // It still has exactly those once its parcels have changed and its places haven't.
+    // It still has exactly those once its parcels have changed and its slots haven't.
     ghost stays_exact: { (layout : trees.Layout) (affinity : trees.Affinity) (old new : Self.Held)
         → alike old new
         → HasExactly T.kind layout affinity (parcels layout affinity old)

@@ -18,9 +18,9 @@ ghost use Rattle.parcels.specs.lemmas.Within.{aggregate-within, serial-within};
 use crate::family::{Family, Parcel};
 use crate::gather::{gather_at, gather_children, take_parcel};
 use crate::node::Node;
-use crate::places::{Places, eight_places, sixteen_places, two_places};
 use crate::sets::{AggrHeld, LogicalHeld, RangeHeld, SerialHeld, StripeHeld, VbnHeld, VolumeHeld};
 use crate::shelf::Shelf;
+use crate::slots::{SlotArray, eight_slots, sixteen_slots, two_slots};
 use affinity::{Affinity, Kind, Layout};
 
 /// The root, with all parcels.
@@ -45,8 +45,8 @@ impl<P: Family> Node<Parcel<P>> for SerialNode {
         let Parcel::Serial(own) = take_parcel(shelf, layout, Affinity::Serial) else {
             unreachable!()
         };
-        let mut aggregates = two_places();
-        gather_children::<Parcel<P>, AggregateNode, Places<AggrHeld<P>, 2>, S>(
+        let mut aggregates = two_slots();
+        gather_children::<Parcel<P>, AggregateNode, SlotArray<AggrHeld<P>, 2>, S>(
             shelf,
             layout,
             Affinity::Serial,
@@ -97,8 +97,8 @@ impl<P: Family> Node<Parcel<P>> for AggregateNode {
         else {
             unreachable!()
         };
-        let mut volumes = eight_places();
-        gather_children::<Parcel<P>, VolumeNode, Places<VolumeHeld<P>, 8>, S>(
+        let mut volumes = eight_slots();
+        gather_children::<Parcel<P>, VolumeNode, SlotArray<VolumeHeld<P>, 8>, S>(
             shelf,
             layout,
             Affinity::Aggregate(aggregate),
@@ -199,8 +199,8 @@ impl<P: Family> Node<Parcel<P>> for LogicalNode {
         else {
             unreachable!()
         };
-        let mut stripes = sixteen_places();
-        gather_children::<Parcel<P>, StripeNode, Places<StripeHeld<P>, 16>, S>(
+        let mut stripes = sixteen_slots();
+        gather_children::<Parcel<P>, StripeNode, SlotArray<StripeHeld<P>, 16>, S>(
             shelf,
             layout,
             Affinity::VolumeLogical(volume),
@@ -295,8 +295,8 @@ impl<P: Family> Node<Parcel<P>> for VbnNode {
         let Parcel::Vbn(own) = take_parcel(shelf, layout, Affinity::VolumeVbn(volume)) else {
             unreachable!()
         };
-        let mut ranges = sixteen_places();
-        gather_children::<Parcel<P>, RangeNode, Places<RangeHeld<P>, 16>, S>(
+        let mut ranges = sixteen_slots();
+        gather_children::<Parcel<P>, RangeNode, SlotArray<RangeHeld<P>, 16>, S>(
             shelf,
             layout,
             Affinity::VolumeVbn(volume),

@@ -9,13 +9,13 @@ ghost use Rattle.parcels.specs.Children.{EachChild, child, children, has_child, 
 ghost use Rattle.parcels.specs.Children.{child_parcels, children_parcels};
 ghost use Rattle.parcels.specs.Exact.{AllVacant, IsVacant};
 ghost use Rattle.parcels.specs.Moved.{AllAllowed, AllMoved};
-ghost use Rattle.parcels.specs.Places.{alone, in_place};
+ghost use Rattle.parcels.specs.Slots.{alone, in_slot};
 
 use crate::children::{child, child_count, has_child};
 use crate::family::{Family, Parcel};
 use crate::node::Node;
-use crate::places::Slots;
 use crate::shelf::Shelf;
+use crate::slots::Slots;
 use affinity::{Affinity, HasKind, Layout};
 
 /// Gives a node its parcel.
@@ -56,41 +56,41 @@ pub(crate) fn scatter_at<T: HasKind, K: Node<T>, S: Shelf<T>>(
     K::scatter(shelf, layout, affinity, held);
 }
 
-/// Gives back the set of the node of a place, if it is there and the place is in use.
+/// Gives back the set of the node of a slot, if it is there and the slot is in use.
 fn scatter_child<T: HasKind, K: Node<T>, S: Shelf<T>>(
     shelf: &mut S,
     layout: &Layout,
     parent: Affinity,
     index: u32,
-    place: Option<K::Held>,
+    slot: Option<K::Held>,
 )
     requires node { IsNode (layout_of layout.now) (child (affinity_of parent) index) }
     requires kind { kind_of (child (affinity_of parent) index) ≡ K.KIND }
     requires vacant { has_child (layout_of layout.now) (affinity_of parent) index ≡ true
         → AllVacant (layout_of layout.now) (child (affinity_of parent) index) (S.at shelf.old) }
     requires allowed { has_child (layout_of layout.now) (affinity_of parent) index ≡ true
-        → AllAllowed (S.allows shelf.old) (λ k. in_place
+        → AllAllowed (S.allows shelf.old) (λ k. in_slot
         (λ held. K.parcels (layout_of layout.now) (child (affinity_of parent) index) held k)
-        (Some place)) }
+        (Some slot)) }
     ensures moved { AllMoved (S.at shelf.new)
-        (child_parcels K.parcels (layout_of layout.now) (affinity_of parent) index (Some place))
+        (child_parcels K.parcels (layout_of layout.now) (affinity_of parent) index (Some slot))
         (S.at shelf.old) }
     ensures kept { S.keeps shelf.old shelf.new }
 {
     if !has_child(layout, parent, index) {
         return;
     }
-    if let Some(held) = place {
+    if let Some(held) = slot {
         scatter_at::<T, K, S>(shelf, layout, child(parent, index), held);
     }
 }
 
-/// Gives back the sets of the nodes of all places.
+/// Gives back the sets of the nodes of all slots.
 pub(crate) fn scatter_children<T: HasKind, K: Node<T>, C: Slots<K::Held> + Drop, S: Shelf<T>>(
     shelf: &mut S,
     layout: &Layout,
     parent: Affinity,
-    mut places: C,
+    mut slots: C,
 )
     requires node { IsNode (layout_of layout.now) (affinity_of parent) }
     requires kind { (i : ℕ) → kind_of (child (affinity_of parent) i) ≡ K.KIND }
@@ -99,16 +99,16 @@ pub(crate) fn scatter_children<T: HasKind, K: Node<T>, C: Slots<K::Held> + Drop,
         (λ node. AllVacant (layout_of layout.now) node (S.at shelf.old)) }
     requires allowed { (i : ℕ) → i < children (layout_of layout.now) (affinity_of parent)
         → has_child (layout_of layout.now) (affinity_of parent) i ≡ true
-        → AllAllowed (S.allows shelf.old) (λ k. in_place
+        → AllAllowed (S.allows shelf.old) (λ k. in_slot
         (λ held. K.parcels (layout_of layout.now) (child (affinity_of parent) i) held k)
-        (slice_get (C.at places) i)) }
+        (slice_get (C.at slots) i)) }
     ensures moved { AllMoved (S.at shelf.new)
-        (children_parcels K.parcels (layout_of layout.now) (affinity_of parent) (C.at places))
+        (children_parcels K.parcels (layout_of layout.now) (affinity_of parent) (C.at slots))
         (S.at shelf.old) }
     ensures kept { S.keeps shelf.old shelf.new }
 {
     for index in 0..child_count(layout, parent) {
-        let place = places.empty(index as usize);
-        scatter_child::<T, K, S>(shelf, layout, parent, index, place);
+        let slot = slots.empty(index as usize);
+        scatter_child::<T, K, S>(shelf, layout, parent, index, slot);
     }
 }

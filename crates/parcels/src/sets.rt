@@ -1,21 +1,18 @@
 //! Typed sets: the parcel of a node, and the sets of the nodes below.
 
-ghost use Rattle.std.specs.Prelude.{◌≡◌};
 ghost use Rattle.affinity.specs.declared.affinity.Kind.TheVariants as kinds;
-ghost use Rattle.affinity.specs.Affinity.{affinity_of, kind_of};
+ghost use Rattle.affinity.specs.Affinity.{affinity_of};
 ghost use Rattle.affinity.specs.Layout.{layout_of};
-ghost use Rattle.affinity.specs.Tree.{IsNode};
-ghost use Rattle.parcels.specs.Exact.{AllVacant};
-ghost use Rattle.parcels.specs.Moved.{AllAllowed, AllMoved};
+ghost use Rattle.parcels.specs.Moved.{AllMoved, MayBeGiven};
 ghost use Rattle.parcels.specs.Sets.{range_parcels, vbn_parcels, stripe_parcels};
 ghost use Rattle.parcels.specs.Sets.{logical_parcels, volume_parcels};
 ghost use Rattle.parcels.specs.Sets.{aggregate_parcels, serial_parcels};
 
 use crate::family::{Family, Parcel};
 use crate::nodes::{AggregateNode, LogicalNode, RangeNode, StripeNode, VbnNode, VolumeNode};
-use crate::places::Places;
 use crate::scatter::{put_parcel, scatter_at, scatter_children};
 use crate::shelf::Shelf;
+use crate::slots::SlotArray;
 use affinity::{Affinity, Layout};
 
 /// The parcel of a range.
@@ -38,11 +35,8 @@ impl<P: Family> RangeHeld<P> {
         layout: &Layout,
         affinity: Affinity,
     )
-        requires node { IsNode (layout_of layout.now) (affinity_of affinity) }
-        requires kind { kind_of (affinity_of affinity) ≡ kinds.Range }
-        requires vacant { AllVacant (layout_of layout.now) (affinity_of affinity) (S.at shelf.old) }
-        requires allowed { AllAllowed (S.allows shelf.old)
-            (range_parcels (layout_of layout.now) (affinity_of affinity) self) }
+        requires { let L = layout_of layout.now in let a = affinity_of affinity in
+            MayBeGiven L a kinds.Range (S.at shelf.old) (S.allows shelf.old) (range_parcels L a self) }
         ensures moved { AllMoved (S.at shelf.new)
             (range_parcels (layout_of layout.now) (affinity_of affinity) self) (S.at shelf.old) }
         ensures kept { S.keeps shelf.old shelf.new }
@@ -63,7 +57,7 @@ impl<P: Family> RangeHeld<P> {
 /// The parcel of a volume's block numbers, and those of its 16 ranges.
 pub struct VbnHeld<P: Family> {
     pub own: P::Vbn,
-    pub ranges: Places<RangeHeld<P>, 16>,
+    pub ranges: SlotArray<RangeHeld<P>, 16>,
 }
 
 // By hand, so that crates above have no proof of the drop of each of its parts.
@@ -81,11 +75,8 @@ impl<P: Family> VbnHeld<P> {
         layout: &Layout,
         affinity: Affinity,
     )
-        requires node { IsNode (layout_of layout.now) (affinity_of affinity) }
-        requires kind { kind_of (affinity_of affinity) ≡ kinds.VolumeVbn }
-        requires vacant { AllVacant (layout_of layout.now) (affinity_of affinity) (S.at shelf.old) }
-        requires allowed { AllAllowed (S.allows shelf.old)
-            (vbn_parcels (layout_of layout.now) (affinity_of affinity) self) }
+        requires { let L = layout_of layout.now in let a = affinity_of affinity in
+            MayBeGiven L a kinds.VolumeVbn (S.at shelf.old) (S.allows shelf.old) (vbn_parcels L a self) }
         ensures moved { AllMoved (S.at shelf.new)
             (vbn_parcels (layout_of layout.now) (affinity_of affinity) self) (S.at shelf.old) }
         ensures kept { S.keeps shelf.old shelf.new }
@@ -95,7 +86,7 @@ impl<P: Family> VbnHeld<P> {
         };
         let VbnHeld { own, ranges } = self;
         put_parcel(shelf, layout, Affinity::VolumeVbn(volume), Parcel::Vbn(own));
-        scatter_children::<Parcel<P>, RangeNode, Places<RangeHeld<P>, 16>, S>(
+        scatter_children::<Parcel<P>, RangeNode, SlotArray<RangeHeld<P>, 16>, S>(
             shelf,
             layout,
             Affinity::VolumeVbn(volume),
@@ -124,11 +115,8 @@ impl<P: Family> StripeHeld<P> {
         layout: &Layout,
         affinity: Affinity,
     )
-        requires node { IsNode (layout_of layout.now) (affinity_of affinity) }
-        requires kind { kind_of (affinity_of affinity) ≡ kinds.Stripe }
-        requires vacant { AllVacant (layout_of layout.now) (affinity_of affinity) (S.at shelf.old) }
-        requires allowed { AllAllowed (S.allows shelf.old)
-            (stripe_parcels (layout_of layout.now) (affinity_of affinity) self) }
+        requires { let L = layout_of layout.now in let a = affinity_of affinity in
+            MayBeGiven L a kinds.Stripe (S.at shelf.old) (S.allows shelf.old) (stripe_parcels L a self) }
         ensures moved { AllMoved (S.at shelf.new)
             (stripe_parcels (layout_of layout.now) (affinity_of affinity) self) (S.at shelf.old) }
         ensures kept { S.keeps shelf.old shelf.new }
@@ -150,7 +138,7 @@ impl<P: Family> StripeHeld<P> {
 /// many as the layout says.
 pub struct LogicalHeld<P: Family> {
     pub own: P::Logical,
-    pub stripes: Places<StripeHeld<P>, 16>,
+    pub stripes: SlotArray<StripeHeld<P>, 16>,
 }
 
 // By hand, so that crates above have no proof of the drop of each of its parts.
@@ -168,11 +156,8 @@ impl<P: Family> LogicalHeld<P> {
         layout: &Layout,
         affinity: Affinity,
     )
-        requires node { IsNode (layout_of layout.now) (affinity_of affinity) }
-        requires kind { kind_of (affinity_of affinity) ≡ kinds.VolumeLogical }
-        requires vacant { AllVacant (layout_of layout.now) (affinity_of affinity) (S.at shelf.old) }
-        requires allowed { AllAllowed (S.allows shelf.old)
-            (logical_parcels (layout_of layout.now) (affinity_of affinity) self) }
+        requires { let L = layout_of layout.now in let a = affinity_of affinity in
+            MayBeGiven L a kinds.VolumeLogical (S.at shelf.old) (S.allows shelf.old) (logical_parcels L a self) }
         ensures moved { AllMoved (S.at shelf.new)
             (logical_parcels (layout_of layout.now) (affinity_of affinity) self) (S.at shelf.old) }
         ensures kept { S.keeps shelf.old shelf.new }
@@ -187,7 +172,7 @@ impl<P: Family> LogicalHeld<P> {
             Affinity::VolumeLogical(volume),
             Parcel::Logical(own),
         );
-        scatter_children::<Parcel<P>, StripeNode, Places<StripeHeld<P>, 16>, S>(
+        scatter_children::<Parcel<P>, StripeNode, SlotArray<StripeHeld<P>, 16>, S>(
             shelf,
             layout,
             Affinity::VolumeLogical(volume),
@@ -222,11 +207,8 @@ impl<P: Family> VolumeHeld<P> {
         layout: &Layout,
         affinity: Affinity,
     )
-        requires node { IsNode (layout_of layout.now) (affinity_of affinity) }
-        requires kind { kind_of (affinity_of affinity) ≡ kinds.Volume }
-        requires vacant { AllVacant (layout_of layout.now) (affinity_of affinity) (S.at shelf.old) }
-        requires allowed { AllAllowed (S.allows shelf.old)
-            (volume_parcels (layout_of layout.now) (affinity_of affinity) self) }
+        requires { let L = layout_of layout.now in let a = affinity_of affinity in
+            MayBeGiven L a kinds.Volume (S.at shelf.old) (S.allows shelf.old) (volume_parcels L a self) }
         ensures moved { AllMoved (S.at shelf.new)
             (volume_parcels (layout_of layout.now) (affinity_of affinity) self) (S.at shelf.old) }
         ensures kept { S.keeps shelf.old shelf.new }
@@ -249,7 +231,7 @@ impl<P: Family> VolumeHeld<P> {
 /// The parcel of an aggregate and, by their numbers, the sets of the volumes that are on it.
 pub struct AggrHeld<P: Family> {
     pub own: P::Aggregate,
-    pub volumes: Places<VolumeHeld<P>, 8>,
+    pub volumes: SlotArray<VolumeHeld<P>, 8>,
 }
 
 // By hand, so that crates above have no proof of the drop of each of its parts.
@@ -267,11 +249,8 @@ impl<P: Family> AggrHeld<P> {
         layout: &Layout,
         affinity: Affinity,
     )
-        requires node { IsNode (layout_of layout.now) (affinity_of affinity) }
-        requires kind { kind_of (affinity_of affinity) ≡ kinds.Aggregate }
-        requires vacant { AllVacant (layout_of layout.now) (affinity_of affinity) (S.at shelf.old) }
-        requires allowed { AllAllowed (S.allows shelf.old)
-            (aggregate_parcels (layout_of layout.now) (affinity_of affinity) self) }
+        requires { let L = layout_of layout.now in let a = affinity_of affinity in
+            MayBeGiven L a kinds.Aggregate (S.at shelf.old) (S.allows shelf.old) (aggregate_parcels L a self) }
         ensures moved { AllMoved (S.at shelf.new)
             (aggregate_parcels (layout_of layout.now) (affinity_of affinity) self)
             (S.at shelf.old) }
@@ -287,7 +266,7 @@ impl<P: Family> AggrHeld<P> {
             Affinity::Aggregate(aggregate),
             Parcel::Aggregate(own),
         );
-        scatter_children::<Parcel<P>, VolumeNode, Places<VolumeHeld<P>, 8>, S>(
+        scatter_children::<Parcel<P>, VolumeNode, SlotArray<VolumeHeld<P>, 8>, S>(
             shelf,
             layout,
             Affinity::Aggregate(aggregate),
@@ -299,7 +278,7 @@ impl<P: Family> AggrHeld<P> {
 /// The parcels of the whole tree.
 pub struct SerialHeld<P: Family> {
     pub own: P::Serial,
-    pub aggregates: Places<AggrHeld<P>, 2>,
+    pub aggregates: SlotArray<AggrHeld<P>, 2>,
 }
 
 // By hand, so that crates above have no proof of the drop of each of its parts.
@@ -331,7 +310,7 @@ impl<P: Family> SerialHeld<P> {
     {
         let SerialHeld { own, aggregates } = self;
         put_parcel(shelf, layout, Affinity::Serial, Parcel::Serial(own));
-        scatter_children::<Parcel<P>, AggregateNode, Places<AggrHeld<P>, 2>, S>(
+        scatter_children::<Parcel<P>, AggregateNode, SlotArray<AggrHeld<P>, 2>, S>(
             shelf,
             layout,
             Affinity::Serial,

@@ -1,6 +1,6 @@
 -- What a server offers: procedures, and how their handles are spelled.
 use Rattle.std.specs.Prelude.{ℕ, Bool}
-use Rattle.nfs_values.specs.Offer as procedures
+use Rattle.nfs_values.specs.ProcedureSet as procedures
 use Rattle.nfs_values.specs.declared.procedure.Procedure.{Procedure}
 use Rattle.rpc_msg.specs.declared.handle_form.HandleForm.{HandleForm}
 use Rattle.rpc_msg.specs.declared.handle_form.HandleForm.TheVariants.{Plain, OfRun}

@@ -3,12 +3,12 @@
 ghost use Rattle.std.specs.Prelude.{◌≡◌, ◌≢◌, true, false, IfSome, None};
 
 use crate::handle_form::HandleForm;
-use nfs_values::{Offer as Procedures, Procedure};
+use nfs_values::{Procedure, ProcedureSet};
 
 /// What a server offers: which procedures, and handles that are spelled so.
 #[derive(Clone, Copy)]
 pub struct Offer {
-    procedures: Procedures,
+    procedures: ProcedureSet,
     handles: HandleForm,
 }
 
@@ -22,7 +22,7 @@ impl Offer {
         ensures { result ≡ basic }
     {
         Offer {
-            procedures: Procedures::basic(),
+            procedures: ProcedureSet::basic(),
             handles: HandleForm::Plain,
         }
     }
@@ -33,7 +33,7 @@ impl Offer {
         ensures { result ≡ export run }
     {
         Offer {
-            procedures: Procedures::export(),
+            procedures: ProcedureSet::export(),
             handles: HandleForm::OfRun(run),
         }
     }

@@ -4,9 +4,9 @@ use Rattle.std.proofs.Common.{append_assoc, arith, length-take, min}
 use Rattle.std.proofs.lemmas.Bool.Decides.{nat_tests}
 use Rattle.std.proofs.lemmas.List.{take-append-drop}
 use Rattle.rpc_record.specs.Machine.{State, InData, Next, Goes, after_fragment, after, scan}
-use Rattle.rpc_record.specs.declared.place.Place.{Place}
-use Rattle.rpc_record.specs.declared.place.Turn.{Turn}
-use Rattle.rpc_record.specs.Place.{state, next_of, after_data, rest_of, Turns}
+use Rattle.rpc_record.specs.declared.position.Position.{Position}
+use Rattle.rpc_record.specs.declared.position.Turn.{Turn}
+use Rattle.rpc_record.specs.Position.{state, next_of, after_data, rest_of, Turns}
 
 -- where one byte is missing, none is after it
 one_left : (left : ℕ) → 1 ≤ left → eqb (left - 1) 0 ≡ eqb left 1
@@ -41,7 +41,7 @@ data_taken bytes joined n t left last some h k =
     ∙ ap (λ (k : ℕ). rest_of (t + k) (after_data (joined ++ take n bytes) (left - k) last) (drop n bytes)) len
 
 -- a turn over data
-pub turns_data : (old new : Place) (bytes : List ℕ) (n : ℕ) (turn : Turn) → eqb old.left 0 ≡ false → 0 < length bytes → n ≡ min old.left (length bytes)
+pub turns_data : (old new : Position) (bytes : List ℕ) (n : ℕ) (turn : Turn) → eqb old.left 0 ≡ false → 0 < length bytes → n ≡ min old.left (length bytes)
     → ((joined : List ℕ) → next_of turn joined new ≡ after_data joined (old.left - n) old.last) → Turns old bytes n turn new
 turns_data old new bytes n turn some more n_is next joined before size =
     let left : 0 < old.left = grind (arith, nat_tests) in

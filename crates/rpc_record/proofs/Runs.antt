@@ -8,7 +8,7 @@ use Rattle.std.proofs.lemmas.Bool.Decides.{nat_tests}
 use Rattle.std.proofs.lemmas.List.{append-nil}
 use Rattle.std.proofs.lemmas.Nat.{from_be_bytes-to_be_bytes_4}
 use Rattle.rpc_record.specs.Records.{limit, last_bit, header, fragment, front, IsRecord, IsAtFault, HasNoRecord, HasNoFault}
-use Rattle.rpc_record.specs.Place.{after_data, rest_of}
+use Rattle.rpc_record.specs.Position.{after_data, rest_of}
 use Rattle.rpc_record.proofs.Chunks.{data_run}
 use Rattle.rpc_record.specs.Machine.{State, InHeader, InData, Next, Goes, Faults, More, Made, Fault, after_fragment, after_header, after, scan}
 

@@ -1,5 +1,5 @@
 pub mod Records
 pub mod Machine
 pub mod Stream
-pub mod Place
+pub mod Position
 pub mod Feeds

@@ -2,7 +2,7 @@ ghost use Rattle.std.specs.Prelude.{◌≡◌, true, ◌+◌, ◌≤◌, ◌++�
 ghost use Rattle.std.specs.Prelude.{IsOk, OnOk, OnErr};
 ghost use Rattle.rpc_record.specs.Records.{limit, header, fragment, IsRecord};
 
-use crate::place::LAST_FRAGMENT;
+use crate::position::LAST_FRAGMENT;
 use byteorder::{BigEndian, ByteOrder};
 use std::alloc::{AllocError, Global};
 

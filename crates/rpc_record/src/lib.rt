@@ -4,10 +4,10 @@
 mod framing;
 mod join;
 mod laws;
-mod place;
+mod position;
 mod reassembler;
 
 pub use framing::{frame, put_header};
 pub use laws::{reading_goes_by_bytes, reading_is_exact, stream_has_one_reading};
-pub use place::RECORD_LIMIT;
+pub use position::RECORD_LIMIT;
 pub use reassembler::{Look, Reassembler, Step};

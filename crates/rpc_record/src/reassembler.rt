@@ -8,7 +8,7 @@ ghost use Rattle.rpc_record.specs.declared.reassembler.Step.{Step};
 ghost use Rattle.rpc_record.specs.declared.reassembler.Step.TheVariants as steps;
 
 use crate::join::join;
-use crate::place::{Place, Turn};
+use crate::position::{Position, Turn};
 use std::alloc::Global;
 use std::marker::Model;
 use std::mem;
@@ -67,7 +67,7 @@ impl Look {
 pub struct Reassembler {
     alloc: Global,
     joined: Vec<u8>,
-    place: Place,
+    position: Position,
     failed: bool,
 }
 
@@ -77,11 +77,11 @@ impl Model for Reassembler {
 
     ghost Value = { Option State };
 
-    ghost use Rattle.rpc_record.specs.Place.{state, IsPlace};
+    ghost use Rattle.rpc_record.specs.Position.{state, IsPosition};
 
-    ghost view = { λ r. if r.failed then None else Some (state r.joined.items r.place) };
+    ghost view = { λ r. if r.failed then None else Some (state r.joined.items r.position) };
 
-    ghost invariant = { λ r. IsPlace r.place × (vec_len r.joined ≡ r.place.joined) };
+    ghost invariant = { λ r. IsPosition r.position × (vec_len r.joined ≡ r.position.joined) };
 }
 
 impl Reassembler {
@@ -92,7 +92,7 @@ impl Reassembler {
         Reassembler {
             alloc,
             joined: Vec::new(alloc),
-            place: Place::START,
+            position: Position::START,
             failed: false,
         }
     }
@@ -130,22 +130,22 @@ impl Reassembler {
         ensures { Feeds self.old bytes.now result.0 result.1 self.new }
     {
         let size = self.joined.len();
-        let place = self.place;
-        let Ok((taken, turn)) = join(&mut self.joined, &mut self.place, bytes) else {
+        let position = self.position;
+        let Ok((taken, turn)) = join(&mut self.joined, &mut self.position, bytes) else {
             self.joined.truncate(size);
-            self.place = place;
+            self.position = position;
             return (0, Step::NoMemory);
         };
         match turn {
             Turn::Goes => (taken, Step::More),
             Turn::Ends => {
-                self.place = Place::START;
+                self.position = Position::START;
                 let record = mem::replace(&mut self.joined, Vec::new(self.alloc));
                 (taken, Step::Record(record))
             }
             Turn::Faults => {
                 self.failed = true;
-                self.place = Place::START;
+                self.position = Position::START;
                 self.joined = Vec::new(self.alloc);
                 (taken, Step::Fault)
             }
@@ -180,7 +180,7 @@ impl Reassembler {
         requires { IsSome self.now }
         ensures { result ≡ look_at bytes.now (outcome self.now bytes.now) }
     {
-        match self.place.walk(bytes) {
+        match self.position.walk(bytes) {
             (taken, Turn::Goes) => (taken, Look::More),
             (taken, Turn::Ends) => (taken, Look::Record),
             (taken, Turn::Faults) => (taken, Look::Fault),

@@ -10,7 +10,7 @@ use crate::load::Load;
 use crate::name::Name;
 use crate::own_names::OwnNames;
 use crate::payload::Payload;
-use crate::place::{FILE_NAME, FILE_SIZE, Place};
+use crate::target::{FILE_NAME, FILE_SIZE, Target};
 use crate::transfer::{Transfer, size_of};
 use crate::workload::Workload;
 use std::alloc::{AllocError, Global};
@@ -21,7 +21,7 @@ const SPAN: u64 = 262_144;
 /// The calls of each connection: so many lanes make a call of a kind in each of so many turns.
 #[derive(Drop)]
 pub struct Plan<'a> {
-    pub place: &'a Place,
+    pub target: &'a Target,
     pub workload: Workload,
     pub payload: Payload,
     pub lanes: u32,
@@ -48,27 +48,27 @@ impl<'a> Plan<'a> {
     pub fn call<'b>(&'b self, connection: u32, names: &'b OwnNames, xid: u32) -> Call<'b, 'b>
         ensures { procedure_of result ≡ procedure_in self.now.workload (xid / 4) }
     {
-        let place = self.place;
+        let target = self.target;
         match self.workload {
-            Workload::GetAttributes => Call::GetAttributes(&place.file),
-            Workload::Lookup => Call::Lookup(&place.directory, Name { bytes: &FILE_NAME }),
+            Workload::GetAttributes => Call::GetAttributes(&target.file),
+            Workload::Lookup => Call::Lookup(&target.directory, Name { bytes: &FILE_NAME }),
             Workload::Read(transfer) => {
                 let offset = offset_of(connection, xid, transfer);
-                Call::Read(&place.file, offset, transfer)
+                Call::Read(&target.file, offset, transfer)
             }
             Workload::Write(transfer) => {
                 let offset = offset_of(connection, xid, transfer);
-                Call::Write(&place.file, offset, &self.payload)
+                Call::Write(&target.file, offset, &self.payload)
             }
             Workload::CreateAndRemove => {
                 let name = names.of_lane(lane_of(xid));
                 if turn_of(xid) % 2 == 0 {
-                    Call::Create(&place.directory, name)
+                    Call::Create(&target.directory, name)
                 } else {
-                    Call::Remove(&place.directory, name)
+                    Call::Remove(&target.directory, name)
                 }
             }
-            Workload::ReadDirectory => Call::ReadDirectory(&place.directory),
+            Workload::ReadDirectory => Call::ReadDirectory(&target.directory),
         }
     }
 }
@@ -95,14 +95,14 @@ fn turns_for(count: u32, lanes: u32) -> u32
 /// Calls of a kind under a load, so many by all connections together or a few more.
 pub fn new_plan<'a>(
     alloc: Global,
-    place: &'a Place,
+    target: &'a Target,
     workload: Workload,
     load: Load,
     count: u32,
 ) -> Result<Plan<'a>, AllocError> {
     let lanes = load.outstanding;
     Ok(Plan {
-        place,
+        target,
         workload,
         payload: Payload::new(alloc, payload_size(workload))?,
         lanes,

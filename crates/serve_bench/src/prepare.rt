@@ -6,9 +6,9 @@ use crate::handle::Handle;
 use crate::link::Link;
 use crate::name::Name;
 use crate::payload::Payload;
-use crate::place::{DIRECTORY_NAME, FILE_NAME, FILE_SIZE, NAMES, Place, other_name};
 use crate::record::{Next, next_record};
 use crate::reply::{Verdict, found_handle, judge, read_reply};
+use crate::target::{DIRECTORY_NAME, FILE_NAME, FILE_SIZE, NAMES, Target, other_name};
 use crate::transfer::{Transfer, size_of};
 use std::alloc::Global;
 use std::io::{self, ErrorKind};
@@ -125,14 +125,14 @@ fn remove_directory(link: &mut Link, directory: &Handle, name: Name<'_>) -> io::
 }
 
 /// Writes a file that is new, and makes the other names beside it.
-fn fill(alloc: Global, link: &mut Link, place: &Place) -> io::Result<()> {
+fn fill(alloc: Global, link: &mut Link, target: &Target) -> io::Result<()> {
     let payload = Payload::new(alloc, size_of(Transfer::Full))?;
-    write_all(link, &place.file, &payload)?;
-    make_or_remove_names(link, &place.directory, true)
+    write_all(link, &target.file, &payload)?;
+    make_or_remove_names(link, &target.directory, true)
 }
 
 /// Makes a directory in the root, the file in it, and the other names. What is there already stays.
-pub fn prepare(alloc: Global, link: &mut Link) -> io::Result<Place> {
+pub fn prepare(alloc: Global, link: &mut Link) -> io::Result<Target> {
     let root = Handle::root();
     make_directory(
         link,
@@ -150,15 +150,15 @@ pub fn prepare(alloc: Global, link: &mut Link) -> io::Result<Place> {
     )?;
     make_or_remove(link, &directory, Name { bytes: &FILE_NAME }, true)?;
     let file = find(link, &directory, Name { bytes: &FILE_NAME })?;
-    let place = Place { directory, file };
-    fill(alloc, link, &place)?;
-    Ok(place)
+    let target = Target { directory, file };
+    fill(alloc, link, &target)?;
+    Ok(target)
 }
 
 /// Removes what `prepare` made.
-pub fn clean_up(link: &mut Link, place: &Place) -> io::Result<()> {
-    make_or_remove_names(link, &place.directory, false)?;
-    make_or_remove(link, &place.directory, Name { bytes: &FILE_NAME }, false)?;
+pub fn clean_up(link: &mut Link, target: &Target) -> io::Result<()> {
+    make_or_remove_names(link, &target.directory, false)?;
+    make_or_remove(link, &target.directory, Name { bytes: &FILE_NAME }, false)?;
     remove_directory(
         link,
         &Handle::root(),

@@ -5,10 +5,10 @@ use crate::drive::{Session, drive};
 use crate::figures::print_figures;
 use crate::link::Link;
 use crate::load::{FULL, Load, SINGLE};
-use crate::place::Place;
 use crate::plan::{Plan, new_plan};
 use crate::prepare::{clean_up, prepare};
 use crate::tally::Tally;
+use crate::target::Target;
 use crate::workload::{KINDS, Kind};
 use std::alloc::{AllocError, Global};
 use std::io;
@@ -61,8 +61,8 @@ fn measure<
         + AllocGlobal
         + Threads
         + Sync,
->(rt: &R, request: &Request<'_>, place: &Place, kind: &Kind, load: Load) -> io::Result<bool> {
-    let plan = new_plan(rt.alloc(), place, kind.workload, load, request.count)?;
+>(rt: &R, request: &Request<'_>, target: &Target, kind: &Kind, load: Load) -> io::Result<bool> {
+    let plan = new_plan(rt.alloc(), target, kind.workload, load, request.count)?;
     let sessions = connect_all(rt, request.address, load.connections)?;
     let (mut tally, time) = make_all(rt, &plan, sessions)?;
     print_figures(rt, load, kind.title, &mut tally, time)
@@ -77,12 +77,12 @@ fn measure_kinds<
         + AllocGlobal
         + Threads
         + Sync,
->(rt: &R, request: &Request<'_>, place: &Place) -> io::Result<bool> {
+>(rt: &R, request: &Request<'_>, target: &Target) -> io::Result<bool> {
     let mut clean = true;
     for load in [FULL, SINGLE] {
         for kind in &KINDS {
             if request.includes(kind) {
-                clean &= measure(rt, request, place, kind, load)?;
+                clean &= measure(rt, request, target, kind, load)?;
             }
         }
     }
@@ -99,9 +99,9 @@ fn run_beside<
         + Threads
         + Sync,
 >(rt: &R, request: &Request<'_>, link: &mut Link) -> io::Result<bool> {
-    let place = prepare(rt.alloc(), link)?;
-    let clean = measure_kinds(rt, request, &place)?;
-    clean_up(link, &place)?;
+    let target = prepare(rt.alloc(), link)?;
+    let clean = measure_kinds(rt, request, &target)?;
+    clean_up(link, &target)?;
     Ok(clean)
 }
 

@@ -1,6 +1,6 @@
 //! Connections that came and have ended, counted.
 
-use crate::bell::Bell;
+use crate::event_count::EventCount;
 use std::sync::Wait;
 use std::sync::atomic::{AtomicU64, Ordering};
 
@@ -9,7 +9,7 @@ use std::sync::atomic::{AtomicU64, Ordering};
 pub(crate) struct Ends {
     came: AtomicU64,
     count: AtomicU64,
-    ended: Bell,
+    ended: EventCount,
 }
 
 // By hand, so that crates above have no proof of the drop of each of its parts.
@@ -29,7 +29,7 @@ impl Ends {
         Ends {
             came: AtomicU64::new(0),
             count: AtomicU64::new(0),
-            ended: Bell::new(),
+            ended: EventCount::new(),
         }
     }
 
@@ -41,7 +41,7 @@ impl Ends {
     /// A connection has ended.
     pub(crate) fn add(&self) {
         self.count.fetch_add(1, Ordering::SeqCst);
-        self.ended.ring();
+        self.ended.advance();
     }
 
     /// How many are open. The ends are read first: what ends meanwhile still counts as open.
@@ -53,7 +53,7 @@ impl Ends {
     /// Sleeps until fewer than these are open.
     pub(crate) fn wait_for_fewer<R: Wait>(&self, rt: &R, open: u64) {
         for _ in rt.forever() {
-            let seen = self.ended.rings();
+            let seen = self.ended.count();
             if self.open() < open {
                 return;
             }

@@ -4,7 +4,6 @@
 
 mod accepting;
 mod admission;
-mod bell;
 mod closing;
 mod common;
 mod counting;
@@ -13,6 +12,7 @@ mod crowd;
 mod ending;
 mod ends;
 mod entrance;
+mod event_count;
 mod fault;
 mod gathering;
 mod guests;

@@ -10,7 +10,7 @@ use std::rt::Clock;
 use std::sync::Wait;
 
 /// Runs a lane, round for round, until its thread is told to stop.
-pub(crate) fn serve<R: Wait + Clock>(
+pub(crate) fn run_rounds<R: Wait + Clock>(
     rt: &R,
     lane: Lane<Socket, R>,
     station: Station,

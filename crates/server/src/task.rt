@@ -4,7 +4,7 @@ ghost use Rattle.server.specs.Lanes.{Stays};
 ghost use Rattle.server.specs.Threads.{started_with};
 ghost use Rattle.std.specs.Prelude.{◌≡◌, IfOk};
 
-use crate::serving::serve;
+use crate::serving::run_rounds;
 use crate::socket::Socket;
 use crate::station::Station;
 use lanes::Lane;
@@ -54,7 +54,7 @@ where
         {
             let task = task;
             let Task { lane, station } = task;
-            serve(&rt, lane, station)
+            run_rounds(&rt, lane, station)
         },
     );
     started.map_err(|_refused| ())

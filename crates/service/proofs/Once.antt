@@ -7,7 +7,7 @@ use Rattle.std.specs.FinMap.{entries}
 use Rattle.std.specs.FinSet.{contains, contains-empty}
 use Rattle.nfs_model.specs.Tree.{Layout, Affinity, Serial, Aggregate, Volume, Logical, Stripe, Vbn, Range, stripes_of, aggregate_of}
 use Rattle.nfs_model.specs.Parts.{Hand, one_if, times_listed, most_ranges, range_blocks}
-use Rattle.nfs_model.specs.volume.Stripes.{Place, Block}
+use Rattle.nfs_model.specs.volume.Stripes.{FileBlock, Block}
 use Rattle.nfs_model.specs.volume.Ranges.{RangeValue}
 use Rattle.affinity.specs.Ancestors.{Covers}
 use Rattle.affinity.specs.Numbers.{number_of, parents}
@@ -41,7 +41,7 @@ One = Option (FilerParcel Files)
 abbrev IsOrNothing : One → One → Type 0
 IsOrNothing x y = (x ≡ None) ⊎ (x ≡ y)
 
-none-listed : (n : ℕ) (es : List (Place × Block)) → length es ≡ 0 → times_listed n (map (λ (e : Place × Block). e.1.number) es) ≡ 0
+none-listed : (n : ℕ) (es : List (FileBlock × Block)) → length es ≡ 0 → times_listed n (map (λ (e : FileBlock × Block). e.1.number) es) ≡ 0
 none-listed n [] e = refl
 none-listed n (x ∷ es) e = absurd (omega arith)
 

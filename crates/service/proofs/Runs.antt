@@ -27,7 +27,7 @@ use Rattle.filer_state.specs.state.Promises.{RightOnVolume}
 use Rattle.filer_state.specs.state.Running.{RunsOn, UnlessReplied}
 use Rattle.service_data.specs.Writing.{asked_to_write, writing_outcome, written_outcome}
 use Rattle.service.specs.renames.Promises.{Renames, renaming_outcome}
-use Rattle.service.specs.totals.Space.{TellsSpace}
+use Rattle.service.specs.totals.FilesystemStatus.{TellsFilesystemStatus}
 use Rattle.service.specs.Running.{fileid_in, call_named, call_of_node, call_on}
 
 -- an entry of a call is its run
@@ -78,11 +78,11 @@ writing-runs layout v lens node fileid call handle offset count bytes written cr
     (subst (λ (bs : List ℕ). RunsOn v lens (write_call handle node fileid (asked_to_write offset count bs moment)) old told new) same right))
 
 -- FSSTAT of what a call names is run as the call
-pub space-runs : (layout : Layout) (v : ℕ) (fileid : ℕ) (call : codes.Call) (handle : List ℕ) (credential : Credential) (moment : Moment)
-    (old : VolumeSet) (told : Result FilesystemStatusResults Status) → call_of call ≡ types.Fsstat handle → TellsSpace v fileid old told
+pub filesystem-status-runs : (layout : Layout) (v : ℕ) (fileid : ℕ) (call : codes.Call) (handle : List ℕ) (credential : Credential) (moment : Moment)
+    (old : VolumeSet) (told : Result FilesystemStatusResults Status) → call_of call ≡ types.Fsstat handle → TellsFilesystemStatus v fileid old told
     → RunsOn v volume_lens (call_of_node layout (Volume v) fileid credential moment (call_of call)) old
     (Replied (types.Success (answer_of (FilesystemStatus told)))) old
-space-runs layout v fileid call handle credential moment old told is right =
+filesystem-status-runs layout v fileid call handle credential moment old told is right =
     subst (λ (c : Call). RunsOn v volume_lens (call_of_node layout (Volume v) fileid credential moment c) old
     (Replied (types.Success (answer_of (FilesystemStatus told)))) old) (sym is) (right handle)
 

@@ -1,6 +1,6 @@
 pub mod Ranges
 pub mod Growing
-pub mod Space
+pub mod FilesystemStatus
 pub mod Census
 pub use Rattle.filer_state.specs.totals.Running
 pub use Rattle.filer_state.specs.totals.CensusLaws

@@ -6,10 +6,10 @@ ghost use Rattle.filer_state.specs.state.Promises.{HasVolume};
 ghost use Rattle.filer_state.specs.state.Sets.{logical_before};
 ghost use Rattle.service.specs.Getattr.{TellsAttributes};
 
-use crate::renames::shown_now;
 use filer_state::Files;
 use nfs_values::{Attributes, Fileid, Status, VolumeNumber};
 use parcels::LogicalHeld;
+use service_names::shown_now;
 
 /// GETATTR (RFC 1813 section 3.3.1), on the parcels of a volume's names and attributes: the
 /// attributes of the node of a fileid, or STALE where there is none. It takes no memory.

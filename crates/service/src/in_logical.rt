@@ -37,11 +37,7 @@ ghost use Rattle.service.specs.Running.{
 use crate::attributes::get_attributes;
 use crate::named::fileid_here;
 use crate::outcome::{Outcome, outcome_read, outcome_written};
-use crate::renames::{
-    EntryName, PageAsked, PagePlusAsked, check_access, commit, create, filesystem_info, lookup,
-    make_directory, path_configuration, read_directory, read_directory_plus, remove,
-    remove_directory, rename, set_attributes,
-};
+use crate::renames::{EntryName, rename};
 use crate::task::Run;
 use affinity::homes::named_by;
 use affinity::{Affinity, Layout};
@@ -52,6 +48,11 @@ use nfs_values::{
 };
 use parcels::LogicalHeld;
 use service_data::{read_in_logical, write_in_logical};
+use service_names::{
+    PageAsked, PagePlusAsked, check_access, commit, create, filesystem_info, lookup,
+    make_directory, path_configuration, read_directory, read_directory_plus, remove,
+    remove_directory, set_attributes,
+};
 use std::alloc::AllocError;
 
 /// Runs a call on the parcels under Volume Logical of its volume: its home, or where a WRITE moved.

@@ -16,7 +16,7 @@ ghost use Rattle.service.specs.Running.{call_on, outcome_of, IsRunAt};
 use crate::named::fileid_here;
 use crate::outcome::{Outcome, outcome_written};
 use crate::task::Run;
-use crate::totals::space;
+use crate::totals::filesystem_status;
 use affinity::{Affinity, Layout};
 use filer_state::Files;
 use nfs_values::{Answer, Call, Reply, VolumeNumber};
@@ -54,7 +54,7 @@ pub fn run_on_volume(
             outcome_written(volume, told)
         }
         Call::FilesystemStatus { .. } => {
-            let told = space(held, volume, fileid);
+            let told = filesystem_status(held, volume, fileid);
             Outcome::Replied(Reply::Success(Answer::FilesystemStatus(told)))
         }
         _ => unreachable!(),

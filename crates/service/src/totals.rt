@@ -7,5 +7,5 @@ mod growing;
 mod ranges;
 
 pub use counting::census;
-pub use filesystem::space;
+pub use filesystem::filesystem_status;
 pub use growing::grow;

@@ -12,7 +12,7 @@ use Rattle.nfs_model.specs.Serial.Write.{blocks_met}
 use Rattle.nfs_model.specs.volume.Maps.{changed_at}
 use Rattle.nfs_model.specs.volume.lemmas.Maps.{get-changed_at}
 use Rattle.nfs_model.specs.volume.lemmas.Entries.{place_total, place_same}
-use Rattle.nfs_model.specs.volume.Stripes.{Block, Place, place_cmp, StripeValue, stripe_of, is_filled, zero_block, block_inserted, block_taken, block_numbered}
+use Rattle.nfs_model.specs.volume.Stripes.{Block, FileBlock, file_block_cmp, StripeValue, stripe_of, is_filled, zero_block, block_inserted, block_taken, block_numbered}
 use Rattle.filer_state.specs.state.Parcels.{no_stripe}
 use Rattle.filer_state.specs.state.Tree.{home_stripe}
 use Rattle.filer_state.specs.bytes.Extending.{holes, home_changed, filled_with}
@@ -21,53 +21,53 @@ use Rattle.service_data.specs.Holes.{Rise, AreHoles, with_hole, zeroed, renumber
 -- ---- blocks by their places
 
 -- whether a place is another
-ties : Place → Place → Bool
-ties p k = eq_by_cmp place_cmp p k
+ties : FileBlock → FileBlock → Bool
+ties p k = eq_by_cmp file_block_cmp p k
 
-by-place : (p k : Place) → (p ≡ k) ⊎ (eq_by_cmp place_cmp p k ≡ false)
-by-place p k = by (place_cmp p k) refl
+by-place : (p k : FileBlock) → (p ≡ k) ⊎ (eq_by_cmp file_block_cmp p k ≡ false)
+by-place p k = by (file_block_cmp p k) refl
   where
-    by : (r : Ordering) → place_cmp p k ≡ r → (p ≡ k) ⊎ (eq_by_cmp place_cmp p k ≡ false)
+    by : (r : Ordering) → file_block_cmp p k ≡ r → (p ≡ k) ⊎ (eq_by_cmp file_block_cmp p k ≡ false)
     by Less e = inr (ap is_eq e)
     by Equal e = inl (place_same p k e)
     by Greater e = inr (ap is_eq e)
 
-module _ (m : FinMap place_cmp Block) where
-  removed-inserted : (k : Place) (x : Block) → get m k ≡ None → remove (insert m k x) k ≡ m
+module _ (m : FinMap file_block_cmp Block) where
+  removed-inserted : (k : FileBlock) (x : Block) → get m k ≡ None → remove (insert m k x) k ≡ m
   removed-inserted k x none = same_map place_total place_same _ _ (λ p.
-      get-remove place_total (insert m k x) k p ∙ ap (cond (eq_by_cmp place_cmp p k) None) (get-insert place_total m k x p)
+      get-remove place_total (insert m k x) k p ∙ ap (cond (eq_by_cmp file_block_cmp p k) None) (get-insert place_total m k x p)
       ∙ elim (by-place p k) [
-        | inl same ↦ gone (eq_by_cmp place_cmp p k) p (ap (get m) same ∙ none)
+        | inl same ↦ gone (eq_by_cmp file_block_cmp p k) p (ap (get m) same ∙ none)
         | inr other ↦ ap (λ t. cond t None (cond t (Some x) (get m p))) other
       ])
     where
-      gone : (t : Bool) (p : Place) → get m p ≡ None → cond t None (cond t (Some x) (get m p)) ≡ get m p
+      gone : (t : Bool) (p : FileBlock) → get m p ≡ None → cond t None (cond t (Some x) (get m p)) ≡ get m p
       gone true p e = sym e
       gone false p e = refl
 
-  changed-inserted : (g : Block → Block) (k : Place) (x : Block) → changed_at g k (insert m k x) ≡ insert m k (g x)
+  changed-inserted : (g : Block → Block) (k : FileBlock) (x : Block) → changed_at g k (insert m k x) ≡ insert m k (g x)
   changed-inserted g k x = same_map place_total place_same _ _ (λ p.
       get-changed_at place_total g k (insert m k x) p
-      ∙ ap (λ o. cond (eq_by_cmp place_cmp p k) (option_map g o) o) (get-insert place_total m k x p)
-      ∙ by (eq_by_cmp place_cmp p k) (get m p) ∙ sym (get-insert place_total m k (g x) p))
+      ∙ ap (λ o. cond (eq_by_cmp file_block_cmp p k) (option_map g o) o) (get-insert place_total m k x p)
+      ∙ by (eq_by_cmp file_block_cmp p k) (get m p) ∙ sym (get-insert place_total m k (g x) p))
     where
       by : (t : Bool) (o : Option Block) → cond t (option_map g (cond t (Some x) o)) (cond t (Some x) o) ≡ cond t (Some (g x)) o
       by true o = refl
       by false o = refl
 
-  changed-past : (g : Block → Block) (k q : Place) (x : Block) → (k ≡ q → ⊥) → changed_at g k (insert m q x) ≡ insert (changed_at g k m) q x
+  changed-past : (g : Block → Block) (k q : FileBlock) (x : Block) → (k ≡ q → ⊥) → changed_at g k (insert m q x) ≡ insert (changed_at g k m) q x
   changed-past g k q x apart = same_map place_total place_same _ _ (λ p.
       get-changed_at place_total g k (insert m q x) p
-      ∙ ap (λ o. cond (eq_by_cmp place_cmp p k) (option_map g o) o) (get-insert place_total m q x p)
+      ∙ ap (λ o. cond (eq_by_cmp file_block_cmp p k) (option_map g o) o) (get-insert place_total m q x p)
       ∙ elim (by-place p k) [
         | inl same ↦ elim (by-place p q) [
           | inl here ↦ absurd (apart (sym same ∙ here))
-          | inr other ↦ off (eq_by_cmp place_cmp p k) (eq_by_cmp place_cmp p q) (get m p) other
+          | inr other ↦ off (eq_by_cmp file_block_cmp p k) (eq_by_cmp file_block_cmp p q) (get m p) other
         ]
-        | inr other ↦ on (eq_by_cmp place_cmp p k) (eq_by_cmp place_cmp p q) (get m p) other
+        | inr other ↦ on (eq_by_cmp file_block_cmp p k) (eq_by_cmp file_block_cmp p q) (get m p) other
       ]
       ∙ sym (get-insert place_total (changed_at g k m) q x p
-      ∙ ap (cond (eq_by_cmp place_cmp p q) (Some x)) (get-changed_at place_total g k m p)))
+      ∙ ap (cond (eq_by_cmp file_block_cmp p q) (Some x)) (get-changed_at place_total g k m p)))
     where
       off : (t u : Bool) (o : Option Block) → u ≡ false
           → cond t (option_map g (cond u (Some x) o)) (cond u (Some x) o) ≡ cond u (Some x) (cond t (option_map g o) o)
@@ -100,12 +100,12 @@ module _ (fileid b : ℕ) where
   other-numbered : (n c m : ℕ) → (b ≡ c → ⊥) → (s : StripeValue)
       → block_numbered fileid b n (block_inserted fileid c m s) ≡ block_inserted fileid c m (block_numbered fileid b n s)
   other-numbered n c m apart s = λ j. record s {
-    blocks = changed-past s.blocks (λ (x : Block). record x { number = n }) (fileid, b) (fileid, c) (zero_block m) (λ e. apart (ap (λ (p : Place). p.1) e)) j;
+    blocks = changed-past s.blocks (λ (x : Block). record x { number = n }) (fileid, b) (fileid, c) (zero_block m) (λ e. apart (ap (λ (p : FileBlock). p.1) e)) j;
   }
 
   other-filled : (n c : ℕ) → (c ≡ b → ⊥) → (s : StripeValue) → is_filled (block_inserted fileid b n s) fileid c ≡ is_filled s fileid c
   other-filled n c apart s = elim (by-place (fileid, c) (fileid, b)) [
-    | inl same ↦ absurd (apart (ap (λ (p : Place). p.1) same))
+    | inl same ↦ absurd (apart (ap (λ (p : FileBlock). p.1) same))
     | inr other ↦ ap is_some (get-insert place_total s.blocks (fileid, b) (zero_block n) (fileid, c)
         ∙ ap (λ t. cond t (Some (zero_block n)) (get s.blocks (fileid, c))) other)
   ]

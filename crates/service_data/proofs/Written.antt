@@ -16,7 +16,7 @@ use Rattle.nfs_values.specs.declared.answer.WriteResults.{WriteResults}
 use Rattle.nfs_values.specs.declared.status.Status.{Status}
 use Rattle.nfs_values.specs.declared.verifier.Verifier.{Verifier}
 use Rattle.nfs_values.specs.declared.status.Status.TheVariants.{Invalid, TooBig}
-use Rattle.nfs_model.specs.volume.Stripes.{Card, OfFile, OfFolder, StripeValue, stays_within, overwritten}
+use Rattle.nfs_model.specs.volume.Stripes.{Card, OfFile, OfDirectory, StripeValue, stays_within, overwritten}
 use Rattle.filer_state.specs.state.Lenses.{stripe_lens}
 use Rattle.filer_state.specs.state.Running.{RunsOn}
 use Rattle.filer_state.specs.bytes.Writing.{StripeOutcome, tells, fails, some_written, card_written, stripe_write}
@@ -65,7 +65,7 @@ module _ (v fileid : ℕ) (w : Writing) (s : StripeValue) where
 
   as-checked : (card : Option Card) → card_written v fileid w card s ≡ comes_to (bytes_to_write card s.largest w.offset w.count (length w.written))
   as-checked None = refl
-  as-checked (Some OfFolder) = refl
+  as-checked (Some OfDirectory) = refl
   as-checked (Some (OfFile size touch)) = by (w.count == length w.written) refl (w.count == 0) refl
     where
       by : (b : Bool) → (w.count == length w.written) ≡ b → (t : Bool) → (w.count == 0) ≡ t
@@ -81,7 +81,7 @@ module _ (v fileid : ℕ) (w : Writing) (s : StripeValue) where
 pub given-some : (card : Option Card) (largest offset count long given : ℕ) → Ok given ≡ bytes_to_write card largest offset count long → (given ≡ 0 → ⊥)
     → (count ≡ long) × (given ≡ min count most_bytes)
 given-some None largest offset count long given is some = absurd cc
-given-some (Some OfFolder) largest offset count long given is some = absurd cc
+given-some (Some OfDirectory) largest offset count long given is some = absurd cc
 given-some (Some (OfFile size touch)) largest offset count long given is some =
     by (count == long) refl (count == 0) (nat_lt largest (offset + min count most_bytes)) is
   where

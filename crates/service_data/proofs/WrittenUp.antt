@@ -16,7 +16,7 @@ use Rattle.nfs_values.specs.Status.{status_of}
 use Rattle.nfs_values.specs.declared.answer.WriteResults.{WriteResults}
 use Rattle.nfs_values.specs.declared.status.Status.{Status}
 use Rattle.nfs_values.specs.declared.status.Status.TheVariants.{Invalid, TooBig}
-use Rattle.nfs_model.specs.volume.Inodes.{InodeKind, RegularFile, Folder, Inode, IsInodes}
+use Rattle.nfs_model.specs.volume.Inodes.{InodeKind, RegularFile, DirectoryKind, Inode, IsInodes}
 use Rattle.nfs_model.specs.volume.lemmas.Inodes.{filled-within}
 use Rattle.nfs_model.specs.volume.Stripes.{Card}
 use Rattle.filer_state.specs.state.Lenses.{LogicalSet, logical_lens}
@@ -68,7 +68,7 @@ module _ (largest : ℕ) (w : Writing) where
       by false e t = refl
       by true e true = refl
       by true e false = some-due e
-  kind-is (Folder parent subdirectories) = refl
+  kind-is (DirectoryKind parent subdirectories) = refl
 
   due-is : (o : Option Inode) → bytes_due o largest w ≡ as_due (bytes_to_write (card_shown o) largest w.offset w.count (length w.written))
   due-is None = refl

@@ -14,8 +14,8 @@ use Rattle.nfs_values.specs.declared.answer.Answer.TheVariants.{Write}
 use Rattle.nfs_values.specs.declared.answer.WriteResults.{WriteResults}
 use Rattle.nfs_values.specs.declared.status.Status.{Status}
 use Rattle.nfs_values.specs.declared.status.Status.TheVariants.{Stale, Invalid, TooBig}
-use Rattle.nfs_model.specs.volume.Inodes.{InodeKind, RegularFile, Folder, Inode}
-use Rattle.nfs_model.specs.volume.Stripes.{Card, OfFile, OfFolder, StripeValue}
+use Rattle.nfs_model.specs.volume.Inodes.{InodeKind, RegularFile, DirectoryKind, Inode}
+use Rattle.nfs_model.specs.volume.Stripes.{Card, OfFile, OfDirectory, StripeValue}
 use Rattle.filer_state.specs.state.Lenses.{LogicalSet, logical_lens, stripe_lens}
 use Rattle.filer_state.specs.state.Calls.{LieIn}
 use Rattle.filer_state.specs.state.Running.{RunsOn}
@@ -30,7 +30,7 @@ asked_to_write offset count written moment = record { offset = offset; count = c
 -- INVAL for another count, none for a count of 0, FBIG.
 abbrev pub bytes_to_write : Option Card → ℕ → ℕ → ℕ → ℕ → Result ℕ Status
 bytes_to_write None largest offset count long = Err Stale
-bytes_to_write (Some OfFolder) largest offset count long = Err Invalid
+bytes_to_write (Some OfDirectory) largest offset count long = Err Invalid
 bytes_to_write (Some (OfFile size touch)) largest offset count long =
     if not (count == long) then Err Invalid
     else if count == 0 then Ok 0
@@ -59,7 +59,7 @@ written_outcome v (Err e) = Starved
 -- a card without a touch of what an inode is of
 abbrev pub kind_card : InodeKind → Card
 kind_card (RegularFile size filled verifier) = OfFile size None
-kind_card (Folder parent subdirectories) = OfFolder
+kind_card (DirectoryKind parent subdirectories) = OfDirectory
 
 -- the card of an inode in each stripe, but for the touch
 abbrev pub card_shown : Option Inode → Option Card

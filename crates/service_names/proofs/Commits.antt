@@ -8,7 +8,7 @@ use Rattle.nfs_values.specs.Answer.{answer_of}
 use Rattle.nfs_values.specs.declared.answer.Answer.TheVariants.{Commit}
 use Rattle.nfs_values.specs.declared.answer.CommitResults.{CommitResults}
 use Rattle.nfs_values.specs.declared.status.Status.{Status}
-use Rattle.nfs_model.specs.volume.Inodes.{Inode, RegularFile, Folder}
+use Rattle.nfs_model.specs.volume.Inodes.{Inode, RegularFile, DirectoryKind}
 use Rattle.filer_state.specs.state.Tree.{file_touch}
 use Rattle.filer_state.specs.state.Lenses.{LogicalSet, logical_lens}
 use Rattle.filer_state.specs.state.Promises.{RightOnVolume}
@@ -28,8 +28,8 @@ module _ (v fileid : ℕ) (set : LogicalSet) where
       (sym is) (commit-right v fileid handle (Logical v) set)
 
   module _ (inode : Inode) (there : get set.own.inodes.inodes fileid ≡ Some inode) where
-    pub folder-told : (parent subs : ℕ) → inode.kind ≡ Folder parent subs → commit_answer v fileid set ≡ Failed Invalid 2
-    folder-told parent subs is =
+    pub directory-kind-told : (parent subs : ℕ) → inode.kind ≡ DirectoryKind parent subs → commit_answer v fileid set ≡ Failed Invalid 2
+    directory-kind-told parent subs is =
         ap (inode_committed v fileid set) there
         ∙ ap (file_committed (shown_inode v fileid inode (file_touch set.stripes fileid)) set.own.verifier) is
 

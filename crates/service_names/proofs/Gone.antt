@@ -32,25 +32,25 @@ vacant-dropped None fileid e = λ j. record no_stripe {
         by false = refl
 vacant-dropped (Some s) fileid e = absurd cc
 
-module _ {P : Type 0} (old mid new : FilerLogical P) (v directory : ℕ) (folder : Inode) (name : List ℕ) (moment : Moment) (child : HeldNode)
+module _ {P : Type 0} (old mid new : FilerLogical P) (v directory : ℕ) (as_directory : Inode) (name : List ℕ) (moment : Moment) (child : HeldNode)
     (emptied left : Inode) (is : emptied ≡ (child_emptied child (logical_before old)).inode) where
   -- the file without bytes
   abbrev there : Inode → HeldNode
   there i = record { fileid = child.fileid; inode = i }
 
-  pub emptied-left : left ≡ directory_left (dropping_of (naming_in v directory folder name moment (logical_before mid)) (there emptied))
-      → left ≡ directory_left (dropping_of (naming_in v directory folder name moment (logical_before old)) (child_emptied child (logical_before old)))
+  pub emptied-left : left ≡ directory_left (dropping_of (naming_in v directory as_directory name moment (logical_before mid)) (there emptied))
+      → left ≡ directory_left (dropping_of (naming_in v directory as_directory name moment (logical_before old)) (child_emptied child (logical_before old)))
   emptied-left left_is =
-      left_is ∙ ap (λ (i : Inode). directory_left (dropping_of (naming_in v directory folder name moment (logical_before mid)) (there i))) is
+      left_is ∙ ap (λ (i : Inode). directory_left (dropping_of (naming_in v directory as_directory name moment (logical_before mid)) (there i))) is
 
   pub emptied-gone : logical_after old mid ≡ file_sized (emptying_of child) (logical_before old)
-      → logical_after mid new ≡ node_dropped (dropping_of (naming_in v directory folder name moment (logical_before mid)) (there emptied)) (logical_before mid)
+      → logical_after mid new ≡ node_dropped (dropping_of (naming_in v directory as_directory name moment (logical_before mid)) (there emptied)) (logical_before mid)
       → logical_after old new
-      ≡ node_dropped (dropping_of (naming_in v directory folder name moment (logical_before old)) (child_emptied child (logical_before old)))
+      ≡ node_dropped (dropping_of (naming_in v directory as_directory name moment (logical_before old)) (child_emptied child (logical_before old)))
       (file_sized (emptying_of child) (logical_before old))
   emptied-gone sized gone =
       let same : mid.own.stripes ≡ old.own.stripes = ap (λ (s : LogicalSet). s.own.stripes) sized in
       let at : logical_before mid ≡ file_sized (emptying_of child) (logical_before old) = ap (λ (n : ℕ). logical_set n mid) same ∙ sized in
       ap (λ (n : ℕ). logical_set n new) (sym same) ∙ gone
-      ∙ ap (λ (i : Inode). node_dropped (dropping_of (naming_in v directory folder name moment (logical_before mid)) (there i)) (logical_before mid)) is
-      ∙ ap (λ (s : LogicalSet). node_dropped (dropping_of (naming_in v directory folder name moment s) (child_emptied child (logical_before old))) s) at
+      ∙ ap (λ (i : Inode). node_dropped (dropping_of (naming_in v directory as_directory name moment (logical_before mid)) (there i)) (logical_before mid)) is
+      ∙ ap (λ (s : LogicalSet). node_dropped (dropping_of (naming_in v directory as_directory name moment s) (child_emptied child (logical_before old))) s) at

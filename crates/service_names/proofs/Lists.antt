@@ -124,13 +124,13 @@ module _ (v fileid : ℕ) (asked : PageAsked) (set : LogicalSet) where
       else answer_of 1 (readdir_from (min asked.count most_bytes) (shown_inode v fileid inode None)
       (above_cookie asked.cookie.0 (all_under set.own fileid parent)))
 
-  module _ (inode : Inode) (parent : ℕ) (folder : answer ≡ listed_in inode parent) where
+  module _ (inode : Inode) (parent : ℕ) (as_directory : answer ≡ listed_in inode parent) where
     checked : (b : Bool) → is_bad_cookie asked.cookie.0 asked.verifier.0 ≡ b
         → answer ≡ (if b then Failed BadCookie 1
         else answer_of 1 (readdir_from (min asked.count most_bytes) (shown_inode v fileid inode None)
         (above_cookie asked.cookie.0 (all_under set.own fileid parent))))
     checked b is =
-        folder ∙ ap (λ (x : Bool). if x then Failed BadCookie 1
+        as_directory ∙ ap (λ (x : Bool). if x then Failed BadCookie 1
         else answer_of 1 (readdir_from (min asked.count most_bytes) (shown_inode v fileid inode None)
         (above_cookie asked.cookie.0 (all_under set.own fileid parent)))) is
 

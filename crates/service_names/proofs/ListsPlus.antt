@@ -127,11 +127,11 @@ module _ (v fileid : ℕ) (asked : PagePlusAsked) (set : LogicalSet) where
   listed_in inode parent =
       if is_bad_cookie asked.cookie.0 asked.verifier.0 then Failed BadCookie 1 else told_by (min asked.count most_bytes) inode parent
 
-  module _ (inode : Inode) (parent : ℕ) (folder : answer ≡ listed_in inode parent) where
+  module _ (inode : Inode) (parent : ℕ) (as_directory : answer ≡ listed_in inode parent) where
     checked : (b : Bool) → is_bad_cookie asked.cookie.0 asked.verifier.0 ≡ b
         → answer ≡ (if b then Failed BadCookie 1 else told_by (min asked.count most_bytes) inode parent)
     checked b is =
-        folder ∙ ap (λ (x : Bool). if x then Failed BadCookie 1 else told_by (min asked.count most_bytes) inode parent) is
+        as_directory ∙ ap (λ (x : Bool). if x then Failed BadCookie 1 else told_by (min asked.count most_bytes) inode parent) is
 
     pub bad-cookie : is_bad_cookie asked.cookie.0 asked.verifier.0 ≡ true → answer ≡ Failed BadCookie 1
     bad-cookie bad = checked true bad

@@ -34,16 +34,16 @@ module _ (v fileid : ℕ) (name : List ℕ) (set : LogicalSet) where
       unless_fault (name_fault name)
       (found_told v set (shown_inode v fileid inode None) (fileid_named fileid parent (entries_of set.own fileid) name))
 
-  module _ (inode : Inode) (parent : ℕ) (folder : lookup_answer v fileid name set ≡ told_in inode parent) where
+  module _ (inode : Inode) (parent : ℕ) (as_directory : lookup_answer v fileid name set ≡ told_in inode parent) where
     pub bad-name : (status : Status) → name_fault name ≡ Some status → lookup_answer v fileid name set ≡ Failed status 1
     bad-name status bad =
-        folder ∙ ap (λ (o : Option Status). unless_fault o
+        as_directory ∙ ap (λ (o : Option Status). unless_fault o
         (found_told v set (shown_inode v fileid inode None) (fileid_named fileid parent (entries_of set.own fileid) name))) bad
 
     good-name : name_fault name ≡ None → (o : Option ℕ) → fileid_named fileid parent (entries_of set.own fileid) name ≡ o
         → lookup_answer v fileid name set ≡ found_told v set (shown_inode v fileid inode None) o
     good-name good o named =
-        folder ∙ ap (λ (f : Option Status). unless_fault f
+        as_directory ∙ ap (λ (f : Option Status). unless_fault f
         (found_told v set (shown_inode v fileid inode None) (fileid_named fileid parent (entries_of set.own fileid) name))) good
         ∙ ap (found_told v set (shown_inode v fileid inode None)) named
 

@@ -5,8 +5,8 @@ use Rattle.std.proofs.lemmas.Bool.{cases_eq, cases_lt}
 use Rattle.std.specs.Prelude.{slice_get, slice_set, slice_index_or, OnOk, OnErr, if◌then◌else◌}
 use Rattle.std.specs.FinMap.{FinMap, get, insert, remove}
 use Rattle.std.specs.Ordering.{nat_cmp}
-use Rattle.nfs_model.specs.volume.Inodes.{InodeKind, RegularFile, Folder}
-use Rattle.nfs_model.specs.volume.Stripes.{StripeValue, OfFile, OfFolder, touch_of, card_dropped}
+use Rattle.nfs_model.specs.volume.Inodes.{InodeKind, RegularFile, DirectoryKind}
+use Rattle.nfs_model.specs.volume.Stripes.{StripeValue, OfFile, OfDirectory, touch_of, card_dropped}
 use Rattle.nfs_model.specs.volume.lemmas.Numbered.{same-answers, get-insert_at, get-remove_at}
 use Rattle.filer_state.specs.changes.NodesMade.{card_made}
 use Rattle.service_names.specs.Cards.{InFirst}
@@ -27,7 +27,7 @@ module _ (f : ℕ) (s : StripeValue) where
   made-else : (k : InodeKind) → card_dropped f (card_made k f s) ≡ card_dropped f s
   made-else (RegularFile size filled verifier) =
       ap (λ cards. record s { cards = cards }) (remove-put s.cards f (OfFile size (touch_of (get s.cards f))))
-  made-else (Folder parent subdirectories) = ap (λ cards. record s { cards = cards }) (remove-put s.cards f OfFolder)
+  made-else (DirectoryKind parent subdirectories) = ap (λ cards. record s { cards = cards }) (remove-put s.cards f OfDirectory)
 
   -- by what came of it
   pub put-else : {A E : Type 0} (k : InodeKind) (new : StripeValue) (r : Result A E) → OnOk r (new ≡ card_made k f s) → OnErr r (new ≡ s)

@@ -6,7 +6,7 @@ use Rattle.std.specs.FinMap.{get}
 use Rattle.nfs_model.specs.Types.{Moment, Listed, Invalid}
 use Rattle.nfs_model.specs.Names.{is_dots}
 use Rattle.nfs_model.specs.volume.Directories.{DirectoryValue, fileid_found}
-use Rattle.nfs_model.specs.volume.Inodes.{InodeKind, RegularFile, Folder, Inode}
+use Rattle.nfs_model.specs.volume.Inodes.{InodeKind, RegularFile, DirectoryKind, Inode}
 use Rattle.nfs_model.specs.volume.lemmas.Numbered.{get-remove_at}
 use Rattle.filer_state.specs.state.Lenses.{LogicalSet}
 use Rattle.filer_state.specs.state.Changes.{LogicalAnswer}
@@ -22,11 +22,11 @@ use Rattle.service_names.specs.Shown.{HasFewLinks}
 
 pub few-left : (fewer : ℕ) (kind : InodeKind) → HasFewLinks kind → HasFewLinks (without_subdirectories fewer kind)
 few-left fewer (RegularFile size filled verifier) few = few
-few-left fewer (Folder parent subs) few = omega (arith, few)
+few-left fewer (DirectoryKind parent subs) few = omega (arith, few)
 
 pub few-sized : (size fewer : ℕ) (kind : InodeKind) → HasFewLinks kind → HasFewLinks (kind_sized size fewer kind)
 few-sized size fewer (RegularFile old filled verifier) few = few
-few-sized size fewer (Folder parent subs) few = few
+few-sized size fewer (DirectoryKind parent subs) few = few
 
 -- ---- a name in a directory
 
@@ -44,10 +44,10 @@ module _ (v directory : ℕ) (inode : Inode) (name : List ℕ) (moment : Moment)
       ∙ ap (remove_kind (naming_in v directory inode name moment s) child) kind
 
   -- a directory without entries does
-  pub removed-folder : (parent subs : ℕ) → child.inode.kind ≡ Folder parent subs → (entries_of s.own child.fileid).list ≡ []
+  pub removed-directory-kind : (parent subs : ℕ) → child.inode.kind ≡ DirectoryKind parent subs → (entries_of s.own child.fileid).list ≡ []
       → rmdir_kind (naming_in v directory inode name moment s) child child.inode.kind
       ≡ held_gone (naming_in v directory inode name moment s) child s
-  removed-folder parent subs kind none =
+  removed-directory-kind parent subs kind none =
       ap (rmdir_kind (naming_in v directory inode name moment s) child) kind
       ∙ ap (λ (list : List Listed). if_empty list s (held_gone (naming_in v directory inode name moment s) child s)) none
 
@@ -55,7 +55,7 @@ module _ (v directory : ℕ) (inode : Inode) (name : List ℕ) (moment : Moment)
   unnamed d none = ap (λ (list : List Listed). fileid_found (record d { list = list }) name) none
 
   -- which isn't the directory where its name is
-  pub still-entered : (parent subs : ℕ) → child.inode.kind ≡ Folder parent subs → (entries_of s.own child.fileid).list ≡ []
+  pub still-entered : (parent subs : ℕ) → child.inode.kind ≡ DirectoryKind parent subs → (entries_of s.own child.fileid).list ≡ []
       → get s.own.directories directory ≡ Some (entries_of s.own directory)
       → get (directories_left child.inode.kind child.fileid s.own.directories) directory ≡ Some (entries_of s.own directory)
   still-entered parent subs kind none entered =

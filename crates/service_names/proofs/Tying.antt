@@ -4,7 +4,7 @@ use Rattle.std.proofs.Common.{refl, sym, ap, ◌∙◌, subst}
 use Rattle.std.specs.Prelude.{OnErr, IfSome, if◌then◌else◌}
 use Rattle.std.specs.FinMap.{get}
 use Rattle.nfs_model.specs.volume.Directories.{DirectoryValue, empty_directory}
-use Rattle.nfs_model.specs.volume.Inodes.{InodeKind, RegularFile, Folder}
+use Rattle.nfs_model.specs.volume.Inodes.{InodeKind, RegularFile, DirectoryKind}
 use Rattle.nfs_model.specs.volume.Logical.{LogicalValue}
 use Rattle.nfs_model.specs.volume.lemmas.Numbered.{get-insert_at}
 use Rattle.filer_state.specs.changes.NodesMade.{directories_made}
@@ -28,7 +28,7 @@ module _ (k : InodeKind) (f : ℕ) (own : LogicalValue) where
     where
       by : (kind : InodeKind) → get (directories_made kind f own.directories) q ≡ get own.directories q
       by (RegularFile size filled verifier) = refl
-      by (Folder parent subdirectories) =
+      by (DirectoryKind parent subdirectories) =
           get-insert_at own.directories f empty_directory q
           ∙ ap (λ (b : Bool). if b then Some empty_directory else get own.directories q) ne
 
@@ -37,7 +37,7 @@ module _ (k : InodeKind) (f : ℕ) (own : LogicalValue) where
     where
       by : (kind : InodeKind) → without_directory f (with_directories (directories_made kind f own.directories) own) ≡ without_directory f own
       by (RegularFile size filled verifier) = refl
-      by (Folder parent subdirectories) = ap (λ d. with_directories d own) (remove-put own.directories f empty_directory)
+      by (DirectoryKind parent subdirectories) = ap (λ d. with_directories d own) (remove-put own.directories f empty_directory)
 
   module _ (mid now : LogicalValue) (put : mid ≡ with_directories (directories_made k f own.directories) own) (kept : now ≡ mid) where
     -- what held of a directory holds of it still

@@ -11,7 +11,7 @@ use Rattle.nfs_model.specs.volume.Ranges.{with_numbers}
 use Rattle.filer_state.specs.state.Lenses.{LogicalSet}
 use Rattle.filer_state.specs.state.Tree.{stripe_at}
 use Rattle.filer_state.specs.changes.NodesDropped.{without_subdirectories}
-use Rattle.filer_state.specs.changes.NodesMade.{folders_in}
+use Rattle.filer_state.specs.changes.NodesMade.{directories_in}
 use Rattle.filer_state.specs.changes.NodesSized.{Sizing, all_freed}
 
 -- numbers that blocks of a volume can have
@@ -55,5 +55,5 @@ with_directories directories l = record l { directories = directories }
 abbrev pub inode_left : Inode → InodeKind → Moment → Inode
 inode_left inode kind moment = record {
   attributes = record inode.attributes { mtime = moment; ctime = moment };
-  kind = without_subdirectories (folders_in kind) inode.kind;
+  kind = without_subdirectories (directories_in kind) inode.kind;
 }

@@ -11,7 +11,7 @@ use Rattle.nfs_model.specs.volume.Logical.{LogicalValue}
 use Rattle.filer_state.specs.state.Lenses.{LogicalSet}
 use Rattle.filer_state.specs.state.Names.{root, subdirectories_in}
 use Rattle.filer_state.specs.state.Tree.{stripe_at}
-use Rattle.filer_state.specs.changes.NodesMade.{folders_in, with_subdirectories}
+use Rattle.filer_state.specs.changes.NodesMade.{directories_in, with_subdirectories}
 use Rattle.filer_state.specs.changes.Named.{HeldNaming}
 use Rattle.service_names.specs.Naming.{naming_in}
 use Rattle.service_names.specs.declared.parent.Parent.{Parent}
@@ -32,7 +32,7 @@ node_unmade fileid l = record l { inodes = inode_unmade l.inodes; directories = 
 abbrev pub inode_dated : Inode → InodeKind → Moment → Inode
 inode_dated inode made moment = record {
   attributes = record inode.attributes { mtime = moment; ctime = moment };
-  kind = with_subdirectories (folders_in made) inode.kind;
+  kind = with_subdirectories (directories_in made) inode.kind;
 }
 
 -- What making a node under a name takes: there are no more stripes than places, each with the root's card; inodes, fileids and cookies

@@ -15,7 +15,7 @@ ghost use Rattle.nfs_values.specs.Moment.{moment_of};
 ghost use Rattle.nfs_values.specs.Set.{set_of, time_of};
 ghost use Rattle.nfs_values.specs.Status.{status_of};
 ghost use Rattle.inodes.specs.Inode.{attributes_value, inode_value, kind_value};
-ghost use Rattle.filer_state.specs.changes.Attributes.{is_sized_folder, node_fault};
+ghost use Rattle.filer_state.specs.changes.Attributes.{is_directory_sized, node_fault};
 ghost use Rattle.filer_state.specs.state.Changes.{attributes_now};
 ghost use Rattle.filer_state.specs.state.Sets.{logical_before};
 
@@ -46,7 +46,7 @@ pub(crate) fn set_fault(
     if has_bad_time(set) {
         return Some(Status::Invalid);
     }
-    if is_sized_folder(inode.kind, set.size) {
+    if is_directory_sized(inode.kind, set.size) {
         return Some(Status::Invalid);
     }
     if is_past(set.size, held.own.get().largest) {
@@ -84,8 +84,8 @@ fn is_bad_time(time: SetTime) -> bool
 }
 
 /// Whether this is a size for a directory.
-fn is_sized_folder(kind: InodeKind, size: Option<u64>) -> bool
-    ensures { result ≡ is_sized_folder (kind_value kind) size }
+fn is_directory_sized(kind: InodeKind, size: Option<u64>) -> bool
+    ensures { result ≡ is_directory_sized (kind_value kind) size }
 {
     match kind {
         InodeKind::RegularFile { .. } => false,

@@ -10,7 +10,7 @@ ghost use Rattle.nfs_model.specs.volume.Directories.{fileid_found};
 ghost use Rattle.inodes.specs.Inode.{inode_value, kind_value};
 ghost use Rattle.filer_state.specs.state.Changes.{LogicalAnswer};
 ghost use Rattle.filer_state.specs.state.Lenses.{LogicalSet};
-ghost use Rattle.filer_state.specs.state.Names.{is_folder};
+ghost use Rattle.filer_state.specs.state.Names.{is_directory};
 ghost use Rattle.filer_state.specs.state.Sets.{logical_before};
 ghost use Rattle.directories.specs.Index.{fileid_number};
 ghost use Rattle.filer_state.specs.changes.NameAnswers.{entries_of};
@@ -40,7 +40,7 @@ pub(crate) fn directory_named(
         name.now moment (logical_before held.now))) result }
     ensures there { IfOk result (λ inode.
         get held.now.own.inodes.inodes directory.0 ≡ Some (inode_value inode)) }
-    ensures folder { IfOk result (λ inode. is_folder (Some (inode_value inode)) ≡ true) }
+    ensures as_directory { IfOk result (λ inode. is_directory (Some (inode_value inode)) ≡ true) }
 {
     let inode = match held.own.get().inodes.get(directory) {
         Some(inode) => inode,

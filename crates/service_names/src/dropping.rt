@@ -17,13 +17,13 @@ ghost use Rattle.filer_state.specs.changes.NodesDropped.{
   node_dropped,
   without_subdirectories,
 };
-ghost use Rattle.filer_state.specs.changes.NodesMade.{folders_in};
+ghost use Rattle.filer_state.specs.changes.NodesMade.{directories_in};
 ghost use Rattle.filer_state.specs.changes.Dropping.{dropping_of, child_emptied, file_gone};
 ghost use Rattle.service_names.specs.Changing.{inode_left, MayBeSet, with_directories, with_inodes};
 ghost use Rattle.service_names.specs.Naming.{node_value, naming_of};
 
 use crate::cards::drop_cards;
-use crate::making::folders_in;
+use crate::making::directories_in;
 use crate::node::Node;
 use crate::sizing::size_file;
 use filer_state::{Files, LogicalParcel};
@@ -109,7 +109,7 @@ pub fn directory_left(inode: Inode, kind: InodeKind, moment: Moment) -> Inode
 /// What a directory is that a node of a kind leaves.
 fn kind_left(directory: InodeKind, kind: InodeKind) -> InodeKind
     ensures { kind_value result
-        ≡ without_subdirectories (folders_in (kind_value kind)) (kind_value directory) }
+        ≡ without_subdirectories (directories_in (kind_value kind)) (kind_value directory) }
 {
     let InodeKind::Directory {
         parent,
@@ -118,7 +118,7 @@ fn kind_left(directory: InodeKind, kind: InodeKind) -> InodeKind
     else {
         return directory;
     };
-    let fewer = folders_in(kind);
+    let fewer = directories_in(kind);
     InodeKind::Directory {
         parent,
         subdirectories: subdirectories.saturating_sub(fewer),

@@ -4,6 +4,7 @@
 #![tactic(auto)]
 
 mod access;
+mod as_directory;
 mod attributes;
 mod cards;
 mod child;
@@ -12,7 +13,6 @@ mod creating;
 mod cutting;
 mod dropping;
 mod existing;
-mod folder;
 mod listing;
 mod listing_plus;
 mod looking;

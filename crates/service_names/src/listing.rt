@@ -23,7 +23,7 @@ ghost use Rattle.service_names.specs.Listing.{
   tells_nothing,
 };
 
-use crate::folder::folder_at;
+use crate::as_directory::directory_at;
 use crate::naming::is_same_name;
 use crate::showing::shown;
 use directories::Page;
@@ -65,7 +65,7 @@ pub fn read_directory(
     requires whole { HasVolume volume.0 logical_lens [] (logical_before held.now) }
     ensures right { Lists volume.0 directory.0 asked (logical_before held.now) result }
 {
-    let (inode, parent) = match folder_at(held, directory) {
+    let (inode, parent) = match directory_at(held, directory) {
         Ok(found) => found,
         Err(status) => return Ok(Err(status)),
     };

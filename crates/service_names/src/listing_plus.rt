@@ -19,7 +19,7 @@ ghost use Rattle.service_names.specs.Listing.{
   tells_no_node,
 };
 
-use crate::folder::folder_at;
+use crate::as_directory::directory_at;
 use crate::listing::{PAGE_SIZE, is_bad_cookie, page_at};
 use crate::showing::shown;
 use crate::telling::object_at;
@@ -69,7 +69,7 @@ pub fn read_directory_plus(
     requires whole { HasVolume volume.0 logical_lens [] (logical_before held.now) }
     ensures right { ListsPlus volume.0 directory.0 asked (logical_before held.now) result }
 {
-    let (inode, parent) = match folder_at(held, directory) {
+    let (inode, parent) = match directory_at(held, directory) {
         Ok(found) => found,
         Err(status) => return Ok(Err(status)),
     };

@@ -6,7 +6,7 @@ ghost use Rattle.filer_state.specs.state.Promises.{HasVolume};
 ghost use Rattle.filer_state.specs.state.Sets.{logical_before};
 ghost use Rattle.service_names.specs.Promises.{LooksUp};
 
-use crate::folder::folder_at;
+use crate::as_directory::directory_at;
 use crate::naming::{fileid_named, name_fault};
 use crate::showing::{shown, shown_now};
 use filer_state::Files;
@@ -25,7 +25,7 @@ pub fn lookup(
     requires whole { HasVolume volume.0 logical_lens [] (logical_before held.now) }
     ensures right { LooksUp volume.0 directory.0 name.now (logical_before held.now) result }
 {
-    let (inode, parent) = folder_at(held, directory)?;
+    let (inode, parent) = directory_at(held, directory)?;
     if let Some(fault) = name_fault(name) {
         return Err(fault);
     }

@@ -29,7 +29,7 @@ ghost use Rattle.filer_state.specs.state.Names.{subdirectories_in};
 ghost use Rattle.filer_state.specs.state.Sets.{logical_before, logical_after};
 ghost use Rattle.filer_state.specs.changes.NodesMade.{
   directories_made,
-  folders_in,
+  directories_in,
   node_made,
   with_subdirectories,
 };
@@ -266,7 +266,7 @@ fn dated(parent: Parent, made: InodeKind) -> Inode
 pub fn with_child(kind: InodeKind, made: InodeKind) -> InodeKind
     requires { HasFewLinks (kind_value kind) }
     ensures { kind_value result
-        ≡ with_subdirectories (folders_in (kind_value made)) (kind_value kind) }
+        ≡ with_subdirectories (directories_in (kind_value made)) (kind_value kind) }
 {
     match kind {
         InodeKind::RegularFile { .. } => kind,
@@ -275,14 +275,14 @@ pub fn with_child(kind: InodeKind, made: InodeKind) -> InodeKind
             subdirectories,
         } => InodeKind::Directory {
             parent,
-            subdirectories: subdirectories + folders_in(made),
+            subdirectories: subdirectories + directories_in(made),
         },
     }
 }
 
 /// How many directories a node is.
-pub(crate) fn folders_in(kind: InodeKind) -> u32
-    ensures told { result ≡ folders_in (kind_value kind) }
+pub(crate) fn directories_in(kind: InodeKind) -> u32
+    ensures told { result ≡ directories_in (kind_value kind) }
     ensures most { result ≤ 1 }
 {
     match kind {

@@ -20,7 +20,7 @@ ghost use Rattle.service_names.specs.Making.{MayMake, naming_in_parent, Makes};
 
 use crate::attributes::{has_bad_time, is_past};
 use crate::making::make_told;
-use crate::new_inodes::{asked_attributes, file_inode, folder_inode};
+use crate::new_inodes::{asked_attributes, file_inode, made_directory_inode};
 use crate::parent::Parent;
 use filer_state::Files;
 use inodes::MOST_INODES;
@@ -87,7 +87,7 @@ pub(crate) fn make_new(
     if let Some(fault) = mkdir_fault(held, set) {
         return Ok(Err(fault));
     }
-    let made = folder_inode(parent.fileid, set, credential, parent.moment);
+    let made = made_directory_inode(parent.fileid, set, credential, parent.moment);
     let told = make_told(alloc, held, parent, name, made)?;
     Ok(Ok(told))
 }

@@ -7,7 +7,7 @@ ghost use Rattle.nfs_values.specs.Credential.{credential_of};
 ghost use Rattle.nfs_values.specs.Moment.{moment_of};
 ghost use Rattle.nfs_values.specs.Set.{mode_of, set_of};
 ghost use Rattle.inodes.specs.Inode.{attributes_value, inode_value};
-ghost use Rattle.filer_state.specs.changes.Making.{file_inode, folder_inode};
+ghost use Rattle.filer_state.specs.changes.Making.{file_inode, made_directory_inode};
 
 use crate::attributes::with_attributes;
 use inodes::{Inode, InodeKind, StoredAttributes};
@@ -17,7 +17,7 @@ use nfs_values::{CreateMode, Credential, Fileid, Moment, SetAttributes, SetTime,
 const FILE_MODE: u32 = 0o644;
 
 /// The mode of a new directory where none is given (our profile).
-const FOLDER_MODE: u32 = 0o755;
+const DIRECTORY_MODE: u32 = 0o755;
 
 /// Attributes that give nothing.
 const NO_ATTRIBUTES: SetAttributes = SetAttributes {
@@ -46,17 +46,17 @@ pub(crate) fn file_inode(mode: &CreateMode, credential: Credential, moment: Mome
 }
 
 /// The inode of a directory that a caller makes in another at a moment.
-pub(crate) fn folder_inode(
+pub(crate) fn made_directory_inode(
     parent: Fileid,
     set: &SetAttributes,
     credential: Credential,
     moment: Moment,
 ) -> Inode
-    ensures { inode_value result ≡ folder_inode parent.0 (set_of set.now)
+    ensures { inode_value result ≡ made_directory_inode parent.0 (set_of set.now)
         (credential_of credential) (moment_of moment) }
 {
     Inode {
-        attributes: new_attributes(set, FOLDER_MODE, credential, moment),
+        attributes: new_attributes(set, DIRECTORY_MODE, credential, moment),
         kind: InodeKind::Directory {
             parent,
             subdirectories: 0,

@@ -95,12 +95,12 @@ fn file_removed(
     match child.inode.kind {
         InodeKind::Directory { .. } => Err(Status::IsDirectory),
         InodeKind::RegularFile { .. } => {
-            let folder = Node {
+            let as_directory = Node {
                 fileid: directory,
                 inode,
             };
-            let left = drop_file(held, folder, name, child, moment);
-            Ok(directory_change(volume, folder, left))
+            let left = drop_file(held, as_directory, name, child, moment);
+            Ok(directory_change(volume, as_directory, left))
         }
     }
 }
@@ -134,11 +134,11 @@ fn directory_removed(
         Some(child) => child,
         None => return Err(Status::NoEntry),
     };
-    let folder = Node {
+    let as_directory = Node {
         fileid: directory,
         inode,
     };
-    drop_directory(held, volume, folder, name, child, moment)
+    drop_directory(held, volume, as_directory, name, child, moment)
 }
 
 /// What RMDIR comes to on the node under a name of a directory: NOTDIR for a file, NOTEMPTY for a

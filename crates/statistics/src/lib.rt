@@ -5,8 +5,6 @@
 mod counts;
 mod histogram;
 mod kind;
-#[cfg(test)]
-mod rows;
 mod tally;
 mod totals;
 mod wrapping;

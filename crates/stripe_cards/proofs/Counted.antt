@@ -13,7 +13,7 @@ use Rattle.std.specs.FinMap.Entries.{by_order}
 use Rattle.nfs_model.specs.Types.{Moment}
 use Rattle.nfs_model.specs.volume.Maps.{changed_value, changed_at}
 use Rattle.nfs_model.specs.volume.lemmas.Numbered.{insert-same, insert-removed, removed-absent, remove-absent}
-use Rattle.nfs_model.specs.volume.Stripes.{Card, OfFile, OfFolder, touch_of, card_touched, card_settled}
+use Rattle.nfs_model.specs.volume.Stripes.{Card, OfFile, OfDirectory, touch_of, card_touched, card_settled}
 use Rattle.stripe_cards.specs.Cards.{card_resized}
 use Rattle.chunk_maps.specs.Chunks.{one_if}
 use Rattle.stripe_cards.specs.Counts.{is_untouched, touches_on, touched_in, AreCounted, one_more, one_less, ChangesCount}
@@ -99,7 +99,7 @@ settled-none m k none = by (get m k) refl none
   where
     by : (o : Option Card) → get m k ≡ o → touch_of o ≡ None → m ≡ changed_value card_settled o k m
     by None h e = refl
-    by (Some OfFolder) h e = sym (insert-same m k OfFolder h)
+    by (Some OfDirectory) h e = sym (insert-same m k OfDirectory h)
     by (Some (OfFile size None)) h e = sym (insert-same m k (OfFile size None) h)
     by (Some (OfFile size (Some t))) h e = absurd (grind (arith, e))
 
@@ -168,10 +168,10 @@ module _ (counts : List ℕ) (m : FinMap nat_cmp Card) (k : ℕ) where
       let one : touches_on class k (Some x) ≡ touches_on class k (get m k) = ap (λ t. one_if ((class == k % 256) && is_some t)) same in
       omega (arith, set, split, one))
 
-  pub counted-folder : AreCounted counts m → AreCounted counts (insert m k OfFolder)
-  counted-folder a =
-      no-more counts m (insert m k OfFolder) a (λ class.
-      let set = set-one class m k OfFolder in
+  pub counted-directory : AreCounted counts m → AreCounted counts (insert m k OfDirectory)
+  counted-directory a =
+      no-more counts m (insert m k OfDirectory) a (λ class.
+      let set = set-one class m k OfDirectory in
       let split = split-one class m k in
       let one = never (class == k % 256) in omega (arith, set, split, one))
 
@@ -200,7 +200,7 @@ module _ (counts : List ℕ) (m : FinMap nat_cmp Card) (k : ℕ) where
         by : (o : Option Card) → is_untouched o ≡ false → touched_in class (entries m) ≡ touches_on class k o + touched_in class (entries (remove m k))
             → touched_in class (entries (changed_value (card_touched moment) o k m)) ≤ touched_in class (entries m)
         by None f split = omega arith
-        by (Some OfFolder) f split = let set = set-one class m k OfFolder in omega (arith, set, split)
+        by (Some OfDirectory) f split = let set = set-one class m k OfDirectory in omega (arith, set, split)
         by (Some (OfFile size None)) f split = absurd (grind (arith, f))
         by (Some (OfFile size (Some t))) f split =
             let set = set-one class m k (card_touched moment (OfFile size (Some t))) in omega (arith, set, split)
@@ -218,9 +218,9 @@ module _ (counts : List ℕ) (m : FinMap nat_cmp Card) (k : ℕ) where
       by : (o : Option Card) → get m k ≡ o → touched_in class (entries m) ≡ touches_on class k o + touched_in class (entries (remove m k))
           → touched_in class (entries (changed_value card_settled o k m)) + touches_on class k o ≤ touched_in class (entries m)
       by None h split = let none = never (class == k % 256) in omega (arith, none)
-      by (Some OfFolder) h split =
+      by (Some OfDirectory) h split =
           let none = never (class == k % 256) in
-          let set = set-one class m k OfFolder in omega (arith, set, split, none)
+          let set = set-one class m k OfDirectory in omega (arith, set, split, none)
       by (Some (OfFile size touch)) h split =
           let none = never (class == k % 256) in
           let set = set-one class m k (OfFile size None) in omega (arith, set, split, none)

@@ -15,7 +15,7 @@ use Rattle.stripe_cards.specs.declared.packed.Packed.TheVariants as packed
 -- a card
 abbrev pub card_of : Card → values.Card
 card_of (File size touch) = values.OfFile size (option_map moment_of touch)
-card_of Directory = values.OfFolder
+card_of Directory = values.OfDirectory
 
 -- a moment as it is stored
 abbrev pub moment_in : List ℕ → List ℕ → model.Moment
@@ -27,7 +27,7 @@ packed_card packed.Absent = None
 packed_card (packed.File size) = Some (values.OfFile (from_le_bytes w64 size) None)
 packed_card (packed.TouchedFile size seconds nanoseconds) =
     Some (values.OfFile (from_le_bytes w64 size) (Some (moment_in seconds nanoseconds)))
-packed_card packed.Directory = Some values.OfFolder
+packed_card packed.Directory = Some values.OfDirectory
 
 -- a card of a file with a size and the touch that is there
 abbrev pub card_resized : ℕ → values.Card → values.Card
@@ -36,4 +36,4 @@ card_resized size card = values.OfFile size (values.touch_of (Some card))
 -- a stripe with a card set, where there is one or not: a file's touch stays
 abbrev pub card_set : ℕ → CardKind → values.StripeValue → values.StripeValue
 card_set fileid (kinds.File size) s = values.file_card_set fileid size s
-card_set fileid kinds.Directory s = values.folder_card_set fileid s
+card_set fileid kinds.Directory s = values.directory_card_set fileid s

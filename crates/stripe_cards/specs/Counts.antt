@@ -3,13 +3,13 @@ use Rattle.std.specs.Prelude.{◌≡◌, ℕ, ◌+◌, ◌-◌, ◌%◌, ◌<◌
 use Rattle.std.specs.Prelude.{get_or, if◌then◌else◌}
 use Rattle.std.specs.Ordering.{nat_cmp}
 use Rattle.std.specs.FinMap.{FinMap, entries}
-use Rattle.nfs_model.specs.volume.Stripes.{Card, OfFile, OfFolder, touch_of}
+use Rattle.nfs_model.specs.volume.Stripes.{Card, OfFile, OfDirectory, touch_of}
 use Rattle.chunk_maps.specs.Chunks.{one_if}
 
 -- whether a card is there, of a file without a touch
 abbrev pub is_untouched : Option Card → Bool
 is_untouched (Some (OfFile size touch)) = not (is_some touch)
-is_untouched (Some OfFolder) = false
+is_untouched (Some OfDirectory) = false
 is_untouched None = false
 
 -- how many touches of a class are on the card of a fileid

@@ -7,7 +7,7 @@ ghost use Rattle.nfs_values.specs.Moment.{moment_of};
 ghost use Rattle.nfs_model.specs.volume.Maps.{changed_at};
 ghost use Rattle.nfs_model.specs.volume.Stripes.{
   OfFile,
-  OfFolder,
+  OfDirectory,
   touch_of,
   card_touched,
   card_settled,
@@ -114,7 +114,7 @@ impl Cards {
     /// Sets the card of a directory. Memory is needed only for a card that isn't there, and where
     /// there is none for it nothing changes.
     pub fn set_directory(&mut self, fileid: Fileid) -> Result<(), AllocError>
-        ensures ok { OnOk result (self.new ≡ insert self.old fileid.0 OfFolder) }
+        ensures ok { OnOk result (self.new ≡ insert self.old fileid.0 OfDirectory) }
         ensures err { OnErr result (self.new ≡ self.old) }
         ensures succeeds { IsSome (get self.old fileid.0) → IsOk result }
     {

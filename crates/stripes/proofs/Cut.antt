@@ -13,7 +13,7 @@ use Rattle.nfs_model.specs.Server.{block_size}
 use Rattle.nfs_model.specs.Home.{span_bytes}
 use Rattle.nfs_model.specs.volume.Maps.{map_values}
 use Rattle.nfs_model.specs.volume.lemmas.Entries.{place_total, place_same}
-use Rattle.nfs_model.specs.volume.Stripes.{Block, Place, place_cmp, span_blocks, block_mapped, file_mapped, byte_cut, is_past}
+use Rattle.nfs_model.specs.volume.Stripes.{Block, FileBlock, file_block_cmp, span_blocks, block_mapped, file_mapped, byte_cut, is_past}
 use Rattle.stripes.specs.Spans.{Places, Spans, place_of, span_of, block_at, span_at, blocks_of, AllFilled, IsSpans, ChangesSpan, Where, CutsSpan, HasBlock}
 use Rattle.stripes.specs.Spans.{HasNoneFrom, FreesFirst, numbers_past, cut_blocks, IsFirstPast}
 use Rattle.stripes.proofs.Keys.{key-cases, key-apart, upto-span}
@@ -24,7 +24,7 @@ use Rattle.stripes.proofs.Law.{get-blocks_of}
 use Rattle.stripes.proofs.Freed.{freed-first, freed-none}
 use Rattle.stripes.proofs.Words.{at-array, at-other, file-long, file-mapped, some-kept}
 
-past-place : (f size : ℕ) (p : Place) → is_past f size p ≡ true → (p.0 ≡ f) × (size ≤ block_size * p.1)
+past-place : (f size : ℕ) (p : FileBlock) → is_past f size p ≡ true → (p.0 ≡ f) × (size ≤ block_size * p.1)
 past-place f size p h = elim (cases_eq p.0 f) [
   | inl e ↦ (
     e,
@@ -38,7 +38,7 @@ is-past : (f size b : ℕ) → size ≤ block_size * b → is_past f size (f, b)
 is-past f size b h = ap (λ t. t && nat_le size (block_size * b)) (eq-eqb f f refl)
     ∙ (let e : nat_le size (block_size * b) ≡ true = grind (arith, nat_tests) in e)
 
-get-retained : (f size : ℕ) (m : FinMap place_cmp Block) (q : Place)
+get-retained : (f size : ℕ) (m : FinMap file_block_cmp Block) (q : FileBlock)
     → get (retain_keys m (λ p. not (is_past f size p))) q ≡ cond (not (is_past f size q)) (get m q) None
 get-retained f size m q = get-retain_keys m (λ p. not (is_past f size p)) q (λ x e. ap (λ p. not (is_past f size p)) (sym (place_same q x e)))
 
@@ -47,17 +47,17 @@ module _ (f size first : ℕ) (block : Block) (old new : Spans) where
   pub freed-numbers : IsFirstPast size first → FreesFirst f first block old new
       → numbers_past f size (blocks_of old) ≡ block.number ∷ numbers_past f size (blocks_of new)
   freed-numbers past frees =
-      ap (map (λ (e : Place × Block). e.1.number)) (freed-first (is_past f size) (f, frees.number) block (blocks_of old) (blocks_of new)
+      ap (map (λ (e : FileBlock × Block). e.1.number)) (freed-first (is_past f size) (f, frees.number) block (blocks_of old) (blocks_of new)
       (is-past f size frees.number (past.past frees.number frees.from))
       (get-blocks_of old (f, frees.number) ∙ frees.there)
-      (λ q. get-blocks_of new q ∙ frees.gone q ∙ ap (cond (is_at (place_cmp (f, frees.number)) q) None) (sym (get-blocks_of old q)))
+      (λ q. get-blocks_of new q ∙ frees.gone q ∙ ap (cond (is_at (file_block_cmp (f, frees.number)) q) None) (sym (get-blocks_of old q)))
       (λ q h after. let is = past-place f size q h in get-blocks_of old q ∙ ap (λ t. block_at old (t, q.1)) is.0
       ∙ frees.before q.1 (past.from q.1 is.1) (before q is.0 after)))
     where
-      before : (q : Place) → q.0 ≡ f → place_cmp (f, frees.number) q ≡ Greater → q.1 < frees.number
+      before : (q : FileBlock) → q.0 ≡ f → file_block_cmp (f, frees.number) q ≡ Greater → q.1 < frees.number
       before q e after = elim (cases_lt q.1 frees.number) [
         | inl h ↦ h
-        | inr h ↦ absurd (let no : true ≡ false = sym (ap is_gt after) ∙ ap (λ t. is_gt (place_cmp (f, frees.number) (t, q.1))) e
+        | inr h ↦ absurd (let no : true ≡ false = sym (ap is_gt after) ∙ ap (λ t. is_gt (file_block_cmp (f, frees.number) (t, q.1))) e
             ∙ upto-span f frees.number q.1 h in cc)
       ]
 
@@ -73,18 +73,18 @@ module _ (f size first : ℕ) (block : Block) (old new : Spans) where
 
   pub freed-spans : IsSpans old → FreesFirst f first block old new → IsSpans new
   freed-spans is frees = record {
-    long = λ p b e. by p b (is_at (place_cmp (f, frees.number)) p) (sym (frees.gone p) ∙ e);
+    long = λ p b e. by p b (is_at (file_block_cmp (f, frees.number)) p) (sym (frees.gone p) ∙ e);
     filled = frees.filled;
   }
     where
-      by : (p : Place) (b : Block) (t : Bool) → cond t None (block_at old p) ≡ Some b → length b.bytes ≡ block_size
+      by : (p : FileBlock) (b : Block) (t : Bool) → cond t None (block_at old p) ≡ Some b → length b.bytes ≡ block_size
       by p b true e = absurd (cc)
       by p b false e = is.long p b e
 
 -- ---- the rest of the last block
 
 -- a place whose bytes a cut leaves as they are, or which has none
-cut-same : (f size first : ℕ) (old : Spans) (p : Place) → IsSpans old → IsFirstPast size first → HasNoneFrom f first old
+cut-same : (f size first : ℕ) (old : Spans) (p : FileBlock) → IsSpans old → IsFirstPast size first → HasNoneFrom f first old
     → (p.0 ≡ f → p.1 ≡ size / block_size → ⊥)
     → option_map (file_mapped (byte_cut size) f p) (block_at old p) ≡ block_at old p
 cut-same f size first old p is past none other = elim (cases_eq p.0 f) [
@@ -100,7 +100,7 @@ cut-same f size first old p is past none other = elim (cases_eq p.0 f) [
 
 module _ (f size first : ℕ) (old new : Spans) where
   cut-at : IsSpans old → IsFirstPast size first → HasNoneFrom f first old → ChangesSpan (Where (CutsSpan size)) (f, size / span_bytes) old new
-      → (p : Place) → block_at new p ≡ option_map (file_mapped (byte_cut size) f p) (block_at old p)
+      → (p : FileBlock) → block_at new p ≡ option_map (file_mapped (byte_cut size) f p) (block_at old p)
   cut-at is past none changes p = elim (key-cases (f, size / span_bytes) (span_of p)) [
     | inl same ↦ by (span_at old (f, size / span_bytes)) (span_at new (f, size / span_bytes)) refl refl changes.here same
     | inr other ↦ at-other _ _ p old new changes other ∙ sym (cut-same f size first old p is past none
@@ -114,8 +114,8 @@ module _ (f size first : ℕ) (old new : Spans) where
       by (Some a) None eo en h same = absurd h
       by (Some a) (Some b) eo en h same =
           let before = at-array old _ p (Some a) same eo in
-          let file : p.0 ≡ f = sym (ap (λ (q : Place). q.0) same) in
-          let span : size / span_bytes ≡ p.1 / span_blocks = ap (λ (q : Place). q.1) same in
+          let file : p.0 ≡ f = sym (ap (λ (q : FileBlock). q.0) same) in
+          let span : size / span_bytes ≡ p.1 / span_blocks = ap (λ (q : FileBlock). q.1) same in
           at-array new _ p (Some b) same en ∙ h p.1 ∙ elim (cases_eq (p.1 % span_blocks) ((size / block_size) % span_blocks)) [
             | inl e ↦ let number : p.1 ≡ size / block_size = omega arith in
                 ap (λ t. cond t (option_map (block_mapped (byte_cut size) (size / block_size)) (place_of a p.1)) (place_of a p.1)) (eq-eqb _ _ e)
@@ -169,7 +169,7 @@ module _ (f size first : ℕ) (old new : Spans) where
       either true = refl
       either false = refl
 
-      kept-or-none : (q : Place) → (not (is_past f size q) ≡ true) ⊎ (get (blocks_of old) q ≡ None)
+      kept-or-none : (q : FileBlock) → (not (is_past f size q) ≡ true) ⊎ (get (blocks_of old) q ≡ None)
       kept-or-none q = by (is_past f size q) refl
         where
           by : (t : Bool) → is_past f size q ≡ t → (not (is_past f size q) ≡ true) ⊎ (get (blocks_of old) q ≡ None)
@@ -178,7 +178,7 @@ module _ (f size first : ℕ) (old new : Spans) where
           by false e = inl (ap not e)
 
   pub tail-numbers : IsFirstPast size first → HasNoneFrom f first old → numbers_past f size (blocks_of old) ≡ []
-  tail-numbers past none = ap (map (λ (e : Place × Block). e.1.number)) (freed-none (is_past f size) (blocks_of old) (λ q h.
+  tail-numbers past none = ap (map (λ (e : FileBlock × Block). e.1.number)) (freed-none (is_past f size) (blocks_of old) (λ q h.
       let is = past-place f size q h in get-blocks_of old q ∙ ap (λ t. block_at old (t, q.1)) is.0 ∙ none q.1 (past.from q.1 is.1)))
 
 -- the first block past a size

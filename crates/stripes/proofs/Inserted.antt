@@ -6,7 +6,7 @@ use Rattle.std.specs.BTreeMap.{is_at}
 use Rattle.std.specs.FinMap.{insert, get-insert, same_map}
 use Rattle.nfs_model.specs.Server.{block_size}
 use Rattle.nfs_model.specs.volume.lemmas.Entries.{place_total, place_same}
-use Rattle.nfs_model.specs.volume.Stripes.{Block, Place, place_cmp, span_blocks}
+use Rattle.nfs_model.specs.volume.Stripes.{Block, FileBlock, file_block_cmp, span_blocks}
 use Rattle.stripes.specs.Spans.{Places, Spans, place_of, span_of, block_at, span_at, blocks_of, AllFilled, IsSpans, ChangesSpan, Puts, HasBlock}
 use Rattle.stripes.proofs.Keys.{key-cases, key-turned, key-within, key-other}
 use Rattle.stripes.proofs.Law.{get-blocks_of}
@@ -15,15 +15,15 @@ use Rattle.stripes.proofs.Words.{at-array, at-other}
 
 module _ (f number : ℕ) (block : Block) (old new : Spans) where
   put-at : ChangesSpan (Puts number block) (f, number / span_blocks) old new
-      → (p : Place) → block_at new p ≡ cond (is_at (place_cmp (f, number)) p) (Some block) (block_at old p)
+      → (p : FileBlock) → block_at new p ≡ cond (is_at (file_block_cmp (f, number)) p) (Some block) (block_at old p)
   put-at changes p = elim (key-cases (f, number / span_blocks) (span_of p)) [
     | inl same ↦ by (span_at old (f, number / span_blocks)) (span_at new (f, number / span_blocks)) refl refl changes.here same
         ∙ ap (λ t. cond t (Some block) (block_at old p)) (sym (within same))
     | inr other ↦ at-other _ _ p old new changes other ∙ ap (λ t. cond t (Some block) (block_at old p)) (sym (key-other f number p other))
   ]
     where
-      within : (f, number / span_blocks) ≡ span_of p → is_at (place_cmp (f, number)) p ≡ (p.1 % span_blocks == number % span_blocks)
-      within same = ap (λ n. is_at (place_cmp (f, n)) p) (let e : number ≡ span_blocks * (number / span_blocks) + number % span_blocks = omega arith in e)
+      within : (f, number / span_blocks) ≡ span_of p → is_at (file_block_cmp (f, number)) p ≡ (p.1 % span_blocks == number % span_blocks)
+      within same = ap (λ n. is_at (file_block_cmp (f, n)) p) (let e : number ≡ span_blocks * (number / span_blocks) + number % span_blocks = omega arith in e)
           ∙ key-within f (number / span_blocks) (number % span_blocks) p (omega arith) same
 
       by : (o n : Option Places) → span_at old (f, number / span_blocks) ≡ o → span_at new (f, number / span_blocks) ≡ n → Puts number block o n
@@ -53,11 +53,11 @@ module _ (f number : ℕ) (block : Block) (old new : Spans) where
 
   pub put-spans : length block.bytes ≡ block_size → IsSpans old → ChangesSpan (Puts number block) (f, number / span_blocks) old new → IsSpans new
   put-spans long is changes = record {
-    long = λ p b e. by p b (is_at (place_cmp (f, number)) p) (sym (put-at changes p) ∙ e);
+    long = λ p b e. by p b (is_at (file_block_cmp (f, number)) p) (sym (put-at changes p) ∙ e);
     filled = put-filled is.filled changes;
   }
     where
-      by : (p : Place) (b : Block) (t : Bool) → cond t (Some block) (block_at old p) ≡ Some b → length b.bytes ≡ block_size
+      by : (p : FileBlock) (b : Block) (t : Bool) → cond t (Some block) (block_at old p) ≡ Some b → length b.bytes ≡ block_size
       by p b true e = ap (λ (x : Block). length x.bytes) (sym (same_Some _ _ e)) ∙ long
       by p b false e = is.long p b e
 
@@ -65,4 +65,4 @@ module _ (f number : ℕ) (block : Block) (old new : Spans) where
   pub put-blocks : ChangesSpan (Puts number block) (f, number / span_blocks) old new → blocks_of new ≡ insert (blocks_of old) (f, number) block
   put-blocks changes = same_map place_total place_same _ _ (λ p. get-blocks_of new p ∙ put-at changes p
       ∙ ap (λ t. cond t (Some block) (block_at old p)) (key-turned (f, number) p)
-      ∙ sym (get-insert place_total (blocks_of old) (f, number) block p ∙ ap (cond (is_at (place_cmp p) (f, number)) (Some block)) (get-blocks_of old p)))
+      ∙ sym (get-insert place_total (blocks_of old) (f, number) block p ∙ ap (cond (is_at (file_block_cmp p) (f, number)) (Some block)) (get-blocks_of old p)))

@@ -6,7 +6,7 @@ use Rattle.std.proofs.lemmas.List.FromFn.{fill_by_all, length-map-range_with_len
 use Rattle.std.specs.Option.{option_map}
 use Rattle.nfs_model.specs.Server.{block_size}
 use Rattle.nfs_model.specs.Home.{span_bytes}
-use Rattle.nfs_model.specs.volume.Stripes.{Block, Place, span_blocks, block_mapped, file_mapped, byte_written}
+use Rattle.nfs_model.specs.volume.Stripes.{Block, FileBlock, span_blocks, block_mapped, file_mapped, byte_written}
 use Rattle.stripes.proofs.Bytes.{byte_missed}
 use Rattle.stripes.proofs.Places.{unlike}
 
@@ -14,7 +14,7 @@ use Rattle.stripes.proofs.Places.{unlike}
 pub length-mapped : (change : ℕ → ℕ → ℕ) (block : ℕ) (b : Block) → length (block_mapped change block b).bytes ≡ block_size
 length-mapped change block b = length-map-range_with_len (λ i. change (block_size * block + i) (get_or b.bytes i 0)) 0 block_size
 
-pub length-file_mapped : (change : ℕ → ℕ → ℕ) (f : ℕ) (p : Place) (b : Block) → length b.bytes ≡ block_size
+pub length-file_mapped : (change : ℕ → ℕ → ℕ) (f : ℕ) (p : FileBlock) (b : Block) → length b.bytes ≡ block_size
     → length (file_mapped change f p b).bytes ≡ block_size
 length-file_mapped change f p b long = by (p.0 == f)
   where
@@ -32,7 +32,7 @@ block-same change block b long same = λ j. record {
 }
 
 -- a place whose block has no byte that changes
-pub place-same : (change : ℕ → ℕ → ℕ) (f : ℕ) (p : Place) (o : Option Block) → ((b : Block) → o ≡ Some b → length b.bytes ≡ block_size)
+pub place-same : (change : ℕ → ℕ → ℕ) (f : ℕ) (p : FileBlock) (o : Option Block) → ((b : Block) → o ≡ Some b → length b.bytes ≡ block_size)
     → (p.0 ≡ f → (i x : ℕ) → i < block_size → change (block_size * p.1 + i) x ≡ x) → option_map (file_mapped change f p) o ≡ o
 place-same change f p None long same = refl
 place-same change f p (Some b) long same = elim (cases_eq p.0 f) [
@@ -41,7 +41,7 @@ place-same change f p (Some b) long same = elim (cases_eq p.0 f) [
 ]
 
 -- a place of the file
-pub place-of-file : (change : ℕ → ℕ → ℕ) (f : ℕ) (p : Place) (o : Option Block) → p.0 ≡ f
+pub place-of-file : (change : ℕ → ℕ → ℕ) (f : ℕ) (p : FileBlock) (o : Option Block) → p.0 ≡ f
     → option_map (file_mapped change f p) o ≡ option_map (block_mapped change p.1) o
 place-of-file change f p None e = refl
 place-of-file change f p (Some b) e = ap (λ t. Some (cond t (block_mapped change p.1 b) b)) (eq-eqb p.0 f e)

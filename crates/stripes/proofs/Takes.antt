@@ -4,7 +4,7 @@ use Rattle.std.proofs.Common.{None, IfSome, IfNone, get_or}
 use Rattle.std.proofs.lemmas.Bool.{cases_lt}
 use Rattle.std.proofs.lemmas.Option.{same_Some}
 use Rattle.std.specs.BTreeMap.{is_at}
-use Rattle.nfs_model.specs.volume.Stripes.{Block, Place, place_cmp, span_blocks}
+use Rattle.nfs_model.specs.volume.Stripes.{Block, FileBlock, file_block_cmp, span_blocks}
 use Rattle.stripes.specs.Spans.{Places, Spans, place_of, place_in, span_of, block_at, span_at, AllFilled, SameSpans, ChangesSpan, Where, There, Stays}
 use Rattle.stripes.specs.Spans.{Takes, TakesFirst, TakesNone, IsFirst, HasBlock, HasNoneFrom, FreesFirst}
 use Rattle.stripes.proofs.Keys.{key-cases, key-other, key-within}
@@ -14,7 +14,7 @@ pub block-in-span : (spans : Spans) (f s b : ℕ) (o : Option Places) → b / sp
 block-in-span spans f s b o e h = ap (λ t. place_in (span_at spans (f, t)) b) e ∙ ap (λ p. place_in p b) h
 
 -- arrays that are the same have the same blocks
-pub same-blocks : (old new : Spans) → SameSpans old new → (p : Place) → block_at new p ≡ block_at old p
+pub same-blocks : (old new : Spans) → SameSpans old new → (p : FileBlock) → block_at new p ≡ block_at old p
 same-blocks old new same p = ap (λ o. place_in o p.1) (same (span_of p))
 
 same-array : (o n : Option Places) → Where Stays o n → n ≡ o
@@ -24,7 +24,7 @@ same-array (Some a) None h = absurd h
 same-array (Some a) (Some b) h = ap Some h
 
 -- an array that stays
-pub stays-same : (k : Place) (old new : Spans) → ChangesSpan (Where Stays) k old new → SameSpans old new
+pub stays-same : (k : FileBlock) (old new : Spans) → ChangesSpan (Where Stays) k old new → SameSpans old new
 stays-same k old new changes q = elim (key-cases k q) [
   | inl e ↦ subst (λ q. span_at new q ≡ span_at old q) e (same-array (span_at old k) (span_at new k) changes.here)
   | inr n ↦ changes.others q n
@@ -76,11 +76,11 @@ frees-in f s from block old new few changes filled = by (span_at old (f, s)) ref
       gone = λ p. elim (key-cases (f, s) (span_of p)) [
         | inl same ↦ ap (λ k. place_in (span_at new k) p.1) (sym same) ∙ left.gone p.1
             ∙ ap (λ t. cond t None (place_of a p.1)) (sym (key-within f s left.place p left.first.within same))
-            ∙ ap (cond (is_at (place_cmp (f, span_blocks * s + left.place)) p) None)
+            ∙ ap (cond (is_at (file_block_cmp (f, span_blocks * s + left.place)) p) None)
             (sym (ap (λ k. place_in (span_at old k) p.1) (sym same) ∙ ap (λ o. place_in o p.1) e))
         | inr other ↦ ap (λ o. place_in o p.1) (changes.others (span_of p) other)
             ∙ ap (λ t. cond t None (block_at old p)) (sym (key-other f (span_blocks * s + left.place) p
-            (ap (λ t. is_at (place_cmp (f, t)) (span_of p)) (let g = left.first.within in let h :
+            (ap (λ t. is_at (file_block_cmp (f, t)) (span_of p)) (let g = left.first.within in let h :
             (span_blocks * s + left.place) / span_blocks ≡ s = omega arith in h) ∙ other)))
       ];
       filled = λ k places h. elim (key-cases (f, s) k) [
@@ -100,7 +100,7 @@ frees-from f first after block old mid new le same none frees = record {
     | inr h ↦ sym (same-blocks old mid same (f, b)) ∙ frees.before b h below
   ];
   there = sym (same-blocks old mid same (f, frees.number)) ∙ frees.there;
-  gone = λ p. frees.gone p ∙ ap (cond (is_at (place_cmp (f, frees.number)) p) None) (same-blocks old mid same p);
+  gone = λ p. frees.gone p ∙ ap (cond (is_at (file_block_cmp (f, frees.number)) p) None) (same-blocks old mid same p);
   filled = frees.filled;
 }
 

@@ -12,7 +12,7 @@ use Rattle.nfs_model.specs.Home.{span_bytes}
 use Rattle.nfs_model.specs.volume.Maps.{map_values}
 use Rattle.nfs_model.specs.volume.lemmas.Maps.{get-map_values}
 use Rattle.nfs_model.specs.volume.lemmas.Entries.{place_total, place_same}
-use Rattle.nfs_model.specs.volume.Stripes.{Block, Place, place_cmp, span_blocks, block_mapped, file_mapped, byte_written}
+use Rattle.nfs_model.specs.volume.Stripes.{Block, FileBlock, file_block_cmp, span_blocks, block_mapped, file_mapped, byte_written}
 use Rattle.stripes.specs.Spans.{Places, Spans, place_of, place_in, span_of, block_at, span_at, blocks_of, last_met, AllFilled, IsSpans, ChangesSpan, Where}
 use Rattle.stripes.specs.Spans.{WritesSpan, HasBlock}
 use Rattle.stripes.proofs.Keys.{key-cases, key-apart}
@@ -23,11 +23,11 @@ use Rattle.stripes.proofs.Takes.{place-mod}
 -- ---- arrays and blocks
 
 -- the block at a place of an array that is known
-pub at-array : (spans : Spans) (k p : Place) (o : Option Places) → k ≡ span_of p → span_at spans k ≡ o → block_at spans p ≡ place_in o p.1
+pub at-array : (spans : Spans) (k p : FileBlock) (o : Option Places) → k ≡ span_of p → span_at spans k ≡ o → block_at spans p ≡ place_in o p.1
 at-array spans k p o same e = ap (λ k. place_in (span_at spans k) p.1) (sym same) ∙ ap (λ o. place_in o p.1) e
 
-pub at-other : (Q : Option Places → Option Places → Type 0) (k p : Place) (old new : Spans) → ChangesSpan Q k old new
-    → is_at (place_cmp k) (span_of p) ≡ false
+pub at-other : (Q : Option Places → Option Places → Type 0) (k p : FileBlock) (old new : Spans) → ChangesSpan Q k old new
+    → is_at (file_block_cmp k) (span_of p) ≡ false
     → block_at new p ≡ block_at old p
 at-other Q k p old new changes other = ap (λ o. place_in o p.1) (changes.others (span_of p) other)
 
@@ -39,12 +39,12 @@ mapped-long g (Some b) c long keeps e = ap (λ (x : Block). length x.bytes) (sym
 
 -- all blocks of a file mapped
 pub file-long : (change : ℕ → ℕ → ℕ) (f : ℕ) (old new : Spans) → IsSpans old
-    → ((p : Place) → block_at new p ≡ option_map (file_mapped change f p) (block_at old p))
-    → (p : Place) (b : Block) → block_at new p ≡ Some b → length b.bytes ≡ block_size
+    → ((p : FileBlock) → block_at new p ≡ option_map (file_mapped change f p) (block_at old p))
+    → (p : FileBlock) (b : Block) → block_at new p ≡ Some b → length b.bytes ≡ block_size
 file-long change f old new is mapped p b e =
     mapped-long (file_mapped change f p) (block_at old p) b (is.long p) (λ b long. length-file_mapped change f p b long) (sym (mapped p) ∙ e)
 
-pub file-mapped : (change : ℕ → ℕ → ℕ) (f : ℕ) (old new : Spans) → ((p : Place) → block_at new p ≡ option_map (file_mapped change f p) (block_at old p))
+pub file-mapped : (change : ℕ → ℕ → ℕ) (f : ℕ) (old new : Spans) → ((p : FileBlock) → block_at new p ≡ option_map (file_mapped change f p) (block_at old p))
     → blocks_of new ≡ map_values (file_mapped change f) (blocks_of old)
 file-mapped change f old new mapped = same_map place_total place_same _ _ (λ p. get-blocks_of new p ∙ mapped p
     ∙ sym (get-map_values place_total place_same (file_mapped change f) (blocks_of old) p ∙ ap (option_map (file_mapped change f p)) (get-blocks_of old p)))
@@ -68,7 +68,7 @@ met-or-not first past b x y z met before after = elim (cases_lt b first) [
 module _ (f offset : ℕ) (written : List ℕ) (old new : Spans) where
   written-at : 0 < length written → offset % span_bytes + length written ≤ span_bytes → IsSpans old
       → ChangesSpan (Where (WritesSpan offset written)) (f, offset / span_bytes) old new
-      → (p : Place) → block_at new p ≡ option_map (file_mapped (byte_written offset written) f p) (block_at old p)
+      → (p : FileBlock) → block_at new p ≡ option_map (file_mapped (byte_written offset written) f p) (block_at old p)
   written-at some span is changes p = elim (key-cases (f, offset / span_bytes) (span_of p)) [
     | inl same ↦ by (span_at old (f, offset / span_bytes)) (span_at new (f, offset / span_bytes)) refl refl changes.here same
     | inr other ↦ at-other _ _ p old new changes other ∙ sym (place-same (byte_written offset written) f p (block_at old p) (is.long p)
@@ -86,9 +86,9 @@ module _ (f offset : ℕ) (written : List ℕ) (old new : Spans) where
       by (Some a) None eo en h same = absurd h
       by (Some a) (Some b) eo en h same =
           let before = at-array old _ p (Some a) same eo in
-          let file : p.0 ≡ f = sym (ap (λ (q : Place). q.0) same) in
+          let file : p.0 ≡ f = sym (ap (λ (q : FileBlock). q.0) same) in
           let long : (c : Block) → place_of a p.1 ≡ Some c → length c.bytes ≡ block_size = λ c e. is.long p c (before ∙ e) in
-          at-array new _ p (Some b) same en ∙ h p.1 (sym (ap (λ (q : Place). q.1) same))
+          at-array new _ p (Some b) same en ∙ h p.1 (sym (ap (λ (q : FileBlock). q.1) same))
           ∙ met-or-not (offset / block_size) (last_met offset (length written) + 1) p.1 _ _ _
           (sym (place-of-file change f p (place_of a p.1) file))
           (λ g. sym (place-same change f p (place_of a p.1) long (λ e i x below. missed-before offset p.1 i written x below g)))

@@ -10,7 +10,7 @@ use Rattle.nfs_model.specs.volume.Maps.{map_values, changed_at}
 use Rattle.nfs_model.specs.Server.{block_size}
 use Rattle.nfs_model.specs.Home.{span_bytes}
 use Rattle.nfs_model.specs.Serial.Write.{blocks_met}
-use Rattle.nfs_model.specs.volume.Stripes.{Block, Place, place_cmp, span_blocks, byte_of, byte_written, byte_cut, block_mapped, file_mapped, is_past}
+use Rattle.nfs_model.specs.volume.Stripes.{Block, FileBlock, file_block_cmp, span_blocks, byte_of, byte_written, byte_cut, block_mapped, file_mapped, is_past}
 
 -- the places of a span
 abbrev pub Places : Type 0
@@ -18,7 +18,7 @@ Places = List (Option Block)
 
 -- arrays by their file and span
 abbrev pub Spans : Type 0
-Spans = List (Place × Places)
+Spans = List (FileBlock × Places)
 
 -- the block of a number in a span's array
 abbrev pub place_of : Places → ℕ → Option Block
@@ -30,35 +30,35 @@ place_in None block = None
 place_in (Some places) block = place_of places block
 
 -- the span of a file's block
-abbrev pub span_of : Place → Place
+abbrev pub span_of : FileBlock → FileBlock
 span_of p = (p.0, p.1 / span_blocks)
 
 -- a file's block
-abbrev pub block_at : Spans → Place → Option Block
-block_at spans p = place_in (lookup (is_at (place_cmp (span_of p))) spans) p.1
+abbrev pub block_at : Spans → FileBlock → Option Block
+block_at spans p = place_in (lookup (is_at (file_block_cmp (span_of p))) spans) p.1
 
 -- n places of a file from a block on
-abbrev pub places_from : ℕ → ℕ → ℕ → List Place
+abbrev pub places_from : ℕ → ℕ → ℕ → List FileBlock
 places_from fileid block zero = []
 places_from fileid block (suc n) = (fileid, block) ∷ places_from fileid (block + 1) n
 
 -- the places of all spans
-unfoldable pub all_places : Spans → List Place
+unfoldable pub all_places : Spans → List FileBlock
 all_places [] = []
 all_places (e ∷ es) = places_from e.0.0 (span_blocks * e.0.1) span_blocks ++ all_places es
 
 -- an entry, where there is a value
-abbrev pub with_entry : Place → Option Block → List (Place × Block) → List (Place × Block)
+abbrev pub with_entry : FileBlock → Option Block → List (FileBlock × Block) → List (FileBlock × Block)
 with_entry p None es = es
 with_entry p (Some b) es = (p, b) ∷ es
 
 -- the entries of those places that have a value
-abbrev pub present : (Place → Option Block) → List Place → List (Place × Block)
+abbrev pub present : (FileBlock → Option Block) → List FileBlock → List (FileBlock × Block)
 present f [] = []
 present f (p ∷ ps) = with_entry p (f p) (present f ps)
 
 -- the blocks of all spans
-unfoldable pub blocks_of : Spans → FinMap place_cmp Block
+unfoldable pub blocks_of : Spans → FinMap file_block_cmp Block
 blocks_of spans = from_entries (present (block_at spans) (all_places spans))
 
 -- ---- a span's array
@@ -134,28 +134,28 @@ pub record TakesBlock (i : ℕ) (block : Block) (old new : Places) : Type 0 wher
 -- ---- all spans
 
 -- the array under a file and a span
-abbrev pub span_at : Spans → Place → Option Places
-span_at spans k = lookup (is_at (place_cmp k)) spans
+abbrev pub span_at : Spans → FileBlock → Option Places
+span_at spans k = lookup (is_at (file_block_cmp k)) spans
 
 -- Each span's array has a block.
 abbrev pub AllFilled : Spans → Type 0
-AllFilled spans = (k : Place) (places : Places) → span_at spans k ≡ Some places → HasBlock places
+AllFilled spans = (k : FileBlock) (places : Places) → span_at spans k ≡ Some places → HasBlock places
 
 -- Blocks have 4,096 bytes, and a span's array has a block.
 pub record IsSpans (spans : Spans) : Type 0 where
-  pub long : (p : Place) (b : Block) → block_at spans p ≡ Some b → length b.bytes ≡ block_size
+  pub long : (p : FileBlock) (b : Block) → block_at spans p ≡ Some b → length b.bytes ≡ block_size
   pub filled : AllFilled spans
 
 -- ---- what is done to the arrays
 
 -- All arrays are the same.
 abbrev pub SameSpans : Spans → Spans → Type 0
-SameSpans old new = (k : Place) → span_at new k ≡ span_at old k
+SameSpans old new = (k : FileBlock) → span_at new k ≡ span_at old k
 
 -- The array under a key is changed so, and the others are the same.
-pub record ChangesSpan (Q : Option Places → Option Places → Type 0) (k : Place) (old new : Spans) : Type 0 where
+pub record ChangesSpan (Q : Option Places → Option Places → Type 0) (k : FileBlock) (old new : Spans) : Type 0 where
   pub here : Q (span_at old k) (span_at new k)
-  pub others : (q : Place) → is_at (place_cmp k) q ≡ false → span_at new q ≡ span_at old q
+  pub others : (q : FileBlock) → is_at (file_block_cmp k) q ≡ false → span_at new q ≡ span_at old q
 
 -- an array changed, where there is one
 abbrev pub Where : (Places → Places → Type 0) → Option Places → Option Places → Type 0
@@ -213,7 +213,7 @@ pub record FreesFirst (fileid first : ℕ) (block : Block) (old new : Spans) : T
   pub from : first ≤ number
   pub before : (b : ℕ) → first ≤ b → b < number → block_at old (fileid, b) ≡ None
   pub there : block_at old (fileid, number) ≡ Some block
-  pub gone : (p : Place) → block_at new p ≡ (if is_at (place_cmp (fileid, number)) p then None else block_at old p)
+  pub gone : (p : FileBlock) → block_at new p ≡ (if is_at (file_block_cmp (fileid, number)) p then None else block_at old p)
   pub filled : AllFilled new
 
 -- ---- words on blocks
@@ -224,23 +224,23 @@ pub record IsFirstPast (size first : ℕ) : Type 0 where
   pub past : (b : ℕ) → first ≤ b → size ≤ block_size * b
 
 -- the numbers of a file's blocks that lie wholly past a size
-abbrev pub numbers_past : ℕ → ℕ → FinMap place_cmp Block → List ℕ
+abbrev pub numbers_past : ℕ → ℕ → FinMap file_block_cmp Block → List ℕ
 numbers_past fileid size blocks =
-    map (λ (e : Place × Block). e.1.number) (filter (λ (e : Place × Block). is_past fileid size e.0) (entries blocks))
+    map (λ (e : FileBlock × Block). e.1.number) (filter (λ (e : FileBlock × Block). is_past fileid size e.0) (entries blocks))
 
 -- a file's blocks cut to a size
-abbrev pub cut_blocks : ℕ → ℕ → FinMap place_cmp Block → FinMap place_cmp Block
+abbrev pub cut_blocks : ℕ → ℕ → FinMap file_block_cmp Block → FinMap file_block_cmp Block
 cut_blocks fileid size blocks = map_values (file_mapped (byte_cut size) fileid) (retain_keys blocks (λ p. not (is_past fileid size p)))
 
 -- n bytes of a file from an offset on
-abbrev pub blocks_read : FinMap place_cmp Block → ℕ → ℕ → ℕ → List ℕ
+abbrev pub blocks_read : FinMap file_block_cmp Block → ℕ → ℕ → ℕ → List ℕ
 blocks_read blocks fileid offset n =
     map (λ at. byte_of (get blocks (fileid, at / block_size)) (at % block_size)) (range_with_len offset n)
 
 -- a file's block under another number, if it is there
-abbrev pub block_renumbered : ℕ → ℕ → ℕ → FinMap place_cmp Block → FinMap place_cmp Block
+abbrev pub block_renumbered : ℕ → ℕ → ℕ → FinMap file_block_cmp Block → FinMap file_block_cmp Block
 block_renumbered fileid block number blocks = changed_at (renumbered number) (fileid, block) blocks
 
 -- Blocks have 4,096 bytes.
-abbrev pub IsLong : FinMap place_cmp Block → Type 0
-IsLong blocks = (p : Place) (b : Block) → get blocks p ≡ Some b → length b.bytes ≡ block_size
+abbrev pub IsLong : FinMap file_block_cmp Block → Type 0
+IsLong blocks = (p : FileBlock) (b : Block) → get blocks p ≡ Some b → length b.bytes ≡ block_size

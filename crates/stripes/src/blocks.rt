@@ -56,12 +56,12 @@ impl Model for Blocks {
     ghost use Rattle.std.specs.FinMap.{FinMap};
     ghost use Rattle.std.specs.FinMap as maps;
     ghost use Rattle.std.specs.Coded.{coded×, coded_ℕ};
-    ghost use Rattle.nfs_model.specs.volume.Stripes.{place_cmp};
+    ghost use Rattle.nfs_model.specs.volume.Stripes.{file_block_cmp};
     ghost use Rattle.nfs_model.specs.volume.Stripes as values;
     ghost use Rattle.nfs_model.specs.volume.Codes.{coded_block};
     ghost use Rattle.stripes.specs.Spans.{blocks_of, IsSpans};
 
-    ghost Value = { FinMap place_cmp values.Block };
+    ghost Value = { FinMap file_block_cmp values.Block };
 
     ghost coded = { maps.code (coded× coded_ℕ coded_ℕ) coded_block };
 

@@ -75,7 +75,7 @@ pub fn read_loop_in<W: Wait, R: Read, S: RecordSink>(
             Err(_) => return ReadEnd::ReaderFailed,
         };
         let stopped = take_all(&mut stream, sink, layout, offer, &block[..size]);
-        sink.wake();
+        sink.read_ended();
         match stopped {
             None => {}
             Some(stopped) => return end_of(stopped),

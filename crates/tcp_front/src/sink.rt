@@ -63,7 +63,7 @@ pub trait RecordSink {
         ensures layout { layout self.new ≡ layout self.old };
 
     /// Told when all records of one read were given, so that many are announced at once.
-    fn wake(&mut self)
+    fn read_ended(&mut self)
         ensures none { came self.old [] self.new }
         ensures layout { layout self.new ≡ layout self.old };
 

@@ -110,7 +110,13 @@ fn ended_by(tried: &Tried) -> Chained
 /// Begins the call of a message on what it tries, a node of this kind, runs it, and ends it; and so
 /// with the next messages under the same grant, while they try the same node.
 #[inline(never)]
-fn serve_all_on<N: TaskNode<Parcel<Files>, ParcelKinds>, R: Wait, G: Gate, H: Hint, S: AnswerSink>(
+fn run_messages_on<
+    N: TaskNode<Parcel<Files>, ParcelKinds>,
+    R: Wait,
+    G: Gate,
+    H: Hint,
+    S: AnswerSink,
+>(
     filer: &Filer,
     seat: &mut Seat<Service>,
     queue: &SharedWaiting<Envelope, Layout>,
@@ -167,7 +173,7 @@ fn serve_all_on<N: TaskNode<Parcel<Files>, ParcelKinds>, R: Wait, G: Gate, H: Hi
 
 /// Begins the call of a message on what it tries, runs it, and ends it; and so with the next
 /// messages under the same grant, while they try the same node.
-pub(crate) fn serve_all<R: Wait, G: Gate, H: Hint, S: AnswerSink>(
+pub(crate) fn run_messages<R: Wait, G: Gate, H: Hint, S: AnswerSink>(
     filer: &Filer,
     seat: &mut Seat<Service>,
     queue: &SharedWaiting<Envelope, Layout>,
@@ -199,25 +205,25 @@ pub(crate) fn serve_all<R: Wait, G: Gate, H: Hint, S: AnswerSink>(
         result.chained sink.new (left_standing (view seat.new) (known pass.new) result.kept) }
 {
     match message.affinity().kind() {
-        Kind::Range => serve_all_on::<RangeNode, R, G, H, S>(
+        Kind::Range => run_messages_on::<RangeNode, R, G, H, S>(
             filer, seat, queue, rt, pass, message, moment, gate, hint, most, handles, sink,
         ),
-        Kind::VolumeVbn => serve_all_on::<VbnNode, R, G, H, S>(
+        Kind::VolumeVbn => run_messages_on::<VbnNode, R, G, H, S>(
             filer, seat, queue, rt, pass, message, moment, gate, hint, most, handles, sink,
         ),
-        Kind::Stripe => serve_all_on::<StripeNode, R, G, H, S>(
+        Kind::Stripe => run_messages_on::<StripeNode, R, G, H, S>(
             filer, seat, queue, rt, pass, message, moment, gate, hint, most, handles, sink,
         ),
-        Kind::VolumeLogical => serve_all_on::<LogicalNode, R, G, H, S>(
+        Kind::VolumeLogical => run_messages_on::<LogicalNode, R, G, H, S>(
             filer, seat, queue, rt, pass, message, moment, gate, hint, most, handles, sink,
         ),
-        Kind::Volume => serve_all_on::<VolumeNode, R, G, H, S>(
+        Kind::Volume => run_messages_on::<VolumeNode, R, G, H, S>(
             filer, seat, queue, rt, pass, message, moment, gate, hint, most, handles, sink,
         ),
-        Kind::Aggregate => serve_all_on::<AggregateNode, R, G, H, S>(
+        Kind::Aggregate => run_messages_on::<AggregateNode, R, G, H, S>(
             filer, seat, queue, rt, pass, message, moment, gate, hint, most, handles, sink,
         ),
-        Kind::Serial => serve_all_on::<SerialNode, R, G, H, S>(
+        Kind::Serial => run_messages_on::<SerialNode, R, G, H, S>(
             filer, seat, queue, rt, pass, message, moment, gate, hint, most, handles, sink,
         ),
     }

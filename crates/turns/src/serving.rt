@@ -76,7 +76,7 @@ fn answer<N: Node<Parcel<Files>>, G: Gate>(
 
 /// Begins the call of a message on what it tries, a node of this kind, runs it, and ends it.
 #[inline(never)]
-fn serve_on<N: TaskNode<Parcel<Files>, ParcelKinds>, G: Gate>(
+fn run_message_on<N: TaskNode<Parcel<Files>, ParcelKinds>, G: Gate>(
     filer: &Filer,
     seat: &mut Seat<Service>,
     message: Envelope,
@@ -124,7 +124,7 @@ fn serve_on<N: TaskNode<Parcel<Files>, ParcelKinds>, G: Gate>(
 }
 
 /// Begins the call of a message on what it tries, runs it, and ends it.
-pub(crate) fn serve<G: Gate>(
+pub(crate) fn run_message<G: Gate>(
     filer: &Filer,
     seat: &mut Seat<Service>,
     message: Envelope,
@@ -141,12 +141,12 @@ pub(crate) fn serve<G: Gate>(
         (view seat.old) message moment result (view seat.new) }
 {
     match message.affinity().kind() {
-        Kind::Range => serve_on::<RangeNode, G>(filer, seat, message, moment, gate),
-        Kind::VolumeVbn => serve_on::<VbnNode, G>(filer, seat, message, moment, gate),
-        Kind::Stripe => serve_on::<StripeNode, G>(filer, seat, message, moment, gate),
-        Kind::VolumeLogical => serve_on::<LogicalNode, G>(filer, seat, message, moment, gate),
-        Kind::Volume => serve_on::<VolumeNode, G>(filer, seat, message, moment, gate),
-        Kind::Aggregate => serve_on::<AggregateNode, G>(filer, seat, message, moment, gate),
-        Kind::Serial => serve_on::<SerialNode, G>(filer, seat, message, moment, gate),
+        Kind::Range => run_message_on::<RangeNode, G>(filer, seat, message, moment, gate),
+        Kind::VolumeVbn => run_message_on::<VbnNode, G>(filer, seat, message, moment, gate),
+        Kind::Stripe => run_message_on::<StripeNode, G>(filer, seat, message, moment, gate),
+        Kind::VolumeLogical => run_message_on::<LogicalNode, G>(filer, seat, message, moment, gate),
+        Kind::Volume => run_message_on::<VolumeNode, G>(filer, seat, message, moment, gate),
+        Kind::Aggregate => run_message_on::<AggregateNode, G>(filer, seat, message, moment, gate),
+        Kind::Serial => run_message_on::<SerialNode, G>(filer, seat, message, moment, gate),
     }
 }

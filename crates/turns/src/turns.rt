@@ -1,7 +1,7 @@
 //! A worker's turns one after the other.
 
 use crate::chained::{AnswerSink, Chained, Hint, leave_word};
-use crate::chaining::{ServedAll, serve_all};
+use crate::chaining::{ServedAll, run_messages};
 use crate::envelope::Envelope;
 use crate::shared::Filer;
 use crate::shared_waiting::{Pass, SharedWaiting};
@@ -51,7 +51,7 @@ impl Worker {
             Some(message) => message,
             None => return Chained::Idle,
         };
-        let ServedAll { kept, chained } = serve_all(
+        let ServedAll { kept, chained } = run_messages(
             filer,
             &mut self.seat,
             queue,

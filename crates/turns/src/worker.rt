@@ -12,7 +12,7 @@ use crate::inner::carry;
 use crate::one_turn::told;
 use crate::parts::WorkerParts;
 use crate::queueing::{next, next_beside, put_kept};
-use crate::serving::serve;
+use crate::serving::run_message;
 use crate::shared::Filer;
 use crate::shared_waiting::{Pass, SharedWaiting};
 use crate::tend::{TendRefusal, Tended};
@@ -131,7 +131,7 @@ impl Worker {
             Some(message) => message,
             None => return Turn::Idle,
         };
-        let (kept, turned) = told(serve(filer, &mut self.seat, message, moment, gate));
+        let (kept, turned) = told(run_message(filer, &mut self.seat, message, moment, gate));
         self.kept = kept;
         turned
     }

@@ -12,7 +12,7 @@ use std::sync::Wait;
 use turns::{Filer, Gate, SharedOutboxes};
 
 /// Runs a worker, round for round, until its thread is told to stop.
-pub(crate) fn serve<R: Wait + Clock, G: Gate>(
+pub(crate) fn run_rounds<R: Wait + Clock, G: Gate>(
     rt: &R,
     filer: &Filer,
     outboxes: &SharedOutboxes,

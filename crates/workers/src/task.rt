@@ -7,7 +7,7 @@ ghost use Rattle.workers.specs.Heirs.{IsPoolHeir, ServesAt};
 use crate::commons::Commons;
 use crate::pool_worker::PoolWorker;
 use crate::refusal::StartRefusal;
-use crate::serving::serve;
+use crate::serving::run_rounds;
 use std::rt::Clock;
 use std::snapshot::Snapshot;
 use std::sync::{Arc, Wait};
@@ -50,7 +50,7 @@ fn run<R: Wait + Clock, G: Gate>(rt: &R, gate: &G, task: Task) -> PoolWorker
     ensures heir { IsPoolHeir task.work result }
 {
     let Task { commons, work } = task;
-    serve(
+    run_rounds(
         rt,
         &commons.filer,
         &commons.outboxes,

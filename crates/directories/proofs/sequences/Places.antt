@@ -1,9 +1,9 @@
--- A list in three parts, read and changed at a place.
+-- A list in three parts, read and changed at a position.
 use Rattle.std.proofs.Common.{◌≡◌, refl, sym, ◌∙◌, ap, ℕ, zero, suc, ◌+◌, ◌-◌, ◌<◌, ◌≤◌, List, [], ◌∷◌, ◌++◌, length, take, drop, Some}
 use Rattle.std.proofs.Common.{slice_set, arith, append_assoc, length-append}
 use Rattle.std.specs.List.{slice_get, insert, remove}
 use Rattle.std.proofs.lemmas.List.{drop-append-le, take-append-drop, length-take-le, take_min, length-take, set-append_left, set-append_right}
-use Rattle.directories.specs.sequences.Values.{HasPlaces}
+use Rattle.directories.specs.sequences.Values.{HasPositions}
 use Rattle.std.proofs.lemmas.List.Edits.{length-insert, insert-append_left, insert-append_right, remove-append_left, remove-append_right}
 
 -- ---- an element
@@ -116,32 +116,32 @@ module _ {T : Type 0} (xs : List T) (kept i : ℕ) (x : T) where
   in-upper w h =
       sym (insert-append_right (take kept xs) (drop kept xs) kept i x (length-take-le kept xs w) h) ∙ ap (λ l. insert l i x) (take-append-drop kept xs)
 
--- ---- a side that has some places
+-- ---- a side that has some positions
 
 get-front : {T : Type 0} (l m : List T) (i : ℕ) → i < length l → slice_get l i ≡ slice_get (l ++ m) i
 get-front [] m i h = absurd (omega (arith, h))
 get-front (y ∷ l) m zero h = refl
 get-front (y ∷ l) m (suc i) h = get-front l m i (omega (arith, h))
 
-module _ {T : Type 0} (all l c r : List T) (low high first : ℕ) (h : HasPlaces all low high first (l ++ (c ++ r))) where
-  pub places-left : high ≤ first + length l → HasPlaces all low high first l
-  places-left e = record {
+module _ {T : Type 0} (all l c r : List T) (low high first : ℕ) (h : HasPositions all low high first (l ++ (c ++ r))) where
+  pub positions-left : high ≤ first + length l → HasPositions all low high first l
+  positions-left e = record {
     begins = h.begins;
     ends = e;
-    same = λ place a b. get-front l (c ++ r) (place - first) (let s = h.begins in omega (arith, e, a, b, s)) ∙ h.same place a b;
+    same = λ position a b. get-front l (c ++ r) (position - first) (let s = h.begins in omega (arith, e, a, b, s)) ∙ h.same position a b;
   }
 
-  pub places-right : (begin : ℕ) → begin ≡ first + length l + length c → begin ≤ low → HasPlaces all low high begin r
-  places-right begin is e = record {
+  pub positions-right : (begin : ℕ) → begin ≡ first + length l + length c → begin ≤ low → HasPositions all low high begin r
+  positions-right begin is e = record {
     begins = e;
     ends =
         let n = length-append l (c ++ r) in let m = length-append c r in let s = h.ends in omega (arith, n, m, s, is);
-    same = λ place a b.
-        let far : length l ≤ place - first = omega (arith, e, a, is) in
-        let farther : length c ≤ place - first - length l = omega (arith, e, a, is) in
-        let at : place - first - length l - length c ≡ place - begin = omega (arith, e, a, is) in
+    same = λ position a b.
+        let far : length l ≤ position - first = omega (arith, e, a, is) in
+        let farther : length c ≤ position - first - length l = omega (arith, e, a, is) in
+        let at : position - first - length l - length c ≡ position - begin = omega (arith, e, a, is) in
         ap (λ k. slice_get r k) (sym at)
-        ∙ (sym (get-right c r (place - first - length l) farther) ∙ (sym (get-right l (c ++ r) (place - first) far) ∙ h.same place a b));
+        ∙ (sym (get-right c r (position - first - length l) farther) ∙ (sym (get-right l (c ++ r) (position - first) far) ∙ h.same position a b));
   }
 
 -- ---- room for the count

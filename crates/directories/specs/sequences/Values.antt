@@ -24,13 +24,13 @@ pub record IsHeightOver (left : ℕ) (right : ℕ) (height : ℕ) : Type 0 where
 abbrev pub MayRise : ℕ → ℕ → Type 0
 MayRise old new = (old ≤ new) × (new ≤ old + 1)
 
--- a part of a sequence: the place that it begins at, and its items
+-- a part of a sequence: the position that it begins at, and its items
 pub record PartValue (T : Type 0) : Type 0 where
   pub first : ℕ
   pub items : List T
 
--- Items that begin at a place are those of a sequence between two places.
-pub record HasPlaces {T : Type 0} (all : List T) (low : ℕ) (high : ℕ) (first : ℕ) (items : List T) : Type 0 where
+-- Items that begin at a position are those of a sequence between two positions.
+pub record HasPositions {T : Type 0} (all : List T) (low : ℕ) (high : ℕ) (first : ℕ) (items : List T) : Type 0 where
   pub begins : first ≤ low
   pub ends : high ≤ first + length items
-  pub same : (place : ℕ) → low ≤ place → place < high → slice_get items (place - first) ≡ slice_get all place
+  pub same : (position : ℕ) → low ≤ position → position < high → slice_get items (position - first) ≡ slice_get all position

@@ -24,17 +24,17 @@ use crate::sequences::chunk::{put, split};
 use crate::sequences::room::Room;
 use crate::sequences::tree::{First, Node, Parts, Tree};
 
-/// A tree with one more item at a place.
+/// A tree with one more item at a position.
 pub(crate) fn inserted<T: Copy>(
     tree: Tree<T>,
     room: &mut Option<Room<T>>,
-    place: usize,
+    position: usize,
     item: T,
 ) -> Tree<T>
     requires ready { is_some room.old ≡ true }
-    requires within { place ≤ length tree.items }
+    requires within { position ≤ length tree.items }
     requires fits { length tree.items + 1 < 2 ^ 64 }
-    ensures items { result.items ≡ insert tree.items place item }
+    ensures items { result.items ≡ insert tree.items position item }
     ensures height { MayRise tree.height result.height }
 {
     let Parts {
@@ -45,11 +45,11 @@ pub(crate) fn inserted<T: Copy>(
         Some(parts) => parts,
         None => return leaf(room, item),
     };
-    if place < left.len() {
-        let left = inserted(left, room, place, item);
+    if position < left.len() {
+        let left = inserted(left, room, position, item);
         return Parts { left, chunk, right }.balance();
     }
-    let here = place - left.len();
+    let here = position - left.len();
     let size = chunk.items.len();
     if here <= size && size < chunk.items.capacity() {
         put(&mut chunk.items, here, item);
@@ -116,11 +116,11 @@ fn with_first<T: Copy>(tree: Tree<T>, first: Box<Node<T>>) -> Tree<T>
     }
 }
 
-/// A tree without the item at a place, and that item.
-pub(crate) fn removed<T: Copy>(tree: Tree<T>, place: usize) -> (Tree<T>, T)
-    requires { place < length tree.items }
-    ensures items { result.0.items ≡ remove tree.items place }
-    ensures item { slice_get tree.items place ≡ Some result.1 }
+/// A tree without the item at a position, and that item.
+pub(crate) fn removed<T: Copy>(tree: Tree<T>, position: usize) -> (Tree<T>, T)
+    requires { position < length tree.items }
+    ensures items { result.0.items ≡ remove tree.items position }
+    ensures item { slice_get tree.items position ≡ Some result.1 }
     ensures height { MayRise result.0.height tree.height }
 {
     let Parts {
@@ -131,11 +131,11 @@ pub(crate) fn removed<T: Copy>(tree: Tree<T>, place: usize) -> (Tree<T>, T)
         Some(parts) => parts,
         None => unreachable!(),
     };
-    if place < left.len() {
-        let (left, item) = removed(left, place);
+    if position < left.len() {
+        let (left, item) = removed(left, position);
         return (Parts { left, chunk, right }.balance(), item);
     }
-    let here = place - left.len();
+    let here = position - left.len();
     let size = chunk.items.len();
     if here < size {
         let item = chunk.items.remove(here);

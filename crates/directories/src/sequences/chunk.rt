@@ -16,7 +16,7 @@ pub(crate) fn put<T: Copy>(chunk: &mut Vec<T>, here: usize, item: T)
     }
 }
 
-/// Moves the items of a chunk from a place on into an empty one, which has room for them.
+/// Moves the items of a chunk from a position on into an empty one, which has room for them.
 fn cut<T: Copy>(chunk: &mut Vec<T>, upper: &mut Vec<T>, kept: usize)
     requires within { kept ≤ vec_len chunk.old }
     requires empty { vec_len upper.old ≡ 0 }

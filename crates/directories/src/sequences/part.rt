@@ -2,7 +2,7 @@
 
 ghost use Rattle.std.specs.Prelude.{◌≡◌, ◌+◌, ◌-◌, ◌<◌, ◌≤◌, ◌^◌, List, length, Some};
 ghost use Rattle.std.specs.List.{slice_get};
-ghost use Rattle.directories.specs.sequences.Values.{HasPlaces};
+ghost use Rattle.directories.specs.sequences.Values.{HasPositions};
 
 use crate::sequences::tree::Tree;
 use std::marker::Model;
@@ -11,7 +11,7 @@ use std::marker::Model;
 #[derive(Drop)]
 pub struct Part<'a, T> {
     tree: &'a Tree<T>,
-    /// The place in the sequence that it begins at.
+    /// The position in the sequence that it begins at.
     first: usize,
 }
 
@@ -31,28 +31,28 @@ impl<'a, T: Copy> Part<'a, T> {
     pub(crate) fn whole(tree: &'a Tree<T>) -> Part<'a, T>
         ensures { (all : List T)
             → all ≡ tree.now.items
-            → HasPlaces all 0 (length all) result.first result.items }
+            → HasPositions all 0 (length all) result.first result.items }
     {
         let _len = tree.len();
         Part { tree, first: 0 }
     }
 
-    /// A part of this one that still has the items between two places.
+    /// A part of this one that still has the items between two positions.
     pub fn narrowed(self, low: usize, high: usize) -> Part<'a, T>
         ensures { (all : List T)
-            → HasPlaces all low high self.entry.first self.entry.items
-            → HasPlaces all low high result.first result.items }
+            → HasPositions all low high self.entry.first self.entry.items
+            → HasPositions all low high result.first result.items }
     {
         let (tree, first) = self.tree.narrowed(self.first, low, high);
         Part { tree, first }
     }
 
-    /// The item at a place of the sequence that is in the part.
-    pub fn at(&self, place: usize) -> T
-        requires begins { self.now.first ≤ place }
-        requires ends { place < self.now.first + length self.now.items }
-        ensures { slice_get self.now.items (place - self.now.first) ≡ Some result }
+    /// The item at a position of the sequence that is in the part.
+    pub fn at(&self, position: usize) -> T
+        requires begins { self.now.first ≤ position }
+        requires ends { position < self.now.first + length self.now.items }
+        ensures { slice_get self.now.items (position - self.now.first) ≡ Some result }
     {
-        self.tree.run_at(place - self.first)[0]
+        self.tree.run_at(position - self.first)[0]
     }
 }

@@ -1,4 +1,4 @@
-//! A sequence of items by place.
+//! A sequence of items by position.
 
 ghost use Rattle.std.specs.Prelude.{
   ◌≡◌,
@@ -16,7 +16,7 @@ ghost use Rattle.std.specs.Prelude.{
   slice_set,
 };
 ghost use Rattle.std.specs.List.{slice_get, insert, remove};
-ghost use Rattle.directories.specs.sequences.Values.{HasPlaces};
+ghost use Rattle.directories.specs.sequences.Values.{HasPositions};
 
 use crate::sequences::change::{inserted, removed};
 use crate::sequences::part::Part;
@@ -32,7 +32,7 @@ const LEAST: usize = 4;
 /// How many items a chunk has room for at most.
 const MOST: usize = 256;
 
-/// Items by place. An item is found, comes in or goes in time logarithmic in their number.
+/// Items by position. An item is found, comes in or goes in time logarithmic in their number.
 pub struct Sequence<T> {
     alloc: Global,
     tree: Tree<T>,
@@ -78,28 +78,28 @@ impl<T: Copy> Sequence<T> {
         self.tree.len()
     }
 
-    /// The item at a place.
-    pub fn at(&self, place: usize) -> T
-        requires { place < length self.now }
-        ensures { slice_get self.now place ≡ Some result }
+    /// The item at a position.
+    pub fn at(&self, position: usize) -> T
+        requires { position < length self.now }
+        ensures { slice_get self.now position ≡ Some result }
     {
-        self.tree.run_at(place)[0]
+        self.tree.run_at(position)[0]
     }
 
     /// The part that has all items.
     pub fn part(&self) -> Part<'_, T>
-        ensures { HasPlaces self.now 0 (length self.now) result.first result.items }
+        ensures { HasPositions self.now 0 (length self.now) result.first result.items }
     {
         Part::whole(&self.tree)
     }
 
-    /// The items that stand together in memory from a place on: some, and not always all.
-    pub fn run_at(&self, place: usize) -> &[T]
-        requires { place < length self.now }
-        ensures run { take (length result.now) (drop place self.now) ≡ result.now }
+    /// The items that stand together in memory from a position on: some, and not always all.
+    pub fn run_at(&self, position: usize) -> &[T]
+        requires { position < length self.now }
+        ensures run { take (length result.now) (drop position self.now) ≡ result.now }
         ensures some { 0 < length result.now }
     {
-        self.tree.run_at(place)
+        self.tree.run_at(position)
     }
 
     /// Memory with which one more item comes in. There are fewer than 2^32 items, or else there is
@@ -118,15 +118,15 @@ impl<T: Copy> Sequence<T> {
         }
     }
 
-    /// Puts an item in at a place. It takes no memory but the room.
-    pub fn insert(&mut self, room: Room<T>, place: usize, item: T)
-        requires within { place ≤ length self.old }
+    /// Puts an item in at a position. It takes no memory but the room.
+    pub fn insert(&mut self, room: Room<T>, position: usize, item: T)
+        requires within { position ≤ length self.old }
         requires fits { length self.old < 2 ^ 32 }
-        ensures { self.new ≡ insert self.old place item }
+        ensures { self.new ≡ insert self.old position item }
     {
         self.spare = Some(room);
         let tree = mem::replace(&mut self.tree, Tree::new());
-        self.tree = inserted(tree, &mut self.spare, place, item);
+        self.tree = inserted(tree, &mut self.spare, position, item);
     }
 
     /// Puts an item in behind all others. It takes no memory but the room.
@@ -134,26 +134,26 @@ impl<T: Copy> Sequence<T> {
         requires { length self.old < 2 ^ 32 }
         ensures { self.new ≡ self.old ++ item ∷ [] }
     {
-        let place = self.len();
-        self.insert(room, place, item);
+        let position = self.len();
+        self.insert(room, position, item);
     }
 
     /// Puts an item into the place of another.
-    pub fn set(&mut self, place: usize, item: T)
-        requires { place < length self.old }
-        ensures { self.new ≡ slice_set self.old place item }
+    pub fn set(&mut self, position: usize, item: T)
+        requires { position < length self.old }
+        ensures { self.new ≡ slice_set self.old position item }
     {
-        self.tree.set(place, item);
+        self.tree.set(position, item);
     }
 
-    /// Takes out the item at a place. It takes no memory.
-    pub fn remove(&mut self, place: usize) -> T
-        requires { place < length self.old }
-        ensures item { slice_get self.old place ≡ Some result }
-        ensures left { self.new ≡ remove self.old place }
+    /// Takes out the item at a position. It takes no memory.
+    pub fn remove(&mut self, position: usize) -> T
+        requires { position < length self.old }
+        ensures item { slice_get self.old position ≡ Some result }
+        ensures left { self.new ≡ remove self.old position }
     {
         let tree = mem::replace(&mut self.tree, Tree::new());
-        let (tree, item) = removed(tree, place);
+        let (tree, item) = removed(tree, position);
         self.tree = tree;
         item
     }

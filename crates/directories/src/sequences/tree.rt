@@ -13,12 +13,12 @@ ghost use Rattle.std.specs.Prelude.{
   drop,
   slice_set,
 };
-ghost use Rattle.directories.specs.sequences.Values.{no_items, DifferByAtMost, HasPlaces};
+ghost use Rattle.directories.specs.sequences.Values.{no_items, DifferByAtMost, HasPositions};
 
 use std::marker::Model;
 use std::mem;
 
-/// Items in the order of their places, in chunks.
+/// Items in the order of their positions, in chunks.
 #[cycle(tree)]
 #[derive(Drop)]
 pub(crate) struct Tree<T> {
@@ -126,20 +126,20 @@ impl<T: Copy> Tree<T> {
         }
     }
 
-    /// The items that stand together in memory from a place on: some, and not always all.
-    pub(crate) fn run_at(&self, place: usize) -> &[T]
-        requires { place < length self.now.items }
-        ensures run { take (length result.now) (drop place self.now.items) ≡ result.now }
+    /// The items that stand together in memory from a position on: some, and not always all.
+    pub(crate) fn run_at(&self, position: usize) -> &[T]
+        requires { position < length self.now.items }
+        ensures run { take (length result.now) (drop position self.now.items) ≡ result.now }
         ensures some { 0 < length result.now }
     {
         match &self.root {
             Root::Empty => unreachable!(),
             Root::Fork(node) => {
                 let node: &Node<T> = node;
-                if place < node.before {
-                    return node.left.run_at(place);
+                if position < node.before {
+                    return node.left.run_at(position);
                 }
-                let here = place - node.before;
+                let here = position - node.before;
                 if here < node.items.len() {
                     return &node.items[here..];
                 }
@@ -148,14 +148,14 @@ impl<T: Copy> Tree<T> {
         }
     }
 
-    /// The lowest subtree that has the items between two places, and the place that it begins at,
+    /// The lowest subtree that has the items between two positions, and the position that it begins at,
     /// where the tree begins at `first`.
     pub(crate) fn narrowed(&self, first: usize, low: usize, high: usize) -> (&Tree<T>, usize)
         requires { first + length self.now.items < 2 ^ 64 }
         ensures inside { result.1 + length result.0.now.items ≤ first + length self.now.items }
-        ensures places { (all : List T)
-            → HasPlaces all low high first self.now.items
-            → HasPlaces all low high result.1 result.0.now.items }
+        ensures positions { (all : List T)
+            → HasPositions all low high first self.now.items
+            → HasPositions all low high result.1 result.0.now.items }
     {
         match &self.root {
             Root::Empty => (self, first),
@@ -175,20 +175,20 @@ impl<T: Copy> Tree<T> {
     }
 
     /// Puts an item into the place of another.
-    pub(crate) fn set(&mut self, place: usize, item: T)
-        requires { place < length self.old.items }
-        ensures items { self.new.items ≡ slice_set self.old.items place item }
+    pub(crate) fn set(&mut self, position: usize, item: T)
+        requires { position < length self.old.items }
+        ensures items { self.new.items ≡ slice_set self.old.items position item }
         ensures height { self.new.height ≡ self.old.height }
     {
         match &mut self.root {
             Root::Empty => unreachable!(),
             Root::Fork(node) => {
                 let node: &mut Node<T> = node;
-                if place < node.before {
-                    node.left.set(place, item);
+                if position < node.before {
+                    node.left.set(position, item);
                     return;
                 }
-                let here = place - node.before;
+                let here = position - node.before;
                 let size = node.items.len();
                 if here < size {
                     node.items[here] = item;

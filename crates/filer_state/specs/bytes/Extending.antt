@@ -9,8 +9,8 @@ use Rattle.nfs_model.specs.Server.{block_size}
 use Rattle.nfs_model.specs.Home.{span_bytes}
 use Rattle.nfs_model.specs.Serial.Write.{blocks_met}
 use Rattle.nfs_model.specs.volume.Maps.{changed_at}
-use Rattle.nfs_model.specs.volume.Inodes.{InodeKind, RegularFile, Folder, Inode, InodesValue, inode_set}
-use Rattle.nfs_model.specs.volume.Stripes.{Card, OfFile, OfFolder, StripeValue, stripe_of, is_filled, block_inserted, overwritten}
+use Rattle.nfs_model.specs.volume.Inodes.{InodeKind, RegularFile, DirectoryKind, Inode, InodesValue, inode_set}
+use Rattle.nfs_model.specs.volume.Stripes.{Card, OfFile, OfDirectory, StripeValue, stripe_of, is_filled, block_inserted, overwritten}
 use Rattle.filer_state.specs.state.Tree.{home_stripe}
 use Rattle.filer_state.specs.state.Lenses.{LogicalSet}
 
@@ -36,7 +36,7 @@ filled_with fileid (b ∷ blocks) (n ∷ numbers) stripes = filled_with fileid b
 -- a file's card that shows at least a size
 abbrev pub card_grown : ℕ → Card → Card
 card_grown end (OfFile size touch) = OfFile (max size end) touch
-card_grown end OfFolder = OfFolder
+card_grown end OfDirectory = OfDirectory
 
 abbrev pub stripe_grown : ℕ → ℕ → StripeValue → StripeValue
 stripe_grown fileid end s = record s { cards = changed_at (card_grown end) fileid s.cards }
@@ -62,7 +62,7 @@ spans_written fileid offset written moment stripes =
 -- a file of at least a size, with so many blocks more
 abbrev pub kind_extended : ℕ → ℕ → InodeKind → InodeKind
 kind_extended end more (RegularFile size filled verifier) = RegularFile (max size end) (filled + more) verifier
-kind_extended end more (Folder parent subdirectories) = Folder parent subdirectories
+kind_extended end more (DirectoryKind parent subdirectories) = DirectoryKind parent subdirectories
 
 abbrev pub inode_extended : ℕ → ℕ → Inode → Inode
 inode_extended end more inode = record inode { kind = kind_extended end more inode.kind }

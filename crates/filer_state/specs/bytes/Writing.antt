@@ -6,7 +6,7 @@ use Rattle.nfs_model.specs.Types.{Status, Stale, Invalid, TooBig, Answer, WriteD
 use Rattle.nfs_model.specs.Tree.{Logical}
 use Rattle.nfs_model.specs.Serial.Write.{Writing, bytes_kept}
 use Rattle.nfs_model.specs.Work.{Outcome, Replied, Moved}
-use Rattle.nfs_model.specs.volume.Stripes.{Card, OfFile, OfFolder, StripeValue, stays_within, overwritten}
+use Rattle.nfs_model.specs.volume.Stripes.{Card, OfFile, OfDirectory, StripeValue, stays_within, overwritten}
 
 -- what it comes to, and the stripe after it
 pub record StripeOutcome : Type 0 where
@@ -41,7 +41,7 @@ file_written v fileid w s =
 -- STALE, INVAL for a directory
 abbrev pub card_written : ℕ → ℕ → Writing → Option Card → StripeValue → StripeOutcome
 card_written v fileid w None s = fails Stale s
-card_written v fileid w (Some OfFolder) s = fails Invalid s
+card_written v fileid w (Some OfDirectory) s = fails Invalid s
 card_written v fileid w (Some (OfFile size touch)) s = file_written v fileid w s
 
 abbrev pub stripe_write : ℕ → ℕ → Writing → StripeValue → StripeOutcome

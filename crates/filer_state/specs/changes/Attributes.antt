@@ -4,7 +4,7 @@ use Rattle.std.specs.FinMap.{get}
 use Rattle.nfs_model.specs.Types.{Moment, SetAttributes, Status, NotSynchronous, Invalid, TooBig, SetattrDone}
 use Rattle.nfs_model.specs.Shown.{before_of}
 use Rattle.nfs_model.specs.Serial.Setattr.{is_stale_guard, has_bad_time, is_past, set_attributes}
-use Rattle.nfs_model.specs.volume.Inodes.{InodeKind, RegularFile, Folder, Inode}
+use Rattle.nfs_model.specs.volume.Inodes.{InodeKind, RegularFile, DirectoryKind, Inode}
 use Rattle.filer_state.specs.state.Tree.{file_touch}
 use Rattle.filer_state.specs.state.Lenses.{LogicalSet}
 use Rattle.filer_state.specs.state.Changes.{LogicalAnswer, attributes_now, shown_inode, inode_after, node_set}
@@ -44,16 +44,16 @@ node_changed fileid set moment inode s = node_sized fileid set moment inode set.
 -- ---- the procedure
 
 -- a size for a directory
-abbrev pub is_sized_folder : InodeKind → Option ℕ → Bool
-is_sized_folder (RegularFile size filled verifier) asked = false
-is_sized_folder (Folder parent subdirectories) asked = is_some asked
+abbrev pub is_directory_sized : InodeKind → Option ℕ → Bool
+is_directory_sized (RegularFile size filled verifier) asked = false
+is_directory_sized (DirectoryKind parent subdirectories) asked = is_some asked
 
 -- the first check that fails, by the ctime that holds: the guard, the times, a directory's size, the largest size
 abbrev pub set_fault : ℕ → SetAttributes → Option Moment → Moment → InodeKind → Option Status
 set_fault largest set guard ctime kind =
     if is_stale_guard guard ctime then Some NotSynchronous
     else if has_bad_time set then Some Invalid
-    else if is_sized_folder kind set.size then Some Invalid
+    else if is_directory_sized kind set.size then Some Invalid
     else if is_past set.size largest then Some TooBig
     else None
 

@@ -2,7 +2,7 @@
 use Rattle.std.specs.Prelude.{List, [], ◌∷◌, Option, Some, None, length, if◌then◌else◌}
 use Rattle.nfs_model.specs.Types.{Listed, GoneDone, NoEntry, Invalid, Exists, IsDirectory, NotDirectory, NotEmpty}
 use Rattle.nfs_model.specs.Names.{same_name, dot, dot_dot, is_dots}
-use Rattle.nfs_model.specs.volume.Inodes.{InodeKind, RegularFile, Folder}
+use Rattle.nfs_model.specs.volume.Inodes.{InodeKind, RegularFile, DirectoryKind}
 use Rattle.filer_state.specs.state.Lenses.{LogicalSet}
 use Rattle.filer_state.specs.state.Changes.{LogicalAnswer}
 use Rattle.filer_state.specs.nodes.Dropping.{Dropping, directory_left, node_dropped}
@@ -50,7 +50,7 @@ file_gone n child = held_gone n (child_emptied child n.set) (file_sized (emptyin
 
 -- a directory is ISDIR
 abbrev pub remove_kind : HeldNaming → HeldNode → InodeKind → LogicalAnswer
-remove_kind n child (Folder parent subdirectories) = fails IsDirectory n.set
+remove_kind n child (DirectoryKind parent subdirectories) = fails IsDirectory n.set
 remove_kind n child (RegularFile size filled verifier) = file_gone n child
 
 -- by whether the name is there
@@ -72,7 +72,7 @@ if_empty (e ∷ es) s done = fails NotEmpty s
 -- a file is NOTDIR
 abbrev pub rmdir_kind : HeldNaming → HeldNode → InodeKind → LogicalAnswer
 rmdir_kind n child (RegularFile size filled verifier) = fails NotDirectory n.set
-rmdir_kind n child (Folder parent subdirectories) =
+rmdir_kind n child (DirectoryKind parent subdirectories) =
     if_empty (entries_of n.set.own child.fileid).list n.set (held_gone n child n.set)
 
 -- by whether the name is there

@@ -7,7 +7,7 @@ use Rattle.nfs_model.specs.Server.{handle_bytes, most_inodes}
 use Rattle.nfs_model.specs.Names.{is_dots}
 use Rattle.nfs_model.specs.Serial.Setattr.{has_bad_time, is_past, given}
 use Rattle.nfs_model.specs.Serial.Create.{new_attributes, is_verifier, asked_attributes, kept_verifier}
-use Rattle.nfs_model.specs.volume.Inodes.{InodeKind, RegularFile, Folder, Inode}
+use Rattle.nfs_model.specs.volume.Inodes.{InodeKind, RegularFile, DirectoryKind, Inode}
 use Rattle.filer_state.specs.state.Tree.{file_touch}
 use Rattle.filer_state.specs.state.Lenses.{LogicalSet}
 use Rattle.filer_state.specs.state.Changes.{LogicalAnswer, shown_inode}
@@ -75,8 +75,8 @@ there_set n fileid new = record {
 -- the name is there: GUARDED is EXIST; EXCLUSIVE answers a file of the same verifier; UNCHECKED sets a file
 abbrev pub create_existing : HeldNaming → CreateMode → HeldNode → InodeKind → LogicalAnswer
 create_existing n (Guarded set) child kind = fails Exists n.set
-create_existing n (Unchecked set) child (Folder parent subdirectories) = fails Exists n.set
-create_existing n (Exclusive verifier) child (Folder parent subdirectories) = fails Exists n.set
+create_existing n (Unchecked set) child (DirectoryKind parent subdirectories) = fails Exists n.set
+create_existing n (Exclusive verifier) child (DirectoryKind parent subdirectories) = fails Exists n.set
 create_existing n (Exclusive verifier) child (RegularFile size filled kept) =
     if is_verifier kept verifier then there_shown n child else fails Exists n.set
 create_existing n (Unchecked set) child (RegularFile size filled kept) =
@@ -104,15 +104,15 @@ mkdir_check set s =
     else None
 
 -- the directory to be made: mode 0755 (octal) if none is given
-abbrev pub folder_inode : ℕ → SetAttributes → Credential → Moment → Inode
-folder_inode parent set credential moment =
-    record { attributes = new_attributes set 493 credential moment; kind = Folder parent 0 }
+abbrev pub made_directory_inode : ℕ → SetAttributes → Credential → Moment → Inode
+made_directory_inode parent set credential moment =
+    record { attributes = new_attributes set 493 credential moment; kind = DirectoryKind parent 0 }
 
 -- by whether the name is there
 abbrev pub mkdir_by : HeldNaming → SetAttributes → Credential → Option HeldNode → LogicalAnswer
 mkdir_by n set credential (Some child) = fails Exists n.set
 mkdir_by n set credential None =
-    unless_fault (mkdir_check set n.set) n.set (held_made n (folder_inode n.fileid set credential n.moment))
+    unless_fault (mkdir_check set n.set) n.set (held_made n (made_directory_inode n.fileid set credential n.moment))
 
 -- on a good name: EXIST for `.` and `..`
 abbrev pub held_mkdir : SetAttributes → Credential → HeldNaming → LogicalAnswer

@@ -4,7 +4,7 @@ use Rattle.std.specs.FinMap.{get, len}
 use Rattle.nfs_model.specs.Types.{Moment, Status, Failed, RenameDone, Stale, NotDirectory, NoEntry, Invalid, Exists}
 use Rattle.nfs_model.specs.Names.{same_name, is_dots, name_fault}
 use Rattle.nfs_model.specs.Serial.Rename.{on_parent, is_empty_list}
-use Rattle.nfs_model.specs.volume.Inodes.{InodeKind, RegularFile, Folder, Inode}
+use Rattle.nfs_model.specs.volume.Inodes.{InodeKind, RegularFile, DirectoryKind, Inode}
 use Rattle.filer_state.specs.state.Tree.{file_touch}
 use Rattle.filer_state.specs.state.Names.{InodeMap, parent_directory}
 use Rattle.filer_state.specs.state.Lenses.{LogicalSet}
@@ -54,7 +54,7 @@ climbs (suc n) inodes target fileid =
 -- a directory would come into itself or below itself; as many steps as there are inodes lead to the root
 abbrev pub goes_below : HeldRenaming → ℕ → InodeKind → Bool
 goes_below r fileid (RegularFile size filled verifier) = false
-goes_below r fileid (Folder parent subdirectories) =
+goes_below r fileid (DirectoryKind parent subdirectories) =
     climbs (len r.from.set.own.inodes.inodes) r.from.set.own.inodes.inodes fileid r.to.fileid
 
 -- ---- the target
@@ -62,9 +62,9 @@ goes_below r fileid (Folder parent subdirectories) =
 -- a node may take another's place: both are files, or both are directories and the other is empty
 abbrev pub may_replace : LogicalSet → InodeKind → ℕ → InodeKind → Bool
 may_replace s (RegularFile size filled verifier) target (RegularFile size' filled' verifier') = true
-may_replace s (RegularFile size filled verifier) target (Folder parent subdirectories) = false
-may_replace s (Folder parent subdirectories) target (RegularFile size filled verifier) = false
-may_replace s (Folder parent subdirectories) target (Folder parent' subdirectories') = is_empty_list (entries_of s.own target).list
+may_replace s (RegularFile size filled verifier) target (DirectoryKind parent subdirectories) = false
+may_replace s (DirectoryKind parent subdirectories) target (RegularFile size filled verifier) = false
+may_replace s (DirectoryKind parent subdirectories) target (DirectoryKind parent' subdirectories') = is_empty_list (entries_of s.own target).list
 
 -- the target may go, if there is one
 abbrev pub target_may_go : LogicalSet → HeldNode → Option HeldNode → Bool
@@ -75,7 +75,7 @@ target_may_go s moved (Some target) = may_replace s moved.inode.kind target.file
 abbrev pub target_dropped : HeldNaming → HeldNode → InodeKind → LogicalSet
 target_dropped to target (RegularFile size filled verifier) =
     node_dropped (dropping_of to (child_emptied target to.set)) (file_sized (emptying_of target) to.set)
-target_dropped to target (Folder parent subdirectories) = node_dropped (dropping_of to target) to.set
+target_dropped to target (DirectoryKind parent subdirectories) = node_dropped (dropping_of to target) to.set
 
 -- the set without the target, if there is one
 abbrev pub target_gone : HeldNaming → Option HeldNode → LogicalSet
@@ -144,14 +144,14 @@ held_rename r =
     else rename_by r (node_under r.from) (node_under r.to)))
 
 -- NOTDIR for a file
-abbrev pub if_folder : InodeKind → LogicalSet → LogicalAnswer → LogicalAnswer
-if_folder (RegularFile size filled verifier) s done = fails_both NotDirectory s
-if_folder (Folder parent subdirectories) s done = done
+abbrev pub if_directory : InodeKind → LogicalSet → LogicalAnswer → LogicalAnswer
+if_directory (RegularFile size filled verifier) s done = fails_both NotDirectory s
+if_directory (DirectoryKind parent subdirectories) s done = done
 
 -- STALE where there is no node, NOTDIR for a file
-abbrev pub on_folder : Option Inode → LogicalSet → (Inode → LogicalAnswer) → LogicalAnswer
-on_folder None s run = fails_both Stale s
-on_folder (Some inode) s run = if_folder inode.kind s (run inode)
+abbrev pub on_directory_inode : Option Inode → LogicalSet → (Inode → LogicalAnswer) → LogicalAnswer
+on_directory_inode None s run = fails_both Stale s
+on_directory_inode (Some inode) s run = if_directory inode.kind s (run inode)
 
 -- a name in the directory of a fileid
 abbrev pub name_in : ℕ → ℕ → List ℕ → Moment → LogicalSet → Inode → HeldNaming
@@ -168,7 +168,7 @@ name_in v fileid name moment s inode = record {
 -- on the directories of two fileids, from's checked first
 abbrev pub on_held_names : ℕ → ℕ → List ℕ → ℕ → List ℕ → Moment → (HeldRenaming → LogicalAnswer) → LogicalSet → LogicalAnswer
 on_held_names v from_id from_name to_id to_name moment run s =
-    on_folder (get s.own.inodes.inodes from_id) s (λ from. on_folder (get s.own.inodes.inodes to_id) s (λ to. run (record {
+    on_directory_inode (get s.own.inodes.inodes from_id) s (λ from. on_directory_inode (get s.own.inodes.inodes to_id) s (λ to. run (record {
       from = name_in v from_id from_name moment s from;
       to = name_in v to_id to_name moment s to;
     })))

@@ -12,7 +12,7 @@ use Rattle.nfs_model.specs.Serial.Access.{access_given}
 use Rattle.nfs_model.specs.Serial.Readdir.{all_listed, above_cookie, readdir_from}
 use Rattle.nfs_model.specs.Serial.Readdirplus.{readdirplus_from}
 use Rattle.nfs_model.specs.volume.Directories.{DirectoryValue, fileid_found}
-use Rattle.nfs_model.specs.volume.Inodes.{InodeKind, RegularFile, Folder, Inode}
+use Rattle.nfs_model.specs.volume.Inodes.{InodeKind, RegularFile, DirectoryKind, Inode}
 use Rattle.nfs_model.specs.volume.Logical.{LogicalValue}
 use Rattle.filer_state.specs.state.Tree.{file_touch, directory_or_empty}
 use Rattle.filer_state.specs.state.Names.{parent_in}
@@ -29,9 +29,9 @@ on_parent (Some parent) answer = answer parent
 
 -- What is asked of a directory is told by its inode and its parent; STALE, or NOTDIR for a file. A failure has one absent part,
 -- the directory's attributes.
-abbrev pub on_folder : Option Inode → (Inode → ℕ → Answer) → Answer
-on_folder None answer = Failed Stale 1
-on_folder (Some inode) answer = on_parent (parent_in inode.kind) (answer inode)
+abbrev pub on_directory_inode : Option Inode → (Inode → ℕ → Answer) → Answer
+on_directory_inode None answer = Failed Stale 1
+on_directory_inode (Some inode) answer = on_parent (parent_in inode.kind) (answer inode)
 
 -- the entries of a directory
 abbrev pub entries_of : LogicalValue → ℕ → DirectoryValue
@@ -60,25 +60,25 @@ unless_fault None answer = answer
 unless_fault (Some status) answer = Failed status 1
 
 abbrev pub lookup_answer : ℕ → ℕ → List ℕ → LogicalSet → Answer
-lookup_answer v fileid name s = on_folder (get s.own.inodes.inodes fileid) (λ inode parent.
+lookup_answer v fileid name s = on_directory_inode (get s.own.inodes.inodes fileid) (λ inode parent.
     unless_fault (name_fault name)
     (found_told v s (shown_inode v fileid inode None) (fileid_named fileid parent (entries_of s.own fileid) name)))
 
 -- ---- READDIR
 
 -- a directory as calls see it, by its inode, its parent and its entries
-abbrev pub folder_node : Inode → ℕ → DirectoryValue → DirectoryNode
-folder_node inode parent d = record { attributes = inode.attributes; parent = parent; next = d.next; list = d.list }
+abbrev pub directory_node : Inode → ℕ → DirectoryValue → DirectoryNode
+directory_node inode parent d = record { attributes = inode.attributes; parent = parent; next = d.next; list = d.list }
 
 -- a verifier is of our pages where it is zero
 abbrev pub is_bad_cookie : ℕ → List ℕ → Bool
 is_bad_cookie cookie verifier = not (cookie == 0) && not (same_name verifier (replicate 8 0))
 
 abbrev pub readdir_answer : ℕ → ℕ → ℕ → List ℕ → ℕ → LogicalSet → Answer
-readdir_answer v fileid cookie verifier count s = on_folder (get s.own.inodes.inodes fileid) (λ inode parent.
+readdir_answer v fileid cookie verifier count s = on_directory_inode (get s.own.inodes.inodes fileid) (λ inode parent.
     if is_bad_cookie cookie verifier then Failed BadCookie 1
     else answer_of 1 (readdir_from (min count most_bytes) (shown_inode v fileid inode None)
-    (above_cookie cookie (all_listed fileid (folder_node inode parent (entries_of s.own fileid))))))
+    (above_cookie cookie (all_listed fileid (directory_node inode parent (entries_of s.own fileid))))))
 
 -- ---- COMMIT
 
@@ -86,7 +86,7 @@ readdir_answer v fileid cookie verifier count s = on_folder (get s.own.inodes.in
 abbrev pub file_committed : Shown → List ℕ → InodeKind → Answer
 file_committed shown verifier (RegularFile size filled of_creation) =
     CommitDone (record { before = before_of shown; after = shown }) verifier
-file_committed shown verifier (Folder parent subdirectories) = Failed Invalid 2
+file_committed shown verifier (DirectoryKind parent subdirectories) = Failed Invalid 2
 
 abbrev pub inode_committed : ℕ → ℕ → LogicalSet → Option Inode → Answer
 inode_committed v fileid s None = Failed Stale 2
@@ -123,7 +123,7 @@ abbrev pub entry_told : ℕ → LogicalSet → Listed → ListedPlus
 entry_told v s e = record { entry = e; attributes = object_in v e.fileid s; handle = handle_bytes v e.fileid }
 
 abbrev pub readdirplus_answer : ℕ → ℕ → ℕ → List ℕ → ℕ → ℕ → LogicalSet → Answer
-readdirplus_answer v fileid cookie verifier names_count count s = on_folder (get s.own.inodes.inodes fileid) (λ inode parent.
+readdirplus_answer v fileid cookie verifier names_count count s = on_directory_inode (get s.own.inodes.inodes fileid) (λ inode parent.
     if is_bad_cookie cookie verifier then Failed BadCookie 1
     else answer_of 1 (readdirplus_from (min names_count most_bytes) (min count most_bytes) (entry_told v s) (shown_inode v fileid inode None)
-    (above_cookie cookie (all_listed fileid (folder_node inode parent (entries_of s.own fileid))))))
+    (above_cookie cookie (all_listed fileid (directory_node inode parent (entries_of s.own fileid))))))

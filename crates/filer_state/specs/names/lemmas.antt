@@ -1,6 +1,6 @@
 -- Lemmas alone, which no reader has to believe: laws of calls on names, for proofs above.
 pub mod Telling
-pub mod Folders
+pub mod DirectoryKinds
 pub mod Lookup
 pub mod Listing
 pub mod ListingPlus

@@ -4,11 +4,11 @@ use Rattle.std.specs.Prelude.{ℕ, ◌-◌, List, map}
 use Rattle.std.specs.FinMap.{insert, remove}
 use Rattle.nfs_model.specs.Types.{Moment}
 use Rattle.nfs_model.specs.volume.Directories.{DirectoryValue, removed}
-use Rattle.nfs_model.specs.volume.Inodes.{InodeKind, RegularFile, Folder, Inode, InodesValue, inode_dropped, inode_set}
+use Rattle.nfs_model.specs.volume.Inodes.{InodeKind, RegularFile, DirectoryKind, Inode, InodesValue, inode_dropped, inode_set}
 use Rattle.nfs_model.specs.volume.Stripes.{card_dropped}
 use Rattle.filer_state.specs.state.Names.{DirectoryMap}
 use Rattle.filer_state.specs.state.Lenses.{LogicalSet}
-use Rattle.filer_state.specs.nodes.Making.{folders_in}
+use Rattle.filer_state.specs.nodes.Making.{directories_in}
 
 -- a node to be dropped, which stands under a name of a directory
 pub record Dropping : Type 0 where
@@ -23,13 +23,13 @@ pub record Dropping : Type 0 where
 -- a directory with fewer subdirectories
 abbrev pub without_subdirectories : ℕ → InodeKind → InodeKind
 without_subdirectories fewer (RegularFile size filled verifier) = RegularFile size filled verifier
-without_subdirectories fewer (Folder parent subdirectories) = Folder parent (subdirectories - fewer)
+without_subdirectories fewer (DirectoryKind parent subdirectories) = DirectoryKind parent (subdirectories - fewer)
 
 -- the inode of the directory after it: both times are the moment's
 abbrev pub directory_left : Dropping → Inode
 directory_left m = record {
   attributes = record m.inode.attributes { mtime = m.moment; ctime = m.moment };
-  kind = without_subdirectories (folders_in m.dropped.kind) m.inode.kind;
+  kind = without_subdirectories (directories_in m.dropped.kind) m.inode.kind;
 }
 
 -- the inodes after it
@@ -39,7 +39,7 @@ inodes_left m v = inode_set m.directory (directory_left m) (inode_dropped m.file
 -- a directory's entries go with it
 abbrev pub directories_left : InodeKind → ℕ → DirectoryMap → DirectoryMap
 directories_left (RegularFile size filled verifier) fileid directories = directories
-directories_left (Folder parent subdirectories) fileid directories = remove directories fileid
+directories_left (DirectoryKind parent subdirectories) fileid directories = remove directories fileid
 
 -- the directories after it
 abbrev pub entries_left : Dropping → DirectoryMap → DirectoryMap

@@ -12,7 +12,7 @@ use Rattle.nfs_model.specs.Names.{with_name, dropped_name}
 use Rattle.nfs_model.specs.Parts.{Hand}
 use Rattle.depot_rule.specs.Sums.{total}
 use Rattle.nfs_model.specs.volume.Directories.{DirectoryValue, found}
-use Rattle.nfs_model.specs.volume.Inodes.{InodeKind, RegularFile, Folder, Inode, InodesValue, inode_of}
+use Rattle.nfs_model.specs.volume.Inodes.{InodeKind, RegularFile, DirectoryKind, Inode, InodesValue, inode_of}
 use Rattle.filer_state.specs.state.Contents.{VolumeContents}
 use Rattle.filer_state.specs.state.Tree.{file_bytes, file_filled, file_touch, node_of, volume_of}
 use Rattle.filer_state.specs.state.Names.{DirectoryMap, root, directory_above, parent_in}
@@ -41,7 +41,7 @@ seen_directory inode d parent = record { attributes = inode.attributes; parent =
 -- a new file has no block, and is no larger than the largest; a new directory has the other as its parent, and no subdirectory
 abbrev pub IsNewIn : ℕ → ℕ → InodeKind → Type 0
 IsNewIn directory largest (RegularFile size filled verifier) = (filled ≡ 0) × (size ≤ largest)
-IsNewIn directory largest (Folder parent subdirectories) = (parent ≡ directory) × (subdirectories ≡ 0)
+IsNewIn directory largest (DirectoryKind parent subdirectories) = (parent ≡ directory) × (subdirectories ≡ 0)
 
 -- what has to be so of a node to be made: the directory is there, the name isn't, and an inode is left
 pub record MayBeMade (m : Making) (p : VolumeContents) : Type 0 where
@@ -55,7 +55,7 @@ pub record MayBeMade (m : Making) (p : VolumeContents) : Type 0 where
 abbrev pub node_by_kind : Attributes → InodeKind → Node
 node_by_kind a (RegularFile size filled verifier) =
     File (record { attributes = a; bytes = replicate size 0; filled = sets.empty; touch = None; verifier = verifier })
-node_by_kind a (Folder parent subdirectories) = Directory (record { attributes = a; parent = parent; next = 3; list = [] })
+node_by_kind a (DirectoryKind parent subdirectories) = Directory (record { attributes = a; parent = parent; next = 3; list = [] })
 
 abbrev pub new_node : Inode → Node
 new_node inode = node_by_kind inode.attributes inode.kind
@@ -76,7 +76,7 @@ NodesAreMade = (p : VolumeContents) (m : Making) (hands hands' : List Hand) (mad
 -- a file of no bytes and no blocks, or a directory
 abbrev pub IsEmptyKind : InodeKind → Type 0
 IsEmptyKind (RegularFile size filled verifier) = (size ≡ 0) × (filled ≡ 0)
-IsEmptyKind (Folder parent subdirectories) = Unit {0}
+IsEmptyKind (DirectoryKind parent subdirectories) = Unit {0}
 
 -- what has to be so of a node to be dropped: it stands under the name, and has neither bytes nor entries
 pub record LosesName (m : Dropping) (old : InodesValue) (directories : DirectoryMap) : Type 0 where

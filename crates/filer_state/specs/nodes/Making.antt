@@ -3,8 +3,8 @@ use Rattle.std.specs.Prelude.{ℕ, ◌+◌, List, map}
 use Rattle.std.specs.FinMap.{insert}
 use Rattle.nfs_model.specs.Types.{Moment}
 use Rattle.nfs_model.specs.volume.Directories.{DirectoryValue, empty_directory, added}
-use Rattle.nfs_model.specs.volume.Inodes.{InodeKind, RegularFile, Folder, Inode, InodesValue, inode_created, inode_set}
-use Rattle.nfs_model.specs.volume.Stripes.{StripeValue, file_card_set, folder_card_set}
+use Rattle.nfs_model.specs.volume.Inodes.{InodeKind, RegularFile, DirectoryKind, Inode, InodesValue, inode_created, inode_set}
+use Rattle.nfs_model.specs.volume.Stripes.{StripeValue, file_card_set, directory_card_set}
 use Rattle.filer_state.specs.state.Names.{DirectoryMap}
 use Rattle.filer_state.specs.state.Lenses.{LogicalSet}
 
@@ -18,20 +18,20 @@ pub record Making : Type 0 where
   pub moment : Moment
 
 -- how many directories a node is
-abbrev pub folders_in : InodeKind → ℕ
-folders_in (RegularFile size filled verifier) = 0
-folders_in (Folder parent subdirectories) = 1
+abbrev pub directories_in : InodeKind → ℕ
+directories_in (RegularFile size filled verifier) = 0
+directories_in (DirectoryKind parent subdirectories) = 1
 
 -- a directory with more subdirectories
 abbrev pub with_subdirectories : ℕ → InodeKind → InodeKind
 with_subdirectories more (RegularFile size filled verifier) = RegularFile size filled verifier
-with_subdirectories more (Folder parent subdirectories) = Folder parent (subdirectories + more)
+with_subdirectories more (DirectoryKind parent subdirectories) = DirectoryKind parent (subdirectories + more)
 
 -- the inode of the directory after it: both times are the moment's
 abbrev pub directory_inode : Making → Inode
 directory_inode m = record {
   attributes = record m.inode.attributes { mtime = m.moment; ctime = m.moment };
-  kind = with_subdirectories (folders_in m.made.kind) m.inode.kind;
+  kind = with_subdirectories (directories_in m.made.kind) m.inode.kind;
 }
 
 -- the inodes after it
@@ -41,7 +41,7 @@ inodes_made m v = inode_set m.directory (directory_inode m) (inode_created m.mad
 -- a new directory has no entries
 abbrev pub directories_made : InodeKind → ℕ → DirectoryMap → DirectoryMap
 directories_made (RegularFile size filled verifier) fileid directories = directories
-directories_made (Folder parent subdirectories) fileid directories = insert directories fileid empty_directory
+directories_made (DirectoryKind parent subdirectories) fileid directories = insert directories fileid empty_directory
 
 -- the directories after it, where the new node has this fileid
 abbrev pub entries_made : Making → ℕ → DirectoryMap → DirectoryMap
@@ -51,7 +51,7 @@ entries_made m fileid directories =
 -- the card of a new node, in each stripe
 abbrev pub card_made : InodeKind → ℕ → StripeValue → StripeValue
 card_made (RegularFile size filled verifier) fileid s = file_card_set fileid size s
-card_made (Folder parent subdirectories) fileid s = folder_card_set fileid s
+card_made (DirectoryKind parent subdirectories) fileid s = directory_card_set fileid s
 
 -- what is under Logical after it: one more inode, under the next fileid, with its cards, and one more entry
 abbrev pub node_made : Making → LogicalSet → LogicalSet

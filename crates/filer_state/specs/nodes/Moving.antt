@@ -4,11 +4,11 @@ use Rattle.std.specs.Prelude.{ℕ, Option}
 use Rattle.std.specs.FinMap.{insert}
 use Rattle.nfs_model.specs.Types.{Moment}
 use Rattle.nfs_model.specs.volume.Directories.{DirectoryValue, added, removed}
-use Rattle.nfs_model.specs.volume.Inodes.{InodeKind, RegularFile, Folder, Inode, InodesValue, inode_set}
+use Rattle.nfs_model.specs.volume.Inodes.{InodeKind, RegularFile, DirectoryKind, Inode, InodesValue, inode_set}
 use Rattle.filer_state.specs.state.Names.{DirectoryMap}
 use Rattle.filer_state.specs.state.Lenses.{LogicalSet}
 use Rattle.filer_state.specs.state.Changes.{attributes_now, touches_taken}
-use Rattle.filer_state.specs.nodes.Making.{folders_in, with_subdirectories}
+use Rattle.filer_state.specs.nodes.Making.{directories_in, with_subdirectories}
 use Rattle.filer_state.specs.nodes.Dropping.{without_subdirectories}
 use Rattle.std.specs.Prelude.{List}
 
@@ -30,7 +30,7 @@ dated_inode moment kind inode = record { attributes = record inode.attributes { 
 
 abbrev pub inodes_untied : Naming → InodesValue → InodesValue
 inodes_untied m v =
-    inode_set m.directory (dated_inode m.moment (without_subdirectories (folders_in m.node.kind) m.inode.kind) m.inode) v
+    inode_set m.directory (dated_inode m.moment (without_subdirectories (directories_in m.node.kind) m.inode.kind) m.inode) v
 
 abbrev pub entries_untied : Naming → DirectoryMap → DirectoryMap
 entries_untied m directories = insert directories m.directory (removed m.name m.entries)
@@ -46,7 +46,7 @@ entry_taken m set = record set {
 -- a directory has another parent
 abbrev pub with_parent : ℕ → InodeKind → InodeKind
 with_parent parent (RegularFile size filled verifier) = RegularFile size filled verifier
-with_parent parent (Folder old subdirectories) = Folder parent subdirectories
+with_parent parent (DirectoryKind old subdirectories) = DirectoryKind parent subdirectories
 
 -- the node after it, where this was its file's latest touch: it settles, and its ctime is the moment
 abbrev pub node_hung : Naming → Option Moment → Inode
@@ -57,7 +57,7 @@ node_hung m touch = record {
 
 abbrev pub inodes_hung : Naming → Option Moment → InodesValue → InodesValue
 inodes_hung m touch v = inode_set m.fileid (node_hung m touch)
-    (inode_set m.directory (dated_inode m.moment (with_subdirectories (folders_in m.node.kind) m.inode.kind) m.inode) v)
+    (inode_set m.directory (dated_inode m.moment (with_subdirectories (directories_in m.node.kind) m.inode.kind) m.inode) v)
 
 abbrev pub entries_hung : Naming → DirectoryMap → DirectoryMap
 entries_hung m directories = insert directories m.directory (added m.name m.fileid m.entries)

@@ -2,7 +2,7 @@
 use Rattle.std.specs.Prelude.{ℕ, ◌-◌, List, [], ◌∷◌, ◌++◌, map, length}
 use Rattle.std.specs.FinSet.{union, from_list}
 use Rattle.nfs_model.specs.Server.{Attributes}
-use Rattle.nfs_model.specs.volume.Inodes.{InodeKind, RegularFile, Folder, Inode, inode_set}
+use Rattle.nfs_model.specs.volume.Inodes.{InodeKind, RegularFile, DirectoryKind, Inode, inode_set}
 use Rattle.nfs_model.specs.volume.Stripes.{StripeValue, touch_taken, file_card_set, cut, numbers_freed}
 use Rattle.filer_state.specs.state.Lenses.{LogicalSet}
 
@@ -25,7 +25,7 @@ all_freed fileid size (s ∷ stripes) = numbers_freed fileid size s ++ all_freed
 -- a file of a size, with so many blocks less
 abbrev pub kind_sized : ℕ → ℕ → InodeKind → InodeKind
 kind_sized size fewer (RegularFile old filled verifier) = RegularFile size (filled - fewer) verifier
-kind_sized size fewer (Folder parent subdirectories) = Folder parent subdirectories
+kind_sized size fewer (DirectoryKind parent subdirectories) = DirectoryKind parent subdirectories
 
 -- the inode after it
 abbrev pub inode_sized : Sizing → ℕ → Inode

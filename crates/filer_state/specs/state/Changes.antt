@@ -1,7 +1,7 @@
 -- What calls show and change of what is under Logical, beyond the words of each value (RFC 1813 section 2.6).
 use Rattle.std.specs.Prelude.{ℕ, ◌+◌, ◌*◌, List, map, Option, Some, None, if◌then◌else◌}
 use Rattle.std.specs.FinMap.{get}
-use Rattle.nfs_model.specs.Types.{Moment, SetAttributes, Status, Shown, Regular, Folder, Answer, GetattrDone}
+use Rattle.nfs_model.specs.Types.{Moment, SetAttributes, Status, Shown, Regular, DirectoryKind, Answer, GetattrDone}
 use Rattle.nfs_model.specs.Types.{SetattrDone, Failed, Stale, NotSynchronous, Invalid}
 use Rattle.nfs_model.specs.Server.{Attributes, block_size}
 use Rattle.nfs_model.specs.Shown.{effective_attributes, before_of, directory_size}
@@ -28,8 +28,8 @@ shown_kind volume fileid a (RegularFile size filled verifier) touch = record {
   mtime = (effective_attributes touch a).mtime;
   ctime = (effective_attributes touch a).ctime;
 }
-shown_kind volume fileid a (inodes.Folder parent subdirectories) touch = record {
-  kind = Folder;
+shown_kind volume fileid a (inodes.DirectoryKind parent subdirectories) touch = record {
+  kind = DirectoryKind;
   mode = a.mode;
   links = 2 + subdirectories;
   uid = a.uid;
@@ -53,7 +53,7 @@ touches_taken fileid stripes = map (touch_taken fileid) stripes
 -- the attributes as they hold: a directory has no touch
 abbrev pub attributes_now : Option Moment → Attributes → InodeKind → Attributes
 attributes_now touch a (RegularFile size filled verifier) = effective_attributes touch a
-attributes_now touch a (inodes.Folder parent subdirectories) = a
+attributes_now touch a (inodes.DirectoryKind parent subdirectories) = a
 
 -- a node settles and has an inode set
 abbrev pub node_set : ℕ → Inode → LogicalSet → LogicalSet

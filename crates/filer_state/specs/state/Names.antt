@@ -8,7 +8,7 @@ use Rattle.nfs_model.specs.Server.{most_inodes}
 use Rattle.nfs_model.specs.Parts.{one_if, count}
 use Rattle.depot_rule.specs.Sums.{total}
 use Rattle.nfs_model.specs.volume.Directories.{DirectoryValue, IsDirectory}
-use Rattle.nfs_model.specs.volume.Inodes.{InodeKind, RegularFile, Folder, Inode, IsInodes}
+use Rattle.nfs_model.specs.volume.Inodes.{InodeKind, RegularFile, DirectoryKind, Inode, IsInodes}
 use Rattle.nfs_model.specs.volume.Logical.{LogicalValue}
 
 -- the fileid of the root
@@ -27,15 +27,15 @@ DirectoryMap = FinMap nat_cmp DirectoryValue
 -- the size of a file; a directory has none
 abbrev pub size_in : InodeKind → Option ℕ
 size_in (RegularFile size filled verifier) = Some size
-size_in (Folder parent subdirectories) = None
+size_in (DirectoryKind parent subdirectories) = None
 
 abbrev pub parent_in : InodeKind → Option ℕ
 parent_in (RegularFile size filled verifier) = None
-parent_in (Folder parent subdirectories) = Some parent
+parent_in (DirectoryKind parent subdirectories) = Some parent
 
 abbrev pub subdirectories_in : InodeKind → Option ℕ
 subdirectories_in (RegularFile size filled verifier) = None
-subdirectories_in (Folder parent subdirectories) = Some subdirectories
+subdirectories_in (DirectoryKind parent subdirectories) = Some subdirectories
 
 -- the size of a file that is there
 abbrev pub size_of : Option Inode → Option ℕ
@@ -53,8 +53,8 @@ subdirectories_of None = None
 subdirectories_of (Some inode) = subdirectories_in inode.kind
 
 -- whether a directory is there
-abbrev pub is_folder : Option Inode → Bool
-is_folder inode = is_some (parent_directory inode)
+abbrev pub is_directory : Option Inode → Bool
+is_directory inode = is_some (parent_directory inode)
 
 -- ---- names
 
@@ -71,15 +71,15 @@ abbrev pub is_named : InodeMap → ℕ → Bool
 is_named inodes fileid = is_some (get inodes fileid) && not (fileid == root)
 
 -- how many of a directory's entries are directories
-abbrev pub folders_listed : InodeMap → List Listed → ℕ
-folders_listed inodes list = count (λ (e : Listed). is_folder (get inodes e.fileid)) list
+abbrev pub directories_listed : InodeMap → List Listed → ℕ
+directories_listed inodes list = count (λ (e : Listed). is_directory (get inodes e.fileid)) list
 
 -- Of a directory: cookies rise from 3 on and are below the next one, and names differ; a directory that is named in it has
 -- it as its parent; its inode counts its subdirectories, which are links to it.
 pub record DirectoryFits (inodes : InodeMap) (fileid : ℕ) (d : DirectoryValue) : Type 0 where
   pub list : IsDirectory d
   pub children : AllByRecursion (λ (e : Listed). IfSome (parent_directory (get inodes e.fileid)) (λ parent. parent ≡ fileid)) d.list
-  pub links : subdirectories_of (get inodes fileid) ≡ Some (folders_listed inodes d.list)
+  pub links : subdirectories_of (get inodes fileid) ≡ Some (directories_listed inodes d.list)
 
 -- ---- the way to the root
 
@@ -103,12 +103,12 @@ pub record AreNamed (inodes : InodeMap) (directories : DirectoryMap) : Type 0 wh
   -- the root is a directory, and its own parent
   pub root_there : parent_directory (get inodes root) ≡ Some root
   -- just the directories have entries
-  pub folders : (fileid : ℕ) → is_some (get directories fileid) ≡ is_folder (get inodes fileid)
+  pub as_directories : (fileid : ℕ) → is_some (get directories fileid) ≡ is_directory (get inodes fileid)
   pub fits : (fileid : ℕ) (d : DirectoryValue) → get directories fileid ≡ Some d → DirectoryFits inodes fileid d
   -- every inode but the root stands in exactly one entry, and every entry names an inode but the root
   pub once : (fileid : ℕ) → times_named fileid directories ≡ one_if (is_named inodes fileid)
   -- following parents from any directory reaches the root
-  pub rooted : (fileid : ℕ) → is_folder (get inodes fileid) ≡ true → ReachesRoot inodes fileid
+  pub rooted : (fileid : ℕ) → is_directory (get inodes fileid) ≡ true → ReachesRoot inodes fileid
 
 -- Of what Volume Logical has: at most 65,536 inodes, the root with them, with fileids below the next one, and files of at
 -- most the largest size; and names.

@@ -11,7 +11,7 @@ use Rattle.parcels.specs.declared.family.Parcel.TheVariants.{Range, Vbn, Stripe,
 use Rattle.nfs_model.specs.volume.Directories.{empty_directory}
 use Rattle.nfs_model.specs.volume.Inodes.{opening_inodes}
 use Rattle.nfs_model.specs.volume.Logical.{LogicalValue}
-use Rattle.nfs_model.specs.volume.Stripes.{StripeValue, OfFolder, empty_stripe}
+use Rattle.nfs_model.specs.volume.Stripes.{StripeValue, OfDirectory, empty_stripe}
 use Rattle.nfs_model.specs.volume.Ranges.{RangeValue, unused_range, put_in_use}
 use Rattle.filer_state.specs.state.Parcels.{FilerParcel}
 use Rattle.filer_state.specs.state.Contents.{at}
@@ -30,7 +30,7 @@ opening_logical verifier stripes largest = record {
 }
 
 abbrev pub opening_stripe : List ℕ → ℕ → ℕ → StripeValue
-opening_stripe verifier stripes largest = record (empty_stripe verifier stripes largest) { cards = from_sorted ((root, OfFolder) ∷ []) }
+opening_stripe verifier stripes largest = record (empty_stripe verifier stripes largest) { cards = from_sorted ((root, OfDirectory) ∷ []) }
 
 -- the r-th range, where so many are in use
 abbrev pub opening_range : ℕ → ℕ → RangeValue

@@ -6,7 +6,7 @@ use Rattle.std.specs.FinSet.{FinSet, contains, empty, union, from_list}
 use Rattle.nfs_model.specs.Parts.{Parts, Hand, hand_blocks, times_listed, one_if, range_blocks}
 use Rattle.nfs_model.specs.Moves.{Stored}
 use Rattle.depot_rule.specs.Sums.{total}
-use Rattle.nfs_model.specs.volume.Stripes.{Place, Block, StripeValue}
+use Rattle.nfs_model.specs.volume.Stripes.{FileBlock, Block, StripeValue}
 use Rattle.nfs_model.specs.volume.Ranges.{RangeValue}
 use Rattle.filer_state.specs.state.Contents.{VolumeContents, FilerContents}
 use Rattle.filer_state.specs.state.Tree.{ranges_used, volume_of}
@@ -15,7 +15,7 @@ use Rattle.filer_state.specs.state.Tree.{ranges_used, volume_of}
 
 -- the numbers of a stripe's blocks
 abbrev pub numbers_in : StripeValue → List ℕ
-numbers_in s = map (λ (e : Place × Block). e.1.number) (entries s.blocks)
+numbers_in s = map (λ (e : FileBlock × Block). e.1.number) (entries s.blocks)
 
 -- of the blocks of some stripes
 abbrev pub all_numbers : List StripeValue → List ℕ

@@ -12,7 +12,7 @@ use Rattle.nfs_model.specs.Shown.{touched}
 use Rattle.nfs_model.specs.Parts.{range_blocks}
 use Rattle.nfs_model.specs.volume.Maps.{map_values}
 use Rattle.nfs_model.specs.volume.Directories.{DirectoryValue, empty_directory}
-use Rattle.nfs_model.specs.volume.Inodes.{InodeKind, RegularFile, Folder, Inode}
+use Rattle.nfs_model.specs.volume.Inodes.{InodeKind, RegularFile, DirectoryKind, Inode}
 use Rattle.nfs_model.specs.volume.Stripes.{StripeValue, stripe_of, byte_at, is_filled, touch_of}
 use Rattle.nfs_model.specs.volume.Ranges.{RangeValue}
 use Rattle.filer_state.specs.state.Parcels.{FilerParcel, no_stripe}
@@ -71,7 +71,7 @@ node_by stripes directory fileid attributes (RegularFile size filled verifier) =
   touch = file_touch stripes fileid;
   verifier = verifier;
 })
-node_by stripes directory fileid attributes (Folder parent subdirectories) = Directory (record {
+node_by stripes directory fileid attributes (DirectoryKind parent subdirectories) = Directory (record {
   attributes = attributes;
   parent = parent;
   next = (directory_or_empty directory).next;

@@ -7,7 +7,7 @@ use Rattle.nfs_model.specs.Server.{block_size}
 use Rattle.nfs_model.specs.Parts.{most_ranges}
 use Rattle.depot_rule.specs.Sums.{total}
 use Rattle.nfs_model.specs.volume.Inodes.{Inode, filled_blocks}
-use Rattle.nfs_model.specs.volume.Stripes.{Card, OfFile, OfFolder, Block, StripeValue, IsStripe, stripe_of, byte_of}
+use Rattle.nfs_model.specs.volume.Stripes.{Card, OfFile, OfDirectory, Block, StripeValue, IsStripe, stripe_of, byte_of}
 use Rattle.nfs_model.specs.volume.Ranges.{RangeValue, IsRange}
 use Rattle.nfs_model.specs.volume.Logical.{LogicalValue}
 use Rattle.filer_state.specs.state.Parcels.{no_range}
@@ -20,7 +20,7 @@ use Rattle.filer_state.specs.state.Names.{size_in, size_of, IsLogical}
 -- the size that a card shows of a file; of a directory none
 abbrev pub size_shown : Card → Option ℕ
 size_shown (OfFile size touch) = Some size
-size_shown OfFolder = None
+size_shown OfDirectory = None
 
 -- A block of a file of this size lies in the stripe of its span, starts before the size, and has zeros past it.
 pub record BlockFits (stripes i fileid block size : ℕ) (b : Block) : Type 0 where

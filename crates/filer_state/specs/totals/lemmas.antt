@@ -4,5 +4,5 @@ pub mod Ranges
 pub mod Sets
 pub mod Grown
 pub mod Grows
-pub mod Space
+pub mod FilesystemStatus
 pub mod Census

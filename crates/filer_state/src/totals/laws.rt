@@ -1,7 +1,7 @@
 //! What follows from the definitions. The functions do nothing: their contracts are theorems.
 
 ghost use Rattle.filer_state.specs.totals.Laws.{GrowIsRight};
-ghost use Rattle.filer_state.specs.totals.SpaceLaws.{FsstatIsRight};
+ghost use Rattle.filer_state.specs.totals.FilesystemStatusLaws.{FsstatIsRight};
 ghost use Rattle.filer_state.specs.totals.CensusLaws.{CensusIsRight, CensusMayStarve};
 
 /// Whatever the rest of what is stored is, GROW as it is told by what is under the volume's
@@ -13,7 +13,7 @@ pub fn growing_calls_are_right()
 
 /// On every sound volume with the parcels that are held, FSSTAT as it is told by what is under
 /// Volume is the serial server's, changes nothing, and all stays sound.
-pub fn space_is_right()
+pub fn filesystem_status_is_right()
     ensures in_volume { FsstatIsRight }
 {}
 

@@ -1,6 +1,6 @@
 -- A call from its bytes to its reply: fed, begun, worked, finished (our profile).
 use Rattle.std.proofs.Common.{◌≡◌, ℕ, zero, suc, ◌<◌, take, arith, false, [], ◌∷◌, replicate, Some, None, Ok, refl, inl, inr}
-use Rattle.nfs_model.specs.Types.{Moment, Shown, Folder, GetattrDone, Null, Success, Ask}
+use Rattle.nfs_model.specs.Types.{Moment, Shown, DirectoryKind, GetattrDone, Null, Success, Ask}
 use Rattle.nfs_model.specs.Tree.{Layout, Logical, Volume}
 use Rattle.nfs_model.specs.Server.{opening, opening_volume, start_of_times}
 use Rattle.nfs_model.specs.Moves.{Stored}
@@ -149,7 +149,7 @@ crowded_engine_takes_no_last_byte = (
 
 abbrev root_shown : Shown
 root_shown =
-    record { kind = Folder; mode = 493; links = 2; uid = 0; gid = 0; size = 4096; used = 0; fsid = 0; fileid = 1; atime = at 0; mtime = at 0; ctime = at 0 }
+    record { kind = DirectoryKind; mode = 493; links = 2; uid = 0; gid = 0; size = 4096; used = 0; fsid = 0; fileid = 1; atime = at 0; mtime = at 0; ctime = at 0 }
 
 abbrev worked : World
 worked =

@@ -4,7 +4,7 @@ use Rattle.std.specs.Ordering.{nat_cmp}
 use Rattle.std.specs.FinMap.{from_sorted}
 use Rattle.std.specs.FinSet.{FinSet}
 use Rattle.std.specs.FinSet as sets
-use Rattle.nfs_model.specs.Types.{Moment, Credential, Call, Create, Mkdir, Write, Unchecked, Reply, Success, Failed, Status, Shown, Regular, Folder, Before}
+use Rattle.nfs_model.specs.Types.{Moment, Credential, Call, Create, Mkdir, Write, Unchecked, Reply, Success, Failed, Status, Shown, Regular, DirectoryKind, Before}
 use Rattle.nfs_model.specs.Types.{Wcc, Listed, SetAttributes}
 use Rattle.nfs_model.specs.Tree.{Layout, VolumeLayout}
 use Rattle.nfs_model.specs.Server.{Attributes, Node, File, Directory, VolumeState, Server, opening, opening_volume, handle_bytes}
@@ -154,7 +154,7 @@ tight first second = small 2 16777216 4 ((1, root_with 5 (entry 3 a 2 ∷ (entry
 abbrev pub root_shown : ℕ → ℕ → Shown
 root_shown links seconds =
     record {
-      kind = Folder;
+      kind = DirectoryKind;
       mode = 493;
       links = links;
       uid = 0;
@@ -173,7 +173,7 @@ root_shown links seconds =
 abbrev pub directory_shown : ℕ → ℕ → ℕ → Shown
 directory_shown fileid links seconds =
     record {
-      kind = Folder;
+      kind = DirectoryKind;
       mode = 493;
       links = links;
       uid = 65534;

@@ -3,7 +3,7 @@
 -- nothing: no other call asks for these rights (our profile).
 use Rattle.std.specs.Prelude.{ℕ, ◌+◌, ◌/◌, ◌%◌, ◌==◌, Bool, true, ◌&&◌, ◌||◌, if◌then◌else◌}
 use Rattle.std.specs.List.{list_any}
-use Rattle.nfs_model.specs.Types.{Credential, Kind, Regular, Folder, Shown, AccessDone}
+use Rattle.nfs_model.specs.Types.{Credential, Kind, Regular, DirectoryKind, Shown, AccessDone}
 use Rattle.nfs_model.specs.Server.{VolumeState}
 use Rattle.nfs_model.specs.Locate.{Effect}
 use Rattle.nfs_model.specs.Serial.Getattr.{tell_of}
@@ -37,7 +37,7 @@ digit_for who object =
 -- whether uid 0 may execute an object: a file where somebody may, and every directory
 abbrev pub is_executable : Kind → ℕ → Bool
 is_executable Regular mode = has_bit mode 64 || has_bit mode 8 || has_bit mode 1
-is_executable Folder mode = true
+is_executable DirectoryKind mode = true
 
 -- uid 0 may do all but execute what nobody may
 abbrev pub rights_of : Credential → Shown → Rights
@@ -58,7 +58,7 @@ abbrev pub bits_given : ℕ → Kind → Rights → ℕ
 bits_given asked Regular r =
     bit_given asked 1 r.reads + bit_given asked 4 r.writes + bit_given asked 8 r.writes
     + bit_given asked 32 r.executes
-bits_given asked Folder r =
+bits_given asked DirectoryKind r =
     bit_given asked 1 r.reads + bit_given asked 2 r.executes + bit_given asked 4 r.writes
     + bit_given asked 8 r.writes + bit_given asked 16 r.writes
 

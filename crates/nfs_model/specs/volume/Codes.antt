@@ -11,8 +11,8 @@ use Rattle.std.specs.Prelude.{Bool}
 use Rattle.nfs_model.specs.Types.{Moment, Listed}
 use Rattle.nfs_model.specs.Server.{Attributes}
 use Rattle.nfs_model.specs.volume.Directories.{DirectoryValue}
-use Rattle.nfs_model.specs.volume.Inodes.{InodeKind, RegularFile, Folder, Inode, InodesValue}
-use Rattle.nfs_model.specs.volume.Stripes.{Card, OfFile, OfFolder, Block, place_cmp, StripeValue}
+use Rattle.nfs_model.specs.volume.Inodes.{InodeKind, RegularFile, DirectoryKind, Inode, InodesValue}
+use Rattle.nfs_model.specs.volume.Stripes.{Card, OfFile, OfDirectory, Block, file_block_cmp, StripeValue}
 use Rattle.nfs_model.specs.volume.Ranges.{RangeValue}
 use Rattle.nfs_model.specs.volume.Logical.{LogicalValue}
 
@@ -39,23 +39,23 @@ coded_attributes =
     (λ a. ((a.mode, (a.uid, a.gid)), (a.atime, (a.mtime, a.ctime))))
     (λ p. record { mode = p.0.0; uid = p.0.1.0; gid = p.0.1.1; atime = p.1.0; mtime = p.1.1.0; ctime = p.1.1.1 }) (λ _. refl)
 
-abbrev pub FileOrFolder : Type 0
-FileOrFolder = (ℕ × (ℕ × Option (List ℕ))) ⊎ (ℕ × ℕ)
+abbrev pub FileOrDirectory : Type 0
+FileOrDirectory = (ℕ × (ℕ × Option (List ℕ))) ⊎ (ℕ × ℕ)
 
-abbrev pub kind_out : InodeKind → FileOrFolder
+abbrev pub kind_out : InodeKind → FileOrDirectory
 kind_out (RegularFile size filled verifier) = inl (size, (filled, verifier))
-kind_out (Folder parent subdirectories) = inr (parent, subdirectories)
+kind_out (DirectoryKind parent subdirectories) = inr (parent, subdirectories)
 
-abbrev pub kind_back : FileOrFolder → InodeKind
+abbrev pub kind_back : FileOrDirectory → InodeKind
 kind_back (inl p) = RegularFile p.0 p.1.0 p.1.1
-kind_back (inr p) = Folder p.0 p.1
+kind_back (inr p) = DirectoryKind p.0 p.1
 
 pub kind_again : (k : InodeKind) → kind_back (kind_out k) ≡ k
 kind_again (RegularFile size filled verifier) = refl
-kind_again (Folder parent subdirectories) = refl
+kind_again (DirectoryKind parent subdirectories) = refl
 
 abbrev pub coded_kind : Coded InodeKind
-coded_kind = code_by FileOrFolder (coded⊎ (coded× coded_ℕ (coded× coded_ℕ (coded_option (coded_list coded_ℕ))))
+coded_kind = code_by FileOrDirectory (coded⊎ (coded× coded_ℕ (coded× coded_ℕ (coded_option (coded_list coded_ℕ))))
     (coded× coded_ℕ coded_ℕ)) kind_out kind_back kind_again
 
 abbrev pub coded_inode : Coded Inode
@@ -71,15 +71,15 @@ coded_inodes =
 
 abbrev pub card_out : Card → Option (ℕ × Option Moment)
 card_out (OfFile size touch) = Some (size, touch)
-card_out OfFolder = None
+card_out OfDirectory = None
 
 abbrev pub card_back : Option (ℕ × Option Moment) → Card
-card_back None = OfFolder
+card_back None = OfDirectory
 card_back (Some p) = OfFile p.0 p.1
 
 pub card_again : (c : Card) → card_back (card_out c) ≡ c
 card_again (OfFile size touch) = refl
-card_again OfFolder = refl
+card_again OfDirectory = refl
 
 abbrev pub coded_card : Coded Card
 coded_card = code_by (Option (ℕ × Option Moment)) (coded_option (coded× coded_ℕ (coded_option coded_moment))) card_out card_back card_again
@@ -89,7 +89,7 @@ coded_block = code_by (ℕ × List ℕ) (coded× coded_ℕ (coded_list coded_ℕ
 
 abbrev pub coded_stripe : Coded StripeValue
 coded_stripe =
-    code_by ((List ℕ × (ℕ × ℕ)) × (FinMap nat_cmp Card × FinMap place_cmp Block))
+    code_by ((List ℕ × (ℕ × ℕ)) × (FinMap nat_cmp Card × FinMap file_block_cmp Block))
     (coded× (coded× (coded_list coded_ℕ) (coded× coded_ℕ coded_ℕ)) (coded× (maps.code coded_ℕ coded_card) (maps.code (coded× coded_ℕ coded_ℕ) coded_block)))
     (λ s. ((s.verifier, (s.stripes, s.largest)), (s.cards, s.blocks)))
     (λ p. record { verifier = p.0.0; stripes = p.0.1.0; largest = p.0.1.1; cards = p.1.0; blocks = p.1.1 }) (λ _. refl)

@@ -12,7 +12,7 @@ pub data InodeKind : Type 0 where
   -- a regular file: its size in bytes, how many of its blocks are filled, the verifier of its exclusive creation
   RegularFile : (size filled : ℕ) (verifier : Option (List ℕ)) → InodeKind
   -- a directory: its parent's fileid, and how many of its entries are directories
-  Folder : (parent subdirectories : ℕ) → InodeKind
+  DirectoryKind : (parent subdirectories : ℕ) → InodeKind
 
 pub record Inode : Type 0 where
   pub attributes : Attributes
@@ -27,7 +27,7 @@ pub record InodesValue : Type 0 where
 
 -- the root of a volume, its own parent, with the attributes that it begins with
 abbrev pub root_inode : Inode
-root_inode = record { attributes = times root_node; kind = Folder 1 0 }
+root_inode = record { attributes = times root_node; kind = DirectoryKind 1 0 }
 
 -- a volume's inodes as it begins: its root alone
 abbrev pub opening_inodes : InodesValue
@@ -41,7 +41,7 @@ inode_of v fileid = get v.inodes fileid
 -- the filled blocks of an inode; a directory has none
 abbrev pub filled_blocks : InodeKind → ℕ
 filled_blocks (RegularFile size filled verifier) = filled
-filled_blocks (Folder parent subdirectories) = 0
+filled_blocks (DirectoryKind parent subdirectories) = 0
 
 -- the attributes as they hold, where a file was touched at a moment since its times were last set
 abbrev pub attributes_held : Option Moment → Inode → Attributes

@@ -19,7 +19,7 @@ use Rattle.nfs_model.specs.volume.Maps.{map_values, changed_at}
 -- the card of an inode: a file's size in bytes, and the latest write to this stripe since its times were last set
 pub data Card : Type 0 where
   OfFile : (size : ℕ) (touch : Option Moment) → Card
-  OfFolder : Card
+  OfDirectory : Card
 
 -- a block of a file: its number in the volume, and its 4,096 bytes
 pub record Block : Type 0 where
@@ -27,19 +27,19 @@ pub record Block : Type 0 where
   pub bytes : List ℕ
 
 -- a place in a volume's files: a fileid, and a block of that file
-abbrev pub Place : Type 0
-Place = ℕ × ℕ
+abbrev pub FileBlock : Type 0
+FileBlock = ℕ × ℕ
 
 -- by files, and then by blocks
-abbrev pub place_cmp : Place → Place → Ordering
-place_cmp a b = ordering_then (nat_cmp a.0 b.0) (nat_cmp a.1 b.1)
+abbrev pub file_block_cmp : FileBlock → FileBlock → Ordering
+file_block_cmp a b = ordering_then (nat_cmp a.0 b.0) (nat_cmp a.1 b.1)
 
 pub record StripeValue : Type 0 where
   pub verifier : List ℕ  -- of writes, fixed for the run
   pub stripes : ℕ  -- of the volume
   pub largest : ℕ  -- size of a file of the volume
   pub cards : FinMap nat_cmp Card  -- by fileid
-  pub blocks : FinMap place_cmp Block
+  pub blocks : FinMap file_block_cmp Block
 
 -- ---- bytes
 
@@ -69,7 +69,7 @@ bytes_read s fileid offset n = map (byte_at s fileid) (range_with_len offset n)
 -- whether a card is of a file that reaches to an end
 abbrev pub reaches : ℕ → Option Card → Bool
 reaches end None = false
-reaches end (Some OfFolder) = false
+reaches end (Some OfDirectory) = false
 reaches end (Some (OfFile size touch)) = nat_le end size
 
 -- whether a block of a file is there
@@ -84,7 +84,7 @@ stays_within fileid offset n s =
 -- the touch on a card
 abbrev pub touch_of : Option Card → Option Moment
 touch_of (Some (OfFile size touch)) = touch
-touch_of (Some OfFolder) = None
+touch_of (Some OfDirectory) = None
 touch_of None = None
 
 -- ---- what changes its cards
@@ -92,12 +92,12 @@ touch_of None = None
 -- a file's card with a write at a moment
 abbrev pub card_touched : Moment → Card → Card
 card_touched moment (OfFile size touch) = OfFile size (Some (touched touch moment))
-card_touched moment OfFolder = OfFolder
+card_touched moment OfDirectory = OfDirectory
 
 -- a file's card whose touch was taken
 abbrev pub card_settled : Card → Card
 card_settled (OfFile size touch) = OfFile size None
-card_settled OfFolder = OfFolder
+card_settled OfDirectory = OfDirectory
 
 -- a touch taken, where there is one
 abbrev pub touch_taken : ℕ → StripeValue → StripeValue
@@ -108,8 +108,8 @@ abbrev pub file_card_set : ℕ → ℕ → StripeValue → StripeValue
 file_card_set fileid size s = record s { cards = insert s.cards fileid (OfFile size (touch_of (get s.cards fileid))) }
 
 -- a directory's card
-abbrev pub folder_card_set : ℕ → StripeValue → StripeValue
-folder_card_set fileid s = record s { cards = insert s.cards fileid OfFolder }
+abbrev pub directory_card_set : ℕ → StripeValue → StripeValue
+directory_card_set fileid s = record s { cards = insert s.cards fileid OfDirectory }
 
 -- a card gone
 abbrev pub card_dropped : ℕ → StripeValue → StripeValue
@@ -144,7 +144,7 @@ block_mapped change block b = record b {
 }
 
 -- all blocks of a file with such bytes
-abbrev pub file_mapped : (ℕ → ℕ → ℕ) → ℕ → Place → Block → Block
+abbrev pub file_mapped : (ℕ → ℕ → ℕ) → ℕ → FileBlock → Block → Block
 file_mapped change fileid place b = if place.0 == fileid then block_mapped change place.1 b else b
 
 -- bytes written at an offset, at a moment, into blocks that are there
@@ -159,7 +159,7 @@ abbrev pub byte_cut : ℕ → ℕ → ℕ → ℕ
 byte_cut size at old = if nat_lt at size then old else 0
 
 -- whether a place is of a file, and the block lies wholly past a size
-abbrev pub is_past : ℕ → ℕ → Place → Bool
+abbrev pub is_past : ℕ → ℕ → FileBlock → Bool
 is_past fileid size place = (place.0 == fileid) && nat_le size (block_size * place.1)
 
 -- a file's blocks cut to a size: those past it gone, and zeros in the rest of the last
@@ -171,13 +171,13 @@ cut fileid size s = record s {
 -- the numbers of the blocks that a cut frees
 abbrev pub numbers_freed : ℕ → ℕ → StripeValue → List ℕ
 numbers_freed fileid size s =
-    map (λ (e : Place × Block). e.1.number) (filter (λ (e : Place × Block). is_past fileid size e.0) (entries s.blocks))
+    map (λ (e : FileBlock × Block). e.1.number) (filter (λ (e : FileBlock × Block). is_past fileid size e.0) (entries s.blocks))
 
 -- ---- what holds of it
 
 -- A block has 4,096 bytes.
 pub record IsStripe (s : StripeValue) : Type 0 where
-  pub long : (place : Place) (b : Block) → get s.blocks place ≡ Some b → length b.bytes ≡ block_size
+  pub long : (place : FileBlock) (b : Block) → get s.blocks place ≡ Some b → length b.bytes ≡ block_size
 
 -- a stripe as it is made
 abbrev pub empty_stripe : List ℕ → ℕ → ℕ → StripeValue

@@ -8,7 +8,7 @@ use native.Mathlib.Decide.{ℕ_discrete}
 use Rattle.nfs_model.specs.Tree as trees
 use Rattle.nfs_model.specs.Tree.{Layout, Affinity, stripes_of, aggregate_of}
 use Rattle.affinity.specs.Numbers.{number_of, volume_number}
-use Rattle.affinity.specs.lemmas.Places.{volume_number_next}
+use Rattle.affinity.specs.lemmas.SlotArray.{volume_number_next}
 use Rattle.parcels.specs.declared.family.Parcel.TheVariants.{Range, Vbn, Stripe, Logical, Volume, Aggregate, Serial}
 use Rattle.parcels.specs.declared.sets.RangeHeld.{RangeHeld}
 use Rattle.parcels.specs.declared.sets.StripeHeld.{StripeHeld}
@@ -17,12 +17,12 @@ use Rattle.parcels.specs.declared.sets.LogicalHeld.{LogicalHeld}
 use Rattle.parcels.specs.declared.sets.VolumeHeld.{VolumeHeld}
 use Rattle.parcels.specs.declared.sets.AggrHeld.{AggrHeld}
 use Rattle.parcels.specs.declared.sets.SerialHeld.{SerialHeld}
-use Rattle.parcels.specs.Places.{alone, or_else, in_place, in_used_place, in_places}
+use Rattle.parcels.specs.Slots.{alone, or_else, in_slot, in_used_place, in_places}
 use Rattle.parcels.specs.Sets.{range_parcels, vbn_parcels, stripe_parcels, logical_parcels, volume_parcels, aggregate_parcels, serial_parcels}
 use Rattle.parcels.specs.lemmas.Below.{OnVolume}
-use Rattle.parcels.specs.lemmas.Nothing.{alone-none, place-none, used-none, in_places-none, vbn-none, logical-none, volume-none, aggregate-none}
+use Rattle.parcels.specs.lemmas.Nothing.{alone-none, slot-none, used-none, in_places-none, vbn-none, logical-none, volume-none, aggregate-none}
 
--- ---- one parcel, and one of several places
+-- ---- one parcel, and one of several slots
 
 alone-here : {T : Type 0} (n : ℕ) (x : T) → alone n x n ≡ Some x
 unfolding alone
@@ -38,26 +38,26 @@ or-left (Some x) others e = refl
 or-right : {T : Type 0} (o others : Option T) → o ≡ None → or_else o others ≡ others
 or-right o others e = ap (λ y. or_else y others) e
 
-module _ {H T : Type 0} (u : ℕ → Bool) (f : ℕ → H → Option T) (places : List (Option H)) where
-  -- where no other place has anything, there is what one place has
-  in-places-at : (n i : ℕ) → i < n → u i ≡ true → ((j : ℕ) → j < n → j ≢ i → u j ≡ true → (held : H) → f j held ≡ None)
-      → in_places u f places n ≡ in_place (f i) (slice_get places i)
+module _ {H T : Type 0} (u : ℕ → Bool) (f : ℕ → H → Option T) (slots : List (Option H)) where
+  -- where no other slot has anything, there is what one slot has
+  in-slots-at : (n i : ℕ) → i < n → u i ≡ true → ((j : ℕ) → j < n → j ≢ i → u j ≡ true → (held : H) → f j held ≡ None)
+      → in_places u f slots n ≡ in_slot (f i) (slice_get slots i)
   unfolding in_places
-  in-places-at zero i less used others = absurd (omega arith)
-  in-places-at (suc n) i less used others = dite (ℕ_discrete i n)
-      (λ e. or-right (in_places u f places n) (in_used_place u f places n)
-      (in_places-none u f places n (λ j l. others j (omega arith) (λ same. omega arith)))
-      ∙ ap (λ (j : ℕ). in_used_place u f places j) (sym e)
-      ∙ ap (λ (b : Bool). if b then in_place (f i) (slice_get places i) else None) used)
-      (λ ne. or-left (in_places u f places n) (in_used_place u f places n)
-      (used-none (u n) (in_place (f n) (slice_get places n))
-      (λ e. place-none (f n) (slice_get places n) (others n (omega arith) (λ same. ne (sym same)) e)))
-      ∙ in-places-at n i (omega arith) used (λ j l. others j (omega arith)))
+  in-slots-at zero i less used others = absurd (omega arith)
+  in-slots-at (suc n) i less used others = dite (ℕ_discrete i n)
+      (λ e. or-right (in_places u f slots n) (in_used_place u f slots n)
+      (in_places-none u f slots n (λ j l. others j (omega arith) (λ same. omega arith)))
+      ∙ ap (λ (j : ℕ). in_used_place u f slots j) (sym e)
+      ∙ ap (λ (b : Bool). if b then in_slot (f i) (slice_get slots i) else None) used)
+      (λ ne. or-left (in_places u f slots n) (in_used_place u f slots n)
+      (used-none (u n) (in_slot (f n) (slice_get slots n))
+      (λ e. slot-none (f n) (slice_get slots n) (others n (omega arith) (λ same. ne (sym same)) e)))
+      ∙ in-slots-at n i (omega arith) used (λ j l. others j (omega arith)))
 
-place-same : {H T : Type 0} (f g : H → Option T) (o : Option (Option H)) → ((held : H) → f held ≡ g held) → in_place f o ≡ in_place g o
-place-same f g None e = refl
-place-same f g (Some None) e = refl
-place-same f g (Some (Some held)) e = e held
+slot-same : {H T : Type 0} (f g : H → Option T) (o : Option (Option H)) → ((held : H) → f held ≡ g held) → in_slot f o ≡ in_slot g o
+slot-same f g None e = refl
+slot-same f g (Some None) e = refl
+slot-same f g (Some (Some held)) e = e held
 
 -- ---- the node's own parcel
 
@@ -112,8 +112,8 @@ other-volume layout v w k there here ne of =
     (cases_lt w v)
 
 module _ (layout : Layout) (v k : ℕ) (of : (k < volume_number layout v) ⊎ (volume_number layout v + (19 + stripes_of layout v) ≤ k)) where
-  outside : (place : ℕ) → place < 19 + stripes_of layout v → k ≢ volume_number layout v + place
-  outside place less e = ⊎_elim
+  outside : (slot : ℕ) → slot < 19 + stripes_of layout v → k ≢ volume_number layout v + slot
+  outside slot less e = ⊎_elim
       (λ (low : k < volume_number layout v). omega arith)
       (λ (high : volume_number layout v + (19 + stripes_of layout v) ≤ k). omega arith)
       of
@@ -134,29 +134,29 @@ module _ (layout : Layout) (v k : ℕ) (of : (k < volume_number layout v) ⊎ (v
 module _ {P R B S L V A X : Type 0} (layout : Layout) where
   -- a stripe's parcel in the set of its volume's names
   pub logical-stripe : (v i : ℕ) (held : LogicalHeld P R B S L V A X) → i < stripes_of layout v
-      → logical_parcels layout (trees.Logical v) held (number_of layout (trees.Stripe v i)) ≡ in_place (λ stripe. Some (Stripe stripe.own))
+      → logical_parcels layout (trees.Logical v) held (number_of layout (trees.Stripe v i)) ≡ in_slot (λ stripe. Some (Stripe stripe.own))
       (slice_get held.stripes.at i)
   unfolding logical_parcels stripe_parcels
   logical-stripe v i held less =
       let k : ℕ = number_of layout (trees.Stripe v i) in
       or-right (alone (number_of layout (trees.Logical v)) (Logical held.own) k) _
       (alone-none (number_of layout (trees.Logical v)) (Logical held.own) k (λ e. omega (arith, e)))
-      ∙ in-places-at (λ j. true) (λ j (stripe : StripeHeld P R B S L V A X). stripe_parcels layout (trees.Stripe v j) stripe k) held.stripes.at
+      ∙ in-slots-at (λ j. true) (λ j (stripe : StripeHeld P R B S L V A X). stripe_parcels layout (trees.Stripe v j) stripe k) held.stripes.at
       (stripes_of layout v) i less refl
       (λ j l ne used stripe. alone-none (number_of layout (trees.Stripe v j)) (Stripe stripe.own) k (λ e. ne (omega (arith, e))))
-      ∙ place-same _ _ (slice_get held.stripes.at i) (λ stripe. alone-here (number_of layout (trees.Stripe v i)) (Stripe stripe.own))
+      ∙ slot-same _ _ (slice_get held.stripes.at i) (λ stripe. alone-here (number_of layout (trees.Stripe v i)) (Stripe stripe.own))
 
   -- a range's parcel in the set of its volume's block numbers
   pub vbn-range : (v r : ℕ) (held : VbnHeld P R B S L V A X) → r < 16
-      → vbn_parcels layout (trees.Vbn v) held (number_of layout (trees.Range v r)) ≡ in_place (λ range. Some (Range range.own)) (slice_get held.ranges.at r)
+      → vbn_parcels layout (trees.Vbn v) held (number_of layout (trees.Range v r)) ≡ in_slot (λ range. Some (Range range.own)) (slice_get held.ranges.at r)
   unfolding vbn_parcels range_parcels
   vbn-range v r held less =
       let k : ℕ = number_of layout (trees.Range v r) in
       or-right (alone (number_of layout (trees.Vbn v)) (Vbn held.own) k) _
       (alone-none (number_of layout (trees.Vbn v)) (Vbn held.own) k (λ e. omega (arith, e)))
-      ∙ in-places-at (λ j. true) (λ j (range : RangeHeld P R B S L V A X). range_parcels layout (trees.Range v j) range k) held.ranges.at 16 r less refl
+      ∙ in-slots-at (λ j. true) (λ j (range : RangeHeld P R B S L V A X). range_parcels layout (trees.Range v j) range k) held.ranges.at 16 r less refl
       (λ j l ne used range. alone-none (number_of layout (trees.Range v j)) (Range range.own) k (λ e. ne (omega (arith, e))))
-      ∙ place-same _ _ (slice_get held.ranges.at r) (λ range. alone-here (number_of layout (trees.Range v r)) (Range range.own))
+      ∙ slot-same _ _ (slice_get held.ranges.at r) (λ range. alone-here (number_of layout (trees.Range v r)) (Range range.own))
 
   -- a volume has at its names' numbers, up to the last stripe's, what their set has
   pub volume-logical : (v k : ℕ) (held : VolumeHeld P R B S L V A X) → volume_number layout v < k → k < volume_number layout v + 2 + stripes_of layout v
@@ -181,7 +181,7 @@ module _ {P R B S L V A X : Type 0} (layout : Layout) where
   -- an aggregate has at a volume's numbers what the set in its place has
   pub aggregate-volume : (v k : ℕ) (held : AggrHeld P R B S L V A X) → v < length layout.volumes → aggregate_of layout v < length layout.spare
       → IsOfVolume layout v k
-      → aggregate_parcels layout (trees.Aggregate (aggregate_of layout v)) held k ≡ in_place
+      → aggregate_parcels layout (trees.Aggregate (aggregate_of layout v)) held k ≡ in_slot
       (λ volume. volume_parcels layout (trees.Volume v) volume k) (slice_get held.volumes.at v)
   unfolding aggregate_parcels
   aggregate-volume v k held there known of =
@@ -189,7 +189,7 @@ module _ {P R B S L V A X : Type 0} (layout : Layout) where
       let low = of.0 in
       or-right (alone (number_of layout (trees.Aggregate a)) (Aggregate held.own) k) _
       (alone-none (number_of layout (trees.Aggregate a)) (Aggregate held.own) k (λ e. omega (arith, e)))
-      ∙ in-places-at (λ w. aggregate_of layout w == a) (λ w (volume : VolumeHeld P R B S L V A X). volume_parcels layout (trees.Volume w) volume k)
+      ∙ in-slots-at (λ w. aggregate_of layout w == a) (λ w (volume : VolumeHeld P R B S L V A X). volume_parcels layout (trees.Volume w) volume k)
       held.volumes.at (length layout.volumes) v there
       (eq-eqb a a refl)
       (λ w l ne used volume. volume-none layout k w volume (on-volume layout w k (other-volume layout v w k there l ne of)))
@@ -197,13 +197,13 @@ module _ {P R B S L V A X : Type 0} (layout : Layout) where
   -- the root has at a volume's numbers what the set of its aggregate has
   pub serial-volume : (v k : ℕ) (held : SerialHeld P R B S L V A X) → v < length layout.volumes → aggregate_of layout v < length layout.spare
       → IsOfVolume layout v k
-      → serial_parcels layout trees.Serial held k ≡ in_place
+      → serial_parcels layout trees.Serial held k ≡ in_slot
       (λ aggregate. aggregate_parcels layout (trees.Aggregate (aggregate_of layout v)) aggregate k) (slice_get held.aggregates.at (aggregate_of layout v))
   unfolding serial_parcels
   serial-volume v k held there known of =
       let low = of.0 in
       or-right (alone 1 (Serial held.own) k) _ (alone-none 1 (Serial held.own) k (λ e. omega (arith, e)))
-      ∙ in-places-at (λ b. true) (λ b (aggregate : AggrHeld P R B S L V A X). aggregate_parcels layout (trees.Aggregate b) aggregate k)
+      ∙ in-slots-at (λ b. true) (λ b (aggregate : AggrHeld P R B S L V A X). aggregate_parcels layout (trees.Aggregate b) aggregate k)
       held.aggregates.at (length layout.spare)
       (aggregate_of layout v) known refl
       (λ b l ne used aggregate. aggregate-none layout k b aggregate (record {
@@ -213,16 +213,16 @@ module _ {P R B S L V A X : Type 0} (layout : Layout) where
 
   -- and at an aggregate's number that one's own parcel
   pub serial-aggregate : (a : ℕ) (held : SerialHeld P R B S L V A X) → a < length layout.spare
-      → serial_parcels layout trees.Serial held (number_of layout (trees.Aggregate a)) ≡ in_place (λ aggregate. Some (Aggregate aggregate.own))
+      → serial_parcels layout trees.Serial held (number_of layout (trees.Aggregate a)) ≡ in_slot (λ aggregate. Some (Aggregate aggregate.own))
       (slice_get held.aggregates.at a)
   unfolding serial_parcels
   serial-aggregate a held less =
       let k : ℕ = number_of layout (trees.Aggregate a) in
       or-right (alone 1 (Serial held.own) k) _ (alone-none 1 (Serial held.own) k (λ e. omega (arith, e)))
-      ∙ in-places-at (λ b. true) (λ b (aggregate : AggrHeld P R B S L V A X). aggregate_parcels layout (trees.Aggregate b) aggregate k)
+      ∙ in-slots-at (λ b. true) (λ b (aggregate : AggrHeld P R B S L V A X). aggregate_parcels layout (trees.Aggregate b) aggregate k)
       held.aggregates.at (length layout.spare) a less refl
       (λ b l ne used aggregate. aggregate-none layout k b aggregate (record {
         own = λ e. ne (omega (arith, e));
         volumes = λ w m on. on-volume layout w k (inl (omega arith));
       }))
-      ∙ place-same _ _ (slice_get held.aggregates.at a) (λ aggregate. aggregate-own layout (trees.Aggregate a) aggregate)
+      ∙ slot-same _ _ (slice_get held.aggregates.at a) (λ aggregate. aggregate-own layout (trees.Aggregate a) aggregate)

@@ -17,7 +17,7 @@ use Rattle.parcels.specs.declared.sets.SerialHeld.{SerialHeld}
 use Rattle.parcels.specs.Exact.{HasExactly, kind_in}
 use Rattle.parcels.specs.Filled.{is_filled, AreFilledAlike, InEachPlace, range_alike, stripe_alike, vbn_alike, logical_alike}
 use Rattle.parcels.specs.Filled.{volume_alike, aggregate_alike, serial_alike}
-use Rattle.parcels.specs.Places.{alone, or_else, in_place, in_used_place, in_places}
+use Rattle.parcels.specs.Slots.{alone, or_else, in_slot, in_used_place, in_places}
 use Rattle.parcels.specs.Sets.{volume_around, aggregate_number, range_parcels, vbn_parcels, stripe_parcels, logical_parcels, volume_parcels}
 use Rattle.parcels.specs.Sets.{aggregate_parcels, serial_parcels}
 
@@ -40,34 +40,34 @@ module _ {T K : Type 0} (kind : T → K) where
       → option_map kind (or_else a b) ≡ option_map kind (or_else a' b')
   or-same a a' b b' e d = or-kind a b ∙ (λ j. or_else (e j) (d j)) ∙ sym (or-kind a' b')
 
-  place-same : {H : Type 0} (f : H → Option T) (o p : Option (Option H)) → is_filled o ≡ is_filled p
+  slot-same : {H : Type 0} (f : H → Option T) (o p : Option (Option H)) → is_filled o ≡ is_filled p
       → ((x y : H) → o ≡ Some (Some x) → p ≡ Some (Some y) → option_map kind (f x) ≡ option_map kind (f y))
-      → option_map kind (in_place f o) ≡ option_map kind (in_place f p)
-  place-same f None None e same = refl
-  place-same f None (Some None) e same = refl
-  place-same f None (Some (Some y)) e same = absurd cc
-  place-same f (Some None) None e same = refl
-  place-same f (Some None) (Some None) e same = refl
-  place-same f (Some None) (Some (Some y)) e same = absurd cc
-  place-same f (Some (Some x)) None e same = absurd cc
-  place-same f (Some (Some x)) (Some None) e same = absurd cc
-  place-same f (Some (Some x)) (Some (Some y)) e same = same x y refl refl
+      → option_map kind (in_slot f o) ≡ option_map kind (in_slot f p)
+  slot-same f None None e same = refl
+  slot-same f None (Some None) e same = refl
+  slot-same f None (Some (Some y)) e same = absurd cc
+  slot-same f (Some None) None e same = refl
+  slot-same f (Some None) (Some None) e same = refl
+  slot-same f (Some None) (Some (Some y)) e same = absurd cc
+  slot-same f (Some (Some x)) None e same = absurd cc
+  slot-same f (Some (Some x)) (Some None) e same = absurd cc
+  slot-same f (Some (Some x)) (Some (Some y)) e same = same x y refl refl
 
   used-same : (b : Bool) (o p : Option T) → option_map kind o ≡ option_map kind p
       → option_map kind (if b then o else None) ≡ option_map kind (if b then p else None)
   used-same true o p e = e
   used-same false o p e = refl
 
-  pub places-same : {H : Type 0} (u : ℕ → Bool) (f : ℕ → H → Option T) (ps qs : List (Option H)) (n : ℕ) → AreFilledAlike ps qs
+  pub slots-same : {H : Type 0} (u : ℕ → Bool) (f : ℕ → H → Option T) (ps qs : List (Option H)) (n : ℕ) → AreFilledAlike ps qs
       → InEachPlace (λ x y. (i : ℕ) → option_map kind (f i x) ≡ option_map kind (f i y)) ps qs
       → option_map kind (in_places u f ps n) ≡ option_map kind (in_places u f qs n)
   unfolding in_places
-  places-same u f ps qs zero e same = refl
-  places-same u f ps qs (suc n) e same =
+  slots-same u f ps qs zero e same = refl
+  slots-same u f ps qs (suc n) e same =
       or-same (in_places u f ps n) (in_places u f qs n) (in_used_place u f ps n) (in_used_place u f qs n)
-      (places-same u f ps qs n e same)
-      (used-same (u n) (in_place (f n) (slice_get ps n)) (in_place (f n) (slice_get qs n))
-      (place-same (f n) (slice_get ps n) (slice_get qs n) (e n) (λ x y here there. same n x y here there n)))
+      (slots-same u f ps qs n e same)
+      (used-same (u n) (in_slot (f n) (slice_get ps n)) (in_slot (f n) (slice_get qs n))
+      (slot-same (f n) (slice_get ps n) (slice_get qs n) (e n) (λ x y here there. same n x y here there n)))
 
   found : (o : Option T) (k : K) → option_map kind o ≡ Some k → (x : T) × (o ≡ Some x) × (kind x ≡ k)
   found None k e = absurd cc
@@ -107,7 +107,7 @@ module _ {P R B S L V A X : Type 0} (layout : Layout) where
   vbn-same a old new k alike =
       or-same kind_in _ _ _ _
       (alone-kind kind_in (number_of layout a) k (Vbn old.own) (Vbn new.own) refl)
-      (places-same kind_in (λ r. true) (λ r (range : RangeHeld P R B S L V A X). range_parcels layout (trees.Range (volume_around a) r) range k)
+      (slots-same kind_in (λ r. true) (λ r (range : RangeHeld P R B S L V A X). range_parcels layout (trees.Range (volume_around a) r) range k)
       old.ranges.at new.ranges.at 16
       alike (λ i x y here there r. range-same (trees.Range (volume_around a) r) x y k))
 
@@ -117,7 +117,7 @@ module _ {P R B S L V A X : Type 0} (layout : Layout) where
   logical-same a old new k alike =
       or-same kind_in _ _ _ _
       (alone-kind kind_in (number_of layout a) k (Logical old.own) (Logical new.own) refl)
-      (places-same kind_in (λ i. true) (λ i (stripe : StripeHeld P R B S L V A X). stripe_parcels layout (trees.Stripe (volume_around a) i) stripe k)
+      (slots-same kind_in (λ i. true) (λ i (stripe : StripeHeld P R B S L V A X). stripe_parcels layout (trees.Stripe (volume_around a) i) stripe k)
       old.stripes.at new.stripes.at (stripes_of layout (volume_around a))
       alike (λ i x y here there j. stripe-same (trees.Stripe (volume_around a) j) x y k))
 
@@ -137,7 +137,7 @@ module _ {P R B S L V A X : Type 0} (layout : Layout) where
   aggregate-same a old new k alike =
       or-same kind_in _ _ _ _
       (alone-kind kind_in (number_of layout a) k (Aggregate old.own) (Aggregate new.own) refl)
-      (places-same kind_in (λ v. aggregate_of layout v == aggregate_number a)
+      (slots-same kind_in (λ v. aggregate_of layout v == aggregate_number a)
       (λ v (volume : VolumeHeld P R B S L V A X). volume_parcels layout (trees.Volume v) volume k) old.volumes.at new.volumes.at (length layout.volumes)
       alike.0 (λ i x y here there v. volume-same (trees.Volume v) x y k (alike.1 i x y here there)))
 
@@ -147,7 +147,7 @@ module _ {P R B S L V A X : Type 0} (layout : Layout) where
   serial-same a old new k alike =
       or-same kind_in _ _ _ _
       (alone-kind kind_in (number_of layout a) k (Serial old.own) (Serial new.own) refl)
-      (places-same kind_in (λ i. true) (λ i (aggregate : AggrHeld P R B S L V A X). aggregate_parcels layout (trees.Aggregate i) aggregate k)
+      (slots-same kind_in (λ i. true) (λ i (aggregate : AggrHeld P R B S L V A X). aggregate_parcels layout (trees.Aggregate i) aggregate k)
       old.aggregates.at new.aggregates.at (length layout.spare)
       alike.0 (λ i x y here there j. aggregate-same (trees.Aggregate j) x y k (alike.1 i x y here there)))
 

@@ -5,7 +5,7 @@ use Rattle.std.proofs.lemmas.Bool.{ne_eqb, eqb-true}
 use Rattle.nfs_model.specs.Tree.{Layout, Serial, Aggregate, Volume, Logical, Stripe, Vbn, Range, stripes_of, aggregate_of}
 use Rattle.affinity.specs.Numbers.{number_of}
 use Rattle.parcels.specs.lemmas.Below.{OnLogical, OnVbn, OnVolume, OnAggregate, OnSerial}
-use Rattle.parcels.specs.Places.{alone, or_else, in_place, in_used_place, in_places}
+use Rattle.parcels.specs.Slots.{alone, or_else, in_slot, in_used_place, in_places}
 use Rattle.parcels.specs.Sets.{range_parcels, vbn_parcels, stripe_parcels, logical_parcels, volume_parcels, aggregate_parcels, serial_parcels}
 use Rattle.parcels.specs.declared.family.Parcel.TheVariants as parcels
 use Rattle.parcels.specs.declared.sets.RangeHeld.{RangeHeld}
@@ -23,10 +23,10 @@ alone-none n x k h = ap (λ b. if b then Some x else None) (ne_eqb k n h)
 pub or_else-none : {T : Type 0} (a b : Option T) → a ≡ None → b ≡ None → or_else a b ≡ None
 or_else-none a b e d = subst (λ o. or_else o b ≡ None) (sym e) d
 
-pub place-none : {H T : Type 0} (f : H → Option T) (o : Option (Option H)) → ((held : H) → f held ≡ None) → in_place f o ≡ None
-place-none f None h = refl
-place-none f (Some None) h = refl
-place-none f (Some (Some x)) h = h x
+pub slot-none : {H T : Type 0} (f : H → Option T) (o : Option (Option H)) → ((held : H) → f held ≡ None) → in_slot f o ≡ None
+slot-none f None h = refl
+slot-none f (Some None) h = refl
+slot-none f (Some (Some x)) h = h x
 
 pub used-none : {T : Type 0} (b : Bool) (o : Option T) → (b ≡ true → o ≡ None) → (if b then o else None) ≡ None
 used-none true o h = h refl
@@ -34,13 +34,13 @@ used-none false o h = refl
 
 module _ {H T : Type 0} (u : ℕ → Bool) (f : ℕ → H → Option T) where
   -- nothing where no set has anything
-  pub in_places-none : (places : List (Option H)) (n : ℕ) → ((i : ℕ) → i < n → u i ≡ true → (held : H) → f i held ≡ None) → in_places u f places n ≡ None
+  pub in_places-none : (slots : List (Option H)) (n : ℕ) → ((i : ℕ) → i < n → u i ≡ true → (held : H) → f i held ≡ None) → in_places u f slots n ≡ None
   unfolding in_places
-  in_places-none places zero h = refl
-  in_places-none places (suc n) h =
-      or_else-none (in_places u f places n) (in_used_place u f places n)
-      (in_places-none places n (λ i l. h i (omega arith)))
-      (used-none (u n) (in_place (f n) (slice_get places n)) (λ e. place-none (f n) (slice_get places n) (h n (omega arith) e)))
+  in_places-none slots zero h = refl
+  in_places-none slots (suc n) h =
+      or_else-none (in_places u f slots n) (in_used_place u f slots n)
+      (in_places-none slots n (λ i l. h i (omega arith)))
+      (used-none (u n) (in_slot (f n) (slice_get slots n)) (λ e. slot-none (f n) (slice_get slots n) (h n (omega arith) e)))
 
 module _ {P R B S L V A X : Type 0} (layout : Layout) (k : ℕ) where
   pub range-none : (v r : ℕ) (held : RangeHeld P R B S L V A X) → k ≢ number_of layout (Range v r) → range_parcels layout (Range v r) held k ≡ None

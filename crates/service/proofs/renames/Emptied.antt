@@ -1,7 +1,7 @@
 -- What a step leaves after another, and targets that are dropped.
 use Rattle.std.proofs.Common.{◌≡◌, ℕ, List, Option, Some, refl, sym, ap, ◌∙◌}
 use Rattle.nfs_model.specs.Types.{Moment}
-use Rattle.nfs_model.specs.volume.Inodes.{InodeKind, RegularFile, Folder, Inode}
+use Rattle.nfs_model.specs.volume.Inodes.{InodeKind, RegularFile, DirectoryKind, Inode}
 use Rattle.filer_state.specs.state.Lenses.{LogicalSet}
 use Rattle.filer_state.specs.state.Names.{DirectoryMap}
 use Rattle.filer_state.specs.state.Sets.{FilerLogical, logical_set, logical_before, logical_after}
@@ -25,21 +25,21 @@ then-step old mid new t f first kept next =
 sized-left : (size fewer : ℕ) (kind : InodeKind) (fileid : ℕ) (directories : DirectoryMap)
     → directories_left (kind_sized size fewer kind) fileid directories ≡ directories_left kind fileid directories
 sized-left size fewer (RegularFile old filled verifier) fileid directories = refl
-sized-left size fewer (Folder parent subs) fileid directories = refl
+sized-left size fewer (DirectoryKind parent subs) fileid directories = refl
 
 -- a file without bytes is dropped
-pub emptied-then-gone : {P : Type 0} (old mid new : FilerLogical P) (v directory : ℕ) (folder : Inode) (name : List ℕ) (moment : Moment) (child : HeldNode)
+pub emptied-then-gone : {P : Type 0} (old mid new : FilerLogical P) (v directory : ℕ) (as_directory : Inode) (name : List ℕ) (moment : Moment) (child : HeldNode)
     (emptied : Inode) → emptied ≡ (child_emptied child (logical_before old)).inode
     → logical_after old mid ≡ file_sized (emptying_of child) (logical_before old)
-    → logical_after mid new ≡ node_gone (naming_in v directory folder name moment (logical_before mid)) (record { fileid = child.fileid; inode = emptied })
+    → logical_after mid new ≡ node_gone (naming_in v directory as_directory name moment (logical_before mid)) (record { fileid = child.fileid; inode = emptied })
     (logical_before mid)
-    → logical_after old new ≡ emptied_gone (naming_in v directory folder name moment (logical_before old)) child (logical_before old)
-emptied-then-gone old mid new v directory folder name moment child emptied is sized gone =
+    → logical_after old new ≡ emptied_gone (naming_in v directory as_directory name moment (logical_before old)) child (logical_before old)
+emptied-then-gone old mid new v directory as_directory name moment child emptied is sized gone =
     then-step old mid new (file_sized (emptying_of child) (logical_before old))
-    (λ (s : LogicalSet). node_gone (naming_in v directory folder name moment s) (record { fileid = child.fileid; inode = emptied }) s) sized refl gone
-    ∙ ap (λ (i : Inode). node_gone (naming_in v directory folder name moment (file_sized (emptying_of child) (logical_before old)))
+    (λ (s : LogicalSet). node_gone (naming_in v directory as_directory name moment s) (record { fileid = child.fileid; inode = emptied }) s) sized refl gone
+    ∙ ap (λ (i : Inode). node_gone (naming_in v directory as_directory name moment (file_sized (emptying_of child) (logical_before old)))
     (record { fileid = child.fileid; inode = i }) (file_sized (emptying_of child) (logical_before old))) is
-    ∙ ap (λ (m : DirectoryMap). with_map m (node_dropped (dropping_of (naming_in v directory folder name moment (logical_before old))
+    ∙ ap (λ (m : DirectoryMap). with_map m (node_dropped (dropping_of (naming_in v directory as_directory name moment (logical_before old))
     (child_emptied child (logical_before old))) (file_sized (emptying_of child) (logical_before old))))
     (sized-left 0 _ child.inode.kind child.fileid (logical_before old).own.directories)
 
@@ -49,6 +49,6 @@ module _ (b : Between) (t : HeldNode) (s : LogicalSet) where
   out-file size filled verifier kind =
       sym (ap (λ (k : InodeKind). with_map (directories_left t.inode.kind t.fileid s.own.directories) (target_dropped (to_of b s) t k)) kind)
 
-  pub out-folder : (parent subs : ℕ) → t.inode.kind ≡ Folder parent subs → node_gone (to_of b s) t s ≡ target_out b (Some t) s
-  out-folder parent subs kind =
+  pub out-directory : (parent subs : ℕ) → t.inode.kind ≡ DirectoryKind parent subs → node_gone (to_of b s) t s ≡ target_out b (Some t) s
+  out-directory parent subs kind =
       sym (ap (λ (k : InodeKind). with_map (directories_left t.inode.kind t.fileid s.own.directories) (target_dropped (to_of b s) t k)) kind)

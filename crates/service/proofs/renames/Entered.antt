@@ -91,10 +91,10 @@ last f t c from_name to_name gone =
     insert (then_gone f from_name gone) t (added to_name c (directory_or_empty (get (then_gone f from_name gone) t)))
 
 -- in one directory
-same-folder : (m : DirectoryMap) (t c : ℕ) (from_name to_name : List ℕ) (d : DirectoryValue) → get m t ≡ Some d
+same-directory : (m : DirectoryMap) (t c : ℕ) (from_name to_name : List ℕ) (d : DirectoryValue) → get m t ≡ Some d
     → same_name from_name to_name ≡ false
     → first m t t c from_name to_name ≡ last t t c from_name to_name (insert m t (removed to_name d))
-same-folder m t c from_name to_name d there other =
+same-directory m t c from_name to_name d there other =
     ap (changed_at (removed from_name) t) (ap (λ o. changed_value (replaced to_name c) o t m) there)
     ∙ ap (λ o. changed_value (removed from_name) o t (insert m t a)) (get-put m t a)
     ∙ insert-twice m t a (removed from_name a)
@@ -117,10 +117,10 @@ same-folder m t c from_name to_name d there other =
     x = removed from_name (directory_or_empty (get gone t))
 
 -- in two
-two-folders : (m : DirectoryMap) (f t c : ℕ) (from_name to_name : List ℕ) (e d : DirectoryValue) → get m f ≡ Some e → get m t ≡ Some d
+two-directories : (m : DirectoryMap) (f t c : ℕ) (from_name to_name : List ℕ) (e d : DirectoryValue) → get m f ≡ Some e → get m t ≡ Some d
     → (f == t) ≡ false
     → first m f t c from_name to_name ≡ last f t c from_name to_name (insert m t (removed to_name d))
-two-folders m f t c from_name to_name e d from_there there other =
+two-directories m f t c from_name to_name e d from_there there other =
     ap (changed_at (removed from_name) f) (ap (λ o. changed_value (replaced to_name c) o t m) there)
     ∙ ap (λ o. changed_value (removed from_name) o f (insert m t a)) (get-put-other m t a f other ∙ from_there)
     ∙ put-across m f t (removed from_name e) a r other
@@ -155,8 +155,8 @@ either-way m f t c from_name to_name e d from_there there apart = by (f == t) re
     by : (b : Bool) → (f == t) ≡ b → first m f t c from_name to_name ≡ last f t c from_name to_name (insert m t (removed to_name d))
     by true h =
         subst (λ (q : ℕ). first m q t c from_name to_name ≡ last q t c from_name to_name (insert m t (removed to_name d))) (sym (eqb-true f t h))
-        (same-folder m t c from_name to_name d there (sym (ap (λ (x : Bool). x && same_name from_name to_name) h) ∙ apart))
-    by false h = two-folders m f t c from_name to_name e d from_there there h
+        (same-directory m t c from_name to_name d there (sym (ap (λ (x : Bool). x && same_name from_name to_name) h) ∙ apart))
+    by false h = two-directories m f t c from_name to_name e d from_there there h
 
 -- where nothing goes
 pub either-way-none : (m : DirectoryMap) (f t c : ℕ) (from_name to_name : List ℕ) (e d : DirectoryValue) → get m f ≡ Some e → get m t ≡ Some d

@@ -11,7 +11,7 @@ use Rattle.nfs_model.specs.Serial.Rename.{is_empty_list}
 use Rattle.nfs_model.specs.Types.{Listed}
 use Rattle.depot_rule.specs.Shares.{too_many}
 use Rattle.nfs_model.specs.volume.Directories.{DirectoryValue, found, fileid_found}
-use Rattle.nfs_model.specs.volume.Inodes.{InodeKind, RegularFile, Folder, Inode}
+use Rattle.nfs_model.specs.volume.Inodes.{InodeKind, RegularFile, DirectoryKind, Inode}
 use Rattle.nfs_model.specs.volume.lemmas.Inodes.{filled-within}
 use Rattle.nfs_model.specs.volume.lemmas.Numbered.{get-remove_at}
 use Rattle.inodes.specs.Inode.{inode_value}
@@ -111,9 +111,9 @@ module _ (s : LogicalSet) where
   empty-list [] e = refl
   empty-list (x ∷ list) e = absurd cc
 
-  emptied : (moved : InodeKind) (t parent subs : ℕ) → may_replace s moved t (Folder parent subs) ≡ true → (entries_of s.own t).list ≡ []
+  emptied : (moved : InodeKind) (t parent subs : ℕ) → may_replace s moved t (DirectoryKind parent subs) ≡ true → (entries_of s.own t).list ≡ []
   emptied (RegularFile size filled verifier) t parent subs may = absurd cc
-  emptied (Folder p m) t parent subs may = empty-list (entries_of s.own t).list may
+  emptied (DirectoryKind p m) t parent subs may = empty-list (entries_of s.own t).list may
 
   target-stays : (moved : InodeKind) (t : ℕ) (kind : InodeKind) → may_replace s moved t kind ≡ true
       → (d : ℕ) (name : List ℕ) (node : HeldNode) → node_at s (fileid_found (entries_of s.own d) name) ≡ Some node
@@ -123,7 +123,7 @@ module _ (s : LogicalSet) where
       ap (λ (k : InodeKind). get (target_left (Some (record { fileid = a.fileid; inode = record { attributes = a.inode.attributes; kind = k } }))
       s.own.directories) d) is
       ∙ entered
-  target-stays moved t (Folder parent subs) may d name node under entered a at is =
+  target-stays moved t (DirectoryKind parent subs) may d name node under entered a at is =
       ap (λ (k : InodeKind). get (target_left (Some (record { fileid = a.fileid; inode = record { attributes = a.inode.attributes; kind = k } }))
       s.own.directories) d) is
       ∙ ap (λ (q : ℕ). get (remove s.own.directories q) d) at
@@ -147,10 +147,10 @@ module _ (b : Between) (from_name to_name : List ℕ) (s : LogicalSet) (whole : 
   t = b.to.fileid.0
 
   from-entered : get s.own.directories f ≡ Some (entries_of s.own f)
-  from-entered = whole-entered v s whole f (inode_value b.from.inode) there.from there.from_folder
+  from-entered = whole-entered v s whole f (inode_value b.from.inode) there.from there.from_is_directory
 
   to-entered : get s.own.directories t ≡ Some (entries_of s.own t)
-  to-entered = whole-entered v s whole t (inode_value b.to.inode) there.to there.to_folder
+  to-entered = whole-entered v s whole t (inode_value b.to.inode) there.to there.to_is_directory
 
   pub may-move : (target : Option HeldNode) → target ≡ node_at s (fileid_found (entries_of s.own t) to_name)
       → target_may_go s child target ≡ true → ((f == t) && same_name from_name to_name) ≡ false
@@ -170,7 +170,7 @@ module _ (b : Between) (from_name to_name : List ℕ) (s : LogicalSet) (whole : 
     to_stays = to-entered;
     absent = λ e.
         removed-absent (entries_of s.own t) to_name (not-found (found (entries_of s.own t) to_name)
-        (whole-absent v s whole t (inode_value b.to.inode) to_name there.to there.to_folder (sym none)));
+        (whole-absent v s whole t (inode_value b.to.inode) to_name there.to there.to_is_directory (sym none)));
     apart = apart;
   }
   may-move (Some a) at goes apart = record {

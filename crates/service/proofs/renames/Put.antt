@@ -12,7 +12,7 @@ use Rattle.filer_state.specs.state.Contents.{each}
 use Rattle.filer_state.specs.state.Lenses.{LogicalSet}
 use Rattle.filer_state.specs.state.Sets.{FilerLogical, stripe_value, placed, logical_before, logical_after}
 use Rattle.filer_state.specs.state.Tree.{file_touch}
-use Rattle.service_names.specs.NodesMade.{folders_in, with_subdirectories}
+use Rattle.service_names.specs.NodesMade.{directories_in, with_subdirectories}
 use Rattle.service_names.specs.NodesMoved.{dated_inode, with_parent, node_hung}
 use Rattle.service_names.specs.NamedChanges.{HeldNode}
 use Rattle.service_names.specs.RenamingChanges.{inode_or, moving_of}
@@ -34,13 +34,13 @@ module _ {P : Type 0} (old one two new : FilerLogical P) (b : Between) (child : 
       ∙ ap (λ st. each (λ i. stripe_value (placed st.at i)) 0 old.own.stripes) one_stripes
 
   -- the directory as it is then
-  abbrev folder : Inode
-  folder = inode_or (get s.own.inodes.inodes b.to.fileid.0) (inode_value b.to.inode)
+  abbrev as_directory : Inode
+  as_directory = inode_or (get s.own.inodes.inodes b.to.fileid.0) (inode_value b.to.inode)
 
-  pub dated-is : (now : Inode) → now ≡ folder
-      → set ≡ dated_inode (moment_of b.moment) (with_subdirectories (folders_in child.inode.kind) now.kind) now
-      → set ≡ dated_inode (moment_of b.moment) (with_subdirectories (folders_in child.inode.kind) folder.kind) folder
-  dated-is now is dated = dated ∙ ap (λ (i : Inode). dated_inode (moment_of b.moment) (with_subdirectories (folders_in child.inode.kind) i.kind) i) is
+  pub dated-is : (now : Inode) → now ≡ as_directory
+      → set ≡ dated_inode (moment_of b.moment) (with_subdirectories (directories_in child.inode.kind) now.kind) now
+      → set ≡ dated_inode (moment_of b.moment) (with_subdirectories (directories_in child.inode.kind) as_directory.kind) as_directory
+  dated-is now is dated = dated ∙ ap (λ (i : Inode). dated_inode (moment_of b.moment) (with_subdirectories (directories_in child.inode.kind) i.kind) i) is
 
   pub hung-is : (hung : Inode) (touch : Option Moment) → touch ≡ file_touch (logical_before one).stripes child.fileid
       → hung.attributes ≡ record (attributes_now touch child.inode.attributes child.inode.kind) { ctime = moment_of b.moment }
@@ -57,7 +57,7 @@ module _ {P : Type 0} (old one two new : FilerLogical P) (b : Between) (child : 
 
   pub put-in : (hung : Inode) → two.own ≡ one.own → (logical_after one two).stripes ≡ touches_taken child.fileid (logical_before one).stripes
       → new.own ≡ with_inode child.fileid hung two.own → new.stripes ≡ two.stripes
-      → set ≡ dated_inode (moment_of b.moment) (with_subdirectories (folders_in child.inode.kind) folder.kind) folder
+      → set ≡ dated_inode (moment_of b.moment) (with_subdirectories (directories_in child.inode.kind) as_directory.kind) as_directory
       → hung ≡ node_hung (moving_of (to_of b s) child s) (file_touch s.stripes child.fileid)
       → logical_after old new ≡ node_in b child s
   put-in hung two_own taken new_own new_stripes dated_is hung_is = λ j. record { own = own j; stripes = stripes j }

@@ -6,7 +6,7 @@ use Rattle.nfs_model.specs.Parts.{most_ranges, range_blocks}
 use Rattle.nfs_model.specs.Server.{Attributes}
 use Rattle.nfs_values.specs.Moment.{moment_of}
 use Rattle.inodes.specs.Inode.{inode_value, kind_value}
-use Rattle.nfs_model.specs.volume.Inodes.{InodeKind, RegularFile, Folder, Inode, inode_set, inode_dropped}
+use Rattle.nfs_model.specs.volume.Inodes.{InodeKind, RegularFile, DirectoryKind, Inode, inode_set, inode_dropped}
 use Rattle.nfs_model.specs.volume.Maps.{changed_at}
 use Rattle.nfs_model.specs.volume.Directories.{removed}
 use Rattle.service_names.specs.NameAnswers.{entries_of}
@@ -15,7 +15,7 @@ use Rattle.filer_state.specs.state.Lenses.{LogicalSet}
 use Rattle.filer_state.specs.state.Names.{DirectoryMap}
 use Rattle.filer_state.specs.state.Sets.{FilerLogical, stripe_value, placed, logical_set, logical_before, logical_after}
 use Rattle.service_names.specs.NodesDropped.{directory_left, without_subdirectories}
-use Rattle.service_names.specs.NodesMade.{folders_in}
+use Rattle.service_names.specs.NodesMade.{directories_in}
 use Rattle.service_names.specs.NodesMoved.{dated_inode}
 use Rattle.service_names.specs.NodesSized.{all_freed, inode_sized}
 use Rattle.service_names.specs.NamedChanges.{HeldNode}
@@ -46,7 +46,7 @@ kept-out b (Some t) s = by t.fileid t.inode.attributes t.inode.kind
     by : (q : ℕ) (a : Attributes) (k : InodeKind)
         → (target_out b (Some (record { fileid = q; inode = record { attributes = a; kind = k } })) s).own.stripes ≡ s.own.stripes
     by q a (RegularFile size filled verifier) = refl
-    by q a (Folder parent subs) = refl
+    by q a (DirectoryKind parent subs) = refl
 
 -- a set as it is between two steps
 pub set-at : {P : Type 0} (old mid : FilerLogical P) (t : LogicalSet) → logical_after old mid ≡ t → t.own.stripes ≡ old.own.stripes
@@ -80,8 +80,8 @@ module _ (b : Between) (s : LogicalSet) (to_within : IsWithin (kind_value b.to.i
           (within-dropped q (inode_set q sized s.own.inodes) (within-set q sized s.own.inodes all
           (within-sized 0 (length (all_freed q 0 s.stripes)) (RegularFile size filled verifier) w)))
           (within-left 0 (kind_value b.to.inode.kind) to_within)
-      by q a (Folder parent subs) w =
-          let t : HeldNode = record { fileid = q; inode = record { attributes = a; kind = Folder parent subs } } in
+      by q a (DirectoryKind parent subs) w =
+          let t : HeldNode = record { fileid = q; inode = record { attributes = a; kind = DirectoryKind parent subs } } in
           within-set b.to.fileid.0 (directory_left (dropping_of (to_of b s) t)) (inode_dropped q s.own.inodes)
           (within-dropped q s.own.inodes all) (within-left 1 (kind_value b.to.inode.kind) to_within)
 
@@ -102,8 +102,8 @@ module _ (b : Between) (s : LogicalSet) (to_within : IsWithin (kind_value b.to.i
           let few = (within-sized 0 (length (all_freed q 0 s.stripes)) (RegularFile size filled verifier) w).filled in
           let few_left = (within-left 0 (kind_value b.to.inode.kind) to_within).filled in
           omega arith
-      by q a (Folder parent subs) w =
-          let t : HeldNode = record { fileid = q; inode = record { attributes = a; kind = Folder parent subs } } in
+      by q a (DirectoryKind parent subs) w =
+          let t : HeldNode = record { fileid = q; inode = record { attributes = a; kind = DirectoryKind parent subs } } in
           let left = directory_left (dropping_of (to_of b s) t) in
           let two = used-dropped q s.own.inodes in
           let three = used-set b.to.fileid.0 left (inode_dropped q s.own.inodes) in
@@ -116,11 +116,11 @@ module _ (b : Between) (name : List ℕ) (child : HeldNode) (s : LogicalSet) (fr
   now = inode_or (get s.own.inodes.inodes b.from.fileid.0) (inode_value b.from.inode)
 
   abbrev dated : Inode
-  dated = dated_inode (moment_of b.moment) (without_subdirectories (folders_in child.inode.kind) now.kind) now
+  dated = dated_inode (moment_of b.moment) (without_subdirectories (directories_in child.inode.kind) now.kind) now
 
   dated-within : IsWithin dated.kind
   dated-within =
-      within-left (folders_in child.inode.kind) now.kind
+      within-left (directories_in child.inode.kind) now.kind
       (within-now (get s.own.inodes.inodes b.from.fileid.0) (inode_value b.from.inode) (all b.from.fileid.0) from_within)
 
   pub within-entry : AllWithin (entry_out b name child s).own.inodes.inodes
@@ -163,9 +163,9 @@ module _ (b : Between) (from_name to_name : List ℕ) (child : HeldNode) (s : Lo
           (Some (record { fileid = q; inode = record { attributes = a; kind = RegularFile size filled verifier } }))))
           (either-way s.own.directories f t child.fileid from_name to_name (entries_of s.own f) (entries_of s.own t)
           may.from_entered may.to_entered may.apart)
-      by q a (Folder parent subs) may =
+      by q a (DirectoryKind parent subs) may =
           ap (λ (m : DirectoryMap). with_map m (set_renamed (renaming_in b from_name to_name s) child
-          (Some (record { fileid = q; inode = record { attributes = a; kind = Folder parent subs } }))))
+          (Some (record { fileid = q; inode = record { attributes = a; kind = DirectoryKind parent subs } }))))
           (ap (changed_at (removed from_name) f)
           (removed-across s.own.directories q t (replaced to_name child.fileid) (entries_of s.own t) may.to_entered may.to_stays)
           ∙ either-way (remove s.own.directories q) f t child.fileid from_name to_name (entries_of s.own f) (entries_of s.own t)

@@ -9,7 +9,7 @@ use Rattle.nfs_model.specs.volume.Directories.{DirectoryValue, added, removed}
 use Rattle.nfs_model.specs.volume.Maps.{changed_at}
 use Rattle.inodes.specs.Inode.{kind_value, inode_value}
 use Rattle.filer_state.specs.state.Lenses.{LogicalSet}
-use Rattle.filer_state.specs.state.Names.{DirectoryMap, is_folder}
+use Rattle.filer_state.specs.state.Names.{DirectoryMap, is_directory}
 use Rattle.service_names.specs.NameAnswers.{entries_of}
 use Rattle.service_names.specs.NodesDropped.{directories_left, node_dropped}
 use Rattle.service_names.specs.NodesSized.{file_sized}
@@ -89,5 +89,5 @@ pub record MayMove (b : Between) (from_name to_name : List ℕ) (target : Option
 pub record AreThere (b : Between) (s : LogicalSet) : Type 0 where
   pub from : get s.own.inodes.inodes b.from.fileid.0 ≡ Some (inode_value b.from.inode)
   pub to : get s.own.inodes.inodes b.to.fileid.0 ≡ Some (inode_value b.to.inode)
-  pub from_folder : is_folder (Some (inode_value b.from.inode)) ≡ true
-  pub to_folder : is_folder (Some (inode_value b.to.inode)) ≡ true
+  pub from_is_directory : is_directory (Some (inode_value b.from.inode)) ≡ true
+  pub to_is_directory : is_directory (Some (inode_value b.to.inode)) ≡ true

@@ -29,9 +29,9 @@ renaming_in b from_name to_name s = record {
 }
 
 -- what follows for the inode of a directory, or a failure
-abbrev pub come_to_folder : LogicalSet → (values.Inode → LogicalAnswer) → Result Inode Status → LogicalAnswer
-come_to_folder s run (Ok inode) = run (inode_value inode)
-come_to_folder s run (Err status) = fails_both (status_of status) s
+abbrev pub come_to_directory : LogicalSet → (values.Inode → LogicalAnswer) → Result Inode Status → LogicalAnswer
+come_to_directory s run (Ok inode) = run (inode_value inode)
+come_to_directory s run (Err status) = fails_both (status_of status) s
 
 -- the first of two faults
 abbrev pub first_fault : Option model.Status → Option model.Status → Option model.Status

@@ -7,7 +7,7 @@ ghost use Rattle.nfs_values.specs.Moment.{moment_of};
 ghost use Rattle.parcels.specs.Filled.{logical_alike};
 ghost use Rattle.inodes.specs.Inode.{attributes_value, inode_value, kind_value};
 ghost use Rattle.service_names.specs.RenamingChanges.{set_renamed};
-ghost use Rattle.service_names.specs.NodesMade.{folders_in, with_subdirectories};
+ghost use Rattle.service_names.specs.NodesMade.{directories_in, with_subdirectories};
 ghost use Rattle.service_names.specs.NodesMoved.{dated_inode, with_parent};
 ghost use Rattle.filer_state.specs.state.Changes.{attributes_now};
 ghost use Rattle.filer_state.specs.state.Sets.{logical_before, logical_after};
@@ -23,9 +23,9 @@ ghost use Rattle.service.specs.renames.Moving.{
 };
 ghost use Rattle.service.specs.renames.Renaming.{AllWithin, IsWithin, renaming_in};
 
+use crate::renames::as_directory::directory_now;
 use crate::renames::between::Between;
 use crate::renames::dropping::drop_target;
-use crate::renames::folder::directory_now;
 use filer_state::Files;
 use inodes::{Inode, InodeKind, StoredAttributes};
 use nfs_values::{Fileid, Moment, Name};
@@ -117,7 +117,7 @@ fn hang(held: &mut LogicalHeld<Files>, between: Between, child: Node)
 fn with_dates(inode: Inode, kind: InodeKind, moment: Moment) -> Inode
     requires { HasFewLinks (kind_value inode.kind) }
     ensures { inode_value result ≡ dated_inode (moment_of moment)
-        (with_subdirectories (folders_in (kind_value kind)) (kind_value inode.kind))
+        (with_subdirectories (directories_in (kind_value kind)) (kind_value inode.kind))
         (inode_value inode) }
 {
     Inode {

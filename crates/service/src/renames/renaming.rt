@@ -17,11 +17,11 @@ ghost use Rattle.service.specs.renames.Moving.{AreThere};
 ghost use Rattle.service.specs.renames.Promises.{Renames};
 ghost use Rattle.service.specs.renames.Renaming.{done_between, rename_found, renaming_in, Renamed};
 
+use crate::renames::as_directory::directory_at;
 use crate::renames::asking::{is_one_entry, may_go, names_fault};
 use crate::renames::between::Between;
 use crate::renames::climbing::goes_below;
 use crate::renames::entry_name::EntryName;
-use crate::renames::folder::folder_at;
 use crate::renames::moving::move_node;
 use crate::renames::telling::told;
 use filer_state::Files;
@@ -82,11 +82,11 @@ fn name_moved(
     ensures starved { OnErr result (held.new ≡ held.old) }
     ensures alike { logical_alike held.old held.new }
 {
-    let from_inode = match folder_at(held, from.directory) {
+    let from_inode = match directory_at(held, from.directory) {
         Ok(inode) => inode,
         Err(status) => return Ok(Err(status)),
     };
-    let to_inode = match folder_at(held, to.directory) {
+    let to_inode = match directory_at(held, to.directory) {
         Ok(inode) => inode,
         Err(status) => return Ok(Err(status)),
     };

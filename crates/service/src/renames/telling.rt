@@ -8,8 +8,8 @@ ghost use Rattle.filer_state.specs.state.Lenses.{LogicalSet};
 ghost use Rattle.filer_state.specs.state.Sets.{logical_before};
 ghost use Rattle.service.specs.renames.Renaming.{AllWithin, IsWithin, renaming_in};
 
+use crate::renames::as_directory::directory_now;
 use crate::renames::between::Between;
-use crate::renames::folder::directory_now;
 use filer_state::Files;
 use nfs_values::RenameResults;
 use parcels::LogicalHeld;

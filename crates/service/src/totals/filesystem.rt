@@ -4,7 +4,7 @@ ghost use Rattle.std.specs.Prelude.{[]};
 ghost use Rattle.filer_state.specs.state.Lenses.{volume_lens};
 ghost use Rattle.filer_state.specs.state.Promises.{HasVolume};
 ghost use Rattle.filer_state.specs.state.Sets.{volume_before};
-ghost use Rattle.service.specs.totals.Space.{TellsSpace};
+ghost use Rattle.service.specs.totals.FilesystemStatus.{TellsFilesystemStatus};
 
 use crate::totals::counting::volume_count;
 use filer_state::Files;
@@ -16,13 +16,13 @@ use service_names::shown_now;
 /// FSSTAT (RFC 1813 section 3.3.18), on the parcels of a volume: STALE, or the attributes of the
 /// node of a fileid and the volume's space: the bytes of its blocks and of those that are in no
 /// file, the inodes that it may have and those of them that it hasn't. It takes no memory.
-pub fn space(
+pub fn filesystem_status(
     held: &VolumeHeld<Files>,
     volume: VolumeNumber,
     fileid: Fileid,
 ) -> Result<FilesystemStatusResults, Status>
     requires whole { HasVolume volume.0 volume_lens [] (volume_before held.now) }
-    ensures right { TellsSpace volume.0 fileid.0 (volume_before held.now) result }
+    ensures right { TellsFilesystemStatus volume.0 fileid.0 (volume_before held.now) result }
 {
     let inodes = &held.logical.own.get().inodes;
     let inode = match inodes.get(fileid) {

@@ -9,18 +9,18 @@ use Rattle.nfs_model.specs.Server.{most_inodes}
 use Rattle.nfs_model.specs.Types.{Listed}
 use Rattle.depot_rule.specs.Shares.{too_many}
 use Rattle.nfs_model.specs.volume.Directories.{DirectoryValue, found, fileid_found}
-use Rattle.nfs_model.specs.volume.Inodes.{InodeKind, RegularFile, Folder, Inode}
+use Rattle.nfs_model.specs.volume.Inodes.{InodeKind, RegularFile, DirectoryKind, Inode}
 use Rattle.nfs_model.specs.volume.Stripes.{Card}
 use Rattle.nfs_model.specs.volume.lemmas.Inodes.{next-absent}
 use Rattle.inodes.specs.Inode.{inode_value}
 use Rattle.filer_state.specs.state.Contents.{VolumeContents}
-use Rattle.filer_state.specs.state.Names.{root, size_in, is_folder, parent_directory, subdirectories_in, subdirectories_of, folders_listed}
+use Rattle.filer_state.specs.state.Names.{root, size_in, is_directory, parent_directory, subdirectories_in, subdirectories_of, directories_listed}
 use Rattle.filer_state.specs.state.WellFormed.{WellFormed, size_shown}
 use Rattle.filer_state.specs.state.Sound.{IsSound}
 use Rattle.filer_state.specs.state.Lenses.{LogicalSet, logical_lens}
 use Rattle.filer_state.specs.state.Promises.{HasVolume}
 use Rattle.filer_state.specs.state.Tree.{stripe_at, directory_or_empty}
-use Rattle.filer_state.specs.laws.lemmas.Limits.{few-folders}
+use Rattle.filer_state.specs.laws.lemmas.Limits.{few-directories}
 use Rattle.filer_state.specs.changes.NameAnswers.{entries_of}
 use Rattle.filer_state.specs.changes.Making.{is_full_set}
 use Rattle.filer_state.specs.changes.Named.{node_at, node_there}
@@ -57,12 +57,12 @@ no-inode q (Some i) e = absurd cc
 
 -- a name under which no node is has no entry
 volume-absent : (p : VolumeContents) → WellFormed p → (d : ℕ) (inode : Inode) (name : List ℕ) → get p.logical.inodes.inodes d ≡ Some inode
-    → is_folder (Some inode) ≡ true → node_at (logical_lens.of p) (fileid_found (entries_of p.logical d) name) ≡ None
+    → is_directory (Some inode) ≡ true → node_at (logical_lens.of p) (fileid_found (entries_of p.logical d) name) ≡ None
     → fileid_found (entries_of p.logical d) name ≡ None
-volume-absent p well d inode name there folder none = by (found (entries_of p.logical d) name) refl none
+volume-absent p well d inode name there as_directory none = by (found (entries_of p.logical d) name) refl none
   where
     entered : get p.logical.directories d ≡ Some (entries_of p.logical d)
-    entered = entered-by (get p.logical.directories d) (well.logical.named.folders d ∙ ap is_folder there ∙ folder)
+    entered = entered-by (get p.logical.directories d) (well.logical.named.as_directories d ∙ ap is_directory there ∙ as_directory)
 
     by : (o : Option Listed) → found (entries_of p.logical d) name ≡ o
         → node_at (logical_lens.of p) (option_map (λ (e : Listed). e.fileid) o) ≡ None → option_map (λ (e : Listed). e.fileid) o ≡ None
@@ -83,19 +83,19 @@ module _ (p : VolumeContents) (hands hands' : List Hand) (made : ℕ) (few : mad
   links-by : (k : InodeKind) → inode.kind ≡ k → (e : DirectoryValue) → get p.logical.directories d ≡ Some e → get p.logical.inodes.inodes d ≡ Some inode
       → is_full_set (logical_lens.of p) ≡ false → IfSome (subdirectories_in k) (λ subdirectories. subdirectories < most_inodes)
   links-by (RegularFile size filled verifier) is e entered there room = tt
-  links-by (Folder parent subs) is e entered there room =
-      let counted : Some subs ≡ Some (folders_listed p.logical.inodes.inodes e.list) =
+  links-by (DirectoryKind parent subs) is e entered there room =
+      let counted : Some subs ≡ Some (directories_listed p.logical.inodes.inodes e.list) =
       sym (ap subdirectories_of there ∙ ap subdirectories_in is) ∙ (well.logical.named.fits d e entered).links in
-      let same : subs ≡ folders_listed p.logical.inodes.inodes e.list = cc in
-      let most = few-folders p.logical.inodes.inodes p.logical.directories well.logical.named d e entered in
+      let same : subs ≡ directories_listed p.logical.inodes.inodes e.list = cc in
+      let most = few-directories p.logical.inodes.inodes p.logical.directories well.logical.named d e entered in
       let left : nat_le most_inodes (len p.logical.inodes.inodes) ≡ false = room in
       grind (arith, nat_tests, same, most, left)
 
-  volume-may : get p.logical.inodes.inodes d ≡ Some inode → is_folder (Some inode) ≡ true → fileid_found (entries_of p.logical d) name ≡ None
+  volume-may : get p.logical.inodes.inodes d ≡ Some inode → is_directory (Some inode) ≡ true → fileid_found (entries_of p.logical d) name ≡ None
       → is_full_set (logical_lens.of p) ≡ false → MayMake (naming_in_parent w name (logical_lens.of p))
-  volume-may there folder absent room =
+  volume-may there as_directory absent room =
       let entered : get p.logical.directories d ≡ Some (entries_of p.logical d) =
-      entered-by (get p.logical.directories d) (well.logical.named.folders d ∙ ap is_folder there ∙ folder) in
+      entered-by (get p.logical.directories d) (well.logical.named.as_directories d ∙ ap is_directory there ∙ as_directory) in
       let many = well.as_many in
       record {
         few = ⊎_elim (λ (e : p.logical.stripes ≡ 8). omega arith) (λ (e : p.logical.stripes ≡ 16). omega arith) well.striped;
@@ -111,7 +111,7 @@ module _ (p : VolumeContents) (hands hands' : List Hand) (made : ℕ) (few : mad
         apart = let below = well.logical.inodes.fileids d inode there in grind (arith, nat_tests, below);
         inodes = well.logical.inodes;
         no_directory = no-entries (get p.logical.directories p.logical.inodes.next)
-            (well.logical.named.folders p.logical.inodes.next ∙ ap is_folder (next-absent p.logical.inodes well.logical.inodes));
+            (well.logical.named.as_directories p.logical.inodes.next ∙ ap is_directory (next-absent p.logical.inodes well.logical.inodes));
         no_card = λ i less.
             shown-none (get (stripe_at p.stripes i).cards p.logical.inodes.next)
             ((well.stripes i (omega (arith, less, many))).cards p.logical.inodes.next
@@ -120,17 +120,17 @@ module _ (p : VolumeContents) (hands hands' : List Hand) (made : ℕ) (few : mad
 
 -- a directory may get a node under a name that it doesn't have, where an inode is left
 pub whole-may : (v : ℕ) (set : LogicalSet) → HasVolume v logical_lens [] set → (w : Parent) (name : List ℕ)
-    → get set.own.inodes.inodes w.fileid.0 ≡ Some (inode_value w.inode) → is_folder (Some (inode_value w.inode)) ≡ true
+    → get set.own.inodes.inodes w.fileid.0 ≡ Some (inode_value w.inode) → is_directory (Some (inode_value w.inode)) ≡ true
     → fileid_found (entries_of set.own w.fileid.0) name ≡ None → is_full_set set ≡ false → MayMake (naming_in_parent w name set)
 whole-may v set whole w name =
-    subst (λ (s : LogicalSet). get s.own.inodes.inodes w.fileid.0 ≡ Some (inode_value w.inode) → is_folder (Some (inode_value w.inode)) ≡ true
+    subst (λ (s : LogicalSet). get s.own.inodes.inodes w.fileid.0 ≡ Some (inode_value w.inode) → is_directory (Some (inode_value w.inode)) ≡ true
     → fileid_found (entries_of s.own w.fileid.0) name ≡ None → is_full_set s ≡ false → MayMake (naming_in_parent w name s)) whole.4
     (volume-may whole.0 whole.1 whole.2 whole.3 whole.6 whole.8 w name)
 
 pub whole-absent : (v : ℕ) (set : LogicalSet) → HasVolume v logical_lens [] set → (d : ℕ) (inode : Inode) (name : List ℕ)
-    → get set.own.inodes.inodes d ≡ Some inode → is_folder (Some inode) ≡ true → node_at set (fileid_found (entries_of set.own d) name) ≡ None
+    → get set.own.inodes.inodes d ≡ Some inode → is_directory (Some inode) ≡ true → node_at set (fileid_found (entries_of set.own d) name) ≡ None
     → fileid_found (entries_of set.own d) name ≡ None
 whole-absent v set whole d inode name =
-    subst (λ (s : LogicalSet). get s.own.inodes.inodes d ≡ Some inode → is_folder (Some inode) ≡ true
+    subst (λ (s : LogicalSet). get s.own.inodes.inodes d ≡ Some inode → is_directory (Some inode) ≡ true
     → node_at s (fileid_found (entries_of s.own d) name) ≡ None → fileid_found (entries_of s.own d) name ≡ None) whole.4
     (volume-absent whole.0 whole.8.well_formed d inode name)

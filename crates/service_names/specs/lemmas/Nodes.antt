@@ -10,7 +10,7 @@ use Rattle.nfs_model.specs.volume.Directories.{DirectoryValue}
 use Rattle.nfs_model.specs.volume.Inodes.{Inode}
 use Rattle.nfs_model.specs.volume.Stripes.{Card}
 use Rattle.filer_state.specs.state.Contents.{VolumeContents}
-use Rattle.filer_state.specs.state.Names.{is_folder, size_in}
+use Rattle.filer_state.specs.state.Names.{is_directory, size_in}
 use Rattle.filer_state.specs.state.Sound.{IsSound}
 use Rattle.filer_state.specs.state.Tree.{stripe_at, ranges_used, directory_or_empty}
 use Rattle.filer_state.specs.state.WellFormed.{size_shown}
@@ -81,12 +81,12 @@ module _ (v : ℕ) (set : LogicalSet) (whole : HasVolume v logical_lens [] set) 
   }
 
   -- a directory has entries
-  pub whole-entered : (fileid : ℕ) (inode : Inode) → get set.own.inodes.inodes fileid ≡ Some inode → is_folder (Some inode) ≡ true
+  pub whole-entered : (fileid : ℕ) (inode : Inode) → get set.own.inodes.inodes fileid ≡ Some inode → is_directory (Some inode) ≡ true
       → get set.own.directories fileid ≡ Some (entries_of set.own fileid)
-  whole-entered fileid inode there folder =
+  whole-entered fileid inode there as_directory =
       filled (get set.own.directories fileid)
-      (subst (λ (s : LogicalSet). is_some (get s.own.directories fileid) ≡ is_folder (get s.own.inodes.inodes fileid)) whole.4
-      (whole.8.well_formed.logical.named.folders fileid) ∙ ap is_folder there ∙ folder)
+      (subst (λ (s : LogicalSet). is_some (get s.own.directories fileid) ≡ is_directory (get s.own.inodes.inodes fileid)) whole.4
+      (whole.8.well_formed.logical.named.as_directories fileid) ∙ ap is_directory there ∙ as_directory)
     where
       filled : (o : Option DirectoryValue) → is_some o ≡ true → o ≡ Some (directory_or_empty o)
       filled None e = absurd cc

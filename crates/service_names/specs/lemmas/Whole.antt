@@ -3,13 +3,13 @@ use Rattle.std.proofs.Common.{◌≡◌, ℕ, ◌≤◌, false, true, Option, So
 use Rattle.std.specs.Prelude.{is_some}
 use Rattle.std.specs.FinMap.{get}
 use Rattle.nfs_model.specs.volume.Directories.{DirectoryValue}
-use Rattle.nfs_model.specs.volume.Inodes.{InodeKind, RegularFile, Folder, Inode}
+use Rattle.nfs_model.specs.volume.Inodes.{InodeKind, RegularFile, DirectoryKind, Inode}
 use Rattle.filer_state.specs.state.Contents.{VolumeContents}
-use Rattle.filer_state.specs.state.Names.{is_folder, parent_in, subdirectories_in, subdirectories_of, folders_listed}
+use Rattle.filer_state.specs.state.Names.{is_directory, parent_in, subdirectories_in, subdirectories_of, directories_listed}
 use Rattle.filer_state.specs.state.WellFormed.{WellFormed}
 use Rattle.filer_state.specs.state.Lenses.{LogicalSet, logical_lens}
 use Rattle.filer_state.specs.state.Promises.{HasVolume}
-use Rattle.filer_state.specs.laws.lemmas.Limits.{few-folders}
+use Rattle.filer_state.specs.laws.lemmas.Limits.{few-directories}
 use Rattle.service_names.specs.Shown.{HasFewLinks}
 
 -- no directory of a sound volume has too many links
@@ -18,18 +18,18 @@ few-links p well fileid inode there = by inode.kind refl
   where
     by : (kind : InodeKind) → inode.kind ≡ kind → HasFewLinks kind
     by (RegularFile size filled verifier) is = tt
-    by (Folder parent subs) is = listed (get p.logical.directories fileid) refl
+    by (DirectoryKind parent subs) is = listed (get p.logical.directories fileid) refl
       where
-        folder : is_folder (get p.logical.inodes.inodes fileid) ≡ true
-        folder = ap is_folder there ∙ ap (λ k. is_some (parent_in k)) is
+        as_directory : is_directory (get p.logical.inodes.inodes fileid) ≡ true
+        as_directory = ap is_directory there ∙ ap (λ k. is_some (parent_in k)) is
 
-        listed : (o : Option DirectoryValue) → get p.logical.directories fileid ≡ o → HasFewLinks (Folder parent subs)
-        listed None e = absurd (let no : false ≡ true = sym (ap is_some e) ∙ (well.logical.named.folders fileid ∙ folder) in cc)
+        listed : (o : Option DirectoryValue) → get p.logical.directories fileid ≡ o → HasFewLinks (DirectoryKind parent subs)
+        listed None e = absurd (let no : false ≡ true = sym (ap is_some e) ∙ (well.logical.named.as_directories fileid ∙ as_directory) in cc)
         listed (Some d) e =
-            let counted : Some subs ≡ Some (folders_listed p.logical.inodes.inodes d.list) =
+            let counted : Some subs ≡ Some (directories_listed p.logical.inodes.inodes d.list) =
             sym (ap subdirectories_of there ∙ ap subdirectories_in is) ∙ (well.logical.named.fits fileid d e).links in
-            let same : subs ≡ folders_listed p.logical.inodes.inodes d.list = cc in
-            let most = few-folders p.logical.inodes.inodes p.logical.directories well.logical.named fileid d e in
+            let same : subs ≡ directories_listed p.logical.inodes.inodes d.list = cc in
+            let most = few-directories p.logical.inodes.inodes p.logical.directories well.logical.named fileid d e in
             let few = well.logical.few in
             omega arith
 

@@ -12,21 +12,21 @@ use Rattle.outboxes.specs.contracts.outboxes.Outboxes as Outboxes
 use Rattle.outboxes.specs.contracts.outboxes.Outboxes.TheInside as OutboxesInside
 use Rattle.outboxes.specs.contracts.room.Room as Room
 use Rattle.outboxes.specs.contracts.room.Room.TheInside as RoomInside
-use Rattle.outboxes.specs.contracts.said.Said as Said
-use Rattle.outboxes.specs.contracts.said.Said.TheInside as SaidInside
+use Rattle.outboxes.specs.contracts.numbered_reply.NumberedReply as NumberedReply
+use Rattle.outboxes.specs.contracts.numbered_reply.NumberedReply.TheInside as NumberedReplyInside
 use Rattle.turns.proofs.crossings.Structs.{struct-send}
 
-said-inside-send : IsSend SaidInside.the_row
-said-inside-send = struct-send SaidInside.the_type (search sendable depth 20, (search (crosses, sendable) depth 20, tt))
+numbered-inside-send : IsSend NumberedReplyInside.the_row
+numbered-inside-send = struct-send NumberedReplyInside.the_type (search sendable depth 20, (search (crosses, sendable) depth 20, tt))
 
-said-send : IsSend Said.the_row
-said-send = view_send SaidInside.the_row _ _ _ _ said-inside-send
+numbered-send : IsSend NumberedReply.the_row
+numbered-send = view_send NumberedReplyInside.the_row _ _ _ _ numbered-inside-send
 
 chain-send : IsSend Chain.the_row
-chain-send = send-Chain (λ h it. search (it, crosses, sendable)) (search (crosses, sendable) depth 20) (as_row_send Said.the_field said-send)
+chain-send = send-Chain (λ h it. search (it, crosses, sendable)) (search (crosses, sendable) depth 20) (as_row_send NumberedReply.the_field numbered-send)
 
 link-send : IsSend Link.the_row
-link-send = struct-send Link.the_type (search (crosses, sendable) depth 20, (said-send, (chain-send, tt)))
+link-send = struct-send Link.the_type (search (crosses, sendable) depth 20, (numbered-send, (chain-send, tt)))
 
 outbox-inside-send : IsSend OutboxInside.the_row
 outbox-inside-send = struct-send OutboxInside.the_type (chain-send, (chain-send, tt))

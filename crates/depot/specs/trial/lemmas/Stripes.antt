@@ -4,7 +4,7 @@ use Rattle.nfs_model.specs.Tree.{Layout, Affinity}
 use Rattle.affinity.specs.declared.affinity.Kind.{Kind}
 use Rattle.affinity.specs.Numbers.{number_of}
 use Rattle.parcels.specs.Exact.{kind_in, HasExactly}
-use Rattle.parcels.specs.Places.{alone}
+use Rattle.parcels.specs.Slots.{alone}
 use Rattle.parcels.specs.Sets.{stripe_parcels}
 use Rattle.parcels.specs.declared.sets.StripeHeld.{StripeHeld}
 use Rattle.parcels.specs.declared.family.Parcel.TheVariants.{Stripe}

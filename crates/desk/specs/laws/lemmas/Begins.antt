@@ -33,7 +33,7 @@ length-map f [] = refl
 length-map f (x ∷ xs) = ap suc (length-map f xs)
 
 module _ {P C R G : Type 0} (shows : Shows G P) (L : Layout) where
-  -- a worker's place
+  -- a worker's slot
   pub in-room : (v : View P (Entry P C R)) (gs : List (Option G)) (i : ℕ) (x : Option (Lent P)) → get_elem? (books_of shows L v gs).lent i ≡ some x
       → i < length gs
   in-room v gs i x at =

@@ -29,7 +29,7 @@ found : {G : Type 0} (gs : List (Option G)) (i : ℕ) (there result x : Option G
 found gs i there result x room is same e = at_index gs i there room is ∙ ap some (sym same ∙ e)
 
 module _ {P C R G : Type 0} (shows : Shows G P) (L : Layout) (v : View P (Entry P C R)) (gs : List (Option G)) (i : ℕ) where
-  -- the same at the place of a worker
+  -- the same at the slot of a worker
   pub found-at : (o : Option (Lent P)) → get_elem? (books_of shows L v gs).lent i ≡ some o → (there result x : Option G)
       → there ≡ slice_index_or gs i there → result ≡ there → result ≡ x → get_elem? gs i ≡ some x
   found-at o lent there result x = found gs i there result x (in-room shows L v gs i o lent)

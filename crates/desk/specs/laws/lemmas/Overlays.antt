@@ -43,7 +43,7 @@ module _ {P : Type 0} where
         (patched (parents layout) (number_of layout l.affinity) l.parcels g) k
         (ap (λ (y : Option P). if_less (covers (parents layout) (number_of layout l.affinity) k) (l.parcels k) y) e)
 
-    -- one place more or less, which doesn't reach the node
+    -- one slot more or less, which doesn't reach the node
     skipped : (x : Option (Lent P)) (ls : List (Option (Lent P))) (f : ℕ → Option P) (k : ℕ) → Misses x k
         → overlaid layout (x ∷ ls) f k ≡ overlaid layout ls f k
     skipped None ls f k miss = refl

@@ -76,7 +76,7 @@ module _ {P C R G : Type 0} (shows : Shows G P) (L : Layout) (v : View P (Entry 
       let some_one = at_map (λ g. option_map (shows L) g) gs i (Some x) at in
       let bad : None ≡ Some (shows L x) = some-injective None (Some (shows L x)) (sym idle ∙ some_one) in cc
 
-  -- whether the worker's place has no grant says whether it is idle
+  -- whether the worker's slot has no grant says whether it is idle
   pub said-idle : (x : Option G) (t : Bool) → i < length gs → x ≡ slice_index_or gs i x → is_some x ≡ not t
       → (t ≡ true) ↔ IsIdle (books_of shows L v gs) i
   said-idle None true lt is none = (λ e. at_map (λ g. option_map (shows L) g) gs i None (at_index gs i None lt is), λ idle. refl)

@@ -9,5 +9,5 @@ returns-clause-indexed c =
     let d = c.args.entries.now in
     let index = cookies c.args.by_name.now in
     rw (c.insert.ensures, c.in_ok-cookie.ensures.ok, c.in_ok-room.ensures.same, cookies-insert)
-    (indexed-added d index c.args.place c.in_ok-cookie.cookie c.args.name c.args.fileid.0 c.requires.indexed c.requires.place
-    (found-nowhere d index c.args.place c.args.name c.requires.indexed c.requires.place) c.in_ok-cookie.ensures.cookie)
+    (indexed-added d index c.args.position c.in_ok-cookie.cookie c.args.name c.args.fileid.0 c.requires.indexed c.requires.position
+    (found-nowhere d index c.args.position c.args.name c.requires.indexed c.requires.position) c.in_ok-cookie.ensures.cookie)

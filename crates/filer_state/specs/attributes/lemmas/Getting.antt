@@ -12,11 +12,11 @@ use Rattle.nfs_model.specs.Server.{Node, VolumeState, block_size}
 use Rattle.nfs_model.specs.Shown.{shown, subdirectories, is_directory_node}
 use Rattle.nfs_model.specs.Parts.{Hand, one_if}
 use Rattle.nfs_model.specs.volume.Directories.{DirectoryValue}
-use Rattle.nfs_model.specs.volume.Inodes.{InodeKind, RegularFile, Folder, Inode, filled_blocks}
+use Rattle.nfs_model.specs.volume.Inodes.{InodeKind, RegularFile, DirectoryKind, Inode, filled_blocks}
 use Rattle.nfs_model.specs.volume.lemmas.Maps.{get-map_values}
 use Rattle.filer_state.specs.state.Contents.{VolumeContents}
 use Rattle.filer_state.specs.state.Tree.{file_byte, file_bytes, file_filled, file_touch, directory_or_empty, node_by, node_of, volume_of}
-use Rattle.filer_state.specs.state.Names.{is_folder, folders_listed, subdirectories_of, subdirectories_in}
+use Rattle.filer_state.specs.state.Names.{is_directory, directories_listed, subdirectories_of, subdirectories_in}
 use Rattle.filer_state.specs.state.WellFormed.{WellFormed}
 use Rattle.filer_state.specs.state.Partition.{times_in_hand}
 use Rattle.filer_state.specs.state.Sound.{IsSound}
@@ -34,42 +34,42 @@ module _ (p : VolumeContents) where
   pub node-at : (q : ℕ) → get (volume_of p).nodes q ≡ option_map (node_of p.stripes p.logical.directories q) (get p.logical.inodes.inodes q)
   node-at q = get-map_values nat_cmp_total nat_cmp-IsAntisymmetric (node_of p.stripes p.logical.directories) p.logical.inodes.inodes q
 
-  folder-node : (q : ℕ) → is_directory_node (get (volume_of p).nodes q) ≡ is_folder (get p.logical.inodes.inodes q)
-  folder-node q = ap is_directory_node (node-at q) ∙ by (get p.logical.inodes.inodes q)
+  directory-node : (q : ℕ) → is_directory_node (get (volume_of p).nodes q) ≡ is_directory (get p.logical.inodes.inodes q)
+  directory-node q = ap is_directory_node (node-at q) ∙ by (get p.logical.inodes.inodes q)
     where
       kind : (a : Inode) (k : InodeKind)
-          → is_directory_node (Some (node_by p.stripes (get p.logical.directories q) q a.attributes k)) ≡ is_folder (Some (record a { kind = k }))
+          → is_directory_node (Some (node_by p.stripes (get p.logical.directories q) q a.attributes k)) ≡ is_directory (Some (record a { kind = k }))
       kind a (RegularFile size filled verifier) = refl
-      kind a (Folder parent subdirectories) = refl
+      kind a (DirectoryKind parent subdirectories) = refl
 
-      by : (o : Option Inode) → is_directory_node (option_map (node_of p.stripes p.logical.directories q) o) ≡ is_folder o
+      by : (o : Option Inode) → is_directory_node (option_map (node_of p.stripes p.logical.directories q) o) ≡ is_directory o
       by None = refl
       by (Some inode) = kind inode inode.kind
 
   -- the model's count of subdirectories
-  pub subdirectories-are : (list : List Listed) → subdirectories (volume_of p).nodes list ≡ folders_listed p.logical.inodes.inodes list
+  pub subdirectories-are : (list : List Listed) → subdirectories (volume_of p).nodes list ≡ directories_listed p.logical.inodes.inodes list
   subdirectories-are [] = refl
   subdirectories-are (e ∷ list) =
       let here : one_if (is_directory_node (get (volume_of p).nodes e.fileid))
-      ≡ one_if (is_folder (get p.logical.inodes.inodes e.fileid)) = ap one_if (folder-node e.fileid) in
+      ≡ one_if (is_directory (get p.logical.inodes.inodes e.fileid)) = ap one_if (directory-node e.fileid) in
       let others = subdirectories-are list in
       omega (arith, here, others)
 
   module _ (well : WellFormed p) where
-    links : (fileid : ℕ) (inode : Inode) (parent subs : ℕ) → get p.logical.inodes.inodes fileid ≡ Some inode → inode.kind ≡ Folder parent subs
+    links : (fileid : ℕ) (inode : Inode) (parent subs : ℕ) → get p.logical.inodes.inodes fileid ≡ Some inode → inode.kind ≡ DirectoryKind parent subs
         → subdirectories (volume_of p).nodes (directory_or_empty (get p.logical.directories fileid)).list ≡ subs
     links fileid inode parent subs there is =
-        let folder : is_folder (get p.logical.inodes.inodes fileid) ≡ true = ap is_folder there ∙ ap (λ k. is_folder (Some (record inode { kind = k }))) is in
-        by (get p.logical.directories fileid) refl (well.logical.named.folders fileid ∙ folder)
+        let as_directory : is_directory (get p.logical.inodes.inodes fileid) ≡ true = ap is_directory there ∙ ap (λ k. is_directory (Some (record inode { kind = k }))) is in
+        by (get p.logical.directories fileid) refl (well.logical.named.as_directories fileid ∙ as_directory)
       where
         by : (o : Option DirectoryValue) → get p.logical.directories fileid ≡ o → is_some (get p.logical.directories fileid) ≡ true
             → subdirectories (volume_of p).nodes (directory_or_empty o).list ≡ subs
         by None e some = let no : is_some (get p.logical.directories fileid) ≡ false = ap is_some e in cc
         by (Some d) e some =
             let fits = well.logical.named.fits fileid d e in
-            let says : Some subs ≡ Some (folders_listed p.logical.inodes.inodes d.list) =
+            let says : Some subs ≡ Some (directories_listed p.logical.inodes.inodes d.list) =
             sym (ap subdirectories_of there ∙ ap subdirectories_in is) ∙ fits.links in
-            let same : subs ≡ folders_listed p.logical.inodes.inodes d.list = cc in
+            let same : subs ≡ directories_listed p.logical.inodes.inodes d.list = cc in
             subdirectories-are d.list ∙ sym same
 
     -- attributes by the inode
@@ -86,9 +86,9 @@ module _ (p : VolumeContents) where
               size = long j;
               used = block_size * sym e j;
             }
-        by (Folder parent subs) is e =
+        by (DirectoryKind parent subs) is e =
             let l = links fileid inode parent subs there is in
-            λ j. record (shown_kind p.number fileid inode.attributes (Folder parent subs) (file_touch p.stripes fileid)) { links = 2 + l j }
+            λ j. record (shown_kind p.number fileid inode.attributes (DirectoryKind parent subs) (file_touch p.stripes fileid)) { links = 2 + l j }
 
 -- ---- calls that change nothing
 

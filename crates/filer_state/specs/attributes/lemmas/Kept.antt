@@ -7,7 +7,7 @@ use Rattle.std.specs.Option.{option_map}
 use Rattle.std.specs.FinMap.{get}
 use Rattle.depot_rule.specs.Sums.{total}
 use Rattle.nfs_model.specs.volume.Inodes.{InodeKind, Inode, InodesValue, inode_of, inode_set}
-use Rattle.nfs_model.specs.volume.Stripes.{Card, OfFile, OfFolder, StripeValue, card_settled, touch_taken, touch_of}
+use Rattle.nfs_model.specs.volume.Stripes.{Card, OfFile, OfDirectory, StripeValue, card_settled, touch_taken, touch_of}
 use Rattle.nfs_model.specs.volume.lemmas.Inodes.{inode-set-there, inode-set-other}
 use Rattle.nfs_model.specs.volume.lemmas.Numbered.{get-changed_at}
 use Rattle.filer_state.specs.state.Tree.{stripe_at, file_bytes, file_filled, file_touch, later}
@@ -34,7 +34,7 @@ module _ (f : ℕ) where
       by : (b : Bool) (o : Option Card) → touch_of (if b then option_map card_settled o else get s.cards q) ≡ (if b then None else touch_of (get s.cards q))
       by true None = refl
       by true (Some (OfFile size touch)) = refl
-      by true (Some OfFolder) = refl
+      by true (Some OfDirectory) = refl
       by false o = refl
 
   pub touch-gone : (stripes : List StripeValue) → file_touch (touches_taken f stripes) f ≡ None
@@ -53,7 +53,7 @@ module _ (f : ℕ) where
     where
       card : (c : Card) → size_shown (card_settled c) ≡ size_shown c
       card (OfFile size touch) = refl
-      card OfFolder = refl
+      card OfDirectory = refl
 
       there : (o : Option Card) → option_map size_shown (option_map card_settled o) ≡ option_map size_shown o
       there None = refl

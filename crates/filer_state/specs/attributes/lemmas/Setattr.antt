@@ -16,7 +16,7 @@ use Rattle.nfs_model.specs.Serial.Setattr.{setattr_fault, set_attributes, set_no
 use Rattle.nfs_model.specs.Parts.{Parts, Hand}
 use Rattle.nfs_model.specs.Moves.{Emptied}
 use Rattle.depot_rule.specs.Sums.{total}
-use Rattle.nfs_model.specs.volume.Inodes.{InodeKind, RegularFile, Folder, Inode}
+use Rattle.nfs_model.specs.volume.Inodes.{InodeKind, RegularFile, DirectoryKind, Inode}
 use Rattle.nfs_model.specs.volume.Stripes.{StripeValue}
 use Rattle.nfs_model.specs.volume.lemmas.Inodes.{inode-set-there, next-set, used-set-same}
 use Rattle.filer_state.specs.state.Contents.{VolumeContents}
@@ -91,7 +91,7 @@ module _ (p : VolumeContents) (f : ℕ) where
       by : (kind : InodeKind) → times (node_by p.stripes (get p.logical.directories f) f inode.attributes kind)
           ≡ attributes_now (file_touch p.stripes f) inode.attributes kind
       by (RegularFile size filled verifier) = refl
-      by (Folder parent subdirectories) = refl
+      by (DirectoryKind parent subdirectories) = refl
 
   module _ (set : SetAttributes) (moment : Moment) (old : Inode) (there : get p.logical.inodes.inodes f ≡ Some old) where
     abbrev next : Inode

@@ -15,7 +15,7 @@ use Rattle.nfs_model.specs.Shown.{settled}
 use Rattle.nfs_model.specs.Parts.{Hand}
 use Rattle.depot_rule.specs.Sums.{total}
 use Rattle.nfs_model.specs.volume.Maps.{map_values}
-use Rattle.nfs_model.specs.volume.Inodes.{InodeKind, RegularFile, Folder, Inode, InodesValue, filled_blocks, inode_of, inode_set}
+use Rattle.nfs_model.specs.volume.Inodes.{InodeKind, RegularFile, DirectoryKind, Inode, InodesValue, filled_blocks, inode_of, inode_set}
 use Rattle.nfs_model.specs.volume.Stripes.{StripeValue, touch_taken}
 use Rattle.nfs_model.specs.volume.lemmas.Inodes.{inode-set-there, inode-set-other, next-set, used-set-same, len-set, set-is}
 use Rattle.nfs_model.specs.volume.lemmas.Maps.{get-map_values}
@@ -126,7 +126,7 @@ module _ (stripes : List StripeValue) (directories : DirectoryMap) (f : ℕ) whe
     touch = touch-gone f stripes j;
     verifier = verifier;
   })
-  this-node a b (Folder parent subdirectories) = refl
+  this-node a b (DirectoryKind parent subdirectories) = refl
 
   other-node : (q : ℕ) → (q == f) ≡ false → (a : Attributes) (kind : InodeKind)
       → node_by taken (get directories q) q a kind ≡ node_by stripes (get directories q) q a kind
@@ -137,7 +137,7 @@ module _ (stripes : List StripeValue) (directories : DirectoryMap) (f : ℕ) whe
     touch = touch-stays f stripes q ne j;
     verifier = verifier;
   })
-  other-node q ne a (Folder parent subdirectories) = refl
+  other-node q ne a (DirectoryKind parent subdirectories) = refl
 
   -- the nodes, where the inode is set
   pub nodes-set : (v : InodesValue) (old inode : Inode) → inode_of v f ≡ Some old → inode.kind ≡ old.kind

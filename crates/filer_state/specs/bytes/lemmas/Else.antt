@@ -6,7 +6,7 @@ use Rattle.std.specs.Option.{option_map}
 use Rattle.std.specs.FinMap.{get, insert}
 use Rattle.nfs_model.specs.Server.{Node, File, VolumeState}
 use Rattle.nfs_model.specs.Serial.Setattr.{with_node}
-use Rattle.nfs_model.specs.volume.Inodes.{InodeKind, RegularFile, Folder, Inode}
+use Rattle.nfs_model.specs.volume.Inodes.{InodeKind, RegularFile, DirectoryKind, Inode}
 use Rattle.nfs_model.specs.volume.Stripes.{StripeValue}
 use Rattle.nfs_model.specs.volume.lemmas.Inodes.{inode-set-other, next-set}
 use Rattle.nfs_model.specs.volume.lemmas.Numbered.{get-insert_at, insert-twice, insert-same, same-answers}
@@ -55,7 +55,7 @@ module _ (p : VolumeContents) (f : ℕ) (inode : Inode) (old_size blocks : ℕ) 
         touch = touch-other p f inode old_size blocks verifier size more stripes there is_file well small new q ne j;
         verifier = other;
       })
-      by (Folder parent subdirectories) = refl
+      by (DirectoryKind parent subdirectories) = refl
 
   pub seen-alike : SeenAlike f after p
   seen-alike x = λ j. record (volume_of p) { next = next-set p.logical.inodes f next j; nodes = nodes j }

@@ -8,7 +8,7 @@ use Rattle.std.specs.FinMap.{get, len}
 use Rattle.std.specs.FinSet as sets
 use Rattle.nfs_model.specs.Server.{block_size}
 use Rattle.nfs_model.specs.volume.Inodes.{RegularFile, Inode}
-use Rattle.nfs_model.specs.volume.Stripes.{Card, OfFile, OfFolder, Block, StripeValue, byte_of, touch_of, stripe_of}
+use Rattle.nfs_model.specs.volume.Stripes.{Card, OfFile, OfDirectory, Block, StripeValue, byte_of, touch_of, stripe_of}
 use Rattle.nfs_model.specs.volume.lemmas.Numbered.{get-changed_at, itself}
 use Rattle.filer_state.specs.state.Contents.{VolumeContents}
 use Rattle.filer_state.specs.state.Tree.{stripe_at, home_stripe, file_byte, file_filled, file_touch}
@@ -36,7 +36,7 @@ module _ (f end : ℕ) (s : StripeValue) where
       by : (o : Option Card) → touch_of (option_map (card_grown end) o) ≡ touch_of o
       by None = refl
       by (Some (OfFile n touch)) = refl
-      by (Some OfFolder) = refl
+      by (Some OfDirectory) = refl
 
   -- a card that shows a size
   shown-here : (size : ℕ) → option_map size_shown (get s.cards f) ≡ Some (Some size)
@@ -47,7 +47,7 @@ module _ (f end : ℕ) (s : StripeValue) where
           → option_map size_shown (option_map (card_grown end) o) ≡ Some (Some (max size end))
       by None h = absurd cc
       by (Some (OfFile n touch)) h = let same : n ≡ size = cc in ap (λ (k : ℕ). Some (Some (max k end))) same
-      by (Some OfFolder) h = absurd cc
+      by (Some OfDirectory) h = absurd cc
 
 -- ---- the volume
 

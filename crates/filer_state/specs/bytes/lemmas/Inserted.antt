@@ -8,7 +8,7 @@ use Rattle.std.specs.FinMap.{find, put, get, len, entries, get-entries, get-inse
 use Rattle.std.specs.FinMap.Entries.{by_order}
 use Rattle.nfs_model.specs.Parts.{one_if, times_listed}
 use Rattle.nfs_model.specs.Server.{block_size}
-use Rattle.nfs_model.specs.volume.Stripes.{Place, place_cmp, Block, StripeValue, byte_of, zero_block, block_inserted}
+use Rattle.nfs_model.specs.volume.Stripes.{FileBlock, file_block_cmp, Block, StripeValue, byte_of, zero_block, block_inserted}
 use Rattle.nfs_model.specs.volume.lemmas.Entries.{place_total}
 use Rattle.nfs_model.specs.volume.lemmas.Numbered.{itself}
 use Rattle.filer_state.specs.state.Partition.{times_in_stripe}
@@ -30,29 +30,29 @@ order-both Less t = refl
 order-both Equal t = refl
 order-both Greater t = refl
 
-place-is : (p q : Place) → eq_by_cmp place_cmp p q ≡ ((p.0 == q.0) && (p.1 == q.1))
+place-is : (p q : FileBlock) → eq_by_cmp file_block_cmp p q ≡ ((p.0 == q.0) && (p.1 == q.1))
 place-is p q = order-both (nat_cmp p.0 q.0) (nat_cmp p.1 q.1) ∙ (λ j. unsigned_tied p.0 q.0 j && unsigned_tied p.1 q.1 j)
 
 -- ---- sums over entries
 
 module _ (g : Block → ℕ) where
-  abbrev sum : List (Place × Block) → ℕ
+  abbrev sum : List (FileBlock × Block) → ℕ
   sum [] = 0
   sum (e ∷ es) = g e.1 + sum es
 
-  sum-put : (k : Place) (x : Block) (es : List (Place × Block)) → find place_cmp k es ≡ None → sum (put place_cmp k x es) ≡ g x + sum es
+  sum-put : (k : FileBlock) (x : Block) (es : List (FileBlock × Block)) → find file_block_cmp k es ≡ None → sum (put file_block_cmp k x es) ≡ g x + sum es
   sum-put k x [] h = refl
-  sum-put k x (e ∷ es) h = by (place_cmp k e.0) (sum-put k x es) h
+  sum-put k x (e ∷ es) h = by (file_block_cmp k e.0) (sum-put k x es) h
     where
-      by : (r : Ordering) → (find place_cmp k es ≡ None → sum (put place_cmp k x es) ≡ g x + sum es)
-          → cond (is_eq r) (Some e.1) (find place_cmp k es) ≡ None
-          → sum (by_order r ((k, x) ∷ e ∷ es) ((e.0, x) ∷ es) (e ∷ put place_cmp k x es)) ≡ g x + (g e.1 + sum es)
+      by : (r : Ordering) → (find file_block_cmp k es ≡ None → sum (put file_block_cmp k x es) ≡ g x + sum es)
+          → cond (is_eq r) (Some e.1) (find file_block_cmp k es) ≡ None
+          → sum (by_order r ((k, x) ∷ e ∷ es) ((e.0, x) ∷ es) (e ∷ put file_block_cmp k x es)) ≡ g x + (g e.1 + sum es)
       by Less rest h = refl
       by Equal rest h = absurd (grind (arith, h))
       by Greater rest h = let others = rest h in omega (arith, others)
 
-times-sum : (m : ℕ) (es : List (Place × Block))
-    → times_listed m (map (λ (e : Place × Block). e.1.number) es) ≡ sum (λ (b : Block). one_if (b.number == m)) es
+times-sum : (m : ℕ) (es : List (FileBlock × Block))
+    → times_listed m (map (λ (e : FileBlock × Block). e.1.number) es) ≡ sum (λ (b : Block). one_if (b.number == m)) es
 times-sum m [] = refl
 times-sum m (e ∷ es) = let others = times-sum m es in omega (arith, others)
 
@@ -85,7 +85,7 @@ module _ (f b n : ℕ) (s : StripeValue) where
 
     pub insert-times : (m : ℕ) → times_in_stripe m now ≡ one_if (n == m) + times_in_stripe m s
     insert-times m =
-        ap (λ es. times_listed m (map (λ (e : Place × Block). e.1.number) es)) (entries-insert place_total s.blocks (f, b) (zero_block n))
-        ∙ times-sum m (put place_cmp (f, b) (zero_block n) (entries s.blocks))
+        ap (λ es. times_listed m (map (λ (e : FileBlock × Block). e.1.number) es)) (entries-insert place_total s.blocks (f, b) (zero_block n))
+        ∙ times-sum m (put file_block_cmp (f, b) (zero_block n) (entries s.blocks))
         ∙ sum-put (λ (x : Block). one_if (x.number == m)) (f, b) (zero_block n) (entries s.blocks) (sym (get-entries s.blocks (f, b)) ∙ hole)
         ∙ ap (λ (k : ℕ). one_if (n == m) + k) (sym (times-sum m (entries s.blocks)))

@@ -10,7 +10,7 @@ use Rattle.nfs_model.specs.Types.{Moment}
 use Rattle.nfs_model.specs.Server.{block_size}
 use Rattle.nfs_model.specs.Parts.{times_listed}
 use Rattle.nfs_model.specs.Shown.{touched}
-use Rattle.nfs_model.specs.volume.Stripes.{Card, OfFile, OfFolder, Place, Block, StripeValue, byte_of, byte_at, is_filled, touch_of, card_touched}
+use Rattle.nfs_model.specs.volume.Stripes.{Card, OfFile, OfDirectory, FileBlock, Block, StripeValue, byte_of, byte_at, is_filled, touch_of, card_touched}
 use Rattle.nfs_model.specs.volume.Stripes.{byte_written, block_mapped, file_mapped, overwritten}
 use Rattle.nfs_model.specs.volume.lemmas.Entries.{place_total, place_same}
 use Rattle.nfs_model.specs.volume.lemmas.Maps.{get-map_values}
@@ -29,7 +29,7 @@ module _ (f offset : ℕ) (written : List ℕ) (moment : Moment) (s : StripeValu
 
   -- ---- blocks
 
-  found : (q : Place) → get after.blocks q ≡ option_map (file_mapped change f q) (get s.blocks q)
+  found : (q : FileBlock) → get after.blocks q ≡ option_map (file_mapped change f q) (get s.blocks q)
   found q = get-map_values place_total place_same (file_mapped change f) s.blocks q
 
   -- one of another file is as it was
@@ -105,15 +105,15 @@ module _ (f offset : ℕ) (written : List ℕ) (moment : Moment) (s : StripeValu
 
   pub numbers-same : numbers_in after ≡ numbers_in s
   numbers-same =
-      ap (λ es. map (λ (e : Place × Block). e.1.number) es) (entries-map_values (file_mapped change f) place_total place_same s.blocks)
+      ap (λ es. map (λ (e : FileBlock × Block). e.1.number) es) (entries-map_values (file_mapped change f) place_total place_same s.blocks)
       ∙ listed (entries s.blocks)
     where
       one : (t : Bool) (block : ℕ) (b : Block) → (if t then block_mapped change block b else b).number ≡ b.number
       one true block b = refl
       one false block b = refl
 
-      listed : (es : List (Place × Block))
-          → map (λ (e : Place × Block). e.1.number) (changed_by (file_mapped change f) es) ≡ map (λ (e : Place × Block). e.1.number) es
+      listed : (es : List (FileBlock × Block))
+          → map (λ (e : FileBlock × Block). e.1.number) (changed_by (file_mapped change f) es) ≡ map (λ (e : FileBlock × Block). e.1.number) es
       listed [] = refl
       listed (e ∷ es) = λ j. one (e.0.0 == f) e.0.1 e.1 j ∷ listed es j
 
@@ -148,7 +148,7 @@ module _ (f offset : ℕ) (written : List ℕ) (moment : Moment) (s : StripeValu
     where
       card : (c : Card) → size_shown (card_touched moment c) ≡ size_shown c
       card (OfFile size touch) = refl
-      card OfFolder = refl
+      card OfDirectory = refl
 
       there : (o : Option Card) → option_map size_shown (option_map (card_touched moment) o) ≡ option_map size_shown o
       there None = refl

@@ -14,7 +14,7 @@ use Rattle.nfs_model.specs.Serial.Write.{blocks_met}
 use Rattle.nfs_model.specs.Shown.{touched}
 use Rattle.nfs_model.specs.Serial.Setattr.{with_node}
 use Rattle.nfs_model.specs.volume.Inodes.{RegularFile, Inode}
-use Rattle.nfs_model.specs.volume.Stripes.{Card, OfFile, OfFolder, StripeValue, stripe_of, is_filled, overwritten, byte_written}
+use Rattle.nfs_model.specs.volume.Stripes.{Card, OfFile, OfDirectory, StripeValue, stripe_of, is_filled, overwritten, byte_written}
 use Rattle.filer_state.specs.state.Contents.{VolumeContents}
 use Rattle.filer_state.specs.state.Tree.{stripe_at, home_stripe, file_byte, file_filled, file_touch, most_file_blocks, volume_of}
 use Rattle.filer_state.specs.state.Names.{size_in, size_of}
@@ -89,7 +89,7 @@ module _ (p : VolumeContents) (f : ℕ) (inode : Inode) (size blocks : ℕ) (ver
     is-card : (o : Option Card) → option_map size_shown o ≡ Some (Some size) → (touch : Option Moment) × (o ≡ Some (OfFile size touch))
     is-card None e = absurd cc
     is-card (Some (OfFile n touch)) e = let same : n ≡ size = cc in (touch, ap (λ (k : ℕ). Some (OfFile k touch)) same)
-    is-card (Some OfFolder) e = absurd cc
+    is-card (Some OfDirectory) e = absurd cc
 
     card : (touch : Option Moment) × (get (stripe_at stripes i).cards f ≡ Some (OfFile size touch))
     card = is-card (get (stripe_at stripes i).cards f) (card-shows q f 0 inode size blocks verifier there is_file sound.well_formed i on)

@@ -14,8 +14,8 @@ use Rattle.nfs_model.specs.Locate.{Effect, Fails, Tells, on_file}
 use Rattle.nfs_model.specs.Serial.Write.{Writing, bytes_kept, write_some}
 use Rattle.nfs_model.specs.Work.{move_if, ready, ready_bytes}
 use Rattle.depot_rule.specs.Sums.{total}
-use Rattle.nfs_model.specs.volume.Inodes.{InodeKind, RegularFile, Folder, Inode}
-use Rattle.nfs_model.specs.volume.Stripes.{Card, OfFile, OfFolder, StripeValue}
+use Rattle.nfs_model.specs.volume.Inodes.{InodeKind, RegularFile, DirectoryKind, Inode}
+use Rattle.nfs_model.specs.volume.Stripes.{Card, OfFile, OfDirectory, StripeValue}
 use Rattle.filer_state.specs.state.Contents.{VolumeContents}
 use Rattle.filer_state.specs.state.Tree.{stripe_at, node_by, node_of, volume_of}
 use Rattle.filer_state.specs.state.Names.{size_in}
@@ -129,10 +129,10 @@ module _ (p : VolumeContents) (i f : ℕ) (handle : List ℕ) (w : Writing) (han
       of-kind (OfFile size touch) card inode there (RegularFile other blocks verifier) is same =
           let sizes : other ≡ size = cc in
           by-count inode there size blocks verifier (is ∙ ap (λ (k : ℕ). RegularFile k blocks verifier) sizes) touch card
-      of-kind (OfFile size touch) card inode there (Folder parent subs) is same = absurd cc
-      of-kind OfFolder card inode there (RegularFile other blocks verifier) is same = absurd cc
-      of-kind OfFolder card inode there (Folder parent subs) is same =
-          no-file (option_map (node_of p.stripes p.logical.directories f) (Some (record inode { kind = Folder parent subs })))
+      of-kind (OfFile size touch) card inode there (DirectoryKind parent subs) is same = absurd cc
+      of-kind OfDirectory card inode there (RegularFile other blocks verifier) is same = absurd cc
+      of-kind OfDirectory card inode there (DirectoryKind parent subs) is same =
+          no-file (option_map (node_of p.stripes p.logical.directories f) (Some (record inode { kind = DirectoryKind parent subs })))
           (Fails Invalid) (Failed Invalid 2)
           (node-at p f ∙ ap (option_map (node_of p.stripes p.logical.directories f)) there
           ∙ ap (λ kind. Some (node_by p.stripes (get p.logical.directories f) f inode.attributes kind)) is)

@@ -14,7 +14,7 @@ use Rattle.nfs_model.specs.Server.{Node, File, FileNode, block_size}
 use Rattle.nfs_model.specs.Shown.{touched}
 use Rattle.nfs_model.specs.Serial.Setattr.{with_node}
 use Rattle.nfs_model.specs.Serial.Write.{blocks_met, with_blocks, written_bytes, written_file}
-use Rattle.nfs_model.specs.volume.Inodes.{InodeKind, RegularFile, Folder, Inode}
+use Rattle.nfs_model.specs.volume.Inodes.{InodeKind, RegularFile, DirectoryKind, Inode}
 use Rattle.nfs_model.specs.volume.Stripes.{OfFile, StripeValue, byte_at, byte_written, is_filled, stripe_of, overwritten}
 use Rattle.nfs_model.specs.volume.lemmas.Maps.{get-map_values}
 use Rattle.nfs_model.specs.volume.lemmas.Numbered.{get-insert_at, same-answers}
@@ -115,7 +115,7 @@ module _ (p : VolumeContents) (i f offset : ℕ) (written : List ℕ) (moment : 
         touch = touch-kept q ne j;
         verifier = verifier;
       })
-      by (Folder parent subdirectories) = refl
+      by (DirectoryKind parent subdirectories) = refl
 
   module _ (inode : Inode) (there : get p.logical.inodes.inodes f ≡ Some inode) (size blocks : ℕ) (verifier : Option (List ℕ))
       (is_file : inode.kind ≡ RegularFile size blocks verifier) (within : offset + length written ≤ size) where

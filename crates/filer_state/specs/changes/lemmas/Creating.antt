@@ -25,7 +25,7 @@ use Rattle.filer_state.specs.laws.lemmas.Mapped.{len-map_values}
 use Rattle.filer_state.specs.names.Answers.{entries_of}
 use Rattle.filer_state.specs.nodes.Laws.{WeighAlike}
 use Rattle.filer_state.specs.changes.Named.{HeldNaming, fails, unless_fault}
-use Rattle.filer_state.specs.changes.Making.{held_made, is_full_set, create_check, file_inode, mkdir_check, folder_inode}
+use Rattle.filer_state.specs.changes.Making.{held_made, is_full_set, create_check, file_inode, mkdir_check, made_directory_inode}
 use Rattle.filer_state.specs.changes.lemmas.Named.{RightAs, naming_held, naming_seen, IsDirectoryHere}
 use Rattle.filer_state.specs.changes.lemmas.Making.{SaysNothing, failure-right, made-right}
 
@@ -107,19 +107,19 @@ module _ (p : VolumeContents) (hands hands' : List Hand) (made : ℕ) (sound : I
       effect = creating.made n (new_file mode credential moment)
 
   -- a new directory
-  pub folder-right : (set : SetAttributes) (credential : Credential)
-      → Right (unless_fault (mkdir_check set (logical_lens.of p)) (logical_lens.of p) (held_made h (folder_inode fileid set credential moment)))
+  pub directory-right : (set : SetAttributes) (credential : Credential)
+      → Right (unless_fault (mkdir_check set (logical_lens.of p)) (logical_lens.of p) (held_made h (made_directory_inode fileid set credential moment)))
       (unless (mkdir_fault (volume_of p) set) (creating.made n (new_directory fileid set credential moment)))
-  folder-right set credential =
+  directory-right set credential =
       subst (λ (o : Option Status). Right (unless_fault (mkdir_check set (logical_lens.of p)) (logical_lens.of p) done) (unless o effect))
       (sym (mkdir-fault p set))
       (checked done effect (mkdir_check set (logical_lens.of p)) (λ passes.
       let pass = all-pass Invalid Invalid NoSpace (has_bad_time set) (is_some set.size) (is_full_set (logical_lens.of p)) passes in
       made-right p hands hands' made sound weigh c says fileid name moment inode parent subs here absent (few-left p pass.1)
-      (folder_inode fileid set credential moment) (refl, refl)))
+      (made_directory_inode fileid set credential moment) (refl, refl)))
     where
       done : LogicalAnswer
-      done = held_made h (folder_inode fileid set credential moment)
+      done = held_made h (made_directory_inode fileid set credential moment)
 
       effect : Effect
       effect = creating.made n (new_directory fileid set credential moment)

@@ -13,7 +13,7 @@ use Rattle.nfs_model.specs.Locate.{Effect, Fails, Tells, unless, Naming}
 use Rattle.nfs_model.specs.Serial.Setattr.{set_node, setattr_fault, with_node}
 use Rattle.nfs_model.specs.Serial.Create.{is_verifier, there_told, set_there, create_over}
 use Rattle.nfs_model.specs.Parts.{Hand, one_if}
-use Rattle.nfs_model.specs.volume.Inodes.{InodeKind, RegularFile, Folder, Inode}
+use Rattle.nfs_model.specs.volume.Inodes.{InodeKind, RegularFile, DirectoryKind, Inode}
 use Rattle.nfs_model.specs.volume.lemmas.Numbered.{get-insert_at}
 use Rattle.filer_state.specs.state.Contents.{VolumeContents}
 use Rattle.filer_state.specs.state.Tree.{node_by, node_of, volume_of}
@@ -145,9 +145,9 @@ module _ (handle : List ℕ) (node : Affinity) (mode : CreateMode) (credential :
   by-kind : (asked : CreateMode) (kind : InodeKind) → child.inode.kind ≡ kind → Right (create_existing h asked child kind)
       (create_over n asked child.fileid (node_by p.stripes (get p.logical.directories child.fileid) child.fileid child.inode.attributes kind))
   by-kind (Guarded set) (RegularFile size filled verifier) is = failure Exists
-  by-kind (Guarded set) (Folder up subdirectories) is = failure Exists
-  by-kind (Unchecked set) (Folder up subdirectories) is = failure Exists
-  by-kind (Exclusive verifier) (Folder up subdirectories) is = failure Exists
+  by-kind (Guarded set) (DirectoryKind up subdirectories) is = failure Exists
+  by-kind (Unchecked set) (DirectoryKind up subdirectories) is = failure Exists
+  by-kind (Exclusive verifier) (DirectoryKind up subdirectories) is = failure Exists
   by-kind (Exclusive verifier) (RegularFile size filled kept) is =
       let seen : was ≡ node_by p.stripes (get p.logical.directories child.fileid) child.fileid child.inode.attributes (RegularFile size filled kept) =
       ap (node_by p.stripes (get p.logical.directories child.fileid) child.fileid child.inode.attributes) is in

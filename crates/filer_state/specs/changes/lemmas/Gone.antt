@@ -17,7 +17,7 @@ use Rattle.nfs_model.specs.Types.{Moment, GoneDone}
 use Rattle.nfs_model.specs.Locate.{Naming}
 use Rattle.nfs_model.specs.Serial.Remove as removes
 use Rattle.nfs_model.specs.Serial.Remove.{without_child, gone}
-use Rattle.nfs_model.specs.volume.Inodes.{Folder, Inode}
+use Rattle.nfs_model.specs.volume.Inodes.{DirectoryKind, Inode}
 use Rattle.nfs_model.specs.volume.Stripes.{StripeValue, card_dropped}
 use Rattle.nfs_model.specs.volume.lemmas.Numbered.{get-insert_at, get-remove_at, same-answers, itself}
 use Rattle.filer_state.specs.state.Contents.{VolumeContents}
@@ -30,8 +30,8 @@ use Rattle.filer_state.specs.state.Calls.{VolumeCall}
 use Rattle.filer_state.specs.state.Changes.{shown_inode}
 use Rattle.filer_state.specs.laws.lemmas.Counted.{used-is}
 use Rattle.filer_state.specs.laws.lemmas.SameBlocks.{total-mapped}
-use Rattle.filer_state.specs.names.lemmas.Folders.{same-shown}
-use Rattle.filer_state.specs.nodes.Making.{folders_in}
+use Rattle.filer_state.specs.names.lemmas.DirectoryKinds.{same-shown}
+use Rattle.filer_state.specs.nodes.Making.{directories_in}
 use Rattle.filer_state.specs.nodes.Dropping.{Dropping, without_subdirectories, directory_left}
 use Rattle.filer_state.specs.nodes.Laws.{WeighAlike, LosesName, seen_directory}
 use Rattle.filer_state.specs.nodes.lemmas.Unnamed.{at-directory}
@@ -73,7 +73,7 @@ none-before s = sets.same_set nat_cmp_total nat_cmp-IsAntisymmetric (retain s (�
 -- ---- a node dropped from a volume
 
 module _ (q : VolumeContents) (m : Dropping) (may : LosesName m q.logical.inodes q.logical.directories) (parent subs : ℕ)
-    (is : m.inode.kind ≡ Folder parent subs) (hands hands' : List Hand) (made now : ℕ) (later : made ≤ now)
+    (is : m.inode.kind ≡ DirectoryKind parent subs) (hands hands' : List Hand) (made now : ℕ) (later : made ≤ now)
     (weigh : WeighAlike q.number hands hands') (sound : IsSound q hands made) where
   abbrev after : VolumeContents
   after = left_in m q
@@ -97,8 +97,8 @@ module _ (q : VolumeContents) (m : Dropping) (may : LosesName m q.logical.inodes
       (get-insert_at (remove (volume_of q).nodes m.fileid) m.directory (Directory directory_then) m.directory
       ∙ ap (λ (b : Bool). if b then Some (Directory directory_then) else get (remove (volume_of q).nodes m.fileid) m.directory) (itself m.directory))
       (at-directory q.logical.inodes q.logical.directories m may)
-      ∙ same-shown q.number m.directory (directory_left m) parent (subs - folders_in m.dropped.kind)
-      (ap (without_subdirectories (folders_in m.dropped.kind)) is) (file_touch after.stripes m.directory)
+      ∙ same-shown q.number m.directory (directory_left m) parent (subs - directories_in m.dropped.kind)
+      (ap (without_subdirectories (directories_in m.dropped.kind)) is) (file_touch after.stripes m.directory)
 
   -- no block moves
   numbers-stay : (stripes : List StripeValue) → all_numbers (map (card_dropped m.fileid) stripes) ≡ all_numbers stripes

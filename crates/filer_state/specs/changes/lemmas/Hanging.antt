@@ -25,7 +25,7 @@ use Rattle.filer_state.specs.laws.lemmas.Counted.{used-is}
 use Rattle.filer_state.specs.laws.lemmas.SameBlocks.{total-mapped}
 use Rattle.filer_state.specs.attributes.lemmas.Getting.{node-at}
 use Rattle.filer_state.specs.names.Answers.{entries_of}
-use Rattle.filer_state.specs.nodes.Making.{folders_in, with_subdirectories}
+use Rattle.filer_state.specs.nodes.Making.{directories_in, with_subdirectories}
 use Rattle.filer_state.specs.nodes.Dropping.{without_subdirectories}
 use Rattle.filer_state.specs.nodes.Moving as moving
 use Rattle.filer_state.specs.nodes.Moving.{dated_inode, inodes_untied, entries_untied, node_hung, inodes_hung}
@@ -107,7 +107,7 @@ module _ (q : VolumeContents) (from to : HeldNaming) (child : HeldNode) (from_pa
   parents-same : (x : ℕ) → parent_directory (get taken.own.inodes.inodes x) ≡ parent_directory (get q.logical.inodes.inodes x)
   parents-same = by-one from.fileid
       (λ x. parent_directory (get taken.own.inodes.inodes x) ≡ parent_directory (get q.logical.inodes.inodes x))
-      (ap parent_directory (untied-directory q.logical.inodes q.logical.directories m stands) ∙ parent-kept (folders_in m.node.kind) m.inode.kind
+      (ap parent_directory (untied-directory q.logical.inodes q.logical.directories m stands) ∙ parent-kept (directories_in m.node.kind) m.inode.kind
       ∙ sym (ap parent_directory stands.there))
       (λ x ne. ap parent_directory (untied-other q.logical.inodes q.logical.directories m stands x ne))
 
@@ -215,10 +215,10 @@ module _ (q : VolumeContents) (from to : HeldNaming) (child : HeldNode) (from_pa
 
     next-same : hung.own.inodes.next ≡ q.logical.inodes.next
     next-same =
-        next-set (inode_set to.fileid (dated_inode to.moment (with_subdirectories (folders_in child.inode.kind) n.inode.kind) n.inode) taken.own.inodes) c
+        next-set (inode_set to.fileid (dated_inode to.moment (with_subdirectories (directories_in child.inode.kind) n.inode.kind) n.inode) taken.own.inodes) c
         (node_hung n (file_touch taken.stripes c))
-        ∙ next-set taken.own.inodes to.fileid (dated_inode to.moment (with_subdirectories (folders_in child.inode.kind) n.inode.kind) n.inode)
-        ∙ next-set q.logical.inodes from.fileid (dated_inode from.moment (without_subdirectories (folders_in child.inode.kind) m.inode.kind) m.inode)
+        ∙ next-set taken.own.inodes to.fileid (dated_inode to.moment (with_subdirectories (directories_in child.inode.kind) n.inode.kind) n.inode)
+        ∙ next-set q.logical.inodes from.fileid (dated_inode from.moment (without_subdirectories (directories_in child.inode.kind) m.inode.kind) m.inode)
 
     pub volume-hung : volume_of q_hung
         ≡ record (volume_of q) { nodes = with_moved to_seen c (with_entry to_seen c (without_entry from_seen (volume_of q).nodes)) }

@@ -15,7 +15,7 @@ use Rattle.nfs_model.specs.Serial.Starve.{has_name, takes_memory}
 use Rattle.nfs_model.specs.Work.{Starved}
 use Rattle.nfs_model.specs.Parts.{Hand}
 use Rattle.nfs_model.specs.volume.Directories.{fileid_found}
-use Rattle.nfs_model.specs.volume.Inodes.{InodeKind, RegularFile, Folder, Inode}
+use Rattle.nfs_model.specs.volume.Inodes.{InodeKind, RegularFile, DirectoryKind, Inode}
 use Rattle.filer_state.specs.state.Contents.{VolumeContents}
 use Rattle.filer_state.specs.state.Tree.{node_by, node_of, volume_of}
 use Rattle.filer_state.specs.state.Sound.{IsSound}
@@ -31,7 +31,7 @@ use Rattle.filer_state.specs.changes.Making.{create_by, mkdir_by, held_create, h
 use Rattle.filer_state.specs.changes.Laws.{create_call, mkdir_call, create_done, mkdir_done, IsDone, MayStarve}
 use Rattle.filer_state.specs.changes.lemmas.Named.{RightAs, done-right, naming_held, naming_seen, IsDirectoryHere, named-right, child-right}
 use Rattle.filer_state.specs.changes.lemmas.Making.{SaysNothing, failure-right}
-use Rattle.filer_state.specs.changes.lemmas.Creating.{file-right, folder-right}
+use Rattle.filer_state.specs.changes.lemmas.Creating.{file-right, directory-right}
 use Rattle.filer_state.specs.changes.lemmas.Existing.{there-as}
 
 -- ---- CREATE
@@ -104,7 +104,7 @@ module _ (handle : List ℕ) (node : Affinity) (fileid : ℕ) (name : List ℕ) 
       mkdir-under : RightMade (mkdir_by held set credential (node_under held)) (mkdir_at seen set credential (named_child seen))
       mkdir-under = child-right p sound.well_formed fileid name moment inode parent subs here
           (λ (o : Option HeldNode) (x : Option Found). RightMade (mkdir_by held set credential o) (mkdir_at seen set credential x))
-          (λ absent. folder-right p hands hands' made sound weigh makes mkdir-says fileid name moment inode parent subs here absent set credential)
+          (λ absent. directory-right p hands hands' made sound weigh makes mkdir-says fileid name moment inode parent subs here absent set credential)
           (λ c there. mkdir-fails Exists)
 
       mkdir-here : (b : Bool) → RightMade (if b then fails Exists (logical_lens.of p) else mkdir_by held set credential (node_under held))
@@ -151,7 +151,7 @@ no-name p fileid name absent = ap (λ (o : Option Node). has_name o name) (node-
     kinds : (inode : Inode) (kind : InodeKind)
         → has_name (Some (node_by p.stripes (get p.logical.directories fileid) fileid inode.attributes kind)) name ≡ false
     kinds inode (RegularFile size filled verifier) = refl
-    kinds inode (Folder parent subdirectories) = entry (find_name name (entries_of p.logical fileid).list) absent
+    kinds inode (DirectoryKind parent subdirectories) = entry (find_name name (entries_of p.logical fileid).list) absent
 
     by : (o : Option Inode) → has_name (option_map (node_of p.stripes p.logical.directories fileid) o) name ≡ false
     by None = refl

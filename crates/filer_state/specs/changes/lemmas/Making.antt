@@ -15,7 +15,7 @@ use Rattle.nfs_model.specs.Serial.Create.{with_child, directory_made}
 use Rattle.nfs_model.specs.Parts.{Hand}
 use Rattle.nfs_model.specs.Moves.{Stored, PartsChange}
 use Rattle.nfs_model.specs.volume.Directories.{added, found}
-use Rattle.nfs_model.specs.volume.Inodes.{InodeKind, RegularFile, Folder, Inode}
+use Rattle.nfs_model.specs.volume.Inodes.{InodeKind, RegularFile, DirectoryKind, Inode}
 use Rattle.nfs_model.specs.volume.Stripes.{StripeValue}
 use Rattle.filer_state.specs.state.Contents.{VolumeContents}
 use Rattle.filer_state.specs.state.Tree.{directory_or_empty, volume_of}
@@ -28,9 +28,9 @@ use Rattle.filer_state.specs.state.Changes.{shown_kind, shown_inode}
 use Rattle.filer_state.specs.laws.lemmas.Counted.{used-is}
 use Rattle.filer_state.specs.laws.lemmas.SameBlocks.{total-mapped}
 use Rattle.filer_state.specs.laws.lemmas.Steps.{sound-later}
-use Rattle.filer_state.specs.names.Answers.{entries_of, folder_node}
-use Rattle.filer_state.specs.names.lemmas.Folders.{folder-shown}
-use Rattle.filer_state.specs.nodes.Making.{Making, with_subdirectories, folders_in, directory_inode, card_made}
+use Rattle.filer_state.specs.names.Answers.{entries_of, directory_node}
+use Rattle.filer_state.specs.names.lemmas.DirectoryKinds.{directory-kind-shown}
+use Rattle.filer_state.specs.nodes.Making.{Making, with_subdirectories, directories_in, directory_inode, card_made}
 use Rattle.filer_state.specs.nodes.Laws.{WeighAlike, IsNewIn, MayBeMade, node_by_kind, new_node}
 use Rattle.filer_state.specs.nodes.lemmas.Named as names
 use Rattle.filer_state.specs.nodes.lemmas.Made.{made_in, blocks-same, sound-made}
@@ -59,7 +59,7 @@ child-shown volume f directory largest child is_new = by child.kind is_new
           size = long j;
           used = block_size * none j;
         }
-    by (Folder up n) h = λ j. record (shown_kind volume.number f child.attributes (Folder up n) None) { links = 2 + sym h.1 j }
+    by (DirectoryKind up n) h = λ j. record (shown_kind volume.number f child.attributes (DirectoryKind up n) None) { links = 2 + sym h.1 j }
 
 -- a card moves no block
 numbers-stay : (k : InodeKind) (f : ℕ) (stripes : List StripeValue) → all_numbers (map (card_made k f) stripes) ≡ all_numbers stripes
@@ -98,10 +98,10 @@ module _ (p : VolumeContents) (hands hands' : List Hand) (made : ℕ) (sound : I
 
     directory-shown : shown (with_child n (new_node child)) fileid (directory_made n) ≡ shown_inode p.number fileid (directory_inode m) None
     directory-shown =
-        (λ j. shown (sym volume-after j) fileid (Directory (folder_node (directory_inode m) parent (sym entered j))))
-        ∙ folder-shown after fileid sound-after.well_formed (directory_inode m) parent (subs + folders_in child.kind)
+        (λ j. shown (sym volume-after j) fileid (Directory (directory_node (directory_inode m) parent (sym entered j))))
+        ∙ directory-kind-shown after fileid sound-after.well_formed (directory_inode m) parent (subs + directories_in child.kind)
         (names.at-directory p.logical.inodes p.logical.directories m sound.well_formed.logical.inodes here.there)
-        (ap (with_subdirectories (folders_in child.kind)) here.kind)
+        (ap (with_subdirectories (directories_in child.kind)) here.kind)
       where
         entered : entries_of after.logical fileid ≡ added name f (entries_of p.logical fileid)
         entered = ap directory_or_empty (names.directory-entries p.logical.inodes p.logical.directories m sound.well_formed.logical.inodes

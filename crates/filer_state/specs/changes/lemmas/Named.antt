@@ -13,10 +13,10 @@ use Rattle.nfs_model.specs.Moves.{PartsChange}
 use Rattle.nfs_model.specs.Locate.{Effect, Fails, unless, on_directory, on_name, Found, found_at, child, Naming, named_child}
 use Rattle.nfs_model.specs.Serial.Absent.{absent_parts}
 use Rattle.nfs_model.specs.volume.Directories.{DirectoryValue, found}
-use Rattle.nfs_model.specs.volume.Inodes.{InodeKind, RegularFile, Folder, Inode}
+use Rattle.nfs_model.specs.volume.Inodes.{InodeKind, RegularFile, DirectoryKind, Inode}
 use Rattle.filer_state.specs.state.Contents.{VolumeContents}
 use Rattle.filer_state.specs.state.Tree.{directory_or_empty, node_by, node_of, volume_of}
-use Rattle.filer_state.specs.state.Names.{parent_in, is_folder, is_named, root, times_in_list}
+use Rattle.filer_state.specs.state.Names.{parent_in, is_directory, is_named, root, times_in_list}
 use Rattle.filer_state.specs.state.WellFormed.{WellFormed}
 use Rattle.filer_state.specs.state.Partition.{stored, times_in_hand}
 use Rattle.filer_state.specs.state.Sound.{IsSound}
@@ -26,8 +26,8 @@ use Rattle.filer_state.specs.state.Calls.{VolumeCall, ServesOn, answer_of, volum
 use Rattle.filer_state.specs.state.Changes.{LogicalAnswer, shown_inode}
 use Rattle.filer_state.specs.laws.lemmas.Mapped.{entry-at-least}
 use Rattle.filer_state.specs.attributes.lemmas.Getting.{node-at}
-use Rattle.filer_state.specs.names.Answers.{entries_of, folder_node}
-use Rattle.filer_state.specs.names.lemmas.Folders.{folder-shown}
+use Rattle.filer_state.specs.names.Answers.{entries_of, directory_node}
+use Rattle.filer_state.specs.names.lemmas.DirectoryKinds.{directory-kind-shown}
 use Rattle.filer_state.specs.nodes.Laws.{WeighAlike}
 use Rattle.filer_state.specs.changes.Named.{fails, unless_fault, HeldNaming, on_kind, on_inode, on_held_name, HeldNode, node_there, node_at, node_under}
 use Rattle.filer_state.specs.changes.Laws.{IsDone}
@@ -101,7 +101,7 @@ module _ (p : VolumeContents) (fileid : ℕ) (name : List ℕ) (moment : Moment)
   naming_seen inode parent = record {
     volume = volume_of p;
     fileid = fileid;
-    directory = folder_node inode parent entries_here;
+    directory = directory_node inode parent entries_here;
     name = name;
     moment = moment;
   }
@@ -109,15 +109,15 @@ module _ (p : VolumeContents) (fileid : ℕ) (name : List ℕ) (moment : Moment)
   -- what is known of a directory
   pub record IsDirectoryHere (inode : Inode) (parent subdirectories : ℕ) : Type 0 where
     pub there : get p.logical.inodes.inodes fileid ≡ Some inode
-    pub kind : inode.kind ≡ Folder parent subdirectories
+    pub kind : inode.kind ≡ DirectoryKind parent subdirectories
     pub entered : get p.logical.directories fileid ≡ Some entries_here
 
   pub entered-here : WellFormed p → (inode : Inode) (parent subs : ℕ) → get p.logical.inodes.inodes fileid ≡ Some inode
-      → inode.kind ≡ Folder parent subs → get p.logical.directories fileid ≡ Some entries_here
+      → inode.kind ≡ DirectoryKind parent subs → get p.logical.directories fileid ≡ Some entries_here
   entered-here well inode parent subs there is = by (get p.logical.directories fileid) refl
     where
       some : is_some (get p.logical.directories fileid) ≡ true
-      some = well.logical.named.folders fileid ∙ ap is_folder there ∙ ap (λ (k : InodeKind). is_some (parent_in k)) is
+      some = well.logical.named.as_directories fileid ∙ ap is_directory there ∙ ap (λ (k : InodeKind). is_some (parent_in k)) is
 
       by : (o : Option DirectoryValue) → get p.logical.directories fileid ≡ o → o ≡ Some (directory_or_empty o)
       by None e = let none : is_some (get p.logical.directories fileid) ≡ false = ap (λ x. is_some x) e in let t = some in absurd cc
@@ -145,7 +145,7 @@ module _ (p : VolumeContents) (fileid : ℕ) (name : List ℕ) (moment : Moment)
           → Right (on_kind kind (naming_held inode) run)
           (on_directory (Some (node_by p.stripes (get p.logical.directories fileid) fileid inode.attributes kind)) asked)
       kinds inode there (RegularFile size filled verifier) is = failure _
-      kinds inode there (Folder parent subs) is =
+      kinds inode there (DirectoryKind parent subs) is =
           checked (name_fault name) (run (naming_held inode)) (model (naming_seen inode parent))
           (goes inode parent subs (record { there = there; kind = is; entered = entered-here well inode parent subs there is }))
 
@@ -158,7 +158,7 @@ module _ (p : VolumeContents) (fileid : ℕ) (name : List ℕ) (moment : Moment)
   -- its attributes before
   pub before-shown : WellFormed p → (inode : Inode) (parent subs : ℕ) → IsDirectoryHere inode parent subs
       → shown (volume_of p) fileid (Directory (naming_seen inode parent).directory) ≡ shown_inode p.number fileid inode None
-  before-shown well inode parent subs here = folder-shown p fileid well inode parent subs here.there here.kind
+  before-shown well inode parent subs here = directory-kind-shown p fileid well inode parent subs here.there here.kind
 
 -- ---- the node under the name
 

@@ -16,11 +16,11 @@ use Rattle.nfs_model.specs.Serial.Remove.{without_child, gone, remove_node, remo
 use Rattle.nfs_model.specs.Serial.Setattr.{with_node}
 use Rattle.nfs_model.specs.Moves.{Emptied}
 use Rattle.nfs_model.specs.Parts.{Hand}
-use Rattle.nfs_model.specs.volume.Inodes.{InodeKind, RegularFile, Folder, Inode, filled_blocks}
+use Rattle.nfs_model.specs.volume.Inodes.{InodeKind, RegularFile, DirectoryKind, Inode, filled_blocks}
 use Rattle.nfs_model.specs.volume.lemmas.Inodes.{inode-set-there, inode-set-other}
 use Rattle.filer_state.specs.state.Contents.{VolumeContents}
 use Rattle.filer_state.specs.state.Tree.{file_filled, node_by, node_of, volume_of}
-use Rattle.filer_state.specs.state.Names.{is_folder, parent_in}
+use Rattle.filer_state.specs.state.Names.{is_directory, parent_in}
 use Rattle.filer_state.specs.state.Partition.{parts_of}
 use Rattle.filer_state.specs.state.Sound.{IsSound}
 use Rattle.filer_state.specs.state.Lenses.{LogicalSet, logical_lens}
@@ -95,7 +95,7 @@ module _ (p : VolumeContents) (fileid : ℕ) (name : List ℕ) (moment : Moment)
   apart = ne_eqb fileid f (λ e.
       let same : Some inode ≡ Some child.inode = sym here.there ∙ ap (get p.logical.inodes.inodes) e ∙ under.node in
       let one : inode ≡ child.inode = cc in
-      let kinds : Folder parent subs ≡ RegularFile size filled verifier = sym here.kind ∙ ap (λ (i : Inode). i.kind) one ∙ is_file in
+      let kinds : DirectoryKind parent subs ≡ RegularFile size filled verifier = sym here.kind ∙ ap (λ (i : Inode). i.kind) one ∙ is_file in
       absurd cc)
 
   pub loses : LosesName m q.logical.inodes q.logical.directories
@@ -108,17 +108,17 @@ module _ (p : VolumeContents) (fileid : ℕ) (name : List ℕ) (moment : Moment)
     node = there-emptied;
     kind = empty child.inode.kind none-filled;
     empty = λ d e.
-        let folder : is_folder (get p.logical.inodes.inodes f) ≡ false =
-        ap is_folder under.node ∙ ap (λ (k : InodeKind). is_some (parent_in k)) is_file in
+        let as_directory : is_directory (get p.logical.inodes.inodes f) ≡ false =
+        ap is_directory under.node ∙ ap (λ (k : InodeKind). is_some (parent_in k)) is_file in
         let some : is_some (get p.logical.directories f) ≡ true = ap (λ o. is_some o) e in
-        let folders = sound.well_formed.logical.named.folders f in
+        let as_directories = sound.well_formed.logical.named.as_directories f in
         absurd cc;
   }
     where
       empty : (k : InodeKind) → filled_blocks (kind_sized 0 (length (all_freed f 0 p.stripes)) k) ≡ 0
           → IsEmptyKind (kind_sized 0 (length (all_freed f 0 p.stripes)) k)
       empty (RegularFile s n v) h = (refl, h)
-      empty (Folder up below) h = tt
+      empty (DirectoryKind up below) h = tt
 
   module _ (hands' : List Hand) (weigh : WeighAlike p.number hands hands') where
     abbrev after : VolumeContents
@@ -173,7 +173,7 @@ module _ (fileid : ℕ) (handle name : List ℕ) (node : Affinity) (moment : Mom
           (remove_node seen child.fileid (node_by p.stripes (get p.logical.directories child.fileid) child.fileid child.inode.attributes kind))
       by-kind child under (RegularFile size filled verifier) is =
           file-gone p fileid name moment inode parent subs here child under size filled verifier is hands made sound hands' weigh handle node
-      by-kind child under (Folder up below) is = failure _
+      by-kind child under (DirectoryKind up below) is = failure _
 
       by-dots : (b : Bool) → Right (if b then fails Invalid (logical_lens.of p) else remove_by held (node_under held))
           (if b then Fails Invalid else remove_at seen (named_child seen))

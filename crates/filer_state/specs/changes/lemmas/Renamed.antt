@@ -11,12 +11,12 @@ use Rattle.nfs_model.specs.Server.{Attributes, Directory}
 use Rattle.nfs_model.specs.Names.{same_name, find_name}
 use Rattle.nfs_model.specs.Parts.{one_if}
 use Rattle.nfs_model.specs.volume.Directories.{DirectoryValue, found, removed}
-use Rattle.nfs_model.specs.volume.Inodes.{InodeKind, RegularFile, Folder, Inode}
+use Rattle.nfs_model.specs.volume.Inodes.{InodeKind, RegularFile, DirectoryKind, Inode}
 use Rattle.nfs_model.specs.volume.Stripes.{StripeValue}
 use Rattle.nfs_model.specs.volume.lemmas.Directories.{same-is, found-removed, found-removed-other}
 use Rattle.filer_state.specs.state.Contents.{VolumeContents}
 use Rattle.filer_state.specs.state.Tree.{directory_or_empty, node_by, node_of, volume_of}
-use Rattle.filer_state.specs.state.Names.{root, InodeMap, parent_in, parent_directory, parent_or, is_folder, is_named, times_in_list, directory_above}
+use Rattle.filer_state.specs.state.Names.{root, InodeMap, parent_in, parent_directory, parent_or, is_directory, is_named, times_in_list, directory_above}
 use Rattle.filer_state.specs.state.WellFormed.{WellFormed}
 use Rattle.filer_state.specs.laws.lemmas.Mapped.{entry-at-least}
 use Rattle.filer_state.specs.attributes.lemmas.Getting.{node-at}
@@ -63,12 +63,12 @@ above-same new old same zero q = refl
 above-same new old same (suc n) q =
     ap (λ o. directory_above new n (parent_or o q)) (same q) ∙ above-same new old same n (parent_or (parent_directory (get old q)) q)
 
-folder-seen : (stripes : List StripeValue) (o : Option DirectoryValue) (q : ℕ) (a : Attributes) (k : InodeKind) (parent : ℕ)
+directory-kind-seen : (stripes : List StripeValue) (o : Option DirectoryValue) (q : ℕ) (a : Attributes) (k : InodeKind) (parent : ℕ)
     → parent_in k ≡ Some parent
     → node_by stripes o q a k
     ≡ Directory (record { attributes = a; parent = parent; next = (directory_or_empty o).next; list = (directory_or_empty o).list })
-folder-seen stripes o q a (RegularFile size filled verifier) parent says = absurd cc
-folder-seen stripes o q a (Folder up subdirectories) parent says =
+directory-kind-seen stripes o q a (RegularFile size filled verifier) parent says = absurd cc
+directory-kind-seen stripes o q a (DirectoryKind up subdirectories) parent says =
     let same : up ≡ parent = cc in
     λ j. Directory (record { attributes = a; parent = same j; next = (directory_or_empty o).next; list = (directory_or_empty o).list })
 
@@ -78,7 +78,7 @@ pub directory-seen : (q : VolumeContents) (f : ℕ) (inode : Inode) (parent : �
     → get (volume_of q).nodes f ≡ Some (Directory (seen_directory inode (entries_of q.logical f) parent))
 directory-seen q f inode parent there says =
     node-at q f ∙ ap (option_map (node_of q.stripes q.logical.directories f)) there
-    ∙ ap Some (folder-seen q.stripes (get q.logical.directories f) f inode.attributes inode.kind parent says)
+    ∙ ap Some (directory-kind-seen q.stripes (get q.logical.directories f) f inode.attributes inode.kind parent says)
 
 -- ---- a node under a name
 
@@ -105,8 +105,8 @@ module _ (q : VolumeContents) (well : WellFormed q) (f : ℕ) (name : List ℕ) 
   pub not-itself : (child.fileid == f) ≡ false
   not-itself = by (child.fileid == f) refl
     where
-      folder : is_folder (get q.logical.inodes.inodes f) ≡ true
-      folder = sym (well.logical.named.folders f) ∙ ap (λ o. is_some o) entered
+      as_directory : is_directory (get q.logical.inodes.inodes f) ≡ true
+      as_directory = sym (well.logical.named.as_directories f) ∙ ap (λ o. is_some o) entered
 
       parent-is : (o : Option ℕ) → is_some o ≡ true → IfSome o (λ parent. parent ≡ f) → parent_or o f ≡ f
       parent-is None some own = absurd cc
@@ -120,9 +120,9 @@ module _ (q : VolumeContents) (well : WellFormed q) (f : ℕ) (name : List ℕ) 
           let own : IsChildOf q.logical.inodes.inodes f under.entry =
           all-found (IsChildOf q.logical.inodes.inodes f) name (entries_of q.logical f).list under.entry fits.children under.found_there in
           let up = subst (λ (x : ℕ). IfSome (parent_directory (get q.logical.inodes.inodes x)) (λ parent. parent ≡ f)) (under.is ∙ same) own in
-          let reaches = well.logical.named.rooted f folder in
+          let reaches = well.logical.named.rooted f as_directory in
           let top : f ≡ root =
-          sym (stays-there q.logical.inodes.inodes f (parent-is (parent_directory (get q.logical.inodes.inodes f)) folder up) reaches.0) ∙ reaches.1 in
+          sym (stays-there q.logical.inodes.inodes f (parent-is (parent_directory (get q.logical.inodes.inodes f)) as_directory up) reaches.0) ∙ reaches.1 in
           let is : (child.fileid == root) ≡ true = eq-eqb child.fileid root (same ∙ top) in
           let isnt = not-root in
           absurd cc

@@ -15,12 +15,12 @@ use Rattle.nfs_model.specs.Serial.Rename as renames
 use Rattle.nfs_model.specs.Serial.Rename.{Renaming, may_go, goes_below_itself, with_moved, with_entry, without_entry, without_target, renamed_volume}
 use Rattle.nfs_model.specs.Serial.Rename.{rename_told, same_told, is_same_entry, rename_at, rename_in}
 use Rattle.nfs_model.specs.Serial.Starve.{takes_memory}
-use Rattle.nfs_model.specs.volume.Inodes.{Folder, Inode}
+use Rattle.nfs_model.specs.volume.Inodes.{DirectoryKind, Inode}
 use Rattle.nfs_model.specs.volume.Directories.{found}
 use Rattle.nfs_model.specs.volume.lemmas.Directories.{same-is}
 use Rattle.filer_state.specs.state.Contents.{VolumeContents}
 use Rattle.filer_state.specs.state.Tree.{node_of, volume_of}
-use Rattle.filer_state.specs.state.Names.{parent_in, parent_directory, is_folder, directory_above}
+use Rattle.filer_state.specs.state.Names.{parent_in, parent_directory, is_directory, directory_above}
 use Rattle.filer_state.specs.state.WellFormed.{WellFormed}
 use Rattle.filer_state.specs.state.Partition.{parts_of}
 use Rattle.filer_state.specs.state.Sound.{IsSound}
@@ -40,7 +40,7 @@ use Rattle.filer_state.specs.changes.lemmas.Setattr.{unchanged}
 use Rattle.filer_state.specs.changes.lemmas.Makes.{may-starve}
 use Rattle.filer_state.specs.changes.lemmas.Hanging.{q_hung, sound-hung, from-some, to-some, volume-hung, parts-hung, used-hung}
 use Rattle.filer_state.specs.changes.lemmas.Replacing.{IsFree, free-by}
-use Rattle.filer_state.specs.changes.lemmas.Told.{folder-right, directory-told, below-seen, may-go-seen, clear-of}
+use Rattle.filer_state.specs.changes.lemmas.Told.{directory-right, directory-told, below-seen, may-go-seen, clear-of}
 
 module _ (from to : List ℕ) (node : Affinity) (from_id : ℕ) (from_name : List ℕ) (to_id : ℕ) (to_name : List ℕ) (moment : Moment) where
   abbrev call : VolumeCall
@@ -112,12 +112,12 @@ module _ (from to : List ℕ) (node : Affinity) (from_id : ℕ) (from_name : Lis
               good,
             )
 
-        to-folder : is_folder (get p.logical.inodes.inodes to_id) ≡ true
-        to-folder = ap (λ (i : Option Inode). is_folder i) here_to.there ∙ ap (λ k. is_some (parent_in k)) here_to.kind
+        to-directory : is_directory (get p.logical.inodes.inodes to_id) ≡ true
+        to-directory = ap (λ (i : Option Inode). is_directory i) here_to.there ∙ ap (λ k. is_some (parent_in k)) here_to.kind
 
         clear : goes_below h child.fileid child.inode.kind ≡ false
             → (k : ℕ) → (directory_above p.logical.inodes.inodes k to_id == child.fileid) ≡ false
-        clear = clear-of p sound.well_formed from_id from_name child under here_from.entered h refl to-folder
+        clear = clear-of p sound.well_formed from_id from_name child under here_from.entered h refl to-directory
 
         -- there is no target
         free-none : found (entries_of p.logical to_id) to_name ≡ None → goes_below h child.fileid child.inode.kind ≡ false
@@ -194,7 +194,7 @@ module _ (from to : List ℕ) (node : Affinity) (from_id : ℕ) (from_name : Lis
       names-right = checked (name_fault from_name) _ _ (checked (name_fault to_name) _ _ (by-dots (is_dots from_name || is_dots to_name)))
 
     here : (fileid : ℕ) (name : List ℕ) (inode : Inode) (parent subs : ℕ) → get p.logical.inodes.inodes fileid ≡ Some inode
-        → inode.kind ≡ Folder parent subs → IsDirectoryHere p fileid name moment inode parent subs
+        → inode.kind ≡ DirectoryKind parent subs → IsDirectoryHere p fileid name moment inode parent subs
     here fileid name inode parent subs there is = record {
       there = there;
       kind = is;
@@ -202,8 +202,8 @@ module _ (from to : List ℕ) (node : Affinity) (from_id : ℕ) (from_name : Lis
     }
 
     renames-right : Right (rename_done p.number from_id from_name to_id to_name moment (logical_lens.of p)) (call.run (volume_of p))
-    renames-right = folder-right p from_id Right _ _ failure (λ fi fp fs there is.
-        folder-right p to_id Right _ _ failure (λ ti tp ts to_there to_is.
+    renames-right = directory-right p from_id Right _ _ failure (λ fi fp fs there is.
+        directory-right p to_id Right _ _ failure (λ ti tp ts to_there to_is.
         names-right fi fp fs (here from_id from_name fi fp fs there is) ti tp ts (here to_id to_name ti tp ts to_there to_is)))
 
   -- RENAME

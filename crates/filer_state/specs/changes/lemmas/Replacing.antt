@@ -12,7 +12,7 @@ use Rattle.nfs_model.specs.Locate.{Found, Naming}
 use Rattle.nfs_model.specs.Serial.Remove.{without_child}
 use Rattle.nfs_model.specs.Serial.Rename.{in_directory, is_empty_list, without_target}
 use Rattle.nfs_model.specs.volume.Directories.{found}
-use Rattle.nfs_model.specs.volume.Inodes.{InodeKind, RegularFile, Folder, Inode}
+use Rattle.nfs_model.specs.volume.Inodes.{InodeKind, RegularFile, DirectoryKind, Inode}
 use Rattle.nfs_model.specs.volume.lemmas.Inodes.{inode-set-other}
 use Rattle.nfs_model.specs.volume.lemmas.Numbered.{get-remove_at}
 use Rattle.filer_state.specs.state.Contents.{VolumeContents}
@@ -96,7 +96,7 @@ module _ (p : VolumeContents) (hands : List Hand) (made : ℕ) (sound : IsSound 
     file-not-from = ne_eqb from_id t (λ (e : from_id ≡ t).
         let same : Some fi ≡ Some target.inode = sym here_from.there ∙ ap (get p.logical.inodes.inodes) e ∙ upon.node in
         let one : fi ≡ target.inode = cc in
-        let kinds : Folder fp fs ≡ RegularFile size filled verifier = sym here_from.kind ∙ ap (λ (i : Inode). i.kind) one ∙ is_file in
+        let kinds : DirectoryKind fp fs ≡ RegularFile size filled verifier = sym here_from.kind ∙ ap (λ (i : Inode). i.kind) one ∙ is_file in
         absurd cc)
 
     sound-q : IsSound q hands made
@@ -119,7 +119,7 @@ module _ (p : VolumeContents) (hands : List Hand) (made : ℕ) (sound : IsSound 
 
   -- ---- a directory
 
-  module _ (up below : ℕ) (is_folder : target.inode.kind ≡ Folder up below) (none : (entries_of p.logical t).list ≡ []) where
+  module _ (up below : ℕ) (is_directory : target.inode.kind ≡ DirectoryKind up below) (none : (entries_of p.logical t).list ≡ []) where
     abbrev e : Dropping
     e = dropping_of to target
 
@@ -131,27 +131,27 @@ module _ (p : VolumeContents) (hands : List Hand) (made : ℕ) (sound : IsSound 
       found_there = upon.found_there;
       is = upon.is;
       node = upon.node;
-      kind = subst IsEmptyKind (sym is_folder) tt;
+      kind = subst IsEmptyKind (sym is_directory) tt;
       empty = λ x h. ap (λ o. (directory_or_empty o).list) (sym h) ∙ none;
     }
 
     -- the other directory isn't empty
-    folder-not-from : (from_id == t) ≡ false
-    folder-not-from = ne_eqb from_id t (λ (h : from_id ≡ t).
+    directory-not-from : (from_id == t) ≡ false
+    directory-not-from = ne_eqb from_id t (λ (h : from_id ≡ t).
         let list : (entries_of p.logical from_id).list ≡ [] = ap (λ (x : ℕ). (entries_of p.logical x).list) h ∙ none in
         let nothing : Some under.entry ≡ None = sym under.found_there ∙ ap (λ (l : List Listed). found (record { next = 0; list = l }) from_name) list in
         absurd cc)
 
-    folder-free : Free (logical_lens.put (target_dropped to target (Folder up below)) p)
-    folder-free =
+    directory-free : Free (logical_lens.put (target_dropped to target (DirectoryKind up below)) p)
+    directory-free =
         let parts = parts-gone p e loses tp ts here_to.kind hands hands made made (omega arith) (λ n. refl) sound in
         let same = used-gone p e loses tp ts here_to.kind hands hands made made (omega arith) (λ n. refl) sound in
         record {
           sound = sound-gone p e loses tp ts here_to.kind hands hands made made (omega arith) (λ n. refl) sound;
           volume = volume-gone p e loses tp ts here_to.kind hands hands made made (omega arith) (λ n. refl) sound ∙ target-left;
           may = may-move p sound.well_formed from_id from_name to_id to_name moment fi fp fs here_from ti tp ts here_to child under target upon two
-              target.inode p loses sound.well_formed.logical.named (λ x ne. refl) (λ x. refl) folder-not-from clear;
-          emptied = emptied-none (parts_of p) (parts_of (logical_lens.put (target_dropped to target (Folder up below)) p)) _ (omega (arith, same))
+              target.inode p loses sound.well_formed.logical.named (λ x ne. refl) (λ x. refl) directory-not-from clear;
+          emptied = emptied-none (parts_of p) (parts_of (logical_lens.put (target_dropped to target (DirectoryKind up below)) p)) _ (omega (arith, same))
               (ap (λ x. x.files) parts) (ap (λ x. x.dead) parts) (ap (λ x. x.stock) parts) (ap (λ x. x.free) parts);
         }
 
@@ -161,12 +161,12 @@ module _ (p : VolumeContents) (hands : List Hand) (made : ℕ) (sound : IsSound 
   empty-is [] h = refl
   empty-is (x ∷ list) h = absurd cc
 
-  none-there : (moved : InodeKind) (up below : ℕ) → renaming.may_replace (logical_lens.of p) moved t (Folder up below) ≡ true
+  none-there : (moved : InodeKind) (up below : ℕ) → renaming.may_replace (logical_lens.of p) moved t (DirectoryKind up below) ≡ true
       → (entries_of p.logical t).list ≡ []
   none-there (RegularFile size filled verifier) up below h = absurd cc
-  none-there (Folder old subs) up below h = empty-is (entries_of p.logical t).list h
+  none-there (DirectoryKind old subs) up below h = empty-is (entries_of p.logical t).list h
 
   pub free-by : (kind : InodeKind) → target.inode.kind ≡ kind → renaming.may_replace (logical_lens.of p) child.inode.kind t kind ≡ true
       → Free (logical_lens.put (target_dropped to target kind) p)
   free-by (RegularFile size filled verifier) is may = file-free size filled verifier is
-  free-by (Folder up below) is may = folder-free up below is (none-there child.inode.kind up below may)
+  free-by (DirectoryKind up below) is may = directory-free up below is (none-there child.inode.kind up below may)

@@ -10,7 +10,7 @@ use Rattle.nfs_model.specs.Serial.Remove.{gone}
 use Rattle.nfs_model.specs.Serial.Rmdir as rmdirs
 use Rattle.nfs_model.specs.Serial.Rmdir.{rmdir_node, rmdir_at, rmdir}
 use Rattle.nfs_model.specs.Parts.{Hand}
-use Rattle.nfs_model.specs.volume.Inodes.{InodeKind, RegularFile, Folder, Inode}
+use Rattle.nfs_model.specs.volume.Inodes.{InodeKind, RegularFile, DirectoryKind, Inode}
 use Rattle.filer_state.specs.state.Contents.{VolumeContents}
 use Rattle.filer_state.specs.state.Tree.{directory_or_empty, node_by, volume_of}
 use Rattle.filer_state.specs.state.Sound.{IsSound}
@@ -49,7 +49,7 @@ module _ (fileid : ℕ) (handle name : List ℕ) (node : Affinity) (moment : Mom
         abbrev m : Dropping
         m = dropping_of held child
 
-        module _ (up below : ℕ) (is : child.inode.kind ≡ Folder up below) where
+        module _ (up below : ℕ) (is : child.inode.kind ≡ DirectoryKind up below) where
           loses : (entries_of p.logical child.fileid).list ≡ [] → LosesName m p.logical.inodes p.logical.directories
           loses none = record {
             there = here.there;
@@ -73,7 +73,7 @@ module _ (fileid : ℕ) (handle name : List ℕ) (node : Affinity) (moment : Mom
             → Right (rmdir_kind held child kind)
             (rmdir_node seen child.fileid (node_by p.stripes (get p.logical.directories child.fileid) child.fileid child.inode.attributes kind))
         by-kind (RegularFile size filled verifier) is = failure _
-        by-kind (Folder up below) is = by-entries up below is (entries_of p.logical child.fileid).list refl
+        by-kind (DirectoryKind up below) is = by-entries up below is (entries_of p.logical child.fileid).list refl
 
       by-dots : (a b : Bool)
           → Right (if a then fails Invalid (logical_lens.of p) else if b then fails Exists (logical_lens.of p) else rmdir_by held (node_under held))

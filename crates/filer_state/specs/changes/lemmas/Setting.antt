@@ -13,7 +13,7 @@ use Rattle.nfs_model.specs.Shown.{shown, times, settled}
 use Rattle.nfs_model.specs.Serial.Setattr.{is_stale_guard, has_bad_time, is_past, resized, set_attributes, set_node, setattr_fault, with_node}
 use Rattle.nfs_model.specs.Moves.{Emptied}
 use Rattle.nfs_model.specs.Parts.{Hand}
-use Rattle.nfs_model.specs.volume.Inodes.{InodeKind, RegularFile, Folder, Inode}
+use Rattle.nfs_model.specs.volume.Inodes.{InodeKind, RegularFile, DirectoryKind, Inode}
 use Rattle.nfs_model.specs.volume.Stripes.{OfFile, StripeValue, touch_of}
 use Rattle.nfs_model.specs.volume.lemmas.Inodes.{inode-set-there, inode-set-other, next-set, used-set-same}
 use Rattle.nfs_model.specs.volume.lemmas.Numbered.{get-insert_at, itself}
@@ -34,7 +34,7 @@ use Rattle.filer_state.specs.nodes.Sizing.{Sizing, stripe_sized, all_freed, inod
 use Rattle.filer_state.specs.nodes.lemmas.Sized.{sized_in, card-sized, sound-sized}
 use Rattle.filer_state.specs.nodes.lemmas.SizedNodes.{volume-sized, was-file}
 use Rattle.filer_state.specs.nodes.lemmas.Emptied.{emptied-sized}
-use Rattle.filer_state.specs.changes.Attributes.{NodeSet, sizing_of, node_sized, node_changed, is_sized_folder, set_fault, node_fault}
+use Rattle.filer_state.specs.changes.Attributes.{NodeSet, sizing_of, node_sized, node_changed, is_directory_sized, set_fault, node_fault}
 
 -- ---- the checks
 
@@ -49,7 +49,7 @@ module _ (p : VolumeContents) (f : ℕ) (set : SetAttributes) (old : Inode) wher
       by : (kind : InodeKind) → times (node_by p.stripes (get p.logical.directories f) f old.attributes kind)
           ≡ attributes_now (file_touch p.stripes f) old.attributes kind
       by (RegularFile size filled verifier) = refl
-      by (Folder parent subdirectories) = refl
+      by (DirectoryKind parent subdirectories) = refl
 
   -- the first check that fails is the serial server's
   pub fault-is : (guard : Option Moment) → setattr_fault (volume_of p) set guard was ≡ node_fault f set guard old (logical_lens.of p)
@@ -58,7 +58,7 @@ module _ (p : VolumeContents) (f : ℕ) (set : SetAttributes) (old : Inode) wher
       by : (kind : InodeKind) → setattr_fault (volume_of p) set guard (node_by p.stripes (get p.logical.directories f) f old.attributes kind)
           ≡ set_fault p.logical.largest set guard (attributes_now (file_touch p.stripes f) old.attributes kind).ctime kind
       by (RegularFile size filled verifier) = refl
-      by (Folder parent subdirectories) = refl
+      by (DirectoryKind parent subdirectories) = refl
 
 -- where no check fails
 all-pass : (a b c d : Bool)
@@ -81,15 +81,15 @@ pub record MaySize (largest size : ℕ) (kind : InodeKind) : Type 0 where
 pub may-size : (largest size : ℕ) (set : SetAttributes) (guard : Option Moment) (ctime : Moment) (kind : InodeKind)
     → set.size ≡ Some size → set_fault largest set guard ctime kind ≡ None → MaySize largest size kind
 may-size largest size set guard ctime kind asked passes =
-    let pass = all-pass (is_stale_guard guard ctime) (has_bad_time set) (is_sized_folder kind set.size) (is_past set.size largest) passes in
-    by kind (ap (is_sized_folder kind) (sym asked) ∙ pass.0) (ap (λ (o : Option ℕ). is_past o largest) (sym asked) ∙ pass.1)
+    let pass = all-pass (is_stale_guard guard ctime) (has_bad_time set) (is_directory_sized kind set.size) (is_past set.size largest) passes in
+    by kind (ap (is_directory_sized kind) (sym asked) ∙ pass.0) (ap (λ (o : Option ℕ). is_past o largest) (sym asked) ∙ pass.1)
   where
     fits : nat_lt largest size ≡ false → size ≤ largest
     fits h = grind (arith, nat_tests)
 
-    by : (k : InodeKind) → is_sized_folder k (Some size) ≡ false → nat_lt largest size ≡ false → MaySize largest size k
+    by : (k : InodeKind) → is_directory_sized k (Some size) ≡ false → nat_lt largest size ≡ false → MaySize largest size k
     by (RegularFile s n verifier) a b = record { old_size = s; filled = n; verifier = verifier; is_file = refl; small = fits b }
-    by (Folder parent subdirectories) a b = absurd cc
+    by (DirectoryKind parent subdirectories) a b = absurd cc
 
 -- ---- a node set
 

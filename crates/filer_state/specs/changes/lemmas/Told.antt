@@ -11,21 +11,21 @@ use Rattle.nfs_model.specs.Shown.{shown}
 use Rattle.nfs_model.specs.Locate.{Effect, Fails, on_directory}
 use Rattle.nfs_model.specs.Serial.Rename as renames
 use Rattle.nfs_model.specs.Serial.Rename.{Renaming, on_parent, parent_above, climbs_to, goes_below_itself, may_go, node_or}
-use Rattle.nfs_model.specs.volume.Inodes.{InodeKind, RegularFile, Folder, Inode}
+use Rattle.nfs_model.specs.volume.Inodes.{InodeKind, RegularFile, DirectoryKind, Inode}
 use Rattle.filer_state.specs.state.Contents.{VolumeContents}
 use Rattle.filer_state.specs.state.Tree.{file_touch, node_by, node_of, volume_of}
-use Rattle.filer_state.specs.state.Names.{InodeMap, root, parent_in, parent_directory, parent_or, is_folder, directory_above}
+use Rattle.filer_state.specs.state.Names.{InodeMap, root, parent_in, parent_directory, parent_or, is_directory, directory_above}
 use Rattle.filer_state.specs.state.WellFormed.{WellFormed}
 use Rattle.filer_state.specs.state.Lenses.{logical_lens}
 use Rattle.filer_state.specs.state.Changes.{LogicalAnswer, shown_inode}
 use Rattle.filer_state.specs.laws.lemmas.Mapped.{len-map_values}
 use Rattle.filer_state.specs.attributes.lemmas.Getting.{node-at, node-shown}
-use Rattle.filer_state.specs.names.Answers.{entries_of, folder_node}
-use Rattle.filer_state.specs.names.lemmas.Folders.{same-shown}
+use Rattle.filer_state.specs.names.Answers.{entries_of, directory_node}
+use Rattle.filer_state.specs.names.lemmas.DirectoryKinds.{same-shown}
 use Rattle.filer_state.specs.changes.Named.{HeldNaming, HeldNode}
 use Rattle.filer_state.specs.changes.Renaming as held
-use Rattle.filer_state.specs.changes.Renaming.{HeldRenaming, fails_both, above, climbs, goes_below, target_may_go, inode_or, directory_now, on_folder}
-use Rattle.filer_state.specs.changes.Renaming.{if_folder}
+use Rattle.filer_state.specs.changes.Renaming.{HeldRenaming, fails_both, above, climbs, goes_below, target_may_go, inode_or, directory_now, on_directory_inode}
+use Rattle.filer_state.specs.changes.Renaming.{if_directory}
 use Rattle.filer_state.specs.changes.Renaming.{held_renamed}
 use Rattle.filer_state.specs.changes.lemmas.Named.{IsChildHere, found_seen}
 use Rattle.filer_state.specs.changes.lemmas.Climbing.{climbs-none, stays-there}
@@ -34,23 +34,23 @@ use Rattle.filer_state.specs.changes.lemmas.Renamed.{not-root}
 -- ---- the directories
 
 -- what holds of failures, and of what is run on each directory that is there, holds of both
-pub folder-right : (p : VolumeContents) (fileid : ℕ) (Right : LogicalAnswer → Effect → Type 0) (run : Inode → LogicalAnswer)
+pub directory-right : (p : VolumeContents) (fileid : ℕ) (Right : LogicalAnswer → Effect → Type 0) (run : Inode → LogicalAnswer)
     (model : DirectoryNode → Effect) → ((status : Status) → Right (fails_both status (logical_lens.of p)) (Fails status))
-    → ((inode : Inode) (parent subs : ℕ) → get p.logical.inodes.inodes fileid ≡ Some inode → inode.kind ≡ Folder parent subs
-    → Right (run inode) (model (folder_node inode parent (entries_of p.logical fileid))))
-    → Right (on_folder (get p.logical.inodes.inodes fileid) (logical_lens.of p) run) (on_directory (get (volume_of p).nodes fileid) model)
-folder-right p fileid Right run model failure goes =
-    subst (λ (o : Option Node). Right (on_folder (get p.logical.inodes.inodes fileid) (logical_lens.of p) run) (on_directory o model))
+    → ((inode : Inode) (parent subs : ℕ) → get p.logical.inodes.inodes fileid ≡ Some inode → inode.kind ≡ DirectoryKind parent subs
+    → Right (run inode) (model (directory_node inode parent (entries_of p.logical fileid))))
+    → Right (on_directory_inode (get p.logical.inodes.inodes fileid) (logical_lens.of p) run) (on_directory (get (volume_of p).nodes fileid) model)
+directory-right p fileid Right run model failure goes =
+    subst (λ (o : Option Node). Right (on_directory_inode (get p.logical.inodes.inodes fileid) (logical_lens.of p) run) (on_directory o model))
     (sym (node-at p fileid)) (by (get p.logical.inodes.inodes fileid) refl)
   where
     kinds : (inode : Inode) → get p.logical.inodes.inodes fileid ≡ Some inode → (kind : InodeKind) → inode.kind ≡ kind
-        → Right (if_folder kind (logical_lens.of p) (run inode))
+        → Right (if_directory kind (logical_lens.of p) (run inode))
         (on_directory (Some (node_by p.stripes (get p.logical.directories fileid) fileid inode.attributes kind)) model)
     kinds inode there (RegularFile size filled verifier) is = failure _
-    kinds inode there (Folder parent subs) is = goes inode parent subs there is
+    kinds inode there (DirectoryKind parent subs) is = goes inode parent subs there is
 
     by : (o : Option Inode) → get p.logical.inodes.inodes fileid ≡ o
-        → Right (on_folder o (logical_lens.of p) run) (on_directory (option_map (node_of p.stripes p.logical.directories fileid) o) model)
+        → Right (on_directory_inode o (logical_lens.of p) run) (on_directory (option_map (node_of p.stripes p.logical.directories fileid) o) model)
     by None e = failure _
     by (Some inode) e = kinds inode e inode.kind refl
 
@@ -63,23 +63,23 @@ directory-told z well n volume d is entered =
     (λ j. shown (sym is j) n.fileid (node_or (get (sym is j).nodes n.fileid) (Directory d)))
     ∙ by (get z.logical.inodes.inodes n.fileid) refl
   where
-    folder : is_folder (get z.logical.inodes.inodes n.fileid) ≡ true
-    folder = sym (well.logical.named.folders n.fileid) ∙ entered
+    as_directory : is_directory (get z.logical.inodes.inodes n.fileid) ≡ true
+    as_directory = sym (well.logical.named.as_directories n.fileid) ∙ entered
 
     kinds : (inode : Inode) (kind : InodeKind) → inode.kind ≡ kind → is_some (parent_in kind) ≡ true
         → shown_inode z.number n.fileid inode (file_touch z.stripes n.fileid) ≡ shown_inode z.number n.fileid inode None
     kinds inode (RegularFile size filled verifier) is some = absurd cc
-    kinds inode (Folder parent subs) is some = same-shown z.number n.fileid inode parent subs is (file_touch z.stripes n.fileid)
+    kinds inode (DirectoryKind parent subs) is some = same-shown z.number n.fileid inode parent subs is (file_touch z.stripes n.fileid)
 
     by : (o : Option Inode) → get z.logical.inodes.inodes n.fileid ≡ o
         → shown (volume_of z) n.fileid (node_or (get (volume_of z).nodes n.fileid) (Directory d))
         ≡ shown_inode z.number n.fileid (directory_now n (logical_lens.of z)) None
-    by None e = let none = ap is_folder e in let some = folder in absurd cc
+    by None e = let none = ap is_directory e in let some = as_directory in absurd cc
     by (Some inode) e =
         ap (λ (o : Option Node). shown (volume_of z) n.fileid (node_or o (Directory d)))
         (node-at z n.fileid ∙ ap (option_map (node_of z.stripes z.logical.directories n.fileid)) e)
         ∙ node-shown z well n.fileid inode e
-        ∙ kinds inode inode.kind refl (sym (ap is_folder e) ∙ folder)
+        ∙ kinds inode inode.kind refl (sym (ap is_directory e) ∙ as_directory)
         ∙ ap (λ (o : Option Inode). shown_inode z.number n.fileid (inode_or o n.inode) None) (sym e)
 
 -- ---- a directory below itself
@@ -91,7 +91,7 @@ module _ (p : VolumeContents) where
       kinds : (a : Attributes) (kind : InodeKind)
           → parent_above q (Some (node_by p.stripes (get p.logical.directories q) q a kind)) ≡ above q (parent_in kind)
       kinds a (RegularFile size filled verifier) = refl
-      kinds a (Folder parent subs) = refl
+      kinds a (DirectoryKind parent subs) = refl
 
       by : (o : Option Inode) → parent_above q (option_map (node_of p.stripes p.logical.directories q) o) ≡ above q (parent_directory o)
       by None = refl
@@ -116,7 +116,7 @@ module _ (p : VolumeContents) where
     where
       by : (kind : InodeKind) → goes_below_itself r c (node_by p.stripes (get p.logical.directories c) c inode.attributes kind) ≡ goes_below h c kind
       by (RegularFile size filled verifier) = refl
-      by (Folder parent subs) =
+      by (DirectoryKind parent subs) =
           (λ j. climbs_to (len (volume j).nodes) (volume j) c (same j))
           ∙ ap (λ (n : ℕ). climbs_to n (volume_of p) c h.to.fileid)
           (len-map_values (node_of p.stripes p.logical.directories) nat_cmp_total nat_cmp-IsAntisymmetric p.logical.inodes.inodes)
@@ -134,9 +134,9 @@ module _ (p : VolumeContents) where
           (node_by p.stripes (get p.logical.directories target.fileid) target.fileid target.inode.attributes l)
           ≡ held.may_replace (logical_lens.of p) k target.fileid l
       by (RegularFile size filled verifier) (RegularFile size' filled' verifier') = refl
-      by (RegularFile size filled verifier) (Folder parent subs) = refl
-      by (Folder parent subs) (RegularFile size filled verifier) = refl
-      by (Folder parent subs) (Folder parent' subs') = refl
+      by (RegularFile size filled verifier) (DirectoryKind parent subs) = refl
+      by (DirectoryKind parent subs) (RegularFile size filled verifier) = refl
+      by (DirectoryKind parent subs) (DirectoryKind parent' subs') = refl
 
 -- ---- a node is above no directory that isn't below it
 
@@ -154,7 +154,7 @@ above-turned inodes a (suc b) q =
 
 module _ (p : VolumeContents) (well : WellFormed p) (from_id : ℕ) (from_name : List ℕ) (child : HeldNode) (under : IsChildHere p from_id from_name child)
     (entered : get p.logical.directories from_id ≡ Some (entries_of p.logical from_id)) (h : HeldRenaming) (set : h.from.set ≡ logical_lens.of p)
-    (folder : is_folder (get p.logical.inodes.inodes h.to.fileid) ≡ true) where
+    (as_directory : is_directory (get p.logical.inodes.inodes h.to.fileid) ≡ true) where
   abbrev inodes : InodeMap
   inodes = p.logical.inodes.inodes
 
@@ -165,7 +165,7 @@ module _ (p : VolumeContents) (well : WellFormed p) (from_id : ℕ) (from_name :
       by false e = refl
       by true e =
           let at : directory_above inodes k h.to.fileid ≡ child.fileid = eqb-true (directory_above inodes k h.to.fileid) child.fileid e in
-          let way = well.logical.named.rooted h.to.fileid folder in
+          let way = well.logical.named.rooted h.to.fileid as_directory in
           let stays = stays-there inodes child.fileid
           (ap (λ o. parent_or (parent_directory o) child.fileid) under.node ∙ ap (λ o. parent_or o child.fileid) none) way.0 in
           let top = stays-there inodes root (ap (λ o. parent_or o root) well.logical.named.root_there) k in
@@ -181,5 +181,5 @@ module _ (p : VolumeContents) (well : WellFormed p) (from_id : ℕ) (from_name :
       by : (kind : InodeKind) → child.inode.kind ≡ kind → goes_below h child.fileid kind ≡ false
           → (k : ℕ) → (directory_above inodes k h.to.fileid == child.fileid) ≡ false
       by (RegularFile size filled verifier) is none = file-clear (ap parent_in is)
-      by (Folder parent subs) is none = climbs-none child.fileid inodes h.to.fileid
+      by (DirectoryKind parent subs) is none = climbs-none child.fileid inodes h.to.fileid
           ((λ j. climbs (len (sym set j).own.inodes.inodes) (sym set j).own.inodes.inodes child.fileid h.to.fileid) ∙ none)

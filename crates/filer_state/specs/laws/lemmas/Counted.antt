@@ -13,8 +13,8 @@ use Rattle.nfs_model.specs.Server.{Node, filled_in, blocks_of, used}
 use Rattle.nfs_model.specs.Parts as parts
 use Rattle.nfs_model.specs.Parts.{Parts, Hand, one_if, count, times_listed, places, range_blocks}
 use Rattle.depot_rule.specs.Sums.{total}
-use Rattle.nfs_model.specs.volume.Inodes.{InodeKind, RegularFile, Folder, Inode, filled_blocks, blocks_filled}
-use Rattle.nfs_model.specs.volume.Stripes.{Place, Block, StripeValue}
+use Rattle.nfs_model.specs.volume.Inodes.{InodeKind, RegularFile, DirectoryKind, Inode, filled_blocks, blocks_filled}
+use Rattle.nfs_model.specs.volume.Stripes.{FileBlock, Block, StripeValue}
 use Rattle.nfs_model.specs.volume.Ranges.{RangeValue}
 use Rattle.filer_state.specs.state.Contents.{VolumeContents}
 use Rattle.filer_state.specs.state.Tree.{file_filled, node_by, node_of, ranges_used, volume_of}
@@ -37,7 +37,7 @@ pub all-length : (stripes : List StripeValue) → length (all_numbers stripes) �
 all-length [] = refl
 all-length (s ∷ stripes) =
     let both = length-append (numbers_in s) (all_numbers stripes) in
-    let here = length-map (entries s.blocks) (λ (e : Place × Block). e.1.number) in
+    let here = length-map (entries s.blocks) (λ (e : FileBlock × Block). e.1.number) in
     let size = len-entries s.blocks in
     let others = all-length stripes in
     omega arith
@@ -116,7 +116,7 @@ module _ (p : VolumeContents) (well : WellFormed p) where
       by : (kind : InodeKind) → filled_blocks kind ≡ sets.len (file_filled p.stripes fileid)
           → filled_in (node_by p.stripes (get p.logical.directories fileid) fileid inode.attributes kind) ≡ filled_blocks kind
       by (RegularFile size filled verifier) e = sym e
-      by (Folder parent subdirectories) e = refl
+      by (DirectoryKind parent subdirectories) e = refl
 
   -- the model's used blocks are the used count
   pub used-is : used (volume_of p) ≡ p.logical.inodes.used

@@ -15,7 +15,7 @@ use Rattle.nfs_model.specs.volume.Directories.{DirectoryValue}
 use Rattle.nfs_model.specs.volume.Ranges.{RangeValue}
 use Rattle.filer_state.specs.state.Contents.{VolumeContents}
 use Rattle.filer_state.specs.state.Tree.{ranges_used}
-use Rattle.filer_state.specs.state.Names.{root, InodeMap, DirectoryMap, AreNamed, is_folder, times_in_list, folders_listed}
+use Rattle.filer_state.specs.state.Names.{root, InodeMap, DirectoryMap, AreNamed, is_directory, times_in_list, directories_listed}
 use Rattle.filer_state.specs.state.WellFormed.{WellFormed}
 use Rattle.filer_state.specs.state.Partition.{all_numbers, StandOnce}
 use Rattle.filer_state.specs.laws.lemmas.Mapped.{entry-at-least}
@@ -155,11 +155,11 @@ module _ (inodes : InodeMap) (directories : DirectoryMap) (named : AreNamed inod
   times-fileids n [] = refl
   times-fileids n (e ∷ list) = let others = times-fileids n list in omega arith
 
-  folders-some : (list : List Listed) → folders_listed inodes list ≤ length list
-  folders-some [] = omega arith
-  folders-some (e ∷ list) = by (is_folder (get inodes e.fileid)) (folders-some list)
+  directories-some : (list : List Listed) → directories_listed inodes list ≤ length list
+  directories-some [] = omega arith
+  directories-some (e ∷ list) = by (is_directory (get inodes e.fileid)) (directories-some list)
     where
-      by : (b : Bool) → folders_listed inodes list ≤ length list → one_if b + folders_listed inodes list ≤ suc (length list)
+      by : (b : Bool) → directories_listed inodes list ≤ length list → one_if b + directories_listed inodes list ≤ suc (length list)
       by true h = omega arith
       by false h = omega arith
 
@@ -182,5 +182,5 @@ module _ (inodes : InodeMap) (directories : DirectoryMap) (named : AreNamed inod
       at-most false b = omega arith
 
   -- nor subdirectories
-  pub few-folders : folders_listed inodes d.list ≤ len inodes
-  few-folders = let some = folders-some d.list in let most = few-entries in omega arith
+  pub few-directories : directories_listed inodes d.list ≤ len inodes
+  few-directories = let some = directories-some d.list in let most = few-entries in omega arith

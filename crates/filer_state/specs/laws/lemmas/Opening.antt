@@ -29,11 +29,11 @@ use Rattle.nfs_model.specs.volume.Maps.{map_values}
 use Rattle.nfs_model.specs.volume.lemmas.Maps.{get-map_values}
 use Rattle.nfs_model.specs.volume.Directories.{DirectoryValue, empty_directory}
 use Rattle.nfs_model.specs.volume.Inodes.{Inode, IsInodes, root_inode, filled_blocks, blocks_filled}
-use Rattle.nfs_model.specs.volume.Stripes.{OfFolder, Block, Place, place_cmp, StripeValue, stripe_of, is_filled}
+use Rattle.nfs_model.specs.volume.Stripes.{OfDirectory, Block, FileBlock, file_block_cmp, StripeValue, stripe_of, is_filled}
 use Rattle.filer_state.specs.state.Parcels.{FilerParcel, no_stripe, no_range}
 use Rattle.filer_state.specs.state.Contents.{VolumeContents, at, contents_of, logical_in, stripe_in, range_in, spare_in}
 use Rattle.filer_state.specs.state.Tree.{stripe_at, file_filled, home_stripe, most_file_blocks, node_of, node_by, volume_of, tree}
-use Rattle.filer_state.specs.state.Names.{root, size_of, size_in, parent_directory, is_folder, subdirectories_of, DirectoryFits, AreNamed, IsLogical}
+use Rattle.filer_state.specs.state.Names.{root, size_of, size_in, parent_directory, is_directory, subdirectories_of, DirectoryFits, AreNamed, IsLogical}
 use Rattle.filer_state.specs.state.Names.{InodeMap, DirectoryMap}
 use Rattle.filer_state.specs.state.WellFormed.{size_shown, StripeFits, RangeFits, WellFormed}
 use Rattle.filer_state.specs.state.Partition.{StandOnce, times_in_stripe}
@@ -74,7 +74,7 @@ of-root f q = ap f (single-get root_inode q)
 opening-named : AreNamed root_inodes root_directories
 opening-named = record {
   root_there = of-root parent_directory root;
-  folders = λ q. ap is_some (single-get empty_directory q) ∙ same (eqb q root) ∙ sym (of-root is_folder q);
+  as_directories = λ q. ap is_some (single-get empty_directory q) ∙ same (eqb q root) ∙ sym (of-root is_directory q);
   fits = λ q d e. let is = single-is empty_directory d q e in
       subst (λ x. DirectoryFits root_inodes q x) (sym is.1) (subst (λ (k : ℕ). DirectoryFits root_inodes k empty_directory) (sym is.0) (record {
         list = record { cookies = omega arith; names = tt };
@@ -84,10 +84,10 @@ opening-named = record {
   once = λ q. ap (λ (es : List (ℕ × DirectoryValue)). total (λ (d : ℕ
       × DirectoryValue). count (λ (e : Listed). e.fileid == q) d.1.list) es) (single-entries empty_directory)
       ∙ sym (of-root (λ o. one_if (is_some o && not (q == root))) q ∙ unnamed (q == root));
-  rooted = λ q e. (0, folder-root (eqb q root) q (λ h. eqb-true q root h) (sym (of-root is_folder q) ∙ e));
+  rooted = λ q e. (0, directory-root (eqb q root) q (λ h. eqb-true q root h) (sym (of-root is_directory q) ∙ e));
 }
   where
-    same : (b : Bool) → is_some (cond b (Some empty_directory) None) ≡ is_folder (cond b (Some root_inode) None)
+    same : (b : Bool) → is_some (cond b (Some empty_directory) None) ≡ is_directory (cond b (Some root_inode) None)
     same true = refl
     same false = refl
 
@@ -95,9 +95,9 @@ opening-named = record {
     unnamed true = refl
     unnamed false = refl
 
-    folder-root : (b : Bool) (q : ℕ) → (b ≡ true → q ≡ root) → is_folder (cond b (Some root_inode) None) ≡ true → q ≡ root
-    folder-root true q is e = is refl
-    folder-root false q is e = absurd cc
+    directory-root : (b : Bool) (q : ℕ) → (b ≡ true → q ≡ root) → is_directory (cond b (Some root_inode) None) ≡ true → q ≡ root
+    directory-root true q is e = is refl
+    directory-root false q is e = absurd cc
 
 opening-inodes : IsInodes (record { next = 2; used = 0; inodes = root_inodes })
 opening-inodes = record {
@@ -124,13 +124,13 @@ opening-is-logical verifier stripes largest = record {
 
 module _ (s : StripeValue) (bare : s.blocks ≡ maps.empty) where
   no-block : (fileid block : ℕ) → get s.blocks (fileid, block) ≡ None
-  no-block fileid block = ap (λ m. get m (fileid, block)) bare ∙ get-empty place_cmp (fileid, block)
+  no-block fileid block = ap (λ m. get m (fileid, block)) bare ∙ get-empty file_block_cmp (fileid, block)
 
   none-listed : numbers_in s ≡ []
-  none-listed = ap (λ (es : List (Place × Block)). map (λ (e : Place × Block). e.1.number) es) (no-items (entries s.blocks)
-      (sym (len-entries s.blocks) ∙ ap (λ m. maps.len m) bare ∙ maps.len-empty place_cmp Block))
+  none-listed = ap (λ (es : List (FileBlock × Block)). map (λ (e : FileBlock × Block). e.1.number) es) (no-items (entries s.blocks)
+      (sym (len-entries s.blocks) ∙ ap (λ m. maps.len m) bare ∙ maps.len-empty file_block_cmp Block))
     where
-      no-items : (xs : List (Place × Block)) → length xs ≡ 0 → xs ≡ []
+      no-items : (xs : List (FileBlock × Block)) → length xs ≡ 0 → xs ≡ []
       no-items [] e = refl
       no-items (x ∷ xs) e = absurd (omega arith)
 
@@ -160,7 +160,7 @@ none-filled s bare n fileid =
     let stripes : List StripeValue = each (λ k. s) 0 n in
     let all : (block : ℕ) → is_filled (home_stripe stripes fileid block) fileid block ≡ false = λ block.
     stripe-any (λ t. is_filled t fileid block ≡ false) s 0 n (stripe_of (length stripes) fileid block)
-    (ap is_some (no-block s bare fileid block)) (ap is_some (get-empty place_cmp (fileid, block))) in
+    (ap is_some (no-block s bare fileid block)) (ap is_some (get-empty file_block_cmp (fileid, block))) in
     ap sets.len ((λ j. sets.retain (from_list (range_with_len 0 most_file_blocks)) (λ block. all block j))
     ∙ none-retained (from_list (range_with_len 0 most_file_blocks)))
     ∙ sets.len-empty nat_cmp
@@ -206,12 +206,12 @@ opening-fits verifier stripes largest i = record {
   verifier = refl;
   stripes = refl;
   largest = refl;
-  cards = λ q. ap (option_map size_shown) (single-get OfFolder q) ∙ same (eqb q root) ∙ sym (of-root (option_map (λ (inode : Inode). size_in inode.kind)) q);
-  long = record { long = λ place b e. let none = get-empty {X = Block} place_cmp place in absurd cc };
-  blocks = λ fileid block b e. let none = get-empty {X = Block} place_cmp (fileid, block) in absurd cc;
+  cards = λ q. ap (option_map size_shown) (single-get OfDirectory q) ∙ same (eqb q root) ∙ sym (of-root (option_map (λ (inode : Inode). size_in inode.kind)) q);
+  long = record { long = λ place b e. let none = get-empty {X = Block} file_block_cmp place in absurd cc };
+  blocks = λ fileid block b e. let none = get-empty {X = Block} file_block_cmp (fileid, block) in absurd cc;
 }
   where
-    same : (b : Bool) → option_map size_shown (cond b (Some OfFolder) None)
+    same : (b : Bool) → option_map size_shown (cond b (Some OfDirectory) None)
         ≡ option_map (λ (inode : Inode). size_in inode.kind) (cond b (Some root_inode) None)
     same true = refl
     same false = refl
@@ -299,7 +299,7 @@ module _ (layout : Layout) (lawful : fault_of layout ≡ None) (verifier : List 
     stripes = λ i less.
         let long = each-length (λ k. first) 0 n in
         subst (StripeFits p.logical i) (sym (each-index (λ k. first) no_stripe n i (omega arith))) (opening-fits verifier n (largest_of layout v) i);
-    used = sym (total-none (λ s. maps.len s.blocks) (λ i. first) 0 n (λ i. maps.len-empty place_cmp Block));
+    used = sym (total-none (λ s. maps.len s.blocks) (λ i. first) 0 n (λ i. maps.len-empty file_block_cmp Block));
     filled = λ q inode e.
         let is = single-is root_inode inode q e in
         ap (λ (x : Inode). filled_blocks x.kind) is.1 ∙ sym (none-filled first refl n q);

@@ -5,8 +5,8 @@ use Rattle.std.specs.List.{AllByRecursion}
 use Rattle.std.specs.FinMap.{get}
 use Rattle.nfs_model.specs.Types.{Listed}
 use Rattle.nfs_model.specs.Parts.{one_if}
-use Rattle.filer_state.specs.state.Names.{root, InodeMap, DirectoryMap, parent_directory, subdirectories_of, is_folder, parent_or}
-use Rattle.filer_state.specs.state.Names.{directory_above, folders_listed, AreNamed}
+use Rattle.filer_state.specs.state.Names.{root, InodeMap, DirectoryMap, parent_directory, subdirectories_of, is_directory, parent_or}
+use Rattle.filer_state.specs.state.Names.{directory_above, directories_listed, AreNamed}
 
 -- the same fileids, each with the same parent and as many subdirectories if it is a directory's
 pub record SamePlaces (new old : InodeMap) : Type 0 where
@@ -15,12 +15,12 @@ pub record SamePlaces (new old : InodeMap) : Type 0 where
   pub there : (q : ℕ) → is_some (get new q) ≡ is_some (get old q)
 
 module _ (new old : InodeMap) (same : SamePlaces new old) where
-  folders-same : (list : List Listed) → folders_listed new list ≡ folders_listed old list
-  folders-same [] = refl
-  folders-same (e ∷ list) =
-      let here : one_if (is_folder (get new e.fileid)) ≡ one_if (is_folder (get old e.fileid)) =
+  directories-same : (list : List Listed) → directories_listed new list ≡ directories_listed old list
+  directories-same [] = refl
+  directories-same (e ∷ list) =
+      let here : one_if (is_directory (get new e.fileid)) ≡ one_if (is_directory (get old e.fileid)) =
       ap (λ o. one_if (is_some o)) (same.parents e.fileid) in
-      let others = folders-same list in
+      let others = directories-same list in
       omega arith
 
   abbrev IsChildOf : InodeMap → ℕ → Listed → Type 0
@@ -43,11 +43,11 @@ module _ (new old : InodeMap) (same : SamePlaces new old) where
   pub named-same : (directories : DirectoryMap) → AreNamed old directories → AreNamed new directories
   named-same directories named = record {
     root_there = same.parents root ∙ named.root_there;
-    folders = λ q. named.folders q ∙ sym (ap (λ o. is_some o) (same.parents q));
+    as_directories = λ q. named.as_directories q ∙ sym (ap (λ o. is_some o) (same.parents q));
     fits = λ q d e. let fits = named.fits q d e in record {
       list = fits.list;
       children = children-same q d.list fits.children;
-      links = same.subdirectories q ∙ fits.links ∙ ap Some (sym (folders-same d.list));
+      links = same.subdirectories q ∙ fits.links ∙ ap Some (sym (directories-same d.list));
     };
     once = λ q. named.once q ∙ sym (ap (λ b. one_if (b && not (q == root))) (same.there q));
     rooted = λ q e.

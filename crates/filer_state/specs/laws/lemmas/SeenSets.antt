@@ -14,7 +14,7 @@ use Rattle.affinity.specs.lemmas.Lawful.{aggregate_known}
 use Rattle.affinity.specs.lemmas.Sharing.{covers-cases}
 use Rattle.affinity.specs.lemmas.Ways.{begins-self, begins-longer, begins-length}
 use Rattle.parcels.specs.declared.family.Parcel.TheVariants as parcels
-use Rattle.parcels.specs.Places.{in_place}
+use Rattle.parcels.specs.Slots.{in_slot}
 use Rattle.parcels.specs.Sets.{range_parcels, vbn_parcels, stripe_parcels, logical_parcels, volume_parcels, aggregate_parcels, serial_parcels}
 use Rattle.parcels.specs.lemmas.At.{IsOfVolume, range-own, stripe-own, logical-own, aggregate-own, logical-stripe, vbn-range, volume-logical}
 use Rattle.parcels.specs.lemmas.At.{volume-vbn, aggregate-volume, serial-volume, serial-aggregate}

@@ -25,7 +25,7 @@ use Rattle.filer_state.specs.attributes.lemmas.Getting.{node-at, node-shown}
 use Rattle.filer_state.specs.names.Answers.{is_bad_cookie, object_in, entry_told, readdirplus_answer}
 use Rattle.filer_state.specs.names.Laws.{readdirplus_call}
 use Rattle.filer_state.specs.names.lemmas.Telling.{tells-right, starves-right}
-use Rattle.filer_state.specs.names.lemmas.Folders.{directory-stays, folder_at, folder-told, folder-shown}
+use Rattle.filer_state.specs.names.lemmas.DirectoryKinds.{directory-stays, directory_at, directory-kind-told, directory-kind-shown}
 
 -- nothing changes
 module _ (volume : VolumeState) (count : ℕ) (told : Listed → ListedPlus) (directory : Shown) where
@@ -72,12 +72,12 @@ module _ (v fileid : ℕ) (handle : List ℕ) (node : Affinity) (cookie : ℕ) (
       → readdirplus_answer p.number fileid cookie verifier names_count count (logical_lens.of p)
       ≡ answer_on (readdirplus_call handle node fileid cookie verifier names_count count) p
   readdirplus-told p well =
-      folder-told p fileid _ _ (λ inode parent subs there is.
+      directory-kind-told p fileid _ _ (λ inode parent subs there is.
       listing-told (is_bad_cookie cookie verifier) (min names_count most_bytes) (min count most_bytes)
       (entry_told p.number (logical_lens.of p)) (listed_plus (volume_of p))
-      (shown_inode p.number fileid inode None) (shown (volume_of p) fileid (Directory (folder_at p fileid inode parent)))
-      (above_cookie cookie (all_listed fileid (folder_at p fileid inode parent)))
-      (entries-told p well) (sym (folder-shown p fileid well inode parent subs there is)))
+      (shown_inode p.number fileid inode None) (shown (volume_of p) fileid (Directory (directory_at p fileid inode parent)))
+      (above_cookie cookie (all_listed fileid (directory_at p fileid inode parent)))
+      (entries-told p well) (sym (directory-kind-shown p fileid well inode parent subs there is)))
 
   pub readdirplus-right : (set : LogicalSet)
       → RightOnVolume v logical_lens (ServesOn (readdirplus_call handle node fileid cookie verifier names_count count) false) [] [] set

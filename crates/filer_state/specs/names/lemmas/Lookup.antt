@@ -10,7 +10,7 @@ use Rattle.nfs_model.specs.Shown.{shown}
 use Rattle.nfs_model.specs.Names.{same_name, dot, dot_dot, find_name, name_fault}
 use Rattle.nfs_model.specs.Locate.{unless, Found, found_at, child, Naming, named_child}
 use Rattle.nfs_model.specs.Serial.Lookup.{looked_up, lookup_told}
-use Rattle.nfs_model.specs.volume.Inodes.{Inode, Folder}
+use Rattle.nfs_model.specs.volume.Inodes.{Inode, DirectoryKind}
 use Rattle.nfs_model.specs.volume.Directories.{fileid_found}
 use Rattle.filer_state.specs.state.Contents.{VolumeContents}
 use Rattle.filer_state.specs.state.Tree.{volume_of, node_of, file_touch}
@@ -24,7 +24,7 @@ use Rattle.filer_state.specs.attributes.lemmas.Getting.{node-at, node-shown}
 use Rattle.filer_state.specs.names.Answers.{entries_of, fileid_named, object_told, found_told, unless_fault, lookup_answer}
 use Rattle.filer_state.specs.names.Laws.{lookup_call}
 use Rattle.filer_state.specs.names.lemmas.Telling.{tells-right}
-use Rattle.filer_state.specs.names.lemmas.Folders.{directory-stays, folder_at, folder-told, folder-shown, same-shown}
+use Rattle.filer_state.specs.names.lemmas.DirectoryKinds.{directory-stays, directory_at, directory-kind-told, directory-kind-shown, same-shown}
 
 told-stays : (volume : VolumeState) (n : Naming) (o : Option Found) → volume ≡ volume_left volume (lookup_told n o)
 told-stays volume n None = refl
@@ -39,9 +39,9 @@ abbrev naming : VolumeState → ℕ → List ℕ → Moment → DirectoryNode �
 naming volume fileid name moment d = record { volume = volume; fileid = fileid; directory = d; name = name; moment = moment }
 
 module _ (p : VolumeContents) (well : WellFormed p) (fileid : ℕ) (name : List ℕ) (moment : Moment) where
-  module _ (inode : Inode) (parent subs : ℕ) (there : get p.logical.inodes.inodes fileid ≡ Some inode) (is : inode.kind ≡ Folder parent subs) where
+  module _ (inode : Inode) (parent subs : ℕ) (there : get p.logical.inodes.inodes fileid ≡ Some inode) (is : inode.kind ≡ DirectoryKind parent subs) where
     abbrev here : Naming
-    here = naming (volume_of p) fileid name moment (folder_at p fileid inode parent)
+    here = naming (volume_of p) fileid name moment (directory_at p fileid inode parent)
 
     abbrev own : Shown
     own = shown_inode p.number fileid inode None
@@ -59,7 +59,7 @@ module _ (p : VolumeContents) (well : WellFormed p) (fileid : ℕ) (name : List 
         by (Some i) e =
             let object : shown_inode p.number q i (file_touch p.stripes q) ≡ shown (volume_of p) q (node_of p.stripes p.logical.directories q i) =
             sym (node-shown p well q i e) in
-            let directory = sym (folder-shown p fileid well inode parent subs there is) in
+            let directory = sym (directory-kind-shown p fileid well inode parent subs there is) in
             λ j. LookupDone (handle_bytes p.number q) (object j) (directory j)
 
     entry : (o : Option Listed) → found_told p.number (logical_lens.of p) own (option_map (λ (e : Listed). e.fileid) o)
@@ -73,9 +73,9 @@ module _ (p : VolumeContents) (well : WellFormed p) (fileid : ℕ) (name : List 
     named = by (same_name name dot) (same_name name dot_dot)
       where
         self : found_told p.number (logical_lens.of p) own (Some fileid)
-            ≡ answer_of 1 (lookup_told here (Some (record { fileid = fileid; node = Directory (folder_at p fileid inode parent) })))
+            ≡ answer_of 1 (lookup_told here (Some (record { fileid = fileid; node = Directory (directory_at p fileid inode parent) })))
         self =
-            let directory = sym (folder-shown p fileid well inode parent subs there is) in
+            let directory = sym (directory-kind-shown p fileid well inode parent subs there is) in
             let object = same-shown p.number fileid inode parent subs is (file_touch p.stripes fileid) ∙ directory in
             ap (object_told p.number (logical_lens.of p) own fileid) there
             ∙ (λ j. LookupDone (handle_bytes p.number fileid) (object j) (directory j))
@@ -83,7 +83,7 @@ module _ (p : VolumeContents) (well : WellFormed p) (fileid : ℕ) (name : List 
         by : (b c : Bool)
             → found_told p.number (logical_lens.of p) own
             (if b then Some fileid else if c then Some parent else fileid_found (entries_of p.logical fileid) name)
-            ≡ answer_of 1 (lookup_told here (if b then Some (record { fileid = fileid; node = Directory (folder_at p fileid inode parent) })
+            ≡ answer_of 1 (lookup_told here (if b then Some (record { fileid = fileid; node = Directory (directory_at p fileid inode parent) })
             else if c then found_at parent (get (volume_of p).nodes parent) else named_child here))
         by true c = self
         by false true = object parent
@@ -102,4 +102,4 @@ lookup-right v fileid handle name node moment =
     tells-right v (lookup_call handle node fileid name moment) (λ n s. lookup_answer n fileid name s) (λ p. refl) (λ p. refl)
     (λ p. directory-stays (volume_of p) (get (volume_of p).nodes fileid) _ (λ d.
     name-stays (volume_of p) (naming (volume_of p) fileid name moment d) (name_fault name)))
-    (λ p well. folder-told p fileid _ _ (λ inode parent subs there is. checked p well fileid name moment inode parent subs there is (name_fault name)))
+    (λ p well. directory-kind-told p fileid _ _ (λ inode parent subs there is. checked p well fileid name moment inode parent subs there is (name_fault name)))

@@ -13,7 +13,7 @@ use Rattle.std.specs.FinSet as sets
 use Rattle.std.specs.FinSet.{from_list, retain, contains-retain, contains-from_list_nat}
 use Rattle.nfs_model.specs.Parts.{one_if, count, times_listed}
 use Rattle.depot_rule.specs.Sums.{total}
-use Rattle.nfs_model.specs.volume.Stripes.{Place, place_cmp, Block, StripeValue, stripe_of, is_filled}
+use Rattle.nfs_model.specs.volume.Stripes.{FileBlock, file_block_cmp, Block, StripeValue, stripe_of, is_filled}
 use Rattle.nfs_model.specs.volume.lemmas.Entries.{place_total, place_same}
 use Rattle.filer_state.specs.state.Tree.{stripe_at, home_stripe, file_filled, most_file_blocks}
 use Rattle.filer_state.specs.laws.lemmas.Counted.{len-listed}
@@ -158,7 +158,7 @@ module _ (stripes : List StripeValue) (f : ℕ) (some : 0 < length stripes)
 
 -- ---- the entries of a stripe
 
-abbrev pub is_of : ℕ → Place × Block → Bool
+abbrev pub is_of : ℕ → FileBlock × Block → Bool
 is_of f e = e.0.0 == f
 
 abbrev pub blocks_in : ℕ → StripeValue → ℕ
@@ -169,7 +169,7 @@ order-both Less t = refl
 order-both Equal t = refl
 order-both Greater t = refl
 
-place-is : (p q : Place) → eq_by_cmp place_cmp p q ≡ ((p.0 == q.0) && (p.1 == q.1))
+place-is : (p q : FileBlock) → eq_by_cmp file_block_cmp p q ≡ ((p.0 == q.0) && (p.1 == q.1))
 place-is p q = order-both (nat_cmp p.0 q.0) (nat_cmp p.1 q.1) ∙ (λ j. unsigned_tied p.0 q.0 j && unsigned_tied p.1 q.1 j)
 
 or-counts : (b c : Bool) → (b ≡ true → c ≡ false) → one_if (b || c) ≡ one_if b + one_if c
@@ -189,32 +189,32 @@ first-test : (a b : Bool) → T (a && b) → T a
 first-test true b h = tt
 first-test false b h = absurd h
 
-below-none : (q : Place) (es : List (Place × Block)) → T (below_all place_cmp q es) → find place_cmp q es ≡ None
+below-none : (q : FileBlock) (es : List (FileBlock × Block)) → T (below_all file_block_cmp q es) → find file_block_cmp q es ≡ None
 below-none q [] h = refl
-below-none q (e ∷ es) h = by (place_cmp q e.0) (first-test (is_lt (place_cmp q e.0)) (below_all place_cmp q es) h)
-    (below-none q es (second-test (is_lt (place_cmp q e.0)) (below_all place_cmp q es) h))
+below-none q (e ∷ es) h = by (file_block_cmp q e.0) (first-test (is_lt (file_block_cmp q e.0)) (below_all file_block_cmp q es) h)
+    (below-none q es (second-test (is_lt (file_block_cmp q e.0)) (below_all file_block_cmp q es) h))
   where
-    by : (r : Ordering) → T (is_lt r) → find place_cmp q es ≡ None → cond (is_eq r) (Some e.1) (find place_cmp q es) ≡ None
+    by : (r : Ordering) → T (is_lt r) → find file_block_cmp q es ≡ None → cond (is_eq r) (Some e.1) (find file_block_cmp q es) ≡ None
     by Less t none = none
     by Equal t none = absurd t
     by Greater t none = absurd t
 
 module _ (f most : ℕ) where
-  abbrev has : List (Place × Block) → ℕ → Bool
-  has es block = is_some (find place_cmp (f, block) es)
+  abbrev has : List (FileBlock × Block) → ℕ → Bool
+  has es block = is_some (find file_block_cmp (f, block) es)
 
-  has-first : (e : Place × Block) (es : List (Place × Block)) (block : ℕ)
+  has-first : (e : FileBlock × Block) (es : List (FileBlock × Block)) (block : ℕ)
       → has (e ∷ es) block ≡ (((f == e.0.0) && (block == e.0.1)) || has es block)
   has-first e es block =
-      ap (λ (b : Bool). is_some (cond b (Some e.1) (find place_cmp (f, block) es))) (place-is (f, block) e.0)
+      ap (λ (b : Bool). is_some (cond b (Some e.1) (find file_block_cmp (f, block) es))) (place-is (f, block) e.0)
       ∙ by ((f == e.0.0) && (block == e.0.1))
     where
-      by : (b : Bool) → is_some (cond b (Some e.1) (find place_cmp (f, block) es)) ≡ (b || has es block)
+      by : (b : Bool) → is_some (cond b (Some e.1) (find file_block_cmp (f, block) es)) ≡ (b || has es block)
       by true = refl
       by false = refl
 
   -- the entries of a file are as many as its blocks, which are below a number
-  entries-counted : (es : List (Place × Block)) → T (is_sorted place_cmp es) → ((block : ℕ) → has es block ≡ true → block < most)
+  entries-counted : (es : List (FileBlock × Block)) → T (is_sorted file_block_cmp es) → ((block : ℕ) → has es block ≡ true → block < most)
       → count (has es) (range_with_len 0 most) ≡ count (is_of f) es
   entries-counted [] sorted small = none (range_with_len 0 most)
     where
@@ -222,17 +222,17 @@ module _ (f most : ℕ) where
       none [] = refl
       none (x ∷ xs) = let others = none xs in omega (arith, others)
   entries-counted (e ∷ es) sorted small =
-      let later = second-test (below_all place_cmp e.0 es) (is_sorted place_cmp es) sorted in
+      let later = second-test (below_all file_block_cmp e.0 es) (is_sorted file_block_cmp es) sorted in
       let rest = entries-counted es later (λ block h. small block (has-first e es block ∙ ap (λ (b : Bool). ((f == e.0.0) && (block == e.0.1)) || b) h
       ∙ either ((f == e.0.0) && (block == e.0.1)))) in
       count-same (has (e ∷ es)) (λ block. ((f == e.0.0) && (block == e.0.1)) || has es block) (has-first e es) (range_with_len 0 most)
-      ∙ by (e.0.0 == f) refl rest (below-none e.0 es (first-test (below_all place_cmp e.0 es) (is_sorted place_cmp es) sorted))
+      ∙ by (e.0.0 == f) refl rest (below-none e.0 es (first-test (below_all file_block_cmp e.0 es) (is_sorted file_block_cmp es) sorted))
     where
       either : (b : Bool) → (b || true) ≡ true
       either true = refl
       either false = refl
 
-      by : (b : Bool) → (e.0.0 == f) ≡ b → count (has es) (range_with_len 0 most) ≡ count (is_of f) es → find place_cmp e.0 es ≡ None
+      by : (b : Bool) → (e.0.0 == f) ≡ b → count (has es) (range_with_len 0 most) ≡ count (is_of f) es → find file_block_cmp e.0 es ≡ None
           → count (λ block. ((f == e.0.0) && (block == e.0.1)) || has es block) (range_with_len 0 most) ≡ one_if b + count (is_of f) es
       by true is rest gone =
           let same : e.0.0 ≡ f = eqb-true e.0.0 f is in
@@ -242,8 +242,8 @@ module _ (f most : ℕ) where
           let less = small e.0.1 here in
           let once = range-there e.0.1 0 most (omega arith) (omega (arith, less)) in
           let apart : (block : ℕ) → (block == e.0.1) ≡ true → has es block ≡ false =
-          (λ block h. ap (λ (b : ℕ). is_some (find place_cmp (f, b) es)) (eqb-true block e.0.1 h)
-          ∙ ap (λ (k : ℕ). is_some (find place_cmp (k, e.0.1) es)) (sym same) ∙ ap (λ o. is_some o) gone) in
+          (λ block h. ap (λ (b : ℕ). is_some (find file_block_cmp (f, b) es)) (eqb-true block e.0.1 h)
+          ∙ ap (λ (k : ℕ). is_some (find file_block_cmp (k, e.0.1) es)) (sym same) ∙ ap (λ o. is_some o) gone) in
           let sum = count-or (λ block. block == e.0.1) (has es) (range_with_len 0 most) apart in
           count-same (λ block. ((f == e.0.0) && (block == e.0.1)) || has es block) (λ block. (block == e.0.1) || has es block)
           (λ block. ap (λ (b : Bool). (b && (block == e.0.1)) || has es block) test) (range_with_len 0 most)
@@ -282,13 +282,13 @@ module _ (stripes : List StripeValue) (f : ℕ) (some : 0 < length stripes)
 
 -- ---- entries that are kept
 
-pub entries-retained : (m : FinMap place_cmp Block) (test : Place → Bool) → entries (retain_keys m test) ≡ where_key place_cmp test (entries m)
-entries-retained m test = same_entries place_cmp place_total place_same (entries (retain_keys m test)) (where_key place_cmp test (entries m))
-    (entries_sorted (retain_keys m test)) (is_sorted-where_key place_cmp test (entries m) (entries_sorted m)) (λ q.
+pub entries-retained : (m : FinMap file_block_cmp Block) (test : FileBlock → Bool) → entries (retain_keys m test) ≡ where_key file_block_cmp test (entries m)
+entries-retained m test = same_entries file_block_cmp place_total place_same (entries (retain_keys m test)) (where_key file_block_cmp test (entries m))
+    (entries_sorted (retain_keys m test)) (is_sorted-where_key file_block_cmp test (entries m) (entries_sorted m)) (λ q.
     sym (get-entries (retain_keys m test) q)
     ∙ get-retain_keys m test q (alike q)
     ∙ ap (λ o. cond (test q) o None) (get-entries m q)
-    ∙ sym (find-where_key place_cmp test q (alike q) (entries m)))
+    ∙ sym (find-where_key file_block_cmp test q (alike q) (entries m)))
   where
-    alike : (q x : Place) → place_cmp q x ≡ Equal → test x ≡ test q
+    alike : (q x : FileBlock) → file_block_cmp q x ≡ Equal → test x ≡ test q
     alike q x e = ap test (sym (place_same q x e))

@@ -10,7 +10,7 @@ use Rattle.std.specs.Option.{option_map}
 use Rattle.std.specs.FinMap.{get, len, entries, retain_keys, get-retain_keys, len-entries}
 use Rattle.nfs_model.specs.Server.{block_size}
 use Rattle.nfs_model.specs.Parts.{one_if, count, times_listed}
-use Rattle.nfs_model.specs.volume.Stripes.{Place, Block, StripeValue, byte_of, byte_cut, block_mapped, file_mapped, is_past}
+use Rattle.nfs_model.specs.volume.Stripes.{FileBlock, Block, StripeValue, byte_of, byte_cut, block_mapped, file_mapped, is_past}
 use Rattle.nfs_model.specs.volume.Stripes.{numbers_freed}
 use Rattle.nfs_model.specs.volume.lemmas.Entries.{place_total, place_same}
 use Rattle.nfs_model.specs.volume.lemmas.Maps.{get-map_values}
@@ -21,15 +21,15 @@ use Rattle.filer_state.specs.nodes.Sizing.{stripe_sized}
 use Rattle.filer_state.specs.nodes.lemmas.Counting.{is_of, blocks_in, entries-retained}
 
 module _ (f size : ℕ) where
-  abbrev kept : Place → Bool
+  abbrev kept : FileBlock → Bool
   kept p = not (is_past f size p)
 
-  abbrev cut_block : Place → Block → Block
+  abbrev cut_block : FileBlock → Block → Block
   cut_block = file_mapped (byte_cut size) f
 
   -- ---- what is found
 
-  pub cut-found : (s : StripeValue) (q : Place)
+  pub cut-found : (s : StripeValue) (q : FileBlock)
       → get (stripe_sized f size s).blocks q ≡ option_map (cut_block q) (cond (kept q) (get s.blocks q) None)
   cut-found s q =
       get-map_values place_total place_same cut_block (retain_keys s.blocks kept) q
@@ -100,7 +100,7 @@ module _ (f size : ℕ) where
   -- ---- counts of entries
 
   abbrev PlacedBlock : Type 0
-  PlacedBlock = Place × Block
+  PlacedBlock = FileBlock × Block
 
   abbrev past_entry : PlacedBlock → Bool
   past_entry e = is_past f size e.0

@@ -13,7 +13,7 @@ use Rattle.nfs_model.specs.Names.{dropped_name}
 use Rattle.nfs_model.specs.Parts.{Hand}
 use Rattle.depot_rule.specs.Sums.{total}
 use Rattle.nfs_model.specs.volume.Directories.{DirectoryValue, removed}
-use Rattle.nfs_model.specs.volume.Inodes.{InodeKind, RegularFile, Folder, Inode, InodesValue, filled_blocks, inode_of, inode_dropped}
+use Rattle.nfs_model.specs.volume.Inodes.{InodeKind, RegularFile, DirectoryKind, Inode, InodesValue, filled_blocks, inode_of, inode_dropped}
 use Rattle.nfs_model.specs.volume.Stripes.{StripeValue, touch_of, card_dropped}
 use Rattle.nfs_model.specs.volume.lemmas.Inodes.{len-set, len-dropped, dropped-is, set-is, next-set, used-set-same, used-dropped}
 use Rattle.nfs_model.specs.volume.lemmas.Maps.{get-map_values}
@@ -26,7 +26,7 @@ use Rattle.filer_state.specs.state.Partition.{times_in_stripe, times_in_hand}
 use Rattle.filer_state.specs.state.Sound.{IsSound}
 use Rattle.filer_state.specs.state.Lenses.{logical_lens}
 use Rattle.filer_state.specs.laws.lemmas.SameBlocks as blocks
-use Rattle.filer_state.specs.nodes.Making.{folders_in}
+use Rattle.filer_state.specs.nodes.Making.{directories_in}
 use Rattle.filer_state.specs.nodes.Dropping.{Dropping, without_subdirectories, directory_left, inodes_left, node_dropped}
 use Rattle.filer_state.specs.nodes.lemmas.Unnamed as names
 use Rattle.filer_state.specs.nodes.Laws.{LosesName, IsEmptyKind, seen_directory}
@@ -55,16 +55,16 @@ left_in m p = logical_lens.put (node_dropped m (logical_lens.of p)) p
 
 filled-kept : (fewer : ℕ) (k : InodeKind) → filled_blocks (without_subdirectories fewer k) ≡ filled_blocks k
 filled-kept fewer (RegularFile size filled verifier) = refl
-filled-kept fewer (Folder parent subdirectories) = refl
+filled-kept fewer (DirectoryKind parent subdirectories) = refl
 
 empty-filled : (k : InodeKind) → IsEmptyKind k → filled_blocks k ≡ 0
 empty-filled (RegularFile size filled verifier) h = h.1
-empty-filled (Folder parent subdirectories) h = refl
+empty-filled (DirectoryKind parent subdirectories) h = refl
 
 -- a node that is empty has no block that starts before its size
 empty-size : (k : InodeKind) (size block : ℕ) → IsEmptyKind k → size_in k ≡ Some size → block_size * block < size → ⊥
 empty-size (RegularFile n filled verifier) size block h e less = let same : n ≡ size = cc in let none = h.0 in absurd (omega (arith, same, none, less))
-empty-size (Folder parent subdirectories) size block h e less = absurd cc
+empty-size (DirectoryKind parent subdirectories) size block h e less = absurd cc
 
 module _ (p : VolumeContents) (m : Dropping) (well : WellFormed p) (may : LosesName m p.logical.inodes p.logical.directories) where
   abbrev old : InodesValue
@@ -111,7 +111,7 @@ module _ (p : VolumeContents) (m : Dropping) (well : WellFormed p) (may : LosesN
       → (q : ℕ) → option_map size_shown (get (card_dropped m.fileid s).cards q) ≡ option_map shown_size (inode_of new q)
   shown-after s fits = by-fileid (λ q. option_map size_shown (get (card_dropped m.fileid s).cards q) ≡ option_map shown_size (inode_of new q))
       (ap (option_map size_shown) (card-other m.fileid s m.directory apart) ∙ fits m.directory ∙ ap (option_map shown_size) may.there
-      ∙ ap Some (sym (names.size-kept (folders_in m.dropped.kind) m.inode.kind)) ∙ sym (ap (option_map shown_size) at-directory))
+      ∙ ap Some (sym (names.size-kept (directories_in m.dropped.kind) m.inode.kind)) ∙ sym (ap (option_map shown_size) at-directory))
       (ap (option_map size_shown) (card-left m.fileid s m.fileid)
       ∙ ap (λ (b : Bool). option_map size_shown (if b then None else get s.cards m.fileid)) (itself m.fileid)
       ∙ sym (ap (option_map shown_size) at-dropped))
@@ -147,7 +147,7 @@ module _ (p : VolumeContents) (m : Dropping) (well : WellFormed p) (may : LosesN
   filled-after = by-fileid (λ q. (x : Inode) → inode_of new q ≡ Some x → filled_blocks x.kind ≡ sets.len (file_filled after.stripes q))
       (λ x e.
       let is : directory_left m ≡ x = (let at = at-directory in cc) in
-      ap (λ (i : Inode). filled_blocks i.kind) (sym is) ∙ filled-kept (folders_in m.dropped.kind) m.inode.kind
+      ap (λ (i : Inode). filled_blocks i.kind) (sym is) ∙ filled-kept (directories_in m.dropped.kind) m.inode.kind
       ∙ well.filled m.directory m.inode may.there ∙ sym (ap sets.len (stay m.directory)))
       (λ x e. let none = at-dropped in absurd cc)
       (λ q ne left x e. well.filled q x (sym (at-other q ne left) ∙ e) ∙ sym (ap sets.len (stay q)))
@@ -184,7 +184,7 @@ module _ (p : VolumeContents) (m : Dropping) (well : WellFormed p) (may : LosesN
         (fits-after i (stripe_at p.stripes i) (well.stripes i on));
     used =
         let same = used-set-same (inode_dropped m.fileid old) m.directory m.inode (directory_left m) (dropped-is old m.fileid well.logical.inodes)
-        dropped-lawful (filled-kept (folders_in m.dropped.kind) m.inode.kind) in
+        dropped-lawful (filled-kept (directories_in m.dropped.kind) m.inode.kind) in
         let left = used-dropped old m.fileid m.dropped well.logical.inodes may.node in
         let was = well.used in
         let none = empty-filled m.dropped.kind may.kind in
@@ -233,7 +233,7 @@ module _ (p : VolumeContents) (m : Dropping) (well : WellFormed p) (may : LosesN
             → node_by p.stripes (get p.logical.directories m.directory) m.directory m.inode.attributes kind
             ≡ Directory (seen_directory m.inode m.entries parent)
         by (RegularFile size filled verifier) e = absurd cc
-        by (Folder up subdirectories) e =
+        by (DirectoryKind up subdirectories) e =
             let same : up ≡ parent = cc in
             λ j. Directory (record {
               attributes = m.inode.attributes;
@@ -250,9 +250,9 @@ module _ (p : VolumeContents) (m : Dropping) (well : WellFormed p) (may : LosesN
       where
         by : (kind : InodeKind) → parent_in kind ≡ Some parent
             → node_by after.stripes (get after.logical.directories m.directory) m.directory (directory_left m).attributes
-            (without_subdirectories (folders_in m.dropped.kind) kind) ≡ directory_then
+            (without_subdirectories (directories_in m.dropped.kind) kind) ≡ directory_then
         by (RegularFile size filled verifier) e = absurd cc
-        by (Folder up subdirectories) e =
+        by (DirectoryKind up subdirectories) e =
             let same : up ≡ parent = cc in
             λ j. Directory (record {
               attributes = (directory_left m).attributes;
@@ -274,7 +274,7 @@ module _ (p : VolumeContents) (m : Dropping) (well : WellFormed p) (may : LosesN
           touch = touch-other m.fileid p.stripes q left j;
           verifier = verifier;
         })
-        by (Folder up subdirectories) = λ j. node_by p.stripes (other-entries q ne left j) q inode.attributes (Folder up subdirectories)
+        by (DirectoryKind up subdirectories) = λ j. node_by p.stripes (other-entries q ne left j) q inode.attributes (DirectoryKind up subdirectories)
 
     abbrev now : ℕ → Inode → Node
     now = node_of after.stripes after.logical.directories

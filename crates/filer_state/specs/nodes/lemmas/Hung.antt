@@ -8,14 +8,14 @@ use Rattle.std.specs.FinMap.{get, nat_cmp-IsAntisymmetric}
 use Rattle.nfs_model.specs.Types.{Moment, Listed}
 use Rattle.nfs_model.specs.Parts.{one_if}
 use Rattle.nfs_model.specs.volume.Directories.{DirectoryValue, added, entry_added}
-use Rattle.nfs_model.specs.volume.Inodes.{InodeKind, RegularFile, Folder, Inode, InodesValue, inode_of, inode_set}
+use Rattle.nfs_model.specs.volume.Inodes.{InodeKind, RegularFile, DirectoryKind, Inode, InodesValue, inode_of, inode_set}
 use Rattle.nfs_model.specs.volume.lemmas.Inodes.{inode-set-there, inode-set-other}
 use Rattle.nfs_model.specs.volume.lemmas.Numbered.{get-insert_at, itself}
 use Rattle.filer_state.specs.state.Names.{root, DirectoryMap, parent_in, parent_directory, subdirectories_in, subdirectories_of}
-use Rattle.filer_state.specs.state.Names.{is_folder, parent_or, times_in_list, times_named, is_named, folders_listed, directory_above, DirectoryFits}
+use Rattle.filer_state.specs.state.Names.{is_directory, parent_or, times_in_list, times_named, is_named, directories_listed, directory_above, DirectoryFits}
 use Rattle.filer_state.specs.state.Names.{ReachesRoot, AreNamed}
 use Rattle.filer_state.specs.laws.lemmas.Mapped.{entry-at-least}
-use Rattle.filer_state.specs.nodes.Making.{folders_in, with_subdirectories}
+use Rattle.filer_state.specs.nodes.Making.{directories_in, with_subdirectories}
 use Rattle.filer_state.specs.nodes.Moving.{Naming, dated_inode, with_parent, node_hung, inodes_hung, entries_hung}
 use Rattle.filer_state.specs.nodes.Laws.{MayHang}
 use Rattle.filer_state.specs.nodes.lemmas.Others as others
@@ -27,18 +27,18 @@ use Rattle.filer_state.specs.nodes.lemmas.Untied.{AreNamedBut}
 
 some-with_parent : (p : ℕ) (k : InodeKind) → is_some (parent_in (with_parent p k)) ≡ is_some (parent_in k)
 some-with_parent p (RegularFile size filled verifier) = refl
-some-with_parent p (Folder parent subdirectories) = refl
+some-with_parent p (DirectoryKind parent subdirectories) = refl
 
 counted-with_parent : (p : ℕ) (k : InodeKind) → subdirectories_in (with_parent p k) ≡ subdirectories_in k
 counted-with_parent p (RegularFile size filled verifier) = refl
-counted-with_parent p (Folder parent subdirectories) = refl
+counted-with_parent p (DirectoryKind parent subdirectories) = refl
 
 module _ (old : InodesValue) (directories : DirectoryMap) (m : Naming) (touch : Option Moment) (may : MayHang m old directories) where
   abbrev new : InodesValue
   new = inodes_hung m touch old
 
   abbrev dated : Inode
-  dated = dated_inode m.moment (with_subdirectories (folders_in m.node.kind) m.inode.kind) m.inode
+  dated = dated_inode m.moment (with_subdirectories (directories_in m.node.kind) m.inode.kind) m.inode
 
   abbrev between : InodesValue
   between = inode_set m.directory dated old
@@ -70,15 +70,15 @@ module _ (old : InodesValue) (directories : DirectoryMap) (m : Naming) (touch : 
 
   parent-same : (q : ℕ) → (q == m.fileid) ≡ false → parent_directory (inode_of new q) ≡ parent_directory (inode_of old q)
   parent-same = by-fileid (λ q. (q == m.fileid) ≡ false → parent_directory (inode_of new q) ≡ parent_directory (inode_of old q))
-      (λ ne. ap parent_directory hung-directory ∙ parent-kept (folders_in m.node.kind) m.inode.kind ∙ sym (ap parent_directory may.there))
+      (λ ne. ap parent_directory hung-directory ∙ parent-kept (directories_in m.node.kind) m.inode.kind ∙ sym (ap parent_directory may.there))
       (λ ne. let t = itself m.fileid in absurd cc)
       (λ q ne other _. ap parent_directory (hung-other q ne other))
 
-  folder-same : (q : ℕ) → is_folder (inode_of new q) ≡ is_folder (inode_of old q)
-  folder-same = by-fileid (λ q. is_folder (inode_of new q) ≡ is_folder (inode_of old q))
+  directory-same : (q : ℕ) → is_directory (inode_of new q) ≡ is_directory (inode_of old q)
+  directory-same = by-fileid (λ q. is_directory (inode_of new q) ≡ is_directory (inode_of old q))
       (ap (λ o. is_some o) (parent-same m.directory apart))
-      (ap is_folder hung-node ∙ some-with_parent m.directory m.node.kind ∙ sym (ap is_folder may.node))
-      (λ q ne other. ap is_folder (hung-other q ne other))
+      (ap is_directory hung-node ∙ some-with_parent m.directory m.node.kind ∙ sym (ap is_directory may.node))
+      (λ q ne other. ap is_directory (hung-other q ne other))
 
   some-same : (q : ℕ) → is_some (inode_of new q) ≡ is_some (inode_of old q)
   some-same = by-fileid (λ q. is_some (inode_of new q) ≡ is_some (inode_of old q))
@@ -86,11 +86,11 @@ module _ (old : InodesValue) (directories : DirectoryMap) (m : Naming) (touch : 
       (ap (λ o. is_some o) hung-node ∙ sym (ap (λ o. is_some o) may.node))
       (λ q ne other. ap (λ o. is_some o) (hung-other q ne other))
 
-  folders-same : (list : List Listed) → folders_listed new.inodes list ≡ folders_listed old.inodes list
-  folders-same [] = refl
-  folders-same (e ∷ list) =
-      let here = ap one_if (folder-same e.fileid) in
-      let others = folders-same list in
+  directories-same : (list : List Listed) → directories_listed new.inodes list ≡ directories_listed old.inodes list
+  directories-same [] = refl
+  directories-same (e ∷ list) =
+      let here = ap one_if (directory-same e.fileid) in
+      let others = directories-same list in
       omega (arith, here, others)
 
   children-same : (fileid : ℕ) (list : List Listed) → times_in_list m.fileid list ≡ 0
@@ -166,33 +166,33 @@ module _ (old : InodesValue) (directories : DirectoryMap) (m : Naming) (touch : 
 
     -- ---- what holds of each
 
-    kind-folder : (k : InodeKind) → one_if (is_some (parent_in k)) ≡ folders_in k
-    kind-folder (RegularFile size filled verifier) = refl
-    kind-folder (Folder parent subdirectories) = refl
+    kind-directory : (k : InodeKind) → one_if (is_some (parent_in k)) ≡ directories_in k
+    kind-directory (RegularFile size filled verifier) = refl
+    kind-directory (DirectoryKind parent subdirectories) = refl
 
     last-child : IsChildOf new.inodes m.directory last
     last-child = subst (λ o. IfSome (parent_directory o) (λ parent. parent ≡ m.directory)) (sym hung-node) (by m.node.kind)
       where
         by : (k : InodeKind) → IfSome (parent_in (with_parent m.directory k)) (λ parent. parent ≡ m.directory)
         by (RegularFile size filled verifier) = tt
-        by (Folder parent subdirectories) = refl
+        by (DirectoryKind parent subdirectories) = refl
 
     fits-directory : DirectoryFits new.inodes m.directory (added m.name m.fileid m.entries)
     fits-directory =
         let was = named.fits m.directory m.entries may.entered in
         let none = none-listed m.directory m.entries may.entered in
-        let old_links : subdirectories_in m.inode.kind ≡ Some (folders_listed old.inodes m.entries.list) = sym (ap subdirectories_of may.there) ∙ was.links in
+        let old_links : subdirectories_in m.inode.kind ≡ Some (directories_listed old.inodes m.entries.list) = sym (ap subdirectories_of may.there) ∙ was.links in
         record {
           list = added-is m.entries m.name m.fileid may.absent was.list;
           children = all-more (IsChildOf new.inodes m.directory) m.entries.list last
               (children-same m.directory m.entries.list none was.children) last-child;
           links =
-              let more = counted-more (folders_in m.node.kind) (folders_listed old.inodes m.entries.list) m.inode.kind old_links in
-              let one : one_if (is_folder (inode_of new m.fileid)) ≡ folders_in m.node.kind =
-              ap one_if (folder-same m.fileid) ∙ ap (λ o. one_if (is_folder o)) may.node ∙ kind-folder m.node.kind in
-              let sum : folders_listed new.inodes (added m.name m.fileid m.entries).list ≡ folders_listed old.inodes m.entries.list + folders_in m.node.kind =
-              count-more (λ (e : Listed). is_folder (get new.inodes e.fileid)) m.entries.list last
-              ∙ (let same = folders-same m.entries.list in omega (arith, same, one)) in
+              let more = counted-more (directories_in m.node.kind) (directories_listed old.inodes m.entries.list) m.inode.kind old_links in
+              let one : one_if (is_directory (inode_of new m.fileid)) ≡ directories_in m.node.kind =
+              ap one_if (directory-same m.fileid) ∙ ap (λ o. one_if (is_directory o)) may.node ∙ kind-directory m.node.kind in
+              let sum : directories_listed new.inodes (added m.name m.fileid m.entries).list ≡ directories_listed old.inodes m.entries.list + directories_in m.node.kind =
+              count-more (λ (e : Listed). is_directory (get new.inodes e.fileid)) m.entries.list last
+              ∙ (let same = directories-same m.entries.list in omega (arith, same, one)) in
               ap subdirectories_of hung-directory ∙ more ∙ ap Some (sym sum);
         }
 
@@ -208,7 +208,7 @@ module _ (old : InodesValue) (directories : DirectoryMap) (m : Naming) (touch : 
         record {
           list = was.list;
           children = children-same q d.list (none-listed q d e) was.children;
-          links = links-other q ne ∙ was.links ∙ ap Some (sym (folders-same d.list));
+          links = links-other q ne ∙ was.links ∙ ap Some (sym (directories-same d.list));
         }
 
     -- ---- the way to the root
@@ -221,13 +221,13 @@ module _ (old : InodesValue) (directories : DirectoryMap) (m : Naming) (touch : 
 
     reaches-directory : ReachesRoot new.inodes m.directory
     reaches-directory =
-        let folder : is_folder (inode_of old m.directory) ≡ true = sym (named.folders m.directory) ∙ ap (λ o. is_some o) may.entered in
-        let was = named.rooted m.directory folder in
+        let as_directory : is_directory (inode_of old m.directory) ≡ true = sym (named.as_directories m.directory) ∙ ap (λ o. is_some o) may.entered in
+        let was = named.rooted m.directory as_directory in
         (was.0, above-clear was.0 m.directory may.clear ∙ was.1)
 
     -- the node itself, which has its parent now there; a file has none, and is nobody's parent
     reaches-node : (k : InodeKind) → m.node.kind ≡ k → (n : ℕ) → directory_above old.inodes n m.fileid ≡ root → ReachesRoot new.inodes m.fileid
-    reaches-node (Folder parent subdirectories) is n h =
+    reaches-node (DirectoryKind parent subdirectories) is n h =
         let up : parent_directory (inode_of new m.fileid) ≡ Some m.directory = ap parent_directory hung-node
         ∙ ap (λ k. parent_in (with_parent m.directory k)) is in
         let there = reaches-directory in
@@ -262,14 +262,14 @@ module _ (old : InodesValue) (directories : DirectoryMap) (m : Naming) (touch : 
     pub named-hung : AreNamed new.inodes directories_after
     named-hung = record {
       root_there = parent-same root root-other ∙ named.root_there;
-      folders = by-directory (λ q. is_some (get directories_after q) ≡ is_folder (inode_of new q))
+      as_directories = by-directory (λ q. is_some (get directories_after q) ≡ is_directory (inode_of new q))
           (ap (λ o. is_some o) hung-entries
-          ∙ sym (folder-same m.directory ∙ sym (named.folders m.directory) ∙ ap (λ o. is_some o) may.entered))
-          (λ q ne. ap (λ o. is_some o) (hung-others q ne) ∙ named.folders q ∙ sym (folder-same q));
+          ∙ sym (directory-same m.directory ∙ sym (named.as_directories m.directory) ∙ ap (λ o. is_some o) may.entered))
+          (λ q ne. ap (λ o. is_some o) (hung-others q ne) ∙ named.as_directories q ∙ sym (directory-same q));
       fits = by-directory (λ q. (d : DirectoryValue) → get directories_after q ≡ Some d → DirectoryFits new.inodes q d)
           (λ d e. let same : added m.name m.fileid m.entries ≡ d = (let was = hung-entries in cc) in
           subst (DirectoryFits new.inodes m.directory) same fits-directory)
           (λ q ne d e. fits-other q ne d (sym (hung-others q ne) ∙ e));
       once = once-after;
-      rooted = λ q e. let was = named.rooted q (sym (folder-same q) ∙ e) in reaches was.0 q was.1;
+      rooted = λ q e. let was = named.rooted q (sym (directory-same q) ∙ e) in reaches was.0 q was.1;
     }

@@ -13,8 +13,8 @@ use Rattle.std.specs.FinSet as sets
 use Rattle.nfs_model.specs.Parts.{Hand}
 use Rattle.depot_rule.specs.Sums.{total}
 use Rattle.nfs_model.specs.volume.Directories.{DirectoryValue, empty_directory, added}
-use Rattle.nfs_model.specs.volume.Inodes.{InodeKind, RegularFile, Folder, Inode, InodesValue, filled_blocks, inode_of, inode_created}
-use Rattle.nfs_model.specs.volume.Stripes.{Card, OfFile, OfFolder, Block, StripeValue, touch_of, stripe_of, is_filled}
+use Rattle.nfs_model.specs.volume.Inodes.{InodeKind, RegularFile, DirectoryKind, Inode, InodesValue, filled_blocks, inode_of, inode_created}
+use Rattle.nfs_model.specs.volume.Stripes.{Card, OfFile, OfDirectory, Block, StripeValue, touch_of, stripe_of, is_filled}
 use Rattle.nfs_model.specs.volume.lemmas.Inodes.{next-absent, len-set, len-created, created-is, set-is, next-set, used-set-same, inode-created-other}
 use Rattle.nfs_model.specs.volume.lemmas.Numbered.{get-insert_at, itself}
 use Rattle.filer_state.specs.state.Contents.{VolumeContents}
@@ -25,7 +25,7 @@ use Rattle.filer_state.specs.state.Partition.{times_in_stripe, times_in_hand}
 use Rattle.filer_state.specs.state.Sound.{IsSound}
 use Rattle.filer_state.specs.state.Lenses.{logical_lens}
 use Rattle.filer_state.specs.laws.lemmas.SameBlocks as blocks
-use Rattle.filer_state.specs.nodes.Making.{Making, with_subdirectories, folders_in, directory_inode, inodes_made, entries_made, card_made, node_made}
+use Rattle.filer_state.specs.nodes.Making.{Making, with_subdirectories, directories_in, directory_inode, inodes_made, entries_made, card_made, node_made}
 use Rattle.filer_state.specs.nodes.lemmas.Named as names
 use Rattle.filer_state.specs.nodes.lemmas.Named.{new_entries}
 use Rattle.filer_state.specs.nodes.Laws.{IsNewIn, MayBeMade}
@@ -38,35 +38,35 @@ shown_size inode = size_in inode.kind
 module _ (k : InodeKind) (f : ℕ) where
   abbrev card_of_kind : InodeKind → Card
   card_of_kind (RegularFile size filled verifier) = OfFile size None
-  card_of_kind (Folder parent subdirectories) = OfFolder
+  card_of_kind (DirectoryKind parent subdirectories) = OfDirectory
 
   pub blocks-same : (s : StripeValue) → (card_made k f s).blocks ≡ s.blocks
   blocks-same s = by k
     where
       by : (kind : InodeKind) → (card_made kind f s).blocks ≡ s.blocks
       by (RegularFile size filled verifier) = refl
-      by (Folder parent subdirectories) = refl
+      by (DirectoryKind parent subdirectories) = refl
 
   verifier-same : (s : StripeValue) → (card_made k f s).verifier ≡ s.verifier
   verifier-same s = by k
     where
       by : (kind : InodeKind) → (card_made kind f s).verifier ≡ s.verifier
       by (RegularFile size filled verifier) = refl
-      by (Folder parent subdirectories) = refl
+      by (DirectoryKind parent subdirectories) = refl
 
   stripes-same : (s : StripeValue) → (card_made k f s).stripes ≡ s.stripes
   stripes-same s = by k
     where
       by : (kind : InodeKind) → (card_made kind f s).stripes ≡ s.stripes
       by (RegularFile size filled verifier) = refl
-      by (Folder parent subdirectories) = refl
+      by (DirectoryKind parent subdirectories) = refl
 
   largest-same : (s : StripeValue) → (card_made k f s).largest ≡ s.largest
   largest-same s = by k
     where
       by : (kind : InodeKind) → (card_made kind f s).largest ≡ s.largest
       by (RegularFile size filled verifier) = refl
-      by (Folder parent subdirectories) = refl
+      by (DirectoryKind parent subdirectories) = refl
 
   -- where there was no card, there is one without a touch; the others stay
   pub card-found : (s : StripeValue) → get s.cards f ≡ None → (q : ℕ)
@@ -77,15 +77,15 @@ module _ (k : InodeKind) (f : ℕ) where
       by (RegularFile size filled verifier) =
           get-insert_at s.cards f (OfFile size (touch_of (get s.cards f))) q
           ∙ ap (λ o. if q == f then Some (OfFile size (touch_of o)) else get s.cards q) none
-      by (Folder parent subdirectories) = get-insert_at s.cards f OfFolder q
+      by (DirectoryKind parent subdirectories) = get-insert_at s.cards f OfDirectory q
 
   shown-kind : (kind : InodeKind) → size_shown (card_of_kind kind) ≡ size_in kind
   shown-kind (RegularFile size filled verifier) = refl
-  shown-kind (Folder parent subdirectories) = refl
+  shown-kind (DirectoryKind parent subdirectories) = refl
 
   untouched : (kind : InodeKind) → touch_of (Some (card_of_kind kind)) ≡ None
   untouched (RegularFile size filled verifier) = refl
-  untouched (Folder parent subdirectories) = refl
+  untouched (DirectoryKind parent subdirectories) = refl
 
   pub shown-made : (s : StripeValue) → get s.cards f ≡ None
       → option_map size_shown (get (card_made k f s).cards f) ≡ Some (size_in k)
@@ -140,15 +140,15 @@ made_in m p = logical_lens.put (node_made m (logical_lens.of p)) p
 
 filled-kept : (more : ℕ) (k : InodeKind) → filled_blocks (with_subdirectories more k) ≡ filled_blocks k
 filled-kept more (RegularFile size filled verifier) = refl
-filled-kept more (Folder parent subdirectories) = refl
+filled-kept more (DirectoryKind parent subdirectories) = refl
 
 new-empty : (directory largest : ℕ) (k : InodeKind) → IsNewIn directory largest k → filled_blocks k ≡ 0
 new-empty directory largest (RegularFile size filled verifier) h = h.0
-new-empty directory largest (Folder parent subdirectories) h = refl
+new-empty directory largest (DirectoryKind parent subdirectories) h = refl
 
 new-size : (directory largest : ℕ) (k : InodeKind) → IsNewIn directory largest k → IfSome (size_in k) (λ size. size ≤ largest)
 new-size directory largest (RegularFile size filled verifier) h = h.1
-new-size directory largest (Folder parent subdirectories) h = tt
+new-size directory largest (DirectoryKind parent subdirectories) h = tt
 
 module _ (p : VolumeContents) (m : Making) (well : WellFormed p) (may : MayBeMade m p) where
   abbrev f : ℕ
@@ -241,7 +241,7 @@ module _ (p : VolumeContents) (m : Making) (well : WellFormed p) (may : MayBeMad
       (λ q. option_map size_shown (get (card_made k f s).cards q) ≡ option_map shown_size (inode_of new q))
       (ap (option_map size_shown) (shown-other k f s none m.directory (apart))
       ∙ fits m.directory ∙ ap (option_map shown_size) may.there
-      ∙ ap Some (sym (names.size-kept (folders_in k) m.inode.kind))
+      ∙ ap Some (sym (names.size-kept (directories_in k) m.inode.kind))
       ∙ sym (ap (option_map shown_size) (at-directory)))
       (shown-made k f s none ∙ sym (ap (option_map shown_size) (at-made)))
       (λ q ne older. ap (option_map size_shown) (shown-other k f s none q older) ∙ fits q
@@ -277,7 +277,7 @@ module _ (p : VolumeContents) (m : Making) (well : WellFormed p) (may : MayBeMad
       (λ q. (x : Inode) → inode_of new q ≡ Some x → filled_blocks x.kind ≡ sets.len (file_filled after.stripes q))
       (λ x e.
       let is : directory_inode m ≡ x = (let at = at-directory in cc) in
-      ap (λ (i : Inode). filled_blocks i.kind) (sym is) ∙ filled-kept (folders_in k) m.inode.kind ∙ well.filled m.directory m.inode may.there
+      ap (λ (i : Inode). filled_blocks i.kind) (sym is) ∙ filled-kept (directories_in k) m.inode.kind ∙ well.filled m.directory m.inode may.there
       ∙ sym (ap sets.len (stay m.directory)))
       (λ x e.
       let is : m.made ≡ x = (let at = at-made in cc) in
@@ -314,7 +314,7 @@ module _ (p : VolumeContents) (m : Making) (well : WellFormed p) (may : MayBeMad
         (fits-after i (stripe_at p.stripes i) (no-card i on) (well.stripes i on));
     used =
         let same = used-set-same (inode_created m.made old) m.directory m.inode (directory_inode m) (created-is old m.made well.logical.inodes)
-        created-lawful (filled-kept (folders_in k) m.inode.kind) in
+        created-lawful (filled-kept (directories_in k) m.inode.kind) in
         let was = well.used in
         let none = empty in
         let blocks = blocks.total-mapped (card_made k f) (λ (s : StripeValue). len s.blocks) (λ s. ap (λ x. len x) (blocks-same k f s)) p.stripes in
@@ -366,7 +366,7 @@ module _ (p : VolumeContents) (m : Making) (well : WellFormed p) (may : MayBeMad
     where
       made-cookies : (kind : InodeKind) (d : DirectoryValue) → new_entries kind ≡ Some d → d.next ≤ 3 + (made + 1)
       made-cookies (RegularFile size filled verifier) d e = absurd cc
-      made-cookies (Folder parent subdirectories) d e =
+      made-cookies (DirectoryKind parent subdirectories) d e =
           let same : empty_directory ≡ d = cc in
           let is : 3 ≡ d.next = ap (λ (x : DirectoryValue). x.next) same in
           omega (arith, is)

@@ -10,17 +10,17 @@ use Rattle.std.specs.FinMap.{get, insert, nat_cmp-IsAntisymmetric}
 use Rattle.nfs_model.specs.Server.{Node, File, Directory, block_size}
 use Rattle.nfs_model.specs.Names.{with_name}
 use Rattle.nfs_model.specs.volume.Directories.{DirectoryValue, added}
-use Rattle.nfs_model.specs.volume.Inodes.{InodeKind, RegularFile, Folder, Inode, InodesValue, inode_of, inode_created}
+use Rattle.nfs_model.specs.volume.Inodes.{InodeKind, RegularFile, DirectoryKind, Inode, InodesValue, inode_of, inode_created}
 use Rattle.nfs_model.specs.volume.Stripes.{Block, StripeValue, byte_of}
 use Rattle.nfs_model.specs.volume.lemmas.Inodes.{next-set}
 use Rattle.nfs_model.specs.volume.lemmas.Maps.{get-map_values}
 use Rattle.nfs_model.specs.volume.lemmas.Numbered.{get-insert_at, same-answers, itself}
 use Rattle.filer_state.specs.state.Contents.{VolumeContents}
 use Rattle.filer_state.specs.state.Tree.{home_stripe, file_bytes, directory_or_empty, node_by, node_of, volume_of}
-use Rattle.filer_state.specs.state.Names.{parent_in, is_folder}
+use Rattle.filer_state.specs.state.Names.{parent_in, is_directory}
 use Rattle.filer_state.specs.state.WellFormed.{WellFormed}
 use Rattle.filer_state.specs.laws.lemmas.SameBlocks as blocks
-use Rattle.filer_state.specs.nodes.Making.{Making, with_subdirectories, folders_in, directory_inode, inodes_made, card_made}
+use Rattle.filer_state.specs.nodes.Making.{Making, with_subdirectories, directories_in, directory_inode, inodes_made, card_made}
 use Rattle.filer_state.specs.nodes.Laws.{MayBeMade, node_by_kind, new_node, seen_directory}
 use Rattle.filer_state.specs.nodes.lemmas.Named as names
 use Rattle.filer_state.specs.nodes.lemmas.Named.{new_entries}
@@ -82,8 +82,8 @@ module _ (p : VolumeContents) (m : Making) (well : WellFormed p) (may : MayBeMad
         touch = touch-none k f p.stripes (no-card p m well may) j;
         verifier = verifier;
       })
-      by (Folder parent subdirectories) is =
-          let found : get after.logical.directories f ≡ new_entries (Folder parent subdirectories) =
+      by (DirectoryKind parent subdirectories) is =
+          let found : get after.logical.directories f ≡ new_entries (DirectoryKind parent subdirectories) =
           names.made-entries old p.logical.directories m well.logical.inodes may.there may.entered well.logical.named may.absent
           p.logical.largest may.is_new ∙ ap new_entries is in
           ap (λ (o : Option DirectoryValue). Directory (record {
@@ -102,7 +102,7 @@ module _ (p : VolumeContents) (m : Making) (well : WellFormed p) (may : MayBeMad
       by : (kind : InodeKind) → parent_in kind ≡ Some parent
           → node_by p.stripes (get p.logical.directories m.directory) m.directory m.inode.attributes kind ≡ Directory (seen_directory m.inode m.entries parent)
       by (RegularFile size filled verifier) e = absurd cc
-      by (Folder up subdirectories) e =
+      by (DirectoryKind up subdirectories) e =
           let same : up ≡ parent = cc in
           λ j. Directory (record {
             attributes = m.inode.attributes;
@@ -122,9 +122,9 @@ module _ (p : VolumeContents) (m : Making) (well : WellFormed p) (may : MayBeMad
 
       by : (kind : InodeKind) → parent_in kind ≡ Some parent
           → node_by after.stripes (get after.logical.directories m.directory) m.directory (directory_inode m).attributes
-          (with_subdirectories (folders_in k) kind) ≡ Directory (with_name (seen_directory m.inode m.entries parent) m.name f m.moment)
+          (with_subdirectories (directories_in k) kind) ≡ Directory (with_name (seen_directory m.inode m.entries parent) m.name f m.moment)
       by (RegularFile size filled verifier) e = absurd cc
-      by (Folder up subdirectories) e =
+      by (DirectoryKind up subdirectories) e =
           let same : up ≡ parent = cc in
           λ j. Directory (record {
             attributes = (directory_inode m).attributes;
@@ -150,7 +150,7 @@ module _ (p : VolumeContents) (m : Making) (well : WellFormed p) (may : MayBeMad
         touch = touch-other k f p.stripes (no-card p m well may) q older j;
         verifier = verifier;
       })
-      by (Folder parent subdirectories) = λ j. node_by p.stripes (found j) q inode.attributes (Folder parent subdirectories)
+      by (DirectoryKind parent subdirectories) = λ j. node_by p.stripes (found j) q inode.attributes (DirectoryKind parent subdirectories)
 
   -- ---- all nodes
 

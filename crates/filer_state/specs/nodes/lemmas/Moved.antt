@@ -11,7 +11,7 @@ use Rattle.nfs_model.specs.Types.{Moment}
 use Rattle.nfs_model.specs.Parts.{Hand}
 use Rattle.depot_rule.specs.Sums.{total}
 use Rattle.nfs_model.specs.volume.Directories.{DirectoryValue, added, removed}
-use Rattle.nfs_model.specs.volume.Inodes.{InodeKind, RegularFile, Folder, Inode, InodesValue, IsInodes, filled_blocks, inode_of, inode_set}
+use Rattle.nfs_model.specs.volume.Inodes.{InodeKind, RegularFile, DirectoryKind, Inode, InodesValue, IsInodes, filled_blocks, inode_of, inode_set}
 use Rattle.nfs_model.specs.volume.Stripes.{StripeValue, touch_taken}
 use Rattle.nfs_model.specs.volume.lemmas.Inodes.{len-set, set-is, next-set, used-set-same, inode-set-there, inode-set-other}
 use Rattle.filer_state.specs.state.Contents.{VolumeContents}
@@ -23,7 +23,7 @@ use Rattle.filer_state.specs.state.Sound.{IsSound}
 use Rattle.filer_state.specs.state.Changes.{touches_taken}
 use Rattle.filer_state.specs.laws.lemmas.SameBlocks as blocks
 use Rattle.filer_state.specs.attributes.lemmas.Kept.{shown-stays}
-use Rattle.filer_state.specs.nodes.Making.{folders_in, with_subdirectories}
+use Rattle.filer_state.specs.nodes.Making.{directories_in, with_subdirectories}
 use Rattle.filer_state.specs.nodes.Dropping.{without_subdirectories}
 use Rattle.filer_state.specs.nodes.Moving.{Naming, dated_inode, inodes_untied, entries_untied, with_parent, node_hung, inodes_hung, entries_hung}
 use Rattle.filer_state.specs.nodes.Laws.{StandsUnder, MayHang, moved_in}
@@ -167,19 +167,19 @@ module _ (p : VolumeContents) (inodes : InodesValue) (directories : DirectoryMap
 
 size-with : (parent : ℕ) (k : InodeKind) → size_in (with_parent parent k) ≡ size_in k
 size-with parent (RegularFile size filled verifier) = refl
-size-with parent (Folder old subdirectories) = refl
+size-with parent (DirectoryKind old subdirectories) = refl
 
 filled-with : (parent : ℕ) (k : InodeKind) → filled_blocks (with_parent parent k) ≡ filled_blocks k
 filled-with parent (RegularFile size filled verifier) = refl
-filled-with parent (Folder old subdirectories) = refl
+filled-with parent (DirectoryKind old subdirectories) = refl
 
 filled-more : (more : ℕ) (k : InodeKind) → filled_blocks (with_subdirectories more k) ≡ filled_blocks k
 filled-more more (RegularFile size filled verifier) = refl
-filled-more more (Folder parent subdirectories) = refl
+filled-more more (DirectoryKind parent subdirectories) = refl
 
 filled-less : (fewer : ℕ) (k : InodeKind) → filled_blocks (without_subdirectories fewer k) ≡ filled_blocks k
 filled-less fewer (RegularFile size filled verifier) = refl
-filled-less fewer (Folder parent subdirectories) = refl
+filled-less fewer (DirectoryKind parent subdirectories) = refl
 
 module _ (p : VolumeContents) (from to : Naming) (well : WellFormed p)
     (stands : StandsUnder from p.logical.inodes p.logical.directories)
@@ -192,14 +192,14 @@ module _ (p : VolumeContents) (from to : Naming) (well : WellFormed p)
 
   same-taken : SameFiles taken p.logical.inodes
   same-taken = same-set p.logical.inodes from.directory from.inode _ well.logical.inodes stands.there
-      (unnamed.size-kept (folders_in from.node.kind) from.inode.kind) (filled-less (folders_in from.node.kind) from.inode.kind)
+      (unnamed.size-kept (directories_in from.node.kind) from.inode.kind) (filled-less (directories_in from.node.kind) from.inode.kind)
 
   abbrev dated : Inode
-  dated = dated_inode to.moment (with_subdirectories (folders_in to.node.kind) to.inode.kind) to.inode
+  dated = dated_inode to.moment (with_subdirectories (directories_in to.node.kind) to.inode.kind) to.inode
 
   same-dated : SameFiles (inode_set to.directory dated taken) taken
   same-dated = same-set taken to.directory to.inode dated (same-taken.lawful well.logical.inodes) may.there
-      (made.size-kept (folders_in to.node.kind) to.inode.kind) (filled-more (folders_in to.node.kind) to.inode.kind)
+      (made.size-kept (directories_in to.node.kind) to.inode.kind) (filled-more (directories_in to.node.kind) to.inode.kind)
 
   same-hung : SameFiles (inodes_hung to touch taken) (inode_set to.directory dated taken)
   same-hung = same-set (inode_set to.directory dated taken) to.fileid to.node (node_hung to touch)

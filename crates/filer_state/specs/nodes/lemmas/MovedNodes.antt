@@ -10,7 +10,7 @@ use Rattle.nfs_model.specs.Server.{Attributes, Node, File, Directory}
 use Rattle.nfs_model.specs.Names.{with_name, dropped_name}
 use Rattle.nfs_model.specs.Serial.Rename.{moved_node}
 use Rattle.nfs_model.specs.volume.Directories.{DirectoryValue, added, removed}
-use Rattle.nfs_model.specs.volume.Inodes.{InodeKind, RegularFile, Folder, Inode, InodesValue, inode_of, inode_set}
+use Rattle.nfs_model.specs.volume.Inodes.{InodeKind, RegularFile, DirectoryKind, Inode, InodesValue, inode_of, inode_set}
 use Rattle.nfs_model.specs.volume.Stripes.{StripeValue}
 use Rattle.nfs_model.specs.volume.lemmas.Inodes.{inode-set-there, inode-set-other}
 use Rattle.nfs_model.specs.volume.lemmas.Maps.{get-map_values}
@@ -20,26 +20,26 @@ use Rattle.filer_state.specs.state.Names.{parent_in}
 use Rattle.filer_state.specs.state.Lenses.{LogicalSet}
 use Rattle.filer_state.specs.state.Changes.{attributes_now}
 use Rattle.filer_state.specs.attributes.lemmas.Kept.{bytes-stay, filled-stays, touch-gone, touch-stays}
-use Rattle.filer_state.specs.nodes.Making.{folders_in, with_subdirectories}
+use Rattle.filer_state.specs.nodes.Making.{directories_in, with_subdirectories}
 use Rattle.filer_state.specs.nodes.Dropping.{without_subdirectories}
 use Rattle.filer_state.specs.nodes.Moving.{Naming, dated_inode, entry_taken, with_parent, node_hung, node_hung_up}
 use Rattle.filer_state.specs.nodes.Laws.{seen_directory, nodes_of}
 
-node-of-folder : (stripes : List StripeValue) (o : Option DirectoryValue) (d : DirectoryValue) (q : ℕ) (a : Attributes) (k : InodeKind) (parent : ℕ)
+node-of-directory : (stripes : List StripeValue) (o : Option DirectoryValue) (d : DirectoryValue) (q : ℕ) (a : Attributes) (k : InodeKind) (parent : ℕ)
     → o ≡ Some d → parent_in k ≡ Some parent
     → node_by stripes o q a k ≡ Directory (record { attributes = a; parent = parent; next = d.next; list = d.list })
-node-of-folder stripes o d q a (RegularFile size filled verifier) parent is says = absurd cc
-node-of-folder stripes o d q a (Folder up subdirectories) parent is says =
+node-of-directory stripes o d q a (RegularFile size filled verifier) parent is says = absurd cc
+node-of-directory stripes o d q a (DirectoryKind up subdirectories) parent is says =
     let same : up ≡ parent = cc in
     λ j. Directory (record { attributes = a; parent = same j; next = (directory_or_empty (is j)).next; list = (directory_or_empty (is j)).list })
 
 parent-less : (n : ℕ) (k : InodeKind) → parent_in (without_subdirectories n k) ≡ parent_in k
 parent-less n (RegularFile size filled verifier) = refl
-parent-less n (Folder parent subdirectories) = refl
+parent-less n (DirectoryKind parent subdirectories) = refl
 
 parent-more : (n : ℕ) (k : InodeKind) → parent_in (with_subdirectories n k) ≡ parent_in k
 parent-more n (RegularFile size filled verifier) = refl
-parent-more n (Folder parent subdirectories) = refl
+parent-more n (DirectoryKind parent subdirectories) = refl
 
 -- ---- an entry taken
 
@@ -55,7 +55,7 @@ module _ (s : LogicalSet) (m : Naming) (there : inode_of s.own.inodes m.director
   now = node_of taken.stripes taken.own.directories
 
   abbrev dated : Inode
-  dated = dated_inode m.moment (without_subdirectories (folders_in m.node.kind) m.inode.kind) m.inode
+  dated = dated_inode m.moment (without_subdirectories (directories_in m.node.kind) m.inode.kind) m.inode
 
   abbrev directory_then : Node
   directory_then = Directory (dropped_name (seen_directory m.inode m.entries parent) m.name m.moment)
@@ -71,8 +71,8 @@ module _ (s : LogicalSet) (m : Naming) (there : inode_of s.own.inodes m.director
       ∙ ap (λ (b : Bool). if b then Some (removed m.name m.entries) else get s.own.directories q) ne
 
   here : now m.directory dated ≡ directory_then
-  here = node-of-folder taken.stripes (get taken.own.directories m.directory) (removed m.name m.entries) m.directory dated.attributes dated.kind parent
-      entries-at (parent-less (folders_in m.node.kind) m.inode.kind ∙ says)
+  here = node-of-directory taken.stripes (get taken.own.directories m.directory) (removed m.name m.entries) m.directory dated.attributes dated.kind parent
+      entries-at (parent-less (directories_in m.node.kind) m.inode.kind ∙ says)
 
   others : (q : ℕ) → (q == m.directory) ≡ false → (o : Option Inode) → option_map (now q) o ≡ option_map (was q) o
   others q ne None = refl
@@ -110,7 +110,7 @@ module _ (s : LogicalSet) (m : Naming) (there : inode_of s.own.inodes m.director
   then_seen = node_of hung.stripes hung.own.directories
 
   abbrev dated_to : Inode
-  dated_to = dated_inode m.moment (with_subdirectories (folders_in m.node.kind) m.inode.kind) m.inode
+  dated_to = dated_inode m.moment (with_subdirectories (directories_in m.node.kind) m.inode.kind) m.inode
 
   abbrev entered_then : Node
   entered_then = Directory (with_name (seen_directory m.inode m.entries parent) m.name m.fileid m.moment)
@@ -129,8 +129,8 @@ module _ (s : LogicalSet) (m : Naming) (there : inode_of s.own.inodes m.director
       ∙ ap (λ (b : Bool). if b then Some (added m.name m.fileid m.entries) else get s.own.directories q) ne
 
   directory-then : then_seen m.directory dated_to ≡ entered_then
-  directory-then = node-of-folder hung.stripes (get hung.own.directories m.directory) (added m.name m.fileid m.entries) m.directory
-      dated_to.attributes dated_to.kind parent hung-at (parent-more (folders_in m.node.kind) m.inode.kind ∙ says)
+  directory-then = node-of-directory hung.stripes (get hung.own.directories m.directory) (added m.name m.fileid m.entries) m.directory
+      dated_to.attributes dated_to.kind parent hung-at (parent-more (directories_in m.node.kind) m.inode.kind ∙ says)
 
   node-then : then_seen m.fileid (node_hung m touch) ≡ moved_then
   node-then = by m.node.kind
@@ -146,7 +146,7 @@ module _ (s : LogicalSet) (m : Naming) (there : inode_of s.own.inodes m.director
         touch = touch-gone m.fileid s.stripes j;
         verifier = verifier;
       })
-      by (Folder old subdirectories) = λ j. Directory (record {
+      by (DirectoryKind old subdirectories) = λ j. Directory (record {
         attributes = record m.node.attributes { ctime = m.moment };
         parent = m.directory;
         next = (directory_or_empty (hung-off m.fileid apart-turned j)).next;
@@ -165,7 +165,7 @@ module _ (s : LogicalSet) (m : Naming) (there : inode_of s.own.inodes m.director
         touch = touch-stays m.fileid s.stripes q other j;
         verifier = verifier;
       })
-      by (Folder old subdirectories) = λ j. node_by s.stripes (hung-off q ne j) q inode.attributes (Folder old subdirectories)
+      by (DirectoryKind old subdirectories) = λ j. node_by s.stripes (hung-off q ne j) q inode.attributes (DirectoryKind old subdirectories)
 
   all-off : (q : ℕ) → (q == m.directory) ≡ false → (q == m.fileid) ≡ false → (o : Option Inode) → option_map (then_seen q) o ≡ option_map (seen q) o
   all-off q ne other None = refl

@@ -9,13 +9,13 @@ use Rattle.nfs_model.specs.Types.{Listed}
 use Rattle.nfs_model.specs.Parts.{one_if}
 use Rattle.depot_rule.specs.Sums.{total}
 use Rattle.nfs_model.specs.volume.Directories.{DirectoryValue, empty_directory, added, entry_added, found}
-use Rattle.nfs_model.specs.volume.Inodes.{InodeKind, RegularFile, Folder, InodesValue, IsInodes, inode_of, inode_created}
+use Rattle.nfs_model.specs.volume.Inodes.{InodeKind, RegularFile, DirectoryKind, InodesValue, IsInodes, inode_of, inode_created}
 use Rattle.nfs_model.specs.volume.lemmas.Inodes.{next-absent, inode-created-there, inode-created-other, inode-set-there, inode-set-other}
 use Rattle.nfs_model.specs.volume.lemmas.Numbered.{get-insert_at, itself}
 use Rattle.filer_state.specs.state.Names.{root, DirectoryMap, size_in, size_of, parent_in, parent_directory, subdirectories_in, subdirectories_of}
-use Rattle.filer_state.specs.state.Names.{is_folder, parent_or, times_in_list, times_named, is_named, folders_listed, directory_above, DirectoryFits, AreNamed}
+use Rattle.filer_state.specs.state.Names.{is_directory, parent_or, times_in_list, times_named, is_named, directories_listed, directory_above, DirectoryFits, AreNamed}
 use Rattle.filer_state.specs.laws.lemmas.Mapped.{entry-at-least}
-use Rattle.filer_state.specs.nodes.Making.{Making, folders_in, with_subdirectories, directory_inode, inodes_made, directories_made, entries_made}
+use Rattle.filer_state.specs.nodes.Making.{Making, directories_in, with_subdirectories, directory_inode, inodes_made, directories_made, entries_made}
 use Rattle.filer_state.specs.nodes.Laws.{IsNewIn}
 use Rattle.filer_state.specs.nodes.lemmas.Others as others
 use Rattle.filer_state.specs.nodes.lemmas.Others.{IsChildOf}
@@ -26,20 +26,20 @@ use Rattle.filer_state.specs.nodes.lemmas.Listing.{count-more, all-more, added-i
 
 pub parent-kept : (more : ℕ) (k : InodeKind) → parent_in (with_subdirectories more k) ≡ parent_in k
 parent-kept more (RegularFile size filled verifier) = refl
-parent-kept more (Folder parent subdirectories) = refl
+parent-kept more (DirectoryKind parent subdirectories) = refl
 
 pub size-kept : (more : ℕ) (k : InodeKind) → size_in (with_subdirectories more k) ≡ size_in k
 size-kept more (RegularFile size filled verifier) = refl
-size-kept more (Folder parent subdirectories) = refl
+size-kept more (DirectoryKind parent subdirectories) = refl
 
 pub counted-more : (more n : ℕ) (k : InodeKind) → subdirectories_in k ≡ Some n → subdirectories_in (with_subdirectories more k) ≡ Some (n + more)
 counted-more more n (RegularFile size filled verifier) e = absurd cc
-counted-more more n (Folder parent subdirectories) e = let same : subdirectories ≡ n = cc in ap (λ k. Some (k + more)) same
+counted-more more n (DirectoryKind parent subdirectories) e = let same : subdirectories ≡ n = cc in ap (λ k. Some (k + more)) same
 
 -- the new directory's entries, if it is one
 abbrev pub new_entries : InodeKind → Option DirectoryValue
 new_entries (RegularFile size filled verifier) = None
-new_entries (Folder parent subdirectories) = Some empty_directory
+new_entries (DirectoryKind parent subdirectories) = Some empty_directory
 
 module _ (old : InodesValue) (directories : DirectoryMap) (m : Making) (lawful : IsInodes old) (there : inode_of old m.directory ≡ Some m.inode) where
   abbrev new : InodesValue
@@ -73,7 +73,7 @@ module _ (old : InodesValue) (directories : DirectoryMap) (m : Making) (lawful :
       by true e =
           let is : q ≡ m.directory = eqb-true q m.directory e in
           ap (λ (k : ℕ). parent_directory (inode_of new k)) is ∙ ap parent_directory at-directory
-          ∙ parent-kept (folders_in m.made.kind) m.inode.kind
+          ∙ parent-kept (directories_in m.made.kind) m.inode.kind
           ∙ sym (ap (λ (k : ℕ). parent_directory (inode_of old k)) is ∙ ap parent_directory there)
       by false e = ap parent_directory (at-other q e older)
 
@@ -84,7 +84,7 @@ module _ (old : InodesValue) (directories : DirectoryMap) (m : Making) (lawful :
       by true e =
           let is : q ≡ m.directory = eqb-true q m.directory e in
           ap (λ (k : ℕ). size_of (inode_of new k)) is ∙ ap size_of at-directory
-          ∙ size-kept (folders_in m.made.kind) m.inode.kind
+          ∙ size-kept (directories_in m.made.kind) m.inode.kind
           ∙ sym (ap (λ (k : ℕ). size_of (inode_of old k)) is ∙ ap size_of there)
       by false e = ap size_of (at-other q e older)
 
@@ -100,8 +100,8 @@ module _ (old : InodesValue) (directories : DirectoryMap) (m : Making) (lawful :
 
   -- ---- lists in which the new fileid doesn't stand
 
-  folders-same : (list : List Listed) → times_in_list old.next list ≡ 0 → folders_listed new.inodes list ≡ folders_listed old.inodes list
-  folders-same list none = others.folders-same new.inodes old.inodes old.next parent-same list none
+  directories-same : (list : List Listed) → times_in_list old.next list ≡ 0 → directories_listed new.inodes list ≡ directories_listed old.inodes list
+  directories-same list none = others.directories-same new.inodes old.inodes old.next parent-same list none
 
   children-same : (fileid : ℕ) (list : List Listed) → times_in_list old.next list ≡ 0
       → AllByRecursion (IsChildOf old.inodes fileid) list → AllByRecursion (IsChildOf new.inodes fileid) list
@@ -127,7 +127,7 @@ module _ (old : InodesValue) (directories : DirectoryMap) (m : Making) (lawful :
         omega (arith, most, none)
 
     no-entries : get directories old.next ≡ None
-    no-entries = by (get directories old.next) (named.folders old.next ∙ ap is_folder nothing)
+    no-entries = by (get directories old.next) (named.as_directories old.next ∙ ap is_directory nothing)
       where
         by : (o : Option DirectoryValue) → is_some o ≡ false → o ≡ None
         by None e = refl
@@ -135,13 +135,13 @@ module _ (old : InodesValue) (directories : DirectoryMap) (m : Making) (lawful :
 
     made-alone : (k : InodeKind) → get (directories_made k old.next directories) old.next ≡ new_entries k
     made-alone (RegularFile size filled verifier) = no-entries
-    made-alone (Folder parent subdirectories) =
+    made-alone (DirectoryKind parent subdirectories) =
         get-insert_at directories old.next empty_directory old.next
         ∙ ap (λ (b : Bool). if b then Some empty_directory else get directories old.next) (itself old.next)
 
     others-alone : (k : InodeKind) (q : ℕ) → (q == old.next) ≡ false → get (directories_made k old.next directories) q ≡ get directories q
     others-alone (RegularFile size filled verifier) q older = refl
-    others-alone (Folder parent subdirectories) q older =
+    others-alone (DirectoryKind parent subdirectories) q older =
         get-insert_at directories old.next empty_directory q ∙ ap (λ (b : Bool). if b then Some empty_directory else get directories q) older
 
     abbrev first_entries : DirectoryMap
@@ -166,54 +166,54 @@ module _ (old : InodesValue) (directories : DirectoryMap) (m : Making) (lawful :
 
     -- ---- what holds of each
 
-    kind-folder : (k : InodeKind) → one_if (is_some (parent_in k)) ≡ folders_in k
-    kind-folder (RegularFile size filled verifier) = refl
-    kind-folder (Folder parent subdirectories) = refl
+    kind-directory : (k : InodeKind) → one_if (is_some (parent_in k)) ≡ directories_in k
+    kind-directory (RegularFile size filled verifier) = refl
+    kind-directory (DirectoryKind parent subdirectories) = refl
 
     kind-entries : (k : InodeKind) → is_some (new_entries k) ≡ is_some (parent_in k)
     kind-entries (RegularFile size filled verifier) = refl
-    kind-entries (Folder parent subdirectories) = refl
+    kind-entries (DirectoryKind parent subdirectories) = refl
 
-    pub folders-are : (q : ℕ) → is_some (get directories_after q) ≡ is_folder (inode_of new q)
-    folders-are = by-fileid (λ q. is_some (get directories_after q) ≡ is_folder (inode_of new q))
-        (ap (λ o. is_some o) directory-entries ∙ sym (ap is_folder at-directory ∙ ap (λ o. is_some o) (parent-kept (folders_in m.made.kind) m.inode.kind)
-        ∙ sym (ap is_folder there) ∙ sym (named.folders m.directory) ∙ ap (λ o. is_some o) entered))
-        (ap (λ o. is_some o) made-entries ∙ kind-entries m.made.kind ∙ sym (ap is_folder at-made))
-        (λ q ne older. ap (λ o. is_some o) (other-entries q ne older) ∙ named.folders q ∙ sym (ap is_folder (at-other q ne older)))
+    pub directories-are : (q : ℕ) → is_some (get directories_after q) ≡ is_directory (inode_of new q)
+    directories-are = by-fileid (λ q. is_some (get directories_after q) ≡ is_directory (inode_of new q))
+        (ap (λ o. is_some o) directory-entries ∙ sym (ap is_directory at-directory ∙ ap (λ o. is_some o) (parent-kept (directories_in m.made.kind) m.inode.kind)
+        ∙ sym (ap is_directory there) ∙ sym (named.as_directories m.directory) ∙ ap (λ o. is_some o) entered))
+        (ap (λ o. is_some o) made-entries ∙ kind-entries m.made.kind ∙ sym (ap is_directory at-made))
+        (λ q ne older. ap (λ o. is_some o) (other-entries q ne older) ∙ named.as_directories q ∙ sym (ap is_directory (at-other q ne older)))
 
     abbrev last : Listed
     last = entry_added m.name old.next m.entries
 
-    last-counts : one_if (is_folder (inode_of new old.next)) ≡ folders_in m.made.kind
-    last-counts = ap (λ o. one_if (is_folder o)) at-made ∙ kind-folder m.made.kind
+    last-counts : one_if (is_directory (inode_of new old.next)) ≡ directories_in m.made.kind
+    last-counts = ap (λ o. one_if (is_directory o)) at-made ∙ kind-directory m.made.kind
 
     last-child : IsChildOf new.inodes m.directory last
     last-child = subst (λ o. IfSome (parent_directory o) (λ parent. parent ≡ m.directory)) (sym at-made) (by m.made.kind is_new)
       where
         by : (k : InodeKind) → IsNewIn m.directory largest k → IfSome (parent_in k) (λ parent. parent ≡ m.directory)
         by (RegularFile size filled verifier) h = tt
-        by (Folder parent subdirectories) h = h.0
+        by (DirectoryKind parent subdirectories) h = h.0
 
     fits-directory : DirectoryFits new.inodes m.directory entries_then
     fits-directory =
         let was = named.fits m.directory m.entries entered in
         let none = none-listed m.directory m.entries entered in
-        let old_links : subdirectories_in m.inode.kind ≡ Some (folders_listed old.inodes m.entries.list) = sym (ap subdirectories_of there) ∙ was.links in
+        let old_links : subdirectories_in m.inode.kind ≡ Some (directories_listed old.inodes m.entries.list) = sym (ap subdirectories_of there) ∙ was.links in
         record {
           list = added-is m.entries m.name old.next absent was.list;
           children = all-more (IsChildOf new.inodes m.directory) m.entries.list last
               (children-same m.directory m.entries.list none was.children) last-child;
           links =
-              let more = counted-more (folders_in m.made.kind) (folders_listed old.inodes m.entries.list) m.inode.kind old_links in
-              let sum : folders_listed new.inodes entries_then.list ≡ folders_listed old.inodes m.entries.list + folders_in m.made.kind =
-              count-more (λ (e : Listed). is_folder (get new.inodes e.fileid)) m.entries.list last
-              ∙ (let same = folders-same m.entries.list none in let one = last-counts in omega (arith, same, one)) in
+              let more = counted-more (directories_in m.made.kind) (directories_listed old.inodes m.entries.list) m.inode.kind old_links in
+              let sum : directories_listed new.inodes entries_then.list ≡ directories_listed old.inodes m.entries.list + directories_in m.made.kind =
+              count-more (λ (e : Listed). is_directory (get new.inodes e.fileid)) m.entries.list last
+              ∙ (let same = directories-same m.entries.list none in let one = last-counts in omega (arith, same, one)) in
               ap subdirectories_of at-directory ∙ more ∙ ap Some (sym sum);
         }
 
     fits-made : (k : InodeKind) → m.made.kind ≡ k → (d : DirectoryValue) → new_entries k ≡ Some d → DirectoryFits new.inodes old.next d
     fits-made (RegularFile size filled verifier) is d e = absurd cc
-    fits-made (Folder parent subdirectories) is d e =
+    fits-made (DirectoryKind parent subdirectories) is d e =
         let same : empty_directory ≡ d = cc in
         let new_one : (parent ≡ m.directory) × (subdirectories ≡ 0) = subst (IsNewIn m.directory largest) is is_new in
         subst (DirectoryFits new.inodes old.next) same (record {
@@ -230,7 +230,7 @@ module _ (old : InodesValue) (directories : DirectoryMap) (m : Making) (lawful :
         record {
           list = was.list;
           children = children-same q d.list none was.children;
-          links = ap subdirectories_of (at-other q ne older) ∙ was.links ∙ ap Some (sym (folders-same d.list none));
+          links = ap subdirectories_of (at-other q ne older) ∙ was.links ∙ ap Some (sym (directories-same d.list none));
         }
 
     -- ---- how often each is named
@@ -240,7 +240,7 @@ module _ (old : InodesValue) (directories : DirectoryMap) (m : Making) (lawful :
 
     first-times : (q : ℕ) (k : InodeKind) → total (times_of q) (entries (directories_made k old.next directories)) ≡ times_named q directories
     first-times q (RegularFile size filled verifier) = refl
-    first-times q (Folder parent subdirectories) =
+    first-times q (DirectoryKind parent subdirectories) =
         let one = total-insert (times_of q) directories old.next empty_directory no-entries in
         omega (arith, one)
 
@@ -311,16 +311,16 @@ module _ (old : InodesValue) (directories : DirectoryMap) (m : Making) (lawful :
 
     rooted-directory : (steps : ℕ) × (directory_above new.inodes steps m.directory ≡ root)
     rooted-directory =
-        let folder : is_folder (inode_of old m.directory) ≡ true = sym (named.folders m.directory) ∙ ap (λ o. is_some o) entered in
-        let reaches = named.rooted m.directory folder in
+        let as_directory : is_directory (inode_of old m.directory) ≡ true = sym (named.as_directories m.directory) ∙ ap (λ o. is_some o) entered in
+        let reaches = named.rooted m.directory as_directory in
         (reaches.0, above-same reaches.0 m.directory reaches.1)
 
-    rooted-made : (k : InodeKind) → m.made.kind ≡ k → is_folder (inode_of new old.next) ≡ true
+    rooted-made : (k : InodeKind) → m.made.kind ≡ k → is_directory (inode_of new old.next) ≡ true
         → (steps : ℕ) × (directory_above new.inodes steps old.next ≡ root)
     rooted-made (RegularFile size filled verifier) is h =
-        let none : is_folder (inode_of new old.next) ≡ false = ap is_folder at-made ∙ ap (λ k. is_some (parent_in k)) is in
+        let none : is_directory (inode_of new old.next) ≡ false = ap is_directory at-made ∙ ap (λ k. is_some (parent_in k)) is in
         absurd cc
-    rooted-made (Folder parent subdirectories) is h =
+    rooted-made (DirectoryKind parent subdirectories) is h =
         let new_one : (parent ≡ m.directory) × (subdirectories ≡ 0) = subst (IsNewIn m.directory largest) is is_new in
         let up : parent_directory (inode_of new old.next) ≡ Some m.directory = ap parent_directory at-made ∙ ap parent_in is ∙ ap Some new_one.0 in
         let reaches = rooted-directory in
@@ -332,16 +332,16 @@ module _ (old : InodesValue) (directories : DirectoryMap) (m : Making) (lawful :
     pub named-made : AreNamed new.inodes directories_after
     named-made = record {
       root_there = parent-same root root-apart ∙ named.root_there;
-      folders = folders-are;
+      as_directories = directories-are;
       fits = by-fileid (λ q. (d : DirectoryValue) → get directories_after q ≡ Some d → DirectoryFits new.inodes q d)
           (λ d e. let same : entries_then ≡ d = (let was = directory-entries in cc) in subst (DirectoryFits new.inodes m.directory) same fits-directory)
           (λ d e. fits-made m.made.kind refl d (sym made-entries ∙ e))
           (λ q ne older d e. fits-other q d ne older (sym (other-entries q ne older) ∙ e));
       once = once-after;
-      rooted = by-fileid (λ q. is_folder (inode_of new q) ≡ true → (steps : ℕ) × (directory_above new.inodes steps q ≡ root))
+      rooted = by-fileid (λ q. is_directory (inode_of new q) ≡ true → (steps : ℕ) × (directory_above new.inodes steps q ≡ root))
           (λ h. rooted-directory)
           (rooted-made m.made.kind refl)
           (λ q ne older h.
-          let reaches = named.rooted q (sym (ap is_folder (at-other q ne older)) ∙ h) in
+          let reaches = named.rooted q (sym (ap is_directory (at-other q ne older)) ∙ h) in
           (reaches.0, above-same reaches.0 q reaches.1));
     }

@@ -6,7 +6,7 @@ use Rattle.std.specs.List.{AllByRecursion}
 use Rattle.std.specs.FinMap.{get}
 use Rattle.nfs_model.specs.Types.{Listed}
 use Rattle.nfs_model.specs.Parts.{one_if}
-use Rattle.filer_state.specs.state.Names.{InodeMap, parent_directory, is_folder, times_in_list, folders_listed}
+use Rattle.filer_state.specs.state.Names.{InodeMap, parent_directory, is_directory, times_in_list, directories_listed}
 
 -- any fact of numbers: at one, and at the others
 pub by-one : (a : ℕ) (P : ℕ → Type 0) → P a → ((q : ℕ) → (q == a) ≡ false → P q) → (q : ℕ) → P q
@@ -34,13 +34,13 @@ module _ (new old : InodeMap) (f : ℕ) (same : (q : ℕ) → (q == f) ≡ false
       by true is h = absurd (omega (arith, h))
       by false is h = (is, omega (arith, h))
 
-  pub folders-same : (list : List Listed) → times_in_list f list ≡ 0 → folders_listed new list ≡ folders_listed old list
-  folders-same [] none = refl
-  folders-same (e ∷ list) none =
+  pub directories-same : (list : List Listed) → times_in_list f list ≡ 0 → directories_listed new list ≡ directories_listed old list
+  directories-same [] none = refl
+  directories-same (e ∷ list) none =
       let parts = stands-not e (times_in_list f list) none in
-      let here : one_if (is_folder (get new e.fileid)) ≡ one_if (is_folder (get old e.fileid)) =
+      let here : one_if (is_directory (get new e.fileid)) ≡ one_if (is_directory (get old e.fileid)) =
       ap (λ o. one_if (is_some o)) (same e.fileid parts.0) in
-      let others = folders-same list parts.1 in
+      let others = directories-same list parts.1 in
       omega (arith, here, others)
 
   pub children-same : (fileid : ℕ) (list : List Listed) → times_in_list f list ≡ 0

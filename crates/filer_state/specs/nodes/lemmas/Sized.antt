@@ -15,7 +15,7 @@ use Rattle.nfs_model.specs.Server.{block_size}
 use Rattle.nfs_model.specs.Parts.{Hand, one_if, times_listed}
 use Rattle.depot_rule.specs.Sums.{total}
 use Rattle.nfs_model.specs.volume.Inodes.{InodeKind, RegularFile, Inode, InodesValue, filled_blocks, inode_of, inode_set}
-use Rattle.nfs_model.specs.volume.Stripes.{Card, OfFile, OfFolder, Block, StripeValue, byte_cut, block_mapped, card_settled, touch_taken}
+use Rattle.nfs_model.specs.volume.Stripes.{Card, OfFile, OfDirectory, Block, StripeValue, byte_cut, block_mapped, card_settled, touch_taken}
 use Rattle.nfs_model.specs.volume.Stripes.{touch_of, stripe_of, is_filled, numbers_freed}
 use Rattle.nfs_model.specs.volume.lemmas.Inodes.{inode-set-there, inode-set-other, next-set, used-set, len-set, set-is}
 use Rattle.nfs_model.specs.volume.lemmas.Numbered.{get-insert_at, get-changed_at, itself}
@@ -79,7 +79,7 @@ module _ (f size : ℕ) where
       settled : (o : Option Card) → touch_of (option_map card_settled o) ≡ None
       settled None = refl
       settled (Some (OfFile n touch)) = refl
-      settled (Some OfFolder) = refl
+      settled (Some OfDirectory) = refl
 
       untouched : touch_of (get (touch_taken f s).cards f) ≡ None
       untouched =

@@ -15,7 +15,7 @@ use Rattle.std.specs.FinSet as sets
 use Rattle.std.specs.FinSet.{contains, retain, contains-retain}
 use Rattle.nfs_model.specs.Server.{Node, File, FileNode, block_size}
 use Rattle.nfs_model.specs.Serial.Setattr.{resized_bytes, with_node}
-use Rattle.nfs_model.specs.volume.Inodes.{InodeKind, RegularFile, Folder, Inode, InodesValue, inode_of}
+use Rattle.nfs_model.specs.volume.Inodes.{InodeKind, RegularFile, DirectoryKind, Inode, InodesValue, inode_of}
 use Rattle.nfs_model.specs.volume.Stripes.{OfFile, Block, StripeValue, byte_of, byte_cut, block_mapped, touch_of, stripe_of, is_filled}
 use Rattle.nfs_model.specs.volume.lemmas.Inodes.{inode-set-there, inode-set-other, next-set}
 use Rattle.nfs_model.specs.volume.lemmas.Maps.{get-map_values}
@@ -233,7 +233,7 @@ module _ (p : VolumeContents) (m : Sizing) (well : WellFormed p) (there : get p.
         touch = touch-other p.stripes q ne j;
         verifier = other;
       })
-      by (Folder parent subdirectories) = refl
+      by (DirectoryKind parent subdirectories) = refl
 
   abbrev sized_node : Node
   sized_node = File (file_resized m.size m.attributes file_was)

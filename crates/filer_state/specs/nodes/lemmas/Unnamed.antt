@@ -11,13 +11,13 @@ use Rattle.nfs_model.specs.Names.{find_name, without_name}
 use Rattle.nfs_model.specs.Parts.{one_if}
 use Rattle.depot_rule.specs.Sums.{total}
 use Rattle.nfs_model.specs.volume.Directories.{DirectoryValue, removed, found}
-use Rattle.nfs_model.specs.volume.Inodes.{InodeKind, RegularFile, Folder, Inode, InodesValue, inode_of, inode_dropped}
+use Rattle.nfs_model.specs.volume.Inodes.{InodeKind, RegularFile, DirectoryKind, Inode, InodesValue, inode_of, inode_dropped}
 use Rattle.nfs_model.specs.volume.lemmas.Inodes.{inode-dropped-there, inode-dropped-other, inode-set-there, inode-set-other}
 use Rattle.nfs_model.specs.volume.lemmas.Numbered.{get-insert_at, get-remove_at, itself}
 use Rattle.filer_state.specs.state.Names.{root, DirectoryMap, size_in, size_of, parent_in, parent_directory, subdirectories_in, subdirectories_of}
-use Rattle.filer_state.specs.state.Names.{is_folder, parent_or, times_in_list, times_named, is_named, folders_listed, directory_above, DirectoryFits, AreNamed}
+use Rattle.filer_state.specs.state.Names.{is_directory, parent_or, times_in_list, times_named, is_named, directories_listed, directory_above, DirectoryFits, AreNamed}
 use Rattle.filer_state.specs.laws.lemmas.Mapped.{entry-at-least, total-entries}
-use Rattle.filer_state.specs.nodes.Making.{folders_in}
+use Rattle.filer_state.specs.nodes.Making.{directories_in}
 use Rattle.filer_state.specs.nodes.Dropping.{Dropping, without_subdirectories, directory_left, inodes_left, directories_left, entries_left}
 use Rattle.filer_state.specs.nodes.Laws.{LosesName}
 use Rattle.filer_state.specs.nodes.lemmas.Others as others
@@ -29,15 +29,15 @@ use Rattle.filer_state.specs.nodes.lemmas.Listing.{all-without, removed-is, coun
 
 pub parent-kept : (fewer : ℕ) (k : InodeKind) → parent_in (without_subdirectories fewer k) ≡ parent_in k
 parent-kept fewer (RegularFile size filled verifier) = refl
-parent-kept fewer (Folder parent subdirectories) = refl
+parent-kept fewer (DirectoryKind parent subdirectories) = refl
 
 pub size-kept : (fewer : ℕ) (k : InodeKind) → size_in (without_subdirectories fewer k) ≡ size_in k
 size-kept fewer (RegularFile size filled verifier) = refl
-size-kept fewer (Folder parent subdirectories) = refl
+size-kept fewer (DirectoryKind parent subdirectories) = refl
 
 pub counted-less : (fewer n : ℕ) (k : InodeKind) → subdirectories_in k ≡ Some n → subdirectories_in (without_subdirectories fewer k) ≡ Some (n - fewer)
 counted-less fewer n (RegularFile size filled verifier) e = absurd cc
-counted-less fewer n (Folder parent subdirectories) e = let same : subdirectories ≡ n = cc in ap (λ k. Some (k - fewer)) same
+counted-less fewer n (DirectoryKind parent subdirectories) e = let same : subdirectories ≡ n = cc in ap (λ k. Some (k - fewer)) same
 
 module _ (old : InodesValue) (directories : DirectoryMap) (m : Dropping) (may : LosesName m old directories) where
   abbrev new : InodesValue
@@ -81,7 +81,7 @@ module _ (old : InodesValue) (directories : DirectoryMap) (m : Dropping) (may : 
       by true e =
           let is : q ≡ m.directory = eqb-true q m.directory e in
           ap (λ (k : ℕ). parent_directory (inode_of new k)) is ∙ ap parent_directory at-directory
-          ∙ parent-kept (folders_in m.dropped.kind) m.inode.kind
+          ∙ parent-kept (directories_in m.dropped.kind) m.inode.kind
           ∙ sym (ap (λ (k : ℕ). parent_directory (inode_of old k)) is ∙ ap parent_directory may.there)
       by false e = ap parent_directory (at-other q e left)
 
@@ -92,7 +92,7 @@ module _ (old : InodesValue) (directories : DirectoryMap) (m : Dropping) (may : 
       by true e =
           let is : q ≡ m.directory = eqb-true q m.directory e in
           ap (λ (k : ℕ). size_of (inode_of new k)) is ∙ ap size_of at-directory
-          ∙ size-kept (folders_in m.dropped.kind) m.inode.kind
+          ∙ size-kept (directories_in m.dropped.kind) m.inode.kind
           ∙ sym (ap (λ (k : ℕ). size_of (inode_of old k)) is ∙ ap size_of may.there)
       by false e = ap size_of (at-other q e left)
 
@@ -108,8 +108,8 @@ module _ (old : InodesValue) (directories : DirectoryMap) (m : Dropping) (may : 
 
   -- ---- lists in which the fileid doesn't stand
 
-  folders-same : (list : List Listed) → times_in_list m.fileid list ≡ 0 → folders_listed new.inodes list ≡ folders_listed old.inodes list
-  folders-same list none = others.folders-same new.inodes old.inodes m.fileid parent-same list none
+  directories-same : (list : List Listed) → times_in_list m.fileid list ≡ 0 → directories_listed new.inodes list ≡ directories_listed old.inodes list
+  directories-same list none = others.directories-same new.inodes old.inodes m.fileid parent-same list none
 
   children-same : (fileid : ℕ) (list : List Listed) → times_in_list m.fileid list ≡ 0
       → AllByRecursion (IsChildOf old.inodes fileid) list → AllByRecursion (IsChildOf new.inodes fileid) list
@@ -177,8 +177,8 @@ module _ (old : InodesValue) (directories : DirectoryMap) (m : Dropping) (may : 
 
     -- ---- what is found of the directories
 
-    dropped-folder : is_some (get directories m.fileid) ≡ is_some (parent_in m.dropped.kind)
-    dropped-folder = named.folders m.fileid ∙ ap is_folder may.node
+    dropped-directory : is_some (get directories m.fileid) ≡ is_some (parent_in m.dropped.kind)
+    dropped-directory = named.as_directories m.fileid ∙ ap is_directory may.node
 
     abbrev first_entries : DirectoryMap
     first_entries = directories_left m.dropped.kind m.fileid directories
@@ -189,12 +189,12 @@ module _ (old : InodesValue) (directories : DirectoryMap) (m : Dropping) (may : 
 
     dropped-alone : (k : InodeKind) → is_some (get directories m.fileid) ≡ is_some (parent_in k) → get (directories_left k m.fileid directories) m.fileid ≡ None
     dropped-alone (RegularFile size filled verifier) e = none-is (get directories m.fileid) e
-    dropped-alone (Folder parent subdirectories) e =
+    dropped-alone (DirectoryKind parent subdirectories) e =
         get-remove_at directories m.fileid m.fileid ∙ ap (λ (b : Bool). if b then None else get directories m.fileid) (itself m.fileid)
 
     others-alone : (k : InodeKind) (q : ℕ) → (q == m.fileid) ≡ false → get (directories_left k m.fileid directories) q ≡ get directories q
     others-alone (RegularFile size filled verifier) q left = refl
-    others-alone (Folder parent subdirectories) q left =
+    others-alone (DirectoryKind parent subdirectories) q left =
         get-remove_at directories m.fileid q ∙ ap (λ (b : Bool). if b then None else get directories q) left
 
     found-at : (q : ℕ) → get directories_after q ≡ (if q == m.directory then Some (removed m.name m.entries) else get first_entries q)
@@ -207,7 +207,7 @@ module _ (old : InodesValue) (directories : DirectoryMap) (m : Dropping) (may : 
     pub dropped-entries : get directories_after m.fileid ≡ None
     dropped-entries =
         found-at m.fileid ∙ ap (λ (b : Bool). if b then Some (removed m.name m.entries) else get first_entries m.fileid) apart-turned
-        ∙ dropped-alone m.dropped.kind dropped-folder
+        ∙ dropped-alone m.dropped.kind dropped-directory
 
     pub other-entries : (q : ℕ) → (q == m.directory) ≡ false → (q == m.fileid) ≡ false → get directories_after q ≡ get directories q
     other-entries q ne left =
@@ -215,35 +215,35 @@ module _ (old : InodesValue) (directories : DirectoryMap) (m : Dropping) (may : 
 
     -- ---- what holds of each
 
-    folders-are : (q : ℕ) → is_some (get directories_after q) ≡ is_folder (inode_of new q)
-    folders-are = by-fileid (λ q. is_some (get directories_after q) ≡ is_folder (inode_of new q))
-        (ap (λ o. is_some o) directory-entries ∙ sym (ap is_folder at-directory ∙ ap (λ o. is_some o) (parent-kept (folders_in m.dropped.kind) m.inode.kind)
-        ∙ sym (ap is_folder may.there) ∙ sym (named.folders m.directory) ∙ ap (λ o. is_some o) may.entered))
-        (ap (λ o. is_some o) dropped-entries ∙ sym (ap is_folder at-dropped))
-        (λ q ne left. ap (λ o. is_some o) (other-entries q ne left) ∙ named.folders q ∙ sym (ap is_folder (at-other q ne left)))
+    directories-are : (q : ℕ) → is_some (get directories_after q) ≡ is_directory (inode_of new q)
+    directories-are = by-fileid (λ q. is_some (get directories_after q) ≡ is_directory (inode_of new q))
+        (ap (λ o. is_some o) directory-entries ∙ sym (ap is_directory at-directory ∙ ap (λ o. is_some o) (parent-kept (directories_in m.dropped.kind) m.inode.kind)
+        ∙ sym (ap is_directory may.there) ∙ sym (named.as_directories m.directory) ∙ ap (λ o. is_some o) may.entered))
+        (ap (λ o. is_some o) dropped-entries ∙ sym (ap is_directory at-dropped))
+        (λ q ne left. ap (λ o. is_some o) (other-entries q ne left) ∙ named.as_directories q ∙ sym (ap is_directory (at-other q ne left)))
 
-    kind-folder : (k : InodeKind) → one_if (is_some (parent_in k)) ≡ folders_in k
-    kind-folder (RegularFile size filled verifier) = refl
-    kind-folder (Folder parent subdirectories) = refl
+    kind-directory : (k : InodeKind) → one_if (is_some (parent_in k)) ≡ directories_in k
+    kind-directory (RegularFile size filled verifier) = refl
+    kind-directory (DirectoryKind parent subdirectories) = refl
 
-    entry-counts : one_if (is_folder (inode_of old may.entry.fileid)) ≡ folders_in m.dropped.kind
+    entry-counts : one_if (is_directory (inode_of old may.entry.fileid)) ≡ directories_in m.dropped.kind
     entry-counts =
-        ap (λ (x : ℕ). one_if (is_folder (inode_of old x))) may.is ∙ ap (λ o. one_if (is_folder o)) may.node ∙ kind-folder m.dropped.kind
+        ap (λ (x : ℕ). one_if (is_directory (inode_of old x))) may.is ∙ ap (λ o. one_if (is_directory o)) may.node ∙ kind-directory m.dropped.kind
 
     fits-directory : DirectoryFits new.inodes m.directory (removed m.name m.entries)
     fits-directory =
         let was = named.fits m.directory m.entries may.entered in
-        let old_links : subdirectories_in m.inode.kind ≡ Some (folders_listed old.inodes m.entries.list) = sym (ap subdirectories_of may.there) ∙ was.links in
+        let old_links : subdirectories_in m.inode.kind ≡ Some (directories_listed old.inodes m.entries.list) = sym (ap subdirectories_of may.there) ∙ was.links in
         record {
           list = removed-is m.entries m.name was.list;
           children = children-same m.directory list_left none-left (all-without (IsChildOf old.inodes m.directory) m.name m.entries.list was.children);
           links =
-              let less = counted-less (folders_in m.dropped.kind) (folders_listed old.inodes m.entries.list) m.inode.kind old_links in
-              let all = count-without (λ (e : Listed). is_folder (get old.inodes e.fileid)) m.name m.entries.list may.entry
+              let less = counted-less (directories_in m.dropped.kind) (directories_listed old.inodes m.entries.list) m.inode.kind old_links in
+              let all = count-without (λ (e : Listed). is_directory (get old.inodes e.fileid)) m.name m.entries.list may.entry
               was.list.names may.found_there in
               let one = entry-counts in
-              let same = folders-same list_left none-left in
-              let sum : folders_listed old.inodes m.entries.list - folders_in m.dropped.kind ≡ folders_listed new.inodes list_left =
+              let same = directories-same list_left none-left in
+              let sum : directories_listed old.inodes m.entries.list - directories_in m.dropped.kind ≡ directories_listed new.inodes list_left =
               omega (arith, all, one, same) in
               ap subdirectories_of at-directory ∙ less ∙ ap Some sum;
         }
@@ -256,7 +256,7 @@ module _ (old : InodesValue) (directories : DirectoryMap) (m : Dropping) (may : 
         record {
           list = was.list;
           children = children-same q d.list none was.children;
-          links = ap subdirectories_of (at-other q ne left) ∙ was.links ∙ ap Some (sym (folders-same d.list none));
+          links = ap subdirectories_of (at-other q ne left) ∙ was.links ∙ ap Some (sym (directories-same d.list none));
         }
 
     -- ---- how often each is named
@@ -264,7 +264,7 @@ module _ (old : InodesValue) (directories : DirectoryMap) (m : Dropping) (may : 
     first-times : (q : ℕ) (k : InodeKind) → is_some (get directories m.fileid) ≡ is_some (parent_in k)
         → total (times_of q) (entries (directories_left k m.fileid directories)) ≡ times_named q directories
     first-times q (RegularFile size filled verifier) e = refl
-    first-times q (Folder parent subdirectories) e = by (get directories m.fileid) refl e
+    first-times q (DirectoryKind parent subdirectories) e = by (get directories m.fileid) refl e
       where
         by : (o : Option DirectoryValue) → get directories m.fileid ≡ o → is_some (get directories m.fileid) ≡ true
             → total (times_of q) (entries (remove directories m.fileid)) ≡ times_named q directories
@@ -280,7 +280,7 @@ module _ (old : InodesValue) (directories : DirectoryMap) (m : Dropping) (may : 
     times-after : (q : ℕ) → times_named q directories_after + one_if (m.fileid == q) ≡ times_named q directories
     times-after q =
         let set = total-set (times_of q) first_entries m.directory m.entries (removed m.name m.entries) first-there in
-        let first = first-times q m.dropped.kind dropped-folder in
+        let first = first-times q m.dropped.kind dropped-directory in
         let left = times-left q in
         omega (arith, set, first, left)
 
@@ -372,8 +372,8 @@ module _ (old : InodesValue) (directories : DirectoryMap) (m : Dropping) (may : 
         ap (λ o. directory_above new.inodes n (parent_or o q)) (parent-same q left)
         ∙ above-same n (parent_or (parent_directory (inode_of old q)) q) (not-parent q (parent_directory (inode_of old q)) refl left)
 
-    rooted-still : (q : ℕ) → (q == m.fileid) ≡ false → is_folder (inode_of old q) ≡ true → (steps : ℕ) × (directory_above new.inodes steps q ≡ root)
-    rooted-still q left folder = let reaches = named.rooted q folder in (reaches.0, above-same reaches.0 q left ∙ reaches.1)
+    rooted-still : (q : ℕ) → (q == m.fileid) ≡ false → is_directory (inode_of old q) ≡ true → (steps : ℕ) × (directory_above new.inodes steps q ≡ root)
+    rooted-still q left as_directory = let reaches = named.rooted q as_directory in (reaches.0, above-same reaches.0 q left ∙ reaches.1)
 
     -- ---- all of it
 
@@ -381,17 +381,17 @@ module _ (old : InodesValue) (directories : DirectoryMap) (m : Dropping) (may : 
     pub named-left : AreNamed new.inodes directories_after
     named-left = record {
       root_there = parent-same root root-stays ∙ named.root_there;
-      folders = folders-are;
+      as_directories = directories-are;
       fits = by-fileid (λ q. (d : DirectoryValue) → get directories_after q ≡ Some d → DirectoryFits new.inodes q d)
           (λ d e. let same : removed m.name m.entries ≡ d = (let was = directory-entries in cc) in
           subst (DirectoryFits new.inodes m.directory) same fits-directory)
           (λ d e. let none = dropped-entries in absurd cc)
           (λ q ne left d e. fits-other q d ne left (sym (other-entries q ne left) ∙ e));
       once = once-after;
-      rooted = by-fileid (λ q. is_folder (inode_of new q) ≡ true → (steps : ℕ) × (directory_above new.inodes steps q ≡ root))
-          (λ h. rooted-still m.directory apart (sym (named.folders m.directory) ∙ ap (λ o. is_some o) may.entered))
-          (λ h. let none : is_folder (inode_of new m.fileid) ≡ false = ap is_folder at-dropped in absurd cc)
-          (λ q ne left h. rooted-still q left (sym (ap is_folder (at-other q ne left)) ∙ h));
+      rooted = by-fileid (λ q. is_directory (inode_of new q) ≡ true → (steps : ℕ) × (directory_above new.inodes steps q ≡ root))
+          (λ h. rooted-still m.directory apart (sym (named.as_directories m.directory) ∙ ap (λ o. is_some o) may.entered))
+          (λ h. let none : is_directory (inode_of new m.fileid) ≡ false = ap is_directory at-dropped in absurd cc)
+          (λ q ne left h. rooted-still q left (sym (ap is_directory (at-other q ne left)) ∙ h));
     }
       where
         root-stays : (root == m.fileid) ≡ false

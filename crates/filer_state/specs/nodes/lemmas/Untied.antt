@@ -9,13 +9,13 @@ use Rattle.nfs_model.specs.Types.{Listed}
 use Rattle.nfs_model.specs.Names.{without_name}
 use Rattle.nfs_model.specs.Parts.{one_if}
 use Rattle.nfs_model.specs.volume.Directories.{DirectoryValue, removed}
-use Rattle.nfs_model.specs.volume.Inodes.{InodeKind, RegularFile, Folder, Inode, InodesValue, inode_of}
+use Rattle.nfs_model.specs.volume.Inodes.{InodeKind, RegularFile, DirectoryKind, Inode, InodesValue, inode_of}
 use Rattle.nfs_model.specs.volume.lemmas.Inodes.{inode-set-there, inode-set-other}
 use Rattle.nfs_model.specs.volume.lemmas.Numbered.{get-insert_at, itself}
 use Rattle.filer_state.specs.state.Names.{root, InodeMap, DirectoryMap, parent_in, parent_directory, subdirectories_in, subdirectories_of}
-use Rattle.filer_state.specs.state.Names.{is_folder, parent_or, times_in_list, times_named, is_named, folders_listed, directory_above, DirectoryFits}
+use Rattle.filer_state.specs.state.Names.{is_directory, parent_or, times_in_list, times_named, is_named, directories_listed, directory_above, DirectoryFits}
 use Rattle.filer_state.specs.state.Names.{ReachesRoot, AreNamed}
-use Rattle.filer_state.specs.nodes.Making.{folders_in}
+use Rattle.filer_state.specs.nodes.Making.{directories_in}
 use Rattle.filer_state.specs.nodes.Dropping.{without_subdirectories}
 use Rattle.filer_state.specs.nodes.Moving.{Naming, dated_inode, inodes_untied, entries_untied}
 use Rattle.filer_state.specs.nodes.Laws.{StandsUnder}
@@ -28,17 +28,17 @@ use Rattle.filer_state.specs.nodes.lemmas.Unnamed.{parent-kept, counted-less}
 -- names are lawful, but that one node has none
 pub record AreNamedBut (fileid : ℕ) (inodes : InodeMap) (directories : DirectoryMap) : Type 0 where
   pub root_there : parent_directory (get inodes root) ≡ Some root
-  pub folders : (q : ℕ) → is_some (get directories q) ≡ is_folder (get inodes q)
+  pub as_directories : (q : ℕ) → is_some (get directories q) ≡ is_directory (get inodes q)
   pub fits : (q : ℕ) (d : DirectoryValue) → get directories q ≡ Some d → DirectoryFits inodes q d
   pub once : (q : ℕ) → times_named q directories ≡ one_if (is_named inodes q && not (q == fileid))
-  pub rooted : (q : ℕ) → is_folder (get inodes q) ≡ true → ReachesRoot inodes q
+  pub rooted : (q : ℕ) → is_directory (get inodes q) ≡ true → ReachesRoot inodes q
 
 module _ (old : InodesValue) (directories : DirectoryMap) (m : Naming) (stands : StandsUnder m old directories) where
   abbrev new : InodesValue
   new = inodes_untied m old
 
   abbrev next_inode : Inode
-  next_inode = dated_inode m.moment (without_subdirectories (folders_in m.node.kind) m.inode.kind) m.inode
+  next_inode = dated_inode m.moment (without_subdirectories (directories_in m.node.kind) m.inode.kind) m.inode
 
   abbrev directories_after : DirectoryMap
   directories_after = entries_untied m directories
@@ -54,7 +54,7 @@ module _ (old : InodesValue) (directories : DirectoryMap) (m : Naming) (stands :
 
   parent-same : (q : ℕ) → parent_directory (inode_of new q) ≡ parent_directory (inode_of old q)
   parent-same = by-fileid (λ q. parent_directory (inode_of new q) ≡ parent_directory (inode_of old q))
-      (ap parent_directory untied-directory ∙ parent-kept (folders_in m.node.kind) m.inode.kind ∙ sym (ap parent_directory stands.there))
+      (ap parent_directory untied-directory ∙ parent-kept (directories_in m.node.kind) m.inode.kind ∙ sym (ap parent_directory stands.there))
       (λ q ne. ap parent_directory (untied-other q ne))
 
   some-same : (q : ℕ) → is_some (inode_of new q) ≡ is_some (inode_of old q)
@@ -62,12 +62,12 @@ module _ (old : InodesValue) (directories : DirectoryMap) (m : Naming) (stands :
       (ap (λ o. is_some o) untied-directory ∙ sym (ap (λ o. is_some o) stands.there))
       (λ q ne. ap (λ o. is_some o) (untied-other q ne))
 
-  folders-same : (list : List Listed) → folders_listed new.inodes list ≡ folders_listed old.inodes list
-  folders-same [] = refl
-  folders-same (e ∷ list) =
-      let here : one_if (is_folder (inode_of new e.fileid)) ≡ one_if (is_folder (inode_of old e.fileid)) =
+  directories-same : (list : List Listed) → directories_listed new.inodes list ≡ directories_listed old.inodes list
+  directories-same [] = refl
+  directories-same (e ∷ list) =
+      let here : one_if (is_directory (inode_of new e.fileid)) ≡ one_if (is_directory (inode_of old e.fileid)) =
       ap (λ o. one_if (is_some o)) (parent-same e.fileid) in
-      let others = folders-same list in
+      let others = directories-same list in
       omega (arith, here, others)
 
   children-same : (fileid : ℕ) (list : List Listed) → AllByRecursion (IsChildOf old.inodes fileid) list → AllByRecursion (IsChildOf new.inodes fileid) list
@@ -153,28 +153,28 @@ module _ (old : InodesValue) (directories : DirectoryMap) (m : Naming) (stands :
             ∙ ap (λ (b : Bool). one_if (b && not (q == root))) (some-same q) in
             omega (arith, other, left, was, same)
 
-    kind-folder : (k : InodeKind) → one_if (is_some (parent_in k)) ≡ folders_in k
-    kind-folder (RegularFile size filled verifier) = refl
-    kind-folder (Folder parent subdirectories) = refl
+    kind-directory : (k : InodeKind) → one_if (is_some (parent_in k)) ≡ directories_in k
+    kind-directory (RegularFile size filled verifier) = refl
+    kind-directory (DirectoryKind parent subdirectories) = refl
 
     fits-directory : DirectoryFits new.inodes m.directory (removed m.name m.entries)
     fits-directory =
         let was = named.fits m.directory m.entries stands.entered in
-        let old_links : subdirectories_in m.inode.kind ≡ Some (folders_listed old.inodes m.entries.list) =
+        let old_links : subdirectories_in m.inode.kind ≡ Some (directories_listed old.inodes m.entries.list) =
         sym (ap subdirectories_of stands.there) ∙ was.links in
         record {
           list = removed-is m.entries m.name was.list;
           children = children-same m.directory (without_name m.name m.entries.list)
               (all-without (IsChildOf old.inodes m.directory) m.name m.entries.list was.children);
           links =
-              let less = counted-less (folders_in m.node.kind) (folders_listed old.inodes m.entries.list) m.inode.kind old_links in
-              let all = count-without (λ (e : Listed). is_folder (get old.inodes e.fileid)) m.name m.entries.list stands.entry
+              let less = counted-less (directories_in m.node.kind) (directories_listed old.inodes m.entries.list) m.inode.kind old_links in
+              let all = count-without (λ (e : Listed). is_directory (get old.inodes e.fileid)) m.name m.entries.list stands.entry
               was.list.names stands.found_there in
-              let one : one_if (is_folder (inode_of old stands.entry.fileid)) ≡ folders_in m.node.kind =
-              ap (λ (x : ℕ). one_if (is_folder (inode_of old x))) stands.is ∙ ap (λ o. one_if (is_folder o)) stands.node ∙ kind-folder m.node.kind in
-              let same = folders-same (without_name m.name m.entries.list) in
-              let sum : folders_listed old.inodes m.entries.list - folders_in m.node.kind
-              ≡ folders_listed new.inodes (without_name m.name m.entries.list) = omega (arith, all, one, same) in
+              let one : one_if (is_directory (inode_of old stands.entry.fileid)) ≡ directories_in m.node.kind =
+              ap (λ (x : ℕ). one_if (is_directory (inode_of old x))) stands.is ∙ ap (λ o. one_if (is_directory o)) stands.node ∙ kind-directory m.node.kind in
+              let same = directories-same (without_name m.name m.entries.list) in
+              let sum : directories_listed old.inodes m.entries.list - directories_in m.node.kind
+              ≡ directories_listed new.inodes (without_name m.name m.entries.list) = omega (arith, all, one, same) in
               ap subdirectories_of untied-directory ∙ less ∙ ap Some sum;
         }
 
@@ -182,10 +182,10 @@ module _ (old : InodesValue) (directories : DirectoryMap) (m : Naming) (stands :
     pub named-untied : AreNamedBut m.fileid new.inodes directories_after
     named-untied = record {
       root_there = parent-same root ∙ named.root_there;
-      folders = by-fileid (λ q. is_some (get directories_after q) ≡ is_folder (inode_of new q))
+      as_directories = by-fileid (λ q. is_some (get directories_after q) ≡ is_directory (inode_of new q))
           (ap (λ o. is_some o) untied-entries
-          ∙ sym (ap (λ o. is_some o) (parent-same m.directory) ∙ sym (named.folders m.directory) ∙ ap (λ o. is_some o) stands.entered))
-          (λ q ne. ap (λ o. is_some o) (untied-others q ne) ∙ named.folders q ∙ sym (ap (λ o. is_some o) (parent-same q)));
+          ∙ sym (ap (λ o. is_some o) (parent-same m.directory) ∙ sym (named.as_directories m.directory) ∙ ap (λ o. is_some o) stands.entered))
+          (λ q ne. ap (λ o. is_some o) (untied-others q ne) ∙ named.as_directories q ∙ sym (ap (λ o. is_some o) (parent-same q)));
       fits = by-fileid (λ q. (d : DirectoryValue) → get directories_after q ≡ Some d → DirectoryFits new.inodes q d)
           (λ d e. let same : removed m.name m.entries ≡ d = (let was = untied-entries in cc) in
           subst (DirectoryFits new.inodes m.directory) same fits-directory)
@@ -194,7 +194,7 @@ module _ (old : InodesValue) (directories : DirectoryMap) (m : Naming) (stands :
           record {
             list = was.list;
             children = children-same q d.list was.children;
-            links = ap subdirectories_of (untied-other q ne) ∙ was.links ∙ ap Some (sym (folders-same d.list));
+            links = ap subdirectories_of (untied-other q ne) ∙ was.links ∙ ap Some (sym (directories-same d.list));
           });
       once = once-after;
       rooted = λ q e.

@@ -8,13 +8,13 @@ use Rattle.std.specs.BTreeMap.{is_at}
 use Rattle.std.specs.FinMap.{from_entries, get, find, get-from_entries, IsAntisymmetric}
 use Rattle.std.proofs.lemmas.Cmp.{on_total, then_total}
 use Rattle.std.proofs.lemmas.Map.Lookups.{exact_pairs, exact_unsigned}
-use Rattle.nfs_model.specs.volume.Stripes.{Place, place_cmp}
+use Rattle.nfs_model.specs.volume.Stripes.{FileBlock, file_block_cmp}
 
 -- places are ordered
-pub place_total : IsTotalOrder place_cmp
-place_total = then_total (on_total (λ (p : Place). p.0) nat_cmp_total) (on_total (λ (p : Place). p.1) nat_cmp_total)
+pub place_total : IsTotalOrder file_block_cmp
+place_total = then_total (on_total (λ (p : FileBlock). p.0) nat_cmp_total) (on_total (λ (p : FileBlock). p.1) nat_cmp_total)
 
-pub place_same : IsAntisymmetric place_cmp
+pub place_same : IsAntisymmetric file_block_cmp
 place_same = exact_pairs nat_cmp nat_cmp exact_unsigned exact_unsigned
 
 find_lookup : {K X Y : Type 0} (R : K → K → Ordering) (g : X → Y) (es : List (K × X)) (q : K)

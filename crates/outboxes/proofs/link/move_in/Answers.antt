@@ -8,7 +8,7 @@ pub move_reply_record-requires-clause-short : goal.move_reply_record-requires-cl
 move_reply_record-requires-clause-short c = bytes-short c.args.xid (reply_of c.args.reply.now) 131072 c.requires.short
 
 pub returns-in-Ok-clause-ok : goal.returns-in-Ok-clause-ok
-returns-in-Ok-clause-ok c = (c.new-said.ensures, c.in-Ok.ensures.ok ∙ sym (record_is c.args.xid (reply_of c.args.reply.now)))
+returns-in-Ok-clause-ok c = (c.new-numbered.ensures, c.in-Ok.ensures.ok ∙ sym (record_is c.args.xid (reply_of c.args.reply.now)))
 
 pub returns-in-Err-clause-succeeds : goal.returns-in-Err-clause-succeeds
 returns-in-Err-clause-succeeds c = λ room.

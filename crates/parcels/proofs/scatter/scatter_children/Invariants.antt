@@ -4,17 +4,17 @@ use Rattle.affinity.specs.Layout.{layout_of}
 use Rattle.parcels.specs.Children.{child, children, has_child}
 use Rattle.parcels.specs.Exact.{IsVacant, Under}
 use Rattle.parcels.specs.Moved.{Moved}
-use Rattle.parcels.specs.Places.{in_places}
+use Rattle.parcels.specs.Slots.{in_places}
 use Rattle.parcels.proofs.scatter.scatter_children.Given as goal
 
--- those before are given back, and the others are still in their places
+-- those before are given back, and the others are still in their slots
 abbrev pub invariant-loop-index : goal.invariant-loop-index
 invariant-loop-index g l = record {
   moved : (k : ℕ) → Moved (g.S.Shelf.at l.shelf k)
       (in_places (λ i. has_child (layout_of l.layout) (affinity_of l.parent) i)
-      (λ i held. g.K.Node.parcels (layout_of l.layout) (child (affinity_of l.parent) i) held k) (g.C.Slots.at l.fn.places) l.index)
+      (λ i held. g.K.Node.parcels (layout_of l.layout) (child (affinity_of l.parent) i) held k) (g.C.Slots.at l.fn.slots) l.index)
       (g.S.Shelf.at l.initial.shelf k);
-  others : (i : ℕ) → l.index ≤ i → slice_get (g.C.Slots.at l.places) i ≡ slice_get (g.C.Slots.at l.fn.places) i;
+  others : (i : ℕ) → l.index ≤ i → slice_get (g.C.Slots.at l.slots) i ≡ slice_get (g.C.Slots.at l.fn.slots) i;
   vacant : (i : ℕ) → l.index ≤ i → i < children (layout_of l.layout) (affinity_of l.parent)
       → has_child (layout_of l.layout) (affinity_of l.parent) i ≡ true
       → Under (layout_of l.layout) (child (affinity_of l.parent) i) (IsVacant (layout_of l.layout) (g.S.Shelf.at l.shelf));

@@ -13,7 +13,7 @@ use Rattle.filer_state.specs.state.Sets.{volume_before, volume_after}
 use Rattle.service_data.specs.Writing.{written_outcome}
 use Rattle.service.specs.Running.{outcome_of}
 use Rattle.service.specs.lemmas.Homes.{only-writes}
-use Rattle.service.proofs.Runs.{runs-here, writing-runs, space-runs}
+use Rattle.service.proofs.Runs.{runs-here, writing-runs, filesystem-status-runs}
 use Rattle.service.proofs.in_volume.run_on_volume.Goals as goal
 
 pub write_in_volume-told-requires : goal.write_in_volume-told-requires
@@ -45,11 +45,11 @@ returns-in-FilesystemStatus-clause-runs c =
     let call = c.args.run.call.now in
     let credential = credential_of c.args.run.credential in
     let moment = moment_of c.args.run.moment in
-    let told = c.space-told.result in
+    let told = c.filesystem_status-told.result in
     let held = volume_before c.args.held.now in
     runs-here L v volume_lens (Volume v) f (call_of call) credential moment held held (Replied (Success (answer_of (FilesystemStatus told))))
     c.fileid_here-fileid.ensures
-    (space-runs L v f call c.in-FilesystemStatus.handle credential moment held told (ap call_of c.in-FilesystemStatus.is) c.space-told.ensures.right)
+    (filesystem-status-runs L v f call c.in-FilesystemStatus.handle credential moment held told (ap call_of c.in-FilesystemStatus.is) c.filesystem_status-told.ensures.right)
 
 pub unreachable-requires : goal.unreachable-requires
 unreachable-requires c =

@@ -7,7 +7,7 @@ use Rattle.nfs_model.specs.volume.Logical.{LogicalValue}
 use Rattle.inodes.specs.Inode.{inode_value, kind_value}
 use Rattle.filer_state.specs.state.Sets.{logical_before}
 use Rattle.filer_state.specs.changes.NameAnswers.{inode_committed}
-use Rattle.service_names.proofs.Commits.{commits, folder-told, file-told}
+use Rattle.service_names.proofs.Commits.{commits, directory-kind-told, file-told}
 use Rattle.service_names.proofs.committing.commit.Goals as goal
 
 pub returns-in-None : goal.returns-in-None
@@ -28,7 +28,7 @@ returns-in-Directory c =
     let there = sym (c.in-Some.ensures ∙ ap (λ (l : LogicalValue). inode_of l.inodes fileid) c.get.ensures) in
     record {
       right = commits v fileid set (Err Invalid)
-          (sym (folder-told v fileid set (inode_value c.in-Some.inode) there c.in-Directory.parent.0 c.in-Directory.subdirectories
+          (sym (directory-kind-told v fileid set (inode_value c.in-Some.inode) there c.in-Directory.parent.0 c.in-Directory.subdirectories
           (ap kind_value c.in-Directory.is)));
     }
 

@@ -12,7 +12,7 @@ make_new-requires c = record {
       let inode = inode_value c.in-Ok.inode in
       whole-may v set c.requires.whole
       (record { volume = c.args.volume; fileid = c.args.directory; inode = c.in-Ok.inode; moment = c.args.moment }) c.args.name.now
-      c.in-Ok.ensures.there c.in-Ok.ensures.folder
-      (whole-absent v set c.requires.whole c.args.directory.0 inode c.args.name.now c.in-Ok.ensures.there c.in-Ok.ensures.folder
+      c.in-Ok.ensures.there c.in-Ok.ensures.as_directory
+      (whole-absent v set c.requires.whole c.args.directory.0 inode c.args.name.now c.in-Ok.ensures.there c.in-Ok.ensures.as_directory
       (sym c.in-None.ensures.node));
 }

@@ -26,10 +26,10 @@ returns-then-is_bad_cookie c =
     let v = c.args.volume.0 in
     let fileid = c.args.directory.0 in
     let set = logical_before c.args.held.now in
-    let folder = c.in-Ok.ensures.told (listed_in v fileid c.args.asked set) in
+    let as_directory = c.in-Ok.ensures.told (listed_in v fileid c.args.asked set) in
     record {
       right = lists v fileid c.args.asked set (Err BadCookie)
-          (sym (bad-cookie v fileid c.args.asked set (inode_value c.in-Ok.found.0) c.in-Ok.found.1.0 folder
+          (sym (bad-cookie v fileid c.args.asked set (inode_value c.in-Ok.found.0) c.in-Ok.found.1.0 as_directory
           (sym c.is_bad_cookie.ensures ∙ c.if-is_bad_cookie.true)));
     }
 

@@ -28,10 +28,10 @@ returns-in-Some c =
     let fileid = c.args.directory.0 in
     let name = c.args.name.now in
     let set = logical_before c.args.held.now in
-    let folder = c.in_ok-inode.ensures.told (told_in v fileid name set) in
+    let as_directory = c.in_ok-inode.ensures.told (told_in v fileid name set) in
     record {
       right = looks-up v fileid name set (Err c.in-Some.fault)
-          (sym (bad-name v fileid name set (inode_value c.in_ok-inode.inode) c.in_ok-inode.parent.0 folder
+          (sym (bad-name v fileid name set (inode_value c.in_ok-inode.inode) c.in_ok-inode.parent.0 as_directory
           (status_of c.in-Some.fault) (sym c.in-Some.ensures)));
     }
 
@@ -41,10 +41,10 @@ returns-in-None c =
     let fileid = c.args.directory.0 in
     let name = c.args.name.now in
     let set = logical_before c.args.held.now in
-    let folder = c.in_ok-inode.ensures.told (told_in v fileid name set) in
+    let as_directory = c.in_ok-inode.ensures.told (told_in v fileid name set) in
     record {
       right = looks-up v fileid name set (Err NoEntry)
-          (sym (no-entry v fileid name set (inode_value c.in_ok-inode.inode) c.in_ok-inode.parent.0 folder (sym c.in_default.ensures) (sym c.in-None.ensures)));
+          (sym (no-entry v fileid name set (inode_value c.in_ok-inode.inode) c.in_ok-inode.parent.0 as_directory (sym c.in_default.ensures) (sym c.in-None.ensures)));
     }
 
 pub returns-in-None-get : goal.returns-in-None-get
@@ -53,11 +53,11 @@ returns-in-None-get c =
     let fileid = c.args.directory.0 in
     let name = c.args.name.now in
     let set = logical_before c.args.held.now in
-    let folder = c.in_ok-inode.ensures.told (told_in v fileid name set) in
+    let as_directory = c.in_ok-inode.ensures.told (told_in v fileid name set) in
     let there = sym (c.in-None-get.ensures ∙ ap (λ (l : LogicalValue). inode_of l.inodes c.in-Some-fileid_named.fileid.0) c.get.ensures) in
     record {
       right = looks-up v fileid name set (Err NoEntry)
-          (sym (entry v fileid name set (inode_value c.in_ok-inode.inode) c.in_ok-inode.parent.0 folder (sym c.in_default.ensures)
+          (sym (entry v fileid name set (inode_value c.in_ok-inode.inode) c.in_ok-inode.parent.0 as_directory (sym c.in_default.ensures)
           c.in-Some-fileid_named.fileid.0 (sym c.in-Some-fileid_named.ensures) None there));
     }
 
@@ -78,12 +78,12 @@ returns c =
     let fileid = c.args.directory.0 in
     let name = c.args.name.now in
     let set = logical_before c.args.held.now in
-    let folder = c.in_ok-inode.ensures.told (told_in v fileid name set) in
+    let as_directory = c.in_ok-inode.ensures.told (told_in v fileid name set) in
     let q = c.in-Some-fileid_named.fileid.0 in
     let there = sym (c.in-Some-get.ensures ∙ ap (λ (l : LogicalValue). inode_of l.inodes q) c.get.ensures) in
     record {
       right = looks-up v fileid name set (Ok (record { handle = c.naming.result; object = c.shown_now.result; directory = c.shown.result }))
           ((λ j. LookupDone (c.naming.ensures j) (c.shown_now.ensures j) (c.shown.ensures j))
-          ∙ sym (entry v fileid name set (inode_value c.in_ok-inode.inode) c.in_ok-inode.parent.0 folder (sym c.in_default.ensures) q
+          ∙ sym (entry v fileid name set (inode_value c.in_ok-inode.inode) c.in_ok-inode.parent.0 as_directory (sym c.in_default.ensures) q
           (sym c.in-Some-fileid_named.ensures) (Some (inode_value c.in-Some-get.object)) there));
     }

@@ -5,7 +5,7 @@ use Rattle.nfs_model.specs.volume.Inodes.{Inode}
 use Rattle.inodes.specs.Inode.{inode_value, kind_value}
 use Rattle.filer_state.specs.state.Changes.{LogicalAnswer}
 use Rattle.filer_state.specs.state.Sets.{logical_before}
-use Rattle.filer_state.specs.changes.NodesMade.{folders_in}
+use Rattle.filer_state.specs.changes.NodesMade.{directories_in}
 use Rattle.filer_state.specs.changes.Named.{directory_change}
 use Rattle.filer_state.specs.changes.Dropping.{held_remove, child_emptied}
 use Rattle.service_names.specs.Naming.{node_value, naming_in}
@@ -27,7 +27,7 @@ directory_change-requires-clause-before c =
 pub directory_change-requires-clause-after : goal.directory_change-requires-clause-after
 directory_change-requires-clause-after c =
     subst HasFewLinks (sym (ap (λ (i : Inode). i.kind) (c.drop_file-left.ensures.inode c.args.volume.0)))
-    (few-left (folders_in (child_emptied (node_value c.in-Some.child) (logical_before c.args.held.now)).inode.kind) (kind_value c.in-Ok.inode.kind)
+    (few-left (directories_in (child_emptied (node_value c.in-Some.child) (logical_before c.args.held.now)).inode.kind) (kind_value c.in-Ok.inode.kind)
     (whole-links c.args.volume.0 (logical_before c.args.held.now) c.requires.whole c.args.directory.0 (inode_value c.in-Ok.inode) c.in-Ok.ensures.there))
 
 pub returns-in-RegularFile-clause-answer : goal.returns-in-RegularFile-clause-answer

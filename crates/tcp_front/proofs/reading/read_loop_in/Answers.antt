@@ -51,11 +51,11 @@ returns-in-Some-stopped g c =
     c.in-Some-stopped.is c.take_all-stopped.ensures.taken in
     let done = read-to-stop g.R.Read.remaining came layout c.args.offer c.args.alloc c.args.connection c.args.reader.now c.args.sink.now
     c.loop.reader c.loop.stream
-    c.loop.sink c.loop.invariant.so_far g.met.S.RecordSink.came_more c.read_some.new.self stream' mid c.wake.new.self bytes
+    c.loop.sink c.loop.invariant.so_far g.met.S.RecordSink.came_more c.read_some.new.self stream' mid c.read_ended.new.self bytes
     c.in-Ok.ensures.bytes.0
-    c.in-Ok.ensures.counts c.wake.ensures.none c.in-Some-stopped.stopped h in
+    c.in-Ok.ensures.counts c.read_ended.ensures.none c.in-Some-stopped.stopped h in
     subst (λ (e : ReadEnd). HasRead g.R.Read.remaining came layout c.args.offer c.args.connection.0 c.args.reader.now c.args.sink.now e
-    c.read_some.new.self c.wake.new.self)
+    c.read_some.new.self c.read_ended.new.self)
     (sym c.end_of.ensures) done
 
 pub loop-preserved : goal.loop-preserved
@@ -70,10 +70,10 @@ loop-preserved g c =
     record {
       wide = search rules;
       few = h.stops.1;
-      layout = c.wake.ensures.layout ∙ c.take_all-stopped.ensures.layout ∙ c.loop.invariant.layout;
+      layout = c.read_ended.ensures.layout ∙ c.take_all-stopped.ensures.layout ∙ c.loop.invariant.layout;
       so_far = more-read g.R.Read.remaining came layout c.args.offer c.args.alloc c.args.connection c.args.reader.now c.args.sink.now
           c.loop.reader c.loop.stream
-          c.loop.sink c.loop.invariant.so_far g.met.S.RecordSink.came_more c.read_some.new.self stream' mid c.wake.new.self
+          c.loop.sink c.loop.invariant.so_far g.met.S.RecordSink.came_more c.read_some.new.self stream' mid c.read_ended.new.self
           bytes c.in-Ok.ensures.bytes.0
-          c.in-Ok.ensures.counts c.wake.ensures.none h;
+          c.in-Ok.ensures.counts c.read_ended.ensures.none h;
     }

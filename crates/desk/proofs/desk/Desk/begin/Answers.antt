@@ -8,33 +8,33 @@ use Rattle.desk.specs.laws.Backing.{books_of, IsBook}
 use Rattle.desk.specs.laws.Calls.{HasBegun}
 use Rattle.desk.specs.laws.lemmas.Begins.{in-room, begun-desk, begun-so, read-books, read-desk, taken-so, worn-so}
 use Rattle.desk.specs.laws.lemmas.Taken.{taken-books, free-books}
-use Rattle.desk.specs.Places.{granted, all_granted, shown}
+use Rattle.desk.specs.Slots.{granted, all_granted, shown}
 use Rattle.desk.specs.Words.{books, machine_in}
-use Rattle.desk.proofs.Places.{none-there, told-there, told-set, told-same}
+use Rattle.desk.proofs.Slots.{none-there, told-there, told-set, told-same}
 use Rattle.desk.proofs.desk.Desk.begin.Goals as goal
 
 pub index_mut-requires : goal.index_mut-requires
 index_mut-requires g c =
-    let self = c.args.self.now in let layout = layout_in self.depot in let v = view self.seat in let places = self.places.items in
-    let gs = all_granted places in
+    let self = c.args.self.now in let layout = layout_in self.depot in let v = view self.seat in let slots = self.slots.items in
+    let gs = all_granted slots in
     let room : c.args.worker < length gs = in-room shown layout v gs c.args.worker _ c.requires.idle in
-    let all = length-map places granted in let vec = self.places.ok.0 in omega arith
+    let all = length-map slots granted in let vec = self.slots.ok.0 in omega arith
 
 pub begin_in-requires-clause-idle : goal.begin_in-requires-clause-idle
 begin_in-requires-clause-idle g c =
-    let self = c.args.self.now in let layout = layout_in self.depot in let v = view self.seat in let places = self.places.items in
-    let gs = all_granted places in
+    let self = c.args.self.now in let layout = layout_in self.depot in let v = view self.seat in let slots = self.slots.items in
+    let gs = all_granted slots in
     none-there shown layout v gs c.args.worker c.requires.idle (granted c.index_mut.result.now)
-    (told-there granted places c.args.worker c.index_mut.result.now c.index_mut.ensures.value)
+    (told-there granted slots c.args.worker c.index_mut.result.now c.index_mut.ensures.value)
 
 pub returns-then-is_taken-clause-kept : goal.returns-then-is_taken-clause-kept
 returns-then-is_taken-clause-kept g c =
-    let self = c.args.self.now in let layout = layout_in self.depot in let v = view self.seat in let places = self.places.items in
-    let gs = all_granted places in
+    let self = c.args.self.now in let layout = layout_in self.depot in let v = view self.seat in let slots = self.slots.items in
+    let gs = all_granted slots in
     let w = view c.begin_in.new.seat in
     let idle = none-there shown layout v gs c.args.worker c.requires.idle (granted c.index_mut.result.now)
-    (told-there granted places c.args.worker c.index_mut.result.now c.index_mut.ensures.value) in
-    let same = told-same granted places c.args.worker c.index_mut.result.now c.begin_in.new.place c.index_mut.ensures.value
+    (told-there granted slots c.args.worker c.index_mut.result.now c.index_mut.ensures.value) in
+    let same = told-same granted slots c.args.worker c.index_mut.result.now c.begin_in.new.slot c.index_mut.ensures.value
     (c.in-Err-Worn.ensures.idle ∙ sym idle) in
     let worn = subst (λ r. depots.IsRefused layout v c.args.affinity r w) c.in-Err-Worn.field-0-is c.in-Err-Worn.ensures.refused in
     subst (λ xs. IsBook g.M.Parcel.HasKind.kind (books_of shown layout w xs) w) (sym same)
@@ -43,23 +43,23 @@ returns-then-is_taken-clause-kept g c =
 
 pub returns-then-is_taken-clause-refused : goal.returns-then-is_taken-clause-refused
 returns-then-is_taken-clause-refused g c =
-    let self = c.args.self.now in let layout = layout_in self.depot in let v = view self.seat in let places = self.places.items in
-    let gs = all_granted places in
+    let self = c.args.self.now in let layout = layout_in self.depot in let v = view self.seat in let slots = self.slots.items in
+    let gs = all_granted slots in
     let idle = none-there shown layout v gs c.args.worker c.requires.idle (granted c.index_mut.result.now)
-    (told-there granted places c.args.worker c.index_mut.result.now c.index_mut.ensures.value) in
-    let same = told-same granted places c.args.worker c.index_mut.result.now c.begin_in.new.place c.index_mut.ensures.value
+    (told-there granted slots c.args.worker c.index_mut.result.now c.index_mut.ensures.value) in
+    let same = told-same granted slots c.args.worker c.index_mut.result.now c.begin_in.new.slot c.index_mut.ensures.value
     (c.in-Err-Worn.ensures.idle ∙ sym idle) in
     taken-books shown layout v gs (affinity_of c.args.affinity) (layout_of c.layout.result.now) (all_granted c.as_slice.result.now) c.layout.ensures
     (ap all_granted c.as_slice.ensures.value ∙ same) (c.is_taken.ensures.0 c.if-is_taken.true)
 
 pub returns-then-is_taken-clause-same : goal.returns-then-is_taken-clause-same
 returns-then-is_taken-clause-same g c =
-    let self = c.args.self.now in let layout = layout_in self.depot in let v = view self.seat in let places = self.places.items in
-    let gs = all_granted places in
+    let self = c.args.self.now in let layout = layout_in self.depot in let v = view self.seat in let slots = self.slots.items in
+    let gs = all_granted slots in
     let w = view c.begin_in.new.seat in
     let idle = none-there shown layout v gs c.args.worker c.requires.idle (granted c.index_mut.result.now)
-    (told-there granted places c.args.worker c.index_mut.result.now c.index_mut.ensures.value) in
-    let same = told-same granted places c.args.worker c.index_mut.result.now c.begin_in.new.place c.index_mut.ensures.value
+    (told-there granted slots c.args.worker c.index_mut.result.now c.index_mut.ensures.value) in
+    let same = told-same granted slots c.args.worker c.index_mut.result.now c.begin_in.new.slot c.index_mut.ensures.value
     (c.in-Err-Worn.ensures.idle ∙ sym idle) in
     let worn = subst (λ r. depots.IsRefused layout v c.args.affinity r w) c.in-Err-Worn.field-0-is c.in-Err-Worn.ensures.refused in
     ap (λ xs. books_of shown layout w xs) same ∙
@@ -68,34 +68,34 @@ returns-then-is_taken-clause-same g c =
 
 pub returns-in-Ok-clause-kept : goal.returns-in-Ok-clause-kept
 returns-in-Ok-clause-kept g c =
-    let self = c.args.self.now in let layout = layout_in self.depot in let v = view self.seat in let places = self.places.items in
-    let gs = all_granted places in
+    let self = c.args.self.now in let layout = layout_in self.depot in let v = view self.seat in let slots = self.slots.items in
+    let gs = all_granted slots in
     let w = view c.begin_in.new.seat in
     let begun = c.in-Ok.ensures.granted in
     subst (λ xs. IsBook g.M.Parcel.HasKind.kind (books_of shown layout w xs) w)
-    (sym (told-set granted places c.args.worker c.begin_in.new.place (Some begun.0) begun.1))
+    (sym (told-set granted slots c.args.worker c.begin_in.new.slot (Some begun.0) begun.1))
     (begun-desk shown g.M.Parcel.HasKind.kind (machine_in self) layout self.depot.layout.lawful v w gs c.requires.kept
     (affinity_of c.args.affinity) c.requires.node c.args.worker c.requires.idle begun.0 begun.2)
 
 pub returns-in-Ok-clause-begun : goal.returns-in-Ok-clause-begun
 returns-in-Ok-clause-begun g c =
-    let self = c.args.self.now in let layout = layout_in self.depot in let v = view self.seat in let places = self.places.items in
-    let gs = all_granted places in
+    let self = c.args.self.now in let layout = layout_in self.depot in let v = view self.seat in let slots = self.slots.items in
+    let gs = all_granted slots in
     let w = view c.begin_in.new.seat in
     let begun = c.in-Ok.ensures.granted in
     subst (λ xs. HasBegun (books self) c.args.worker (affinity_of c.args.affinity) (books_of shown layout w xs))
-    (sym (told-set granted places c.args.worker c.begin_in.new.place (Some begun.0) begun.1))
+    (sym (told-set granted slots c.args.worker c.begin_in.new.slot (Some begun.0) begun.1))
     (begun-so shown g.M.Parcel.HasKind.kind (machine_in self) layout self.depot.layout.lawful v w gs c.requires.kept
     (affinity_of c.args.affinity) c.requires.node c.args.worker c.requires.idle begun.0 begun.2)
 
 pub returns-in-Err-Busy-clause-kept : goal.returns-in-Err-Busy-clause-kept
 returns-in-Err-Busy-clause-kept g c =
-    let self = c.args.self.now in let layout = layout_in self.depot in let v = view self.seat in let places = self.places.items in
-    let gs = all_granted places in
+    let self = c.args.self.now in let layout = layout_in self.depot in let v = view self.seat in let slots = self.slots.items in
+    let gs = all_granted slots in
     let w = view c.begin_in.new.seat in
     let idle = none-there shown layout v gs c.args.worker c.requires.idle (granted c.index_mut.result.now)
-    (told-there granted places c.args.worker c.index_mut.result.now c.index_mut.ensures.value) in
-    let same = told-same granted places c.args.worker c.index_mut.result.now c.begin_in.new.place c.index_mut.ensures.value
+    (told-there granted slots c.args.worker c.index_mut.result.now c.index_mut.ensures.value) in
+    let same = told-same granted slots c.args.worker c.index_mut.result.now c.begin_in.new.slot c.index_mut.ensures.value
     (c.in-Err-Busy.ensures.idle ∙ sym idle) in
     let busy = subst (λ r. depots.IsRefused layout v c.args.affinity r w) c.in-Err-Busy.field-0-is c.in-Err-Busy.ensures.refused in
     subst (λ xs. IsBook g.M.Parcel.HasKind.kind (books_of shown layout w xs) w) (sym same)
@@ -104,8 +104,8 @@ returns-in-Err-Busy-clause-kept g c =
 
 pub returns-in-Err-Busy-clause-refused : goal.returns-in-Err-Busy-clause-refused
 returns-in-Err-Busy-clause-refused g c =
-    let self = c.args.self.now in let layout = layout_in self.depot in let v = view self.seat in let places = self.places.items in
-    let gs = all_granted places in
+    let self = c.args.self.now in let layout = layout_in self.depot in let v = view self.seat in let slots = self.slots.items in
+    let gs = all_granted slots in
     let w = view c.begin_in.new.seat in
     let busy = subst (λ r. depots.IsRefused layout v c.args.affinity r w) c.in-Err-Busy.field-0-is c.in-Err-Busy.ensures.refused in
     taken-so shown g.M.Parcel.HasKind.kind (machine_in self) layout self.depot.layout.lawful v w gs c.requires.kept
@@ -113,12 +113,12 @@ returns-in-Err-Busy-clause-refused g c =
 
 pub returns-in-Err-Busy-clause-same : goal.returns-in-Err-Busy-clause-same
 returns-in-Err-Busy-clause-same g c =
-    let self = c.args.self.now in let layout = layout_in self.depot in let v = view self.seat in let places = self.places.items in
-    let gs = all_granted places in
+    let self = c.args.self.now in let layout = layout_in self.depot in let v = view self.seat in let slots = self.slots.items in
+    let gs = all_granted slots in
     let w = view c.begin_in.new.seat in
     let idle = none-there shown layout v gs c.args.worker c.requires.idle (granted c.index_mut.result.now)
-    (told-there granted places c.args.worker c.index_mut.result.now c.index_mut.ensures.value) in
-    let same = told-same granted places c.args.worker c.index_mut.result.now c.begin_in.new.place c.index_mut.ensures.value
+    (told-there granted slots c.args.worker c.index_mut.result.now c.index_mut.ensures.value) in
+    let same = told-same granted slots c.args.worker c.index_mut.result.now c.begin_in.new.slot c.index_mut.ensures.value
     (c.in-Err-Busy.ensures.idle ∙ sym idle) in
     let busy = subst (λ r. depots.IsRefused layout v c.args.affinity r w) c.in-Err-Busy.field-0-is c.in-Err-Busy.ensures.refused in
     ap (λ xs. books_of shown layout w xs) same ∙
@@ -127,12 +127,12 @@ returns-in-Err-Busy-clause-same g c =
 
 pub returns-else-is_taken-clause-kept : goal.returns-else-is_taken-clause-kept
 returns-else-is_taken-clause-kept g c =
-    let self = c.args.self.now in let layout = layout_in self.depot in let v = view self.seat in let places = self.places.items in
-    let gs = all_granted places in
+    let self = c.args.self.now in let layout = layout_in self.depot in let v = view self.seat in let slots = self.slots.items in
+    let gs = all_granted slots in
     let w = view c.begin_in.new.seat in
     let idle = none-there shown layout v gs c.args.worker c.requires.idle (granted c.index_mut.result.now)
-    (told-there granted places c.args.worker c.index_mut.result.now c.index_mut.ensures.value) in
-    let same = told-same granted places c.args.worker c.index_mut.result.now c.begin_in.new.place c.index_mut.ensures.value
+    (told-there granted slots c.args.worker c.index_mut.result.now c.index_mut.ensures.value) in
+    let same = told-same granted slots c.args.worker c.index_mut.result.now c.begin_in.new.slot c.index_mut.ensures.value
     (c.in-Err-Worn.ensures.idle ∙ sym idle) in
     let worn = subst (λ r. depots.IsRefused layout v c.args.affinity r w) c.in-Err-Worn.field-0-is c.in-Err-Worn.ensures.refused in
     subst (λ xs. IsBook g.M.Parcel.HasKind.kind (books_of shown layout w xs) w) (sym same)
@@ -141,12 +141,12 @@ returns-else-is_taken-clause-kept g c =
 
 pub returns-else-is_taken-clause-refused : goal.returns-else-is_taken-clause-refused
 returns-else-is_taken-clause-refused g c =
-    let self = c.args.self.now in let layout = layout_in self.depot in let v = view self.seat in let places = self.places.items in
-    let gs = all_granted places in
+    let self = c.args.self.now in let layout = layout_in self.depot in let v = view self.seat in let slots = self.slots.items in
+    let gs = all_granted slots in
     let w = view c.begin_in.new.seat in
     let idle = none-there shown layout v gs c.args.worker c.requires.idle (granted c.index_mut.result.now)
-    (told-there granted places c.args.worker c.index_mut.result.now c.index_mut.ensures.value) in
-    let same = told-same granted places c.args.worker c.index_mut.result.now c.begin_in.new.place c.index_mut.ensures.value
+    (told-there granted slots c.args.worker c.index_mut.result.now c.index_mut.ensures.value) in
+    let same = told-same granted slots c.args.worker c.index_mut.result.now c.begin_in.new.slot c.index_mut.ensures.value
     (c.in-Err-Worn.ensures.idle ∙ sym idle) in
     let worn = subst (λ r. depots.IsRefused layout v c.args.affinity r w) c.in-Err-Worn.field-0-is c.in-Err-Worn.ensures.refused in (
       free-books shown layout v gs (affinity_of c.args.affinity) (layout_of c.layout.result.now) (all_granted c.as_slice.result.now) c.is_taken.result
@@ -158,12 +158,12 @@ returns-else-is_taken-clause-refused g c =
 
 pub returns-else-is_taken-clause-same : goal.returns-else-is_taken-clause-same
 returns-else-is_taken-clause-same g c =
-    let self = c.args.self.now in let layout = layout_in self.depot in let v = view self.seat in let places = self.places.items in
-    let gs = all_granted places in
+    let self = c.args.self.now in let layout = layout_in self.depot in let v = view self.seat in let slots = self.slots.items in
+    let gs = all_granted slots in
     let w = view c.begin_in.new.seat in
     let idle = none-there shown layout v gs c.args.worker c.requires.idle (granted c.index_mut.result.now)
-    (told-there granted places c.args.worker c.index_mut.result.now c.index_mut.ensures.value) in
-    let same = told-same granted places c.args.worker c.index_mut.result.now c.begin_in.new.place c.index_mut.ensures.value
+    (told-there granted slots c.args.worker c.index_mut.result.now c.index_mut.ensures.value) in
+    let same = told-same granted slots c.args.worker c.index_mut.result.now c.begin_in.new.slot c.index_mut.ensures.value
     (c.in-Err-Worn.ensures.idle ∙ sym idle) in
     let worn = subst (λ r. depots.IsRefused layout v c.args.affinity r w) c.in-Err-Worn.field-0-is c.in-Err-Worn.ensures.refused in
     ap (λ xs. books_of shown layout w xs) same ∙

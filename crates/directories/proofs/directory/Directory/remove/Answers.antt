@@ -7,47 +7,47 @@ use Rattle.directories.proofs.directory.Directory.remove.Goals as goal
 
 pub returns-then-not-search-clause-there : goal.returns-then-not-search-clause-there
 returns-then-not-search-clause-there c =
-    let place = c.find_place-search.ensures.absent (is-false _ c.if-not-search.true) in
-    rw (← c.self.view_is) (found-none c.self.inside.entries (cookies c.self.inside.by_name) c.find_place-search.result.place c.args.name.now c.self.invariant
-    place)
+    let position = c.find_position-search.ensures.absent (is-false _ c.if-not-search.true) in
+    rw (← c.self.view_is) (found-none c.self.inside.entries (cookies c.self.inside.by_name) c.find_position-search.result.position c.args.name.now c.self.invariant
+    position)
 
 pub returns-then-not-search-clause-left : goal.returns-then-not-search-clause-left
 returns-then-not-search-clause-left c =
-    let place = c.find_place-search.ensures.absent (is-false _ c.if-not-search.true) in
-    rw (← c.self.view_is) (removed-none c.self.inside.entries (cookies c.self.inside.by_name) c.find_place-search.result.place c.args.name.now c.self.invariant
-    place)
+    let position = c.find_position-search.ensures.absent (is-false _ c.if-not-search.true) in
+    rw (← c.self.view_is) (removed-none c.self.inside.entries (cookies c.self.inside.by_name) c.find_position-search.result.position c.args.name.now c.self.invariant
+    position)
 
 pub remove-spot-requires : goal.remove-spot-requires
 remove-spot-requires c =
-    let there = c.find_place-search.ensures.there (is-true _ c.if-not-search.false) in
-    let inside = name-inside c.self.inside.entries.list (cookies c.self.inside.by_name) c.find_place-search.result.place c.args.name.now there in
+    let there = c.find_position-search.ensures.there (is-true _ c.if-not-search.false) in
+    let inside = name-inside c.self.inside.entries.list (cookies c.self.inside.by_name) c.find_position-search.result.position c.args.name.now there in
     let same = length-cookies c.self.inside.by_name in
     omega (arith, inside, same)
 
 pub invariant_of-self : goal.invariant_of-self
 invariant_of-self c =
-    let there = c.find_place-search.ensures.there (is-true _ c.if-not-search.false) in
+    let there = c.find_position-search.ensures.there (is-true _ c.if-not-search.false) in
     rw (c.remove.ensures, c.remove-spot.ensures.left, cookies-remove)
-    (still-indexed c.self.inside.entries (cookies c.self.inside.by_name) c.find_place-search.result.place c.remove-spot.result.cookie c.args.name.now
+    (still-indexed c.self.inside.entries (cookies c.self.inside.by_name) c.find_position-search.result.position c.remove-spot.result.cookie c.args.name.now
     c.self.invariant there
-    (cookie-at c.self.inside.by_name c.find_place-search.result.place c.remove-spot.result c.remove-spot.ensures.item))
+    (cookie-at c.self.inside.by_name c.find_position-search.result.position c.remove-spot.result c.remove-spot.ensures.item))
 
 pub returns-clause-there : goal.returns-clause-there
 returns-clause-there c =
-    let there = c.find_place-search.ensures.there (is-true _ c.if-not-search.false) in
-    rw (← c.self.view_is) (sym (found-some c.self.inside.entries (cookies c.self.inside.by_name) c.find_place-search.result.place c.args.name.now
+    let there = c.find_position-search.ensures.there (is-true _ c.if-not-search.false) in
+    rw (← c.self.view_is) (sym (found-some c.self.inside.entries (cookies c.self.inside.by_name) c.find_position-search.result.position c.args.name.now
     c.self.invariant there))
 
 pub returns-clause-left : goal.returns-clause-left
 returns-clause-left c =
-    let there = c.find_place-search.ensures.there (is-true _ c.if-not-search.false) in
+    let there = c.find_position-search.ensures.there (is-true _ c.if-not-search.false) in
     rw (c.remove.ensures, ← c.self.view_is)
-    (removed-some c.self.inside.entries (cookies c.self.inside.by_name) c.find_place-search.result.place c.remove-spot.result.cookie c.args.name.now
+    (removed-some c.self.inside.entries (cookies c.self.inside.by_name) c.find_position-search.result.position c.remove-spot.result.cookie c.args.name.now
     c.self.invariant there
-    (cookie-at c.self.inside.by_name c.find_place-search.result.place c.remove-spot.result c.remove-spot.ensures.item))
+    (cookie-at c.self.inside.by_name c.find_position-search.result.position c.remove-spot.result c.remove-spot.ensures.item))
 
 pub remove-requires : goal.remove-requires
 remove-requires c =
-    let there = c.find_place-search.ensures.there (is-true _ c.if-not-search.false) in
-    name-known c.self.inside.entries (cookies c.self.inside.by_name) c.find_place-search.result.place c.remove-spot.result.cookie c.args.name.now
-    c.self.invariant there (cookie-at c.self.inside.by_name c.find_place-search.result.place c.remove-spot.result c.remove-spot.ensures.item)
+    let there = c.find_position-search.ensures.there (is-true _ c.if-not-search.false) in
+    name-known c.self.inside.entries (cookies c.self.inside.by_name) c.find_position-search.result.position c.remove-spot.result.cookie c.args.name.now
+    c.self.invariant there (cookie-at c.self.inside.by_name c.find_position-search.result.position c.remove-spot.result c.remove-spot.ensures.item)

@@ -8,4 +8,4 @@ pub returns-clause-ok : goal.returns-clause-ok
 returns-clause-ok c =
     rw (← c.self.view_is)
     (puts-addressed c.self.inside.most c.self.inside.next c.self.inside.step c.self.inside.by_number.entries c.put_into.new.outboxes.entries c.args.connection.0 _ _
-    (ap (λ (said : ReplyMessage). addressed c.args.connection.0 said) c.in_ok-write.ensures.ok.0) c.put_into.ensures)
+    (ap (λ (numbered : ReplyMessage). addressed c.args.connection.0 numbered) c.in_ok-write.ensures.ok.0) c.put_into.ensures)

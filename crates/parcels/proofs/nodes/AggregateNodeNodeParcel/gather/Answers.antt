@@ -59,10 +59,10 @@ gather_children-requires-clause-there g c =
 pub returns-clause-exact : goal.returns-clause-exact
 returns-clause-exact g c =
     at-exact (layout_of c.args.layout.now) (affinity_of c.args.affinity) (trees.Aggregate c.in-Aggregate.aggregate) (ap affinity_of c.in-Aggregate.is)
-    aggregate_parcels record { own = c.in-Aggregate-take_parcel.own; volumes = c.gather_children.new.places } kind_in
+    aggregate_parcels record { own = c.in-Aggregate-take_parcel.own; volumes = c.gather_children.new.slots } kind_in
     (aggregate-gathered (layout_of c.args.layout.now) c.in-Aggregate.aggregate
     (at-node (layout_of c.args.layout.now) (affinity_of c.args.affinity) (trees.Aggregate c.in-Aggregate.aggregate)
-    (ap affinity_of c.in-Aggregate.is) c.requires.node) record { own = c.in-Aggregate-take_parcel.own; volumes = c.gather_children.new.places }
+    (ap affinity_of c.in-Aggregate.is) c.requires.node) record { own = c.in-Aggregate-take_parcel.own; volumes = c.gather_children.new.slots }
     (g.S.Shelf.at c.args.shelf.now) (g.S.Shelf.at c.take_parcel.new.shelf) (g.S.Shelf.at c.gather_children.new.shelf)
     c.in-Aggregate-take_parcel.ensures.moved c.gather_children.ensures.moved c.gather_children.ensures.gone
     (at-under (layout_of c.args.layout.now) (affinity_of c.args.affinity) (trees.Aggregate c.in-Aggregate.aggregate)
@@ -71,11 +71,11 @@ returns-clause-exact g c =
 pub returns-clause-moved : goal.returns-clause-moved
 returns-clause-moved g c =
     at-taken (layout_of c.args.layout.now) (affinity_of c.args.affinity) (trees.Aggregate c.in-Aggregate.aggregate) (ap affinity_of c.in-Aggregate.is)
-    aggregate_parcels record { own = c.in-Aggregate-take_parcel.own; volumes = c.gather_children.new.places } (g.S.Shelf.at c.args.shelf.now)
+    aggregate_parcels record { own = c.in-Aggregate-take_parcel.own; volumes = c.gather_children.new.slots } (g.S.Shelf.at c.args.shelf.now)
     (g.S.Shelf.at c.gather_children.new.shelf)
     (aggregate-taken (layout_of c.args.layout.now) c.in-Aggregate.aggregate
     (at-node (layout_of c.args.layout.now) (affinity_of c.args.affinity) (trees.Aggregate c.in-Aggregate.aggregate)
-    (ap affinity_of c.in-Aggregate.is) c.requires.node) record { own = c.in-Aggregate-take_parcel.own; volumes = c.gather_children.new.places }
+    (ap affinity_of c.in-Aggregate.is) c.requires.node) record { own = c.in-Aggregate-take_parcel.own; volumes = c.gather_children.new.slots }
     (g.S.Shelf.at c.args.shelf.now) (g.S.Shelf.at c.take_parcel.new.shelf) (g.S.Shelf.at c.gather_children.new.shelf)
     c.in-Aggregate-take_parcel.ensures.moved c.gather_children.ensures.moved)
 
@@ -84,7 +84,7 @@ returns-clause-kept g c =
     g.met.S.Shelf.keeps_on c.args.shelf.now c.take_parcel.new.shelf c.gather_children.new.shelf c.in-Aggregate-take_parcel.ensures.kept
     c.gather_children.ensures.kept
 
--- that sets and places fit memory: each found once
+-- that sets and slots fit memory: each found once
 pub gather_children-requires-room-C-Slots : goal.gather_children-requires-room-C-Slots
 gather_children-requires-room-C-Slots g c κs within = search rules
 

@@ -59,10 +59,10 @@ gather_children-requires-clause-there g c =
 pub returns-clause-exact : goal.returns-clause-exact
 returns-clause-exact g c =
     at-exact (layout_of c.args.layout.now) (affinity_of c.args.affinity) (trees.Logical c.in-VolumeLogical.volume)
-    (ap affinity_of c.in-VolumeLogical.is) logical_parcels record { own = c.in-Logical.own; stripes = c.gather_children.new.places } kind_in
+    (ap affinity_of c.in-VolumeLogical.is) logical_parcels record { own = c.in-Logical.own; stripes = c.gather_children.new.slots } kind_in
     (logical-gathered (layout_of c.args.layout.now) c.in-VolumeLogical.volume
     (at-node (layout_of c.args.layout.now) (affinity_of c.args.affinity) (trees.Logical c.in-VolumeLogical.volume)
-    (ap affinity_of c.in-VolumeLogical.is) c.requires.node) record { own = c.in-Logical.own; stripes = c.gather_children.new.places }
+    (ap affinity_of c.in-VolumeLogical.is) c.requires.node) record { own = c.in-Logical.own; stripes = c.gather_children.new.slots }
     (g.S.Shelf.at c.args.shelf.now) (g.S.Shelf.at c.take_parcel.new.shelf) (g.S.Shelf.at c.gather_children.new.shelf) c.in-Logical.ensures.moved
     c.gather_children.ensures.moved c.gather_children.ensures.gone
     (at-under (layout_of c.args.layout.now) (affinity_of c.args.affinity) (trees.Logical c.in-VolumeLogical.volume)
@@ -71,11 +71,11 @@ returns-clause-exact g c =
 pub returns-clause-moved : goal.returns-clause-moved
 returns-clause-moved g c =
     at-taken (layout_of c.args.layout.now) (affinity_of c.args.affinity) (trees.Logical c.in-VolumeLogical.volume)
-    (ap affinity_of c.in-VolumeLogical.is) logical_parcels record { own = c.in-Logical.own; stripes = c.gather_children.new.places }
+    (ap affinity_of c.in-VolumeLogical.is) logical_parcels record { own = c.in-Logical.own; stripes = c.gather_children.new.slots }
     (g.S.Shelf.at c.args.shelf.now) (g.S.Shelf.at c.gather_children.new.shelf)
     (logical-taken (layout_of c.args.layout.now) c.in-VolumeLogical.volume
     (at-node (layout_of c.args.layout.now) (affinity_of c.args.affinity) (trees.Logical c.in-VolumeLogical.volume)
-    (ap affinity_of c.in-VolumeLogical.is) c.requires.node) record { own = c.in-Logical.own; stripes = c.gather_children.new.places }
+    (ap affinity_of c.in-VolumeLogical.is) c.requires.node) record { own = c.in-Logical.own; stripes = c.gather_children.new.slots }
     (g.S.Shelf.at c.args.shelf.now) (g.S.Shelf.at c.take_parcel.new.shelf) (g.S.Shelf.at c.gather_children.new.shelf) c.in-Logical.ensures.moved
     c.gather_children.ensures.moved)
 

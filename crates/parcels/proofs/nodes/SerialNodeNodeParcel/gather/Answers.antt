@@ -49,8 +49,8 @@ gather_children-requires-clause-there g c =
 pub returns-clause-exact : goal.returns-clause-exact
 returns-clause-exact g c =
     at-exact (layout_of c.args.layout.now) (affinity_of c.args._affinity) trees.Serial (root_is (affinity_of c.args._affinity) c.requires.kind)
-    serial_parcels record { own = c.in-Serial.own; aggregates = c.gather_children.new.places } kind_in
-    (serial-gathered (layout_of c.args.layout.now) record { own = c.in-Serial.own; aggregates = c.gather_children.new.places }
+    serial_parcels record { own = c.in-Serial.own; aggregates = c.gather_children.new.slots } kind_in
+    (serial-gathered (layout_of c.args.layout.now) record { own = c.in-Serial.own; aggregates = c.gather_children.new.slots }
     (g.S.Shelf.at c.args.shelf.now) (g.S.Shelf.at c.take_parcel.new.shelf) (g.S.Shelf.at c.gather_children.new.shelf)
     (λ v. aggregate_known (layout_of c.args.layout.now) v c.args.layout.now.lawful) c.in-Serial.ensures.moved c.gather_children.ensures.moved
     c.gather_children.ensures.gone
@@ -60,9 +60,9 @@ returns-clause-exact g c =
 pub returns-clause-moved : goal.returns-clause-moved
 returns-clause-moved g c =
     at-taken (layout_of c.args.layout.now) (affinity_of c.args._affinity) trees.Serial (root_is (affinity_of c.args._affinity) c.requires.kind)
-    serial_parcels record { own = c.in-Serial.own; aggregates = c.gather_children.new.places } (g.S.Shelf.at c.args.shelf.now)
+    serial_parcels record { own = c.in-Serial.own; aggregates = c.gather_children.new.slots } (g.S.Shelf.at c.args.shelf.now)
     (g.S.Shelf.at c.gather_children.new.shelf)
-    (serial-taken (layout_of c.args.layout.now) record { own = c.in-Serial.own; aggregates = c.gather_children.new.places }
+    (serial-taken (layout_of c.args.layout.now) record { own = c.in-Serial.own; aggregates = c.gather_children.new.slots }
     (g.S.Shelf.at c.args.shelf.now) (g.S.Shelf.at c.take_parcel.new.shelf) (g.S.Shelf.at c.gather_children.new.shelf) c.in-Serial.ensures.moved
     c.gather_children.ensures.moved)
 
@@ -70,7 +70,7 @@ pub returns-clause-kept : goal.returns-clause-kept
 returns-clause-kept g c =
     g.met.S.Shelf.keeps_on c.args.shelf.now c.take_parcel.new.shelf c.gather_children.new.shelf c.in-Serial.ensures.kept c.gather_children.ensures.kept
 
--- that sets and places fit memory: each found once
+-- that sets and slots fit memory: each found once
 pub gather_children-requires-room-C-Slots : goal.gather_children-requires-room-C-Slots
 gather_children-requires-room-C-Slots g c κs within = search rules
 

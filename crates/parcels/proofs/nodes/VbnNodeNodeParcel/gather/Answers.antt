@@ -54,10 +54,10 @@ gather_children-requires-clause-there g c =
 pub returns-clause-exact : goal.returns-clause-exact
 returns-clause-exact g c =
     at-exact (layout_of c.args.layout.now) (affinity_of c.args.affinity) (trees.Vbn c.in-VolumeVbn.volume) (ap affinity_of c.in-VolumeVbn.is)
-    vbn_parcels record { own = c.in-Vbn.own; ranges = c.gather_children.new.places } kind_in
+    vbn_parcels record { own = c.in-Vbn.own; ranges = c.gather_children.new.slots } kind_in
     (vbn-gathered (layout_of c.args.layout.now) c.in-VolumeVbn.volume
     (at-node (layout_of c.args.layout.now) (affinity_of c.args.affinity) (trees.Vbn c.in-VolumeVbn.volume) (ap affinity_of c.in-VolumeVbn.is)
-    c.requires.node) record { own = c.in-Vbn.own; ranges = c.gather_children.new.places } (g.S.Shelf.at c.args.shelf.now)
+    c.requires.node) record { own = c.in-Vbn.own; ranges = c.gather_children.new.slots } (g.S.Shelf.at c.args.shelf.now)
     (g.S.Shelf.at c.take_parcel.new.shelf) (g.S.Shelf.at c.gather_children.new.shelf) c.in-Vbn.ensures.moved c.gather_children.ensures.moved
     c.gather_children.ensures.gone
     (at-under (layout_of c.args.layout.now) (affinity_of c.args.affinity) (trees.Vbn c.in-VolumeVbn.volume) (ap affinity_of c.in-VolumeVbn.is)
@@ -66,11 +66,11 @@ returns-clause-exact g c =
 pub returns-clause-moved : goal.returns-clause-moved
 returns-clause-moved g c =
     at-taken (layout_of c.args.layout.now) (affinity_of c.args.affinity) (trees.Vbn c.in-VolumeVbn.volume) (ap affinity_of c.in-VolumeVbn.is)
-    vbn_parcels record { own = c.in-Vbn.own; ranges = c.gather_children.new.places } (g.S.Shelf.at c.args.shelf.now)
+    vbn_parcels record { own = c.in-Vbn.own; ranges = c.gather_children.new.slots } (g.S.Shelf.at c.args.shelf.now)
     (g.S.Shelf.at c.gather_children.new.shelf)
     (vbn-taken (layout_of c.args.layout.now) c.in-VolumeVbn.volume
     (at-node (layout_of c.args.layout.now) (affinity_of c.args.affinity) (trees.Vbn c.in-VolumeVbn.volume) (ap affinity_of c.in-VolumeVbn.is)
-    c.requires.node) record { own = c.in-Vbn.own; ranges = c.gather_children.new.places } (g.S.Shelf.at c.args.shelf.now)
+    c.requires.node) record { own = c.in-Vbn.own; ranges = c.gather_children.new.slots } (g.S.Shelf.at c.args.shelf.now)
     (g.S.Shelf.at c.take_parcel.new.shelf) (g.S.Shelf.at c.gather_children.new.shelf) c.in-Vbn.ensures.moved c.gather_children.ensures.moved)
 
 pub returns-clause-kept : goal.returns-clause-kept

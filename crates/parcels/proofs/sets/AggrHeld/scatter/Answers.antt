@@ -6,7 +6,7 @@ use Rattle.affinity.specs.Affinity.{affinity_of}
 use Rattle.affinity.specs.Layout.{layout_of}
 use Rattle.affinity.specs.Numbers.{number_of}
 use Rattle.parcels.specs.Exact.{IsVacant}
-use Rattle.parcels.specs.Places.{in_place}
+use Rattle.parcels.specs.Slots.{in_slot}
 use Rattle.parcels.specs.Sets.{volume_parcels, aggregate_parcels}
 use Rattle.parcels.specs.declared.family.Parcel.TheVariants as parcels
 use Rattle.parcels.proofs.Allowing.{allowed-over}
@@ -68,7 +68,7 @@ scatter_children-requires-clause-vacant g c =
 pub scatter_children-requires-clause-allowed : goal.scatter_children-requires-clause-allowed
 scatter_children-requires-clause-allowed g c =
     λ i l used. allowed-over
-    (λ k. in_place (λ set. volume_parcels (layout_of c.args.layout.now) (trees.Volume i) set k) (slice_get c.args.self.volumes.at i))
+    (λ k. in_slot (λ set. volume_parcels (layout_of c.args.layout.now) (trees.Volume i) set k) (slice_get c.args.self.volumes.at i))
     (g.S.Shelf.allows c.args.shelf.now) (g.S.Shelf.allows c.put_parcel.new.shelf)
     (λ k x. g.met.S.Shelf.keeps_allowing c.args.shelf.now c.put_parcel.new.shelf k x c.put_parcel.ensures.kept)
     (volumes_allowed (layout_of c.args.layout.now) (g.S.Shelf.allows c.args.shelf.now) c.in-Aggregate.aggregate
@@ -91,7 +91,7 @@ pub returns-clause-kept : goal.returns-clause-kept
 returns-clause-kept g c =
     g.met.S.Shelf.keeps_on c.args.shelf.now c.put_parcel.new.shelf c.scatter_children.new.shelf c.put_parcel.ensures.kept c.scatter_children.ensures.kept
 
--- that sets and places fit memory: each found once
+-- that sets and slots fit memory: each found once
 pub scatter_children-requires-room-C-Slots : goal.scatter_children-requires-room-C-Slots
 scatter_children-requires-room-C-Slots g c κs within = search rules
 

@@ -4,7 +4,7 @@ use Rattle.affinity.specs.Affinity.{affinity_of}
 use Rattle.affinity.specs.Layout.{layout_of}
 use Rattle.affinity.specs.Numbers.{number_of}
 use Rattle.parcels.specs.Exact.{IsVacant}
-use Rattle.parcels.specs.Places.{in_place}
+use Rattle.parcels.specs.Slots.{in_slot}
 use Rattle.parcels.specs.Sets.{stripe_parcels, logical_parcels}
 use Rattle.parcels.specs.declared.family.Parcel.TheVariants as parcels
 use Rattle.parcels.proofs.Allowing.{allowed-over}
@@ -64,7 +64,7 @@ scatter_children-requires-clause-vacant g c =
 pub scatter_children-requires-clause-allowed : goal.scatter_children-requires-clause-allowed
 scatter_children-requires-clause-allowed g c =
     λ i l used. allowed-over
-    (λ k. in_place (λ set. stripe_parcels (layout_of c.args.layout.now) (trees.Stripe c.in-VolumeLogical.volume i) set k)
+    (λ k. in_slot (λ set. stripe_parcels (layout_of c.args.layout.now) (trees.Stripe c.in-VolumeLogical.volume i) set k)
     (slice_get c.args.self.stripes.at i)) (g.S.Shelf.allows c.args.shelf.now) (g.S.Shelf.allows c.put_parcel.new.shelf)
     (λ k x. g.met.S.Shelf.keeps_allowing c.args.shelf.now c.put_parcel.new.shelf k x c.put_parcel.ensures.kept)
     (stripes_allowed (layout_of c.args.layout.now) (g.S.Shelf.allows c.args.shelf.now) c.in-VolumeLogical.volume c.args.self

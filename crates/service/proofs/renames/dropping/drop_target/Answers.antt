@@ -4,7 +4,7 @@ use Rattle.inodes.specs.Inode.{kind_value}
 use Rattle.filer_state.specs.state.Sets.{logical_before}
 use Rattle.service_names.specs.Naming.{node_value}
 use Rattle.service.specs.renames.Moving.{target_out}
-use Rattle.service.proofs.renames.Emptied.{out-file, out-folder}
+use Rattle.service.proofs.renames.Emptied.{out-file, out-directory}
 use Rattle.service.proofs.renames.dropping.drop_target.Goals as goal
 
 pub returns-in-RegularFile-clause-set : goal.returns-in-RegularFile-clause-set
@@ -18,5 +18,5 @@ pub returns-in-Directory-clause-set : goal.returns-in-Directory-clause-set
 returns-in-Directory-clause-set c =
     let s = logical_before c.args.held.now in
     c.drop_node.ensures.set c.args.between.volume.0 []
-    ∙ out-folder c.args.between (node_value c.in-Some.target) s _ _ (ap kind_value c.in-Directory.is)
+    ∙ out-directory c.args.between (node_value c.in-Some.target) s _ _ (ap kind_value c.in-Directory.is)
     ∙ ap (λ o. target_out c.args.between (option_map node_value o) s) (sym c.in-Some.is)

@@ -5,7 +5,7 @@ use Rattle.nfs_values.specs.Moment.{moment_of}
 use Rattle.nfs_model.specs.volume.Inodes.{Inode, filled_blocks}
 use Rattle.nfs_model.specs.volume.Logical.{LogicalValue}
 use Rattle.inodes.specs.Inode.{inode_value, kind_value}
-use Rattle.service_names.specs.NodesMade.{folders_in}
+use Rattle.service_names.specs.NodesMade.{directories_in}
 use Rattle.service_names.specs.Naming.{node_value}
 use Rattle.service.specs.renames.Renaming.{IsWithin}
 use Rattle.service.proofs.renames.Few.{within-now, blocks-more, used-set}
@@ -25,7 +25,7 @@ set_inode-requires-2 c =
     (within-now (get c.args.held.now.own.inodes.inodes c.args.between.to.fileid.0) (inode_value c.args.between.to.inode)
     (c.requires.within c.args.between.to.fileid.0) c.requires.to) in
     let most = w.filled in
-    let more = blocks-more (folders_in (kind_value c.args.child.inode.kind)) (kind_value c.directory_now-before.result.kind) in
+    let more = blocks-more (directories_in (kind_value c.args.child.inode.kind)) (kind_value c.directory_now-before.result.kind) in
     let dated = ap (λ (i : Inode). filled_blocks i.kind) c.with_dates-dated.ensures in
     let added = used-set c.args.between.to.fileid.0 (inode_value c.with_dates-dated.result) c.args.held.now.own.inodes in
     let first = ap (λ (l : LogicalValue). l.inodes.used) c.set_inode.ensures.own in

@@ -1,4 +1,4 @@
 use Rattle.directories.proofs.sequences.part.Part.narrowed.Goals as goal
 
 pub returns : goal.returns
-returns g c = λ all h. c.narrowed-first.ensures.places all (rw (← c.self.view_is) at h)
+returns g c = λ all h. c.narrowed-first.ensures.positions all (rw (← c.self.view_is) at h)

@@ -1,6 +1,0 @@
-use Rattle.std.proofs.Common.{◌≡◌, None, replicate}
-use Rattle.desk.specs.Places.{all_granted}
-use Rattle.desk.proofs.opening.idle_places.Given as goal
-
-abbrev pub invariant-loop-done : goal.invariant-loop-done
-invariant-loop-done g l = all_granted l.places.items ≡ replicate l._done None
