@@ -4,8 +4,8 @@ use crate::event_count::EventCount;
 use std::sync::Wait;
 use std::sync::atomic::{AtomicU64, Ordering};
 
-/// How many connections came and have ended, wrapping at 2^64, and the bell that is rung where one
-/// ends.
+/// How many connections came and have ended, wrapping at 2^64, and the event count that is advanced
+/// where one ends.
 pub(crate) struct Ends {
     came: AtomicU64,
     count: AtomicU64,
