@@ -2,7 +2,7 @@
 use Rattle.std.proofs.Common.{◌≢◌, ℕ, zero, suc, ◌+◌, ◌<◌, ◌≤◌, length, refl, ap, arith, ◌⊎◌, inl, inr, ⊎_elim}
 use Rattle.nfs_model.specs.Tree.{Layout, Affinity, Volume, Logical, Stripe, Vbn, Range, stripes_of}
 use Rattle.affinity.specs.Numbers.{number_of, volume_number}
-use Rattle.affinity.specs.lemmas.SlotArray.{volume_number_next}
+use Rattle.affinity.specs.lemmas.Places.{volume_number_next}
 pub use Rattle.parcels.specs.lemmas.Nothing.{range-none, stripe-none, vbn-none, logical-none, volume-none, aggregate-none, serial-none}
 use Rattle.parcels.specs.lemmas.Below.{OnLogical, OnVbn, OnVolume}
 

@@ -299,11 +299,8 @@ impl<P: Family> SerialHeld<P> {
         layout: &Layout,
         _affinity: Affinity,
     )
-        requires node { IsNode (layout_of layout.now) (affinity_of _affinity) }
-        requires kind { kind_of (affinity_of _affinity) ≡ kinds.Serial }
-        requires vacant { AllVacant (layout_of layout.now) (affinity_of _affinity) (S.at shelf.old) }
-        requires allowed { AllAllowed (S.allows shelf.old)
-            (serial_parcels (layout_of layout.now) (affinity_of _affinity) self) }
+        requires { let L = layout_of layout.now in let a = affinity_of _affinity in
+            MayBeGiven L a kinds.Serial (S.at shelf.old) (S.allows shelf.old) (serial_parcels L a self) }
         ensures moved { AllMoved (S.at shelf.new)
             (serial_parcels (layout_of layout.now) (affinity_of _affinity) self) (S.at shelf.old) }
         ensures kept { S.keeps shelf.old shelf.new }

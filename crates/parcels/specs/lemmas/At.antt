@@ -8,7 +8,7 @@ use native.Mathlib.Decide.{ℕ_discrete}
 use Rattle.nfs_model.specs.Tree as trees
 use Rattle.nfs_model.specs.Tree.{Layout, Affinity, stripes_of, aggregate_of}
 use Rattle.affinity.specs.Numbers.{number_of, volume_number}
-use Rattle.affinity.specs.lemmas.SlotArray.{volume_number_next}
+use Rattle.affinity.specs.lemmas.Places.{volume_number_next}
 use Rattle.parcels.specs.declared.family.Parcel.TheVariants.{Range, Vbn, Stripe, Logical, Volume, Aggregate, Serial}
 use Rattle.parcels.specs.declared.sets.RangeHeld.{RangeHeld}
 use Rattle.parcels.specs.declared.sets.StripeHeld.{StripeHeld}
