@@ -12,8 +12,6 @@ mod incoming;
 mod laws;
 mod refusal;
 mod reply;
-#[cfg(test)]
-mod rows;
 mod volumes;
 
 pub use asking::{census, grow};

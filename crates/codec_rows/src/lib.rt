@@ -2,6 +2,8 @@
 #![tactic(auto)]
 
 #[cfg(test)]
+mod admin;
+#[cfg(test)]
 mod arguments;
 #[cfg(test)]
 mod bytes;

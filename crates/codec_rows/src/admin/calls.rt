@@ -1,7 +1,7 @@
 //! Records of calls.
 
 use super::memory::bytes_of;
-use crate::{AdminCall, call_record};
+use admin_client::{AdminCall, call_record};
 use nfs_values::VolumeNumber;
 
 /// CENSUS: one fragment of 40 bytes; the xid 7, a call, RPC version 2, program 0x20000001,

@@ -1,7 +1,7 @@
 //! What replies tell.
 
 use super::memory::bytes_of;
-use crate::{AdminFault, BlockTotals, CallRefusal, Growth, read_census, read_growth};
+use admin_client::{AdminFault, BlockTotals, CallRefusal, Growth, read_census, read_growth};
 use nfs_values::VolumeNumber;
 use xdr::Fault;
 

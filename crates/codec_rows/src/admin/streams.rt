@@ -1,7 +1,7 @@
 //! Calls over streams.
 
 use super::memory::{Broken, Memory, bytes_of};
-use crate::{AdminFault, Growth, census, grow, next_record};
+use admin_client::{AdminFault, Growth, census, grow, next_record};
 use nfs_values::VolumeNumber;
 use std::io::ErrorKind;
 
