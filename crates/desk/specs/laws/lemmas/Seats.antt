@@ -11,7 +11,7 @@ use Rattle.affinity.specs.Tree.{IsNode}
 use Rattle.affinity.specs.Numbers.{number_of, node_count, parents}
 use Rattle.affinity.specs.Ancestors.{IsTree, Covers, Excludes}
 use Rattle.affinity.specs.lemmas.Smaller.{length-parents}
-use Rattle.affinity.specs.lemmas.Standing.{parents-tree, number-slot, excludes-number, number-excludes}
+use Rattle.affinity.specs.lemmas.Standing.{parents-tree, number-place, excludes-number, number-excludes}
 use Rattle.parcels.specs.Exact.{HasExactly}
 use Rattle.depot_rule.specs.declared.view.View.{View}
 use Rattle.depot_rule.specs.declared.view.Entry.{Entry}
@@ -90,7 +90,7 @@ module _ {P C R : Type 0} (kind : P → Kind) (b : Books P C R) (lawful : fault_
 
   positive : (l : Lent P) (i : ℕ) → HasLent b i l → (k : ℕ) → Covers ps (number l.affinity) k → (0 < k) × (k < length ps)
   positive l i at k c =
-      let slot = number-slot b.layout l.affinity (h.backed i l at).node in
+      let slot = number-place b.layout l.affinity (h.backed i l at).node in
       let pos : 0 < k = ⊎_elim
       (λ (e : number l.affinity ≡ k). subst (λ (n : ℕ). 0 < n) e slot.0)
       (λ u. let s = above-smaller ps is-tree (number l.affinity) k u in (let p : 0 < k = omega arith in p))
@@ -146,7 +146,7 @@ module _ {P C R : Type 0} (kind : P → Kind) (b : Books P C R) (lawful : fault_
     pub begun-same : IsSame b begun_books
     begun-same k = covers-or-not ps (number a) k
         (λ c.
-        let slot = number-slot b.layout a node in
+        let slot = number-place b.layout a node in
         let pos : 0 < k = ⊎_elim (λ (e : number a ≡ k). subst (λ (n : ℕ). 0 < n) e slot.0)
         (λ u. let s = above-smaller ps is-tree (number a) k u in (let p : 0 < k = omega arith in p)) c in
         let lt : k < length ps = covers-below ps (number a) k pos slot.1 c in
@@ -264,7 +264,7 @@ module _ {P C R : Type 0} (kind : P → Kind) (b : Books P C R) (lawful : fault_
         ∙ overlaid-below b.layout b.lent (settled c) (settled b) k (settled-new k ∙ others k out))
 
     other-number : (j : ℕ) (m : Lent P) → HasLent b j m → j ≢ i → number m.affinity ≢ number l.affinity
-    other-number j m at ne e = let slot = number-slot b.layout m.affinity (h.backed j m at).node in
+    other-number j m at ne e = let slot = number-place b.layout m.affinity (h.backed j m at).node in
         covered-once i j l m lent at ne (number m.affinity) (inl (sym e)) (inl refl)
 
     ended-backed : (j : ℕ) (m : Lent P) → HasLent c j m → IsBacked kind b.layout w m

@@ -52,18 +52,18 @@ below layout a b more node e =
 
 module _ {P : Type 0} where
   stripe-placed : (o : Option (Option (FilerStripe P)))
-      → stripe_in {P = P} (in_place (λ (s : FilerStripe P). Some (parcels.Stripe s.own)) o) ≡ stripe_value (in_one o)
+      → stripe_in {P = P} (in_slot (λ (s : FilerStripe P). Some (parcels.Stripe s.own)) o) ≡ stripe_value (in_one o)
   stripe-placed None = refl
   stripe-placed (Some None) = refl
   stripe-placed (Some (Some s)) = refl
 
   range-placed : (o : Option (Option (FilerRange P)))
-      → range_in {P = P} (in_place (λ (r : FilerRange P). Some (parcels.Range r.own)) o) ≡ range_value (in_one o)
+      → range_in {P = P} (in_slot (λ (r : FilerRange P). Some (parcels.Range r.own)) o) ≡ range_value (in_one o)
   range-placed None = refl
   range-placed (Some None) = refl
   range-placed (Some (Some r)) = refl
 
-  spare-placed : (o : Option (Option (FilerAggregate P))) → spare_in {P = P} (in_place (λ (a : FilerAggregate P). Some (parcels.Aggregate a.own)) o)
+  spare-placed : (o : Option (Option (FilerAggregate P))) → spare_in {P = P} (in_slot (λ (a : FilerAggregate P). Some (parcels.Aggregate a.own)) o)
       ≡ spare_value (in_one o)
   spare-placed None = refl
   spare-placed (Some None) = refl
@@ -184,7 +184,7 @@ module _ {P : Type 0} (layout : Layout) (v : ℕ) where
   }
 
   pub volume-in-place : (f : ℕ → Option (FilerParcel P)) (o : Option (Option (FilerVolume P)))
-      → VolumeIs layout v f (λ k. in_place (λ held. volume_parcels layout (Volume v) held k) o)
+      → VolumeIs layout v f (λ k. in_slot (λ held. volume_parcels layout (Volume v) held k) o)
       → volume_lens.of (contents_of layout f v) ≡ volume_value (stripes_of layout v) (in_one o)
   volume-in-place f None is = volume-missing f is
   volume-in-place f (Some None) is = volume-missing f is
@@ -233,11 +233,11 @@ module _ {P : Type 0} (layout : Layout) (lawful : fault_of layout ≡ None) wher
   -- a volume that is on it
   on-aggregate : (a v : ℕ) → v < length layout.volumes → aggregate_of layout v ≡ a → (held : FilerAggregate P) (f : ℕ → Option (FilerParcel P))
       → VolumeIs layout v f (aggregate_parcels layout (Aggregate a) held)
-      → VolumeIs layout v f (λ k. in_place (λ volume. volume_parcels layout (Volume v) volume k) (slice_get held.volumes.at v))
+      → VolumeIs layout v f (λ k. in_slot (λ volume. volume_parcels layout (Volume v) volume k) (slice_get held.volumes.at v))
   on-aggregate a v on e held f is =
       let known = aggregate_known layout v lawful on in
       let found : (k : ℕ) → IsOfVolume layout v k → aggregate_parcels layout (Aggregate a) held k
-      ≡ in_place (λ volume. volume_parcels layout (Volume v) volume k) (slice_get held.volumes.at v) =
+      ≡ in_slot (λ volume. volume_parcels layout (Volume v) volume k) (slice_get held.volumes.at v) =
       λ k of. ap (λ (b : ℕ). aggregate_parcels layout (Aggregate b) held k) (sym e) ∙ aggregate-volume layout v k held on known of in
       record {
         logical = is.logical ∙ found (number_of layout (Logical v)) (omega arith, omega arith);
@@ -287,7 +287,7 @@ module _ {P : Type 0} (layout : Layout) (lawful : fault_of layout ≡ None) wher
   -- a volume's nodes in the parcels of the root
   on-serial : (v : ℕ) → v < length layout.volumes → (held : FilerSerial P) (f : ℕ → Option (FilerParcel P))
       → VolumeIs layout v f (serial_parcels layout Serial held)
-      → VolumeIs layout v f (λ k. in_place (λ aggregate. aggregate_parcels layout (Aggregate (aggregate_of layout v)) aggregate k)
+      → VolumeIs layout v f (λ k. in_slot (λ aggregate. aggregate_parcels layout (Aggregate (aggregate_of layout v)) aggregate k)
       (slice_get held.aggregates.at (aggregate_of layout v)))
   on-serial v on held f is =
       let known = aggregate_known layout v lawful on in
@@ -298,7 +298,7 @@ module _ {P : Type 0} (layout : Layout) (lawful : fault_of layout ≡ None) wher
       }
 
   volume-of-aggregate : (v : ℕ) → v < length layout.volumes → (f : ℕ → Option (FilerParcel P)) (o : Option (Option (FilerAggregate P)))
-      → VolumeIs layout v f (λ k. in_place (λ aggregate. aggregate_parcels layout (Aggregate (aggregate_of layout v)) aggregate k) o)
+      → VolumeIs layout v f (λ k. in_slot (λ aggregate. aggregate_parcels layout (Aggregate (aggregate_of layout v)) aggregate k) o)
       → volume_lens.of (contents_of layout f v) ≡ volume_placed layout (in_one o) v
   volume-of-aggregate v on f None is = volume-missing layout v f is
   volume-of-aggregate v on f (Some None) is = volume-missing layout v f is
