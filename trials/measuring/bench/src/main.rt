@@ -1,7 +1,4 @@
-//! The speed of an engine, and of the parts that it is made of; and scripts, with what they print.
-//!
-//! `bench scripts` runs scripts of events from its standard input, each behind a line that begins
-//! with `=== ` and names it, and prints of each that line, what it prints, and its status.
+//! The speed of an engine, and of the parts that it is made of.
 //!
 //! `bench codecs COUNT` decodes COUNT records and encodes COUNT replies of each kind of call, and
 //! prints how many were done in a second.
@@ -36,7 +33,6 @@ mod data;
 mod grants;
 mod printing;
 mod rates;
-mod scripts;
 mod state;
 mod work;
 
@@ -56,8 +52,8 @@ fn asked(words: &[String]) -> (&str, u32) {
     }
 }
 
-/// Measures what the words of the command line ask for, or runs scripts.
-fn run<R: Clock + Input + Print + AllocGlobal + Files + Threads + Wait + Sync>(
+/// Measures what the words of the command line ask for.
+fn run<R: Clock + Print + AllocGlobal + Files + Threads + Wait + Sync>(
     rt: &R,
     words: &[String],
 ) -> io::Result<()> {
@@ -68,7 +64,6 @@ fn run<R: Clock + Input + Print + AllocGlobal + Files + Threads + Wait + Sync>(
         "state" => state::run::run(rt, count),
         "data" => data::run::run(rt, count),
         "calls" => calls::run::run(rt, count),
-        "scripts" => scripts::run(rt),
         _ => Ok(()),
     }
 }
