@@ -1,4 +1,0 @@
-//! Records that are decoded, and replies that are encoded.
-
-pub mod run;
-mod sample;

@@ -1,5 +1,0 @@
-//! The bytes of files.
-
-mod copies;
-mod plain;
-pub mod run;
