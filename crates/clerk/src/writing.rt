@@ -73,7 +73,6 @@ impl Clerk {
         now: u64,
         err: &mut E,
     ) {
-        journal.look();
         self.put_events(rt, journal, err);
         counts.gather(journal);
         counts.put(&mut self.page, journal, now, err);
@@ -103,6 +102,8 @@ pub fn write_until_end<R: Wait + Clock, I: Inquiry, E: Write>(
 ) {
     let mut counts = Counts::new(period, milliseconds(rt));
     for _ in rt.forever() {
+        // before it is asked whether the end came, so that an end that comes later wakes the clerk
+        journal.look();
         let has_ended = journal.has_ended();
         let now = if has_ended {
             u64::MAX
