@@ -1,5 +1,5 @@
 -- A record's call, admitted.
-use Rattle.std.proofs.Common.{◌≡◌, ◌≤◌, ℕ, false, List, [], ◌∷◌, ◌++◌, length, Option, Some, None, sym, ap, ◌∙◌, arith}
+use Rattle.std.proofs.Common.{◌≡◌, ◌≤◌, ℕ, false, List, [], ◌∷◌, ◌++◌, length, Option, Some, None, refl, sym, ap, ◌∙◌, arith}
 use Rattle.std.specs.Prelude.{slice_get}
 use Rattle.std.proofs.lemmas.List.{map_push}
 use Rattle.nfs_model.specs.Types as types
@@ -15,6 +15,7 @@ use Rattle.nfs_model.specs.Events.Feed.{admit}
 use Rattle.nfs_values.specs.declared.call.Call.{Call}
 use Rattle.nfs_values.specs.Call.{call_of}
 use Rattle.nfs_values.specs.Credential.{credential_of}
+use Rattle.nfs_values.specs.Reply.{refusal_of}
 use Rattle.rpc_msg.specs.declared.handle_form.HandleForm.{HandleForm}
 use Rattle.rpc_msg.specs.declared.offer.Offer.{Offer}
 use Rattle.rpc_msg.specs.Offer.{form_of}
@@ -26,10 +27,13 @@ use Rattle.scheduler.specs.declared.message.Origin.{Origin}
 use Rattle.affinity.specs.Affinity.{affinity_of}
 use Rattle.engine_feed.specs.declared.state.ConnectionState.{ConnectionState}
 use Rattle.engine_feed.specs.declared.state.CallsState.{CallsState}
+use Rattle.rpc_msg.specs.declared.record.Request.{Request}
+use Rattle.rpc_msg.specs.declared.record.Request.TheVariants as requests
+use Rattle.engine_feed.specs.Admission.{reply_at_once}
 use Rattle.engine_feed.specs.Codec.{reply_record}
 use Rattle.engine_feed.specs.lemmas.Codec.{reply_record_is}
 use Rattle.engine_feed.specs.Limit.{reply_limit}
-use Rattle.engine_feed.specs.Seen.{connection_of, layout_in, waiting_of, finished_of, message_of, entry_at}
+use Rattle.engine_feed.specs.Seen.{asked_of, connection_of, layout_in, waiting_of, finished_of, message_of, entry_at}
 use Rattle.engine_feed.specs.Words.{Finishes, Waits, HasHeard}
 use Rattle.engine_feed.specs.lemmas.Lists.{put-same}
 use Rattle.engine_feed.proofs.Parts.{lists-same}
@@ -82,6 +86,29 @@ at-once offer calls calls' c c' origin call credential answer told law h a is f 
     ∙ ap (worlds.finish setup v (entry_at origin asked None start_of_times false)) reply
     ∙ ap (λ (o : Option trees.Affinity). admit setup v n origin.number (record { xid = origin.xid; asked = asked }) o) (sym nowhere)
 
+-- and so is a record that is refused, or that wasn't decoded
+pub answered : (offer : Offer) (calls calls' : CallsState) (c c' : ConnectionState) (origin : Origin) (request : Request)
+    (reply told : types.Reply) → StaysWithoutHome
+    → home_of_asked (layout_in calls) (asked_of request) ≡ None → reply ≡ reply_at_once (layout_in calls) (asked_of request)
+    → told ≡ reply_told (form_of offer) reply
+    → Finishes calls c (entry_at origin (asked_of request) None start_of_times false) told calls' c'
+    → HasHeard offer calls c origin (asked_of request) false calls' c'
+answered offer calls calls' c c' origin (requests.Call call credential) reply told law h e is f setup v k p =
+    let answer : types.Answer = answer_without_home (layout_in calls) (call_of call) in
+    at-once offer calls calls' c c' origin (call_of call) (credential_of credential) answer told law h refl
+    (is ∙ ap (λ (r : types.Reply). reply_told (form_of offer) r) e) f setup v k p
+answered offer calls calls' c c' origin (requests.Refused refusal) reply told law h e is f setup v k p =
+    let refused : types.Reply = refusal_of refusal in
+    let same : told ≡ reply_told (form_of offer) refused = is ∙ ap (λ (r : types.Reply). reply_told (form_of offer) r) e in
+    f setup v refused
+    (ap (λ (q : worlds.Codec). q.reply_record origin.xid refused) k.codec ∙ ap (λ (x : types.Reply). reply_record origin.xid x) (sym same))
+    p.shows p.connection
+answered offer calls calls' c c' origin requests.Undecoded reply told law h e is f setup v k p =
+    let same : told ≡ reply_told (form_of offer) types.SystemError = is ∙ ap (λ (r : types.Reply). reply_told (form_of offer) r) e in
+    f setup v types.SystemError
+    (ap (λ (q : worlds.Codec). q.reply_record origin.xid types.SystemError) k.codec ∙ ap (λ (x : types.Reply). reply_record origin.xid x) (sym same))
+    p.shows p.connection
+
 -- ---- the room of a reply
 
 -- of a reply that tells of no volume
@@ -89,14 +116,13 @@ room-bare : (call : types.Call) → reply_room 0 call ≤ reply_limit
 room-bare types.Null = omega arith
 room-bare call = omega arith
 
-pub at-once-fits : (form : HandleForm) (layout : trees.Layout) (xid : ℕ) (call : types.Call) (answer : types.Answer) (told : types.Reply)
-    → answer ≡ answer_without_home layout call → told ≡ reply_told form (types.Success answer)
+pub at-once-fits : (form : HandleForm) (layout : trees.Layout) (xid : ℕ) (call : types.Call) (reply : types.Reply)
+    → reply ≡ types.Success (answer_without_home layout call)
     → length (replies.reply_record xid (reply_told form (types.Success (answer_without_home layout call)))) ≤ reply_room 0 call
-    → length (reply_record xid told) ≤ reply_limit
-at-once-fits form layout xid call answer told e is h =
+    → length (reply_record xid (reply_told form reply)) ≤ reply_limit
+at-once-fits form layout xid call reply e h =
     let at : types.Reply = reply_told form (types.Success (answer_without_home layout call)) in
-    let same : length (reply_record xid told) ≡ length (replies.reply_record xid at) =
-    ap (λ (x : types.Reply). length (reply_record xid x)) (is ∙ ap (λ (x : types.Answer). reply_told form (types.Success x)) e)
-    ∙ ap (λ bs. length bs) (reply_record_is xid at) in
+    let same : length (reply_record xid (reply_told form reply)) ≡ length (replies.reply_record xid at) =
+    ap (λ (x : types.Reply). length (reply_record xid (reply_told form x))) e ∙ ap (λ bs. length bs) (reply_record_is xid at) in
     let room = room-bare call in
     omega (arith, same, room, h)

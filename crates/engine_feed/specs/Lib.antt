@@ -7,5 +7,6 @@ pub mod Records
 pub mod Feeding
 pub mod Within
 pub mod Sound
+pub mod Admission
 pub mod Words
 pub mod lemmas

@@ -13,9 +13,9 @@ use Rattle.affinity.specs.Affinity.{affinity_of}
 use Rattle.affinity.specs.Layout as layouts
 use Rattle.scheduler.specs.declared.message.Message.{Message}
 use Rattle.scheduler.specs.declared.message.Origin.{Origin}
-use Rattle.engine_feed.specs.declared.message.Request.{Request}
-use Rattle.engine_feed.specs.declared.message.Request.TheVariants as requests
-use Rattle.engine_feed.specs.declared.message.Heard.{Heard}
+use Rattle.rpc_msg.specs.declared.record.Request.{Request}
+use Rattle.rpc_msg.specs.declared.record.Request.TheVariants as requests
+use Rattle.rpc_msg.specs.declared.record.Heard.{Heard}
 use Rattle.engine_feed.specs.declared.message.FinishedCall.{FinishedCall}
 use Rattle.engine_feed.specs.declared.state.ConnectionState.{ConnectionState}
 use Rattle.engine_feed.specs.declared.state.CallsState.{CallsState}
@@ -25,11 +25,7 @@ use Rattle.engine_feed.specs.declared.state.CallsState.{CallsState}
 abbrev pub asked_of : Request → types.Asked
 asked_of (requests.Call call credential) = types.Ask (call_of call) (credential_of credential)
 asked_of (requests.Refused refusal) = types.Refused (refusal_of refusal)
-
--- what an entry's record asks, where it was decoded
-abbrev pub asked_in : Option Request → types.Asked
-asked_in None = types.Undecoded
-asked_in (Some request) = asked_of request
+asked_of requests.Undecoded = types.Undecoded
 
 abbrev pub heard_of : Heard → worlds.Heard
 heard_of h = record { xid = h.xid; asked = asked_of h.request }
@@ -50,7 +46,7 @@ entry_of e =
       connection = e.origin.connection.0;
       number = e.origin.number;
       xid = e.origin.xid;
-      asked = asked_in e.request;
+      asked = asked_of e.request;
       affinity = option_map affinity_of e.affinity;
       moment = moment_of e.moment;
       starved = e.starved;

@@ -4,9 +4,7 @@ ghost use Rattle.std.specs.Prelude.{◌≡◌, ◌+◌, ◌≤◌, ◌<◌, true
 ghost use Rattle.nfs_model.specs.Types as types;
 ghost use Rattle.nfs_model.specs.Server.{start_of_times};
 ghost use Rattle.rpc_msg.specs.declared.offer.Offer.{Offer as OfferSeen};
-ghost use Rattle.nfs_values.specs.Call.{call_of};
-ghost use Rattle.nfs_values.specs.Credential.{credential_of};
-ghost use Rattle.nfs_values.specs.Reply.{refusal_of, reply_of};
+ghost use Rattle.nfs_values.specs.Reply.{reply_of};
 ghost use Rattle.engine_feed.specs.Codec.{reply_record};
 ghost use Rattle.engine_feed.specs.Limit.{reply_limit};
 ghost use Rattle.engine_feed.specs.Seen.{asked_of, layout_in, pending, entry_at};
@@ -14,14 +12,12 @@ ghost use Rattle.engine_feed.specs.Sound.{IsSoundConnection, AreSound, IsAdmitte
 ghost use Rattle.engine_feed.specs.Sound.{HasRoomToReply, HaveRoomToAdmit};
 ghost use Rattle.engine_feed.specs.Words.{HasHeard, Finishes, Waits, Keeps};
 
-use crate::at_once::answer_at_once;
+use crate::admission::{message_for, reply_at_once};
 use crate::finishing::{keep_entry, write_reply};
-use crate::message::Request;
 use crate::state::{CallsState, ConnectionState};
-use affinity::homes::home_of;
 use nfs_laws::laws::without_home_stays;
-use nfs_values::{Call, Credential, Moment, Refusal, Reply};
-use rpc_msg::{Offer, refusals_fit, replies_fit, room_of_reply, tell};
+use nfs_values::{Call, Moment, Refusal, Reply};
+use rpc_msg::{Offer, Request, refusals_fit, tell};
 use scheduler::laws::nodes_have_queues;
 use scheduler::{Message, Origin};
 
@@ -44,27 +40,6 @@ fn answer(
     ensures keeps { Keeps calls.old connection.old origin.connection.0 calls.new connection.new }
 {
     write_reply(connection, origin.xid, reply);
-    keep_entry(calls, origin, Some(request), None, Moment::START, false);
-}
-
-/// Refuses a record.
-fn refuse(
-    connection: &mut ConnectionState,
-    calls: &mut CallsState,
-    origin: Origin,
-    refusal: Refusal,
-)
-    requires connection { IsSoundConnection connection.old }
-    requires calls { AreSound calls.old }
-    requires room { HasRoomToReply connection.old }
-    requires entry { HaveRoomToAdmit calls.old }
-    ensures admitted { (offer : OfferSeen) → HasHeard offer calls.old connection.old origin
-        (types.Refused (refusal_of refusal)) false calls.new connection.new }
-    ensures keeps { Keeps calls.old connection.old origin.connection.0 calls.new connection.new }
-{
-    refusals_fit();
-    write_reply(connection, origin.xid, &Reply::Refused(refusal));
-    let request = Some(Request::Refused(refusal));
     keep_entry(calls, origin, request, None, Moment::START, false);
 }
 
@@ -84,7 +59,7 @@ pub(crate) fn starve(connection: &mut ConnectionState, calls: &mut CallsState, o
         origin.xid,
         &Reply::Refused(Refusal::SystemError),
     );
-    keep_entry(calls, origin, None, None, Moment::START, true);
+    keep_entry(calls, origin, Request::Undecoded, None, Moment::START, true);
 }
 
 /// Lets a message of a connection wait, which keeps the room of its reply.
@@ -104,47 +79,6 @@ fn wait(connection: &mut ConnectionState, calls: &mut CallsState, message: Messa
     calls.waiting.put_back(message);
 }
 
-/// Lets a call wait, or answers it where it needs no affinity.
-fn admit_call(
-    connection: &mut ConnectionState,
-    calls: &mut CallsState,
-    offer: Offer,
-    origin: Origin,
-    call: Call,
-    credential: Credential,
-)
-    requires connection { IsSoundConnection connection.old }
-    requires calls { AreSound calls.old }
-    requires room { HasRoomToReply connection.old }
-    requires entry { HaveRoomToAdmit calls.old }
-    requires places { pending calls.old < 1024 }
-    ensures admitted { HasHeard offer calls.old connection.old origin
-        (types.Ask (call_of call) (credential_of credential)) false calls.new connection.new }
-    ensures keeps { Keeps calls.old connection.old origin.connection.0 calls.new connection.new }
-{
-    match home_of(&call, &calls.layout) {
-        Some(affinity) => {
-            let room = room_of_reply(&call, calls.layout.volume_count() as u32);
-            let message = Message {
-                origin,
-                call,
-                credential,
-                affinity,
-                room,
-            };
-            wait(connection, calls, message);
-        }
-        None => {
-            without_home_stays();
-            replies_fit();
-            let mut reply = Reply::Success(answer_at_once(connection.alloc, &call, &calls.layout));
-            tell(&mut reply, offer.handles());
-            let request = Request::Call { call, credential };
-            answer(connection, calls, origin, request, &reply);
-        }
-    }
-}
-
 /// Lets the call of a record wait, or answers the record at once.
 pub(crate) fn admit(
     connection: &mut ConnectionState,
@@ -162,10 +96,13 @@ pub(crate) fn admit(
         calls.new connection.new }
     ensures keeps { Keeps calls.old connection.old origin.connection.0 calls.new connection.new }
 {
-    match request {
-        Request::Call { call, credential } => {
-            admit_call(connection, calls, offer, origin, call, credential);
+    match message_for(&calls.layout, origin, request) {
+        Ok(message) => wait(connection, calls, message),
+        Err(request) => {
+            without_home_stays();
+            let mut reply = reply_at_once(connection.alloc, &calls.layout, &request);
+            tell(&mut reply, offer.handles());
+            answer(connection, calls, origin, request, &reply);
         }
-        Request::Refused(refusal) => refuse(connection, calls, origin, refusal),
     }
 }

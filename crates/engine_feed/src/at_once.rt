@@ -15,7 +15,7 @@ use nfs_values::{Answer, Call, FileHandle, Status};
 use std::alloc::Global;
 
 /// What a call without an affinity is answered under a layout.
-pub fn answer_at_once(alloc: Global, call: &Call, layout: &Layout) -> Answer
+pub(crate) fn answer_at_once(alloc: Global, call: &Call, layout: &Layout) -> Answer
     ensures { answer_of result ≡ answer_without_home (layout_of layout.now) (call_of call.now) }
 {
     match call {

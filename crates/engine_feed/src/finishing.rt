@@ -6,14 +6,15 @@ ghost use Rattle.nfs_values.specs.Moment.{moment_of};
 ghost use Rattle.nfs_values.specs.Reply.{reply_of};
 ghost use Rattle.affinity.specs.Affinity.{affinity_of};
 ghost use Rattle.engine_feed.specs.Codec.{reply_record};
-ghost use Rattle.engine_feed.specs.Seen.{asked_in, entry_at, entry_of};
+ghost use Rattle.engine_feed.specs.Seen.{asked_of, entry_at, entry_of};
 ghost use Rattle.engine_feed.specs.Sound.{IsWrittenTo, KeepsEntry};
 
-use crate::message::{FinishedCall, Request};
+use crate::message::FinishedCall;
 use crate::reply::put_reply;
 use crate::state::{CallsState, ConnectionState};
 use affinity::Affinity;
 use nfs_values::{Moment, Reply};
+use rpc_msg::Request;
 use scheduler::Origin;
 
 /// Writes a reply record, for which there is room, and answers how many bytes it has.
@@ -33,14 +34,14 @@ pub(crate) fn write_reply(to: &mut ConnectionState, xid: u32, reply: &Reply) -> 
 pub(crate) fn keep_entry(
     calls: &mut CallsState,
     origin: Origin,
-    request: Option<Request>,
+    request: Request,
     affinity: Option<Affinity>,
     moment: Moment,
     starved: bool,
 )
     requires { vec_len calls.old.finished < vec_capacity calls.old.finished }
     ensures kept { map entry_of calls.new.finished.items ≡ map entry_of calls.old.finished.items
-        ++ entry_at origin (asked_in request) (option_map affinity_of affinity)
+        ++ entry_at origin (asked_of request) (option_map affinity_of affinity)
         (moment_of moment) starved ∷ [] }
     ensures keeps { KeepsEntry calls.old calls.new }
 {

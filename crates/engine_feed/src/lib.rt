@@ -2,6 +2,7 @@
 //! and whether these are answered at once or wait.
 #![tactic(auto)]
 
+mod admission;
 mod admitting;
 mod arrival;
 mod at_once;
@@ -18,9 +19,9 @@ mod reply;
 mod state;
 mod stop;
 
-pub use at_once::answer_at_once;
+pub use admission::{message_for, reply_at_once};
 pub use calls::Calls;
 pub use connection::OpenConnection;
-pub use message::{FinishedCall, Heard, Request};
+pub use message::FinishedCall;
 pub use reading::{RecordRead, read_record};
 pub use stop::{Stop, StreamFault};

@@ -9,9 +9,9 @@ ghost use Rattle.engine_feed.specs.Sound.{IsSoundConnection, AreSound, IsAdmitte
 ghost use Rattle.engine_feed.specs.Words.{HasBegun, HasPutBack, HasLeft};
 
 use crate::finishing::{keep_entry, write_reply};
-use crate::message::Request;
 use crate::state::{CallsState, ConnectionState};
 use nfs_values::{Call, Moment, Reply};
+use rpc_msg::Request;
 use scheduler::laws::nodes_have_queues;
 use scheduler::{Message, NoSuchCall};
 
@@ -55,7 +55,7 @@ pub(crate) fn leave(calls: &mut CallsState, message: Message<Call>, moment: Mome
         call: message.call,
         credential: message.credential,
     };
-    keep_entry(calls, origin, Some(request), affinity, moment, starved);
+    keep_entry(calls, origin, request, affinity, moment, starved);
     calls.running -= 1;
 }
 

@@ -4,9 +4,8 @@ ghost use Rattle.std.specs.Prelude.{◌≡◌};
 ghost use Rattle.engine_feed.specs.Codec.{heard};
 ghost use Rattle.engine_feed.specs.Records.{IsReadAs, fault_of};
 
-use crate::message::{Heard, Request};
 use crate::stop::StreamFault;
-use rpc_msg::Offer;
+use rpc_msg::{Heard, Offer, Request};
 use std::alloc::Global;
 
 /// What was read of a record.
@@ -35,16 +34,10 @@ pub fn read_record(alloc: Global, record: Vec<u8>, offer: Offer) -> RecordRead
 {
     match rpc_msg::read_record_of(alloc, record, offer) {
         Err(fault) => RecordRead::Fault(stream_fault(fault)),
-        Ok(rpc_msg::Heard { xid, request }) => match request {
-            rpc_msg::Request::Call { call, credential } => RecordRead::Heard(Heard {
-                xid,
-                request: Request::Call { call, credential },
-            }),
-            rpc_msg::Request::Refused(refusal) => RecordRead::Heard(Heard {
-                xid,
-                request: Request::Refused(refusal),
-            }),
-            rpc_msg::Request::Undecoded => RecordRead::Undecoded(xid),
+        Ok(heard) => match &heard.request {
+            Request::Call { .. } => RecordRead::Heard(heard),
+            Request::Refused(_) => RecordRead::Heard(heard),
+            Request::Undecoded => RecordRead::Undecoded(heard.xid),
         },
     }
 }

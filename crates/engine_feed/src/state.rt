@@ -2,10 +2,11 @@
 
 ghost use Rattle.std.specs.Prelude.{◌≡◌, ◌≤◌};
 
-use crate::message::{FinishedCall, Heard};
+use crate::message::FinishedCall;
 use crate::stop::StreamFault;
 use affinity::Layout;
 use nfs_values::Call;
+use rpc_msg::Heard;
 use rpc_record::Reassembler;
 use scheduler::Waiting;
 use std::alloc::Global;

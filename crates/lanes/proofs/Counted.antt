@@ -9,7 +9,7 @@ use Rattle.turns.specs.Balance.{Passed, Weight, by_key, by_entry, by_kept, Filer
 use Rattle.turns.specs.Turns.{Standing, standing_of}
 use Rattle.turns.specs.Tends.{kept_in}
 use Rattle.turns.specs.Words.{entries_in, passed, IsSameWorker}
-use Rattle.turns.specs.declared.message.Message.{Message}
+use Rattle.turns.specs.Messages.{Message}
 use Rattle.turns.specs.declared.shared_waiting.pass.Pass.{Pass}
 use Rattle.turns.specs.declared.worker.Worker.{Worker}
 use Rattle.turns.specs.shared_waiting.Balance.{IsWhole, Leaves, added, both}

@@ -23,9 +23,8 @@ use Rattle.nfs_values.specs.Call.{call_of}
 use Rattle.turns.specs.Running.{IsOnState, LeadsTo, RunsAbove}
 use Rattle.turns.specs.shared_waiting.Passes.{IsOf}
 use Rattle.nfs_model.specs.volume.Codes.{coded_range, coded_stripe, coded_logical}
-use Rattle.turns.specs.Messages.{IsPlaced}
+use Rattle.turns.specs.Messages.{IsPlaced, Message}
 use Rattle.turns.specs.Words.{layout_in, layout_known, verifier_in, seat_view, passed, HasOpened, IsHandIn, IsAt}
-use Rattle.turns.specs.declared.message.Message.{Message}
 use Rattle.turns.specs.declared.shared.Filer.{Filer}
 use Rattle.turns.specs.declared.worker.Worker.{Worker}
 

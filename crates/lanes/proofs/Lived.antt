@@ -17,8 +17,9 @@ use Rattle.nfs_model.specs.volume.lemmas.Numbered.{itself, get-insert_at}
 use Rattle.outboxes.specs.Boxes.{Addressed, Boxes, opened, put, shut}
 use Rattle.outboxes.specs.Messages.{ReplyMessage}
 use Rattle.turns.specs.Balance.{FilerEntry, Weight, by_entry, by_key}
-use Rattle.turns.specs.declared.message.Message.{Message}
-use Rattle.tcp_front.specs.Admitted.{calls_of, seen_of}
+use Rattle.turns.specs.Messages.{Message}
+use Rattle.engine_feed.specs.Seen.{message_of}
+use Rattle.tcp_front.specs.Admitted.{calls_of}
 use Rattle.tcp_front.specs.Arrivals.{Arrival, arrivals}
 use Rattle.lanes.specs.declared.connection.Connection.{Connection}
 use Rattle.lanes.specs.Connections.{number_of}
@@ -54,13 +55,13 @@ put-step (x ∷ xs) b = put-step xs (put x b)
 -- ---- messages that are seen as the same
 
 -- more messages weigh more
-more-weigh : (h : Weight) (ms ms' : List Message) (xs : List worlds.Message) → map seen_of ms' ≡ map seen_of ms ++ xs
+more-weigh : (h : Weight) (ms ms' : List Message) (xs : List worlds.Message) → map message_of ms' ≡ map message_of ms ++ xs
     → total (by_key h) ms ≤ total (by_key h) ms'
 more-weigh h ms ms' xs e =
     let a = total-seen h ms in
     let b = total-seen h ms' in
-    let c : total (weigh_seen h) (map seen_of ms') ≡ total (weigh_seen h) (map seen_of ms ++ xs) = ap (total (weigh_seen h)) e in
-    let d = total-append (weigh_seen h) (map seen_of ms) xs in omega (arith, a, b, c, d)
+    let c : total (weigh_seen h) (map message_of ms') ≡ total (weigh_seen h) (map message_of ms ++ xs) = ap (total (weigh_seen h)) e in
+    let d = total-append (weigh_seen h) (map message_of ms) xs in omega (arith, a, b, c, d)
 
 -- ---- one key
 
@@ -111,7 +112,7 @@ module _ {D : Type 0} (unread written : D → Option (List ℕ)) (layout : Layou
   story-begins entries messages boxes slots none no_message within step next vacant = record {
     came = [];
     endings = [];
-    admitted = ap (map seen_of) no_message;
+    admitted = ap (map message_of) no_message;
     finished = sym (ap served_in none);
     at_once = refl;
     once = λ h. let e = ap (total (by_entry h)) none in omega (arith, e);
@@ -322,7 +323,7 @@ module _ {D : Type 0} (unread written : D → Option (List ℕ)) (layout : Layou
           (λ other d at is. sets.1 other (other-key key c was k other d n at is) ∙ at) (s.each k few))
 
       pub story-reads : (messages' : List Message) (heard : List Heard) (boxes' : Boxes)
-          → map seen_of messages' ≡ map seen_of messages ++ calls_of (arrivals layout (number_of c) c.stream.records heard)
+          → map message_of messages' ≡ map message_of messages ++ calls_of (arrivals layout (number_of c) c.stream.records heard)
           → boxes' ≡ all_put (map (answer_told (form_of offer)) (answered_of (arrivals layout (number_of c) c.stream.records heard))) boxes
           → ((before : List Heard) → Reads offer unread c.opened.value c before → Reads offer unread c.opened.value c' (before ++ heard))
           → ((waiting replies : List ReplyMessage) → Writes written c.opened.value c waiting replies → Writes written c.opened.value c' waiting replies)

@@ -11,8 +11,9 @@ use Rattle.service.specs.declared.job.Job.{Job}
 use Rattle.service.specs.declared.job.Job.TheVariants.{Serve, Inner}
 use Rattle.turns.specs.Balance.{FilerEntry, Weight, by_entry, by_job, by_key}
 use Rattle.turns.specs.Jobs.{job_reply_of}
-use Rattle.turns.specs.declared.message.Message.{Message}
-use Rattle.tcp_front.specs.Admitted.{calls_of, seen_of}
+use Rattle.turns.specs.Messages.{Message}
+use Rattle.engine_feed.specs.Seen.{message_of}
+use Rattle.tcp_front.specs.Admitted.{calls_of}
 use Rattle.tcp_front.specs.Arrivals.{Arrival, Waits, Answered}
 use Rattle.lanes.specs.Intakes.{answered_of}
 use Rattle.lanes.specs.Story.{of_connection, Ending, Served, AtOnce, answer_to, with_reply, replies_to, served_of, at_once_of, with_served, served_in}
@@ -45,7 +46,7 @@ weigh_seen h m = h m.connection m.number m.xid m.asked
 abbrev weigh_reply : ℕ → Addressed → ℕ
 weigh_reply n a = one_if (a.connection == n)
 
-pub total-seen : (h : Weight) (ms : List Message) → total (weigh_seen h) (map seen_of ms) ≡ total (by_key h) ms
+pub total-seen : (h : Weight) (ms : List Message) → total (weigh_seen h) (map message_of ms) ≡ total (by_key h) ms
 total-seen h [] = refl
 total-seen h (m ∷ ms) = let rest = total-seen h ms in omega (arith, rest)
 
@@ -92,12 +93,12 @@ no-replies n (AtOnce a ∷ xs) e f =
 
 -- where nothing came of a connection, nothing that ended is a reply to it
 pub unheard : (n : ℕ) (came : List Arrival) (endings : List Ending) (entries : List FilerEntry) (put : List Message)
-    → map seen_of put ≡ calls_of came → served_of endings ≡ served_in entries → at_once_of endings ≡ answered_of came
+    → map message_of put ≡ calls_of came → served_of endings ≡ served_in entries → at_once_of endings ≡ answered_of came
     → ((h : Weight) → total (by_entry h) entries ≤ total (by_key h) put) → of_connection n came ≡ [] → replies_to n endings ≡ []
 unheard n came endings entries put admitted finished at_once once none =
     let h = of_number n in
     let a = total-seen h put in
-    let b : total (weigh_seen h) (map seen_of put) ≡ total (weigh_seen h) (calls_of came) = ap (total (weigh_seen h)) admitted in
+    let b : total (weigh_seen h) (map message_of put) ≡ total (weigh_seen h) (calls_of came) = ap (total (weigh_seen h)) admitted in
     let c = none-calls n came none in
     let d = once h in
     let e = total-served h entries in

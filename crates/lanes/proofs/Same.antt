@@ -6,12 +6,11 @@ use Rattle.depot.specs.Words as depots
 use Rattle.depot.specs.Words.{IsSeatHere}
 use Rattle.depot_rule.specs.History.{entries_of}
 use Rattle.nfs_model.specs.Parts.{Hand}
-use Rattle.turns.specs.declared.message.Message.{Message}
 use Rattle.turns.specs.declared.shared.Filer.{Filer}
 use Rattle.turns.specs.declared.shared_waiting.pass.SharedWaiting.{SharedWaiting}
 use Rattle.turns.specs.declared.worker.Worker.{Worker}
 use Rattle.turns.specs.Balance.{Passed}
-use Rattle.turns.specs.Messages.{IsPlaced}
+use Rattle.turns.specs.Messages.{IsPlaced, Message}
 use Rattle.turns.specs.Turns.{HasShareOf}
 use Rattle.turns.specs.Words.{entries_in, layout_in, layout_known, passed, seats_in, verifier_in, HasOpened, IsAt, IsHandIn, IsSameWorker}
 use Rattle.turns.specs.Words.{TakesFrom}

@@ -32,7 +32,7 @@ use Rattle.turns.specs.Balance.{FilerEntry, Passed, Weight, by_entry, by_key}
 use Rattle.turns.specs.Chains.{puts, DidAll, EndsBy, HasPutAll, HasTurnedOn}
 use Rattle.turns.specs.Turns.{HasDoneFrom, HasFinished, IsEntryOf, Standing, HasShareOf, job_of_message}
 use Rattle.turns.specs.Words.{entries_in, passed, IsSameWorker}
-use Rattle.turns.specs.declared.message.Message.{Message}
+use Rattle.turns.specs.Messages.{Message}
 use Rattle.turns.specs.declared.shared_waiting.pass.Pass.{Pass}
 use Rattle.turns.specs.declared.chained.Chained.{Chained}
 use Rattle.turns.specs.declared.chained.Chained.TheVariants as chains

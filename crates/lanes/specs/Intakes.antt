@@ -4,9 +4,10 @@ use Rattle.affinity.specs.declared.layout.Layout.{Layout}
 use Rattle.rpc_msg.specs.declared.handle_form.HandleForm.{HandleForm}
 use Rattle.outboxes.specs.Boxes.{Addressed, Boxes, put}
 use Rattle.turns.specs.Telling.{answer_told}
-use Rattle.tcp_front.specs.Admitted.{calls_of, seen_of}
+use Rattle.engine_feed.specs.Seen.{message_of}
+use Rattle.tcp_front.specs.Admitted.{calls_of}
 use Rattle.tcp_front.specs.Arrivals.{Arrival, Waits, Answered}
-use Rattle.turns.specs.declared.message.Message.{Message}
+use Rattle.turns.specs.Messages.{Message}
 use Rattle.turns.specs.declared.shared.Filer.{Filer}
 use Rattle.turns.specs.declared.shared_waiting.pass.Pass.{Pass}
 use Rattle.turns.specs.declared.shared_waiting.pass.SharedWaiting.{SharedWaiting}
@@ -35,7 +36,7 @@ pub record Takes (form : HandleForm) (filer : Filer) (queue : SharedWaiting Mess
   pub form_is : form' ≡ form
   pub filer_is : filer' ≡ filer
   pub queue_is : queue' ≡ queue
-  pub put : map seen_of (known pass').put ≡ map seen_of (known pass).put ++ calls_of came
+  pub put : map message_of (known pass').put ≡ map message_of (known pass).put ++ calls_of came
   pub picked : (known pass').picked ≡ (known pass).picked
   pub share : HasShareOf (known pass) (known pass')
   pub same : IsSameWorker worker worker'

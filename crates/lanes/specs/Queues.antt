@@ -2,7 +2,7 @@
 use Rattle.std.specs.Prelude.{◌≡◌, ℕ, ◌+◌, length, Option, Some, None}
 use Rattle.affinity.specs.declared.layout.Layout as layouts
 use Rattle.depot_rule.specs.Sums.{total}
-use Rattle.turns.specs.declared.message.Message.{Message}
+use Rattle.turns.specs.Messages.{Message}
 use Rattle.turns.specs.declared.shared_waiting.pass.Pass.{Pass}
 use Rattle.turns.specs.declared.worker.Worker.{Worker}
 use Rattle.turns.specs.shared_waiting.Balance.{IsWhole, both}

@@ -14,8 +14,9 @@ use Rattle.service.specs.declared.job.Job.{Job}
 use Rattle.service.specs.declared.job.Job.TheVariants.{Serve, Inner}
 use Rattle.turns.specs.Jobs.{job_reply_of}
 use Rattle.turns.specs.Balance.{FilerEntry, Weight, by_entry, by_key}
-use Rattle.turns.specs.declared.message.Message as workers
-use Rattle.tcp_front.specs.Admitted.{calls_of, seen_of}
+use Rattle.turns.specs.Messages as workers
+use Rattle.engine_feed.specs.Seen.{message_of}
+use Rattle.tcp_front.specs.Admitted.{calls_of}
 use Rattle.tcp_front.specs.Arrivals.{Arrival, Waits, Answered, arrivals}
 use Rattle.lanes.specs.declared.connection.Connection.{Connection}
 use Rattle.lanes.specs.Connections.{number_of}
@@ -125,7 +126,7 @@ pub record Story {D : Type 0} (unread written : D → Option (List ℕ)) (layout
     (put : List workers.Message) (boxes : Boxes) (slots : ℕ → Option (Connection D)) : Type 0 where
   pub came : List Arrival
   pub endings : List Ending
-  pub admitted : map seen_of put ≡ calls_of came
+  pub admitted : map message_of put ≡ calls_of came
   pub finished : served_of endings ≡ served_in entries
   pub at_once : at_once_of endings ≡ answered_of came
   pub once : (weight : Weight) → total (by_entry weight) entries ≤ total (by_key weight) put

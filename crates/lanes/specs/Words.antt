@@ -5,7 +5,7 @@ use Rattle.slab.specs.Slab.{Slab, get}
 use Rattle.affinity.specs.declared.layout.Layout.{Layout}
 use Rattle.rpc_msg.specs.declared.offer.Offer.{Offer}
 use Rattle.outboxes.specs.Boxes.{Boxes}
-use Rattle.turns.specs.declared.message.Message.{Message}
+use Rattle.turns.specs.Messages.{Message}
 use Rattle.turns.specs.declared.shared.Filer.{Filer}
 use Rattle.turns.specs.declared.shared_waiting.pass.Pass.{Pass}
 use Rattle.turns.specs.declared.shared_waiting.pass.SharedWaiting.{SharedWaiting}

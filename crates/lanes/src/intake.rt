@@ -17,7 +17,6 @@ use std::alloc::{AllocError, Global};
 use std::snapshot::Snapshot;
 use std::sync::Wait;
 use tcp_front::RecordSink;
-use tcp_front::message::in_room;
 use turns::shared_waiting::{Pass, SharedWaiting};
 use turns::{Envelope, Filer, Worker};
 
@@ -103,7 +102,7 @@ impl<R: Wait> RecordSink for Intake<R> {
     fn admit(&mut self, message: Message<Call>) -> Result<(), AllocError> {
         let room = message.room;
         let leaving = u64::from(may_leave_blocks(&message));
-        let message = in_room(self.alloc, message)?;
+        let message = Envelope::new(self.alloc, message)?;
         put_last(
             &self.queue,
             &mut self.pass,

@@ -1,3 +1,4 @@
 pub mod Zeros
 pub mod Behind
 pub mod Groups
+pub mod Listed

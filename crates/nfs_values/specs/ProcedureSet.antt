@@ -1,5 +1,5 @@
 -- Which procedures are offered.
-use Rattle.std.specs.Prelude.{ℕ, Bool, true, false, get_or, map, replicate, ◌==◌, ◌&&◌}
+use Rattle.std.specs.Prelude.{ℕ, Bool, true, false, List, [], ◌∷◌, ◌++◌, get_or, map, replicate, ◌==◌, ◌&&◌}
 use Rattle.std.specs.List.{list_any}
 use Rattle.nfs_values.specs.declared.procedure_set.ProcedureSet.{ProcedureSet}
 use Rattle.nfs_values.specs.declared.procedure.Procedure.{Procedure}
@@ -41,6 +41,27 @@ basic = record { has = map is_basic all_procedures }
 abbrev pub export : ProcedureSet
 export = record { has = replicate 31 true }
 
--- what is in it
-abbrev pub is_offered : Procedure → Bool
-is_offered procedure = offers basic procedure
+-- ---- what the two have, in the standard's terms: by program, and by number in it
+
+-- the procedures of a program that have these numbers
+abbrev pub of_program : ℕ → List ℕ → List (ℕ × ℕ)
+of_program program numbers = map (λ number. (program, number)) numbers
+
+-- of the admin program (our profile) all: NULL, CENSUS and GROW
+abbrev pub of_admin : List (ℕ × ℕ)
+of_admin = of_program 0x20000001 (0 ∷ 1 ∷ 2 ∷ [])
+
+-- `replay` and `serve`: of NFS (RFC 1813 section 3) NULL, GETATTR, SETATTR, LOOKUP, READ, WRITE, CREATE, MKDIR, REMOVE, RMDIR, RENAME, READDIR,
+-- FSSTAT and COMMIT
+abbrev pub basic_numbers : List (ℕ × ℕ)
+basic_numbers = of_program 100003 (0 ∷ 1 ∷ 2 ∷ 3 ∷ 6 ∷ 7 ∷ 8 ∷ 9 ∷ 12 ∷ 13 ∷ 14 ∷ 16 ∷ 18 ∷ 21 ∷ []) ++ of_admin
+
+-- a server that clients mount: of NFS all 22, and of MOUNT (RFC 1813 appendix I, section 5) all six
+abbrev pub export_numbers : List (ℕ × ℕ)
+export_numbers =
+    of_program 100003 (0 ∷ 1 ∷ 2 ∷ 3 ∷ 4 ∷ 5 ∷ 6 ∷ 7 ∷ 8 ∷ 9 ∷ 10 ∷ 11 ∷ 12 ∷ 13 ∷ 14 ∷ 15 ∷ 16 ∷ 17 ∷ 18 ∷ 19 ∷ 20 ∷ 21 ∷ [])
+    ++ (of_admin ++ of_program 100005 (0 ∷ 1 ∷ 2 ∷ 3 ∷ 4 ∷ 5 ∷ []))
+
+-- whether the procedure of these numbers is among some
+abbrev pub is_among : List (ℕ × ℕ) → ℕ × ℕ → Bool
+is_among procedures numbers = list_any (λ known. (known.0 == numbers.0) && (known.1 == numbers.1)) procedures

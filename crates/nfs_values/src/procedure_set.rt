@@ -14,13 +14,16 @@ pub struct ProcedureSet {
 
 impl ProcedureSet {
     ghost use Rattle.nfs_values.specs.ProcedureSet.{basic, export, offers, offers_program};
+    ghost use Rattle.nfs_values.specs.ProcedureSet.{basic_numbers, export_numbers, is_among};
     ghost use Rattle.nfs_values.specs.Procedure.{numbers_of};
     ghost use Rattle.nfs_values.specs.declared.procedure.Procedure.{Procedure as Known};
 
     /// The offer of `replay` and `serve`: every procedure but ACCESS, FSINFO, PATHCONF,
     /// READDIRPLUS, those on links and devices, and those of MOUNT.
     pub fn basic() -> ProcedureSet
-        ensures { result ≡ basic }
+        ensures set { result ≡ basic }
+        ensures listed { (p : Known)
+            → offers result p ≡ is_among basic_numbers (numbers_of p) }
     {
         ProcedureSet {
             has: [
@@ -61,7 +64,9 @@ impl ProcedureSet {
 
     /// The offer of a server that clients mount: every procedure.
     pub fn export() -> ProcedureSet
-        ensures { result ≡ export }
+        ensures set { result ≡ export }
+        ensures listed { (p : Known)
+            → offers result p ≡ is_among export_numbers (numbers_of p) }
     {
         ProcedureSet { has: [true; 31] }
     }

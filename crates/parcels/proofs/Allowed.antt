@@ -2,7 +2,7 @@
 use Rattle.std.proofs.Common.{◌≡◌, ℕ, ◌+◌, ◌<◌, true, ◌==◌, length, refl, slice_get}
 use Rattle.std.specs.Prelude.{IfSome}
 use Rattle.std.proofs.lemmas.Bool.{eq-eqb}
-use Rattle.nfs_model.specs.Tree.{Layout, Serial, Aggregate, Volume, Logical, Stripe, Vbn, Range, stripes_of, aggregate_of}
+use Rattle.nfs_model.specs.Tree.{Layout, Affinity, Serial, Aggregate, Volume, Logical, Stripe, Vbn, Range, stripes_of, aggregate_of}
 use Rattle.affinity.specs.Numbers.{number_of}
 use Rattle.parcels.specs.Slots.{or_else, in_slot, in_places}
 use Rattle.parcels.specs.Sets.{range_parcels, vbn_parcels, stripe_parcels, logical_parcels, volume_parcels, aggregate_parcels, serial_parcels}
@@ -20,15 +20,15 @@ use Rattle.parcels.proofs.Apart.{ranges-apart, stripes-apart, sets_of_volumes-ap
 use Rattle.parcels.proofs.Apart.{stripes-elsewhere, halves-elsewhere, halves-apart, volumes-elsewhere, aggregates-elsewhere}
 
 module _ {P R B S L V A X : Type 0} (layout : Layout) (Q : ℕ → Parcel P R B S L V A X → Type 0) where
-  pub range_allowed : (v r : ℕ) (held : RangeHeld P R B S L V A X) → ((k : ℕ) → IfSome (range_parcels layout (Range v r) held k) (Q k))
-      → Q (number_of layout (Range v r)) (parcels.Range held.own)
+  pub range_allowed : (a : Affinity) (held : RangeHeld P R B S L V A X) → ((k : ℕ) → IfSome (range_parcels layout a held k) (Q k))
+      → Q (number_of layout a) (parcels.Range held.own)
   unfolding range_parcels
-  range_allowed v r held h = allowed-alone Q (number_of layout (Range v r)) (parcels.Range held.own) h
+  range_allowed a held h = allowed-alone Q (number_of layout a) (parcels.Range held.own) h
 
-  pub stripe_allowed : (v i : ℕ) (held : StripeHeld P R B S L V A X) → ((k : ℕ) → IfSome (stripe_parcels layout (Stripe v i) held k) (Q k))
-      → Q (number_of layout (Stripe v i)) (parcels.Stripe held.own)
+  pub stripe_allowed : (a : Affinity) (held : StripeHeld P R B S L V A X) → ((k : ℕ) → IfSome (stripe_parcels layout a held k) (Q k))
+      → Q (number_of layout a) (parcels.Stripe held.own)
   unfolding stripe_parcels
-  stripe_allowed v i held h = allowed-alone Q (number_of layout (Stripe v i)) (parcels.Stripe held.own) h
+  stripe_allowed a held h = allowed-alone Q (number_of layout a) (parcels.Stripe held.own) h
 
   -- ---- the block numbers of a volume
 

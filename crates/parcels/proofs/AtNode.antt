@@ -1,7 +1,7 @@
 -- A node told in two ways.
 use Rattle.std.proofs.Common.{◌≡◌, ℕ, Option, sym, subst, refl}
 use Rattle.std.specs.Prelude.{IfSome}
-use Rattle.nfs_model.specs.Tree.{Layout, Affinity, Serial}
+use Rattle.nfs_model.specs.Tree.{Layout, Affinity}
 use Rattle.affinity.specs.declared.affinity.Kind.{Kind}
 use Rattle.affinity.specs.declared.affinity.Kind.TheVariants as kinds
 use Rattle.affinity.specs.declared.affinity.Affinity.TheVariants as affinities
@@ -10,11 +10,6 @@ use Rattle.affinity.specs.Affinity.{kind_of, affinity_of}
 use Rattle.affinity.specs.Tree.{IsNode}
 use Rattle.parcels.specs.Exact.{Under, HasExactly}
 use Rattle.parcels.specs.Moved.{Moved}
-
--- there is one root
-pub root_is : (a : Affinity) → kind_of a ≡ kinds.Serial → a ≡ Serial
-root_is Serial e = refl
-root_is _ e = cc
 
 module _ (layout : Layout) (a b : Affinity) (e : a ≡ b) where
   pub at-node : IsNode layout a → IsNode layout b
@@ -33,20 +28,7 @@ module _ (layout : Layout) (a b : Affinity) (e : a ≡ b) where
     pub at-exact : (kind : T → Kind) → HasExactly kind layout b (p layout b held) → HasExactly kind layout a (p layout a held)
     at-exact kind = subst (λ n. HasExactly kind layout n (p layout n held)) (sym e)
 
--- ---- an affinity of a kind is no other variant
-
-pub of_aggregate : (x : declared.Affinity) → kind_of (affinity_of x) ≡ kinds.Aggregate → ((v : ℕ) → x ≡ affinities.Aggregate v → ⊥) → ⊥
-of_aggregate (affinities.Aggregate v) e n = n v refl
-of_aggregate _ e n = cc
-
+-- an affinity of the kind Volume is no other variant
 pub of_volume : (x : declared.Affinity) → kind_of (affinity_of x) ≡ kinds.Volume → ((v : ℕ) → x ≡ affinities.Volume v → ⊥) → ⊥
 of_volume (affinities.Volume v) e n = n v refl
 of_volume _ e n = cc
-
-pub of_logical : (x : declared.Affinity) → kind_of (affinity_of x) ≡ kinds.VolumeLogical → ((v : ℕ) → x ≡ affinities.VolumeLogical v → ⊥) → ⊥
-of_logical (affinities.VolumeLogical v) e n = n v refl
-of_logical _ e n = cc
-
-pub of_vbn : (x : declared.Affinity) → kind_of (affinity_of x) ≡ kinds.VolumeVbn → ((v : ℕ) → x ≡ affinities.VolumeVbn v → ⊥) → ⊥
-of_vbn (affinities.VolumeVbn v) e n = n v refl
-of_vbn _ e n = cc

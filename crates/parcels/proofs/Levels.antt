@@ -2,7 +2,7 @@
 -- the own parcel has moved, g afterwards.
 use Rattle.std.proofs.Common.{◌≡◌, ◌==◌, ℕ, ◌<◌, true, Option, None, length, refl}
 use Rattle.std.proofs.lemmas.Bool.{eq-eqb}
-use Rattle.nfs_model.specs.Tree.{Layout, Serial, Aggregate, Volume, Logical, Stripe, Vbn, Range, stripes_of, aggregate_of}
+use Rattle.nfs_model.specs.Tree.{Layout, Affinity, Serial, Aggregate, Volume, Logical, Stripe, Vbn, Range, stripes_of, aggregate_of}
 use Rattle.affinity.specs.Numbers.{number_of}
 use Rattle.affinity.specs.Tree.{IsNode}
 use Rattle.parcels.specs.Children.{child, children, has_child}
@@ -27,43 +27,45 @@ use Rattle.parcels.proofs.Steps.{logical-stays}
 module _ {P R B S L V A X : Type 0} (layout : Layout) where
   -- ---- a range
 
-  module _ (v i : ℕ) (node : IsNode layout (Range v i)) (held : RangeHeld P R B S L V A X) (f g : ℕ → Option (Parcel P R B S L V A X)) where
-    pub range-taken : ((k : ℕ) → Moved (f k) (alone (number_of layout (Range v i)) (parcels.Range held.own) k) (g k)) → (k : ℕ)
-        → Moved (f k) (range_parcels layout (Range v i) held k) (g k)
+  module _ (a : Affinity) (held : RangeHeld P R B S L V A X) (f g : ℕ → Option (Parcel P R B S L V A X)) where
+    pub range-taken : ((k : ℕ) → Moved (f k) (alone (number_of layout a) (parcels.Range held.own) k) (g k)) → (k : ℕ)
+        → Moved (f k) (range_parcels layout a held k) (g k)
     unfolding range_parcels
     range-taken own = own
 
+    pub range-scattered : ((k : ℕ) → Moved (g k) (alone (number_of layout a) (parcels.Range held.own) k) (f k)) → (k : ℕ)
+        → Moved (g k) (range_parcels layout a held k) (f k)
+    unfolding range_parcels
+    range-scattered own = own
+
+  module _ (v i : ℕ) (node : IsNode layout (Range v i)) (held : RangeHeld P R B S L V A X) (f g : ℕ → Option (Parcel P R B S L V A X)) where
     pub range-gathered : ((k : ℕ) → Moved (f k) (alone (number_of layout (Range v i)) (parcels.Range held.own) k) (g k))
         → Under layout (Range v i) (HasParcel layout f)
         → HasExactly kind_in layout (Range v i) (range_parcels layout (Range v i) held)
     range-gathered own there =
         range-exact layout f g v i node held (range-from layout (HasParcel layout f) v i node there)
-        (gone-alone f g (number_of layout (Range v i)) (parcels.Range held.own) own) (range-taken own)
-
-    pub range-scattered : ((k : ℕ) → Moved (g k) (alone (number_of layout (Range v i)) (parcels.Range held.own) k) (f k)) → (k : ℕ)
-        → Moved (g k) (range_parcels layout (Range v i) held k) (f k)
-    unfolding range_parcels
-    range-scattered own = own
+        (gone-alone f g (number_of layout (Range v i)) (parcels.Range held.own) own) (range-taken (Range v i) held f g own)
 
   -- ---- a stripe
 
-  module _ (v i : ℕ) (node : IsNode layout (Stripe v i)) (held : StripeHeld P R B S L V A X) (f g : ℕ → Option (Parcel P R B S L V A X)) where
-    pub stripe-taken : ((k : ℕ) → Moved (f k) (alone (number_of layout (Stripe v i)) (parcels.Stripe held.own) k) (g k)) → (k : ℕ)
-        → Moved (f k) (stripe_parcels layout (Stripe v i) held k) (g k)
+  module _ (a : Affinity) (held : StripeHeld P R B S L V A X) (f g : ℕ → Option (Parcel P R B S L V A X)) where
+    pub stripe-taken : ((k : ℕ) → Moved (f k) (alone (number_of layout a) (parcels.Stripe held.own) k) (g k)) → (k : ℕ)
+        → Moved (f k) (stripe_parcels layout a held k) (g k)
     unfolding stripe_parcels
     stripe-taken own = own
 
+    pub stripe-scattered : ((k : ℕ) → Moved (g k) (alone (number_of layout a) (parcels.Stripe held.own) k) (f k)) → (k : ℕ)
+        → Moved (g k) (stripe_parcels layout a held k) (f k)
+    unfolding stripe_parcels
+    stripe-scattered own = own
+
+  module _ (v i : ℕ) (node : IsNode layout (Stripe v i)) (held : StripeHeld P R B S L V A X) (f g : ℕ → Option (Parcel P R B S L V A X)) where
     pub stripe-gathered : ((k : ℕ) → Moved (f k) (alone (number_of layout (Stripe v i)) (parcels.Stripe held.own) k) (g k))
         → Under layout (Stripe v i) (HasParcel layout f)
         → HasExactly kind_in layout (Stripe v i) (stripe_parcels layout (Stripe v i) held)
     stripe-gathered own there =
         stripe-exact layout f g v i node held (stripe-from layout (HasParcel layout f) v i node there)
-        (gone-alone f g (number_of layout (Stripe v i)) (parcels.Stripe held.own) own) (stripe-taken own)
-
-    pub stripe-scattered : ((k : ℕ) → Moved (g k) (alone (number_of layout (Stripe v i)) (parcels.Stripe held.own) k) (f k)) → (k : ℕ)
-        → Moved (g k) (stripe_parcels layout (Stripe v i) held k) (f k)
-    unfolding stripe_parcels
-    stripe-scattered own = own
+        (gone-alone f g (number_of layout (Stripe v i)) (parcels.Stripe held.own) own) (stripe-taken (Stripe v i) held f g own)
 
   -- ---- the block numbers of a volume
 

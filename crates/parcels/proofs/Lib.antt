@@ -10,3 +10,4 @@ pub mod Allowed
 pub mod AtNode
 pub mod Siblings
 pub mod Levels
+pub mod ByKind

@@ -5,9 +5,17 @@ use Rattle.affinity.specs.declared.affinity.Kind.TheVariants as kinds
 use Rattle.affinity.specs.Numbers.{number_of}
 use Rattle.parcels.specs.Exact.{kind_in, HasParcel}
 use Rattle.parcels.specs.declared.family.Parcel.{Parcel}
-use Rattle.parcels.specs.declared.family.Parcel.TheVariants.{Vbn, Logical, Volume, Aggregate, Serial}
+use Rattle.parcels.specs.declared.family.Parcel.TheVariants.{Range, Vbn, Stripe, Logical, Volume, Aggregate, Serial}
 
 module _ {P R B S L V A X : Type 0} where
+  pub is_range : (x : Parcel P R B S L V A X) → kind_in x ≡ kinds.Range → ((y : R) → x ≡ Range y → ⊥) → ⊥
+  is_range (Range y) e n = n y refl
+  is_range _ e n = cc
+
+  pub is_stripe : (x : Parcel P R B S L V A X) → kind_in x ≡ kinds.Stripe → ((y : S) → x ≡ Stripe y → ⊥) → ⊥
+  is_stripe (Stripe y) e n = n y refl
+  is_stripe _ e n = cc
+
   pub is_vbn : (x : Parcel P R B S L V A X) → kind_in x ≡ kinds.VolumeVbn → ((y : B) → x ≡ Vbn y → ⊥) → ⊥
   is_vbn (Vbn y) e n = n y refl
   is_vbn _ e n = cc

@@ -40,16 +40,16 @@ impl<P: Family> Node<Parcel<P>> for SerialNode {
     fn gather<S: Shelf<Parcel<P>>>(
         shelf: &mut S,
         layout: &Layout,
-        _affinity: Affinity,
+        affinity: Affinity,
     ) -> SerialHeld<P> {
-        let Parcel::Serial(own) = take_parcel(shelf, layout, Affinity::Serial) else {
+        let Parcel::Serial(own) = take_parcel(shelf, layout, affinity) else {
             unreachable!()
         };
         let mut aggregates = two_slots();
         gather_children::<Parcel<P>, AggregateNode, SlotArray<AggrHeld<P>, 2>, S>(
             shelf,
             layout,
-            Affinity::Serial,
+            affinity,
             &mut aggregates,
         );
         SerialHeld { own, aggregates }
@@ -90,18 +90,14 @@ impl<P: Family> Node<Parcel<P>> for AggregateNode {
         layout: &Layout,
         affinity: Affinity,
     ) -> AggrHeld<P> {
-        let Affinity::Aggregate(aggregate) = affinity else {
-            unreachable!()
-        };
-        let Parcel::Aggregate(own) = take_parcel(shelf, layout, Affinity::Aggregate(aggregate))
-        else {
+        let Parcel::Aggregate(own) = take_parcel(shelf, layout, affinity) else {
             unreachable!()
         };
         let mut volumes = eight_slots();
         gather_children::<Parcel<P>, VolumeNode, SlotArray<VolumeHeld<P>, 8>, S>(
             shelf,
             layout,
-            Affinity::Aggregate(aggregate),
+            affinity,
             &mut volumes,
         );
         AggrHeld { own, volumes }
@@ -192,18 +188,14 @@ impl<P: Family> Node<Parcel<P>> for LogicalNode {
         layout: &Layout,
         affinity: Affinity,
     ) -> LogicalHeld<P> {
-        let Affinity::VolumeLogical(volume) = affinity else {
-            unreachable!()
-        };
-        let Parcel::Logical(own) = take_parcel(shelf, layout, Affinity::VolumeLogical(volume))
-        else {
+        let Parcel::Logical(own) = take_parcel(shelf, layout, affinity) else {
             unreachable!()
         };
         let mut stripes = sixteen_slots();
         gather_children::<Parcel<P>, StripeNode, SlotArray<StripeHeld<P>, 16>, S>(
             shelf,
             layout,
-            Affinity::VolumeLogical(volume),
+            affinity,
             &mut stripes,
         );
         LogicalHeld { own, stripes }
@@ -244,11 +236,7 @@ impl<P: Family> Node<Parcel<P>> for StripeNode {
         layout: &Layout,
         affinity: Affinity,
     ) -> StripeHeld<P> {
-        let Affinity::Stripe { volume, stripe } = affinity else {
-            unreachable!()
-        };
-        let Parcel::Stripe(own) = take_parcel(shelf, layout, Affinity::Stripe { volume, stripe })
-        else {
+        let Parcel::Stripe(own) = take_parcel(shelf, layout, affinity) else {
             unreachable!()
         };
         StripeHeld { own }
@@ -289,17 +277,14 @@ impl<P: Family> Node<Parcel<P>> for VbnNode {
         layout: &Layout,
         affinity: Affinity,
     ) -> VbnHeld<P> {
-        let Affinity::VolumeVbn(volume) = affinity else {
-            unreachable!()
-        };
-        let Parcel::Vbn(own) = take_parcel(shelf, layout, Affinity::VolumeVbn(volume)) else {
+        let Parcel::Vbn(own) = take_parcel(shelf, layout, affinity) else {
             unreachable!()
         };
         let mut ranges = sixteen_slots();
         gather_children::<Parcel<P>, RangeNode, SlotArray<RangeHeld<P>, 16>, S>(
             shelf,
             layout,
-            Affinity::VolumeVbn(volume),
+            affinity,
             &mut ranges,
         );
         VbnHeld { own, ranges }
@@ -340,11 +325,7 @@ impl<P: Family> Node<Parcel<P>> for RangeNode {
         layout: &Layout,
         affinity: Affinity,
     ) -> RangeHeld<P> {
-        let Affinity::Range { volume, range } = affinity else {
-            unreachable!()
-        };
-        let Parcel::Range(own) = take_parcel(shelf, layout, Affinity::Range { volume, range })
-        else {
+        let Parcel::Range(own) = take_parcel(shelf, layout, affinity) else {
             unreachable!()
         };
         RangeHeld { own }

@@ -36,21 +36,14 @@ impl<P: Family> RangeHeld<P> {
         affinity: Affinity,
     )
         requires { let L = layout_of layout.now in let a = affinity_of affinity in
-            MayBeGiven L a kinds.Range (S.at shelf.old) (S.allows shelf.old) (range_parcels L a self) }
+            MayBeGiven L a kinds.Range (S.at shelf.old) (S.allows shelf.old)
+            (range_parcels L a self) }
         ensures moved { AllMoved (S.at shelf.new)
             (range_parcels (layout_of layout.now) (affinity_of affinity) self) (S.at shelf.old) }
         ensures kept { S.keeps shelf.old shelf.new }
     {
         let RangeHeld { own } = self;
-        let Affinity::Range { volume, range } = affinity else {
-            unreachable!()
-        };
-        put_parcel(
-            shelf,
-            layout,
-            Affinity::Range { volume, range },
-            Parcel::Range(own),
-        );
+        put_parcel(shelf, layout, affinity, Parcel::Range(own));
     }
 }
 
@@ -76,21 +69,16 @@ impl<P: Family> VbnHeld<P> {
         affinity: Affinity,
     )
         requires { let L = layout_of layout.now in let a = affinity_of affinity in
-            MayBeGiven L a kinds.VolumeVbn (S.at shelf.old) (S.allows shelf.old) (vbn_parcels L a self) }
+            MayBeGiven L a kinds.VolumeVbn (S.at shelf.old) (S.allows shelf.old)
+            (vbn_parcels L a self) }
         ensures moved { AllMoved (S.at shelf.new)
             (vbn_parcels (layout_of layout.now) (affinity_of affinity) self) (S.at shelf.old) }
         ensures kept { S.keeps shelf.old shelf.new }
     {
-        let Affinity::VolumeVbn(volume) = affinity else {
-            unreachable!()
-        };
         let VbnHeld { own, ranges } = self;
-        put_parcel(shelf, layout, Affinity::VolumeVbn(volume), Parcel::Vbn(own));
+        put_parcel(shelf, layout, affinity, Parcel::Vbn(own));
         scatter_children::<Parcel<P>, RangeNode, SlotArray<RangeHeld<P>, 16>, S>(
-            shelf,
-            layout,
-            Affinity::VolumeVbn(volume),
-            ranges,
+            shelf, layout, affinity, ranges,
         );
     }
 }
@@ -116,21 +104,14 @@ impl<P: Family> StripeHeld<P> {
         affinity: Affinity,
     )
         requires { let L = layout_of layout.now in let a = affinity_of affinity in
-            MayBeGiven L a kinds.Stripe (S.at shelf.old) (S.allows shelf.old) (stripe_parcels L a self) }
+            MayBeGiven L a kinds.Stripe (S.at shelf.old) (S.allows shelf.old)
+            (stripe_parcels L a self) }
         ensures moved { AllMoved (S.at shelf.new)
             (stripe_parcels (layout_of layout.now) (affinity_of affinity) self) (S.at shelf.old) }
         ensures kept { S.keeps shelf.old shelf.new }
     {
         let StripeHeld { own } = self;
-        let Affinity::Stripe { volume, stripe } = affinity else {
-            unreachable!()
-        };
-        put_parcel(
-            shelf,
-            layout,
-            Affinity::Stripe { volume, stripe },
-            Parcel::Stripe(own),
-        );
+        put_parcel(shelf, layout, affinity, Parcel::Stripe(own));
     }
 }
 
@@ -157,26 +138,16 @@ impl<P: Family> LogicalHeld<P> {
         affinity: Affinity,
     )
         requires { let L = layout_of layout.now in let a = affinity_of affinity in
-            MayBeGiven L a kinds.VolumeLogical (S.at shelf.old) (S.allows shelf.old) (logical_parcels L a self) }
+            MayBeGiven L a kinds.VolumeLogical (S.at shelf.old) (S.allows shelf.old)
+            (logical_parcels L a self) }
         ensures moved { AllMoved (S.at shelf.new)
             (logical_parcels (layout_of layout.now) (affinity_of affinity) self) (S.at shelf.old) }
         ensures kept { S.keeps shelf.old shelf.new }
     {
-        let Affinity::VolumeLogical(volume) = affinity else {
-            unreachable!()
-        };
         let LogicalHeld { own, stripes } = self;
-        put_parcel(
-            shelf,
-            layout,
-            Affinity::VolumeLogical(volume),
-            Parcel::Logical(own),
-        );
+        put_parcel(shelf, layout, affinity, Parcel::Logical(own));
         scatter_children::<Parcel<P>, StripeNode, SlotArray<StripeHeld<P>, 16>, S>(
-            shelf,
-            layout,
-            Affinity::VolumeLogical(volume),
-            stripes,
+            shelf, layout, affinity, stripes,
         );
     }
 }
@@ -208,7 +179,8 @@ impl<P: Family> VolumeHeld<P> {
         affinity: Affinity,
     )
         requires { let L = layout_of layout.now in let a = affinity_of affinity in
-            MayBeGiven L a kinds.Volume (S.at shelf.old) (S.allows shelf.old) (volume_parcels L a self) }
+            MayBeGiven L a kinds.Volume (S.at shelf.old) (S.allows shelf.old)
+            (volume_parcels L a self) }
         ensures moved { AllMoved (S.at shelf.new)
             (volume_parcels (layout_of layout.now) (affinity_of affinity) self) (S.at shelf.old) }
         ensures kept { S.keeps shelf.old shelf.new }
@@ -250,27 +222,17 @@ impl<P: Family> AggrHeld<P> {
         affinity: Affinity,
     )
         requires { let L = layout_of layout.now in let a = affinity_of affinity in
-            MayBeGiven L a kinds.Aggregate (S.at shelf.old) (S.allows shelf.old) (aggregate_parcels L a self) }
+            MayBeGiven L a kinds.Aggregate (S.at shelf.old) (S.allows shelf.old)
+            (aggregate_parcels L a self) }
         ensures moved { AllMoved (S.at shelf.new)
             (aggregate_parcels (layout_of layout.now) (affinity_of affinity) self)
             (S.at shelf.old) }
         ensures kept { S.keeps shelf.old shelf.new }
     {
-        let Affinity::Aggregate(aggregate) = affinity else {
-            unreachable!()
-        };
         let AggrHeld { own, volumes } = self;
-        put_parcel(
-            shelf,
-            layout,
-            Affinity::Aggregate(aggregate),
-            Parcel::Aggregate(own),
-        );
+        put_parcel(shelf, layout, affinity, Parcel::Aggregate(own));
         scatter_children::<Parcel<P>, VolumeNode, SlotArray<VolumeHeld<P>, 8>, S>(
-            shelf,
-            layout,
-            Affinity::Aggregate(aggregate),
-            volumes,
+            shelf, layout, affinity, volumes,
         );
     }
 }
@@ -297,21 +259,19 @@ impl<P: Family> SerialHeld<P> {
         self,
         shelf: &mut S,
         layout: &Layout,
-        _affinity: Affinity,
+        affinity: Affinity,
     )
-        requires { let L = layout_of layout.now in let a = affinity_of _affinity in
-            MayBeGiven L a kinds.Serial (S.at shelf.old) (S.allows shelf.old) (serial_parcels L a self) }
+        requires { let L = layout_of layout.now in let a = affinity_of affinity in
+            MayBeGiven L a kinds.Serial (S.at shelf.old) (S.allows shelf.old)
+            (serial_parcels L a self) }
         ensures moved { AllMoved (S.at shelf.new)
-            (serial_parcels (layout_of layout.now) (affinity_of _affinity) self) (S.at shelf.old) }
+            (serial_parcels (layout_of layout.now) (affinity_of affinity) self) (S.at shelf.old) }
         ensures kept { S.keeps shelf.old shelf.new }
     {
         let SerialHeld { own, aggregates } = self;
-        put_parcel(shelf, layout, Affinity::Serial, Parcel::Serial(own));
+        put_parcel(shelf, layout, affinity, Parcel::Serial(own));
         scatter_children::<Parcel<P>, AggregateNode, SlotArray<AggrHeld<P>, 2>, S>(
-            shelf,
-            layout,
-            Affinity::Serial,
-            aggregates,
+            shelf, layout, affinity, aggregates,
         );
     }
 }

@@ -1,6 +1,6 @@
 //! Messages that are put.
 
-ghost use Rattle.std.specs.Prelude.{◌≡◌, IfOk, IfSome};
+ghost use Rattle.std.specs.Prelude.{◌≡◌, ◌≤◌, IfOk, IfSome};
 ghost use Rattle.pool_rows.specs.Threads.{HasPut, IsReaderOf};
 ghost use Rattle.turns.specs.Running.{IsRun};
 ghost use Rattle.turns.specs.shared_waiting.Balance.{added, FitsIn};
@@ -11,14 +11,13 @@ ghost use Rattle.turns.specs.Words.{layout_in};
 use affinity::Layout;
 use affinity::homes::home_of;
 use nfs_values::{Call, ConnectionNumber, Credential};
-use outboxes::Room;
 use rpc_msg::room_of_reply;
-use scheduler::Origin;
+use scheduler::{Message, Origin};
 use std::alloc::{AllocError, Global};
 use std::sync::Wait;
 use std::thread;
 use turns::shared_waiting::Pass;
-use turns::{Envelope, Filer, Message};
+use turns::{Envelope, Filer};
 
 /// A pass of a filer's queue.
 pub(crate) type FilerPass = Pass<Envelope, Layout>;
@@ -32,15 +31,15 @@ pub(crate) fn record_of(connection: ConnectionNumber, xid: u32) -> Origin {
     }
 }
 
-/// A call, as it waits: `None` where it is at home nowhere, or where memory ran out.
-fn message_of(alloc: Global, filer: &Filer, origin: Origin, call: Call) -> Option<Message>
+/// A call, as it waits: `None` where it is at home nowhere.
+fn message_of(filer: &Filer, origin: Origin, call: Call) -> Option<Message<Call>>
     requires { IsRun call }
-    ensures { IfSome result (IsPlaced (layout_in filer.now)) }
+    ensures placed { IfSome result (IsPlaced (layout_in filer.now)) }
+    ensures short { IfSome result (λ m. m.room ≤ 131072) }
 {
     let layout = filer.depot().layout();
     let affinity = home_of(&call, layout)?;
-    let bytes = room_of_reply(&call, layout.volume_count() as u32);
-    let room = Room::new(alloc, bytes).ok()?;
+    let room = room_of_reply(&call, layout.volume_count() as u32);
     Some(Message {
         origin,
         call,
@@ -55,7 +54,7 @@ fn envelope_of(alloc: Global, filer: &Filer, origin: Origin, call: Call) -> Opti
     requires { IsRun call }
     ensures { IfSome result (IsPlaced (layout_in filer.now)) }
 {
-    let message = message_of(alloc, filer, origin, call)?;
+    let message = message_of(filer, origin, call)?;
     Envelope::new(alloc, message).ok()
 }
 

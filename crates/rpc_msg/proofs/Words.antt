@@ -17,10 +17,6 @@ behind-cons : (before : List ℕ) (first : ℕ) (r : Reads (List ℕ))
 behind-cons before first (Ok x) = ap (λ (l : List ℕ). given (l, x.1)) (sym (append_assoc before (first ∷ []) x.0))
 behind-cons before first (Err fault) = refl
 
-pub behind-none : (r : Reads (List ℕ)) → behind [] r ≡ r
-behind-none (Ok x) = refl
-behind-none (Err fault) = refl
-
 -- one word of those that are left
 pub word_read : (before : List ℕ) (n i : ℕ) (bytes : List ℕ) (x : ℕ × List ℕ) → i < n → read Word bytes ≡ Ok x
     → behind before (items_at (λ rest. read Word rest) (n - i) bytes)

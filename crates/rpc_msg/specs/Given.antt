@@ -1,10 +1,8 @@
 -- Replies that give bytes of a file.
-use Rattle.std.specs.Prelude.{Ok}
-use Rattle.nfs_values.specs.declared.reply.Reply.{Reply}
-use Rattle.nfs_values.specs.declared.reply.Reply.TheVariants.{Success}
-use Rattle.nfs_values.specs.declared.answer.Answer.TheVariants.{Read}
+use Rattle.std.specs.Prelude.{length}
+use Rattle.nfs_model.specs.Types as model
+use Rattle.nfs_values.specs.declared.answer.ReadResults.{ReadResults}
 
--- it is that of a READ which gives bytes, many or none
-abbrev pub GivesBytes : Reply → Type 0
-GivesBytes (Success (Read (Ok results))) = Unit {0}
-GivesBytes reply = ⊥
+-- the reply to a READ that is done
+abbrev pub read_done : ReadResults → model.Reply
+read_done results = model.Success (model.ReadDone (length results.bytes) results.eof results.bytes)

@@ -2,17 +2,17 @@
 
 ghost use Rattle.std.specs.Prelude.{◌≡◌, ◌+◌, ◌*◌, ◌≤◌, ◌<◌, ◌^◌, ◌++◌, length};
 ghost use Rattle.std.specs.Prelude.{IsOk, OnOk, OnErr};
-ghost use Rattle.std.specs.Prelude.{[], vec_len, vec_capacity, IsTrue};
+ghost use Rattle.std.specs.Prelude.{[], vec_len, vec_capacity};
 ghost use Rattle.std.specs.List.{flat_map};
 ghost use Rattle.xdr.specs.Shape.{word};
 ghost use Rattle.rpc_record.specs.Records.{limit};
 ghost use Rattle.nfs_values.specs.Reply.{refusal_of, reply_of};
 ghost use Rattle.rpc_msg.specs.Replies.{accepted, body_bytes, denied, message, results};
 ghost use Rattle.rpc_msg.specs.Replies.{reply_bytes, reply_record};
-ghost use Rattle.rpc_msg.specs.Given.{GivesBytes};
+ghost use Rattle.rpc_msg.specs.Given.{read_done};
 
 use nfs_types::{encode_result, size_of_result};
-use nfs_values::{Answer, Refusal, Reply};
+use nfs_values::{Answer, ReadResults, Refusal, Reply};
 use rpc_record::put_header;
 use std::alloc::AllocError;
 use xdr::put_u32;
@@ -160,6 +160,24 @@ pub fn write_reply(out: &mut Vec<u8>, xid: u32, reply: &Reply) -> Result<(), All
     Ok(())
 }
 
+/// Appends the record of a reply of this size, or nothing.
+fn write_sized(out: &mut Vec<u8>, xid: u32, size: usize, reply: &Reply) -> Result<(), AllocError>
+    requires short { length (reply_bytes xid (reply_of reply.now)) ≤ limit }
+    requires size { size ≡ 8 + length (body_bytes (reply_of reply.now)) }
+    ensures ok { OnOk result (out.new.items
+        ≡ out.old.items ++ reply_record xid (reply_of reply.now)) }
+    ensures err { OnErr result (out.new.items ≡ out.old.items) }
+    ensures succeeds { vec_len out.old + length (reply_record xid (reply_of reply.now))
+        ≤ vec_capacity out.old
+        → IsOk result }
+    ensures capacity { vec_capacity out.old ≤ vec_capacity out.new }
+{
+    out.try_reserve(4 + size)?;
+    put_header(out, size as u32)?;
+    append(xid, reply, out);
+    Ok(())
+}
+
 /// Appends the record of a reply, or nothing.
 pub fn write_reply_record(out: &mut Vec<u8>, xid: u32, reply: &Reply) -> Result<(), AllocError>
     requires { length (reply_bytes xid (reply_of reply.now)) ≤ limit }
@@ -171,49 +189,42 @@ pub fn write_reply_record(out: &mut Vec<u8>, xid: u32, reply: &Reply) -> Result<
         → IsOk result }
     ensures capacity { vec_capacity out.old ≤ vec_capacity out.new }
 {
-    let size = size_of_reply(reply);
-    out.try_reserve(4 + size)?;
-    put_header(out, size as u32)?;
-    append(xid, reply, out);
-    Ok(())
+    write_sized(out, xid, size_of_reply(reply), reply)
 }
 
-/// Whether a reply gives bytes of a file.
-fn gives_bytes(reply: &Reply) -> bool
-    ensures { IsTrue result → GivesBytes reply.now }
-{
-    match reply {
-        Reply::Success(answer) => match answer {
-            Answer::Read(told) => told.is_ok(),
-            _ => false,
-        },
-        _ => false,
-    }
-}
-
-/// Appends the reply of a READ to its record's header. Its bytes aren't copied.
-fn append_read(xid: u32, reply: &mut Reply, out: &mut Vec<u8>)
-    requires gives { GivesBytes reply.old }
-    requires short { length (reply_bytes xid (reply_of reply.old)) ≤ limit }
+/// Appends the reply to a READ that is done to its record's header. Its bytes aren't copied.
+fn append_read(xid: u32, results: &mut ReadResults, out: &mut Vec<u8>)
+    requires short { length (reply_bytes xid (read_done results.old)) ≤ limit }
     requires header { length out.old.items ≡ 4 }
     requires room { 48 ≤ vec_capacity out.old }
-    ensures { out.new.items ≡ out.old.items ++ reply_bytes xid (reply_of reply.old) }
+    ensures { out.new.items ≡ out.old.items ++ reply_bytes xid (read_done results.old) }
 {
-    match reply {
-        Reply::Success(answer) => match answer {
-            Answer::Read(told) => match told {
-                Ok(results) => {
-                    let size = results.bytes.as_slice().len() as u32;
-                    let arm = [NFS3_OK, 0, size, u32::from(results.eof), size];
-                    write_accepted(xid, SUCCESS, &arm, out);
-                    results.bytes.move_behind(out);
-                }
-                Err(_) => unreachable!(),
-            },
-            _ => unreachable!(),
-        },
-        _ => unreachable!(),
-    }
+    let size = results.bytes.as_slice().len() as u32;
+    let arm = [NFS3_OK, 0, size, u32::from(results.eof), size];
+    write_accepted(xid, SUCCESS, &arm, out);
+    results.bytes.move_behind(out);
+}
+
+/// Writes the record of the reply to a READ that is done, of this size, where nothing is written
+/// yet. Its bytes aren't copied.
+fn move_read_record(
+    out: &mut Vec<u8>,
+    xid: u32,
+    size: usize,
+    results: &mut ReadResults,
+) -> Result<(), AllocError>
+    requires empty { out.old.items ≡ [] }
+    requires short { length (reply_bytes xid (read_done results.old)) ≤ limit }
+    requires size { size ≡ 8 + length (body_bytes (read_done results.old)) }
+    ensures ok { OnOk result (out.new.items ≡ reply_record xid (read_done results.old)) }
+    ensures err { OnErr result ((out.new.items ≡ []) × (results.new ≡ results.old)) }
+    ensures succeeds { length (reply_record xid (read_done results.old)) ≤ vec_capacity out.old
+        → IsOk result }
+{
+    out.try_reserve(READ_HEAD)?;
+    put_header(out, size as u32)?;
+    append_read(xid, results, out);
+    Ok(())
 }
 
 /// Writes the record of a reply where nothing is written yet. The bytes of a READ aren't copied:
@@ -227,11 +238,15 @@ pub fn move_reply_record(out: &mut Vec<u8>, xid: u32, reply: &mut Reply) -> Resu
     ensures succeeds { length (reply_record xid (reply_of reply.old)) ≤ vec_capacity out.old
         → IsOk result }
 {
-    if !gives_bytes(reply) {
-        return write_reply_record(out, xid, reply);
+    let size = size_of_reply(reply);
+    match reply {
+        Reply::Success(answer) => match answer {
+            Answer::Read(told) => match told {
+                Ok(results) => move_read_record(out, xid, size, results),
+                Err(_) => write_sized(out, xid, size, reply),
+            },
+            _ => write_sized(out, xid, size, reply),
+        },
+        Reply::Refused(_) => write_sized(out, xid, size, reply),
     }
-    out.try_reserve(READ_HEAD)?;
-    put_header(out, size_of_reply(reply) as u32)?;
-    append_read(xid, reply, out);
-    Ok(())
 }

@@ -66,24 +66,12 @@ module _ {X : Type 0} where
   some-of (None ∷ xs) = some-of xs
   some-of (Some y ∷ xs) = ap (λ (z : List (Option X)). Some y ∷ z) (some-of xs)
 
-  pub length-present : (xs : List (Option X)) → length (present xs) ≤ length xs
-  length-present [] = omega arith
-  length-present (None ∷ xs) = let r = length-present xs in omega (arith, r)
-  length-present (Some y ∷ xs) = let r = length-present xs in omega (arith, r)
-
   pub count-rises : (xs : List (Option X)) (i j : ℕ) → i ≤ j → length (present (take i xs)) ≤ length (present (take j xs))
   count-rises xs zero j l = omega arith
   count-rises xs (suc i) zero l = absurd (omega (arith, l))
   count-rises [] (suc i) (suc j) l = omega arith
   count-rises (None ∷ xs) (suc i) (suc j) l = count-rises xs i j (omega (arith, l))
   count-rises (Some y ∷ xs) (suc i) (suc j) l = let r = count-rises xs i j (omega (arith, l)) in omega (arith, r)
-
-  pub count-all : (xs : List (Option X)) (i : ℕ) → length xs ≤ i → present (take i xs) ≡ present xs
-  count-all [] zero l = refl
-  count-all [] (suc i) l = refl
-  count-all (x ∷ xs) zero l = absurd (omega (arith, l))
-  count-all (None ∷ xs) (suc i) l = count-all xs i (omega (arith, l))
-  count-all (Some y ∷ xs) (suc i) l = ap (λ (z : List X). y ∷ z) (count-all xs i (omega (arith, l)))
 
   pub count-below : (xs : List (Option X)) (i : ℕ) → length (present (take i xs)) ≤ i
   count-below xs zero = omega arith

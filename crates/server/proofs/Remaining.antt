@@ -9,7 +9,7 @@ use Rattle.depot_rule.specs.lemmas.Sums.{total-append}
 use Rattle.turns.specs.Apart.{AreOf}
 use Rattle.turns.specs.Balance.{FilerEntry, Passed, Weight, by_entry, by_key, by_kept, IsEven}
 use Rattle.turns.specs.Words.{entries_in, layout_in, seats_in, verifier_in, HasOpened, IsAt}
-use Rattle.turns.specs.declared.message.Message.{Message}
+use Rattle.turns.specs.Messages.{Message}
 use Rattle.turns.specs.declared.parts.WorkerParts.{WorkerParts}
 use Rattle.turns.specs.declared.shared.Filer.{Filer}
 use Rattle.turns.specs.declared.shared_waiting.pass.SharedWaiting.{SharedWaiting}

@@ -3,7 +3,7 @@ use Rattle.std.specs.Prelude.{◌≡◌, [], Some}
 use Rattle.affinity.specs.declared.layout.Layout.{Layout}
 use Rattle.lanes.specs.Queues.{HasBoth}
 use Rattle.server.specs.declared.opening.Queue.{Queue}
-use Rattle.turns.specs.declared.message.Message.{Message}
+use Rattle.turns.specs.Messages.{Message}
 use Rattle.turns.specs.declared.shared.Filer.{Filer}
 use Rattle.turns.specs.declared.shared_waiting.pass.Pass.{Pass}
 use Rattle.turns.specs.declared.shared_waiting.pass.SharedWaiting.{SharedWaiting}

@@ -1,36 +1,44 @@
--- Records of replies at once are short.
-use Rattle.std.proofs.Common.{◌≡◌, ◌≤◌, ◌+◌, ◌*◌, ℕ, List, length, ap, ◌∙◌, arith}
+-- Records of replies at once are short, and what is given on is what the record comes to.
+use Rattle.std.proofs.Common.{◌≡◌, ◌≤◌, ℕ, List, [], ◌∷◌, Option, Some, None, length, sym, ap, subst, ◌∙◌, arith}
 use Rattle.nfs_model.specs.Types as types
-use Rattle.nfs_model.specs.Tree.{Layout}
-use Rattle.nfs_model.specs.Serial.AtOnce.{answer_without_home}
+use Rattle.nfs_model.specs.Tree.{Affinity, Layout}
+use Rattle.nfs_model.specs.Home.{home_of_asked}
 use Rattle.nfs_values.specs.declared.call.Call.{Call}
-use Rattle.nfs_values.specs.Call.{call_of}
-use Rattle.rpc_msg.specs.declared.handle_form.HandleForm.{HandleForm}
-use Rattle.rpc_msg.specs.Handles.{reply_told}
-use Rattle.rpc_msg.specs.lemmas.Refusals.{refusal_told}
-use Rattle.rpc_msg.specs.Replies.{reply_record, IsRefusal}
-use Rattle.rpc_msg.specs.Room.{refusal_room, reply_room}
-use Rattle.outboxes.specs.Boxes.{most_bytes}
+use Rattle.affinity.specs.Affinity.{affinity_of}
+use Rattle.scheduler.specs.declared.message.Message.{Message}
+use Rattle.scheduler.specs.declared.message.Origin.{Origin}
+use Rattle.engine_feed.specs.Admission.{reply_at_once, IsMessageFor}
+use Rattle.engine_feed.specs.Codec.{reply_record}
+use Rattle.engine_feed.specs.Limit.{reply_limit}
+use Rattle.engine_feed.specs.Seen.{message_of}
+use Rattle.engine_feed.specs.lemmas.Codec.{reply_record_is}
+use Rattle.outboxes.specs.Boxes.{addressed, most_bytes}
 use Rattle.outboxes.specs.Messages.{message, record_of}
 use Rattle.outboxes.specs.lemmas.Messages.{record_is}
+use Rattle.tcp_front.specs.Arrivals.{Arrival, Waits, Answered, placed}
+use Rattle.tcp_front.specs.Steps.{given_of}
 
-pub refused-fits : (xid : ℕ) (reply : types.Reply) → IsRefusal reply → length (reply_record xid reply) ≤ refusal_room → (form : HandleForm)
-    → length (record_of (message xid (reply_told form reply))) ≤ most_bytes
-refused-fits xid reply refuses fits form =
-    let told = ap (λ (x : types.Reply). length (record_of (message xid x))) (refusal_told form reply refuses) in
-    let same = ap (λ (l : List ℕ). length l) (record_is xid reply) in
-    omega (arith, told, same, fits)
+pub at-once-fits : (xid : ℕ) (reply : types.Reply) → length (reply_record xid reply) ≤ reply_limit → length (record_of (message xid reply)) ≤ most_bytes
+at-once-fits xid reply fits =
+    let same = ap (λ (l : List ℕ). length l) (record_is xid reply ∙ sym (reply_record_is xid reply)) in
+    omega (arith, same, fits)
 
-pub at-once-fits : (layout : Layout) (xid : ℕ) (call : Call) (answer : types.Answer) (volumes room : ℕ)
-    → answer ≡ answer_without_home layout (call_of call) → volumes ≡ length layout.volumes
-    → ((form : HandleForm) → length (reply_record xid (reply_told form (types.Success (answer_without_home layout (call_of call))))) ≤ reply_room
-    (length layout.volumes) (call_of call))
-    → room ≡ reply_room volumes (call_of call) → room ≤ 65584 + 20 * volumes → volumes ≤ 8
-    → (form : HandleForm) → length (record_of (message xid (reply_told form (types.Success answer)))) ≤ most_bytes
-at-once-fits layout xid call answer volumes room e v every r most few form =
-    let fits = every form in
-    let there = ap (λ (x : types.Answer). length (record_of (message xid (reply_told form (types.Success x))))) e in
-    let same = ap (λ (l : List ℕ). length l) (record_is xid (reply_told form (types.Success (answer_without_home layout (call_of call))))) in
-    let rooms : room ≡ reply_room (length layout.volumes) (call_of call) =
-    r ∙ ap (λ (n : ℕ). reply_room n (call_of call)) v in
-    omega (arith, there, same, fits, rooms, most, few)
+module _ (layout : Layout) (origin : Origin) (asked : types.Asked) where
+  abbrev given_as : Option Affinity → List Arrival
+  given_as home = placed layout origin.connection.0 origin.number (record { xid = origin.xid; asked = asked }) home ∷ []
+
+  pub waits-is : (m : Message Call) → IsMessageFor layout origin asked m → Waits (message_of m) ∷ [] ≡ given_of layout origin asked
+  waits-is m h =
+      let home : home_of_asked layout asked ≡ Some (affinity_of m.affinity) =
+      subst (λ (a : types.Asked). home_of_asked layout a ≡ Some (affinity_of m.affinity)) h.asks h.at_home in
+      (λ j. Waits (record {
+        connection = (h.from j).connection.0;
+        number = (h.from j).number;
+        xid = (h.from j).xid;
+        asked = h.asks j;
+        affinity = affinity_of m.affinity;
+      }) ∷ []) ∙ sym (ap given_as home)
+
+  pub answered-is : home_of_asked layout asked ≡ None
+      → Answered (addressed origin.connection.0 (message origin.xid (reply_at_once layout asked))) ∷ [] ≡ given_of layout origin asked
+  answered-is none = sym (ap given_as none)

@@ -1,4 +1,3 @@
-pub mod Roomy
 mod Sent
 mod Rows
 mod JoinedRows

@@ -1,24 +1,8 @@
--- Calls that were read, as they are put into a queue.
+-- The calls among what came.
 use Rattle.std.specs.Prelude.{◌≡◌, List, [], ◌∷◌, ◌++◌, refl}
 use Rattle.std.proofs.Common.{ap}
-use Rattle.nfs_model.specs.Types as types
 use Rattle.nfs_model.specs.World as worlds
-use Rattle.nfs_values.specs.Call.{call_of}
-use Rattle.nfs_values.specs.Credential.{credential_of}
-use Rattle.affinity.specs.Affinity.{affinity_of}
 use Rattle.tcp_front.specs.Arrivals.{Arrival, Waits, Answered}
-use Rattle.turns.specs.declared.message.Message.{Message}
-
--- a message to workers, without its room
-abbrev pub seen_of : Message → worlds.Message
-seen_of m =
-    record {
-      connection = m.origin.connection.0;
-      number = m.origin.number;
-      xid = m.origin.xid;
-      asked = types.Ask (call_of m.call) (credential_of m.credential);
-      affinity = affinity_of m.affinity;
-    }
 
 -- the calls among what came
 abbrev pub calls_of : List Arrival → List worlds.Message

@@ -1,10 +1,9 @@
 -- What the records of a connection come to (our profile).
 use Rattle.std.specs.Prelude.{ℕ, ◌+◌, ◌^◌, List, [], ◌∷◌, Option, Some, None}
-use Rattle.nfs_model.specs.Types.{Asked, Ask, Refused, Undecoded, Reply, Success, SystemError}
 use Rattle.nfs_model.specs.Tree.{Affinity, Layout}
 use Rattle.nfs_model.specs.Home.{home_of_asked}
-use Rattle.nfs_model.specs.Serial.AtOnce.{answer_without_home}
 use Rattle.nfs_model.specs.World.{Heard, Message}
+use Rattle.engine_feed.specs.Admission.{reply_at_once}
 use Rattle.outboxes.specs.Boxes.{Addressed, addressed}
 use Rattle.outboxes.specs.Messages.{message}
 
@@ -16,12 +15,6 @@ most_records = 2 ^ 62
 pub data Arrival : Type 0 where
   Waits : (message : Message) → Arrival
   Answered : (reply : Addressed) → Arrival
-
--- the reply to a record for which no state is read
-abbrev pub reply_at_once : Layout → Asked → Reply
-reply_at_once layout (Ask call credential) = Success (answer_without_home layout call)
-reply_at_once layout (Refused reply) = reply
-reply_at_once layout Undecoded = SystemError
 
 -- A call with a home waits, to try that; another record is answered.
 abbrev pub placed : Layout → ℕ → ℕ → Heard → Option Affinity → Arrival

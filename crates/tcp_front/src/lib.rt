@@ -4,7 +4,6 @@
 mod counted;
 mod giving;
 mod joining;
-pub mod message;
 mod next_record;
 mod piece;
 mod read_end;

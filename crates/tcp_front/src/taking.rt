@@ -12,8 +12,8 @@ use crate::next_record::{Next, next_record};
 use crate::sink::RecordSink;
 use crate::stream::{MOST_RECORDS, Stopped, Stream};
 use affinity::Layout;
-use engine_feed::{Heard, RecordRead, read_record};
-use rpc_msg::Offer;
+use engine_feed::{RecordRead, read_record};
+use rpc_msg::{Heard, Offer};
 use scheduler::Origin;
 
 /// Gives on a record under the next number.

@@ -15,7 +15,7 @@ use Rattle.filer_state.specs.state.Jobs.{InnerCall, JobReply, takes, gives, batc
 use Rattle.service.specs.Jobs.{job_of, job_reply_of, job_takes, job_gives}
 use Rattle.service.specs.declared.job.Job.{Job}
 use Rattle.service.specs.declared.job.Job.TheVariants.{Serve, Inner}
-use Rattle.turns.specs.declared.message.Message.{Message}
+use Rattle.turns.specs.Messages.{Message}
 use Rattle.turns.specs.declared.tend.Carried.{Carried}
 use Rattle.turns.specs.declared.tend.Carried.TheVariants.{Done, Refused}
 use Rattle.turns.specs.declared.tend.TendRefusal.{TendRefusal}

@@ -23,14 +23,13 @@ use Rattle.filer_state.specs.state.Jobs.{takes, gives}
 use Rattle.service.specs.Jobs.{job_of, job_takes, job_gives}
 use Rattle.service.specs.declared.job.JobReply.{JobReply}
 use Rattle.service.specs.declared.outcome.Outcome.TheVariants as outcomes
-use Rattle.turns.specs.declared.message.Message.{Message}
 use Rattle.turns.specs.declared.chained.Chained.{Chained}
 use Rattle.turns.specs.declared.chained.Chained.TheVariants as chains
 use Rattle.turns.specs.declared.linking.Tried.{Tried}
 use Rattle.turns.specs.declared.linking.Tried.TheVariants as tries
 use Rattle.turns.specs.declared.linking.Link.TheVariants as links
 use Rattle.turns.specs.Balance.{Passed, FilerView, FilerEntry, Weight, by_key, IsEven}
-use Rattle.turns.specs.Messages.{IsPlaced, readdressed}
+use Rattle.turns.specs.Messages.{IsPlaced, readdressed, Message}
 use Rattle.turns.specs.Chains.{DidAll, IsAhead, HasTurnedOn, IsPicked, IsLeft, HasServedOn, HasTriedAll, left_standing}
 use Rattle.turns.specs.Chains.{chained_by, each_done}
 use Rattle.turns.specs.Links.{chained_so, kept_of, CanEnd, HasChained, HasEnded, HasGoneSo, HasLinked, HasRunSo}

@@ -18,11 +18,10 @@ use Rattle.service.specs.declared.job.JobReply.{JobReply}
 use Rattle.service.specs.declared.job.JobReply.TheVariants.{Replied}
 use Rattle.rpc_msg.specs.declared.handle_form.HandleForm.{HandleForm}
 use Rattle.rpc_msg.specs.Handles.{reply_told}
-use Rattle.turns.specs.declared.message.Message.{Message}
 use Rattle.turns.specs.declared.entering.Entry.{Entry}
 use Rattle.turns.specs.Balance.{FilerView}
 use Rattle.turns.specs.Links.{HasRoom, IsEntryFor}
-use Rattle.turns.specs.Messages.{message_in}
+use Rattle.turns.specs.Messages.{message_in, Message}
 use Rattle.turns.specs.Runs.{FilerLent}
 use Rattle.turns.specs.Turns.{filer_behaviour, job_of_message}
 

@@ -11,7 +11,7 @@ use Rattle.depot.specs.Grants.{entry_of}
 use Rattle.desk.specs.laws.Backing.{IsGranted}
 use Rattle.outboxes.specs.Boxes.{Addressed}
 use Rattle.service.specs.declared.job.JobReply.{JobReply}
-use Rattle.turns.specs.declared.message.Message.{Message}
+use Rattle.turns.specs.Messages.{Message}
 use Rattle.turns.specs.declared.linking.Tried.{Tried}
 use Rattle.turns.specs.declared.linking.Tried.TheVariants as tries
 use Rattle.turns.specs.declared.linking.Link.TheVariants as links

@@ -23,10 +23,9 @@ use Rattle.service.specs.declared.job.JobReply.TheVariants.{Replied}
 use Rattle.service.specs.declared.outcome.Outcome.{Outcome}
 use Rattle.rpc_msg.specs.declared.handle_form.HandleForm.{HandleForm}
 use Rattle.rpc_msg.specs.Handles.{reply_told}
-use Rattle.turns.specs.declared.message.Message.{Message}
 use Rattle.turns.specs.declared.entering.Entry.{Entry}
 use Rattle.turns.specs.Balance.{Passed, FilerView, FilerEntry}
-use Rattle.turns.specs.Messages.{IsPlaced}
+use Rattle.turns.specs.Messages.{IsPlaced, Message}
 use Rattle.turns.specs.Chains.{IsAhead, left_standing}
 use Rattle.turns.specs.Links.{IsEntered, IsToEnter, HasLinked, HasOnlyRead, HasRoom, HasRunSo, IsOver, Stands}
 use Rattle.turns.specs.declared.linking.Tried.{Tried}

@@ -21,7 +21,7 @@ use Rattle.service.specs.declared.job.JobReply.TheVariants.{Replied}
 use Rattle.service.specs.declared.outcome.Outcome.{Outcome}
 use Rattle.service.specs.declared.outcome.Outcome.TheVariants as outcomes
 use Rattle.service.specs.Running.{HasRun}
-use Rattle.turns.specs.declared.message.Message.{Message}
+use Rattle.turns.specs.Messages.{Message}
 use Rattle.turns.specs.declared.granted.Ended.{Ended}
 use Rattle.turns.specs.declared.granted.Ended.TheVariants as ends
 use Rattle.turns.specs.Balance.{FilerView}

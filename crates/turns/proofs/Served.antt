@@ -38,9 +38,8 @@ use Rattle.service.specs.declared.outcome.Outcome.{Outcome}
 use Rattle.service.specs.declared.outcome.Outcome.TheVariants as outcomes
 use Rattle.rpc_msg.specs.declared.handle_form.HandleForm.{HandleForm}
 use Rattle.rpc_msg.specs.Handles.{reply_told}
-use Rattle.turns.specs.declared.message.Message.{Message}
 use Rattle.turns.specs.Balance.{FilerView, FilerEntry}
-use Rattle.turns.specs.Messages.{IsPlaced}
+use Rattle.turns.specs.Messages.{IsPlaced, Message}
 use Rattle.turns.specs.Runs.{FilerLent, HasRunOn}
 use Rattle.turns.specs.Turns.{filer_behaviour, job_of_message, HasFinished, HasMoved}
 use Rattle.turns.specs.Words.{HasOpened, IsReady}

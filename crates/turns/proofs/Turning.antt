@@ -17,8 +17,7 @@ use Rattle.service.specs.Jobs.{job_of, job_takes, job_gives}
 use Rattle.service.specs.declared.job.Job.{Job}
 use Rattle.service.specs.declared.job.JobReply.{JobReply}
 use Rattle.turns.specs.shared_waiting.Balance.{Leaves, FitsIn}
-use Rattle.turns.specs.declared.message.Message.{Message}
-use Rattle.turns.specs.Messages.{IsPlaced, Fits}
+use Rattle.turns.specs.Messages.{IsPlaced, Fits, Message}
 use Rattle.turns.specs.Balance.{Passed, FilerView, FilerEntry, Weight, by_key, by_job, by_entry, by_kept, IsEven}
 use Rattle.turns.specs.Turns.{IsNext, HasNext, IsEntryOf, WaitsAgain, HasPut, HasShareOf}
 use Rattle.turns.specs.Turns.{HasFinished, HasMoved, HasServed, IsTold, HasTried, HasReturned, Did}

@@ -14,7 +14,7 @@ use Rattle.service.specs.declared.job.Job.{Job}
 use Rattle.service.specs.declared.job.Job.TheVariants.{Serve, Inner}
 use Rattle.service.specs.declared.job.JobReply.{JobReply}
 use Rattle.turns.specs.declared.shared_waiting.view.View as queues
-use Rattle.turns.specs.declared.message.Message.{Message}
+use Rattle.turns.specs.Messages.{Message}
 
 -- an entry of the history of a filer's depot
 abbrev pub FilerEntry : Type 0

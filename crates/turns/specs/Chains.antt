@@ -7,7 +7,7 @@ use Rattle.depot.specs.Grants.{IsRefused}
 use Rattle.depot.specs.declared.grants.Refusal.{Refusal}
 use Rattle.depot.specs.declared.grants.Refusal.TheVariants as refusals
 use Rattle.outboxes.specs.Boxes.{Addressed, Boxes, put}
-use Rattle.turns.specs.declared.message.Message.{Message}
+use Rattle.turns.specs.Messages.{Message}
 use Rattle.turns.specs.declared.turned.Turn.TheVariants as turns
 use Rattle.turns.specs.declared.chained.Chained.{Chained}
 use Rattle.turns.specs.declared.chained.Chained.TheVariants as chains

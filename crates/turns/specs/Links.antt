@@ -19,7 +19,6 @@ use Rattle.outboxes.specs.Messages.{record_of}
 use Rattle.service.specs.declared.job.JobReply.TheVariants.{Replied}
 use Rattle.service.specs.declared.outcome.Outcome.{Outcome}
 use Rattle.service.specs.declared.outcome.Outcome.TheVariants as outcomes
-use Rattle.turns.specs.declared.message.Message.{Message}
 use Rattle.service.specs.declared.job.JobReply.{JobReply}
 use Rattle.turns.specs.declared.entering.Entry.{Entry}
 use Rattle.turns.specs.declared.chained.Chained.{Chained}
@@ -29,7 +28,7 @@ use Rattle.turns.specs.declared.linking.Tried.TheVariants as tries
 use Rattle.turns.specs.declared.linking.Link.{Link}
 use Rattle.turns.specs.declared.linking.Link.TheVariants as links
 use Rattle.turns.specs.Balance.{Passed, FilerView}
-use Rattle.turns.specs.Messages.{IsPlaced, readdressed}
+use Rattle.turns.specs.Messages.{IsPlaced, readdressed, Message}
 use Rattle.turns.specs.Chains.{IsAhead, IsPicked, DidAll}
 use Rattle.turns.specs.Runs.{FilerLent, HasRunFrom}
 use Rattle.turns.specs.Turns.{filer_behaviour, job_of_message, Standing, HasDoneFrom}

@@ -19,7 +19,11 @@ use Rattle.service.specs.declared.job.Asked.TheVariants as asks
 use Rattle.service.specs.declared.job.Job.{Job}
 use Rattle.service.specs.declared.job.Job.TheVariants.{Serve, Inner}
 use Rattle.service.specs.declared.job.ServedCall.{ServedCall}
-use Rattle.turns.specs.declared.message.Message.{Message}
+use Rattle.scheduler.specs.declared.message.Message as scheduler
+
+-- a call that waits for a worker, with the room of its reply
+abbrev pub Message : Type 0
+Message = scheduler.Message Call
 
 -- ---- the entry of a call
 

@@ -5,7 +5,7 @@ use Rattle.nfs_model.specs.Parts.{Hand, Empty, Fresh, Dead, most_ranges, range_o
 use Rattle.nfs_model.specs.Events.Refusals.{is_empty_hand}
 use Rattle.filer_state.specs.state.Jobs as jobs
 use Rattle.filer_state.specs.state.Jobs.{InnerCall, JobReply}
-use Rattle.turns.specs.declared.message.Message.{Message}
+use Rattle.turns.specs.Messages.{Message}
 use Rattle.turns.specs.declared.tend.Tend.{Tend}
 use Rattle.turns.specs.declared.tend.Tend.TheVariants.{Fetch, Cull, PutDown}
 use Rattle.turns.specs.declared.tend.Tended.{Tended}

@@ -28,13 +28,12 @@ use Rattle.service.specs.declared.job.Job.{Job}
 use Rattle.service.specs.declared.job.Job.TheVariants.{Serve}
 use Rattle.service.specs.declared.job.JobReply.{JobReply}
 use Rattle.turns.specs.shared_waiting.Balance.{Leaves}
-use Rattle.turns.specs.declared.message.Message.{Message}
 use Rattle.turns.specs.declared.turned.Turn.{Turn}
 use Rattle.turns.specs.declared.turned.Turn.TheVariants as turns
 use Rattle.turns.specs.declared.turned.Served.{Served}
 use Rattle.turns.specs.declared.turned.Served.TheVariants as served
 use Rattle.turns.specs.declared.worker.Worker.{Worker}
-use Rattle.turns.specs.Messages.{IsPlaced}
+use Rattle.turns.specs.Messages.{IsPlaced, Message}
 use Rattle.turns.specs.Balance.{Passed, FilerView, FilerEntry}
 use Rattle.turns.specs.Words.{seat_view, passed, entries_in}
 

@@ -17,10 +17,9 @@ use Rattle.filer_state.specs.declared.files.Files.{Files}
 use Rattle.turns.specs.declared.shared_waiting.pass.SharedWaiting.{SharedWaiting}
 use Rattle.turns.specs.shared_waiting.Passes as passes
 use Rattle.turns.specs.shared_waiting.Passes.{IsOf}
-use Rattle.turns.specs.declared.message.Message.{Message}
 use Rattle.turns.specs.declared.shared.Filer.{Filer}
 use Rattle.turns.specs.declared.worker.Worker.{Worker}
-use Rattle.turns.specs.Messages.{IsPlaced}
+use Rattle.turns.specs.Messages.{IsPlaced, Message}
 use Rattle.turns.specs.Balance.{Passed, FilerView, FilerEntry}
 
 -- ---- of a filer

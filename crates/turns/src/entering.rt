@@ -65,8 +65,6 @@ pub(crate) fn answered(entry: Entry, told: &mut JobReply, handles: HandleForm) -
             tell(reply, handles);
             Answer::new(origin.connection, origin.xid, reply, room)
         }
-        JobReply::Took(_took) => unreachable!(),
-        JobReply::Gave(_gave) => unreachable!(),
-        JobReply::Surveyed(_counts) => unreachable!(),
+        JobReply::Took(_) | JobReply::Gave(_) | JobReply::Surveyed(_) => unreachable!(),
     }
 }

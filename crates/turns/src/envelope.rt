@@ -1,14 +1,14 @@
 //! Messages in memory of their own.
 
-ghost use Rattle.std.specs.Prelude.{◌≡◌, IfOk};
+ghost use Rattle.std.specs.Prelude.{◌≡◌, ◌≤◌, IfOk};
+ghost use Rattle.outboxes.specs.Boxes.{most_bytes};
 ghost use Rattle.turns.specs.Messages.{readdressed};
 
-use crate::message::Message;
 use crate::shared_waiting::Fitting;
 use affinity::{Affinity, Layout};
 use nfs_values::{Call, Credential, Moment};
 use outboxes::Room;
-use scheduler::Origin;
+use scheduler::{Message, Origin};
 use service::{Asked, Job, ServedCall};
 use std::alloc::{AllocError, Global};
 use std::marker::Model;
@@ -22,8 +22,7 @@ pub struct Envelope {
 }
 
 impl Model for Envelope {
-    ghost use Rattle.turns.specs.declared.message.Message.{Message};
-    ghost use Rattle.turns.specs.Messages.{message_in, IsOfCall};
+    ghost use Rattle.turns.specs.Messages.{message_in, IsOfCall, Message};
 
     ghost Value = { Message };
 
@@ -39,8 +38,23 @@ impl Fitting<Layout> for Envelope {
 }
 
 impl Envelope {
-    /// A message in memory of its own.
-    pub fn new(alloc: Global, message: Message) -> Result<Envelope, AllocError>
+    /// A message in memory of its own, with room for its reply.
+    pub fn new(alloc: Global, message: Message<Call>) -> Result<Envelope, AllocError>
+        requires { message.room ≤ most_bytes }
+        ensures { IfOk result (λ envelope. envelope ≡ message) }
+    {
+        match Room::new(alloc, message.room) {
+            Ok(room) => Envelope::in_room(alloc, message, room),
+            Err(refused) => {
+                drop(message);
+                Err(refused)
+            }
+        }
+    }
+
+    /// A message in memory of its own, with this room for its reply.
+    fn in_room(alloc: Global, message: Message<Call>, room: Room) -> Result<Envelope, AllocError>
+        requires { room ≡ message.room }
         ensures { IfOk result (λ envelope. envelope ≡ message) }
     {
         let Message {
@@ -48,7 +62,7 @@ impl Envelope {
             call,
             credential,
             affinity,
-            room,
+            room: _,
         } = message;
         let job = Job::Serve(ServedCall {
             connection: origin.connection,
@@ -100,8 +114,7 @@ impl Envelope {
         match &*self.job {
             Job::Serve(served) => match &served.asked {
                 Asked::Call { call, credential } => (call, *credential),
-                Asked::Refused(_refusal) => unreachable!(),
-                Asked::Undecoded => unreachable!(),
+                Asked::Refused(_) | Asked::Undecoded => unreachable!(),
             },
             Job::Inner(_call) => unreachable!(),
         }

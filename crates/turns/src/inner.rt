@@ -11,7 +11,7 @@ ghost use Rattle.turns.specs.Words.{layout_in, verifier_in, IsReady};
 use crate::granted::Ran;
 use crate::shared::Filer;
 use crate::tend::{Carried, TendRefusal};
-use affinity::{Affinity, Kind};
+use affinity::Affinity;
 use depot::{Refusal, Seat};
 use desk::{NodeGrant, ParcelKinds, TaskNode, begin_node, finish_node, put_back_node, work_node};
 use filer_state::Files;
@@ -138,10 +138,11 @@ pub(crate) fn carry(
     ensures carried { HasCarried (layout_in filer.now)
         (view seat.old) (inner_of call) hand result (view seat.new) }
 {
-    match node_of(call).kind() {
-        Kind::Range => carry_on::<RangeNode>(filer, seat, call, hand),
-        Kind::VolumeLogical => carry_on::<LogicalNode>(filer, seat, call, hand),
-        Kind::VolumeVbn => carry_on::<VbnNode>(filer, seat, call, hand),
-        _ => unreachable!(),
+    match call {
+        InnerCall::Fetch { .. } => carry_on::<RangeNode>(filer, seat, call, hand),
+        InnerCall::Free { .. } => carry_on::<RangeNode>(filer, seat, call, hand),
+        InnerCall::Deliver { .. } => carry_on::<LogicalNode>(filer, seat, call, hand),
+        InnerCall::Cull { .. } => carry_on::<LogicalNode>(filer, seat, call, hand),
+        InnerCall::Survey { .. } => carry_on::<VbnNode>(filer, seat, call, hand),
     }
 }

@@ -121,8 +121,7 @@ fn told(reply: JobReply) -> (BatchInHand, Tended)
             let count = blocks_in(&hand);
             (BatchInHand::new(Hand::Empty), Tended::PutDown { count })
         }
-        JobReply::Replied(_reply) => unreachable!(),
-        JobReply::Surveyed(_counts) => unreachable!(),
+        JobReply::Replied(_) | JobReply::Surveyed(_) => unreachable!(),
     }
 }
 

@@ -23,7 +23,7 @@ use Rattle.filer_state.specs.state.Tree.{server_of, tree}
 use Rattle.parcels.specs.Sets.{serial_parcels}
 use Rattle.filer_state.specs.declared.files.Files.{Files}
 use Rattle.turns.specs.Jobs.{job_steps, job_takes, job_gives}
-use Rattle.turns.specs.declared.message.Message.{Message}
+use Rattle.turns.specs.Messages.{Message}
 use Rattle.turns.specs.Balance.{FilerEntry, FilerView, Weight, by_entry, by_key}
 use Rattle.turns.specs.Logs.{calls_in, replies_in}
 use Rattle.turns.specs.Turns.{filer_behaviour}

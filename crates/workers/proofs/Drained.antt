@@ -4,7 +4,7 @@ use Rattle.crossbeam_queue.specs.Fifo.{Held}
 use Rattle.depot_rule.specs.Sums.{total}
 use Rattle.depot_rule.specs.lemmas.Sums.{total-append}
 use Rattle.turns.specs.shared_waiting.Balance.{taken, IsWhole, Leaves}
-use Rattle.turns.specs.declared.message.Message.{Message}
+use Rattle.turns.specs.Messages.{Message}
 use Rattle.turns.specs.Balance.{Passed}
 use Rattle.workers.proofs.Lists.{total-one, none-left}
 

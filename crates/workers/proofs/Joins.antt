@@ -14,7 +14,7 @@ use Rattle.filer_state.specs.declared.files.Files.{Files}
 use Rattle.turns.specs.Jobs.{job_takes, job_gives}
 use Rattle.turns.specs.shared_waiting.Balance.{both}
 use Rattle.turns.specs.shared_waiting.Passes.{IsOf}
-use Rattle.turns.specs.declared.message.Message.{Message}
+use Rattle.turns.specs.Messages.{Message}
 use Rattle.turns.specs.declared.parts.WorkerParts.{WorkerParts}
 use Rattle.turns.specs.declared.shared.Filer.{Filer}
 use Rattle.turns.specs.declared.worker.Worker.{Worker}

@@ -13,7 +13,7 @@ use Rattle.filer_state.specs.state.Sound.{AllSound}
 use Rattle.filer_state.specs.state.Tree.{tree}
 use Rattle.filer_state.specs.declared.files.Files.{Files}
 use Rattle.turns.specs.Jobs.{job_steps, job_takes, job_gives}
-use Rattle.turns.specs.declared.message.Message.{Message}
+use Rattle.turns.specs.Messages.{Message}
 use Rattle.turns.specs.Balance.{FilerEntry, Weight, by_entry, by_key}
 use Rattle.turns.specs.Logs.{calls_in, replies_in}
 use Rattle.turns.specs.Turns.{filer_behaviour}

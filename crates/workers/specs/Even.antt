@@ -1,7 +1,7 @@
 -- What workers that were put together keep.
 use Rattle.std.specs.Prelude.{◌≡◌, ◌+◌, List}
 use Rattle.depot_rule.specs.Sums.{total}
-use Rattle.turns.specs.declared.message.Message.{Message}
+use Rattle.turns.specs.Messages.{Message}
 use Rattle.turns.specs.Balance.{FilerEntry, Passed, Weight, by_entry, by_key}
 
 -- what was picked is, as often, what was finished, what was put back, and what is kept

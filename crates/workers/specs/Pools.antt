@@ -8,7 +8,7 @@ use Rattle.workers.specs.Threads.{Thread, lent_share_with, seats_with, share_wit
 use Rattle.turns.specs.shared_waiting.Balance.{part}
 use Rattle.turns.specs.shared_waiting.Passes.{known}
 use Rattle.turns.specs.Balance.{FilerEntry}
-use Rattle.turns.specs.declared.message.Message.{Message}
+use Rattle.turns.specs.Messages.{Message}
 use Rattle.turns.specs.declared.shared.Filer.{Filer}
 use Rattle.turns.specs.declared.shared_outboxes.SharedOutboxes.{SharedOutboxes}
 use Rattle.turns.specs.SharedOutboxes.{OutboxesPass}

@@ -7,7 +7,7 @@ use Rattle.filer_state.specs.state.Jobs.{batches_in}
 use Rattle.turns.specs.shared_waiting.Balance.{part}
 use Rattle.turns.specs.shared_waiting.Passes.{known}
 use Rattle.turns.specs.declared.shared_waiting.pass.Pass.{Pass}
-use Rattle.turns.specs.declared.message.Message.{Message}
+use Rattle.turns.specs.Messages.{Message}
 use Rattle.turns.specs.declared.worker.Worker.{Worker}
 use Rattle.turns.specs.Balance.{FilerEntry, Passed, Weight, by_key, by_kept}
 use Rattle.turns.specs.Words.{entries_in, passed}

@@ -4,7 +4,7 @@ ghost use Rattle.std.specs.Prelude.{◌≡◌, ◌≤◌, ◌+◌, ℕ, [], vec_
 ghost use Rattle.depot_rule.specs.Sums.{total};
 ghost use Rattle.turns.specs.shared_waiting.Balance.{IsWhole};
 ghost use Rattle.turns.specs.shared_waiting.Passes.{known, IsOf};
-ghost use Rattle.turns.specs.declared.message.Message as messages;
+ghost use Rattle.turns.specs.Messages as messages;
 
 use affinity::Layout;
 use std::sync::Wait;

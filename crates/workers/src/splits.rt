@@ -4,7 +4,7 @@ ghost use Rattle.std.specs.Prelude.{◌≡◌, ◌<◌, ◌≤◌, ◌+◌, ℕ,
 ghost use Rattle.std.specs.Prelude.{vec_len, vec_capacity};
 ghost use Rattle.depot_rule.specs.Sums.{total};
 ghost use Rattle.workers.specs.Shares.{entries_by, picks_by, puts_by, share_of};
-ghost use Rattle.turns.specs.declared.message.Message as messages;
+ghost use Rattle.turns.specs.Messages as messages;
 ghost use Rattle.turns.specs.Balance.{FilerEntry};
 ghost use Rattle.depot.specs.Words.{view, splits_left, HasNoGrant, IsSeatHere};
 ghost use Rattle.depot_rule.specs.History.{entries_of, AreHands};

@@ -1,5 +1,5 @@
 -- Sums over views and over places.
-use Rattle.std.proofs.Common.{◌≡◌, ◌≢◌, ℕ, zero, suc, ◌+◌, ◌*◌, ◌<◌, ◌≤◌, eqb, Bool, true, false, List, [], ◌∷◌, ◌++◌, map, replicate}
+use Rattle.std.proofs.Common.{◌≡◌, ◌≢◌, ℕ, zero, suc, ◌+◌, ◌*◌, ◌<◌, ◌≤◌, eqb, Bool, true, false, List, [], ◌∷◌, ◌++◌, replicate}
 use Rattle.std.proofs.Common.{length, set, sym, refl, ap, ◌∙◌, arith, Option, Some, None, ne_eqb}
 use mathlib.Core.Option.{some, some-injective, some-ne-none}
 use mathlib.Core.Logic.{dite}
@@ -93,10 +93,6 @@ module _ {A : Type 0} where
   pub total-same : (f g : A → ℕ) → ((x : A) → f x ≡ g x) → (l : List A) → total f l ≡ total g l
   total-same f g e [] = refl
   total-same f g e (x ∷ xs) = let a = e x in let r = total-same f g e xs in omega arith
-
-  pub total-map : {B : Type 0} (f : A → ℕ) (g : B → A) (h : B → ℕ) → ((y : B) → f (g y) ≡ h y) → (l : List B) → total f (map g l) ≡ total h l
-  total-map f g h e [] = refl
-  total-map f g h e (y ∷ ys) = let a = e y in let r = total-map f g h e ys in omega arith
 
 pub tally-append : (a : ℕ) (xs ys : List ℕ) → tally a (xs ++ ys) ≡ tally a xs + tally a ys
 tally-append a [] ys = omega arith

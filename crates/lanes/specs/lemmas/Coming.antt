@@ -1,7 +1,8 @@
 -- What comes to an intake adds up.
 use Rattle.std.proofs.Common.{◌≡◌, refl, sym, ap, ◌∙◌, List, [], ◌∷◌, ◌++◌, map, append_assoc, append-nil}
 use Rattle.outboxes.specs.Boxes.{Addressed, Boxes, put}
-use Rattle.tcp_front.specs.Admitted.{calls_of, seen_of}
+use Rattle.engine_feed.specs.Seen.{message_of}
+use Rattle.tcp_front.specs.Admitted.{calls_of}
 use Rattle.tcp_front.specs.Arrivals.{Arrival, Waits, Answered}
 use Rattle.turns.specs.shared_waiting.Passes.{known}
 use Rattle.lanes.specs.declared.intake.Intake.{Intake}
@@ -28,7 +29,7 @@ taken_none s =
     record {
       filer_is = refl;
       queue_is = refl;
-      put = sym (append-nil (map seen_of (known s.pass).put));
+      put = sym (append-nil (map message_of (known s.pass).put));
       picked = refl;
       share = (refl, refl, refl);
       same = record { seat = refl; pass = refl; hand = refl; kept = refl };
@@ -43,8 +44,8 @@ taken_more s t u xs ys f g =
       filer_is = g.filer_is ∙ f.filer_is;
       queue_is = g.queue_is ∙ f.queue_is;
       put =
-          g.put ∙ ap (λ ms. ms ++ calls_of ys) f.put ∙ append_assoc (map seen_of (known s.pass).put) (calls_of xs) (calls_of ys)
-          ∙ ap (λ ms. map seen_of (known s.pass).put ++ ms) (sym (calls-append xs ys));
+          g.put ∙ ap (λ ms. ms ++ calls_of ys) f.put ∙ append_assoc (map message_of (known s.pass).put) (calls_of xs) (calls_of ys)
+          ∙ ap (λ ms. map message_of (known s.pass).put ++ ms) (sym (calls-append xs ys));
       picked = g.picked ∙ f.picked;
       share = (g.share.0 ∙ f.share.0, g.share.1 ∙ f.share.1, g.share.2 ∙ f.share.2);
       same = record {

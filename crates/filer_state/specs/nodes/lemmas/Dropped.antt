@@ -226,22 +226,6 @@ module _ (p : VolumeContents) (m : Dropping) (well : WellFormed p) (may : LosesN
   -- ---- the volume that is seen
 
   module _ (parent : ℕ) (says : parent_in m.inode.kind ≡ Some parent) where
-    pub was-directory : node_of p.stripes p.logical.directories m.directory m.inode ≡ Directory (seen_directory m.inode m.entries parent)
-    was-directory = by m.inode.kind says
-      where
-        by : (kind : InodeKind) → parent_in kind ≡ Some parent
-            → node_by p.stripes (get p.logical.directories m.directory) m.directory m.inode.attributes kind
-            ≡ Directory (seen_directory m.inode m.entries parent)
-        by (RegularFile size filled verifier) e = absurd cc
-        by (DirectoryKind up subdirectories) e =
-            let same : up ≡ parent = cc in
-            λ j. Directory (record {
-              attributes = m.inode.attributes;
-              parent = same j;
-              next = (directory_or_empty (may.entered j)).next;
-              list = (directory_or_empty (may.entered j)).list;
-            })
-
     abbrev pub directory_then : Node
     directory_then = Directory (dropped_name (seen_directory m.inode m.entries parent) m.name m.moment)
 

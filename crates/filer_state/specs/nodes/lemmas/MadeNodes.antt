@@ -1,5 +1,5 @@
 -- The volume that is seen after a node is made under a name: one more node, and one more entry.
-use Rattle.std.proofs.Common.{◌≡◌, ℕ, ◌+◌, ◌==◌, ◌/◌, ◌%◌, Bool, true, false, List, [], ◌∷◌, length, map, replicate, Option, Some, None}
+use Rattle.std.proofs.Common.{◌≡◌, ℕ, ◌+◌, ◌==◌, ◌/◌, ◌%◌, Bool, false, List, [], ◌∷◌, length, map, replicate, Option, Some, None}
 use Rattle.std.proofs.Common.{refl, sym, ap, ◌∙◌}
 use Rattle.std.specs.Prelude.{if◌then◌else◌, is_some}
 use Rattle.std.proofs.lemmas.List.FromFn.{length-range_with_len}
@@ -17,7 +17,7 @@ use Rattle.nfs_model.specs.volume.lemmas.Maps.{get-map_values}
 use Rattle.nfs_model.specs.volume.lemmas.Numbered.{get-insert_at, same-answers, itself}
 use Rattle.filer_state.specs.state.Contents.{VolumeContents}
 use Rattle.filer_state.specs.state.Tree.{home_stripe, file_bytes, directory_or_empty, node_by, node_of, volume_of}
-use Rattle.filer_state.specs.state.Names.{parent_in, is_directory}
+use Rattle.filer_state.specs.state.Names.{parent_in}
 use Rattle.filer_state.specs.state.WellFormed.{WellFormed}
 use Rattle.filer_state.specs.laws.lemmas.SameBlocks as blocks
 use Rattle.filer_state.specs.nodes.Making.{Making, with_subdirectories, directories_in, directory_inode, inodes_made, card_made}
@@ -94,22 +94,6 @@ module _ (p : VolumeContents) (m : Making) (well : WellFormed p) (may : MayBeMad
           })) found
 
   -- ---- the directory, and the others
-
-  pub was-directory : (parent : ℕ) → parent_in m.inode.kind ≡ Some parent
-      → node_of p.stripes p.logical.directories m.directory m.inode ≡ Directory (seen_directory m.inode m.entries parent)
-  was-directory parent says = by m.inode.kind says
-    where
-      by : (kind : InodeKind) → parent_in kind ≡ Some parent
-          → node_by p.stripes (get p.logical.directories m.directory) m.directory m.inode.attributes kind ≡ Directory (seen_directory m.inode m.entries parent)
-      by (RegularFile size filled verifier) e = absurd cc
-      by (DirectoryKind up subdirectories) e =
-          let same : up ≡ parent = cc in
-          λ j. Directory (record {
-            attributes = m.inode.attributes;
-            parent = same j;
-            next = (directory_or_empty (may.entered j)).next;
-            list = (directory_or_empty (may.entered j)).list;
-          })
 
   is-directory : (parent : ℕ) → parent_in m.inode.kind ≡ Some parent
       → node_of after.stripes after.logical.directories m.directory (directory_inode m)

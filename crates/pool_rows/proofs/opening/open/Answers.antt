@@ -3,7 +3,7 @@ use Rattle.affinity.specs.declared.layout.Layout.{Layout}
 use Rattle.depot.specs.Words.{view, splits_left, IsSeatHere}
 use Rattle.turns.specs.shared_waiting.Passes.{known, IsOf}
 use Rattle.turns.specs.declared.shared_waiting.pass.SharedWaiting.{SharedWaiting}
-use Rattle.turns.specs.declared.message.Message.{Message}
+use Rattle.turns.specs.Messages.{Message}
 use Rattle.turns.specs.declared.shared.Filer.{Filer}
 use Rattle.pool_rows.specs.Threads.{IsUnstarted}
 use Rattle.pool_rows.proofs.Wholes.{unstarted}

@@ -1,7 +1,6 @@
 use Rattle.std.proofs.Common.{◌∙◌, ap, sym}
 use Rattle.service.specs.declared.job.Job.{Job}
-use Rattle.turns.specs.declared.message.Message.{Message}
-use Rattle.turns.specs.Messages.{message_in}
+use Rattle.turns.specs.Messages.{message_in, Message}
 use Rattle.turns.specs.Turns.{job_of_message}
 use Rattle.turns.proofs.Entered.{room-of}
 use Rattle.turns.proofs.entering.enter.Goals as goal

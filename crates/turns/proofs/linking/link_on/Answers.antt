@@ -4,10 +4,9 @@ use Rattle.depot.specs.Words.{view}
 use Rattle.desk.specs.Any.{node_lent}
 use Rattle.outboxes.specs.Boxes.{Addressed}
 use Rattle.turns.specs.Telling.{TookTold}
-use Rattle.turns.specs.declared.message.Message.{Message}
 use Rattle.turns.specs.shared_waiting.Passes.{known}
 use Rattle.turns.specs.Chains.{IsAhead}
-use Rattle.turns.specs.Messages.{IsPlaced}
+use Rattle.turns.specs.Messages.{IsPlaced, Message}
 use Rattle.turns.specs.Words.{layout_in, verifier_in}
 use Rattle.turns.proofs.Linked.{lent-for, may-enter, has-room, entered-so, link-moved, link-over, link-on, none-read}
 use Rattle.turns.proofs.linking.link_on.Goals as goal

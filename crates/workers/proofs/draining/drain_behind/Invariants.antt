@@ -2,7 +2,7 @@ use Rattle.std.proofs.Common.{◌≡◌, ◌≤◌, ◌+◌, ℕ, length, vec_le
 use Rattle.depot_rule.specs.Sums.{total}
 use Rattle.turns.specs.shared_waiting.Balance.{IsWhole}
 use Rattle.turns.specs.shared_waiting.Passes.{known, IsOf}
-use Rattle.turns.specs.declared.message.Message.{Message}
+use Rattle.turns.specs.Messages.{Message}
 use Rattle.workers.proofs.draining.drain_behind.Given as goal
 
 abbrev pub invariant-loop : goal.invariant-loop

@@ -3,8 +3,7 @@ use Rattle.std.specs.Prelude.{IfSome}
 use Rattle.nfs_model.specs.Parts.{Hand}
 use Rattle.depot.specs.Words.{view, IsSeatHere}
 use Rattle.turns.specs.shared_waiting.Passes.{known, IsOf}
-use Rattle.turns.specs.declared.message.Message.{Message}
-use Rattle.turns.specs.Messages.{IsPlaced}
+use Rattle.turns.specs.Messages.{IsPlaced, Message}
 use Rattle.turns.specs.Words.{layout_in, layout_known, verifier_in, HasOpened, IsHandIn}
 use Rattle.workers.proofs.splits.first_worker.Goals as goal
 

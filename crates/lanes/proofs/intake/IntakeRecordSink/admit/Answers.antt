@@ -1,9 +1,11 @@
-use Rattle.std.proofs.Common.{◌≡◌, ◌<◌, ap, sym, ◌∙◌, rules}
+use Rattle.std.proofs.Common.{◌≡◌, ◌<◌, ap, sym, subst, ◌∙◌, rules}
 use Rattle.turns.specs.Balance.{Passed}
+use Rattle.turns.specs.shared_waiting.Balance.{FitsIn}
+use Rattle.turns.specs.Messages.{Fits, Message}
 use Rattle.turns.specs.shared_waiting.Passes.{known}
 use Rattle.turns.specs.Words.{layout_in}
 use Rattle.lanes.proofs.Counted.{counted-more, not-full}
-use Rattle.lanes.proofs.Fitting.{fits-by}
+use Rattle.lanes.proofs.Fitting.{fits-by, placed}
 use Rattle.lanes.proofs.Same.{same-rights}
 use Rattle.lanes.proofs.Steps.{both-kept}
 use Rattle.lanes.proofs.intake.IntakeRecordSink.admit.Goals as goal
@@ -14,8 +16,10 @@ put_last-requires-clause-key g c = sym c.args.self.now.both.1
 pub put_last-requires-clause-fits : goal.put_last-requires-clause-fits
 put_last-requires-clause-fits g c =
     let layout = layout_in c.args.self.now.filer.value in
-    fits-by layout (known c.args.self.now.pass) c.in_ok-message.message c.args.self.now.layout
-    (c.in_ok-message.ensures.placed layout c.requires.admitted c.requires.at_home)
+    let v : Passed = known c.args.self.now.pass in
+    let m : Message = c.args.message in
+    subst (λ (x : Message). FitsIn Fits v.key x) (sym c.in_ok-message.ensures)
+    (fits-by layout v m c.args.self.now.layout (placed layout m c.requires.admitted c.requires.at_home))
 
 pub put_last-requires-clause-place : goal.put_last-requires-clause-place
 put_last-requires-clause-place g c =

@@ -6,7 +6,7 @@ use Rattle.slab.specs.Slab.{get}
 use Rattle.turns.specs.Balance.{FilerEntry}
 use Rattle.turns.specs.Words.{entries_in, layout_in}
 use Rattle.turns.specs.shared_waiting.Passes.{known}
-use Rattle.turns.specs.declared.message.Message.{Message}
+use Rattle.turns.specs.Messages.{Message}
 use Rattle.turns.specs.declared.shared_waiting.pass.SharedWaiting.{SharedWaiting}
 use Rattle.lanes.specs.Story.{Story}
 use Rattle.lanes.proofs.Same.{same-entries, same-inside, same-seats}

@@ -7,7 +7,7 @@ use Rattle.turns.specs.Telling.{TookTold}
 use Rattle.turns.specs.Turns.{standing_of}
 use Rattle.turns.specs.Words.{entries_in, layout_in, IsAt}
 use Rattle.turns.specs.shared_waiting.Passes.{known}
-use Rattle.turns.specs.declared.message.Message.{Message}
+use Rattle.turns.specs.Messages.{Message}
 use Rattle.turns.specs.declared.shared.Filer.{Filer}
 use Rattle.turns.specs.declared.shared_waiting.pass.SharedWaiting.{SharedWaiting}
 use Rattle.lanes.proofs.Inside.{at-inside}

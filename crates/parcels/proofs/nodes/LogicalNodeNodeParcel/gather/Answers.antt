@@ -1,83 +1,59 @@
-use Rattle.std.proofs.Common.{ap, refl}
-use Rattle.nfs_model.specs.Tree as trees
+use Rattle.std.proofs.Common.{◌∙◌}
 use Rattle.affinity.specs.Affinity.{affinity_of}
 use Rattle.affinity.specs.Layout.{layout_of}
 use Rattle.affinity.specs.Numbers.{number_of}
 use Rattle.parcels.specs.Exact.{HasParcel, IsPlaced, kind_in}
-use Rattle.parcels.specs.Sets.{logical_parcels}
 use Rattle.parcels.specs.declared.family.Parcel.TheVariants as parcels
 use Rattle.parcels.proofs.OfKind.{is_logical}
+use Rattle.parcels.proofs.ByKind.{own-under, logical_child_kind, logical_room, logical-taken-at, logical-gathered-at}
 use Rattle.parcels.proofs.Moves.{taken-others}
-use Rattle.parcels.proofs.AtNode.{of_logical, at-node, at-under, at-taken, at-exact}
-use Rattle.parcels.proofs.Exactness.{logical-from}
 use Rattle.parcels.proofs.Siblings.{children-after, placed_kept}
-use Rattle.parcels.proofs.Levels.{logical-taken, logical-gathered}
 use Rattle.parcels.proofs.nodes.LogicalNodeNodeParcel.gather.Goals as goal
 
 pub unreachable-requires : goal.unreachable-requires
 unreachable-requires g c =
-    of_logical c.args.affinity c.requires.kind c.in_default.not-VolumeLogical
-
-pub unreachable-requires-in_default-take_parcel : goal.unreachable-requires-in_default-take_parcel
-unreachable-requires-in_default-take_parcel g c =
-    is_logical c.take_parcel.result c.take_parcel.ensures.kind c.in_default-take_parcel.not-Logical
+    is_logical c.take_parcel.result (c.take_parcel.ensures.kind ∙ c.requires.kind) c.in_default.not-Logical
 
 pub take_parcel-requires-clause-node : goal.take_parcel-requires-clause-node
 take_parcel-requires-clause-node g c =
-    at-node (layout_of c.args.layout.now) (affinity_of c.args.affinity) (trees.Logical c.in-VolumeLogical.volume)
-    (ap affinity_of c.in-VolumeLogical.is) c.requires.node
+    c.requires.node
 
 pub take_parcel-requires-clause-there : goal.take_parcel-requires-clause-there
 take_parcel-requires-clause-there g c =
-    (logical-from (layout_of c.args.layout.now) (HasParcel (layout_of c.args.layout.now) (g.S.Shelf.at c.args.shelf.now)) c.in-VolumeLogical.volume
-    (at-node (layout_of c.args.layout.now) (affinity_of c.args.affinity) (trees.Logical c.in-VolumeLogical.volume)
-    (ap affinity_of c.in-VolumeLogical.is) c.requires.node)
-    (at-under (layout_of c.args.layout.now) (affinity_of c.args.affinity) (trees.Logical c.in-VolumeLogical.volume)
-    (ap affinity_of c.in-VolumeLogical.is) (HasParcel (layout_of c.args.layout.now) (g.S.Shelf.at c.args.shelf.now)) c.requires.there)).own
+    own-under (layout_of c.args.layout.now) (HasParcel (layout_of c.args.layout.now) (g.S.Shelf.at c.args.shelf.now)) (affinity_of c.args.affinity) c.requires.node
+    c.requires.there
 
 pub gather_children-requires-clause-node : goal.gather_children-requires-clause-node
 gather_children-requires-clause-node g c =
-    at-node (layout_of c.args.layout.now) (affinity_of c.args.affinity) (trees.Logical c.in-VolumeLogical.volume)
-    (ap affinity_of c.in-VolumeLogical.is) c.requires.node
+    c.requires.node
 
 pub gather_children-requires-clause-kind : goal.gather_children-requires-clause-kind
 gather_children-requires-clause-kind g c =
-    λ i. refl
+    logical_child_kind (affinity_of c.args.affinity) c.requires.kind
+
+pub gather_children-requires-clause-room : goal.gather_children-requires-clause-room
+gather_children-requires-clause-room g c =
+    logical_room (affinity_of c.args.affinity) c.requires.kind
 
 pub gather_children-requires-clause-there : goal.gather_children-requires-clause-there
 gather_children-requires-clause-there g c =
     children-after (layout_of c.args.layout.now) (IsPlaced kind_in (layout_of c.args.layout.now)) (placed_kept kind_in (layout_of c.args.layout.now))
-    (g.S.Shelf.at c.args.shelf.now) (g.S.Shelf.at c.take_parcel.new.shelf) (trees.Logical c.in-VolumeLogical.volume)
-    (at-node (layout_of c.args.layout.now) (affinity_of c.args.affinity) (trees.Logical c.in-VolumeLogical.volume)
-    (ap affinity_of c.in-VolumeLogical.is) c.requires.node)
-    (taken-others (g.S.Shelf.at c.args.shelf.now) (g.S.Shelf.at c.take_parcel.new.shelf)
-    (number_of (layout_of c.args.layout.now) (trees.Logical c.in-VolumeLogical.volume)) (parcels.Logical c.in-Logical.own)
-    c.in-Logical.ensures.moved)
-    (at-under (layout_of c.args.layout.now) (affinity_of c.args.affinity) (trees.Logical c.in-VolumeLogical.volume)
-    (ap affinity_of c.in-VolumeLogical.is) (IsPlaced kind_in (layout_of c.args.layout.now) (g.S.Shelf.at c.args.shelf.now)) c.requires.there)
+    (g.S.Shelf.at c.args.shelf.now) (g.S.Shelf.at c.take_parcel.new.shelf) (affinity_of c.args.affinity) c.requires.node
+    (taken-others (g.S.Shelf.at c.args.shelf.now) (g.S.Shelf.at c.take_parcel.new.shelf) (number_of (layout_of c.args.layout.now) (affinity_of c.args.affinity))
+    (parcels.Logical c.in-Logical.own) c.in-Logical.ensures.moved) c.requires.there
 
 pub returns-clause-exact : goal.returns-clause-exact
 returns-clause-exact g c =
-    at-exact (layout_of c.args.layout.now) (affinity_of c.args.affinity) (trees.Logical c.in-VolumeLogical.volume)
-    (ap affinity_of c.in-VolumeLogical.is) logical_parcels record { own = c.in-Logical.own; stripes = c.gather_children.new.slots } kind_in
-    (logical-gathered (layout_of c.args.layout.now) c.in-VolumeLogical.volume
-    (at-node (layout_of c.args.layout.now) (affinity_of c.args.affinity) (trees.Logical c.in-VolumeLogical.volume)
-    (ap affinity_of c.in-VolumeLogical.is) c.requires.node) record { own = c.in-Logical.own; stripes = c.gather_children.new.slots }
-    (g.S.Shelf.at c.args.shelf.now) (g.S.Shelf.at c.take_parcel.new.shelf) (g.S.Shelf.at c.gather_children.new.shelf) c.in-Logical.ensures.moved
-    c.gather_children.ensures.moved c.gather_children.ensures.gone
-    (at-under (layout_of c.args.layout.now) (affinity_of c.args.affinity) (trees.Logical c.in-VolumeLogical.volume)
-    (ap affinity_of c.in-VolumeLogical.is) (HasParcel (layout_of c.args.layout.now) (g.S.Shelf.at c.args.shelf.now)) c.requires.there))
+    logical-gathered-at (layout_of c.args.layout.now) record { own = c.in-Logical.own; stripes = c.gather_children.new.slots }
+    (g.S.Shelf.at c.args.shelf.now) (g.S.Shelf.at c.take_parcel.new.shelf) (g.S.Shelf.at c.gather_children.new.shelf)
+    (affinity_of c.args.affinity) c.requires.kind c.requires.node
+    c.in-Logical.ensures.moved c.gather_children.ensures.moved c.gather_children.ensures.gone c.requires.there
 
 pub returns-clause-moved : goal.returns-clause-moved
 returns-clause-moved g c =
-    at-taken (layout_of c.args.layout.now) (affinity_of c.args.affinity) (trees.Logical c.in-VolumeLogical.volume)
-    (ap affinity_of c.in-VolumeLogical.is) logical_parcels record { own = c.in-Logical.own; stripes = c.gather_children.new.slots }
-    (g.S.Shelf.at c.args.shelf.now) (g.S.Shelf.at c.gather_children.new.shelf)
-    (logical-taken (layout_of c.args.layout.now) c.in-VolumeLogical.volume
-    (at-node (layout_of c.args.layout.now) (affinity_of c.args.affinity) (trees.Logical c.in-VolumeLogical.volume)
-    (ap affinity_of c.in-VolumeLogical.is) c.requires.node) record { own = c.in-Logical.own; stripes = c.gather_children.new.slots }
-    (g.S.Shelf.at c.args.shelf.now) (g.S.Shelf.at c.take_parcel.new.shelf) (g.S.Shelf.at c.gather_children.new.shelf) c.in-Logical.ensures.moved
-    c.gather_children.ensures.moved)
+    logical-taken-at (layout_of c.args.layout.now) record { own = c.in-Logical.own; stripes = c.gather_children.new.slots }
+    (g.S.Shelf.at c.args.shelf.now) (g.S.Shelf.at c.take_parcel.new.shelf) (g.S.Shelf.at c.gather_children.new.shelf)
+    (affinity_of c.args.affinity) c.requires.kind c.requires.node c.in-Logical.ensures.moved c.gather_children.ensures.moved
 
 pub returns-clause-kept : goal.returns-clause-kept
 returns-clause-kept g c =

@@ -3,9 +3,8 @@ use Rattle.std.specs.Prelude.{IfSome}
 use Rattle.nfs_model.specs.Parts.{Hand}
 use Rattle.depot.specs.Words.{view, IsSeatHere}
 use Rattle.turns.specs.shared_waiting.Passes.{known, IsOf}
-use Rattle.turns.specs.declared.message.Message.{Message}
 use Rattle.turns.specs.Balance.{FilerView, Passed}
-use Rattle.turns.specs.Messages.{IsPlaced}
+use Rattle.turns.specs.Messages.{IsPlaced, Message}
 use Rattle.turns.specs.Words.{layout_in, layout_known, verifier_in, HasOpened, IsHandIn}
 use Rattle.turns.proofs.Started.{fresh-none}
 use Rattle.turns.proofs.worker.Worker.split.Goals as goal
