@@ -35,19 +35,18 @@ with_bytes f model.Null = refl
 with_bytes f (model.Mount call) = refl
 with_bytes f call = refl
 
-heard_bytes : (form : HandleForm) (call : model.Call) → has_bytes (call_heard form call) ≡ has_bytes call
+pub heard_bytes : (form : HandleForm) (call : model.Call) → has_bytes (call_heard form call) ≡ has_bytes call
 heard_bytes Plain call = refl
 heard_bytes (OfRun run) call = with_bytes (heard_in_run run) call
 
-pub undecoded : (form : HandleForm) (xid : ℕ) (procedure : Procedure) (who : model.Credential) (arguments : List ℕ)
+pub undecoded : (xid : ℕ) (procedure : Procedure) (who : model.Credential) (arguments : List ℕ)
     → (takes_memory procedure ≡ true) × ((call : model.Call) × (asked procedure arguments ≡ Ok call))
-    → Tells xid requests.Undecoded (heard_from form (Call xid procedure who arguments))
-undecoded form xid procedure who arguments m = (
-  call_heard form m.1.0,
+    → Tells xid requests.Undecoded (heard_from Plain (Call xid procedure who arguments))
+undecoded xid procedure who arguments m = (
+  m.1.0,
   (
     who,
-    heard_bytes form m.1.0 ∙ asked_has_bytes procedure arguments m.1.0 m.1.1
-        ∙ m.0,
-    ap (λ (r : Result model.Call Unread). Ok (record { xid = xid; asked = asked_by form who r })) m.1.1,
+    asked_has_bytes procedure arguments m.1.0 m.1.1 ∙ m.0,
+    ap (λ (r : Result model.Call Unread). Ok (record { xid = xid; asked = asked_by Plain who r })) m.1.1,
   ),
 )

@@ -21,6 +21,15 @@ heard_from form (Call xid procedure credential arguments) =
 heard_from form (Refused xid reply) = Ok (record { xid = xid; asked = model.Refused reply })
 heard_from form (Faulty number) = Err number
 
+-- what was told of a record, once the handles of its call are heard
+abbrev pub asked_heard : HandleForm → model.Asked → model.Asked
+asked_heard form (model.Ask call credential) = model.Ask (call_heard form call) credential
+asked_heard form asked = asked
+
+abbrev pub told_heard : HandleForm → Result Heard ℕ → Result Heard ℕ
+told_heard form (Ok told) = Ok (record told { asked = asked_heard form told.asked })
+told_heard form (Err number) = Err number
+
 -- what a record asks under its xid, or the number of its fault
 abbrev pub heard_by : Offer → List ℕ → Result Heard ℕ
 heard_by offer bytes = heard_from (form_of offer) (head_by offer bytes)

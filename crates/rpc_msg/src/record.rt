@@ -1,9 +1,11 @@
 //! What records ask.
 
-ghost use Rattle.std.specs.Prelude.{◌≤◌, length, drop};
+ghost use Rattle.std.specs.Prelude.{◌≤◌, ℕ, Result, length, drop};
+ghost use Rattle.nfs_model.specs.World as World;
 ghost use Rattle.nfs_values.specs.Credential.{credential_of};
-ghost use Rattle.rpc_msg.specs.Heads.{Call as Asks};
-ghost use Rattle.rpc_msg.specs.Records.{heard, heard_by, heard_from};
+ghost use Rattle.rpc_msg.specs.declared.handle_form.HandleForm.TheVariants.{Plain};
+ghost use Rattle.rpc_msg.specs.Heads.{head_by, Call as Asks};
+ghost use Rattle.rpc_msg.specs.Records.{heard, heard_by, heard_from, told_heard};
 ghost use Rattle.rpc_msg.specs.Seen.{Hears, Tells};
 
 use crate::fault::RecordFault;
@@ -40,26 +42,21 @@ fn decode(
     credential: Credential,
     record: Vec<u8>,
     from: usize,
-    form: HandleForm,
 ) -> Request
     requires { from ≤ length record.items }
     ensures { Tells xid result
-        (heard_from form (Asks xid procedure (credential_of credential) (drop from record.items))) }
+        (heard_from Plain (Asks xid procedure (credential_of credential) (drop from record.items))) }
 {
     match decode_in_place(alloc, procedure, record, from) {
-        Ok(mut call) => {
-            hear(&mut call, form);
-            Request::Call { call, credential }
-        }
+        Ok(call) => Request::Call { call, credential },
         Err(Bad::Fault(_fault)) => Request::Refused(Refusal::GarbageArguments),
         Err(Bad::NoMemory) => Request::Undecoded,
     }
 }
 
-/// Reads a whole record (RFC 5531 section 9). Only names take memory: the data of a WRITE stay in
-/// the record.
-pub fn read_record_of(alloc: Global, record: Vec<u8>, offer: Offer) -> Result<Heard, RecordFault>
-    ensures { Hears result (heard_by offer record.items) }
+/// Reads a whole record, with its handles as they came.
+fn read_spelled(alloc: Global, record: Vec<u8>, offer: Offer) -> Result<Heard, RecordFault>
+    ensures { Hears result (heard_from Plain (head_by offer record.items)) }
 {
     match read_call_of(&record, offer) {
         Head::Call {
@@ -69,10 +66,9 @@ pub fn read_record_of(alloc: Global, record: Vec<u8>, offer: Offer) -> Result<He
             arguments,
         } => {
             let from = record.len() - arguments.len();
-            let form = offer.handles();
             Ok(Heard {
                 xid,
-                request: decode(alloc, xid, procedure, credential, record, from, form),
+                request: decode(alloc, xid, procedure, credential, record, from),
             })
         }
         Head::Refuse { xid, reply } => Ok(Heard {
@@ -81,6 +77,33 @@ pub fn read_record_of(alloc: Global, record: Vec<u8>, offer: Offer) -> Result<He
         }),
         Head::Fault(fault) => Err(fault),
     }
+}
+
+/// Hears the handles of a request. It is done to one that is read as a whole: what is lent while it
+/// is put together is copied at each step from there.
+fn hear_request(request: &mut Request, form: HandleForm)
+    ensures { (xid : ℕ) (told : Result World.Heard ℕ)
+        → Tells xid request.old told → Tells xid request.new (told_heard form told) }
+{
+    match request {
+        Request::Call {
+            call,
+            credential: _,
+        } => hear(call, form),
+        Request::Refused(_) | Request::Undecoded => {}
+    }
+}
+
+/// Reads a whole record (RFC 5531 section 9). Only names take memory: the data of a WRITE stay in
+/// the record.
+pub fn read_record_of(alloc: Global, record: Vec<u8>, offer: Offer) -> Result<Heard, RecordFault>
+    ensures { Hears result (heard_by offer record.items) }
+{
+    let mut read = read_spelled(alloc, record, offer);
+    if let Ok(heard) = &mut read {
+        hear_request(&mut heard.request, offer.handles());
+    }
+    read
 }
 
 /// Reads a whole record by the basic offer.

@@ -1,10 +1,23 @@
-ghost use Rattle.std.specs.Prelude.{◌≡◌, ◌<◌, ◌≤◌, length, take, vec_len, IfOk};
+ghost use Rattle.std.specs.Prelude.{◌≡◌, ◌<◌, ◌≤◌, ◌+◌, ◌++◌, length, take, vec_len, IfOk};
+ghost use Rattle.std.specs.Prelude.{OnOk, OnErr};
 ghost use Rattle.rpc_record.specs.Machine.{scan};
 ghost use Rattle.rpc_record.specs.Position.{state, IsPosition, outcome_of};
 ghost use Rattle.rpc_record.specs.declared.position.Turn.TheVariants as turns;
 
 use crate::position::{Position, Turn};
 use std::alloc::AllocError;
+
+/// Appends bytes. None, as at each byte of a header, cost no copy.
+fn append(joined: &mut Vec<u8>, bytes: &[u8]) -> Result<(), AllocError>
+    ensures items { OnOk result (joined.new.items ≡ joined.old.items ++ bytes.now) }
+    ensures len { OnOk result (vec_len joined.new ≡ vec_len joined.old + length bytes.now) }
+    ensures err { OnErr result (joined.new.items ≡ joined.old.items) }
+{
+    if bytes.is_empty() {
+        return Ok(());
+    }
+    joined.extend_from_slice(bytes)
+}
 
 /// Joins the data up to the end of a record or a fault. At a refused growth the data that was there
 /// is kept, but more may stand after it, and the position may have moved.
@@ -28,7 +41,7 @@ pub(crate) fn join(
     while taken < bytes.len() {
         let rest = &bytes[taken..];
         let data = position.left.min(rest.len());
-        joined.extend_from_slice(&rest[..data])?;
+        append(joined, &rest[..data])?;
         let (size, turn) = position.take(rest);
         taken += size;
         match turn {

@@ -4,4 +4,4 @@ use Rattle.rpc_msg.proofs.Undecoded.{undecoded}
 use Rattle.rpc_msg.proofs.record.decode.Goals as goal
 
 pub returns-in-Err-NoMemory : goal.returns-in-Err-NoMemory
-returns-in-Err-NoMemory c = undecoded c.args.form c.args.xid c.args.procedure (credential_of c.args.credential) (drop c.args.from c.args.record.items) (search rules)
+returns-in-Err-NoMemory c = undecoded c.args.xid c.args.procedure (credential_of c.args.credential) (drop c.args.from c.args.record.items) (search rules)

@@ -1,0 +1,28 @@
+use Rattle.std.proofs.Common.{ℕ, ◌-◌, List, length, drop, sym, subst, ap, ◌∙◌, arith}
+use Rattle.nfs_types.specs.lemmas.Bytes.{are_bytes}
+use Rattle.nfs_values.specs.Credential.{credential_of}
+use Rattle.rpc_msg.specs.declared.handle_form.HandleForm.TheVariants.{Plain}
+use Rattle.rpc_msg.specs.Heads.{Head, Call, head_by}
+use Rattle.rpc_msg.specs.Records.{heard_from}
+use Rattle.rpc_msg.specs.Seen.{Tells, head_seen}
+use Rattle.rpc_msg.proofs.InPlace.{arguments-end}
+use Rattle.rpc_msg.proofs.record.read_spelled.Goals as goal
+
+pub overflow_sub-from : goal.overflow_sub-from
+overflow_sub-from c =
+    let bytes = c.args.record.items in
+    let k = c.in-Call in
+    let says = ap (head_by c.args.offer) (sym c.deref.ensures.value) ∙ sym c.read_call_of.ensures ∙ ap head_seen k.is in
+    (arguments-end c.args.offer bytes k.xid k.procedure (credential_of k.credential) k.arguments.now c.len.result
+    (are_bytes bytes (λ i lt. omega (arith, lt))) says (c.len.ensures ∙ c.args.record.ok.0)).fits
+
+pub returns-in-Call : goal.returns-in-Call
+returns-in-Call c =
+    let bytes = c.args.record.items in
+    let k = c.in-Call in
+    let who = credential_of k.credential in
+    let says = ap (head_by c.args.offer) (sym c.deref.ensures.value) ∙ sym c.read_call_of.ensures ∙ ap head_seen k.is in
+    let end = arguments-end c.args.offer bytes k.xid k.procedure who k.arguments.now c.len.result (are_bytes bytes (λ i lt. omega (arith, lt))) says
+    (c.len.ensures ∙ c.args.record.ok.0) in
+    subst (λ (h : Head). Tells k.xid c.decode.result (heard_from Plain h)) (sym says)
+    (subst (λ (l : List ℕ). Tells k.xid c.decode.result (heard_from Plain (Call k.xid k.procedure who l))) end.there c.decode.ensures)
