@@ -9,11 +9,6 @@ use Rattle.rpc_msg.specs.Replies as replies
 use Rattle.rpc_msg.specs.Room.{refusal_room}
 use Rattle.engine_feed.specs.Limit.{reply_limit}
 use Rattle.rpc_msg.specs.lemmas.Hearing.{fault_of_record, record_is_decoded}
-use Rattle.rpc_msg.specs.Seen as told
-use Rattle.rpc_msg.specs.declared.fault.RecordFault.{RecordFault}
-use Rattle.rpc_msg.specs.declared.fault.RecordFault.TheVariants as faults
-use Rattle.engine_feed.specs.Numbers.{fault_number}
-use Rattle.engine_feed.specs.Records.{fault_of}
 use Rattle.engine_feed.specs.Codec.{heard, reply_record}
 use Rattle.engine_feed.specs.lemmas.Codec.{heard_is, reply_record_is}
 
@@ -27,12 +22,6 @@ not-too-long offer bytes number e = not_eleven number (fault_of_record offer byt
 
 pub heard-decoded : (offer : Offer) (bytes : List ℕ) (h : Heard) → heard offer bytes ≡ Ok h → IsDecoded h.asked
 heard-decoded offer bytes h e = record_is_decoded offer bytes h (sym (heard_is offer bytes) ∙ e)
-
--- ---- what was read
-
-pub numbers-same : (fault : RecordFault) → fault_number (fault_of fault) ≡ told.fault_number fault
-numbers-same faults.BadHeader = refl
-numbers-same faults.NotACall = refl
 
 -- ---- replies
 

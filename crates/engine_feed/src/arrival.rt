@@ -4,10 +4,10 @@ ghost use Rattle.std.specs.Prelude.{◌≡◌, ◌+◌, ◌≤◌, ◌++◌, len
 ghost use Rattle.engine_feed.specs.Sound.{IsInStep, TakesIn, TakesFrom, HasNoRecord, AdmitsNone};
 ghost use Rattle.rpc_record.specs.Machine.{outcome};
 
-use crate::reading::{RecordRead, read_record};
+use crate::reading::stream_fault;
 use crate::state::{Arrival, ConnectionState};
 use crate::stop::StreamFault;
-use rpc_msg::Offer;
+use rpc_msg::{Offer, Request, read_record_of};
 use rpc_record::Step;
 
 /// Appends bytes that have their room.
@@ -36,18 +36,19 @@ pub(crate) fn take_bytes(from: &mut ConnectionState, offer: Offer, bytes: &[u8])
             from.fault = Some(StreamFault::RecordTooLong);
             (taken, Arrival::Fault(StreamFault::RecordTooLong))
         }
-        Step::Record(record) => match read_record(from.alloc, record, offer) {
-            RecordRead::Heard(heard) => {
+        Step::Record(record) => match read_record_of(from.alloc, record, offer) {
+            Ok(heard) => {
                 from.records += 1;
-                (taken, Arrival::Heard(heard))
+                match &heard.request {
+                    Request::Call { .. } => (taken, Arrival::Heard(heard)),
+                    Request::Refused(_) => (taken, Arrival::Heard(heard)),
+                    Request::Undecoded => (taken, Arrival::Undecoded(heard.xid)),
+                }
             }
-            RecordRead::Undecoded(xid) => {
-                from.records += 1;
-                (taken, Arrival::Undecoded(xid))
-            }
-            RecordRead::Fault(fault) => {
-                from.fault = Some(fault);
-                (taken, Arrival::Fault(fault))
+            Err(fault) => {
+                let stopped = stream_fault(fault);
+                from.fault = Some(stopped);
+                (taken, Arrival::Fault(stopped))
             }
         },
     }

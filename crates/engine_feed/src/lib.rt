@@ -23,5 +23,5 @@ pub use admission::{message_for, reply_at_once};
 pub use calls::Calls;
 pub use connection::OpenConnection;
 pub use message::FinishedCall;
-pub use reading::{RecordRead, read_record};
+pub use reading::stream_fault;
 pub use stop::{Stop, StreamFault};

@@ -12,8 +12,8 @@ use crate::next_record::{Next, next_record};
 use crate::sink::RecordSink;
 use crate::stream::{MOST_RECORDS, Stopped, Stream};
 use affinity::Layout;
-use engine_feed::{RecordRead, read_record};
-use rpc_msg::{Heard, Offer};
+use engine_feed::stream_fault;
+use rpc_msg::{Heard, Offer, Request, read_record_of};
 use scheduler::Origin;
 
 /// Gives on a record under the next number.
@@ -63,10 +63,13 @@ fn give_record<S: RecordSink>(
         (heard offer record.items) result stream.new sink.new }
     ensures layout { S.layout sink.new ≡ S.layout sink.old }
 {
-    match read_record(stream.alloc, record, offer) {
-        RecordRead::Heard(heard) => give_next(stream, sink, layout, heard),
-        RecordRead::Undecoded(_xid) => Some(Stopped::NoMemory),
-        RecordRead::Fault(fault) => Some(Stopped::Fault(fault)),
+    match read_record_of(stream.alloc, record, offer) {
+        Ok(heard) => match &heard.request {
+            Request::Call { .. } => give_next(stream, sink, layout, heard),
+            Request::Refused(_) => give_next(stream, sink, layout, heard),
+            Request::Undecoded => Some(Stopped::NoMemory),
+        },
+        Err(fault) => Some(Stopped::Fault(stream_fault(fault))),
     }
 }
 
