@@ -1,16 +1,13 @@
 -- What becomes of a record that was read: its call waits for its home, or it is answered at once (our profile).
-use Rattle.std.specs.Prelude.{◌≡◌, Some}
+use Rattle.std.specs.Prelude.{◌≡◌, Some, length}
 use Rattle.nfs_model.specs.Types as types
 use Rattle.nfs_model.specs.Tree.{Layout}
+use Rattle.affinity.specs.Tree.{IsNode}
 use Rattle.nfs_model.specs.Home.{home}
 use Rattle.nfs_model.specs.Serial.AtOnce.{answer_without_home}
-use Rattle.nfs_values.specs.declared.call.Call.{Call}
-use Rattle.nfs_values.specs.Call.{call_of}
-use Rattle.nfs_values.specs.Credential.{credential_of}
 use Rattle.affinity.specs.Affinity.{affinity_of}
-use Rattle.scheduler.specs.declared.message.Message.{Message}
-use Rattle.scheduler.specs.declared.message.Origin.{Origin}
-use Rattle.engine_feed.specs.Sound.{IsAdmitted}
+use Rattle.rpc_msg.specs.Room.{reply_room}
+use Rattle.engine_feed.specs.declared.admission.Admission.{Admission}
 
 -- the reply to a record for which no state is read
 abbrev pub reply_at_once : Layout → types.Asked → types.Reply
@@ -18,9 +15,8 @@ reply_at_once layout (types.Ask call credential) = types.Success (answer_without
 reply_at_once layout (types.Refused reply) = reply
 reply_at_once layout types.Undecoded = types.SystemError
 
--- The message of a record of this origin that asks this. It waits for the home of its call, and keeps the room of the reply.
-pub record IsMessageFor (layout : Layout) (origin : Origin) (asked : types.Asked) (m : Message Call) : Type 0 where
-  pub admitted : IsAdmitted layout m
-  pub at_home : home layout (call_of m.call) ≡ Some (affinity_of m.affinity)
-  pub from : m.origin ≡ origin
-  pub asks : types.Ask (call_of m.call) (credential_of m.credential) ≡ asked
+-- where a call waits: for its home, a node of the layout, and with the room of its reply
+pub record IsAdmissionOf (layout : Layout) (call : types.Call) (a : Admission) : Type 0 where
+  pub at_home : home layout call ≡ Some (affinity_of a.affinity)
+  pub node : IsNode layout (affinity_of a.affinity)
+  pub room : a.room ≡ reply_room (length layout.volumes) call

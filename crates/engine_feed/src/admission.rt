@@ -1,55 +1,47 @@
 //! What becomes of a record that was read: its call waits for its home, or it is answered at once.
 
-ghost use Rattle.std.specs.Prelude.{◌≡◌, ◌≤◌, ℕ, None, IfErr, IfOk, length};
-ghost use Rattle.nfs_model.specs.Home.{home_of_asked};
+ghost use Rattle.std.specs.Prelude.{◌≡◌, ◌≤◌, ℕ, IfSome, length, option_map};
+ghost use Rattle.nfs_model.specs.Home.{home};
+ghost use Rattle.nfs_values.specs.Call.{call_of};
 ghost use Rattle.nfs_values.specs.Reply.{reply_of};
+ghost use Rattle.affinity.specs.Affinity.{affinity_of};
 ghost use Rattle.affinity.specs.Layout.{layout_of};
 ghost use Rattle.rpc_msg.specs.declared.handle_form.HandleForm.{HandleForm};
 ghost use Rattle.rpc_msg.specs.Handles.{reply_told};
-ghost use Rattle.engine_feed.specs.Admission.{reply_at_once, IsMessageFor};
+ghost use Rattle.engine_feed.specs.Admission.{reply_at_once, IsAdmissionOf};
 ghost use Rattle.engine_feed.specs.Codec.{reply_record};
 ghost use Rattle.engine_feed.specs.Limit.{reply_limit};
 ghost use Rattle.engine_feed.specs.Seen.{asked_of};
 
 use crate::at_once::answer_at_once;
-use affinity::Layout;
+use affinity::{Affinity, Layout};
 use affinity::homes::home_of;
 use nfs_values::{Call, Refusal, Reply};
 use rpc_msg::{Request, refusals_fit, replies_fit, room_of_reply};
-use scheduler::{Message, Origin};
 use std::alloc::Global;
 
-/// The message of a record whose call has a home: it waits for that, with the room of its reply.
-/// Else the request comes back, to be answered at once.
-pub fn message_for(
-    layout: &Layout,
-    origin: Origin,
-    request: Request,
-) -> Result<Message<Call>, Request>
-    ensures waits { IfOk result
-        (IsMessageFor (layout_of layout.now) origin (asked_of request)) }
-    ensures short { IfOk result (λ m. m.room ≤ 131072) }
-    ensures back { IfErr result (λ r. r ≡ request) }
-    ensures none { IfErr result
-        (λ r. home_of_asked (layout_of layout.now) (asked_of request) ≡ None) }
+/// Where a call waits.
+#[derive(Clone, Copy)]
+pub struct Admission {
+    pub affinity: Affinity,
+    /// The most bytes that the record of its reply takes.
+    pub room: usize,
+}
+
+/// Where a call waits that has a home. One without is answered at once.
+pub fn admission_of(layout: &Layout, call: &Call) -> Option<Admission>
+    ensures waits { IfSome result
+        (IsAdmissionOf (layout_of layout.now) (call_of call.now)) }
+    ensures home { option_map (λ a. affinity_of a.affinity) result
+        ≡ home (layout_of layout.now) (call_of call.now) }
+    ensures short { IfSome result (λ a. a.room ≤ 131072) }
 {
-    let (call, credential) = match request {
-        Request::Call { call, credential } => (call, credential),
-        Request::Refused(refusal) => return Err(Request::Refused(refusal)),
-        Request::Undecoded => return Err(Request::Undecoded),
-    };
-    match home_of(&call, layout) {
-        Some(affinity) => {
-            let room = room_of_reply(&call, layout.volume_count() as u32);
-            Ok(Message {
-                origin,
-                call,
-                credential,
-                affinity,
-                room,
-            })
-        }
-        None => Err(Request::Call { call, credential }),
+    match home_of(call, layout) {
+        Some(affinity) => Some(Admission {
+            affinity,
+            room: room_of_reply(call, layout.volume_count() as u32),
+        }),
+        None => None,
     }
 }
 

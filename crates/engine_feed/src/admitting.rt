@@ -2,6 +2,7 @@
 
 ghost use Rattle.std.specs.Prelude.{◌≡◌, ◌+◌, ◌≤◌, ◌<◌, true, false, Some, None, length};
 ghost use Rattle.nfs_model.specs.Types as types;
+ghost use Rattle.nfs_model.specs.Home.{home_of_asked};
 ghost use Rattle.nfs_model.specs.Server.{start_of_times};
 ghost use Rattle.rpc_msg.specs.declared.offer.Offer.{Offer as OfferSeen};
 ghost use Rattle.nfs_values.specs.Reply.{reply_of};
@@ -12,7 +13,7 @@ ghost use Rattle.engine_feed.specs.Sound.{IsSoundConnection, AreSound, IsAdmitte
 ghost use Rattle.engine_feed.specs.Sound.{HasRoomToReply, HaveRoomToAdmit};
 ghost use Rattle.engine_feed.specs.Words.{HasHeard, Finishes, Waits, Keeps};
 
-use crate::admission::{message_for, reply_at_once};
+use crate::admission::{Admission, admission_of, reply_at_once};
 use crate::finishing::{keep_entry, write_reply};
 use crate::state::{CallsState, ConnectionState};
 use nfs_laws::laws::without_home_stays;
@@ -79,6 +80,29 @@ fn wait(connection: &mut ConnectionState, calls: &mut CallsState, message: Messa
     calls.waiting.put_back(message);
 }
 
+/// Answers a record that has no home.
+fn answer_now(
+    connection: &mut ConnectionState,
+    calls: &mut CallsState,
+    offer: Offer,
+    origin: Origin,
+    request: Request,
+)
+    requires connection { IsSoundConnection connection.old }
+    requires calls { AreSound calls.old }
+    requires room { HasRoomToReply connection.old }
+    requires entry { HaveRoomToAdmit calls.old }
+    requires none { home_of_asked (layout_in calls.old) (asked_of request) ≡ None }
+    ensures admitted { HasHeard offer calls.old connection.old origin (asked_of request) false
+        calls.new connection.new }
+    ensures keeps { Keeps calls.old connection.old origin.connection.0 calls.new connection.new }
+{
+    without_home_stays();
+    let mut reply = reply_at_once(connection.alloc, &calls.layout, &request);
+    tell(&mut reply, offer.handles());
+    answer(connection, calls, origin, request, &reply);
+}
+
 /// Lets the call of a record wait, or answers the record at once.
 pub(crate) fn admit(
     connection: &mut ConnectionState,
@@ -96,13 +120,26 @@ pub(crate) fn admit(
         calls.new connection.new }
     ensures keeps { Keeps calls.old connection.old origin.connection.0 calls.new connection.new }
 {
-    match message_for(&calls.layout, origin, request) {
-        Ok(message) => wait(connection, calls, message),
-        Err(request) => {
-            without_home_stays();
-            let mut reply = reply_at_once(connection.alloc, &calls.layout, &request);
-            tell(&mut reply, offer.handles());
-            answer(connection, calls, origin, request, &reply);
+    match request {
+        Request::Call { call, credential } => match admission_of(&calls.layout, &call) {
+            Some(Admission { affinity, room }) => {
+                let message = Message {
+                    origin,
+                    call,
+                    credential,
+                    affinity,
+                    room,
+                };
+                wait(connection, calls, message);
+            }
+            None => {
+                let request = Request::Call { call, credential };
+                answer_now(connection, calls, offer, origin, request);
+            }
+        },
+        Request::Refused(refusal) => {
+            answer_now(connection, calls, offer, origin, Request::Refused(refusal));
         }
+        Request::Undecoded => answer_now(connection, calls, offer, origin, Request::Undecoded),
     }
 }

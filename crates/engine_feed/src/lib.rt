@@ -19,7 +19,7 @@ mod reply;
 mod state;
 mod stop;
 
-pub use admission::{message_for, reply_at_once};
+pub use admission::{Admission, admission_of, reply_at_once};
 pub use calls::Calls;
 pub use connection::OpenConnection;
 pub use message::FinishedCall;

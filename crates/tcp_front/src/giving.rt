@@ -11,9 +11,9 @@ ghost use Rattle.tcp_front.specs.Steps.{given_of};
 
 use crate::sink::RecordSink;
 use affinity::Layout;
-use engine_feed::{message_for, reply_at_once};
+use engine_feed::{Admission, admission_of, reply_at_once};
 use rpc_msg::Request;
-use scheduler::Origin;
+use scheduler::{Message, Origin};
 use std::alloc::{AllocError, Global};
 
 /// Answers a record that has no home. It stands apart, so that others have no room for its reply.
@@ -50,8 +50,23 @@ pub(crate) fn give<S: RecordSink>(
     ensures err { OnErr result (S.came sink.old [] sink.new) }
     ensures layout { S.layout sink.new ≡ S.layout sink.old }
 {
-    match message_for(layout, origin, request) {
-        Ok(message) => sink.admit(message),
-        Err(request) => answer_now(alloc, sink, layout, origin, &request),
+    match request {
+        Request::Call { call, credential } => match admission_of(layout, &call) {
+            Some(Admission { affinity, room }) => sink.admit(Message {
+                origin,
+                call,
+                credential,
+                affinity,
+                room,
+            }),
+            None => {
+                let request = Request::Call { call, credential };
+                answer_now(alloc, sink, layout, origin, &request)
+            }
+        },
+        Request::Refused(refusal) => {
+            answer_now(alloc, sink, layout, origin, &Request::Refused(refusal))
+        }
+        Request::Undecoded => answer_now(alloc, sink, layout, origin, &Request::Undecoded),
     }
 }

@@ -1,5 +1,5 @@
 -- What was read of a record, as what it asks.
-use Rattle.std.specs.Prelude.{◌≡◌, ◌×◌, ℕ, List, Result, Ok, Err, IsTrue}
+use Rattle.std.specs.Prelude.{◌≡◌, ℕ, List, Result, Ok, Err, IsTrue}
 use Rattle.std.proofs.Common.{refl, sym, ap, subst, ◌∙◌}
 use Rattle.nfs_model.specs.Types as types
 use Rattle.nfs_model.specs.Serial.Starve.{may_starve_at_decoding}
