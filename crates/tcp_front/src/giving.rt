@@ -11,7 +11,7 @@ ghost use Rattle.tcp_front.specs.Steps.{given_of};
 
 use crate::sink::RecordSink;
 use affinity::Layout;
-use engine_feed::{Admission, admission_of, reply_at_once};
+use engine_feed::{admission_of, reply_at_once};
 use rpc_msg::Request;
 use scheduler::{Message, Origin};
 use std::alloc::{AllocError, Global};
@@ -52,12 +52,12 @@ pub(crate) fn give<S: RecordSink>(
 {
     match request {
         Request::Call { call, credential } => match admission_of(layout, &call) {
-            Some(Admission { affinity, room }) => sink.admit(Message {
+            Some(admission) => sink.admit(Message {
                 origin,
                 call,
                 credential,
-                affinity,
-                room,
+                affinity: admission.affinity,
+                room: admission.room,
             }),
             None => {
                 let request = Request::Call { call, credential };

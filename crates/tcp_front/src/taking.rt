@@ -4,7 +4,7 @@ ghost use Rattle.std.specs.Prelude.{◌≡◌, ◌<◌, ◌≤◌, None, true, f
 ghost use Rattle.affinity.specs.Layout.{layout_of};
 ghost use Rattle.tcp_front.specs.Arrivals.{most_records};
 ghost use Rattle.engine_feed.specs.Codec.{heard};
-ghost use Rattle.engine_feed.specs.Seen.{asked_of};
+ghost use Rattle.engine_feed.specs.Seen.{heard_of};
 ghost use Rattle.tcp_front.specs.Steps.{HasGiven, HasGivenRecord, HasTaken};
 
 use crate::giving::give;
@@ -21,22 +21,21 @@ fn give_next<S: RecordSink>(
     stream: &mut Stream,
     sink: &mut S,
     layout: &Layout,
-    xid: u32,
-    request: Request,
+    heard: Heard,
 ) -> Option<Stopped>
     requires room { S.room sink.old ≡ true }
     requires few { stream.old.records < most_records }
     requires layout { S.layout sink.old ≡ layout_of layout.now }
-    ensures given { HasGiven S.came (layout_of layout.now) stream.old sink.old
-        (record { xid = xid; asked = asked_of request }) result stream.new sink.new }
+    ensures given { HasGiven S.came (layout_of layout.now) stream.old sink.old (heard_of heard)
+        result stream.new sink.new }
     ensures layout { S.layout sink.new ≡ S.layout sink.old }
 {
     let origin = Origin {
         connection: stream.connection,
         number: stream.records,
-        xid,
+        xid: heard.xid,
     };
-    match give(stream.alloc, sink, layout, origin, request) {
+    match give(stream.alloc, sink, layout, origin, heard.request) {
         Err(_refused) => Some(Stopped::NoMemory),
         Ok(()) => {
             stream.records += 1;
@@ -65,9 +64,9 @@ fn give_record<S: RecordSink>(
     ensures layout { S.layout sink.new ≡ S.layout sink.old }
 {
     match read_record_of(stream.alloc, record, offer) {
-        Ok(Heard { xid, request }) => match &request {
-            Request::Call { .. } => give_next(stream, sink, layout, xid, request),
-            Request::Refused(_) => give_next(stream, sink, layout, xid, request),
+        Ok(heard) => match &heard.request {
+            Request::Call { .. } => give_next(stream, sink, layout, heard),
+            Request::Refused(_) => give_next(stream, sink, layout, heard),
             Request::Undecoded => Some(Stopped::NoMemory),
         },
         Err(fault) => Some(Stopped::Fault(stream_fault(fault))),

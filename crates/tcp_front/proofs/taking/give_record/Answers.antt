@@ -18,7 +18,7 @@ pub returns-in-Refused-clause-given : goal.returns-in-Refused-clause-given
 returns-in-Refused-clause-given g c =
     let is = refusal_read c.args.offer c.args.record.items _ c.in-Ok.heard _ c.in-Ok.is c.in-Refused.is c.read_record_of.ensures in
     subst (λ (r : Result Heard ℕ). HasGivenRecord g.S.RecordSink.came (layout_of c.args.layout.now) c.args.stream.now c.args.sink.now r
-    c.give_next-2.result c.give_next-2.new.stream c.give_next-2.new.sink) (sym is) c.give_next-2.ensures.given
+    c.give_next-in-Refused.result c.give_next-in-Refused.new.stream c.give_next-in-Refused.new.sink) (sym is) c.give_next-in-Refused.ensures.given
 
 pub returns-in-Undecoded-clause-given : goal.returns-in-Undecoded-clause-given
 returns-in-Undecoded-clause-given g c =
