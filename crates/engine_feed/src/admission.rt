@@ -14,8 +14,8 @@ ghost use Rattle.engine_feed.specs.Limit.{reply_limit};
 ghost use Rattle.engine_feed.specs.Seen.{asked_of};
 
 use crate::at_once::answer_at_once;
-use affinity::{Affinity, Layout};
 use affinity::homes::home_of;
+use affinity::{Affinity, Layout};
 use nfs_values::{Call, Refusal, Reply};
 use rpc_msg::{Request, refusals_fit, replies_fit, room_of_reply};
 use std::alloc::Global;

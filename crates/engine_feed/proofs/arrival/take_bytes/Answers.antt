@@ -1,4 +1,4 @@
-use Rattle.std.proofs.Common.{◌++◌, sym, ap, subst, ◌∙◌, length, take, refl, Ok, Err, arith}
+use Rattle.std.proofs.Common.{◌++◌, sym, ap, ◌∙◌, length, take, refl, Ok, Err, arith}
 use Rattle.std.specs.Prelude.{option_map}
 use Rattle.nfs_model.specs.World.{Scanned}
 use Rattle.rpc_record.specs.declared.reassembler.Step.TheVariants as steps
