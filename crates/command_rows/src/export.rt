@@ -1,4 +1,5 @@
-//! Who may connect to `filer export`, how many and for how long, what it tells of that, and its command lines.
+//! Who may connect to `filer export`, how many and for how long, what it tells of that, and its
+//! command lines.
 
 mod client;
 mod counting;

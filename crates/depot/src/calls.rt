@@ -133,7 +133,8 @@ impl<M: Machine> Depot<M> {
 
     /// Ends a call by one step, with its parcels as they are then, and begins one on the same node,
     /// which has them: the grant stays. It takes no memory, waits for nobody, and moves no parcel.
-    /// Where the ticket is worn, or this entry would wear it, the call is as it was, to be finished.
+    /// Where the ticket is worn, or this entry would wear it, the call is as it was, to be
+    /// finished.
     pub fn go_on<N: Node<M::Parcel>>(
         &self,
         seat: &mut Seat<M>,

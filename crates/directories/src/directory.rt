@@ -218,8 +218,8 @@ impl Directory {
     }
 }
 
-/// Adds an entry with a name that belongs at a position of the index. Where there is no memory for it
-/// nothing changes.
+/// Adds an entry with a name that belongs at a position of the index. Where there is no memory for
+/// it nothing changes.
 fn add_at(
     entries: &mut Entries,
     by_name: &mut Sequence<Spot>,

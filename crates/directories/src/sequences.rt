@@ -1,4 +1,5 @@
-//! Sequences of items by position, in which an item comes or goes in time logarithmic in their number.
+//! Sequences of items by position, in which an item comes or goes in time logarithmic in their
+//! number.
 
 mod balance;
 mod change;

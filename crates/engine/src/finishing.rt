@@ -109,8 +109,8 @@ fn end_on(
     (Running { message, moment }, reply)
 }
 
-/// Finishes a message that ran: its reply, as it is told, is written where its connection is open. It answers how
-/// many bytes were written.
+/// Finishes a message that ran: its reply, as it is told, is written where its connection is open.
+/// Answers how many bytes were written.
 fn end_in(
     calls: &mut Calls,
     connections: &[Connection],

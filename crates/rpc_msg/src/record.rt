@@ -44,8 +44,8 @@ fn decode(
     from: usize,
 ) -> Request
     requires { from ≤ length record.items }
-    ensures { Tells xid result
-        (heard_from Plain (Asks xid procedure (credential_of credential) (drop from record.items))) }
+    ensures { let arguments = drop from record.items in Tells xid result
+        (heard_from Plain (Asks xid procedure (credential_of credential) arguments)) }
 {
     match decode_in_place(alloc, procedure, record, from) {
         Ok(call) => Request::Call { call, credential },

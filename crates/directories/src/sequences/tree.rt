@@ -148,8 +148,8 @@ impl<T: Copy> Tree<T> {
         }
     }
 
-    /// The lowest subtree that has the items between two positions, and the position that it begins at,
-    /// where the tree begins at `first`.
+    /// The lowest subtree that has the items between two positions, and the position that it begins
+    /// at, where the tree begins at `first`.
     pub(crate) fn narrowed(&self, first: usize, low: usize, high: usize) -> (&Tree<T>, usize)
         requires { first + length self.now.items < 2 ^ 64 }
         ensures inside { result.1 + length result.0.now.items ≤ first + length self.now.items }
