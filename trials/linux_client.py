@@ -13,8 +13,14 @@ HERE = Path(__file__).resolve().parent
 EMULATOR = "qemu-system-x86_64"
 # What the client needs of the kernel, as modules; one that is built in has no file.
 MODULES = ("virtio_pci", "virtio_net", "sunrpc", "lockd", "dns_resolver", "nfs_acl", "nfs", "nfsv3")
-# How long a check and the whole guest may take, in seconds.
-CHECK_SECONDS, GUEST_SECONDS = 120, 600
+# What has to be there, and the packages that have it.
+PROGRAMS, PACKAGES = (EMULATOR, "cpio", "dpkg-deb"), ("qemu-system-x86", "cpio")
+# How long the whole guest may take, in seconds.
+GUEST_SECONDS = 600
+# What the guest's checks go by: the MiB of an image, the pieces that are written into it, the files of a tree, and how many seconds
+# a check may take. And those checks that are of any size.
+SMALL = {"image": 256, "pieces": 60, "files": 500, "limit": 120}
+SIZED = ("mounts", "writes_an_image", "makes_many_files")
 SEED = 20261127
 LINE = re.compile(r"check (\w+) (passed|failed: .*)")
 
@@ -100,10 +106,11 @@ def build(folder):
     return next(unpacked.rglob("vmlinuz-*")), image
 
 
-def start(kernel, image, port):
-    """The guest, whose console is its output."""
+def start(kernel, image, port, only, sizes):
+    """The guest, whose console is its output. It makes all checks, or only some."""
     said = f"console=ttyS0 quiet loglevel=4 panic=-1 oops=panic mitigations=off random.trust_cpu=on filer.port={port}"
-    said += f" filer.limit={CHECK_SECONDS} filer.seed={SEED}"
+    said += f" filer.seed={SEED} filer.only={','.join(only)}"
+    said += "".join(f" filer.{word}={number}" for word, number in sizes.items())
     command = [EMULATOR, "-accel", "tcg,thread=multi", "-cpu", "max", "-m", "512", "-smp", "2", "-nodefaults"]
     command += ["-display", "none", "-no-reboot", "-monitor", "none", "-serial", "stdio", "-kernel", str(kernel)]
     command += ["-initrd", str(image), "-append", said, "-netdev", "user,id=net,ipv6=off"]
@@ -125,11 +132,13 @@ def console(guest, seconds):
         guest.stdout.close()
 
 
-def try_server(server, folder):
-    """Puts the client through its checks: how many passed, and what failed. The server is started anew where the guest asks for it."""
+def try_server(server, folder, only=(), sizes=SMALL, seconds=GUEST_SECONDS):
+    """Puts the client through its checks, or only some: how many passed, and what failed. The server is started anew where the guest
+    asks for it."""
     kernel, image = build(folder)
+    wanted = only or names()
     begin, passed, failures, ended, last = time.monotonic(), [], [], False, ""
-    for line in console(start(kernel, image, server.port), GUEST_SECONDS):
+    for line in console(start(kernel, image, server.port, only, sizes), seconds):
         last = line or last
         found = LINE.search(line)
         if found and found.group(2) == "passed":
@@ -142,8 +151,8 @@ def try_server(server, folder):
             failures.append(line)
         ended = ended or line == "guest ended"
     told = len(passed) + len(failures)
-    for name in names()[told:]:
+    for name in wanted[told:]:
         failures.append(f"{name}: the guest ended before it, after {time.monotonic() - begin:.0f} s, with {last!r}")
-    if not ended and told == len(names()):
+    if not ended and told == len(wanted):
         failures.append(f"the guest didn't end well: {last!r}")
     return len(passed), failures

@@ -26,6 +26,10 @@ def hold(is_so, what):
         raise Differs(what)
 
 
+# The volumes of `export` where a trial names no others: of 64 MiB, with files as large.
+SMALL = ("--ranges", "16")
+
+
 class Server:
     """`filer serve` or `filer export`, for so many connections, or without an end where their
     number is None."""
@@ -34,6 +38,8 @@ class Server:
         volumes = ["--volumes", str(BASIC.volumes)]
         numbers = [*volumes, "--workers", str(workers)]
         numbers += [] if connections is None else ["--connections", str(connections)]
+        if command == "export":
+            options = options or SMALL
         # what `export` says on standard error is for people
         self.process = subprocess.Popen(
             [filer, command, "--listen", "127.0.0.1:0", *numbers, *options],

@@ -50,7 +50,7 @@ class Way(namedtuple("Way", "command options blocks owner")):
 
 
 SERVE = Way("serve", [], 4096, Owner)
-EXPORT = Way("export", ["--log", "--stats", "1"], 16384, MountedOwner)
+EXPORT = Way("export", ["--log", "--stats", "1", "--ranges", "16"], 16384, MountedOwner)
 
 
 class Server:

@@ -1,13 +1,14 @@
 -- Rows computed from the definitions: one aggregate with one spare range, two volumes of one range each.
 use Rattle.std.proofs.Common.{◌≡◌, ℕ, true, false, [], ◌∷◌, replicate, slice_index, Some, None, refl}
-use Rattle.nfs_model.specs.Tree.{Layout, VolumeLayout, Aggregate, Volume, Logical, Stripe, Range}
-use Rattle.affinity.specs.Fault.{fault_of}
-use Rattle.affinity.specs.Largest.{largest_of}
+use Rattle.nfs_model.specs.Tree.{Layout, VolumeLayout, Aggregate, Volume, Logical, Stripe, Range, range_blocks_of}
+use Rattle.affinity.specs.Fault.{fault_of, fault_without_sizes}
+use Rattle.affinity.specs.Largest.{inodes_of, largest_of}
 use Rattle.affinity.specs.Tree.{is_above, parent_of}
 use Rattle.affinity.specs.Numbers.{node_count, number_of, parents}
 
 abbrev volume_on : ℕ → ℕ → ℕ → VolumeLayout
-volume_on aggregate ranges stripes = record { aggregate = aggregate; ranges = ranges; stripes = stripes; mebibytes = 16 }
+volume_on aggregate ranges stripes =
+    record { aggregate = aggregate; ranges = ranges; stripes = stripes; mebibytes = 16; range_blocks = 1024; inodes = 65536 }
 
 abbrev two_volumes : Layout
 two_volumes = record { spare = 1 ∷ []; volumes = volume_on 0 1 8 ∷ volume_on 0 1 8 ∷ [] }
@@ -64,18 +65,22 @@ bad_ranges_before_spare_ones : fault_of (record { spare = 129 ∷ []; volumes = 
 bad_ranges_before_spare_ones = refl
 
 abbrev one_volume : ℕ → ℕ → Layout
-one_volume stripes mebibytes = record { spare = 128 ∷ []; volumes = record { aggregate = 0; ranges = 16; stripes = stripes; mebibytes = mebibytes } ∷ [] }
+one_volume stripes mebibytes = record {
+  spare = 128 ∷ [];
+  volumes =
+      record { aggregate = 0; ranges = 16; stripes = stripes; mebibytes = mebibytes; range_blocks = 1024; inodes = 65536 } ∷ [];
+}
 
 spare_ones_before_stripes : fault_of (record { spare = 129 ∷ []; volumes = volume_on 0 16 9 ∷ [] }) ≡ Some 55
 spare_ones_before_stripes = refl
 
-stripes_before_the_largest_file : fault_of (one_volume 12 17) ≡ Some 56
+stripes_before_the_largest_file : fault_without_sizes (one_volume 12 17) ≡ Some 56
 stripes_before_the_largest_file = refl
 
-files_of_32_mebibytes : fault_of (one_volume 16 32) ≡ Some 57
+files_of_32_mebibytes : fault_without_sizes (one_volume 16 32) ≡ Some 57
 files_of_32_mebibytes = refl
 
-files_of_64_mebibytes : fault_of (one_volume 8 64) ≡ None
+files_of_64_mebibytes : fault_without_sizes (one_volume 8 64) ≡ None
 files_of_64_mebibytes = refl
 
 their_largest_size : largest_of (one_volume 8 64) 0 ≡ 67108864
@@ -93,3 +98,60 @@ third_volume_after_16_stripes = refl
 
 parent_of_the_sixteenth_stripe : slice_index (parents mixed) (number_of mixed (Stripe 1 15)) ≡ number_of mixed (Logical 1)
 parent_of_the_sixteenth_stripe = refl
+
+-- ---- sizes that are given
+
+-- one volume of 8 stripes and 16 ranges, with these blocks a range, mebibytes of its largest files, and inodes
+abbrev sized : ℕ → ℕ → ℕ → Layout
+sized range_blocks mebibytes inodes = record {
+  spare = 128 ∷ [];
+  volumes =
+      record { aggregate = 0; ranges = 16; stripes = 8; mebibytes = mebibytes; range_blocks = range_blocks; inodes = inodes } ∷ [];
+}
+
+smallest_sizes : fault_of (sized 1024 16 65536) ≡ None
+smallest_sizes = refl
+
+largest_sizes : fault_of (sized 16777216 1048576 67108864) ≡ None
+largest_sizes = refl
+
+ranges_of_2048_blocks : fault_of (sized 2048 17 65537) ≡ None
+ranges_of_2048_blocks = refl
+
+ranges_of_512_blocks : fault_of (sized 512 15 65535) ≡ Some 58
+ranges_of_512_blocks = refl
+
+ranges_of_3072_blocks : fault_of (sized 3072 16 65536) ≡ Some 58
+ranges_of_3072_blocks = refl
+
+ranges_of_33554432_blocks : fault_of (sized 33554432 16 65536) ≡ Some 58
+ranges_of_33554432_blocks = refl
+
+ranges_of_1025_blocks : fault_of (sized 1025 16 65536) ≡ Some 58
+ranges_of_1025_blocks = refl
+
+files_of_15_mebibytes : fault_of (sized 1024 15 65535) ≡ Some 59
+files_of_15_mebibytes = refl
+
+files_of_1048577_mebibytes : fault_of (sized 1024 1048577 65536) ≡ Some 59
+files_of_1048577_mebibytes = refl
+
+inodes_one_too_few : fault_of (sized 1024 16 65535) ≡ Some 67
+inodes_one_too_few = refl
+
+inodes_one_too_many : fault_of (sized 1024 16 67108865) ≡ Some 67
+inodes_one_too_many = refl
+
+stripes_before_blocks_of_a_range :
+    fault_of (record { spare = 0 ∷ []; volumes = record { aggregate = 0; ranges = 1; stripes = 9; mebibytes = 16; range_blocks = 1; inodes = 1 } ∷ [] })
+    ≡ Some 56
+stripes_before_blocks_of_a_range = refl
+
+largest_file_of_a_tebibyte : largest_of (sized 16777216 1048576 67108864) 0 ≡ 1099511627776
+largest_file_of_a_tebibyte = refl
+
+blocks_of_its_ranges : range_blocks_of (sized 16777216 16 65536) 0 ≡ 16777216
+blocks_of_its_ranges = refl
+
+its_inodes : inodes_of (sized 1024 16 67108864) 0 ≡ 67108864
+its_inodes = refl

@@ -3,16 +3,37 @@ use Rattle.std.specs.Prelude.{ℕ, List, map}
 use Rattle.nfs_model.specs.Tree as trees
 use Rattle.affinity.specs.declared.specification.AggregateSpec.{AggregateSpec}
 use Rattle.affinity.specs.declared.specification.VolumeSpec.{VolumeSpec}
+use Rattle.affinity.specs.declared.specification.SizedVolumeSpec.{SizedVolumeSpec}
 
 abbrev pub spare_of : AggregateSpec → ℕ
 spare_of a = a.spare
 
+-- a volume with ranges of so many blocks, and so many inodes at most
+abbrev pub volume_with : (range_blocks inodes : ℕ) → VolumeSpec → trees.VolumeLayout
+volume_with range_blocks inodes v = record {
+  aggregate = v.aggregate;
+  ranges = v.ranges;
+  stripes = v.stripes;
+  mebibytes = v.mib;
+  range_blocks = range_blocks;
+  inodes = inodes;
+}
+
+-- a volume whose sizes aren't given: with ranges of 1,024 blocks, and 65,536 inodes at most
 abbrev pub volume_asked : VolumeSpec → trees.VolumeLayout
-volume_asked v = record { aggregate = v.aggregate; ranges = v.ranges; stripes = v.stripes; mebibytes = v.mib }
+volume_asked v = volume_with 1024 65536 v
+
+-- a volume with its sizes
+abbrev pub volume_sized : SizedVolumeSpec → trees.VolumeLayout
+volume_sized v = volume_with v.range_blocks v.inodes v.volume
 
 -- a volume of 8 stripes, with files of at most 16 mebibytes
 abbrev pub ordinary : ℕ → ℕ → trees.VolumeLayout
-ordinary aggregate ranges = record { aggregate = aggregate; ranges = ranges; stripes = 8; mebibytes = 16 }
+ordinary aggregate ranges =
+    volume_asked (record { aggregate = aggregate; ranges = ranges; stripes = 8; mib = 16 })
 
 abbrev pub layout_in : List AggregateSpec → List VolumeSpec → trees.Layout
 layout_in aggregates volumes = record { spare = map spare_of aggregates; volumes = map volume_asked volumes }
+
+abbrev pub sized_layout_in : List AggregateSpec → List SizedVolumeSpec → trees.Layout
+sized_layout_in aggregates volumes = record { spare = map spare_of aggregates; volumes = map volume_sized volumes }

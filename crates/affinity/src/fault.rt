@@ -22,6 +22,12 @@ pub enum LayoutFault {
     StripeCount,
     /// The largest files of a volume have neither 16 nor 64 mebibytes.
     FileLimit,
+    /// The ranges of a volume don't have 1,024 blocks times a power of two, at most 16,777,216.
+    RangeBlocks,
+    /// The largest files of a volume don't have 16 to 1,048,576 mebibytes.
+    FileSize,
+    /// A volume doesn't have 65,536 to 67,108,864 inodes at most.
+    InodeCount,
     /// Memory ran out.
     NoMemory,
 }
@@ -49,6 +55,9 @@ impl LayoutFault {
             LayoutFault::SpareRanges => 55,
             LayoutFault::StripeCount => 56,
             LayoutFault::FileLimit => 57,
+            LayoutFault::RangeBlocks => 58,
+            LayoutFault::FileSize => 59,
+            LayoutFault::InodeCount => 67,
             LayoutFault::NoMemory => 90,
         }
     }

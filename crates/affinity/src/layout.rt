@@ -1,12 +1,15 @@
 //! Layouts.
 
 ghost use Rattle.std.specs.Prelude.{◌≡◌, None};
-ghost use Rattle.affinity.specs.Specification.{layout_in};
+ghost use Rattle.affinity.specs.Specification.{sized_layout_in};
 ghost use Rattle.affinity.specs.Fault.{fault_of};
 
 use crate::fault::LayoutFault;
 use crate::rules::check;
-use crate::specification::{AggregateSpec, MIB, STRIPES, VolumeSpec};
+use crate::sizes::{check_all, with_sizes};
+use crate::specification::{
+    AggregateSpec, INODES, MIB, RANGE_BLOCKS, STRIPES, SizedVolumeSpec, VolumeSpec,
+};
 use std::alloc::{AllocError, Global};
 
 /// The bytes of a mebibyte.
@@ -16,8 +19,8 @@ const MEBIBYTE: u64 = 1_048_576;
 #[derive(Debug)]
 pub struct Layout {
     aggregates: Vec<AggregateSpec>,
-    volumes: Vec<VolumeSpec>,
-    pub ghost lawful: { fault_of (layout_in aggregates.items volumes.items) ≡ None },
+    volumes: Vec<SizedVolumeSpec>,
+    pub ghost lawful: { fault_of (sized_layout_in aggregates.items volumes.items) ≡ None },
 }
 
 // By hand, so that crates above have no proof of the drop of each of its parts.
@@ -32,13 +35,16 @@ impl Drop for Layout {
 
 impl Layout {
     ghost use Rattle.std.specs.Prelude.{◌<◌, ◌≤◌, length, slice_get, option_map, IfOk, IfErr, OnOk};
-    ghost use Rattle.nfs_model.specs.Tree.{aggregate_of, stripes_of};
-    ghost use Rattle.affinity.specs.Specification.{spare_of, volume_asked};
-    ghost use Rattle.affinity.specs.Fault.{rule_broken};
-    ghost use Rattle.affinity.specs.Largest.{largest_of, mebibytes_in};
+    ghost use Rattle.nfs_model.specs.Tree.{aggregate_of, range_blocks_of, stripes_of};
+    ghost use Rattle.nfs_model.specs.volume.Inodes.{inodes_of_a_volume};
+    ghost use Rattle.nfs_model.specs.volume.Ranges.{IsRangeSize};
+    ghost use Rattle.affinity.specs.Specification.{layout_in, spare_of, volume_sized};
+    ghost use Rattle.affinity.specs.Fault.{fault_without_sizes, rule_broken};
+    ghost use Rattle.affinity.specs.Largest.{inodes_of, largest_of, mebibytes_in};
     ghost use Rattle.affinity.specs.Layout.{layout_of};
 
-    /// A layout of these aggregates and volumes. It is refused for the first rule that it breaks.
+    /// A layout of these aggregates and volumes, each with ranges of 1,024 blocks and at most
+    /// 65,536 inodes. It is refused for the first rule that it breaks.
     pub fn new(
         alloc: Global,
         aggregates: &[AggregateSpec],
@@ -46,11 +52,33 @@ impl Layout {
     ) -> Result<Layout, LayoutFault>
         ensures ok { IfOk result (λ layout.
             layout_of layout ≡ layout_in aggregates.now volumes.now) }
-        ensures lawful { OnOk result (fault_of (layout_in aggregates.now volumes.now) ≡ None) }
+        ensures lawful { OnOk result (fault_without_sizes
+            (layout_in aggregates.now volumes.now) ≡ None) }
         ensures err { IfErr result (λ fault.
-            rule_broken fault ≡ fault_of (layout_in aggregates.now volumes.now)) }
+            rule_broken fault ≡ fault_without_sizes (layout_in aggregates.now volumes.now)) }
     {
         check(aggregates, volumes)?;
+        Ok(Layout {
+            aggregates: aggregates.to_vec(alloc)?,
+            volumes: with_sizes(alloc, volumes)?,
+        })
+    }
+
+    /// A layout of these aggregates and of volumes with their sizes. It is refused for the first
+    /// rule that it breaks.
+    pub fn with_sizes(
+        alloc: Global,
+        aggregates: &[AggregateSpec],
+        volumes: &[SizedVolumeSpec],
+    ) -> Result<Layout, LayoutFault>
+        ensures ok { IfOk result (λ layout.
+            layout_of layout ≡ sized_layout_in aggregates.now volumes.now) }
+        ensures lawful { OnOk result (fault_of (sized_layout_in aggregates.now volumes.now)
+            ≡ None) }
+        ensures err { IfErr result (λ fault.
+            rule_broken fault ≡ fault_of (sized_layout_in aggregates.now volumes.now)) }
+    {
+        check_all(aggregates, volumes)?;
         Ok(Layout {
             aggregates: aggregates.to_vec(alloc)?,
             volumes: volumes.to_vec(alloc)?,
@@ -91,8 +119,8 @@ impl Layout {
     }
 
     /// A volume by its number.
-    pub fn volume(&self, volume: u32) -> Option<VolumeSpec>
-        ensures { option_map volume_asked result ≡ slice_get (layout_of self.now).volumes volume }
+    pub fn volume(&self, volume: u32) -> Option<SizedVolumeSpec>
+        ensures { option_map volume_sized result ≡ slice_get (layout_of self.now).volumes volume }
     {
         self.volumes.get(volume as usize).copied()
     }
@@ -105,7 +133,7 @@ impl Layout {
             → result < length (layout_of self.now).spare }
     {
         match self.volume(volume) {
-            Some(specification) => specification.aggregate,
+            Some(specification) => specification.volume.aggregate,
             None => 0,
         }
     }
@@ -117,17 +145,17 @@ impl Layout {
         ensures most { result ≤ 16 }
     {
         match self.volume(volume) {
-            Some(specification) => specification.stripes,
+            Some(specification) => specification.volume.stripes,
             None => STRIPES,
         }
     }
 
-    /// The largest size of a volume's files in bytes, 16 or 64 mebibytes; 16 for a volume that
-    /// isn't there.
+    /// The largest size of a volume's files in bytes, 16 to 1,048,576 mebibytes; 16 for a volume
+    /// that isn't there.
     pub fn largest_of(&self, volume: u32) -> u64
         ensures largest { result ≡ largest_of (layout_of self.now) volume }
         ensures some { 0 < result }
-        ensures most { result ≤ 67108864 }
+        ensures most { result ≤ 1099511627776 }
     {
         MEBIBYTE * u64::from(self.mebibytes_of(volume))
     }
@@ -136,11 +164,34 @@ impl Layout {
     fn mebibytes_of(&self, volume: u32) -> u32
         ensures mebibytes { result ≡ mebibytes_in (slice_get (layout_of self.now).volumes volume) }
         ensures some { 0 < result }
-        ensures most { result ≤ 64 }
+        ensures most { result ≤ 1048576 }
     {
         match self.volume(volume) {
-            Some(specification) => specification.mib,
+            Some(specification) => specification.volume.mib,
             None => MIB,
+        }
+    }
+
+    /// The blocks of a range of a volume; 1,024 for a volume that isn't there.
+    pub fn range_blocks_of(&self, volume: u32) -> u32
+        ensures blocks { result ≡ range_blocks_of (layout_of self.now) volume }
+        ensures size { IsRangeSize result }
+    {
+        match self.volume(volume) {
+            Some(specification) => specification.range_blocks,
+            None => RANGE_BLOCKS,
+        }
+    }
+
+    /// The most inodes of a volume, the root with them; 65,536 for a volume that isn't there.
+    pub fn inodes_of(&self, volume: u32) -> u32
+        ensures inodes { result ≡ inodes_of (layout_of self.now) volume }
+        ensures some { 0 < result }
+        ensures most { result ≤ inodes_of_a_volume }
+    {
+        match self.volume(volume) {
+            Some(specification) => specification.inodes,
+            None => INODES,
         }
     }
 }

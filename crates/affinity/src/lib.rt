@@ -11,6 +11,7 @@ mod layout;
 mod nodes;
 mod printed;
 mod rules;
+mod sizes;
 mod specification;
 mod tree;
 
@@ -18,4 +19,7 @@ pub use affinity::{Affinity, HasKind, Kind};
 pub use fault::LayoutFault;
 pub use layout::Layout;
 pub use rules::{MOST_AGGREGATES, MOST_RANGES, MOST_SPARE, MOST_VOLUMES};
-pub use specification::{AggregateSpec, MIB, MOST_MIB, MOST_STRIPES, STRIPES, VolumeSpec};
+pub use specification::{
+    AggregateSpec, INODES, MIB, MOST_INODES, MOST_MIB, MOST_SIZED_MIB, MOST_STRIPES, RANGE_BLOCKS,
+    STRIPES, SizedVolumeSpec, VolumeSpec,
+};

@@ -3,7 +3,7 @@
 ghost use Rattle.std.specs.Prelude.{◌≡◌, ◌≢◌, None, IfErr, OnOk};
 ghost use Rattle.std.specs.List.{list_all};
 ghost use Rattle.affinity.specs.Specification.{layout_in, spare_of, volume_asked};
-ghost use Rattle.affinity.specs.Fault.{fault_of, rule_broken};
+ghost use Rattle.affinity.specs.Fault.{fault_without_sizes, rule_broken};
 ghost use Rattle.affinity.specs.Fault.{is_known, is_limited, is_sized, is_spare, is_striped};
 
 use crate::fault::LayoutFault;
@@ -38,7 +38,7 @@ fn are_sized(volumes: &[VolumeSpec]) -> bool
 }
 
 /// Whether no aggregate has too many spare ranges.
-fn are_spare(aggregates: &[AggregateSpec]) -> bool
+pub(crate) fn are_spare(aggregates: &[AggregateSpec]) -> bool
     ensures { result ≡ list_all (λ a. is_spare (spare_of a)) aggregates.now }
 {
     aggregates.iter().all(|a| a.spare <= MOST_SPARE)
@@ -60,11 +60,12 @@ fn are_limited(volumes: &[VolumeSpec]) -> bool
     volumes.iter().all(|v| v.mib == MIB || v.mib == MOST_MIB)
 }
 
-/// Refuses a layout for the first rule that it breaks.
+/// Refuses a layout whose volumes' sizes aren't given, for the first rule that it breaks.
 pub(crate) fn check(aggregates: &[AggregateSpec], volumes: &[VolumeSpec]) -> Result<(), LayoutFault>
-    ensures ok { OnOk result (fault_of (layout_in aggregates.now volumes.now) ≡ None) }
+    ensures ok { OnOk result (fault_without_sizes (layout_in aggregates.now volumes.now)
+        ≡ None) }
     ensures err { IfErr result (λ fault.
-        rule_broken fault ≡ fault_of (layout_in aggregates.now volumes.now)) }
+        rule_broken fault ≡ fault_without_sizes (layout_in aggregates.now volumes.now)) }
     ensures broken { IfErr result (λ fault. rule_broken fault ≢ None) }
 {
     if aggregates.len() < 1 || MOST_AGGREGATES < aggregates.len() {

@@ -1,7 +1,7 @@
 //! What a layout is made from.
 
 ghost use Rattle.std.specs.Prelude.{◌≡◌};
-ghost use Rattle.affinity.specs.Specification.{ordinary, volume_asked};
+ghost use Rattle.affinity.specs.Specification.{ordinary, volume_asked, volume_sized};
 
 /// The stripes of an ordinary volume.
 pub const STRIPES: u32 = 8;
@@ -12,8 +12,20 @@ pub const MOST_STRIPES: u32 = 16;
 /// The mebibytes of the largest file of an ordinary volume.
 pub const MIB: u32 = 16;
 
-/// The most mebibytes of the largest file of a volume.
+/// The most mebibytes of the largest file of a volume whose sizes aren't given.
 pub const MOST_MIB: u32 = 64;
+
+/// The mebibytes of the largest file that any volume may have.
+pub const MOST_SIZED_MIB: u32 = 1_048_576;
+
+/// The blocks of a range of a volume whose sizes aren't given, and the fewest of any.
+pub const RANGE_BLOCKS: u32 = 1_024;
+
+/// The most inodes of a volume whose sizes aren't given, and the fewest of any.
+pub const INODES: u32 = 65_536;
+
+/// The most inodes that any volume may have.
+pub const MOST_INODES: u32 = 67_108_864;
 
 /// An aggregate as it is laid out at the start.
 #[derive(Clone, Copy, Debug, PartialEq, Eq)]
@@ -30,8 +42,18 @@ pub struct VolumeSpec {
     pub ranges: u32,
     /// The stripes over which the bytes of its files are spread: 8 or 16.
     pub stripes: u32,
-    /// The largest size of its files in mebibytes: 16 or 64.
+    /// The largest size of its files in mebibytes: 16 or 64, or another where its sizes are given.
     pub mib: u32,
+}
+
+/// A volume as it is laid out at the start, with its sizes.
+#[derive(Clone, Copy, Debug, PartialEq, Eq)]
+pub struct SizedVolumeSpec {
+    pub volume: VolumeSpec,
+    /// The blocks of each of its ranges: 1,024 times a power of two, at most 16,777,216.
+    pub range_blocks: u32,
+    /// How many inodes it may have, the root with them: 65,536 to 67,108,864.
+    pub inodes: u32,
 }
 
 impl VolumeSpec {
@@ -44,6 +66,17 @@ impl VolumeSpec {
             ranges,
             stripes: STRIPES,
             mib: MIB,
+        }
+    }
+
+    /// The volume with ranges of 1,024 blocks, and 65,536 inodes at most.
+    pub fn sized(self) -> SizedVolumeSpec
+        ensures { volume_sized result ≡ volume_asked self }
+    {
+        SizedVolumeSpec {
+            volume: self,
+            range_blocks: RANGE_BLOCKS,
+            inodes: INODES,
         }
     }
 }

@@ -12,3 +12,4 @@ mod log;
 mod networks;
 mod quotas;
 mod reports;
+mod sizes;

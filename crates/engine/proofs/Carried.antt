@@ -3,9 +3,9 @@ use Rattle.std.proofs.Common.{◌≡◌, ◌⊎◌, inl, inr, ℕ, zero, suc, �
 use Rattle.std.proofs.Common.{None, Result, Ok, Err, refl, sym, ap, ◌∙◌, subst}
 use Rattle.std.specs.Prelude.{slice_get, slice_set, is_some, nat_le}
 use Rattle.std.proofs.lemmas.Bool.{lt-ltb}
-use Rattle.nfs_model.specs.Tree.{Logical, Vbn, Range}
+use Rattle.nfs_model.specs.Tree.{Logical, Vbn, Range, range_blocks_of}
 use Rattle.nfs_model.specs.Server.{VolumeState}
-use Rattle.nfs_model.specs.Parts.{Hand, Empty, Fresh, Dead, batch_in, range_of, range_blocks, most_ranges}
+use Rattle.nfs_model.specs.Parts.{Hand, Empty, Fresh, Dead, batch_in, range_of, most_ranges}
 use Rattle.nfs_model.specs.World.{Setup, World, Worker, changed_at, with_hand}
 use Rattle.nfs_model.specs.Events.Refusals as events
 use Rattle.nfs_model.specs.Events.Refusals.{Event, Fetch, Cull, PutDown, Survey, excluded, refusal, is_idle, has_empty_hand, is_range_in_use, or_not_in_use}
@@ -108,13 +108,13 @@ module _ (setup : Setup) (w : World) (i : ℕ) where
         told h.1 h.2 h.3,
       )
         where
-          in-use : (reply : JobReply) → HasMoved w i (jobs.Fetch v r) reply new → is_range_in_use there r ≡ true
-          in-use (Took hand) m = ap (λ o. is_range_in_use o r) m.there ∙ lt-ltb r (m.volume.total / range_blocks) m.moves.0
+          in-use : (reply : JobReply) → HasMoved setup.layout w i (jobs.Fetch v r) reply new → is_range_in_use there r ≡ true
+          in-use (Took hand) m = ap (λ o. is_range_in_use o r) m.there ∙ lt-ltb r (m.volume.total / m.volume.range_blocks) m.moves.0
           in-use (Gave hand) m = absurd m.moves
           in-use (Surveyed counts) m = absurd m.moves
           in-use (Replied reply) m = absurd m.moves
 
-          told : (reply : JobReply) → HasMoved w i (jobs.Fetch v r) reply new → done ≡ told_as reply → Happens setup w (Fetch i v r) done new
+          told : (reply : JobReply) → HasMoved setup.layout w i (jobs.Fetch v r) reply new → done ≡ told_as reply → Happens setup w (Fetch i v r) done new
           told (Took hand) m is = (
             without_hand m.before,
             record { parts = m.after; hand = hand },
@@ -141,7 +141,7 @@ module _ (setup : Setup) (w : World) (i : ℕ) where
       pub culled : (answer : Result events.Done ℕ) (new : World) → Tends (jobs.Cull v) answer new → Events setup w (Cull i v) answer new
       culled (Ok done) new h = (cull-asks ∙ h.0, told h.1 h.2 h.3)
         where
-          told : (reply : JobReply) → HasMoved w i (jobs.Cull v) reply new → done ≡ told_as reply → Happens setup w (Cull i v) done new
+          told : (reply : JobReply) → HasMoved setup.layout w i (jobs.Cull v) reply new → done ≡ told_as reply → Happens setup w (Cull i v) done new
           told (Took hand) m is = (
             without_hand m.before,
             record { parts = m.after; hand = hand },
@@ -167,7 +167,7 @@ module _ (setup : Setup) (w : World) (i : ℕ) where
       pub surveyed : (answer : Result events.Done ℕ) (new : World) → Tends (jobs.Survey v) answer new → Events setup w (Survey i v) answer new
       surveyed (Ok done) new h = (survey-asks ∙ h.0, told h.1 h.2 h.3)
         where
-          told : (reply : JobReply) → HasMoved w i (jobs.Survey v) reply new → done ≡ told_as reply → Happens setup w (Survey i v) done new
+          told : (reply : JobReply) → HasMoved setup.layout w i (jobs.Survey v) reply new → done ≡ told_as reply → Happens setup w (Survey i v) done new
           told (Surveyed counts) m is =
               let empty : Empty ≡ m.mover.hand = sym (hand-none m.mover.hand m.gave) in (
                 m.volume,
@@ -214,7 +214,7 @@ module _ (setup : Setup) (w : World) (i : ℕ) where
         → Events setup w (PutDown i) answer new
     delivered carries (Ok done) new h = (put-asks free (Fresh v blocks) carries ∙ h.0, told h.1 h.2 h.3)
       where
-        told : (reply : JobReply) → HasMoved w i (jobs.Deliver v) reply new → done ≡ told_as reply → Happens setup w (PutDown i) done new
+        told : (reply : JobReply) → HasMoved setup.layout w i (jobs.Deliver v) reply new → done ≡ told_as reply → Happens setup w (PutDown i) done new
         told (Gave (Fresh u bs)) m is =
             let own = hand-one (Fresh u bs) m.mover.hand refl m.gave in
             let same : Fresh u bs ≡ Fresh v bs = ap (λ n. Fresh n bs) m.moves.0 in (
@@ -243,11 +243,11 @@ module _ (setup : Setup) (w : World) (i : ℕ) where
         by (inr (inl e)) = absurd e.2
         by (inr (inr e)) = inr (e.0, put-asks free (Fresh v blocks) carries ∙ e.1, may)
 
-    pub freed : hand_of at ≡ Dead v blocks → (answer : Result events.Done ℕ) (new : World) → Tends (jobs.Free v (range_of blocks)) answer new
+    pub freed : hand_of at ≡ Dead v blocks → (answer : Result events.Done ℕ) (new : World) → Tends (jobs.Free v (range_of (range_blocks_of setup.layout v) blocks)) answer new
         → Events setup w (PutDown i) answer new
     freed carries (Ok done) new h = (put-asks free (Dead v blocks) carries ∙ h.0, told h.1 h.2 h.3)
       where
-        told : (reply : JobReply) → HasMoved w i (jobs.Free v (range_of blocks)) reply new → done ≡ told_as reply → Happens setup w (PutDown i) done new
+        told : (reply : JobReply) → HasMoved setup.layout w i (jobs.Free v (range_of (range_blocks_of setup.layout v) blocks)) reply new → done ≡ told_as reply → Happens setup w (PutDown i) done new
         told (Gave (Dead u bs)) m is =
             let own = hand-one (Dead u bs) m.mover.hand refl m.gave in
             let same : Dead u bs ≡ Dead v bs = ap (λ n. Dead n bs) m.moves.0 in (
@@ -266,7 +266,7 @@ module _ (setup : Setup) (w : World) (i : ℕ) where
         told (Replied reply) m is = absurd m.moves
     freed carries (Err number) new h = (by h.0, h.1)
       where
-        by : Refuses setup w (jobs.Free v (range_of blocks)) number
+        by : Refuses setup w (jobs.Free v (range_of (range_blocks_of setup.layout v) blocks)) number
             → (refusal setup w (PutDown i) ≡ Some number)
             ⊎ ((number ≡ 90) × (refusal setup w (PutDown i) ≡ None) × IsTrue (may_lack_memory w (PutDown i)))
         by (inl e) = inl (put-asks free (Dead v blocks) carries ∙ e)
@@ -275,7 +275,7 @@ module _ (setup : Setup) (w : World) (i : ℕ) where
 
   -- whatever is in the hand
   module _ (free : is_idle at ≡ true) (answer : Result events.Done ℕ) (new : World) where
-    pub put-as : (hand : Hand) → hand_of at ≡ hand → (call : InnerCall) → tending.call_to_put hand ≡ Some call → Tends call answer new
+    pub put-as : (hand : Hand) → hand_of at ≡ hand → (call : InnerCall) → tending.call_to_put setup.layout hand ≡ Some call → Tends call answer new
         → Events setup w (PutDown i) answer new
     put-as Empty carries call is h = absurd cc
     put-as (Fresh v blocks) carries call is h = delivered free v blocks carries answer new
@@ -285,7 +285,7 @@ module _ (setup : Setup) (w : World) (i : ℕ) where
         one x y e = cc
     put-as (Dead v []) carries call is h = absurd cc
     put-as (Dead v (b ∷ bs)) carries call is h =
-        freed free v (b ∷ bs) carries answer new (subst (λ x. Tends x answer new) (sym (one (jobs.Free v (range_of (b ∷ bs))) call is)) h)
+        freed free v (b ∷ bs) carries answer new (subst (λ x. Tends x answer new) (sym (one (jobs.Free v (range_of (range_blocks_of setup.layout v) (b ∷ bs))) call is)) h)
       where
         one : (x y : InnerCall) → Some x ≡ Some y → x ≡ y
         one x y e = cc

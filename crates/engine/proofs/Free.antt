@@ -6,6 +6,7 @@ use Rattle.std.proofs.lemmas.Bool.{and_parts, ltb-true, lt-ltb}
 use Rattle.std.proofs.lemmas.Bool.Decides.{nat_tests}
 use Rattle.std.proofs.lemmas.List.{length-map}
 use Rattle.nfs_model.specs.Tree.{Layout}
+use Rattle.nfs_model.specs.Tree.{range_blocks_of}
 use Rattle.nfs_model.specs.Parts.{Hand, Empty, Fresh, Dead, range_of}
 use Rattle.nfs_model.specs.Events.Refusals.{is_idle, has_empty_hand, hand_of}
 use Rattle.filer_state.specs.state.Contents.{filer_contents}
@@ -102,23 +103,23 @@ module _ (s : State) (sound : IsSoundEngine s) where
             there ∙ ap (λ (x : Worker). Some (worker_with x.run k.hand)) same
 
         -- a batch has a call that puts it down
-        pub has-call : call_to_put k.hand ≡ None → k.hand ≡ Empty
+        pub has-call : call_to_put (layout_in s.calls) k.hand ≡ None → k.hand ≡ Empty
         has-call none = by k.hand carried none
           where
-            by : (h : Hand) → IsCarried (layout_in s.calls) h → call_to_put h ≡ None → h ≡ Empty
+            by : (h : Hand) → IsCarried (layout_in s.calls) h → call_to_put (layout_in s.calls) h ≡ None → h ≡ Empty
             by Empty is e = refl
             by (Fresh v bs) is e = absurd cc
             by (Dead v []) is e = absurd (omega (arith, is.1))
             by (Dead v (b ∷ bs)) is e = absurd cc
 
-        pub may_put : (call : InnerCall) → call_to_put k.hand ≡ Some call → MayTend s i call
+        pub may_put : (call : InnerCall) → call_to_put (layout_in s.calls) k.hand ≡ Some call → MayTend s i call
         may_put call is = by k.hand idle-place carried is
           where
-            by : (h : Hand) → slice_get s.workers.items i ≡ Some (worker_with Idle h) → IsCarried (layout_in s.calls) h → call_to_put h ≡ Some call
+            by : (h : Hand) → slice_get s.workers.items i ≡ Some (worker_with Idle h) → IsCarried (layout_in s.calls) h → call_to_put (layout_in s.calls) h ≡ Some call
                 → MayTend s i call
             by Empty there is e = absurd cc
             by (Fresh v bs) there is e = subst (MayTend s i) (inner (Deliver v) call e)
-                (record { hand = Fresh v bs; there = there; fits = (bs, refl, is.1); node = is.0 })
+                (record { hand = Fresh v bs; there = there; fits = (bs, refl, is.1, is.2); node = is.0 })
             by (Dead v []) there is e = absurd cc
-            by (Dead v (b ∷ bs)) there is e = subst (MayTend s i) (inner (Free v (range_of (b ∷ bs))) call e)
-                (record { hand = Dead v (b ∷ bs); there = there; fits = (b ∷ bs, refl, is.1, refl); node = (is.0, is.2) })
+            by (Dead v (b ∷ bs)) there is e = subst (MayTend s i) (inner (Free v (range_of (range_blocks_of (layout_in s.calls) v) (b ∷ bs))) call e)
+                (record { hand = Dead v (b ∷ bs); there = there; fits = (b ∷ bs, refl, is.1, is.3); node = (is.0, is.2) })

@@ -1,5 +1,6 @@
 -- An inner call made on the engine's desk: what it needs at each step, and what it comes to.
 use Rattle.std.proofs.Common.{◌≡◌, ℕ, ◌<◌, ◌++◌, length, Some, refl, sym, ◌∙◌, subst}
+use Rattle.nfs_model.specs.Tree.{range_blocks_of}
 use Rattle.nfs_model.specs.Parts.{Hand, Empty}
 use Rattle.affinity.specs.Tree.{IsNode}
 use Rattle.filer_state.specs.state.Parcels.{FilerParcel}
@@ -30,8 +31,8 @@ module _ {P : Type 0} (b : FilerBooks P Job JobReply) (i : ℕ) (call : InnerCal
     is_lent = laws.lent job_of job_reply_of b may.lawful call may.node i may.idle c begins apart;
     fits = (
       refl,
-      may.fits,
-      laws.some-filer job_of job_reply_of b may.lawful call may.node i may.idle c begins apart hand may.others may.hands may.sound may.few,
+      subst (λ (x : FilerBooks P Job JobReply). IsHandFor (range_blocks_of x.layout (inner_volume call)) call hand) (sym begins.books) may.fits,
+      laws.some-filer job_of job_reply_of b may.lawful call may.node i may.idle c begins apart hand may.others may.hands may.sound may.few may.sized,
     );
   }
 
@@ -85,7 +86,7 @@ module _ {P : Type 0} (b : FilerBooks P Job JobReply) (i : ℕ) (call : InnerCal
           at : (v : ℕ) → v < length b.layout.volumes → volume_at (filer_contents b.layout (settled b)) v ≡ Some (contents_of b.layout (settled b) v)
           at v less = each-get (contents_of b.layout (settled b)) (length b.layout.volumes) v less
 
-          by : (x : InnerCall) → IsNode b.layout (inner_node x) → IsHandFor x hand
+          by : (x : InnerCall) → IsNode b.layout (inner_node x) → IsHandFor (range_blocks_of b.layout (inner_volume x)) x hand
               → ((p : VolumeContents) → volume_at (filer_contents b.layout (settled b)) (inner_volume x) ≡ Some p → IsRefusedOn x p) → hand ≡ Empty
           by (jobs.Fetch v r) node fits why = fits
           by (jobs.Deliver v) node fits why = absurd (why (contents_of b.layout (settled b) v) (at v node))

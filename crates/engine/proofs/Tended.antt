@@ -3,7 +3,7 @@ use Rattle.std.proofs.Common.{◌≡◌, inl, inr, ℕ, ◌+◌, ◌≤◌, List
 use Rattle.std.specs.Prelude.{◌^◌, slice_get, slice_set}
 use Rattle.std.specs.Global.{Vec}
 use Rattle.std.specs.List.{AllByRecursion}
-use Rattle.nfs_model.specs.Tree.{Layout}
+use Rattle.nfs_model.specs.Tree.{Layout, range_blocks_of}
 use Rattle.nfs_model.specs.Parts.{Parts, Hand, Empty}
 use Rattle.nfs_model.specs.World.{Setup, World}
 use Rattle.nfs_values.specs.declared.call.Call.{Call}
@@ -14,15 +14,17 @@ use Rattle.filer_state.specs.state.Contents.{filer_contents}
 use Rattle.filer_state.specs.state.Tree.{server_of}
 use Rattle.filer_state.specs.state.Partition.{all_parts}
 use Rattle.filer_state.specs.state.Jobs as jobs
-use Rattle.filer_state.specs.state.Jobs.{InnerCall, Fetch, Deliver, Cull, Free, Survey, Took, Gave, Surveyed, Replied, inner_node, InnerMoves}
+use Rattle.filer_state.specs.state.Jobs.{InnerCall, Fetch, Deliver, Cull, Free, Survey, Took, Gave, Surveyed, Replied, inner_node, inner_volume, InnerMoves}
 use Rattle.filer_state.specs.declared.files.Files.{Files}
 use Rattle.desk.specs.laws.Books.{now, stamps}
 use Rattle.desk.specs.Words.{books, IsKept}
 use Rattle.engine.specs.laws.Store.{FilerBooks, StandsFor}
 use Rattle.engine.specs.laws.Inner.{HasMoved, hand_after}
+use Rattle.engine.specs.laws.lemmas.Sized.{settled-sized}
 use Rattle.engine.specs.laws.lemmas.Beginning.{told-taken, told-worn-out, told-free}
 use Rattle.engine.specs.laws.lemmas.Happening.{book-apart}
 use Rattle.engine.specs.laws.lemmas.Tending.{one-carried, next, has-moved, none-excluded, made-stands, out-of-use}
+use Rattle.service.specs.Inner.{IsHandFor}
 use Rattle.service.specs.Jobs.{job_of, job_reply_of}
 use Rattle.service.specs.declared.job.Job.{Job}
 use Rattle.service.specs.declared.job.JobReply.{JobReply}
@@ -55,15 +57,16 @@ abbrev pub with_tended : State → State → State
 with_tended s t = record s { workers = t.workers; desk = t.desk }
 
 -- an inner call has a reply of its own
-not-replied : (call : InnerCall) (used : ℕ) (before after : Parts) (reply : jobs.JobReply) → InnerMoves call used before reply after → IsOfHand reply
-not-replied call used before after (Took hand) moves = tt
-not-replied call used before after (Gave hand) moves = tt
-not-replied call used before after (Surveyed counts) moves = tt
-not-replied (Fetch v r) used before after (Replied reply) moves = moves
-not-replied (Deliver v) used before after (Replied reply) moves = moves
-not-replied (Cull v) used before after (Replied reply) moves = moves
-not-replied (Free v r) used before after (Replied reply) moves = moves
-not-replied (Survey v) used before after (Replied reply) moves = moves
+not-replied : (size : ℕ) (call : InnerCall) (used : ℕ) (before after : Parts) (reply : jobs.JobReply) → InnerMoves size call used before reply after
+    → IsOfHand reply
+not-replied size call used before after (Took hand) moves = tt
+not-replied size call used before after (Gave hand) moves = tt
+not-replied size call used before after (Surveyed counts) moves = tt
+not-replied size (Fetch v r) used before after (Replied reply) moves = moves
+not-replied size (Deliver v) used before after (Replied reply) moves = moves
+not-replied size (Cull v) used before after (Replied reply) moves = moves
+not-replied size (Free v r) used before after (Replied reply) moves = moves
+not-replied size (Survey v) used before after (Replied reply) moves = moves
 
 -- the hand that was taken out of a worker's place is what it carried, and another is put there
 module _ (s : State) (i : ℕ) (call : InnerCall) (may : MayTend s i call) (hand : Hand) (taken : Vec Worker) (takes : HandTaken s.workers i hand taken) where
@@ -100,11 +103,12 @@ module _ (s : State) (sound : IsSoundEngine s) (i : ℕ) (call : InnerCall) (may
         lawful = sound.stands.lawful;
         node = node;
         idle = idle-lent job_of job_reply_of (setup_in s) (world s) (held s) sound.stands i (worker_seen place) seen refl;
-        fits = may.fits;
+        fits = subst (λ (l : Layout). IsHandFor (range_blocks_of l (inner_volume call)) call may.hand) (sym sound.stands.layout) may.fits;
         few = few-stamps (stamps (held s)) (running_count s.calls) sound.stamps;
         others = one.0;
         hands = one.1;
         sound = sound.stands.sound;
+        sized = settled-sized job_of job_reply_of (setup_in s) (world s) (held s) sound.stands;
       }
 
   -- ---- it is refused
@@ -147,13 +151,15 @@ module _ (s : State) (sound : IsSoundEngine s) (i : ℕ) (call : InnerCall) (may
     stands = made-stands job_of job_reply_of (setup_in s) (world s) (held s) sound.stands i (worker_seen place) seen call node reply (held t) made
         (book-apart _ (held t) _ kept)
 
-    moved : HasMoved (world s) i call (job_reply_of reply) then
-    moved = has-moved job_of job_reply_of (setup_in s) (world s) (held s) sound.stands i (worker_seen place) seen call node reply (held t) made
-        (book-apart _ (held t) _ kept)
+    moved : HasMoved (setup_in s).layout (world s) i call (job_reply_of reply) then
+    moved =
+        subst (λ (l : Layout). HasMoved l (world s) i call (job_reply_of reply) then) sound.stands.layout
+        (has-moved job_of job_reply_of (setup_in s) (world s) (held s) sound.stands i (worker_seen place) seen call node reply (held t) made
+        (book-apart _ (held t) _ kept))
 
     -- its reply is of a hand
     pub of_hand : IsOfHand (job_reply_of reply)
-    of_hand = not-replied call _ moved.before moved.after (job_reply_of reply) moved.moves
+    of_hand = not-replied _ call _ moved.before moved.after (job_reply_of reply) moved.moves
 
     module _ (set : t.workers.items ≡ slice_set s.workers.items i (worker_with Idle hand)) where
       changed : IsChanged s new i place (worker_with Idle hand)
@@ -175,7 +181,7 @@ module _ (s : State) (sound : IsSoundEngine s) (i : ℕ) (call : InnerCall) (may
         none-excluded job_of job_reply_of (setup_in s) (world s) (held s) sound.stands i (worker_seen place) seen call node reply (held t) made
             (book-apart _ (held t) _ kept),
         job_reply_of reply,
-        subst (λ (w : World). HasMoved (world s) i call (job_reply_of reply) w) (sym world_is) moved,
+        subst (λ (w : World). HasMoved (setup_in s).layout (world s) i call (job_reply_of reply) w) (sym world_is) moved,
         is,
       )
 

@@ -1,7 +1,9 @@
 -- Inner calls of workers: what one needs, what it comes to, and what is told of it.
 use Rattle.std.specs.Prelude.{◌≡◌, ◌⊎◌, ℕ, ◌<◌, false, List, [], ◌∷◌, ◌++◌, length, Option, Some, None, Result, Ok, Err, slice_get}
+use Rattle.nfs_model.specs.Tree.{Layout, range_blocks_of}
 use Rattle.nfs_model.specs.Parts.{Hand, Empty, Fresh, Dead, batch_in, range_of}
 use Rattle.nfs_model.specs.World.{Setup, World}
+use Rattle.nfs_laws.specs.Sizes.{HaveSizes}
 use Rattle.nfs_model.specs.Events.Refusals as events
 use Rattle.nfs_model.specs.Events.Refusals.{excluded, is_range_in_use}
 use Rattle.affinity.specs.Fault.{fault_of}
@@ -12,6 +14,7 @@ use Rattle.desk.specs.laws.Calls.{IsWorn}
 use Rattle.filer_state.specs.state.Jobs as jobs
 use Rattle.filer_state.specs.state.Jobs.{InnerCall, Fetch, Deliver, Cull, Free, Survey, batches_in, inner_node, inner_volume}
 use Rattle.filer_state.specs.state.Running.{IsRefusedIn}
+use Rattle.filer_state.specs.state.Tree.{tree}
 use Rattle.engine.specs.laws.Store.{FilerBooks, filer}
 use Rattle.engine.specs.laws.Inner as laws
 use Rattle.engine.specs.laws.Inner.{IsFree, HasMade, HasMoved}
@@ -35,11 +38,12 @@ module _ {P : Type 0} where
     pub lawful : fault_of b.layout ≡ None
     pub node : IsNode b.layout (inner_node call)
     pub idle : IsIdle b worker
-    pub fits : IsHandFor call hand
+    pub fits : IsHandFor (range_blocks_of b.layout (inner_volume call)) call hand
     pub few : stamps b < too_many
     pub others : List Hand
     pub hands : HasHands (filer job_of job_reply_of) b (batches_in hand ++ others)
     pub sound : IsSettled (filer job_of job_reply_of) b
+    pub sized : HaveSizes b.layout (tree b.layout (settled b))
 
   -- it was made, and is in the history
   abbrev pub IsMade : FilerBooks P Job JobReply → InnerCall → Hand → JobReply → FilerBooks P Job JobReply → Type 0
@@ -70,11 +74,11 @@ told_as (jobs.Surveyed counts) = events.Surveyed counts
 told_as (jobs.Replied reply) = events.HasReply
 
 -- the call that puts down what is in a hand
-abbrev pub call_to_put : Hand → Option InnerCall
-call_to_put Empty = None
-call_to_put (Fresh volume blocks) = Some (Deliver volume)
-call_to_put (Dead volume []) = None
-call_to_put (Dead volume (b ∷ blocks)) = Some (Free volume (range_of (b ∷ blocks)))
+abbrev pub call_to_put : Layout → Hand → Option InnerCall
+call_to_put layout Empty = None
+call_to_put layout (Fresh volume blocks) = Some (Deliver volume)
+call_to_put layout (Dead volume []) = None
+call_to_put layout (Dead volume (b ∷ blocks)) = Some (Free volume (range_of (range_blocks_of layout volume) (b ∷ blocks)))
 
 -- ---- in the engine
 
@@ -82,7 +86,7 @@ call_to_put (Dead volume (b ∷ blocks)) = Some (Free volume (range_of (b ∷ bl
 pub record MayTend (s : State) (worker : ℕ) (call : InnerCall) : Type 0 where
   pub hand : Hand
   pub there : slice_get s.workers.items worker ≡ Some (worker_with Idle hand)
-  pub fits : IsHandFor call hand
+  pub fits : IsHandFor (range_blocks_of (setup_in s).layout (inner_volume call)) call hand
   pub node : IsNode (setup_in s).layout (inner_node call)
 
 -- the range that it would fetch from isn't in use
@@ -100,7 +104,7 @@ Refuses setup w call number =
 -- an inner call as an event. A refused one changes nothing.
 abbrev pub Happens : Setup → World → ℕ → InnerCall → Result events.Done ℕ → World → Type 0
 Happens setup w worker call (Ok done) new =
-    (excluded setup w (inner_node call) ≡ None) × (reply : jobs.JobReply) × HasMoved w worker call reply new × (done ≡ told_as reply)
+    (excluded setup w (inner_node call) ≡ None) × (reply : jobs.JobReply) × HasMoved setup.layout w worker call reply new × (done ≡ told_as reply)
 Happens setup w worker call (Err number) new = Refuses setup w call number × (new ≡ w)
 
 abbrev pub Tends : State → ℕ → InnerCall → Result Done Refusal → State → Type 0

@@ -3,8 +3,8 @@
 use Rattle.std.specs.Prelude.{◌==◌, ◌≡◌, ℕ, ◌+◌, ◌^◌, ◌≤◌, ◌<◌, List, [], ◌∷◌, ◌++◌, map, length, if◌then◌else◌, Some, slice_get}
 use Rattle.std.specs.List.{AllByRecursion}
 use Rattle.nfs_model.specs.Types.{SystemError}
-use Rattle.nfs_model.specs.Tree.{Layout}
-use Rattle.nfs_model.specs.Parts.{Hand, Empty, Fresh, Dead, range_of, most_ranges}
+use Rattle.nfs_model.specs.Tree.{Layout, range_blocks_of}
+use Rattle.nfs_model.specs.Parts.{Hand, Empty, Fresh, Dead, range_of, most_ranges, IsBatch}
 use Rattle.nfs_model.specs.Events.Refusals.{open_count}
 use Rattle.nfs_values.specs.declared.call.Call.{Call}
 use Rattle.nfs_values.specs.Reply.{reply_of}
@@ -65,7 +65,9 @@ IsRunReady layout connections (Worked r outcome) = IsPlaced layout connections r
 abbrev pub IsCarried : Layout → Hand → Type 0
 IsCarried layout Empty = Unit {0}
 IsCarried layout (Fresh volume blocks) = (volume < length layout.volumes) × (0 < length blocks)
-IsCarried layout (Dead volume blocks) = (volume < length layout.volumes) × (0 < length blocks) × (range_of blocks < most_ranges)
+    × IsBatch (range_blocks_of layout volume) (range_of (range_blocks_of layout volume) blocks) blocks
+IsCarried layout (Dead volume blocks) = (volume < length layout.volumes) × (0 < length blocks)
+    × (range_of (range_blocks_of layout volume) blocks < most_ranges) × IsBatch (range_blocks_of layout volume) (range_of (range_blocks_of layout volume) blocks) blocks
 
 abbrev pub IsReady : Layout → ℕ → Worker → Type 0
 IsReady layout connections k = IsRunReady layout connections k.run × IsCarried layout k.hand

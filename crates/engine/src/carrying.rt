@@ -2,6 +2,7 @@
 
 ghost use Rattle.std.specs.Prelude.{◌≡◌, ◌&&◌, length, map, nat_lt, option_map, slice_get};
 ghost use Rattle.nfs_model.specs.Events.Refusals as event;
+ghost use Rattle.affinity.specs.Layout.{layout_of};
 ghost use Rattle.service.specs.Jobs.{inner_of};
 ghost use Rattle.engine_feed.specs.Seen.{layout_in};
 ghost use Rattle.engine.specs.Inner.{call_to_put};
@@ -13,6 +14,7 @@ use crate::event::{Done, Refusal};
 use crate::inner::tend;
 use crate::state::{RANGES, State};
 use crate::worker::{Worker, has_empty_hand, is_idle};
+use affinity::Layout;
 use engine_feed::Calls;
 use nfs_values::VolumeNumber;
 use parcels::Hand;
@@ -75,8 +77,8 @@ pub(crate) fn cull(state: &mut State, worker: usize, volume: VolumeNumber) -> Re
 }
 
 /// The call that puts down what is in a hand; none where it is empty.
-fn call_of(hand: &BatchInHand) -> Option<InnerCall>
-    ensures { option_map inner_of result ≡ call_to_put hand.now }
+fn call_of(layout: &Layout, hand: &BatchInHand) -> Option<InnerCall>
+    ensures { option_map inner_of result ≡ call_to_put (layout_of layout.now) hand.now }
 {
     match hand.hand() {
         Hand::Empty => None,
@@ -84,7 +86,7 @@ fn call_of(hand: &BatchInHand) -> Option<InnerCall>
             volume: VolumeNumber(*volume),
         }),
         Hand::Dead { volume, batch } => {
-            let range = batch.range()?;
+            let range = batch.range(layout.range_blocks_of(*volume))?;
             Some(InnerCall::Free {
                 volume: VolumeNumber(*volume),
                 range,
@@ -104,7 +106,7 @@ pub(crate) fn put_down(state: &mut State, worker: usize) -> Result<Done, Refusal
     if !is_idle(&state.workers, worker) {
         return Err(Refusal::WorkerBusy);
     }
-    match call_of(&state.workers[worker].hand) {
+    match call_of(state.calls.layout(), &state.workers[worker].hand) {
         Some(call) => tend(state, worker, call),
         None => Err(Refusal::NoWork),
     }

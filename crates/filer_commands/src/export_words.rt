@@ -1,9 +1,11 @@
 //! The command line of `filer export`.
 
+use crate::byte_size::bytes_in;
 use crate::limits::{
-    MOST_CONNECTIONS, MOST_IDLE, MOST_MINUTES, MOST_RANGES, MOST_VOLUMES, MOST_WORKERS,
-    USUAL_WORKERS,
+    FEWEST_INODES, LEAST_VOLUME, MOST_BYTES, MOST_CONNECTIONS, MOST_IDLE, MOST_INODES,
+    MOST_MINUTES, MOST_RANGES, MOST_VOLUMES, MOST_WORKERS, USUAL_WORKERS,
 };
+use crate::machine::Machine;
 use clap::{Arg, ArgAction, ArgMatches, value_parser};
 use server::{
     Admission, IdleTime, MOST_NETWORKS, Network, Options, Peers, Period, VolumePlan, WhenFull,
@@ -17,10 +19,15 @@ const ADMISSION: Admission = Admission {
     when_full: WhenFull::IsClosed,
 };
 
+/// The bytes that all volumes have between them where no size is named, and the machine's memory
+/// can't be read.
+const USUAL_BYTES: u64 = 1_073_741_824;
+
 /// What stands behind the help of `export`.
 const EXAMPLE: &str = "\
 Examples:
   filer export --listen 127.0.0.1:2049
+  filer export --listen 127.0.0.1:2049 --size 40G --inodes 1000000
   filer export --listen 192.0.2.1:2049 --volumes 2 --workers 4 --allow 192.0.2.0/24
   mount -t nfs -o vers=3,proto=tcp,port=2049,mountport=2049,mountproto=tcp,nolock \
 127.0.0.1:/vol0 /mnt
@@ -74,6 +81,41 @@ fn with_guests<'a>(
     command.arg(connections)?.arg(allow)?.arg(idle)
 }
 
+/// Options that say how large the volumes are.
+fn with_sizes<'a>(
+    alloc: Global,
+    command: clap::Command<'a>,
+) -> Result<clap::Command<'a>, AllocError> {
+    let ranges = optional(
+        alloc,
+        "ranges",
+        "N",
+        "In place of a size: ranges of 4 MiB a volume, 1 to 16, which may grow",
+    )
+    .value_parser(value_parser!(u64).range(1..=MOST_RANGES))
+    .conflicts_with("size")?;
+    let size = optional(
+        alloc,
+        "size",
+        "BYTES",
+        "Most bytes a volume, 4M to 1T [an even share of a quarter of the memory]",
+    );
+    let files = optional(
+        alloc,
+        "file-size",
+        "BYTES",
+        "Most bytes of a file, 16M to 1T [as large as the volume]",
+    );
+    let inodes = optional(
+        alloc,
+        "inodes",
+        "N",
+        "Most files and directories a volume, 65536 to 67108864 [one for 16 KiB]",
+    )
+    .value_parser(value_parser!(u64).range(FEWEST_INODES..=MOST_INODES));
+    command.arg(size)?.arg(files)?.arg(inodes)?.arg(ranges)
+}
+
 /// Options that say what is told on standard error.
 fn with_lines<'a>(
     alloc: Global,
@@ -93,8 +135,9 @@ fn with_lines<'a>(
     command.arg(log)?.arg(statistics)
 }
 
-/// `export --listen ADDR [--volumes N] [--workers N] [--ranges N] [--connections N]
-/// [--allow NETWORK].. [--idle SECONDS] [--log] [--stats MINUTES]`, in any order.
+/// `export --listen ADDR [--volumes N] [--workers N] [--size BYTES | --ranges N]
+/// [--file-size BYTES] [--inodes N] [--connections N] [--allow NETWORK].. [--idle SECONDS] [--log]
+/// [--stats MINUTES]`, in any order.
 pub(crate) fn export<'a>(alloc: Global) -> Result<clap::Command<'a>, AllocError> {
     let listen = optional(
         alloc,
@@ -114,15 +157,8 @@ pub(crate) fn export<'a>(alloc: Global) -> Result<clap::Command<'a>, AllocError>
         .after_help(EXAMPLE)
         .arg(listen.required(true))?
         .arg(number(alloc, "volumes", MOST_VOLUMES, "1", "Volumes, 1 to 8"))?
-        .arg(workers)?
-        .arg(number(
-            alloc,
-            "ranges",
-            MOST_RANGES,
-            "16",
-            "Ranges of 4 MiB a volume, 1 to 16",
-        ))?;
-    with_lines(alloc, with_guests(alloc, command)?)
+        .arg(workers)?;
+    with_lines(alloc, with_guests(alloc, with_sizes(alloc, command)?)?)
 }
 
 /// Whose connections are served: of the own machine, where no network is named.
@@ -140,21 +176,45 @@ fn peers_in(matches: &ArgMatches<'_>) -> Option<Peers> {
     Some(Peers::Networks(networks))
 }
 
-/// What a server that clients mount is asked to do, on a machine of so many processors, but for
-/// what it offers, which is of its run: without a number of connections it goes on until it is
-/// ended.
-pub(crate) fn options_in(matches: &ArgMatches<'_>, processors: usize) -> Option<Options> {
+/// The bytes of each of so many volumes where no size is named: an even share of a quarter of the
+/// machine's memory.
+fn usual_bytes(volumes: u64, machine: Machine) -> u64 {
+    let all = match machine.memory {
+        Some(memory) => memory / 4,
+        None => USUAL_BYTES,
+    };
+    (all / volumes.max(1)).clamp(LEAST_VOLUME, MOST_BYTES)
+}
+
+/// What each of so many volumes has at the start, on a machine.
+fn plan_in(matches: &ArgMatches<'_>, volumes: u64, machine: Machine) -> Option<VolumePlan> {
+    let mut plan = match (matches.get_one::<u64>("ranges"), matches.get_str("size")) {
+        (Some(ranges), _) => VolumePlan::export(u32::try_from(ranges).ok()?)?,
+        (None, Some(size)) => VolumePlan::sized(bytes_in(size)?)?,
+        (None, None) => VolumePlan::sized(usual_bytes(volumes, machine))?,
+    };
+    if let Some(size) = matches.get_str("file-size") {
+        plan = plan.with_files(bytes_in(size)?)?;
+    }
+    if let Some(inodes) = matches.get_one::<u64>("inodes") {
+        plan = plan.with_inodes(u32::try_from(inodes).ok()?)?;
+    }
+    Some(plan)
+}
+
+/// What a server that clients mount is asked to do, on a machine, but for what it offers, which is
+/// of its run: without a number of connections it goes on until it is ended.
+pub(crate) fn options_in(matches: &ArgMatches<'_>, machine: Machine) -> Option<Options> {
     let address = matches.get_str("listen")?.parse::<SocketAddr>().ok()?;
     let volumes = matches.get_one::<u64>("volumes")?;
     let workers = match matches.get_one::<u64>("workers") {
         Some(workers) => workers as usize,
-        None => processors.clamp(1, USUAL_WORKERS),
+        None => machine.processors.clamp(1, USUAL_WORKERS),
     };
-    let ranges = matches.get_one::<u64>("ranges")?;
     let connections = matches.get_one::<u64>("connections");
     let idle = matches.get_one::<u64>("idle")?;
     let idle = IdleTime::new(u32::try_from(idle).ok()?)?;
-    let plan = VolumePlan::export(u32::try_from(ranges).ok()?)?;
+    let plan = plan_in(matches, volumes, machine)?;
     let peers = peers_in(matches)?;
     let options = Options::new(address, volumes as usize, workers, connections)?;
     let options = options

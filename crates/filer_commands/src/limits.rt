@@ -12,6 +12,18 @@ pub(crate) const USUAL_WORKERS: usize = 4;
 /// The most ranges of a volume.
 pub(crate) const MOST_RANGES: i64 = 16;
 
+/// The fewest bytes of a volume.
+pub(crate) const LEAST_VOLUME: u64 = 4_194_304;
+
+/// The most bytes of a volume.
+pub(crate) const MOST_BYTES: u64 = 1_099_511_627_776;
+
+/// The fewest inodes that a volume may have.
+pub(crate) const FEWEST_INODES: i64 = 65_536;
+
+/// The most inodes that a volume may have.
+pub(crate) const MOST_INODES: i64 = 67_108_864;
+
 /// The most connections after which a server ends.
 pub(crate) const MOST_CONNECTIONS: i64 = 1_000_000;
 

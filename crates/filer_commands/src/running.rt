@@ -4,6 +4,8 @@ ghost use Rattle.std.specs.Prelude.{◌≤◌, IfOk};
 
 use crate::admin_running::{run_census, run_grow};
 use crate::choice::Command;
+use crate::export_printing::tell_exports;
+use crate::machine::Machine;
 use crate::replay::{ProgramFault, print_fault, replay};
 use crate::words::{command_told, print_help};
 use rpc_msg::Offer;
@@ -12,11 +14,10 @@ use std::alloc::{AllocError, Global};
 use std::convert::AsStr;
 use std::fs::File;
 use std::io::{self, Write};
-use std::net::{Net, SocketAddr, TcpListener, TcpStream};
-use std::num::NonZeroUsize;
+use std::net::{Net, TcpListener, TcpStream};
 use std::rt::{Clock, Files};
 use std::sync::Wait;
-use std::thread::{Threads, available_parallelism};
+use std::thread::Threads;
 
 /// What ends a server, as what ends the program.
 fn of_server(fault: ServerFault) -> ProgramFault {
@@ -165,28 +166,6 @@ where
     }
 }
 
-/// Tells people what is exported, to whom, and how to mount it.
-fn tell_exports<E: Write>(err: &mut E, options: &Options, address: &SocketAddr) {
-    let (ip, port) = (address.ip(), address.port());
-    let size = 4 * options.plan.ranges;
-    for volume in 0..options.volumes {
-        let _told = writeln!(
-            err,
-            "exported: /vol{volume}, {size} MiB, files of at most 64 MiB"
-        );
-    }
-    let peers = &options.peers;
-    let _told = writeln!(
-        err,
-        "may connect: {peers}; modes are told and guard nothing"
-    );
-    let _told = writeln!(
-        err,
-        "mount -t nfs -o vers=3,proto=tcp,port={port},mountport={port},mountproto=tcp,nolock \
-         {ip}:/vol0 /mnt"
-    );
-}
-
 /// Runs the command that the words ask for.
 fn run<R, S, W, E>(rt: R, words: &[S], out: &mut W, err: &mut E) -> Result<u8, ProgramFault>
 where
@@ -197,8 +176,8 @@ where
     E: Write,
     ensures { IfOk result (λ status. status ≤ 1) }
 {
-    let processors = available_parallelism(&rt).map_or(1, NonZeroUsize::get);
-    let command = command_told(rt.alloc(), words, processors, err)?;
+    let machine = Machine::read(&rt);
+    let command = command_told(rt.alloc(), words, machine, err)?;
     let ended = match command {
         Command::Replay { path } => run_script(&rt, path, out),
         Command::Serve(options) => run_server(rt, &options, out),

@@ -4,6 +4,7 @@ use crate::admin_words::{self, census, grow};
 use crate::choice::Command;
 use crate::export_words::{self, export};
 use crate::limits::{MOST_CONNECTIONS, MOST_VOLUMES, MOST_WORKERS, USUAL_WORKERS};
+use crate::machine::Machine;
 use crate::replay::ProgramFault;
 use clap::error::ErrorKind;
 use clap::{Arg, ArgAction, ArgMatches, Error, value_parser};
@@ -32,11 +33,12 @@ Example:
 
 Whoever can reach the address may do everything: bind to 127.0.0.1 or a private network.";
 
-/// What is told where an address can't be read.
-const ADDRESS_HELP: &str = "\
+/// What is told where an address, a network or a size can't be read.
+const VALUE_HELP: &str = "\
 error: the value for '--listen <ADDR>' is no address, or that for '--server <ADDR>', or one for
-'--allow <NETWORK>' is no network: an IP address and a port are wanted, as 127.0.0.1:2049, and at
-most 16 networks, as 10.0.0.0/8
+'--allow <NETWORK>' is no network, or that for '--size <BYTES>' or '--file-size <BYTES>' no size:
+an IP address and a port are wanted, as 127.0.0.1:2049, at most 16 networks, as 10.0.0.0/8, and a
+volume of 4M to 1T with files of 16M to 1T, as 40G
 
 For more information, try '--help'.
 ";
@@ -134,13 +136,13 @@ fn options_in<'a>(matches: &ArgMatches<'a>) -> Option<Command<'a>> {
     Some(Command::Serve(options))
 }
 
-/// What was parsed, as a command on a machine of so many processors.
-fn chosen<'a>(matches: &ArgMatches<'a>, processors: usize) -> Option<Command<'a>> {
+/// What was parsed, as a command on a machine.
+fn chosen<'a>(matches: &ArgMatches<'a>, machine: Machine) -> Option<Command<'a>> {
     match matches.subcommand() {
         Some(("replay", inner)) => path_in(inner),
         Some(("serve", inner)) => options_in(inner),
         Some(("export", inner)) => {
-            let options = export_words::options_in(inner, processors)?;
+            let options = export_words::options_in(inner, machine)?;
             Some(Command::Export(options))
         }
         Some(("census", inner)) => admin_words::census_in(inner),
@@ -180,35 +182,41 @@ pub(crate) fn print_help<'a, S: AsStr, W: Write>(
     }
 }
 
-/// Tells that the address of a command line is none: all else that a parse admits is a command.
-fn tell_of_address<E: Write>(err: &mut E) {
-    let _told = err.write_all(ADDRESS_HELP.as_bytes());
+/// Tells that an address, a network or a size of a command line is none: all else that a parse
+/// admits is a command.
+fn tell_of_value<E: Write>(err: &mut E) {
+    let _told = err.write_all(VALUE_HELP.as_bytes());
 }
 
 /// The command that the words ask for; the first word is the program's name. Where no number of
-/// workers is named, `export` has four.
+/// workers is named, `export` has four; where no size, its volumes have 1 GiB between them.
 ///
 /// `CommandLine` where the words are no command or ask for help, but of `export`, `census` and
 /// `grow`, `NoMemory` where memory ran out.
 pub fn command<'a, S: AsStr>(alloc: Global, words: &'a [S]) -> Result<Command<'a>, ProgramFault> {
-    command_told(alloc, words, USUAL_WORKERS, &mut io::sink())
+    let machine = Machine {
+        processors: USUAL_WORKERS,
+        memory: None,
+    };
+    command_told(alloc, words, machine, &mut io::sink())
 }
 
-/// The same on a machine of so many processors: where no number of workers is named, `export` has
-/// as many, but at most four. Where the words are no command it tells for people what is wrong
-/// with them and how they would be right, or the help that they ask for.
+/// The same on a machine: where no number of workers is named, `export` has as many as processors,
+/// but at most four; where no size, its volumes have a quarter of the memory between them. Where
+/// the words are no command it tells for people what is wrong with them and how they would be
+/// right, or the help that they ask for.
 pub fn command_told<'a, S: AsStr, E: Write>(
     alloc: Global,
     words: &'a [S],
-    processors: usize,
+    machine: Machine,
     err: &mut E,
 ) -> Result<Command<'a>, ProgramFault> {
     let declared = declared(alloc)?;
     match declared.try_get_matches_from(words) {
-        Ok(matches) => match chosen(&matches, processors) {
+        Ok(matches) => match chosen(&matches, machine) {
             Some(command) => Ok(command),
             None => {
-                tell_of_address(err);
+                tell_of_value(err);
                 Err(ProgramFault::CommandLine)
             }
         },

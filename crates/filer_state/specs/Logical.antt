@@ -7,6 +7,7 @@ logical_value l = record {
   verifier = l.verifier.0;
   stripes = l.stripes;
   largest = l.largest;
+  most_inodes = l.most_inodes;
   inodes = l.inodes;
   directories = l.directories;
   stock = l.stock;

@@ -4,6 +4,7 @@
 mod laws;
 
 pub use laws::{
-    begins_sound, counts_fit, grants_are_known, handlers_make_steps, histories_replay,
-    layouts_agree, parts_partition, sets_are_seen, steps_are_lawful, volumes_tell_all,
+    begins_sound, counts_fit, grants_are_known, grants_are_sized, handlers_make_steps,
+    histories_keep_sizes, histories_replay, layouts_agree, parts_partition, sets_are_seen,
+    steps_are_lawful, volumes_tell_all,
 };

@@ -18,6 +18,8 @@ pub struct Logical {
     pub stripes: u32,
     /// The largest size of a file of the volume, in bytes.
     pub largest: u64,
+    /// The most inodes of the volume, the root with them.
+    pub most_inodes: u32,
     pub inodes: Inodes,
     /// By their fileids.
     pub directories: DirectoryMap,

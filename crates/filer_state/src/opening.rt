@@ -2,12 +2,15 @@
 
 ghost use Rattle.std.specs.Prelude.{◌≡◌, ◌<◌, [], IfOk, slice_get, slice_index_or};
 ghost use Rattle.affinity.specs.Affinity.{affinity_of};
+ghost use Rattle.affinity.specs.Largest.{inodes_of, largest_of};
 ghost use Rattle.affinity.specs.Layout.{layout_of};
 ghost use Rattle.affinity.specs.Numbers.{parents};
 ghost use Rattle.affinity.specs.Tree.{IsNode};
 ghost use Rattle.nfs_model.specs.Tree as trees;
+ghost use Rattle.nfs_model.specs.Tree.{range_blocks_of, stripes_of};
 ghost use Rattle.nfs_model.specs.Parts.{most_ranges};
 ghost use Rattle.nfs_model.specs.Server.{opening};
+ghost use Rattle.nfs_model.specs.volume.Ranges.{IsRangeSize};
 ghost use Rattle.parcels.specs.Exact.{kind_in, HasExactly};
 ghost use Rattle.parcels.specs.Sets.{serial_parcels};
 ghost use Rattle.filer_state.specs.state.Opening.{
@@ -77,8 +80,7 @@ fn opening_parcel(
         Affinity::Aggregate(aggregate) => Parcel::Aggregate(spare_of(layout, aggregate)),
         Affinity::Volume(_) => Parcel::Volume(()),
         Affinity::VolumeLogical(volume) => {
-            let (stripes, largest) = (layout.stripes_of(volume), layout.largest_of(volume));
-            Parcel::Logical(opening_logical(alloc, verifier, stripes, largest)?)
+            Parcel::Logical(opening_logical(alloc, layout, verifier, volume)?)
         }
         Affinity::Stripe { volume, stripe: _ } => {
             let (stripes, largest) = (layout.stripes_of(volume), layout.largest_of(volume));
@@ -86,7 +88,8 @@ fn opening_parcel(
         }
         Affinity::VolumeVbn(_) => Parcel::Vbn(()),
         Affinity::Range { volume, range } => {
-            Parcel::Range(opening_range(alloc, ranges_of(layout, volume), range)?)
+            let size = layout.range_blocks_of(volume);
+            Parcel::Range(opening_range(alloc, size, ranges_of(layout, volume), range)?)
         }
     };
     Ok(parcel)
@@ -107,7 +110,7 @@ fn ranges_of(layout: &Layout, volume: u32) -> u32
     ensures { result ≡ ranges_in (slice_get (layout_of layout.now).volumes volume) }
 {
     match layout.volume(volume) {
-        Some(specification) => specification.ranges,
+        Some(specification) => specification.volume.ranges,
         None => 0,
     }
 }
@@ -115,22 +118,25 @@ fn ranges_of(layout: &Layout, volume: u32) -> u32
 /// What a volume has but for its stripes and ranges: its root directory, without entries.
 fn opening_logical(
     alloc: Global,
+    layout: &Layout,
     verifier: Verifier,
-    stripes: u32,
-    largest: u64,
+    volume: u32,
 ) -> Result<LogicalParcel, AllocError>
-    ensures { IfOk result (λ parcel. parcel ≡ opening_logical verifier.0 stripes largest) }
+    ensures { let L = layout_of layout.now in IfOk result (λ parcel. parcel ≡
+        opening_logical verifier.0 (stripes_of L volume) (largest_of L volume)
+        (inodes_of L volume) (range_blocks_of L volume)) }
 {
     let mut directories = DirectoryMap::new(alloc);
     directories.insert(Fileid::ROOT, Directory::new(alloc))?;
     let logical = Logical {
         verifier,
-        stripes,
-        largest,
+        stripes: layout.stripes_of(volume),
+        largest: layout.largest_of(volume),
+        most_inodes: layout.inodes_of(volume),
         inodes: Inodes::new(alloc)?,
         directories,
         stock: Stock::new(alloc),
-        dead: DeadBlocks::new(alloc)?,
+        dead: DeadBlocks::new(alloc, layout.range_blocks_of(volume))?,
     };
     LogicalParcel::new(alloc, logical)
 }
@@ -149,12 +155,19 @@ fn opening_stripe(
     StripeParcel::new(alloc, stripe)
 }
 
-/// A range of a volume of which so many are in use: with its blocks free, if it is one of them.
-fn opening_range(alloc: Global, used: u32, number: u32) -> Result<RangeParcel, AllocError>
-    requires { number < most_ranges }
-    ensures { IfOk result (λ parcel. parcel ≡ opening_range used number) }
+/// A range of a volume, where a range has so many blocks and so many are in use: with its blocks
+/// free, if it is one of them.
+fn opening_range(
+    alloc: Global,
+    range_blocks: u32,
+    used: u32,
+    number: u32,
+) -> Result<RangeParcel, AllocError>
+    requires size { IsRangeSize range_blocks }
+    requires number { number < most_ranges }
+    ensures { IfOk result (λ parcel. parcel ≡ opening_range range_blocks used number) }
 {
-    let mut range = Range::new(number);
+    let mut range = Range::new(alloc, range_blocks, number)?;
     if number < used {
         range.put_in_use();
     }

@@ -5,7 +5,7 @@ use Rattle.std.specs.Ordering.{nat_cmp}
 use Rattle.std.specs.Cmp.{nat_cmp_total, unsigned_tied}
 use Rattle.std.specs.FinMap.{FinMap, get, insert, remove, entries, len, find, get-entries, len-entries, len-insert, len-remove}
 use Rattle.nfs_model.specs.Types.{Moment}
-use Rattle.nfs_model.specs.Server.{most_inodes}
+use Rattle.nfs_model.specs.volume.Inodes.{inodes_of_a_volume}
 use Rattle.nfs_model.specs.volume.Maps.{changed_value}
 use Rattle.nfs_model.specs.volume.lemmas.Numbered.{itself, get-insert_at, get-remove_at}
 use Rattle.nfs_model.specs.volume.lemmas.Inodes.{dropped-is, inode-opening, inode-set-absent, len-opening, len-created, len-settled}
@@ -66,8 +66,8 @@ used-few zero v i small most = by (entries v.inodes) refl
     by (e ∷ es) is = let size : len v.inodes ≡ suc (length es) = len-entries v.inodes ∙ ap length is in absurd (omega (arith, size, most))
 used-few (suc n) v i small most = used-more n v i small most (used-few n)
 
-pub used-most : (v : InodesValue) → IsInodes v → AreFew v → v.used ≤ 281474976710656
-used-most v i a = let most = used-few 65536 v i a.counts a.few in omega (arith, most)
+pub used-most : (v : InodesValue) → IsInodes v → AreFew v → v.used ≤ 288230376151711744
+used-most v i a = let most = used-few 67108864 v i a.counts a.few in omega (arith, most)
 
 -- ---- what holds stays so
 
@@ -85,7 +85,7 @@ opening-few = record {
     by y true g = subst (λ (i : Inode). filled_blocks i.kind < 2 ^ 32) (some-is root_inode y g) (omega arith)
     by y false g = absurd (grind (arith, g))
 
-pub created-few : (v : InodesValue) (inode : Inode) → IsInodes v → AreFew v → len v.inodes < most_inodes → filled_blocks inode.kind < 2 ^ 32
+pub created-few : (v : InodesValue) (inode : Inode) → IsInodes v → AreFew v → len v.inodes < inodes_of_a_volume → filled_blocks inode.kind < 2 ^ 32
     → AreFew (inode_created inode v)
 created-few v inode i a room less = record {
   few = let size = len-created v inode i in omega (arith, size, room);
@@ -129,8 +129,8 @@ dropped-few v fileid a = record {
   counts = small-remove v.inodes fileid a.counts;
 }
   where
-    by : (b : Bool) → len (remove v.inodes fileid) ≡ cond b (len v.inodes - 1) (len v.inodes) → len v.inodes ≤ most_inodes
-        → len (remove v.inodes fileid) ≤ most_inodes
+    by : (b : Bool) → len (remove v.inodes fileid) ≡ cond b (len v.inodes - 1) (len v.inodes) → len v.inodes ≤ inodes_of_a_volume
+        → len (remove v.inodes fileid) ≤ inodes_of_a_volume
     by true size few = omega (arith, size, few)
     by false size few = omega (arith, size, few)
 

@@ -3,12 +3,12 @@ use Rattle.std.specs.Prelude.{◌≡◌, ℕ, ◌<◌, ◌≤◌, ◌^◌, Optio
 use Rattle.std.specs.Option.{option_map}
 use Rattle.std.specs.Ordering.{nat_cmp}
 use Rattle.std.specs.FinMap.{FinMap, get, len}
-use Rattle.nfs_model.specs.Server.{Attributes, most_inodes}
+use Rattle.nfs_model.specs.Server.{Attributes}
 use Rattle.nfs_values.specs.Moment.{moment_of}
 use Rattle.nfs_values.specs.declared.number.Fileid.{Fileid}
 use Rattle.nfs_values.specs.declared.verifier.Verifier.{Verifier}
 use Rattle.nfs_model.specs.volume.Inodes as values
-use Rattle.nfs_model.specs.volume.Inodes.{InodesValue, filled_blocks}
+use Rattle.nfs_model.specs.volume.Inodes.{InodesValue, filled_blocks, inodes_of_a_volume}
 use Rattle.inodes.specs.declared.inode.StoredAttributes.{StoredAttributes}
 use Rattle.inodes.specs.declared.inode.InodeKind.{InodeKind}
 use Rattle.inodes.specs.declared.inode.InodeKind.TheVariants.{RegularFile, Directory}
@@ -38,7 +38,7 @@ stored inode = option_map inode_value inode
 abbrev pub inodes_value : Fileid → ℕ → FinMap nat_cmp values.Inode → InodesValue
 inodes_value next used inodes = record { next = next.0; used = used; inodes = inodes }
 
--- There are at most 65,536 inodes, and the filled blocks of each are a u32, so that the used count is far below 2^63.
+-- There are at most 67,108,864 inodes, and the filled blocks of each are a u32, so that the used count is below 2^63.
 pub record AreFew (v : InodesValue) : Type 0 where
-  pub few : len v.inodes ≤ most_inodes
+  pub few : len v.inodes ≤ inodes_of_a_volume
   pub counts : (fileid : ℕ) (inode : values.Inode) → get v.inodes fileid ≡ Some inode → filled_blocks inode.kind < 2 ^ 32

@@ -13,10 +13,10 @@ ghost use Rattle.std.specs.Prelude.{
 };
 ghost use Rattle.std.specs.Option.{option_map};
 ghost use Rattle.std.specs.FinMap.{len};
-ghost use Rattle.nfs_model.specs.Server.{most_inodes};
 ghost use Rattle.nfs_values.specs.Moment.{moment_of};
 ghost use Rattle.nfs_model.specs.volume.Inodes.{
   IsInodes,
+  inodes_of_a_volume,
   opening_inodes,
   inode_of,
   inode_settled,
@@ -34,8 +34,8 @@ use nfs_values::{Fileid, Moment};
 use std::alloc::{AllocError, Global};
 use std::marker::Model;
 
-/// The most inodes of a volume, the root with them (our profile).
-pub const MOST_INODES: usize = 65_536;
+/// The most inodes of a volume, the root with them, in any layout (our profile).
+pub const MOST_INODES: usize = 67_108_864;
 
 /// The inodes of a volume by fileid, the next fileid, and how many blocks are filled in all files.
 pub struct Inodes {
@@ -91,7 +91,7 @@ impl Inodes {
         self.by_fileid.get(fileid)
     }
 
-    /// The number of inodes, at most 65,536.
+    /// The number of inodes, at most 67,108,864.
     pub fn len(&self) -> usize
         ensures { result ≡ len self.now.inodes }
     {
@@ -106,7 +106,7 @@ impl Inodes {
         self.next
     }
 
-    /// The filled blocks of all files. A volume has at most 16,384 blocks.
+    /// The filled blocks of all files.
     pub fn used(&self) -> u64
         ensures { result ≡ self.now.used }
     {
@@ -131,11 +131,11 @@ impl Inodes {
         }
     }
 
-    /// Adds an inode, where there are fewer than 65,536 (`len`), under the next fileid. Where there
-    /// is no memory for it nothing changes.
+    /// Adds an inode, where there are fewer than 67,108,864 (`len`), under the next fileid. Where
+    /// there is no memory for it nothing changes.
     pub fn create(&mut self, inode: Inode) -> Result<Created, AllocError>
         requires fileids { self.old.next < 2 ^ 63 }
-        requires room { len self.old.inodes < most_inodes }
+        requires room { len self.old.inodes < inodes_of_a_volume }
         ensures fileid { IfOk result (λ created. created ≡ self.old.next) }
         ensures ok { OnOk result (self.new ≡ inode_created (inode_value inode) self.old) }
         ensures err { OnErr result (self.new ≡ self.old) }

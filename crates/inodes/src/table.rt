@@ -4,7 +4,7 @@ ghost use Rattle.std.specs.Prelude.{◌≡◌, ◌<◌, None, OnOk, OnErr};
 ghost use Rattle.std.specs.Option.{option_map};
 ghost use Rattle.std.specs.FinMap.{empty, get, insert, len, remove};
 ghost use Rattle.nfs_values.specs.Moment.{moment_of};
-ghost use Rattle.nfs_model.specs.Server.{most_inodes};
+ghost use Rattle.nfs_model.specs.volume.Inodes.{inodes_of_a_volume};
 ghost use Rattle.nfs_model.specs.volume.Inodes.{settled_inode};
 ghost use Rattle.nfs_model.specs.volume.Maps.{changed_at};
 ghost use Rattle.inodes.specs.Inode.{inode_value};
@@ -87,7 +87,7 @@ impl Table {
 
     /// Adds an inode under a fileid that has none. Where there is no memory for it nothing changes.
     pub fn insert(&mut self, fileid: Fileid, inode: Inode) -> Result<(), AllocError>
-        requires room { len self.old < most_inodes }
+        requires room { len self.old < inodes_of_a_volume }
         requires absent { get self.old fileid.0 ≡ None }
         ensures ok { OnOk result (self.new ≡ insert self.old fileid.0 (inode_value inode)) }
         ensures err { OnErr result (self.new ≡ self.old) }

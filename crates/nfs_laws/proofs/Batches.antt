@@ -1,9 +1,11 @@
--- A batch is at most 64 numbers of one range, ascending.
-use Rattle.std.proofs.Common.{◌≡◌, ℕ, zero, suc, ◌+◌, ◌*◌, ◌/◌, ◌<◌, ◌≤◌, Bool, true, false, cond, List, [], ◌∷◌, length, map, take, arith}
+-- A batch is at most 64 numbers of one range, ascending, where a range has so many blocks.
+use Rattle.std.proofs.Common.{◌≡◌, ap, ◌∙◌, ℕ, zero, suc, ◌+◌, ◌-◌, ◌*◌, ◌/◌, ◌<◌, ◌≤◌, Bool, true, false, cond, List, [], ◌∷◌, length, map, take, arith}
+use Rattle.std.proofs.lemmas.Nat.{div-mul-add}
+use native.Mathlib.Nat.{mul_comm}
 use Rattle.std.specs.List.{AllByRecursion, range_with_len, filter}
 use Rattle.std.specs.Ordering.{nat_cmp}
 use Rattle.std.specs.FinSet.{FinSet, contains}
-use Rattle.nfs_model.specs.Parts.{IsAscending, IsBatch, range_blocks, most_carried, most_ranges}
+use Rattle.nfs_model.specs.Parts.{IsAscending, IsBatch, most_carried, most_ranges}
 use Rattle.nfs_model.specs.Moves.{in_range, batch, first_filled, lowest_batch}
 
 -- ---- numbers that ascend, from a number on
@@ -58,8 +60,13 @@ module _ (P : ℕ → Type 0) where
   all_take (suc m) [] q = tt
   all_take (suc m) (x ∷ xs) q = (q.0, all_take m xs q.1)
 
-in_its_range : (range n : ℕ) → 1024 * range ≤ n → n < 1024 * range + 1024 → n / 1024 ≡ range
-in_its_range range n l m = omega (arith, l, m)
+in_its_range_by : (size range low n : ℕ) → low ≡ range * size → low ≤ n → n < low + size → n / size ≡ range
+in_its_range_by size range low n e l m =
+    let parts : n ≡ range * size + (n - low) = omega (arith, e, l) in
+    ap (λ k. k / size) parts ∙ div-mul-add range size (n - low) (omega (arith, l, m))
+
+in_its_range : (size range n : ℕ) → size * range ≤ n → n < size * range + size → n / size ≡ range
+in_its_range size range n l m = in_its_range_by size range (size * range) n (mul_comm size range) l m
 
 few_taken : (m : ℕ) (xs : List ℕ) → length (take m xs) ≤ m
 few_taken zero xs = omega arith
@@ -68,33 +75,33 @@ few_taken (suc m) (x ∷ xs) = omega (arith, few_taken m xs)
 
 -- ---- batches
 
-pub batch_is : (range : ℕ) (blocks : FinSet nat_cmp) → IsBatch range (batch range blocks)
+pub batch_is : (size range : ℕ) (blocks : FinSet nat_cmp) → IsBatch size range (batch size range blocks)
 unfolding in_range
-batch_is range blocks =
-    let numbers : List ℕ = range_with_len (range_blocks * range) range_blocks in
+batch_is size range blocks =
+    let numbers : List ℕ = range_with_len (size * range) size in
     record {
       few = few_taken most_carried (filter (contains blocks) numbers);
-      ascending = ascending (range_blocks * range) (take most_carried (filter (contains blocks) numbers))
-          (rising_take most_carried (range_blocks * range) (filter (contains blocks) numbers)
-          (rising_filter (contains blocks) (range_blocks * range) numbers (rising_range (range_blocks * range) range_blocks)));
-      of_range = all_take (λ b. b / range_blocks ≡ range) most_carried (filter (contains blocks) numbers)
-          (all_filter (λ b. b / range_blocks ≡ range) (contains blocks) numbers
-          (all_range (λ b. b / range_blocks ≡ range) (range_blocks * range) range_blocks (in_its_range range)));
+      ascending = ascending (size * range) (take most_carried (filter (contains blocks) numbers))
+          (rising_take most_carried (size * range) (filter (contains blocks) numbers)
+          (rising_filter (contains blocks) (size * range) numbers (rising_range (size * range) size)));
+      of_range = all_take (λ b. b / size ≡ range) most_carried (filter (contains blocks) numbers)
+          (all_filter (λ b. b / size ≡ range) (contains blocks) numbers
+          (all_range (λ b. b / size ≡ range) (size * range) size (in_its_range size range)));
     }
 
 -- one of these ranges, or no block
-first_is : (blocks : FinSet nat_cmp) (ranges : List ℕ) (batches : List (List ℕ)) → AllByRecursion (λ xs. (range : ℕ) × IsBatch range xs) batches
-    → (range : ℕ) × IsBatch range (first_filled batches)
-first_is blocks ranges [] q = (0, record { few = omega arith; ascending = tt; of_range = tt })
-first_is blocks ranges ([] ∷ batches) q = first_is blocks ranges batches q.1
-first_is blocks ranges ((x ∷ xs) ∷ batches) q = q.0
+first_is : (size : ℕ) (batches : List (List ℕ)) → AllByRecursion (λ xs. (range : ℕ) × IsBatch size range xs) batches
+    → (range : ℕ) × IsBatch size range (first_filled batches)
+first_is size [] q = (0, record { few = omega arith; ascending = tt; of_range = tt })
+first_is size ([] ∷ batches) q = first_is size batches q.1
+first_is size ((x ∷ xs) ∷ batches) q = q.0
 
-all_batches : (blocks : FinSet nat_cmp) (ranges : List ℕ) → AllByRecursion (λ xs. (range : ℕ) × IsBatch range xs) (map (λ r. batch r blocks) ranges)
-all_batches blocks [] = tt
-all_batches blocks (r ∷ ranges) = ((r, batch_is r blocks), all_batches blocks ranges)
+all_batches : (size : ℕ) (blocks : FinSet nat_cmp) (ranges : List ℕ)
+    → AllByRecursion (λ xs. (range : ℕ) × IsBatch size range xs) (map (λ r. batch size r blocks) ranges)
+all_batches size blocks [] = tt
+all_batches size blocks (r ∷ ranges) = ((r, batch_is size r blocks), all_batches size blocks ranges)
 
-pub lowest_is : (blocks : FinSet nat_cmp) → (range : ℕ) × IsBatch range (lowest_batch blocks)
+pub lowest_is : (size : ℕ) (blocks : FinSet nat_cmp) → (range : ℕ) × IsBatch size range (lowest_batch size blocks)
 unfolding lowest_batch
-lowest_is blocks =
-    first_is blocks (range_with_len 0 most_ranges) (map (λ r. batch r blocks) (range_with_len 0 most_ranges))
-    (all_batches blocks (range_with_len 0 most_ranges))
+lowest_is size blocks =
+    first_is size (map (λ r. batch size r blocks) (range_with_len 0 most_ranges)) (all_batches size blocks (range_with_len 0 most_ranges))

@@ -1,7 +1,7 @@
 -- Each event keeps the headline, where the calls that run after it agree.
 use Rattle.std.proofs.Common.{◌≡◌, ℕ, Bool, true, false, List, [], ◌∷◌, ◌++◌, Option, Some, None, Result, Ok, Err, refl, sym, ap, subst, ◌∙◌}
 use Rattle.std.specs.Prelude.{slice_get, is_some, if◌then◌else◌, ◌&&◌}
-use Rattle.nfs_model.specs.Tree.{Logical}
+use Rattle.nfs_model.specs.Tree.{Logical, range_blocks_of}
 use Rattle.nfs_model.specs.World.{Setup, World, Message, Running, Worker, IsScan}
 use Rattle.nfs_model.specs.Parts.{Hand, Empty, Fresh, Dead}
 use Rattle.nfs_model.specs.Work.{Outcome}
@@ -107,10 +107,10 @@ module _ (setup : Setup) (scan : IsScan setup.codec) where
       (keeps_finish setup w worker p.0 p.1 p.2 (subst (λ (v : World). IsAgreed setup v) p.7 agreed) scan p.3 p.4 p.5 h)
   happens_kept w (Fetch worker volume range) done new allowed agreed p h =
       let k = empty_handed w worker (fetch_refusal setup w volume range (slice_get w.server.volumes volume)) allowed in
-      keeps_fetched setup w worker volume range p.2 k.worker p.0 p.1 new k.there k.empty p.3.3 p.4 p.6 h
+      keeps_fetched setup w worker volume (range_blocks_of setup.layout volume) range p.2 k.worker p.0 p.1 new k.there k.empty p.3.3 p.4 p.6 h
   happens_kept w (Cull worker volume) done new allowed agreed p h =
       let k = empty_handed w worker (if is_some (slice_get w.server.volumes volume) then excluded setup w (Logical volume) else Some 41) allowed in
-      keeps_culled setup w worker volume p.2 k.worker p.0 p.1 new k.there k.empty p.3.3 p.4 p.6 h
+      keeps_culled setup w worker volume (range_blocks_of setup.layout volume) p.2 k.worker p.0 p.1 new k.there k.empty p.3.3 p.4 p.6 h
   happens_kept w (PutDown worker) done new allowed agreed p h = keeps_put_down setup w worker p.2 p.0 p.1 new p.3 p.4 p.6 h
   happens_kept w (Survey worker volume) done new allowed agreed p h = subst (λ (v : World). Kept setup v) (sym p.7) (keeps_survey setup w h)
 

@@ -167,11 +167,11 @@ empty_lists : (u n : ℕ) (hand : Hand) → hand ≡ Empty → times_listed n (h
 empty_lists u n hand e = ap (λ (x : Hand). times_listed n (hand_blocks u x)) e
 
 -- free blocks come into an empty hand
-keeps_fetch : (setup : Setup) (w : World) (i v range : ℕ) (k : Worker) (p : Parts) → slice_get w.workers i ≡ Some k → k.hand ≡ Empty
+keeps_fetch : (setup : Setup) (w : World) (i v size range : ℕ) (k : Worker) (p : Parts) → slice_get w.workers i ≡ Some k → k.hand ≡ Empty
     → slice_get w.parts v ≡ Some p → Kept setup w
-    → Kept setup (in_hand w i v (fresh_hand v (batch range p.free)) (without_free (batch range p.free)))
-keeps_fetch setup w i v range k p there empty at h =
-    let blocks : List ℕ = batch range p.free in
+    → Kept setup (in_hand w i v (fresh_hand v (batch size range p.free)) (without_free (batch size range p.free)))
+keeps_fetch setup w i v size range k p there empty at h =
+    let blocks : List ℕ = batch size range p.free in
     hand_kept setup w i v k (fresh_hand v blocks) (without_free blocks) there
     (record {
       files = λ q. refl;
@@ -179,16 +179,16 @@ keeps_fetch setup w i v range k p there empty at h =
           let same : p ≡ q = Some_same p q (sym at ∙ at_q) in
           subst (λ (x : Parts). places n (without_free blocks x) [] + times_listed n (hand_blocks v (fresh_hand v blocks)) ≡ places n x [] + times_listed n
           (hand_blocks v k.hand)) same
-          (omega (arith, batch_leaves p.free blocks n (batch_within range n p.free), fresh_here v n blocks, empty_lists v n k.hand empty));
+          (omega (arith, batch_leaves p.free blocks n (batch_within size range n p.free), fresh_here v n blocks, empty_lists v n k.hand empty));
       elsewhere = λ u n ne. fresh_elsewhere u v n blocks ne ∙ sym (empty_lists u n k.hand empty);
     }) h
 
 -- dead blocks come into an empty hand
-keeps_cull : (setup : Setup) (w : World) (i v : ℕ) (k : Worker) (p : Parts) → slice_get w.workers i ≡ Some k → k.hand ≡ Empty → slice_get w.parts v ≡ Some p
+keeps_cull : (setup : Setup) (w : World) (i v size : ℕ) (k : Worker) (p : Parts) → slice_get w.workers i ≡ Some k → k.hand ≡ Empty → slice_get w.parts v ≡ Some p
     → Kept setup w
-    → Kept setup (in_hand w i v (dead_hand v (lowest_batch p.dead)) (without_dead (lowest_batch p.dead)))
-keeps_cull setup w i v k p there empty at h =
-    let blocks : List ℕ = lowest_batch p.dead in
+    → Kept setup (in_hand w i v (dead_hand v (lowest_batch size p.dead)) (without_dead (lowest_batch size p.dead)))
+keeps_cull setup w i v size k p there empty at h =
+    let blocks : List ℕ = lowest_batch size p.dead in
     hand_kept setup w i v k (dead_hand v blocks) (without_dead blocks) there
     (record {
       files = λ q. refl;
@@ -196,7 +196,7 @@ keeps_cull setup w i v k p there empty at h =
           let same : p ≡ q = Some_same p q (sym at ∙ at_q) in
           subst (λ (x : Parts). places n (without_dead blocks x) [] + times_listed n (hand_blocks v (dead_hand v blocks)) ≡ places n x [] + times_listed n
           (hand_blocks v k.hand)) same
-          (omega (arith, batch_leaves p.dead blocks n (lowest_within n p.dead), dead_here v n blocks, empty_lists v n k.hand empty));
+          (omega (arith, batch_leaves p.dead blocks n (lowest_within size n p.dead), dead_here v n blocks, empty_lists v n k.hand empty));
       elsewhere = λ u n ne. dead_elsewhere u v n blocks ne ∙ sym (empty_lists u n k.hand empty);
     }) h
 
@@ -236,24 +236,24 @@ put_kept setup w i k (Dead v blocks) there holds h =
 -- ---- as events tell it
 
 -- a fetch
-pub keeps_fetched : (setup : Setup) (w : World) (i v range count : ℕ) (k : Worker) (before after : Carrying) (new : World) → slice_get w.workers i ≡ Some k
+pub keeps_fetched : (setup : Setup) (w : World) (i v size range count : ℕ) (k : Worker) (before after : Carrying) (new : World) → slice_get w.workers i ≡ Some k
     → k.hand ≡ Empty
-    → slice_get w.parts v ≡ Some before.parts → Fetches v range count before after → new ≡ carried w i v after → Kept setup w → Kept setup new
-keeps_fetched setup w i v range count k before after new there empty at fetches is h =
-    let blocks : List ℕ = batch range before.parts.free in
+    → slice_get w.parts v ≡ Some before.parts → Fetches size v range count before after → new ≡ carried w i v after → Kept setup w → Kept setup new
+keeps_fetched setup w i v size range count k before after new there empty at fetches is h =
+    let blocks : List ℕ = batch size range before.parts.free in
     subst (λ (x : World). Kept setup x)
     (sym (is ∙ ap (λ (c : Carrying). carried w i v c) fetches.1 ∙ carried_is w i v (fresh_hand v blocks) (without_free blocks) before.parts at))
-    (keeps_fetch setup w i v range k before.parts there empty at h)
+    (keeps_fetch setup w i v size range k before.parts there empty at h)
 
 -- a cull
-pub keeps_culled : (setup : Setup) (w : World) (i v count : ℕ) (k : Worker) (before after : Carrying) (new : World) → slice_get w.workers i ≡ Some k
+pub keeps_culled : (setup : Setup) (w : World) (i v size count : ℕ) (k : Worker) (before after : Carrying) (new : World) → slice_get w.workers i ≡ Some k
     → k.hand ≡ Empty
-    → slice_get w.parts v ≡ Some before.parts → Culls v count before after → new ≡ carried w i v after → Kept setup w → Kept setup new
-keeps_culled setup w i v count k before after new there empty at culls is h =
-    let blocks : List ℕ = lowest_batch before.parts.dead in
+    → slice_get w.parts v ≡ Some before.parts → Culls size v count before after → new ≡ carried w i v after → Kept setup w → Kept setup new
+keeps_culled setup w i v size count k before after new there empty at culls is h =
+    let blocks : List ℕ = lowest_batch size before.parts.dead in
     subst (λ (x : World). Kept setup x)
     (sym (is ∙ ap (λ (c : Carrying). carried w i v c) culls.1 ∙ carried_is w i v (dead_hand v blocks) (without_dead blocks) before.parts at))
-    (keeps_cull setup w i v k before.parts there empty at h)
+    (keeps_cull setup w i v size k before.parts there empty at h)
 
 -- a batch put down
 pub keeps_put_down : (setup : Setup) (w : World) (i count : ℕ) (before after : Carrying) (new : World) → Carries w i (hand_volume before.hand) before

@@ -9,6 +9,7 @@ use Rattle.nfs_model.specs.Route.{handle_on, route}
 use Rattle.nfs_model.specs.Tree.{Layout, VolumeLayout}
 use Rattle.nfs_model.specs.Server.{VolumeState, Server, opening_volumes}
 use Rattle.nfs_model.specs.Locate.{Effect, Fails, Tells, Changes, Located, locate}
+use Rattle.nfs_model.specs.Parts.{most_ranges}
 use Rattle.nfs_model.specs.Serial.Absent.{absent_parts}
 use Rattle.nfs_model.specs.Serial.Grow.{Grown, grown, grow_volume}
 use Rattle.nfs_model.specs.Serial.Rename.{rename}
@@ -56,10 +57,10 @@ module _ (server : Server) where
   grow_counts : (i : ℕ) (o : Option VolumeState) (ranges : ℕ) → volumes_in (grow_volume server i o ranges).server ≡ volumes_in server
   grow_counts i None ranges = refl
   grow_counts i (Some v) ranges =
-      grow_if (ranges == 0) (nat_lt 16384 (v.total + 1024 * ranges)) (nat_lt (slice_index_or server.spare v.aggregate 0) ranges) (Failed Invalid 0)
+      grow_if (ranges == 0) (nat_lt (v.range_blocks * most_ranges) (v.total + v.range_blocks * ranges)) (nat_lt (slice_index_or server.spare v.aggregate 0) ranges) (Failed Invalid 0)
       (Failed TooBig 0) (Failed NoSpace 0)
-      (record { answer = GrowDone (v.total + 1024 * ranges); server = grown server i v ranges })
-      (length-set server.volumes i (record v { total = v.total + 1024 * ranges }))
+      (record { answer = GrowDone (v.total + v.range_blocks * ranges); server = grown server i v ranges })
+      (length-set server.volumes i (record v { total = v.total + v.range_blocks * ranges }))
 
   serve_counts : (call : Call) (credential : Credential) (moment : Moment) → volumes_in (serve server call credential moment).server ≡ volumes_in server
   serve_counts Null credential moment = refl

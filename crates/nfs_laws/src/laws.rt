@@ -6,7 +6,7 @@ ghost use Rattle.std.specs.Ordering.{nat_cmp};
 ghost use Rattle.std.specs.FinSet.{FinSet};
 ghost use Rattle.nfs_model.specs.Types.{Call, Credential, Moment};
 ghost use Rattle.nfs_model.specs.Tree.{Layout};
-ghost use Rattle.nfs_model.specs.Server.{Server};
+ghost use Rattle.nfs_model.specs.Server.{opening, Server};
 ghost use Rattle.nfs_model.specs.Home.{home};
 ghost use Rattle.nfs_model.specs.Serial.Step.{serve, stay};
 ghost use Rattle.nfs_model.specs.Serial.AtOnce.{answer_without_home};
@@ -18,6 +18,8 @@ ghost use Rattle.nfs_model.specs.Events.Refusals.{Event, Done, takes_input};
 ghost use Rattle.nfs_model.specs.Events.Step.{Events, Runs};
 ghost use Rattle.nfs_model.specs.Headline.{Kept, opening_world};
 ghost use Rattle.nfs_model.specs.Agreed.{IsAgreed};
+ghost use Rattle.nfs_model.specs.Replay.{server_after, FinishedCall};
+ghost use Rattle.nfs_laws.specs.Sizes.{HaveSizes};
 ghost use Rattle.nfs_laws.specs.Undisturbed.{WorksNone};
 ghost use Rattle.nfs_laws.specs.Walk.{Walks};
 
@@ -84,10 +86,17 @@ pub fn feeds_are_walks()
         → Feeds setup (feeding connection bytes taken stop) w new }
 {}
 
-/// What Fetch and Cull take is a batch: at most 64 numbers of one range, ascending.
+/// What Fetch and Cull take is a batch: at most 64 numbers of one range, ascending, whatever the
+/// blocks of a range.
 pub fn batches_are_of_one_range()
-    ensures fetched { (range : ℕ) (blocks : FinSet nat_cmp)
-        → IsBatch range (batch range blocks) }
-    ensures culled { (blocks : FinSet nat_cmp)
-        → (range : ℕ) × IsBatch range (lowest_batch blocks) }
+    ensures fetched { (size range : ℕ) (blocks : FinSet nat_cmp)
+        → IsBatch size range (batch size range blocks) }
+    ensures culled { (size : ℕ) (blocks : FinSet nat_cmp)
+        → (range : ℕ) × IsBatch size range (lowest_batch size blocks) }
+{}
+
+/// No call changes how many blocks a range of a volume has: it is as its layout says.
+pub fn sizes_stay()
+    ensures { (layout : Layout) (verifier : List ℕ) (calls : List FinishedCall)
+        → HaveSizes layout (server_after (opening layout verifier) calls) }
 {}

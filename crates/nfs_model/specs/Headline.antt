@@ -10,7 +10,7 @@ use Rattle.nfs_model.specs.Serial.Step.{serial}
 use Rattle.nfs_model.specs.Serial.Starve.{may_starve_at_decoding, may_starve_later}
 use Rattle.nfs_model.specs.Home.{home_of_asked}
 use Rattle.nfs_model.specs.Replay.{FinishedCall, server_after, replay, AreLawful}
-use Rattle.nfs_model.specs.Parts.{Parts, Empty, one_if, count, IsPartition, range_blocks}
+use Rattle.nfs_model.specs.Parts.{Parts, Empty, one_if, count, IsPartition}
 use Rattle.nfs_model.specs.Work.{Outcome, Replied, Starved, Moved}
 use Rattle.nfs_model.specs.World.{Heard, Codec, Setup, World, Connection, Message, Running, all_running, affinities, hands_blocks}
 
@@ -185,7 +185,8 @@ pub record Kept (setup : Setup) (w : World) : Type 0 where
 
 -- the parts of a volume as it begins: all is free
 abbrev pub opening_parts : VolumeLayout → Parts
-opening_parts v = record { files = empty; stock = empty; dead = empty; free = from_list (range_with_len 0 (range_blocks * v.ranges)) }
+opening_parts v =
+    record { files = empty; stock = empty; dead = empty; free = from_list (range_with_len 0 (v.range_blocks * v.ranges)) }
 
 -- a run as it begins: no connection, and idle workers with empty hands
 abbrev pub opening_world : Setup → World

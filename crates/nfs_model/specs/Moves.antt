@@ -7,7 +7,7 @@ use Rattle.std.specs.FinSet.{FinSet, is_subset, difference, union, from_list, le
 use Rattle.nfs_model.specs.Types.{Call, Write, Setattr, Create, Remove, Rename, Grow}
 use Rattle.nfs_model.specs.Tree.{Affinity, Volume, Logical}
 use Rattle.nfs_model.specs.Server.{VolumeState, used}
-use Rattle.nfs_model.specs.Parts.{Parts, Hand, Empty, Fresh, Dead, range_blocks, most_carried, most_ranges}
+use Rattle.nfs_model.specs.Parts.{Parts, Hand, Empty, Fresh, Dead, most_carried, most_ranges}
 use Rattle.nfs_model.specs.Parts.{batch_in}
 
 -- ---- by calls
@@ -80,13 +80,13 @@ PartsChange call affinity old new = new.parts ≡ old.parts
 
 -- ---- batches
 
--- the numbers of a range that are in a set, lowest first
-unfoldable pub in_range : ℕ → FinSet nat_cmp → List ℕ
-in_range range blocks = filter (contains blocks) (range_with_len (range_blocks * range) range_blocks)
+-- the numbers of a range that are in a set, lowest first, where a range has so many
+unfoldable pub in_range : (size range : ℕ) → FinSet nat_cmp → List ℕ
+in_range size range blocks = filter (contains blocks) (range_with_len (size * range) size)
 
 -- at most 64 of them, the lowest
-abbrev pub batch : ℕ → FinSet nat_cmp → List ℕ
-batch range blocks = take most_carried (in_range range blocks)
+abbrev pub batch : (size range : ℕ) → FinSet nat_cmp → List ℕ
+batch size range blocks = take most_carried (in_range size range blocks)
 
 -- the first of some lists that isn't empty
 abbrev pub first_filled : List (List ℕ) → List ℕ
@@ -95,8 +95,8 @@ first_filled ([] ∷ rest) = first_filled rest
 first_filled ((b ∷ bs) ∷ rest) = b ∷ bs
 
 -- a batch of the range of the lowest
-unfoldable pub lowest_batch : FinSet nat_cmp → List ℕ
-lowest_batch blocks = first_filled (map (λ r. batch r blocks) (range_with_len 0 most_ranges))
+unfoldable pub lowest_batch : (size : ℕ) → FinSet nat_cmp → List ℕ
+lowest_batch size blocks = first_filled (map (λ r. batch size r blocks) (range_with_len 0 most_ranges))
 
 -- ---- by inner calls, which a worker makes with its hand
 
@@ -146,19 +146,19 @@ fetched volume blocks p = record { parts = without_free blocks p; hand = fresh_h
 abbrev pub culled : ℕ → List ℕ → Parts → Carrying
 culled volume blocks p = record { parts = without_dead blocks p; hand = dead_hand volume blocks }
 
--- Fetch, under a Range: its 64 lowest free blocks come into the hand, or all if they are fewer; so
--- many.
-abbrev pub Fetches : ℕ → ℕ → ℕ → Carrying → Carrying → Type 0
-Fetches volume range count old new =
-    (count ≡ length (batch range old.parts.free))
-    × (new ≡ fetched volume (batch range old.parts.free) old.parts)
+-- Fetch, under a Range of so many blocks: its 64 lowest free blocks come into the hand, or all if
+-- they are fewer; so many.
+abbrev pub Fetches : (size volume range count : ℕ) → Carrying → Carrying → Type 0
+Fetches size volume range count old new =
+    (count ≡ length (batch size range old.parts.free))
+    × (new ≡ fetched volume (batch size range old.parts.free) old.parts)
 
 -- Cull, under Logical: the 64 lowest dead blocks of the range of the lowest come into the hand, or
--- all of that range if they are fewer; so many.
-abbrev pub Culls : ℕ → ℕ → Carrying → Carrying → Type 0
-Culls volume count old new =
-    (count ≡ length (lowest_batch old.parts.dead))
-    × (new ≡ culled volume (lowest_batch old.parts.dead) old.parts)
+-- all of that range if they are fewer; so many. A range has the first number's blocks.
+abbrev pub Culls : (size volume count : ℕ) → Carrying → Carrying → Type 0
+Culls size volume count old new =
+    (count ≡ length (lowest_batch size old.parts.dead))
+    × (new ≡ culled volume (lowest_batch size old.parts.dead) old.parts)
 
 -- PutDown, under Logical for a fresh batch and under its Range for a dead one: the batch leaves the
 -- hand; so many blocks.
@@ -167,6 +167,6 @@ PutsDown count old new =
     (count ≡ length (batch_in old.hand))
     × (new ≡ record { parts = put_down old.hand old.parts; hand = Empty })
 
--- Survey, under Vbn: how many blocks of each range in use are free.
-abbrev pub Surveys : ℕ → Parts → List ℕ → Type 0
-Surveys ranges p told = told ≡ map (λ r. length (in_range r p.free)) (range_with_len 0 ranges)
+-- Survey, under Vbn: how many blocks of each range in use are free, where a range has so many.
+abbrev pub Surveys : (size ranges : ℕ) → Parts → List ℕ → Type 0
+Surveys size ranges p told = told ≡ map (λ r. length (in_range size r p.free)) (range_with_len 0 ranges)

@@ -9,10 +9,6 @@ use Rattle.nfs_model.specs.Server.{VolumeState, used}
 
 -- ---- numbers of the profile
 
--- the blocks of a range
-abbrev pub range_blocks : ℕ
-range_blocks = 1024
-
 -- the blocks that a hand carries at most
 abbrev pub most_carried : ℕ
 most_carried = 64
@@ -56,16 +52,16 @@ IsAscending [] = Unit {0}
 IsAscending (b ∷ []) = Unit {0}
 IsAscending (b ∷ (c ∷ rest)) = (b < c) × IsAscending (c ∷ rest)
 
--- the range of the first block
-abbrev pub range_of : List ℕ → ℕ
-range_of [] = 0
-range_of (b ∷ blocks) = b / range_blocks
+-- the range of the first block, where a range has so many
+abbrev pub range_of : (size : ℕ) → List ℕ → ℕ
+range_of size [] = 0
+range_of size (b ∷ blocks) = b / size
 
--- a batch: at most 64 numbers of one range, ascending
-pub record IsBatch (range : ℕ) (blocks : List ℕ) : Type 0 where
+-- a batch: at most 64 numbers of one range, ascending, where a range has so many
+pub record IsBatch (size range : ℕ) (blocks : List ℕ) : Type 0 where
   pub few : length blocks ≤ most_carried
   pub ascending : IsAscending blocks
-  pub of_range : AllByRecursion (λ b. b / range_blocks ≡ range) blocks
+  pub of_range : AllByRecursion (λ b. b / size ≡ range) blocks
 
 -- ---- the partition
 

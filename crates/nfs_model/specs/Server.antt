@@ -44,6 +44,8 @@ pub record VolumeState : Type 0 where
   pub aggregate : ℕ
   pub total : ℕ  -- blocks
   pub largest : ℕ  -- size of a file
+  pub range_blocks : ℕ  -- the blocks of a range
+  pub most_inodes : ℕ  -- the root with them
   pub verifier : List ℕ  -- of writes, fixed for the run
   pub next : ℕ  -- the next fileid
   pub nodes : FinMap nat_cmp Node
@@ -62,10 +64,6 @@ block_size = 4096
 -- larger counts of READ, WRITE, READDIR and READDIRPLUS are taken as this
 abbrev pub most_bytes : ℕ
 most_bytes = 65536
-
--- the root with them
-abbrev pub most_inodes : ℕ
-most_inodes = 65536
 
 -- ---- the beginning
 
@@ -94,8 +92,10 @@ abbrev pub opening_volume : List ℕ → ℕ → VolumeLayout → VolumeState
 opening_volume verifier number layout = record {
   number = number;
   aggregate = layout.aggregate;
-  total = 1024 * layout.ranges;
+  total = layout.range_blocks * layout.ranges;
   largest = 1048576 * layout.mebibytes;
+  range_blocks = layout.range_blocks;
+  most_inodes = layout.inodes;
   verifier = verifier;
   next = 2;
   nodes = from_sorted ((1, root_node) ∷ []);

@@ -8,6 +8,8 @@ pub record VolumeLayout : Type 0 where
   pub ranges : ℕ
   pub stripes : ℕ
   pub mebibytes : ℕ  -- the largest size of a file
+  pub range_blocks : ℕ  -- the blocks of a range
+  pub inodes : ℕ  -- at most, the root with them
 
 -- aggregates and volumes, each numbered from 0
 pub record Layout : Type 0 where
@@ -42,6 +44,15 @@ aggregate_of layout volume = aggregate_in (slice_get layout.volumes volume)
 -- the number of stripes of a volume by its number
 abbrev pub stripes_of : Layout → ℕ → ℕ
 stripes_of layout volume = stripes_in (slice_get layout.volumes volume)
+
+-- the blocks of a range of a volume, if there is one
+abbrev pub range_blocks_in : Option VolumeLayout → ℕ
+range_blocks_in None = 1024
+range_blocks_in (Some v) = v.range_blocks
+
+-- the blocks of a range of a volume by its number
+abbrev pub range_blocks_of : Layout → ℕ → ℕ
+range_blocks_of layout volume = range_blocks_in (slice_get layout.volumes volume)
 
 -- the way from the root; Logical is the first child of its volume, Vbn the second
 abbrev pub path : Layout → Affinity → List ℕ

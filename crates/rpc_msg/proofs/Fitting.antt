@@ -411,9 +411,9 @@ grow_at_fits volumes server index (Some volume) ranges e r =
     (if_grown volumes _ _ _ (grown_failed volumes server model.TooBig r)
     (if_grown volumes _ _ _ (grown_failed volumes server model.NoSpace r)
     (record {
-      answer = grow_size (volume.total + 1024 * ranges);
+      answer = grow_size (volume.total + volume.range_blocks * ranges);
       server = set_roomy volumes server _ index
-          (record volume { total = volume.total + 1024 * ranges }) (r.verifiers index volume e) r;
+          (record volume { total = volume.total + volume.range_blocks * ranges }) (r.verifiers index volume e) r;
     })))
 
 grow_fits : (volumes : ℕ) (server : Server) (index ranges : ℕ) → IsRoomy volumes server

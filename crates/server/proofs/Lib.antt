@@ -3,3 +3,5 @@ mod Remaining
 mod Ended
 mod Started
 mod Crossing
+mod Doubled
+mod Planned

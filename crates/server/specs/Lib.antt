@@ -9,3 +9,4 @@ pub mod Threads
 pub mod Ends
 pub mod Asked
 pub mod Numbers
+pub mod Planned

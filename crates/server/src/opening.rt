@@ -5,14 +5,16 @@ ghost use Rattle.rpc_msg.specs.declared.handle_form.HandleForm.TheVariants.{OfRu
 ghost use Rattle.rpc_msg.specs.HandleForm.{verifier_of};
 ghost use Rattle.rpc_msg.specs.Offer.{form_of};
 ghost use Rattle.std.specs.Arc.{arc_value};
+ghost use Rattle.affinity.specs.Layout.{layout_of};
 ghost use Rattle.lanes.specs.Words.{identity_in, worker_in};
 ghost use Rattle.server.specs.Lanes.{AllOffer, AreLanesOf, IsLaneOf};
+ghost use Rattle.server.specs.Planned.{IsLaidOut};
 ghost use Rattle.server.specs.Queues.{IsNewQueue, IsReadyLane};
 
 use crate::fault::ServerFault;
 use crate::options::MOST_VOLUMES;
 use crate::plan::VolumePlan;
-use affinity::{AggregateSpec, Layout, VolumeSpec};
+use affinity::{AggregateSpec, Layout, SizedVolumeSpec, VolumeSpec};
 use lanes::{Device, Lane};
 use rpc_msg::{HandleForm, Offer};
 use std::alloc::{AllocError, Global};
@@ -28,16 +30,21 @@ pub(crate) fn layout_of(
     plan: VolumePlan,
 ) -> Result<Layout, ServerFault>
     requires { volumes ≤ MOST_VOLUMES }
+    ensures { IfOk result (λ layout. IsLaidOut volumes plan (layout_of layout)) }
 {
     let aggregates = [AggregateSpec { spare: plan.spare }];
-    let specification = VolumeSpec {
-        aggregate: 0,
-        ranges: plan.ranges,
-        stripes: plan.stripes,
-        mib: plan.mib,
+    let specification = SizedVolumeSpec {
+        volume: VolumeSpec {
+            aggregate: 0,
+            ranges: plan.ranges,
+            stripes: plan.stripes,
+            mib: plan.mib,
+        },
+        range_blocks: plan.range_blocks,
+        inodes: plan.inodes,
     };
     let specifications = [specification; MOST_VOLUMES];
-    match Layout::new(alloc, &aggregates, &specifications[..volumes]) {
+    match Layout::with_sizes(alloc, &aggregates, &specifications[..volumes]) {
         Ok(layout) => Ok(layout),
         Err(_fault) => Err(ServerFault::NoMemory),
     }

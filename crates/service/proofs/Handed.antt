@@ -1,7 +1,7 @@
 -- From the run of an inner call on the part of a volume that it holds to its run by parcels.
 use Rattle.std.proofs.Common.{◌≡◌, ◌≢◌, ℕ, ◌<◌, length, Option, Some, None, refl, sym, ap, ◌∙◌, subst, arith}
 use Rattle.nfs_model.specs.Parts.{Hand, Empty}
-use Rattle.nfs_model.specs.Tree.{Layout, Affinity, Logical, Vbn, Range, stripes_of}
+use Rattle.nfs_model.specs.Tree.{Layout, Affinity, Logical, Vbn, Range, stripes_of, range_blocks_of}
 use Rattle.affinity.specs.Affinity.{kind_of}
 use Rattle.affinity.specs.Fault.{fault_of}
 use Rattle.affinity.specs.Numbers.{number_of, parents}
@@ -18,10 +18,11 @@ use Rattle.filer_state.specs.state.Lenses.{Lens, in_volume, range_lens, vbn_lens
 use Rattle.filer_state.specs.state.Parcels.{FilerParcel}
 use Rattle.filer_state.specs.state.Partition.{AreOf}
 use Rattle.filer_state.specs.state.Promises.{HasVolume, IsRight, IsSeenBy}
-use Rattle.filer_state.specs.state.Running.{HasFiler}
+use Rattle.filer_state.specs.state.Running.{HasSizedFiler}
 use Rattle.filer_state.specs.state.Sets.{FilerRange, FilerVbn, FilerLogical, vbn_set, logical_set, logical_before, logical_after}
 use Rattle.filer_state.specs.laws.lemmas.Granted.{range-has, logical-has}
 use Rattle.filer_state.specs.laws.lemmas.Kinds.{range-step, vbn-step, logical-step}
+use Rattle.filer_state.specs.laws.lemmas.LayoutSizes.{range-sized, logical-sized}
 use Rattle.filer_state.specs.laws.lemmas.Running.{inner-runs-by}
 use Rattle.filer_state.specs.laws.lemmas.SeenSets.{range-seen, vbn-seen, logical-seen}
 use Rattle.service.specs.Inner.{InnerHasRun, IsHandFor}
@@ -40,12 +41,12 @@ module _ {P S : Type 0} (layout : Layout) (call : InnerCall) (on : inner_volume 
     (was : IsSeenBy layout (inner_node call) (in_volume (inner_volume call) lens) before old)
     (step : (reply : JobReply) → IsRight layout (inner_node call) (in_volume (inner_volume call) lens) (Inner call) old reply new
     → FilerSteps (parents layout) (number_of layout (inner_node call)) (Inner call) before reply after)
-    (hand : Hand) (is : IsHandFor call hand) where
+    (size : ℕ) (hand : Hand) (is : IsHandFor size call hand) where
   pub has-run : (outcome : InnerOutcome) → UnlessDone outcome ((k : ℕ) → after k ≡ before k) → HasRunOn (inner_volume call) lens call hand old outcome new
       → InnerHasRun call hand layout (inner_node call) before outcome after
   has-run (Done reply) same right = (
     inner-runs-by layout call on lens numbered before after old new was step (Some (job_reply_of reply)) right.0 right.1
-        (subst (AreOf (inner_volume call)) (sym right.2) (hand-of call hand is)) (λ e. let never : ⊥ = cc in absurd never),
+        (subst (AreOf (inner_volume call)) (sym right.2) (hand-of size call hand is)) (λ e. let never : ⊥ = cc in absurd never),
     right.2,
   )
   has-run Refused same right =
@@ -66,16 +67,26 @@ of-number v r less hands x h =
 
 module _ {P : Type 0} (layout : Layout) (lawful : fault_of layout ≡ None) where
   module _ (v r : ℕ) (there : IsNode layout (Range v r)) (hand : Hand) (old : FilerRange P)
-      (filer : HasFiler layout (Range v r) (batches_in hand) (range_parcels layout (Range v r) old)) where
+      (filer : HasSizedFiler layout (Range v r) (batches_in hand) (range_parcels layout (Range v r) old)) where
     range-whole : HasVolume v (range_lens r) (batches_in hand) old.own
-    range-whole = range-has layout lawful (batches_in hand) v there.0 r there.1 old filer
+    range-whole = range-has layout lawful (batches_in hand) v there.0 r there.1 old filer.0
+
+    abbrev size : ℕ
+    size = range_blocks_of layout v
+
+    sized : old.own.range_blocks ≡ size
+    sized = range-sized layout lawful (batches_in hand) v there.0 r there.1 old filer
+
+    -- what is in the hand, by the range's own size
+    own-hand : IsHandFor size (Free v r) hand → IsHandFor old.own.range_blocks (Free v r) hand
+    own-hand is = subst (λ (m : ℕ). IsHandFor m (Free v r) hand) (sym sized) is
 
     numbered : old.own.number ≡ r
     numbered = of-number v r there.1 (batches_in hand) old.own range-whole
 
     -- what is asked of a dead batch
-    may-free : IsHandFor (Free v r) hand → MayRunOn v (range_lens old.own.number) (Free v old.own.number) hand old.own
-    may-free is = subst (λ (n : ℕ). MayRunOn v (range_lens n) (Free v n) hand old.own) (sym numbered) (is, range-whole)
+    may-free : IsHandFor size (Free v r) hand → MayRunOn old.own.range_blocks v (range_lens old.own.number) (Free v old.own.number) hand old.own
+    may-free is = subst (λ (n : ℕ). MayRunOn old.own.range_blocks v (range_lens n) (Free v n) hand old.own) (sym numbered) (own-hand is, range-whole)
 
     module _ (new : FilerRange P) (outcome : InnerOutcome) (same : UnlessDone outcome (new ≡ old)) where
       same-range : UnlessDone outcome ((k : ℕ) → range_parcels layout (Range v r) new k ≡ range_parcels layout (Range v r) old k)
@@ -83,51 +94,52 @@ module _ {P : Type 0} (layout : Layout) (lawful : fault_of layout ≡ None) wher
           unless-mapped outcome (new ≡ old) ((k : ℕ) → range_parcels layout (Range v r) new k ≡ range_parcels layout (Range v r) old k)
           (λ e k. ap (λ (h : FilerRange P). range_parcels layout (Range v r) h k) e) same
 
-      fetch-ran : IsHandFor (Fetch v r) hand
+      fetch-ran : IsHandFor size (Fetch v r) hand
           → HasRunOn v (range_lens old.own.number) (Fetch v old.own.number) hand old.own outcome new.own
           → InnerHasRun (Fetch v r) hand layout (Range v r) (range_parcels layout (Range v r) old) outcome (range_parcels layout (Range v r) new)
       fetch-ran is ran =
           has-run layout (Fetch v r) there.0 (range_lens r) (λ s p. refl) (range_parcels layout (Range v r) old) (range_parcels layout (Range v r) new)
           old.own new.own (range-seen layout lawful v there.0 r there.1 old)
-          (λ reply step. range-step layout lawful (Inner (Fetch v r)) reply v there.0 r there.1 old new step) hand is outcome same-range
+          (λ reply step. range-step layout lawful (Inner (Fetch v r)) reply v there.0 r there.1 old new step) size hand is outcome same-range
           (subst (λ (n : ℕ). HasRunOn v (range_lens n) (Fetch v n) hand old.own outcome new.own) numbered ran)
 
-      free-ran : IsHandFor (Free v r) hand
-          → (IsHandFor (Free v old.own.number) hand → HasRunOn v (range_lens old.own.number) (Free v old.own.number) hand old.own outcome new.own)
+      free-ran : IsHandFor size (Free v r) hand
+          → (IsHandFor old.own.range_blocks (Free v old.own.number) hand → HasRunOn v (range_lens old.own.number) (Free v old.own.number) hand old.own outcome new.own)
           → InnerHasRun (Free v r) hand layout (Range v r) (range_parcels layout (Range v r) old) outcome (range_parcels layout (Range v r) new)
       free-ran is ran =
           has-run layout (Free v r) there.0 (range_lens r) (λ s p. refl) (range_parcels layout (Range v r) old) (range_parcels layout (Range v r) new)
           old.own new.own (range-seen layout lawful v there.0 r there.1 old)
-          (λ reply step. range-step layout lawful (Inner (Free v r)) reply v there.0 r there.1 old new step) hand is outcome same-range
-          (subst (λ (n : ℕ). IsHandFor (Free v n) hand → HasRunOn v (range_lens n) (Free v n) hand old.own outcome new.own) numbered ran is)
+          (λ reply step. range-step layout lawful (Inner (Free v r)) reply v there.0 r there.1 old new step) size hand is outcome same-range
+          (subst (λ (n : ℕ). IsHandFor old.own.range_blocks (Free v n) hand → HasRunOn v (range_lens n) (Free v n) hand old.own outcome new.own)
+          numbered ran (own-hand is))
 
-  pub fetch-runs : (v r : ℕ) (a : Affinity) → a ≡ Range v r → IsNode layout a → (hand : Hand) → IsHandFor (Fetch v r) hand → (old new : FilerRange P)
-      → HasFiler layout a (batches_in hand) (range_parcels layout a old) → (outcome : InnerOutcome) → UnlessDone outcome (new ≡ old)
+  pub fetch-runs : (v r : ℕ) (a : Affinity) → a ≡ Range v r → IsNode layout a → (hand : Hand) → IsHandFor (range_blocks_of layout v) (Fetch v r) hand → (old new : FilerRange P)
+      → HasSizedFiler layout a (batches_in hand) (range_parcels layout a old) → (outcome : InnerOutcome) → UnlessDone outcome (new ≡ old)
       → HasRunOn v (range_lens old.own.number) (Fetch v old.own.number) hand old.own outcome new.own
       → InnerHasRun (Fetch v r) hand layout a (range_parcels layout a old) outcome (range_parcels layout a new)
   fetch-runs v r a at there hand is old new filer outcome same ran =
-      subst (λ (b : Affinity). IsNode layout b → HasFiler layout b (batches_in hand) (range_parcels layout b old)
+      subst (λ (b : Affinity). IsNode layout b → HasSizedFiler layout b (batches_in hand) (range_parcels layout b old)
       → InnerHasRun (Fetch v r) hand layout b (range_parcels layout b old) outcome (range_parcels layout b new)) (sym at)
       (λ node has. fetch-ran v r node hand old has new outcome same is ran) there filer
 
-  pub free-asks : (v r : ℕ) (a : Affinity) → a ≡ Range v r → IsNode layout a → (hand : Hand) → IsHandFor (Free v r) hand → (old : FilerRange P)
-      → HasFiler layout a (batches_in hand) (range_parcels layout a old) → MayRunOn v (range_lens old.own.number) (Free v old.own.number) hand old.own
+  pub free-asks : (v r : ℕ) (a : Affinity) → a ≡ Range v r → IsNode layout a → (hand : Hand) → IsHandFor (range_blocks_of layout v) (Free v r) hand → (old : FilerRange P)
+      → HasSizedFiler layout a (batches_in hand) (range_parcels layout a old) → MayRunOn old.own.range_blocks v (range_lens old.own.number) (Free v old.own.number) hand old.own
   free-asks v r a at there hand is old filer =
-      subst (λ (b : Affinity). IsNode layout b → HasFiler layout b (batches_in hand) (range_parcels layout b old)
-      → MayRunOn v (range_lens old.own.number) (Free v old.own.number) hand old.own) (sym at)
+      subst (λ (b : Affinity). IsNode layout b → HasSizedFiler layout b (batches_in hand) (range_parcels layout b old)
+      → MayRunOn old.own.range_blocks v (range_lens old.own.number) (Free v old.own.number) hand old.own) (sym at)
       (λ node has. may-free v r node hand old has is) there filer
 
-  pub free-runs : (v r : ℕ) (a : Affinity) → a ≡ Range v r → IsNode layout a → (hand : Hand) → IsHandFor (Free v r) hand → (old new : FilerRange P)
-      → HasFiler layout a (batches_in hand) (range_parcels layout a old) → (outcome : InnerOutcome) → UnlessDone outcome (new ≡ old)
-      → (IsHandFor (Free v old.own.number) hand → HasRunOn v (range_lens old.own.number) (Free v old.own.number) hand old.own outcome new.own)
+  pub free-runs : (v r : ℕ) (a : Affinity) → a ≡ Range v r → IsNode layout a → (hand : Hand) → IsHandFor (range_blocks_of layout v) (Free v r) hand → (old new : FilerRange P)
+      → HasSizedFiler layout a (batches_in hand) (range_parcels layout a old) → (outcome : InnerOutcome) → UnlessDone outcome (new ≡ old)
+      → (IsHandFor old.own.range_blocks (Free v old.own.number) hand → HasRunOn v (range_lens old.own.number) (Free v old.own.number) hand old.own outcome new.own)
       → InnerHasRun (Free v r) hand layout a (range_parcels layout a old) outcome (range_parcels layout a new)
   free-runs v r a at there hand is old new filer outcome same ran =
-      subst (λ (b : Affinity). IsNode layout b → HasFiler layout b (batches_in hand) (range_parcels layout b old)
+      subst (λ (b : Affinity). IsNode layout b → HasSizedFiler layout b (batches_in hand) (range_parcels layout b old)
       → InnerHasRun (Free v r) hand layout b (range_parcels layout b old) outcome (range_parcels layout b new)) (sym at)
       (λ node has. free-ran v r node hand old has new outcome same is ran) there filer
 
   -- a survey changes nothing
-  pub survey-runs : (v : ℕ) (a : Affinity) → a ≡ Vbn v → IsNode layout a → (hand : Hand) → IsHandFor (Survey v) hand → (held : FilerVbn P)
+  pub survey-runs : (v : ℕ) (a : Affinity) → a ≡ Vbn v → IsNode layout a → (hand : Hand) → IsHandFor (range_blocks_of layout v) (Survey v) hand → (held : FilerVbn P)
       → (outcome : InnerOutcome) → HasRunOn v vbn_lens (Survey v) hand (vbn_set held) outcome (vbn_set held)
       → InnerHasRun (Survey v) hand layout a (vbn_parcels layout a held) outcome (vbn_parcels layout a held)
   survey-runs v a at there hand is held outcome ran =
@@ -135,7 +147,7 @@ module _ {P : Type 0} (layout : Layout) (lawful : fault_of layout ≡ None) wher
       (λ node.
       has-run layout (Survey v) node vbn_lens (λ s p. refl) (vbn_parcels layout (Vbn v) held) (vbn_parcels layout (Vbn v) held)
       (vbn_set held) (vbn_set held) (vbn-seen layout lawful v node held)
-      (λ reply step. vbn-step layout lawful (Inner (Survey v)) reply v node held held step) hand is outcome (unchanged outcome) ran) there
+      (λ reply step. vbn-step layout lawful (Inner (Survey v)) reply v node held held step) (range_blocks_of layout v) hand is outcome (unchanged outcome) ran) there
     where
       unchanged : (o : InnerOutcome) → UnlessDone o ((k : ℕ) → vbn_parcels layout (Vbn v) held k ≡ vbn_parcels layout (Vbn v) held k)
       unchanged (Done reply) = tt
@@ -144,69 +156,72 @@ module _ {P : Type 0} (layout : Layout) (lawful : fault_of layout ≡ None) wher
 
   -- on Logical
   module _ (v : ℕ) (there : IsNode layout (Logical v)) (hand : Hand) (old new : FilerLogical P)
-      (filer : HasFiler layout (Logical v) (batches_in hand) (logical_parcels layout (Logical v) old)) (outcome : InnerOutcome)
+      (filer : HasSizedFiler layout (Logical v) (batches_in hand) (logical_parcels layout (Logical v) old)) (outcome : InnerOutcome)
       (same : UnlessDone outcome (new ≡ old)) where
     striped : old.own.stripes ≡ stripes_of layout v
-    striped = (logical-has layout lawful (batches_in hand) v there old filer).0
+    striped = (logical-has layout lawful (batches_in hand) v there old filer.0).0
 
     same-logical : UnlessDone outcome ((k : ℕ) → logical_parcels layout (Logical v) new k ≡ logical_parcels layout (Logical v) old k)
     same-logical =
         unless-mapped outcome (new ≡ old) ((k : ℕ) → logical_parcels layout (Logical v) new k ≡ logical_parcels layout (Logical v) old k)
         (λ e k. ap (λ (h : FilerLogical P). logical_parcels layout (Logical v) h k) e) same
 
-    deliver-ran : IsHandFor (Deliver v) hand → HasRunOn v logical_lens (Deliver v) hand (logical_before old) outcome (logical_after old new)
+    deliver-ran : IsHandFor (range_blocks_of layout v) (Deliver v) hand → HasRunOn v logical_lens (Deliver v) hand (logical_before old) outcome (logical_after old new)
         → InnerHasRun (Deliver v) hand layout (Logical v) (logical_parcels layout (Logical v) old) outcome (logical_parcels layout (Logical v) new)
     deliver-ran is ran =
         has-run layout (Deliver v) there logical_lens (λ s p. refl) (logical_parcels layout (Logical v) old) (logical_parcels layout (Logical v) new)
         (logical_set (stripes_of layout v) old) (logical_set (stripes_of layout v) new) (logical-seen layout lawful v there old)
-        (λ reply step. logical-step layout lawful (Inner (Deliver v)) reply v there old new step) hand is outcome same-logical
+        (λ reply step. logical-step layout lawful (Inner (Deliver v)) reply v there old new step) (range_blocks_of layout v) hand is outcome same-logical
         (subst (λ (n : ℕ). HasRunOn v logical_lens (Deliver v) hand (logical_set n old) outcome (logical_set n new)) striped ran)
 
-    cull-ran : IsHandFor (Cull v) hand → HasRunOn v logical_lens (Cull v) hand (logical_before old) outcome (logical_after old new)
+    cull-ran : IsHandFor (range_blocks_of layout v) (Cull v) hand → HasRunOn v logical_lens (Cull v) hand (logical_before old) outcome (logical_after old new)
         → InnerHasRun (Cull v) hand layout (Logical v) (logical_parcels layout (Logical v) old) outcome (logical_parcels layout (Logical v) new)
     cull-ran is ran =
         has-run layout (Cull v) there logical_lens (λ s p. refl) (logical_parcels layout (Logical v) old) (logical_parcels layout (Logical v) new)
         (logical_set (stripes_of layout v) old) (logical_set (stripes_of layout v) new) (logical-seen layout lawful v there old)
-        (λ reply step. logical-step layout lawful (Inner (Cull v)) reply v there old new step) hand is outcome same-logical
+        (λ reply step. logical-step layout lawful (Inner (Cull v)) reply v there old new step) (range_blocks_of layout v) hand is outcome same-logical
         (subst (λ (n : ℕ). HasRunOn v logical_lens (Cull v) hand (logical_set n old) outcome (logical_set n new)) striped ran)
 
-  pub deliver-asks : (v : ℕ) (a : Affinity) → a ≡ Logical v → IsNode layout a → (hand : Hand) → IsHandFor (Deliver v) hand → (old : FilerLogical P)
-      → HasFiler layout a (batches_in hand) (logical_parcels layout a old) → MayRunOn v logical_lens (Deliver v) hand (logical_before old)
+  pub deliver-asks : (v : ℕ) (a : Affinity) → a ≡ Logical v → IsNode layout a → (hand : Hand) → IsHandFor (range_blocks_of layout v) (Deliver v) hand → (old : FilerLogical P)
+      → HasSizedFiler layout a (batches_in hand) (logical_parcels layout a old) → MayRunOn old.own.dead.range_blocks v logical_lens (Deliver v) hand (logical_before old)
   deliver-asks v a at there hand is old filer =
-      subst (λ (b : Affinity). IsNode layout b → HasFiler layout b (batches_in hand) (logical_parcels layout b old)
-      → MayRunOn v logical_lens (Deliver v) hand (logical_before old)) (sym at)
-      (λ node has. (is, (logical-has layout lawful (batches_in hand) v node old has).1)) there filer
+      subst (λ (b : Affinity). IsNode layout b → HasSizedFiler layout b (batches_in hand) (logical_parcels layout b old)
+      → MayRunOn old.own.dead.range_blocks v logical_lens (Deliver v) hand (logical_before old)) (sym at)
+      (λ node has. (
+        subst (λ (m : ℕ). IsHandFor m (Deliver v) hand) (sym (logical-sized layout lawful (batches_in hand) v node old has)) is,
+        (logical-has layout lawful (batches_in hand) v node old has.0).1,
+      )) there filer
 
-  pub deliver-runs : (v : ℕ) (a : Affinity) → a ≡ Logical v → IsNode layout a → (hand : Hand) → IsHandFor (Deliver v) hand → (old new : FilerLogical P)
-      → HasFiler layout a (batches_in hand) (logical_parcels layout a old) → (outcome : InnerOutcome) → UnlessDone outcome (new ≡ old)
+  pub deliver-runs : (v : ℕ) (a : Affinity) → a ≡ Logical v → IsNode layout a → (hand : Hand) → IsHandFor (range_blocks_of layout v) (Deliver v) hand → (old new : FilerLogical P)
+      → HasSizedFiler layout a (batches_in hand) (logical_parcels layout a old) → (outcome : InnerOutcome) → UnlessDone outcome (new ≡ old)
       → HasRunOn v logical_lens (Deliver v) hand (logical_before old) outcome (logical_after old new)
       → InnerHasRun (Deliver v) hand layout a (logical_parcels layout a old) outcome (logical_parcels layout a new)
   deliver-runs v a at there hand is old new filer outcome same ran =
-      subst (λ (b : Affinity). IsNode layout b → HasFiler layout b (batches_in hand) (logical_parcels layout b old)
+      subst (λ (b : Affinity). IsNode layout b → HasSizedFiler layout b (batches_in hand) (logical_parcels layout b old)
       → InnerHasRun (Deliver v) hand layout b (logical_parcels layout b old) outcome (logical_parcels layout b new)) (sym at)
       (λ node has. deliver-ran v node hand old new has outcome same is ran) there filer
 
-  pub cull-runs : (v : ℕ) (a : Affinity) → a ≡ Logical v → IsNode layout a → (hand : Hand) → IsHandFor (Cull v) hand → (old new : FilerLogical P)
-      → HasFiler layout a (batches_in hand) (logical_parcels layout a old) → (outcome : InnerOutcome) → UnlessDone outcome (new ≡ old)
+  pub cull-runs : (v : ℕ) (a : Affinity) → a ≡ Logical v → IsNode layout a → (hand : Hand) → IsHandFor (range_blocks_of layout v) (Cull v) hand → (old new : FilerLogical P)
+      → HasSizedFiler layout a (batches_in hand) (logical_parcels layout a old) → (outcome : InnerOutcome) → UnlessDone outcome (new ≡ old)
       → HasRunOn v logical_lens (Cull v) hand (logical_before old) outcome (logical_after old new)
       → InnerHasRun (Cull v) hand layout a (logical_parcels layout a old) outcome (logical_parcels layout a new)
   cull-runs v a at there hand is old new filer outcome same ran =
-      subst (λ (b : Affinity). IsNode layout b → HasFiler layout b (batches_in hand) (logical_parcels layout b old)
+      subst (λ (b : Affinity). IsNode layout b → HasSizedFiler layout b (batches_in hand) (logical_parcels layout b old)
       → InnerHasRun (Cull v) hand layout b (logical_parcels layout b old) outcome (logical_parcels layout b new)) (sym at)
       (λ node has. cull-ran v node hand old new has outcome same is ran) there filer
 
 -- ---- where no inner call is run
 
 -- on Vbn only a survey
-pub survey-hand : (call : InnerCall) (a : Affinity) → a ≡ inner_node call → kind_of a ≡ kinds.VolumeVbn → (hand : Hand) → IsHandFor call hand → hand ≡ Empty
-survey-hand (Survey v) a at kind hand is = is
-survey-hand (Fetch v r) a at kind hand is = absurd (let other : kinds.Range ≡ kinds.VolumeVbn = sym (ap kind_of at) ∙ kind in cc)
-survey-hand (Free v r) a at kind hand is = absurd (let other : kinds.Range ≡ kinds.VolumeVbn = sym (ap kind_of at) ∙ kind in cc)
-survey-hand (Deliver v) a at kind hand is = absurd (let other : kinds.VolumeLogical ≡ kinds.VolumeVbn = sym (ap kind_of at) ∙ kind in cc)
-survey-hand (Cull v) a at kind hand is = absurd (let other : kinds.VolumeLogical ≡ kinds.VolumeVbn = sym (ap kind_of at) ∙ kind in cc)
+pub survey-hand : (size : ℕ) (call : InnerCall) (a : Affinity) → a ≡ inner_node call → kind_of a ≡ kinds.VolumeVbn → (hand : Hand) → IsHandFor size call hand → hand ≡ Empty
+survey-hand size (Survey v) a at kind hand is = is
+survey-hand size (Fetch v r) a at kind hand is = absurd (let other : kinds.Range ≡ kinds.VolumeVbn = sym (ap kind_of at) ∙ kind in cc)
+survey-hand size (Free v r) a at kind hand is = absurd (let other : kinds.Range ≡ kinds.VolumeVbn = sym (ap kind_of at) ∙ kind in cc)
+survey-hand size (Deliver v) a at kind hand is = absurd (let other : kinds.VolumeLogical ≡ kinds.VolumeVbn = sym (ap kind_of at) ∙ kind in cc)
+survey-hand size (Cull v) a at kind hand is = absurd (let other : kinds.VolumeLogical ≡ kinds.VolumeVbn = sym (ap kind_of at) ∙ kind in cc)
 
 pub vbn-runs : {P : Type 0} (layout : Layout) (lawful : fault_of layout ≡ None) (call : InnerCall) (a : Affinity) → a ≡ inner_node call
-    → kind_of a ≡ kinds.VolumeVbn → IsNode layout a → (hand : Hand) → IsHandFor call hand → (held : FilerVbn P) (outcome : InnerOutcome)
+    → kind_of a ≡ kinds.VolumeVbn → IsNode layout a → (hand : Hand) → IsHandFor (range_blocks_of layout (inner_volume call)) call hand → (held : FilerVbn P) (outcome : InnerOutcome)
     → ((v : ℕ) → HasRunOn v vbn_lens (Survey v) hand (vbn_set held) outcome (vbn_set held))
     → InnerHasRun call hand layout a (vbn_parcels layout a held) outcome (vbn_parcels layout a held)
 vbn-runs layout lawful (Survey v) a at kind there hand is held outcome ran = survey-runs layout lawful v a at there hand is held outcome (ran v)

@@ -6,7 +6,7 @@ use Rattle.std.specs.FinMap as maps
 use Rattle.std.specs.FinMap.{entries}
 use Rattle.std.specs.FinSet.{contains, contains-empty}
 use Rattle.nfs_model.specs.Tree.{Layout, Affinity, Serial, Aggregate, Volume, Logical, Stripe, Vbn, Range, stripes_of, aggregate_of}
-use Rattle.nfs_model.specs.Parts.{Hand, one_if, times_listed, most_ranges, range_blocks}
+use Rattle.nfs_model.specs.Parts.{Hand, one_if, times_listed, most_ranges}
 use Rattle.nfs_model.specs.volume.Stripes.{FileBlock, Block}
 use Rattle.nfs_model.specs.volume.Ranges.{RangeValue}
 use Rattle.affinity.specs.Ancestors.{Covers}
@@ -53,7 +53,7 @@ abbrev times_stock : ℕ → One → ℕ
 times_stock n x = one_if (contains (logical_in x).stock n)
 
 abbrev times_dead : ℕ → One → ℕ
-times_dead n x = one_if (contains (logical_in x).dead n)
+times_dead n x = one_if (contains (logical_in x).dead.blocks n)
 
 abbrev times_free : ℕ → One → ℕ
 times_free n x = one_if (contains (range_in x).free n)
@@ -195,7 +195,7 @@ pub grants-once : GrantsHaveEachBlockOnce
 grants-once layout seat node f hand of there exact left own v on n =
     let less = less-times layout f (as_left layout seat of node f left) (left-or-nothing layout seat of node f left there exact) v n on in
     let once = left-once layout (as_left layout seat of node f left) left.1.hands (length left.0) (left-good layout seat of node f left) v on n in
-    let total_n = nat_lt n (range_blocks * ranges_used (contents_of layout (as_left layout seat of node f left) v).ranges) in
+    let total_n = nat_lt n ((contents_of layout (as_left layout seat of node f left) v).logical.dead.range_blocks * ranges_used (contents_of layout (as_left layout seat of node f left) v).ranges) in
     let most = at-most-one total_n in
     let mine = same-weight (entries_of seat) hand left.1.hand own left.1.own_hand (times_in_hand v n) in
     let all = left.1.together (times_in_hand v n) in
@@ -210,8 +210,8 @@ whole-grants layout seat f hands of left are v on n =
     let once = left-once layout g left.1.hands (length left.0) good v on n in
     let weight = same-weight left.0 hands left.1.hands are left.1.all_hands (times_in_hand v n) in
     let left_so : times_in n (contents_of layout g v) + total (times_in_hand v n) hands
-    ≡ one_if (nat_lt n (range_blocks * ranges_used (contents_of layout g v).ranges)) = omega (arith, once, weight) in
-    subst (λ (p : VolumeContents). times_in n p + total (times_in_hand v n) hands ≡ one_if (nat_lt n (range_blocks * ranges_used p.ranges))) (sym same) left_so
+    ≡ one_if (nat_lt n ((contents_of layout g v).logical.dead.range_blocks * ranges_used (contents_of layout g v).ranges)) = omega (arith, once, weight) in
+    subst (λ (p : VolumeContents). times_in n p + total (times_in_hand v n) hands ≡ one_if (nat_lt n (p.logical.dead.range_blocks * ranges_used p.ranges))) (sym same) left_so
 
 pub closed-depots : ClosedDepotsHaveAllBlocks
 closed-depots layout seat f hands of closed are v on n =
@@ -224,5 +224,5 @@ closed-depots layout seat f hands of closed are v on n =
     let once = left-once layout g closed.2.0 (length seat.seen) good v on n in
     let weight = same-weight (entries_of seat) hands closed.2.0 are closed.2.1 (times_in_hand v n) in
     let left_so : times_in n (contents_of layout g v) + total (times_in_hand v n) hands
-    ≡ one_if (nat_lt n (range_blocks * ranges_used (contents_of layout g v).ranges)) = omega (arith, once, weight) in
-    subst (λ (p : VolumeContents). times_in n p + total (times_in_hand v n) hands ≡ one_if (nat_lt n (range_blocks * ranges_used p.ranges))) (sym same) left_so
+    ≡ one_if (nat_lt n ((contents_of layout g v).logical.dead.range_blocks * ranges_used (contents_of layout g v).ranges)) = omega (arith, once, weight) in
+    subst (λ (p : VolumeContents). times_in n p + total (times_in_hand v n) hands ≡ one_if (nat_lt n (p.logical.dead.range_blocks * ranges_used p.ranges))) (sym same) left_so

@@ -12,9 +12,9 @@ use Rattle.service.specs.declared.inner.InnerOutcome.TheVariants.{Done, Refused,
 use Rattle.service.specs.Jobs.{job_reply_of}
 use Rattle.service.specs.Inner.{IsHandFor, MayLackMemory}
 
--- the call's batch is in the hand, if it gives one, and some sound volume, which has that in a hand, has this part
-abbrev pub MayRunOn : {S : Type 0} → ℕ → Lens VolumeContents S → InnerCall → Hand → S → Type 0
-MayRunOn v lens call hand old = IsHandFor call hand × HasVolume v lens (batches_in hand) old
+-- the call's batch, by ranges of so many blocks, is in the hand, if it gives one, and some sound volume, which has that in a hand, has this part
+abbrev pub MayRunOn : {S : Type 0} → (size v : ℕ) → Lens VolumeContents S → InnerCall → Hand → S → Type 0
+MayRunOn size v lens call hand old = IsHandFor size call hand × HasVolume v lens (batches_in hand) old
 
 -- What its run comes to: it is right, takes a batch of its volume alone, and gives all that was in the hand; or it is refused; or
 -- there is no memory, and the hand is given back.

@@ -19,7 +19,7 @@ use nfs_values::VolumeNumber;
 use parcels::{
     AggrHeld, Hand, LogicalHeld, Parcel, RangeHeld, SerialHeld, StripeHeld, VbnHeld, VolumeHeld,
 };
-use service_batches::{cull, deliver, fetch, free, survey};
+use service_batches::{cull, deliver, fetch, free, has_enough, survey};
 use std::alloc::Global;
 use vbn_ranges::Batch;
 
@@ -121,15 +121,18 @@ fn fetch_into(hand: BatchInHand, volume: VolumeNumber, held: &mut RangeHeld<File
 
 /// Gives the dead blocks that are in a hand back to their range.
 fn free_from(hand: BatchInHand, held: &mut RangeHeld<Files>) -> InnerOutcome
-    requires { let r = held.old.own.number in
-        (v : ℕ) × MayRunOn v (range_lens r) (jobs.Free v r) hand held.old.own }
-    ensures runs { let r = held.old.own.number in (v : ℕ) → IsHandFor (jobs.Free v r) hand
+    requires { let r = held.old.own.number in let size = held.old.own.range_blocks in
+        (v : ℕ) × MayRunOn size v (range_lens r) (jobs.Free v r) hand held.old.own }
+    ensures runs { let r = held.old.own.number in let size = held.old.own.range_blocks in
+        (v : ℕ) → IsHandFor size (jobs.Free v r) hand
         → HasRunOn v (range_lens r) (jobs.Free v r) hand held.old.own result held.new.own }
     ensures unless { UnlessDone result (held.new ≡ held.old) }
 {
+    let has_enough = hand.has_enough();
     let (volume, batch) = dead_batch(hand);
     free(held, &batch);
-    InnerOutcome::Done(JobReply::Gave(BatchInHand::new(Hand::Dead { volume, batch })))
+    let given = BatchInHand::new(Hand::Dead { volume, batch });
+    InnerOutcome::Done(JobReply::Gave(given.seen(has_enough)))
 }
 
 /// Tells how many blocks are free, with an empty hand.
@@ -146,16 +149,18 @@ fn survey_with(alloc: Global, hand: BatchInHand, held: &VbnHeld<Files>) -> Inner
 
 /// Delivers the fresh blocks that are in a hand to the stock.
 fn deliver_from(hand: BatchInHand, held: &mut LogicalHeld<Files>) -> InnerOutcome
-    requires { (v : ℕ) × MayRunOn v logical_lens
-        (jobs.Deliver v) hand (logical_before held.old) }
-    ensures runs { (v : ℕ) → IsHandFor (jobs.Deliver v) hand → HasRunOn v logical_lens
+    requires { let size = (logical_before held.old).own.dead.range_blocks in (v : ℕ)
+        × MayRunOn size v logical_lens (jobs.Deliver v) hand (logical_before held.old) }
+    ensures runs { let size = (logical_before held.old).own.dead.range_blocks in
+        (v : ℕ) → IsHandFor size (jobs.Deliver v) hand → HasRunOn v logical_lens
         (jobs.Deliver v) hand (logical_before held.old) result (logical_after held.old held.new) }
     ensures unless { UnlessDone result (held.new ≡ held.old) }
     ensures alike { logical_alike held.old held.new }
 {
     let (volume, batch) = fresh_batch(hand);
     let delivered = deliver(held, &batch);
-    let hand = BatchInHand::new(Hand::Fresh { volume, batch });
+    let given = BatchInHand::new(Hand::Fresh { volume, batch });
+    let hand = given.seen(has_enough(held));
     match delivered {
         Ok(()) => InnerOutcome::Done(JobReply::Gave(hand)),
         Err(_) => InnerOutcome::NoMemory(hand),
@@ -172,7 +177,8 @@ fn cull_into(hand: BatchInHand, volume: VolumeNumber, held: &mut LogicalHeld<Fil
 {
     drop(hand);
     let batch = cull(held);
-    InnerOutcome::Done(JobReply::Took(dead_hand(volume, batch)))
+    let taken = dead_hand(volume, batch);
+    InnerOutcome::Done(JobReply::Took(taken.seen(has_enough(held))))
 }
 
 /// A hand with free blocks of a volume; without a block it is empty.

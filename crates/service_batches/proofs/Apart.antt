@@ -1,6 +1,6 @@
 -- Blocks that are put down are nowhere else: what follows from the partition of their volume with their batch in a hand.
 use Rattle.std.proofs.Common.{◌≡◌, ℕ, zero, suc, ◌+◌, ◌*◌, ◌<◌, nat_lt, ◌≤◌, ◌||◌, Bool, true}
-use Rattle.std.proofs.Common.{false, List, [], ◌∷◌, length, refl, sym, ap, ◌∙◌, subst, arith, eq-eqb}
+use Rattle.std.proofs.Common.{false, List, [], ◌∷◌, length, refl, sym, ap, ◌∙◌, arith, eq-eqb}
 use Rattle.std.specs.Prelude.{◌==◌, if◌then◌else◌, slice_index_or}
 use Rattle.std.proofs.lemmas.Bool.Decides.{nat_tests}
 use Rattle.std.proofs.lemmas.List.{get_or-set_same}
@@ -9,7 +9,7 @@ use Rattle.std.specs.Ordering.{nat_cmp}
 use Rattle.std.specs.Cmp.{nat_cmp_total}
 use Rattle.std.specs.FinSet as sets
 use Rattle.std.specs.FinSet.{FinSet, contains, from_list, contains-empty, contains-union}
-use Rattle.nfs_model.specs.Parts.{Fresh, Dead, IsBatch, range_of, one_if, times_listed, range_blocks, most_ranges}
+use Rattle.nfs_model.specs.Parts.{Fresh, Dead, IsBatch, one_if, times_listed, most_ranges}
 use Rattle.nfs_laws.specs.lemmas.Counting.{contains_listed}
 use Rattle.depot_rule.specs.Sums.{total}
 use Rattle.nfs_model.specs.volume.Ranges.{RangeValue, MayBeGiven, given, with_numbers}
@@ -65,23 +65,20 @@ not-in-stock v blocks set h = all-apart (contains set.own.stock) blocks (λ n so
         let weighed = h.7 (times_in_hand p.number n) in
         let mine : times_in_hand p.number n (Fresh v blocks) ≡ times_listed n blocks =
         ap (λ (b : Bool). times_listed n (if b then blocks else [])) (eq-eqb p.number v h.5) in
-        let most = one-at-most (nat_lt n (range_blocks * ranges_used p.ranges)) in
+        let most = one-at-most (nat_lt n (p.logical.dead.range_blocks * ranges_used p.ranges)) in
         ap (λ (s : LogicalSet). contains s.own.stock n) (sym h.4)
         ∙ not-both (contains p.logical.stock n) (times_listed n blocks)
-        (one_if (nat_lt n (range_blocks * ranges_used p.ranges))) (omega (arith, once, weighed, mine)) most some
+        (one_if (nat_lt n (p.logical.dead.range_blocks * ranges_used p.ranges))) (omega (arith, once, weighed, mine)) most some
 
 -- ---- a dead one
 
-module _ (v : ℕ) (blocks : List ℕ) (x : RangeValue) (some : 0 < length blocks) (batch : IsBatch (range_of blocks) blocks)
-    (of : range_of blocks ≡ x.number) (less : x.number < most_ranges) (h : HasVolume v (range_lens x.number) (Dead v blocks ∷ []) x) where
+module _ (v : ℕ) (blocks : List ℕ) (x : RangeValue) (some : 0 < length blocks)
+    (batch : IsBatch x.range_blocks x.number blocks) (less : x.number < most_ranges) (h : HasVolume v (range_lens x.number) (Dead v blocks ∷ []) x) where
   abbrev p : VolumeContents
   p = h.0
 
   there : x.number < length p.ranges
   there = let size = h.8.well_formed.sixteen in omega (arith, size, less)
-
-  here : IsBatch x.number blocks
-  here = subst (λ (r : ℕ). IsBatch r blocks) of batch
 
   -- none of it is free
   not-free : (n : ℕ) → 0 < times_listed n blocks → contains x.free n ≡ false
@@ -90,10 +87,10 @@ module _ (v : ℕ) (blocks : List ℕ) (x : RangeValue) (some : 0 < length block
       let weighed = h.7 (times_in_hand p.number n) in
       let mine : times_in_hand p.number n (Dead v blocks) ≡ times_listed n blocks =
       ap (λ (b : Bool). times_listed n (if b then blocks else [])) (eq-eqb p.number v h.5) in
-      let most = one-at-most (nat_lt n (range_blocks * ranges_used p.ranges)) in
+      let most = one-at-most (nat_lt n (p.logical.dead.range_blocks * ranges_used p.ranges)) in
       let one = summand (λ (y : RangeValue). one_if (contains y.free n)) p.ranges x.number no_range there in
       ap (λ (y : RangeValue). contains y.free n) (sym h.4)
-      ∙ not-both (contains (range_at p.ranges x.number).free n) (times_listed n blocks) (one_if (nat_lt n (range_blocks * ranges_used p.ranges)))
+      ∙ not-both (contains (range_at p.ranges x.number).free n) (times_listed n blocks) (one_if (nat_lt n (p.logical.dead.range_blocks * ranges_used p.ranges)))
       (omega (arith, once, weighed, mine, one)) most listed
 
   -- the range is in use, since with the batch it has free blocks and is sound
@@ -106,7 +103,7 @@ module _ (v : ℕ) (blocks : List ℕ) (x : RangeValue) (some : 0 < length block
 
       nothing : with_numbers blocks x.free ≡ sets.empty
       nothing =
-          let right = free-right v x.number less blocks some here x p h.1 h.2 h.3 h.4 h.5 h.8 h.7 in
+          let right = free-right v x.number less blocks some x batch p h.1 h.2 h.3 h.4 h.5 h.8 h.7 in
           let fits = right.1.well_formed.ranges x.number (let size = right.1.well_formed.sixteen in omega (arith, size, less)) in
           let at = get_or-set_same p.ranges x.number (given blocks x) no_range there in
           ap (λ (y : RangeValue). y.free) (sym at) ∙ fits.free.used (ap (λ (y : RangeValue). y.is_used) at ∙ e)
@@ -123,4 +120,4 @@ module _ (v : ℕ) (blocks : List ℕ) (x : RangeValue) (some : 0 < length block
 
   -- it may be given back
   pub may-be-given : MayBeGiven blocks x
-  may-be-given = record { used = is-used x.is_used refl; batch = here; apart = all-apart (contains x.free) blocks not-free }
+  may-be-given = record { used = is-used x.is_used refl; batch = batch; apart = all-apart (contains x.free) blocks not-free }

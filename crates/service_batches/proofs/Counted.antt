@@ -7,14 +7,14 @@ use Rattle.std.specs.Prelude.{if◌then◌else◌}
 use Rattle.std.specs.FinSet.{contains}
 use Rattle.std.specs.List.{filter, range_with_len}
 use Rattle.nfs_model.specs.Moves.{in_range}
-use Rattle.nfs_model.specs.Parts.{most_ranges, range_blocks}
+use Rattle.nfs_model.specs.Parts.{most_ranges}
 use Rattle.nfs_model.specs.volume.Ranges.{RangeValue, free_numbers}
 use Rattle.filer_state.specs.state.Contents.{VolumeContents, each}
 use Rattle.filer_state.specs.state.Parcels.{no_range}
 use Rattle.filer_state.specs.state.Partition.{free_in}
 use Rattle.filer_state.specs.state.Tree.{ranges_used}
 use Rattle.filer_state.specs.state.WellFormed.{WellFormed, range_at}
-use Rattle.filer_state.specs.laws.lemmas.Culling.{free_counts}
+use Rattle.filer_state.specs.laws.lemmas.Culling.{counts_by, free_counts}
 use Rattle.filer_state.specs.laws.lemmas.Each.{each-index}
 use Rattle.filer_state.specs.laws.lemmas.Fetching.{in-range-at}
 use Rattle.filer_state.specs.laws.lemmas.Limits.{ranges-fit}
@@ -24,8 +24,11 @@ module _ (p : VolumeContents) (well : WellFormed p) (range : ℕ → RangeValue)
   abbrev used : ℕ
   used = ranges_used p.ranges
 
+  abbrev blocks : ℕ
+  blocks = p.logical.dead.range_blocks
+
   abbrev free_count : ℕ → ℕ
-  free_count r = length (in_range r (free_in p.ranges))
+  free_count r = length (in_range blocks r (free_in p.ranges))
 
   abbrev counts_to : ℕ → List ℕ
   counts_to n = map free_count (range_with_len 0 n)
@@ -39,7 +42,7 @@ module _ (p : VolumeContents) (well : WellFormed p) (range : ℕ → RangeValue)
       let on : r < length p.ranges = (let size = well.sixteen in omega (arith, size, less)) in
       let fits = well.ranges r on in
       let mine : length (free_numbers (range_at p.ranges r)) ≡ free_count r =
-      ap (λ (k : ℕ). length (in_range k (range_at p.ranges r).free)) fits.number ∙ ap (λ (l : List ℕ). length l) (sym (in-range-at p well r on)) in
+      (λ j. length (in_range (fits.blocks j) (fits.number j) (range_at p.ranges r).free)) ∙ ap (λ (l : List ℕ). length l) (sym (in-range-at p well r on)) in
       ap count_shown (range-is r less) ∙ (λ j. if fits.in_use j then Some (mine j) else None)
 
   -- those of the first n ranges
@@ -65,7 +68,8 @@ module _ (p : VolumeContents) (well : WellFormed p) (range : ℕ → RangeValue)
       let few = ranges-fit p.ranges in
       let size = well.sixteen in
       let all : min most_ranges used ≡ used = grind (arith, few, size) in
-      counts-are most_ranges (omega arith) ∙ ap counts_to all
+      let first = well.ranges 0 (omega (arith, size)) in
+      counts-are most_ranges (omega arith) ∙ ap counts_to all ∙ ap (λ (k : ℕ). counts_by k p.ranges) (sym first.blocks)
 
 -- a range has few numbers that are free
 few-pass : (test : ℕ → Bool) (a n : ℕ) → length (filter test (range_with_len a n)) ≤ n
@@ -77,6 +81,6 @@ few-pass test a (suc n) = by (test a) (few-pass test (a + 1) n)
     by true rest = omega (arith, rest)
     by false rest = omega (arith, rest)
 
-pub few-free : (x : RangeValue) → length (free_numbers x) ≤ range_blocks
+pub few-free : (x : RangeValue) → length (free_numbers x) ≤ x.range_blocks
 unfolding in_range
-few-free x = few-pass (contains x.free) (range_blocks * x.number) range_blocks
+few-free x = few-pass (contains x.free) (x.range_blocks * x.number) x.range_blocks

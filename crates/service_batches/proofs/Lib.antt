@@ -1,3 +1,4 @@
 mod Apart
 mod Counted
 mod Right
+mod Stocked

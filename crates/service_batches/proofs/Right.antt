@@ -3,17 +3,16 @@ use Rattle.std.proofs.Common.{◌≡◌, ℕ, ◌+◌, ◌<◌, Bool, true, fals
 use Rattle.std.specs.Prelude.{OnOk}
 use Rattle.std.specs.FinSet.{FinSet}
 use Rattle.std.specs.Ordering.{nat_cmp}
-use Rattle.nfs_model.specs.Moves.{lowest_batch}
 use Rattle.nfs_model.specs.Parts.{IsBatch, most_ranges, most_carried, range_of}
 use Rattle.nfs_model.specs.volume.Logical.{LogicalValue}
-use Rattle.nfs_model.specs.volume.Ranges.{RangeValue, lowest, taken, given, with_numbers, without_numbers}
+use Rattle.nfs_model.specs.volume.Ranges.{RangeValue, DeadValue, lowest, taken, given, with_numbers, dead_taken}
 use Rattle.filer_state.specs.state.Calls.{DoesInnerOn}
 use Rattle.filer_state.specs.state.Contents.{VolumeContents}
 use Rattle.filer_state.specs.state.Jobs.{Survey, Surveyed}
 use Rattle.filer_state.specs.state.Lenses.{LogicalSet, vbn_lens}
 use Rattle.filer_state.specs.state.Sound.{IsSound}
 use Rattle.filer_state.specs.state.WellFormed.{WellFormed}
-use Rattle.filer_state.specs.laws.lemmas.Culling.{culled_from, cull-right, free_counts, survey-right}
+use Rattle.filer_state.specs.laws.lemmas.Culling.{culled_from, cull-right, free_counts, lowest_of, survey-right}
 use Rattle.filer_state.specs.laws.lemmas.Delivering.{deliver-right}
 use Rattle.filer_state.specs.laws.lemmas.Fetching.{fetch-right, fetch-refused}
 use Rattle.filer_state.specs.laws.lemmas.Freeing.{free-right}
@@ -30,29 +29,28 @@ fetch-left x less unused new left =
     subst (λ (y : RangeValue). FetchesHere x None y) (sym left) (λ v. fetch-refused v x.number less x unused)
 
 -- what is left of a range where a batch of it has come back
-pub free-done : (x : RangeValue) → x.number < most_ranges → (blocks : List ℕ) → 0 < length blocks → IsBatch (range_of blocks) blocks
-    → range_of blocks ≡ x.number
-    → (new : RangeValue) → new ≡ given blocks x → FreesHere blocks x new
-free-done x less blocks some batch of new left =
+pub free-done : (x : RangeValue) → x.number < most_ranges → (blocks : List ℕ) → 0 < length blocks
+    → IsBatch x.range_blocks x.number blocks → (new : RangeValue) → new ≡ given blocks x → FreesHere blocks x new
+free-done x less blocks some batch new left =
     subst (λ (y : RangeValue). FreesHere blocks x y) (sym left)
-    (λ v. free-right v x.number less blocks some (subst (λ (r : ℕ). IsBatch r blocks) of batch) x)
+    (λ v. free-right v x.number less blocks some x batch)
 
 -- by what the parcel of Logical has
 pub deliver-done : (set : LogicalSet) (own : LogicalValue) (stock : FinSet nat_cmp) (blocks : List ℕ) → own ≡ set.own → 0 < length blocks
-    → IsBatch (range_of blocks) blocks → stock ≡ with_numbers blocks own.stock
+    → IsBatch set.own.dead.range_blocks (range_of set.own.dead.range_blocks blocks) blocks → stock ≡ with_numbers blocks own.stock
     → DeliversHere blocks set (record set { own = record own { stock = stock } })
 deliver-done set own stock blocks same some batch put =
     let left : record own { stock = stock } ≡ record set.own { stock = with_numbers blocks set.own.stock } =
     ap (λ (s : FinSet nat_cmp). record own { stock = s }) put ∙ ap (λ (o : LogicalValue). record o { stock = with_numbers blocks o.stock }) same in
     subst (λ (o : LogicalValue). DeliversHere blocks set (record set { own = o })) (sym left) (λ v. deliver-right v blocks set some batch)
 
-pub cull-done : (set : LogicalSet) (own : LogicalValue) (dead : FinSet nat_cmp) (blocks : List ℕ) → own ≡ set.own → blocks ≡ lowest_batch own.dead
-    → dead ≡ without_numbers (lowest_batch own.dead) own.dead → CullsHere set blocks (record set { own = record own { dead = dead } })
+pub cull-done : (set : LogicalSet) (own : LogicalValue) (dead : DeadValue) (blocks : List ℕ) → own ≡ set.own → blocks ≡ lowest_of own.dead
+    → dead ≡ dead_taken (lowest_of own.dead) own.dead → CullsHere set blocks (record set { own = record own { dead = dead } })
 cull-done set own dead blocks same took away =
-    let left : record own { dead = dead } ≡ record set.own { dead = without_numbers (lowest_batch set.own.dead) set.own.dead } =
-    ap (λ (d : FinSet nat_cmp). record own { dead = d }) away
-    ∙ ap (λ (o : LogicalValue). record o { dead = without_numbers (lowest_batch o.dead) o.dead }) same in
-    let lowest : lowest_batch set.own.dead ≡ blocks = sym (took ∙ ap (λ (o : LogicalValue). lowest_batch o.dead) same) in
+    let left : record own { dead = dead } ≡ record set.own { dead = dead_taken (lowest_of set.own.dead) set.own.dead } =
+    ap (λ (d : DeadValue). record own { dead = d }) away
+    ∙ ap (λ (o : LogicalValue). record o { dead = dead_taken (lowest_of o.dead) o.dead }) same in
+    let lowest : lowest_of set.own.dead ≡ blocks = sym (took ∙ ap (λ (o : LogicalValue). lowest_of o.dead) same) in
     subst (λ (o : LogicalValue). CullsHere set blocks (record set { own = o })) (sym left)
     (subst (λ (bs : List ℕ). CullsHere set bs (culled_from set)) lowest (λ v. cull-right v set))
 

@@ -9,6 +9,14 @@ use Rattle.filer_state.specs.state.Lenses.{LogicalSet, range_lens, vbn_lens, log
 use Rattle.filer_state.specs.state.Promises.{HasVolume}
 use Rattle.filer_state.specs.state.Running.{InnerRunsOn}
 
+-- the most numbers of a stock: none is delivered that would make it more
+abbrev pub most_stocked : ℕ
+most_stocked = 2097152
+
+-- so many are enough: a worker that was told so fetches none for it
+abbrev pub enough_stocked : ℕ
+enough_stocked = 1048576
+
 -- what a fetch comes to: its blocks come into the hand, or it is refused
 abbrev pub fetch_told : ℕ → Option (List ℕ) → Option JobReply
 fetch_told v None = None

@@ -43,5 +43,6 @@ fn count_in(place: &Option<RangeHeld<Files>>) -> Option<u32>
     if !range.is_used() {
         return None;
     }
+    let _blocks = range.range_blocks();
     Some(range.free_count() as u32)
 }

@@ -1,28 +1,53 @@
 //! Batches for the stock, and of the dead.
 
-ghost use Rattle.std.specs.Prelude.{◌≡◌, ◌<◌, length, OnOk, OnErr};
+ghost use Rattle.std.specs.Prelude.{◌≡◌, ◌<◌, ◌≤◌, length, nat_le, OnOk, OnErr};
+ghost use Rattle.std.specs.FinSet.{len};
+ghost use Rattle.nfs_model.specs.Parts.{range_of, IsBatch};
 ghost use Rattle.parcels.specs.Filled.{logical_alike};
 ghost use Rattle.filer_state.specs.state.Sets.{logical_before, logical_after};
 ghost use Rattle.service_batches.specs.Batches.{CullsHere, DeliversHere, MayDeliver};
+ghost use Rattle.service_batches.specs.Batches.{enough_stocked, most_stocked};
 
 use filer_state::Files;
 use parcels::LogicalHeld;
 use std::alloc::AllocError;
 use vbn_ranges::Batch;
 
+/// The most numbers of a stock: none is delivered that would make it more.
+const MOST_STOCKED: usize = 2_097_152;
+
+/// So many numbers of a stock are enough: 4 GiB of blocks.
+const ENOUGH_STOCKED: usize = 1_048_576;
+
 /// Deliver (our profile), on the parcels under Volume Logical: fresh blocks that were in a hand
-/// come into the stock. Where there is no memory for them nothing changes.
+/// come into the stock. Where there is no memory for them, or no room in a stock of 2,097,152
+/// numbers, nothing changes.
 pub fn deliver(held: &mut LogicalHeld<Files>, batch: &Batch) -> Result<(), AllocError>
     requires some { 0 < length batch.now }
+    requires batch { let size = (logical_before held.old).own.dead.range_blocks in
+        IsBatch size (range_of size batch.now) batch.now }
     requires carried { MayDeliver batch.now (logical_before held.old) }
     ensures right { OnOk result (DeliversHere batch.now
         (logical_before held.old) (logical_after held.old held.new)) }
+    ensures most { OnOk result
+        (len (logical_after held.old held.new).own.stock ≤ most_stocked) }
     ensures starved { OnErr result (held.new ≡ held.old) }
     ensures stripes { held.new.stripes ≡ held.old.stripes }
     ensures alike { logical_alike held.old held.new }
 {
-    let _blocks = batch.as_slice();
+    let count = batch.len();
+    let room = MOST_STOCKED.saturating_sub(held.own.get().stock.len());
+    if room < count {
+        return Err(AllocError);
+    }
     held.own.get_mut().stock.put(batch)
+}
+
+/// Whether the stock has enough numbers, so that none is to be fetched for it.
+pub fn has_enough(held: &LogicalHeld<Files>) -> bool
+    ensures { result ≡ nat_le enough_stocked (len (logical_before held.now).own.stock) }
+{
+    held.own.get().stock.len() >= ENOUGH_STOCKED
 }
 
 /// Cull (our profile), on the parcels under Volume Logical: the 64 lowest dead blocks of the range

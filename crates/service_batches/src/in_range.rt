@@ -1,7 +1,7 @@
 //! Batches of a range.
 
 ghost use Rattle.std.specs.Prelude.{◌≡◌, ◌<◌, length, IfNone};
-ghost use Rattle.nfs_model.specs.Parts.{range_of};
+ghost use Rattle.nfs_model.specs.Parts.{IsBatch};
 ghost use Rattle.service_batches.specs.Batches.{FetchesHere, FreesHere, MayFree};
 
 use filer_state::Files;
@@ -29,13 +29,12 @@ pub fn fetch(held: &mut RangeHeld<Files>) -> Option<Batch>
 /// again. It takes no memory.
 pub fn free(held: &mut RangeHeld<Files>, batch: &Batch)
     requires some { 0 < length batch.now }
-    requires range { range_of batch.now ≡ held.old.own.number }
+    requires batch { IsBatch held.old.own.range_blocks held.old.own.number batch.now }
     requires carried { MayFree batch.now held.old.own }
     ensures right { FreesHere batch.now held.old.own held.new.own }
 {
     let range = held.own.get_mut();
     let _number = range.number();
-    let _blocks = batch.as_slice();
     match range.give(batch) {
         Ok(()) => {}
         Err(_) => unreachable!(),

@@ -6,8 +6,7 @@ use Rattle.std.specs.List.{range_with_len}
 use Rattle.std.proofs.lemmas.List.FromFn.{length-range_with_len}
 use Rattle.std.specs.FinSet.{contains, len}
 use Rattle.nfs_model.specs.Moves.{in_range}
-use Rattle.nfs_model.specs.Parts.{range_blocks}
-use Rattle.nfs_model.specs.volume.Ranges.{RangeValue, free_numbers}
+use Rattle.nfs_model.specs.volume.Ranges.{IsRangeSize, RangeValue, free_numbers}
 use Rattle.filer_state.specs.state.Contents.{each}
 use Rattle.filer_state.specs.state.Sets.{FilerRange, range_value, placed}
 use Rattle.filer_state.specs.bytes.WritingUp.{free_count}
@@ -22,19 +21,20 @@ fewer {A} test (x ∷ xs) = by (test x) (fewer test xs)
     by false h = omega (arith, h)
 
 -- a range has at most its numbers free
-pub few-free : (r : RangeValue) → length (free_numbers r) ≤ 1024
+pub few-free : (r : RangeValue) → IsRangeSize r.range_blocks → length (free_numbers r) ≤ 16777216
 unfolding in_range
-few-free r =
-    let few = fewer (contains r.free) (range_with_len (range_blocks * r.number) range_blocks) in
-    let all = length-range_with_len (range_blocks * r.number) range_blocks in
-    omega (arith, few, all)
+few-free r size =
+    let few = fewer (contains r.free) (range_with_len (r.range_blocks * r.number) r.range_blocks) in
+    let all = length-range_with_len (r.range_blocks * r.number) r.range_blocks in
+    let most = size.most in
+    omega (arith, few, all, most)
 
 -- ---- places, counted one after another
 
 module _ (f : ℕ → RangeValue) (all : ℕ) where
   -- so many numbers are free before one, and all with those from it on
   abbrev pub FreeSoFar : ℕ → ℕ → Type 0
-  FreeSoFar at free = (free ≤ 1024 * at) × ((m : ℕ) → at + m ≡ 16 → free + free_count (each f at m) ≡ all)
+  FreeSoFar at free = (free ≤ 16777216 * at) × ((m : ℕ) → at + m ≡ 16 → free + free_count (each f at m) ≡ all)
 
   pub free-all : (at free : ℕ) → FreeSoFar at free → 16 ≤ at → at ≤ 16 → free ≡ all
   free-all at free sofar past most = let rest = sofar.1 0 (omega (arith, past, most)) in omega (arith, rest)
@@ -53,7 +53,7 @@ module _ {P : Type 0} (places : List (Option (FilerRange P))) (all at : ℕ) (le
   here-is : range_value (slice_index_or places at d) ≡ value_at at
   here-is = ap range_value (at-found places at d less)
 
-  pub free-more : (free here : ℕ) → FreeSoFar value_at all at free → here ≡ len (range_value (slice_index_or places at d)).free → here ≤ 1024
+  pub free-more : (free here : ℕ) → FreeSoFar value_at all at free → here ≡ len (range_value (slice_index_or places at d)).free → here ≤ 16777216
       → FreeSoFar value_at all (at + 1) (free + here)
   free-more free here sofar is few =
       let same : here ≡ len (value_at at).free = is ∙ ap (λ (r : RangeValue). len r.free) here-is in (

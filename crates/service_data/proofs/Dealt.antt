@@ -39,7 +39,7 @@ one-less n old new (inr (inl leaves)) =
     let put = total-put (λ r. len r.free) old.ranges leaves.range (taken (n ∷ []) (range_at old.ranges leaves.range)) leaves.within in
     omega (arith, less, now, put)
 one-less n old new (inr (inr leaves)) =
-    let less = len-less old.logical.own.dead n leaves.there in
+    let less = len-less old.logical.own.dead.blocks n leaves.there in
     let now = ap for_holes leaves.left in
     omega (arith, less, now)
 

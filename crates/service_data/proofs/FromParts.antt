@@ -5,6 +5,7 @@ use Rattle.std.specs.FinSet.{FinSet}
 use Rattle.std.specs.Ordering.{nat_cmp}
 use Rattle.nfs_model.specs.Types.{Moment}
 use Rattle.nfs_model.specs.volume.Logical.{LogicalValue}
+use Rattle.nfs_model.specs.volume.Ranges.{DeadValue}
 use Rattle.nfs_model.specs.volume.Stripes.{StripeValue}
 use Rattle.filer_state.specs.state.Contents.{each}
 use Rattle.filer_state.specs.state.Lenses.{VolumeSet}
@@ -21,7 +22,7 @@ use Rattle.service_data.proofs.Holed.{holes-rise, numbered-filled}
 -- ---- numbers leave, and all but the stock and the dead stays under Logical
 
 module _ {A : Type 0} (of : LogicalValue → A) (by_stock : (l : LogicalValue) (stock : FinSet nat_cmp) → of (stock_held stock l) ≡ of l)
-    (by_dead : (l : LogicalValue) (dead : FinSet nat_cmp) → of (record l { dead = dead }) ≡ of l) where
+    (by_dead : (l : LogicalValue) (dead : DeadValue) → of (record l { dead = dead }) ≡ of l) where
   one-keeps : (n : ℕ) (old new : VolumeSet) → LeavesOne n old new → of new.logical.own ≡ of old.logical.own
   one-keeps n old new (inl leaves) = ap (λ (s : VolumeSet). of s.logical.own) leaves.left ∙ by_stock old.logical.own _
   one-keeps n old new (inr (inl leaves)) = ap (λ (s : VolumeSet). of s.logical.own) leaves.left

@@ -9,7 +9,6 @@ use Rattle.std.specs.Option.{option_map}
 use Rattle.std.specs.FinSet as sets
 use Rattle.std.specs.FinSet.{FinSet, contains}
 use Rattle.nfs_model.specs.Moves.{in_range}
-use Rattle.nfs_model.specs.Parts.{range_blocks}
 use Rattle.nfs_values.specs.declared.number.BlockNumber.{BlockNumber}
 use Rattle.parcels.specs.Filled.{is_filled, AreFilledAlike}
 use Rattle.nfs_model.specs.volume.Ranges.{RangeValue, free_numbers, lowest, taken}
@@ -34,9 +33,9 @@ filter-head test (y ∷ ys) x xs e = by (test y) refl e (filter-head test ys x x
     by true h e rest = let same : y ≡ x = cc in ap test (sym same) ∙ h
     by false h e rest = rest e
 
-pub free-head : (number : ℕ) (free : FinSet nat_cmp) (x : ℕ) (xs : List ℕ) → in_range number free ≡ x ∷ xs → contains free x ≡ true
+pub free-head : (size number : ℕ) (free : FinSet nat_cmp) (x : ℕ) (xs : List ℕ) → in_range size number free ≡ x ∷ xs → contains free x ≡ true
 unfolding in_range
-free-head number free x xs e = filter-head (contains free) (range_with_len (range_blocks * number) range_blocks) x xs e
+free-head size number free x xs e = filter-head (contains free) (range_with_len (size * number) size) x xs e
 
 module _ (r : RangeValue) (new : RangeValue) (blocks : List BlockNumber) (batch : numbers blocks ≡ lowest 1 r) (some : length (free_numbers r) ≡ 0 → ⊥)
     (left : new ≡ taken (lowest 1 r) r) where
@@ -53,7 +52,7 @@ module _ (r : RangeValue) (new : RangeValue) (blocks : List BlockNumber) (batch 
       by None e = absurd cc
       by (Some n) e =
           let same : n.0 ≡ x = cc in
-          let there : contains r.free n.0 ≡ true = ap (contains r.free) same ∙ free-head r.number r.free x xs free in
+          let there : contains r.free n.0 ≡ true = ap (contains r.free) same ∙ free-head r.range_blocks r.number r.free x xs free in
           ((there, left ∙ ap (λ (l : List ℕ). taken l r) (low ∙ ap (λ (m : ℕ). m ∷ []) (sym same))), tt)
 
   module _ (o : Option BlockNumber) (is : o ≡ slice_get blocks 0) where

@@ -5,6 +5,7 @@ use Rattle.std.specs.Prelude.{if◌then◌else◌}
 use Rattle.std.specs.declared.alloc.AllocError.{AllocError}
 use Rattle.std.proofs.lemmas.Bool.{eqb-true}
 use Rattle.std.proofs.lemmas.List.{length-take, take_min}
+use Rattle.std.proofs.Math.Nat.{mul-le-mul_left}
 use Rattle.std.specs.FinMap.{get}
 use Rattle.nfs_model.specs.Types as types
 use Rattle.nfs_model.specs.Types.{WriteDone, Failed, Success}
@@ -21,6 +22,7 @@ use Rattle.nfs_model.specs.volume.lemmas.Inodes.{filled-within}
 use Rattle.nfs_model.specs.volume.Stripes.{Card}
 use Rattle.filer_state.specs.state.Lenses.{LogicalSet, logical_lens}
 use Rattle.filer_state.specs.state.Running.{RunsOn}
+use Rattle.filer_state.specs.state.Tree.{ranges_used}
 use Rattle.filer_state.specs.laws.lemmas.Limits.{used-fits, ranges-fit}
 use Rattle.filer_state.specs.bytes.WritingLaws.{write_call}
 use Rattle.filer_state.specs.bytes.WritingUpLaws.{LogicalWriteIsRight, LogicalWriteMayStarve}
@@ -155,15 +157,18 @@ module _ (fileid : ℕ) (w : Writing) (old : LogicalSet) (card : Option Card) (f
 -- ---- room for more blocks
 
 module _ (fileid : ℕ) (set : LogicalSet) (whole : IsHeld set) where
-  used-most : set.own.inodes.used ≤ 16384
+  used-most : set.own.inodes.used ≤ 268435456
   used-most =
       let p = whole.1.0 in
       let sound = whole.1.8 in
       let fits = used-fits p whole.1.1 sound.well_formed sound.partition in
       let ranges = ranges-fit p.ranges in
       let sixteen = sound.well_formed.sixteen in
+      let few : ranges_used p.ranges ≤ 16 = omega (arith, ranges, sixteen) in
+      let within = mul-le-mul_left p.logical.dead.range_blocks few in
+      let size = sound.well_formed.size.most in
       let same : p.logical.inodes.used ≡ set.own.inodes.used = ap (λ (s : LogicalSet). s.own.inodes.used) whole.1.4 in
-      omega (arith, fits, ranges, sixteen, same)
+      omega (arith, fits, within, size, same)
 
   pub has-room : HasRoom fileid set.own.inodes
   has-room = record {

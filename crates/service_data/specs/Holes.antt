@@ -70,7 +70,7 @@ inode_extended_in fileid end more l = record l { inodes = inodes_extended fileid
 -- Counts of blocks leave room for more.
 pub record HasRoom (fileid : ℕ) (v : InodesValue) : Type 0 where
   pub used : v.used < 9223372036854775808
-  pub filled : (inode : Inode) → get v.inodes fileid ≡ Some inode → filled_blocks inode.kind < 65536
+  pub filled : (inode : Inode) → get v.inodes fileid ≡ Some inode → filled_blocks inode.kind < 2147483648
 
 -- ---- all of it
 

@@ -7,7 +7,6 @@ ghost use Rattle.filer_state.specs.bytes.WritingUp.{all_blocks, for_holes, free_
 
 use filer_state::{Files, ranges_used};
 use parcels::{RangeHeld, VbnHeld, VolumeHeld};
-use vbn_ranges::RANGE_BLOCKS;
 
 /// Whether the filled blocks of all files, and so many holes, are more than all blocks of a volume.
 pub(crate) fn lacks_space(held: &VolumeHeld<Files>, holes: usize) -> bool
@@ -16,9 +15,9 @@ pub(crate) fn lacks_space(held: &VolumeHeld<Files>, holes: usize) -> bool
     ensures { result ≡ nat_lt (all_blocks (volume_before held.now))
         (held.now.logical.own.inodes.used + holes) }
 {
-    let used = held.logical.own.get().inodes.used();
-    let all = u64::from(RANGE_BLOCKS) * u64::from(ranges_used(&held.vbn));
-    all < used + holes as u64
+    let logical = held.logical.own.get();
+    let all = u64::from(logical.dead.range_blocks()) * u64::from(ranges_used(&held.vbn));
+    all < logical.inodes.used() + holes as u64
 }
 
 /// Whether the stock, the ranges and the dead of a volume have fewer blocks than so many.
@@ -46,10 +45,14 @@ fn count_free(held: &VbnHeld<Files>) -> usize
 /// How many numbers of the range in a place are free.
 fn free_in(place: &Option<RangeHeld<Files>>) -> usize
     ensures value { result ≡ len (range_value place.now).free }
-    ensures few { result ≤ 1024 }
+    ensures few { result ≤ 16777216 }
 {
     match place {
-        Some(range) => range.own.get().free_count(),
+        Some(range) => {
+            let range = range.own.get();
+            let _blocks = range.range_blocks();
+            range.free_count()
+        }
         None => 0,
     }
 }

@@ -1,13 +1,16 @@
 -- Blocks that leave a file, one after the other.
 use Rattle.std.proofs.Common.{◌≡◌, ℕ, suc, ◌-◌, Bool, true, false, ◌||◌, List, [], ◌∷◌, ◌++◌, length, refl, sym, ap, ◌∙◌, subst, arith}
-use Rattle.std.proofs.Common.{nat_eq}
+use Rattle.std.proofs.Common.{nat_eq, ◌+◌, ◌*◌, ◌<◌, length-append}
 use Rattle.std.specs.List.{list_any}
 use Rattle.std.specs.Ordering.{nat_cmp}
 use Rattle.std.specs.Cmp.{nat_cmp_total}
 use Rattle.std.specs.FinMap.{nat_cmp-IsAntisymmetric}
 use Rattle.std.specs.FinSet.{FinSet, contains, from_list, same_set, contains-union, contains-from_list_nat}
-use Rattle.nfs_model.specs.volume.Ranges.{with_numbers}
+use Rattle.nfs_model.specs.Parts.{most_ranges}
+use Rattle.nfs_model.specs.volume.Ranges.{DeadValue, with_numbers, dead_marked}
 use Rattle.nfs_model.specs.volume.Stripes.{StripeValue, cut, numbers_freed}
+use Rattle.nfs_values.specs.declared.number.BlockNumber.{BlockNumber}
+use Rattle.stripes.specs.Numbers.{numbers}
 use Rattle.service_names.specs.Changing.{AreNumbers}
 
 -- ---- numbers added to a set
@@ -56,32 +59,88 @@ added-before xs ys d = same (with_numbers xs (with_numbers ys d)) (with_numbers 
     has-more xs (with_numbers ys d) q ∙ ap (λ b. b || among xs q) (has-more ys d q) ∙ either (contains d q) (among ys q) (among xs q)
     ∙ ap (λ b. contains d q || b) (other (among ys q) (among xs q) ∙ sym (among-both xs ys q)) ∙ sym (has-more (xs ++ ys) d q))
 
--- ---- one stripe, block by block
+-- the same of dead blocks
+pub marked-none : (d : DeadValue) → dead_marked [] d ≡ d
+marked-none d j = record d { blocks = added-none d.blocks j }
+
+pub marked-then : (xs ys : List ℕ) (d : DeadValue) → dead_marked ys (dead_marked xs d) ≡ dead_marked (xs ++ ys) d
+marked-then xs ys d j = record d { blocks = added-then xs ys d.blocks j }
+
+pub marked-before : (xs ys : List ℕ) (d : DeadValue) → dead_marked xs (dead_marked ys d) ≡ dead_marked (xs ++ ys) d
+marked-before xs ys d j = record d { blocks = added-before xs ys d.blocks j }
+
+-- ---- the first of some numbers, and the rest
+
+module _ (b : BlockNumber) (blocks rest : List BlockNumber) (is : blocks ≡ b ∷ rest) where
+  pub first-number : (size : ℕ) → AreNumbers size (numbers blocks) → b.0 < most_ranges * size
+  first-number size are =
+      let all : AreNumbers size (b.0 ∷ numbers rest) = subst (λ (l : List BlockNumber). AreNumbers size (numbers l)) is are in
+      all.0
+
+  pub rest-numbers : (old mid : DeadValue) → mid ≡ dead_marked (b.0 ∷ []) old → AreNumbers old.range_blocks (numbers blocks)
+      → AreNumbers mid.range_blocks (numbers rest)
+  rest-numbers old mid marks are =
+      let all : AreNumbers old.range_blocks (b.0 ∷ numbers rest) =
+      subst (λ (l : List BlockNumber). AreNumbers old.range_blocks (numbers l)) is are in
+      subst (λ (d : DeadValue). AreNumbers d.range_blocks (numbers rest)) (sym marks) all.1
+
+  pub fewer-left : (filled fewer left : ℕ) → fewer ≡ filled - 1 → left ≡ fewer - length (numbers rest) → left ≡ filled - length (numbers blocks)
+  fewer-left filled fewer left one others =
+      let long : length (numbers blocks) ≡ suc (length (numbers rest)) = ap (λ (l : List BlockNumber). length (numbers l)) is in
+      omega (arith, one, others, long)
+
+  pub all-marked : (old mid new : DeadValue) → mid ≡ dead_marked (b.0 ∷ []) old → new ≡ dead_marked (numbers rest) mid
+      → new ≡ dead_marked (numbers blocks) old
+  all-marked old mid new first others =
+      others ∙ ap (dead_marked (numbers rest)) first ∙ marked-then (b.0 ∷ []) (numbers rest) old
+      ∙ ap (λ (l : List BlockNumber). dead_marked (numbers l) old) (sym is)
+
+pub none-fewer : (blocks : List BlockNumber) (filled : ℕ) → length blocks ≡ 0 → filled ≡ filled - length (numbers blocks)
+none-fewer [] filled none = refl
+none-fewer (b ∷ bs) filled none = absurd (omega arith)
+
+pub none-marked : (blocks : List BlockNumber) (dead : DeadValue) → length blocks ≡ 0 → dead ≡ dead_marked (numbers blocks) dead
+none-marked [] dead none = sym (marked-none dead)
+none-marked (b ∷ bs) dead none = absurd (omega arith)
+
+-- ---- one stripe, span by span
+
+numbers-parted : (blocks : ℕ) (xs ys : List ℕ) → AreNumbers blocks (xs ++ ys) → AreNumbers blocks xs × AreNumbers blocks ys
+numbers-parted blocks [] ys are = (tt, are)
+numbers-parted blocks (x ∷ xs) ys are = let rest = numbers-parted blocks xs ys are.1 in ((are.0, rest.0), rest.1)
 
 -- what has left a file and what is still to leave are all that was to leave
-pub record IsCutOn (fileid size : ℕ) (old : StripeValue) (dead : FinSet nat_cmp) (filled : ℕ) (now : StripeValue) (marked : FinSet nat_cmp)
+pub record IsCutOn (fileid size : ℕ) (old : StripeValue) (dead : DeadValue) (filled : ℕ) (now : StripeValue) (marked : DeadValue)
     (left : ℕ) : Type 0 where
-  pub numbers : AreNumbers (numbers_freed fileid size now)
+  pub numbers : AreNumbers marked.range_blocks (numbers_freed fileid size now)
   pub stays : left - length (numbers_freed fileid size now) ≡ filled - length (numbers_freed fileid size old)
-  pub added : with_numbers (numbers_freed fileid size now) marked ≡ with_numbers (numbers_freed fileid size old) dead
+  pub added : dead_marked (numbers_freed fileid size now) marked ≡ dead_marked (numbers_freed fileid size old) dead
   pub cuts : cut fileid size now ≡ cut fileid size old
 
-module _ (fileid size : ℕ) (old : StripeValue) (dead : FinSet nat_cmp) (filled : ℕ) where
-  pub cut-one : (now next : StripeValue) (marked more : FinSet nat_cmp) (left fewer n : ℕ) → IsCutOn fileid size old dead filled now marked left
-      → numbers_freed fileid size now ≡ n ∷ numbers_freed fileid size next → cut fileid size next ≡ cut fileid size now
-      → more ≡ with_numbers (n ∷ []) marked → fewer ≡ left - 1 → IsCutOn fileid size old dead filled next more fewer
-  cut-one now next marked more left fewer n is freed rest marks less =
-      let both = subst AreNumbers freed is.numbers in
-      let size_is : length (numbers_freed fileid size now) ≡ suc (length (numbers_freed fileid size next)) = ap length freed in
+module _ (fileid size : ℕ) (old : StripeValue) (dead : DeadValue) (filled : ℕ) where
+  -- what leaves first, and what is left, are numbers of the volume
+  pub both-numbers : (now next : StripeValue) (marked : DeadValue) (left : ℕ) (ns : List ℕ) → IsCutOn fileid size old dead filled now marked left
+      → numbers_freed fileid size now ≡ ns ++ numbers_freed fileid size next
+      → AreNumbers marked.range_blocks ns × AreNumbers marked.range_blocks (numbers_freed fileid size next)
+  both-numbers now next marked left ns is freed =
+      numbers-parted marked.range_blocks ns (numbers_freed fileid size next) (subst (AreNumbers marked.range_blocks) freed is.numbers)
+
+  pub cut-some : (now next : StripeValue) (marked more : DeadValue) (left fewer : ℕ) (ns : List ℕ) → IsCutOn fileid size old dead filled now marked left
+      → numbers_freed fileid size now ≡ ns ++ numbers_freed fileid size next → cut fileid size next ≡ cut fileid size now
+      → more ≡ dead_marked ns marked → fewer ≡ left - length ns → IsCutOn fileid size old dead filled next more fewer
+  cut-some now next marked more left fewer ns is freed rest marks less =
+      let both = both-numbers now next marked left ns is freed in
+      let size_is : length (numbers_freed fileid size now) ≡ length ns + length (numbers_freed fileid size next) =
+      ap length freed ∙ length-append ns (numbers_freed fileid size next) in
       let was = is.stays in
       record {
-        numbers = both.1;
+        numbers = subst (λ (d : DeadValue). AreNumbers d.range_blocks (numbers_freed fileid size next)) (sym marks) both.1;
         stays = omega arith;
-        added = ap (with_numbers (numbers_freed fileid size next)) marks ∙ added-then (n ∷ []) (numbers_freed fileid size next) marked
-            ∙ ap (λ ns. with_numbers ns marked) (sym freed) ∙ is.added;
+        added = ap (dead_marked (numbers_freed fileid size next)) marks ∙ marked-then ns (numbers_freed fileid size next) marked
+            ∙ ap (λ ns. dead_marked ns marked) (sym freed) ∙ is.added;
         cuts = rest ∙ is.cuts;
       }
 
-  pub cut-last : (now : StripeValue) (marked : FinSet nat_cmp) (left : ℕ) → IsCutOn fileid size old dead filled now marked left
-      → numbers_freed fileid size now ≡ [] → marked ≡ with_numbers (numbers_freed fileid size old) dead
-  cut-last now marked left is none = sym (added-none marked) ∙ ap (λ ns. with_numbers ns marked) (sym none) ∙ is.added
+  pub cut-last : (now : StripeValue) (marked : DeadValue) (left : ℕ) → IsCutOn fileid size old dead filled now marked left
+      → numbers_freed fileid size now ≡ [] → marked ≡ dead_marked (numbers_freed fileid size old) dead
+  cut-last now marked left is none = sym (marked-none marked) ∙ ap (λ ns. dead_marked ns marked) (sym none) ∙ is.added

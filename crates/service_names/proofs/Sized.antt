@@ -13,27 +13,27 @@ use Rattle.filer_state.specs.state.Sets.{FilerStripe, FilerLogical, stripe_value
 use Rattle.filer_state.specs.laws.lemmas.Each.{each-same, each-map, each-index}
 use Rattle.filer_state.specs.changes.NodesSized.{stripe_sized, all_freed}
 use Rattle.service_names.specs.Changing.{AreNumbers, MayBeSet, with_dead}
-use Rattle.service_names.proofs.Freed.{added-none, added-before}
+use Rattle.service_names.proofs.Freed.{marked-none, marked-before}
 use Rattle.service_names.proofs.Taking.{set-here, set-else, found-here, filled-as}
 
-numbers-left : (xs ys : List ℕ) → AreNumbers (xs ++ ys) → AreNumbers xs
-numbers-left [] ys are = tt
-numbers-left (x ∷ xs) ys are = (are.0, numbers-left xs ys are.1)
+numbers-left : (blocks : ℕ) (xs ys : List ℕ) → AreNumbers blocks (xs ++ ys) → AreNumbers blocks xs
+numbers-left blocks [] ys are = tt
+numbers-left blocks (x ∷ xs) ys are = (are.0, numbers-left blocks xs ys are.1)
 
-numbers-right : (xs ys : List ℕ) → AreNumbers (xs ++ ys) → AreNumbers ys
-numbers-right [] ys are = are
-numbers-right (x ∷ xs) ys are = numbers-right xs ys are.1
+numbers-right : (blocks : ℕ) (xs ys : List ℕ) → AreNumbers blocks (xs ++ ys) → AreNumbers blocks ys
+numbers-right blocks [] ys are = are
+numbers-right blocks (x ∷ xs) ys are = numbers-right blocks xs ys are.1
 
-module _ (fileid size : ℕ) where
+module _ (blocks fileid size : ℕ) where
   -- the numbers that leave one of the stripes
-  numbers-each : (f : ℕ → StripeValue) (from n i : ℕ) → from ≤ i → i < from + n → AreNumbers (all_freed fileid size (each f from n))
-      → AreNumbers (numbers_freed fileid size (f i))
+  numbers-each : (f : ℕ → StripeValue) (from n i : ℕ) → from ≤ i → i < from + n → AreNumbers blocks (all_freed fileid size (each f from n))
+      → AreNumbers blocks (numbers_freed fileid size (f i))
   numbers-each f from zero i low high are = absurd (omega arith)
   numbers-each f from (suc n) i low high are = ⊎_elim
-      (λ (e : i ≡ from). subst (λ (k : ℕ). AreNumbers (numbers_freed fileid size (f k))) (sym e)
-      (numbers-left (numbers_freed fileid size (f from)) (all_freed fileid size (each f (from + 1) n)) are))
+      (λ (e : i ≡ from). subst (λ (k : ℕ). AreNumbers blocks (numbers_freed fileid size (f k))) (sym e)
+      (numbers-left blocks (numbers_freed fileid size (f from)) (all_freed fileid size (each f (from + 1) n)) are))
       (λ (ne : i ≢ from). numbers-each f (from + 1) n i (omega (arith, ne)) (omega arith)
-      (numbers-right (numbers_freed fileid size (f from)) (all_freed fileid size (each f (from + 1) n)) are))
+      (numbers-right blocks (numbers_freed fileid size (f from)) (all_freed fileid size (each f (from + 1) n)) are))
       (cases_eq i from)
 
 module _ {P : Type 0} (fileid size n : ℕ) (old : List (Option (FilerStripe P))) (own : LogicalValue) (filled : ℕ) where
@@ -62,7 +62,7 @@ module _ {P : Type 0} (fileid size n : ℕ) (old : List (Option (FilerStripe P))
   }
     where
       dead : (m : ℕ) → n + m ≡ n → own ≡ with_dead (freed_from n m) own
-      dead zero e = λ j. record own { dead = sym (added-none own.dead) j }
+      dead zero e = λ j. record own { dead = sym (marked-none own.dead) j }
       dead (suc m) e = absurd (omega arith)
 
       stays : (m : ℕ) → n + m ≡ n → filled ≡ filled - length (freed_from n m)
@@ -103,7 +103,7 @@ module _ {P : Type 0} (fileid size n : ℕ) (old : List (Option (FilerStripe P))
       dead value (suc m) e =
           own_is ∙ ap (λ (s : StripeValue). with_dead (numbers_freed fileid size s) own_now) value
           ∙ ap (with_dead (numbers_freed fileid size (was i))) (t.dead m (omega arith))
-          ∙ (λ j. record own { dead = added-before (numbers_freed fileid size (was i)) (freed_from (i + 1) m) own.dead j })
+          ∙ (λ j. record own { dead = marked-before (numbers_freed fileid size (was i)) (freed_from (i + 1) m) own.dead j })
 
       stays : stripe_value was_here ≡ was i → (m : ℕ) → i + m ≡ n → next ≡ filled - length (freed_from i m)
       stays value zero e = absurd (omega arith)
@@ -142,6 +142,11 @@ module _ {P : Type 0} (fileid size n : ℕ) (old : List (Option (FilerStripe P))
       (ap stripe_value (sym is) ∙ ap (λ (m : ℕ). stripe_value (slice_index_or now m d)) down
       ∙ ap (λ o. stripe_value (in_one o)) (sym (found-here now i d (omega arith))) ∙ t.before i (omega arith))
 
+  -- the ranges of the dead have as many blocks as before
+  pub size-stays : (left : ℕ) (now : List (Option (FilerStripe P))) (own_now : LogicalValue) (rest : ℕ) → left ≤ n
+      → AreSizedFrom left now own_now rest → own_now.dead.range_blocks ≡ own.dead.range_blocks
+  size-stays left now own_now rest below t = ap (λ (l : LogicalValue). l.dead.range_blocks) (t.dead (n - left) (omega (arith, below)))
+
   -- all of them
   pub all-sized : (left : ℕ) (now : List (Option (FilerStripe P))) (own_now : LogicalValue) (rest : ℕ) → left ≤ 0 → AreSizedFrom left now own_now rest
       → (rest ≡ filled - length (all_freed fileid size (each was 0 n)))
@@ -157,10 +162,16 @@ module _ {P : Type 0} (fileid size n : ℕ) (old : List (Option (FilerStripe P))
   )
   all-sized (suc left) now own_now rest none t = absurd (omega arith)
 
+pub numbers-then : (blocks now fileid size : ℕ) (was here : StripeValue) → now ≡ blocks → here ≡ was → AreNumbers blocks (numbers_freed fileid size was)
+    → AreNumbers now (numbers_freed fileid size here)
+numbers-then blocks now fileid size was here same is are =
+    subst (λ (m : ℕ). AreNumbers m (numbers_freed fileid size here)) (sym same)
+    (subst (λ (s : StripeValue). AreNumbers blocks (numbers_freed fileid size s)) (sym is) are)
+
 module _ {P : Type 0} (held : FilerLogical P) (fileid size i : ℕ) (may : MayBeSet fileid (logical_before held)) (less : i < held.own.stripes) where
   pub card-of-place : IsSome (get (stripe_value (placed held.stripes.at i)).cards fileid)
   card-of-place = subst (λ (s : StripeValue). IsSome (get s.cards fileid))
       (each-index (λ k. stripe_value (placed held.stripes.at k)) no_stripe held.own.stripes i less) (may.cards i less)
 
-  pub numbers-of-place : AreNumbers (numbers_freed fileid size (stripe_value (placed held.stripes.at i)))
-  numbers-of-place = numbers-each fileid size (λ k. stripe_value (placed held.stripes.at k)) 0 held.own.stripes i (omega arith) (omega arith) (may.numbers size)
+  pub numbers-of-place : AreNumbers held.own.dead.range_blocks (numbers_freed fileid size (stripe_value (placed held.stripes.at i)))
+  numbers-of-place = numbers-each held.own.dead.range_blocks fileid size (λ k. stripe_value (placed held.stripes.at k)) 0 held.own.stripes i (omega arith) (omega arith) (may.numbers size)

@@ -2,11 +2,10 @@
 use Rattle.std.specs.Prelude.{◌≡◌, ℕ, ◌<◌, ◌≤◌, ◌^◌, ◌==◌, false, List, Some, None, IsSome, IfSome}
 use Rattle.std.specs.FinMap.{get, len, remove}
 use Rattle.nfs_model.specs.Types.{Moment, Shown, Wcc, Answer, MadeDone}
-use Rattle.nfs_model.specs.Server.{most_inodes}
 use Rattle.nfs_values.specs.Moment.{moment_of}
 use Rattle.inodes.specs.Inode.{inode_value}
 use Rattle.nfs_model.specs.volume.Directories.{found}
-use Rattle.nfs_model.specs.volume.Inodes.{InodeKind, Inode, IsInodes, inode_unmade}
+use Rattle.nfs_model.specs.volume.Inodes.{InodeKind, Inode, IsInodes, inode_unmade, inodes_of_a_volume}
 use Rattle.nfs_model.specs.volume.Logical.{LogicalValue}
 use Rattle.filer_state.specs.state.Lenses.{LogicalSet}
 use Rattle.filer_state.specs.state.Names.{root, subdirectories_in}
@@ -36,14 +35,15 @@ inode_dated inode made moment = record {
 }
 
 -- What making a node under a name takes: there are no more stripes than places, each with the root's card; inodes, fileids and cookies
--- have room for one more; the directory is there, and doesn't have the name; the next fileid is that of no inode, no directory and no
+-- have room for one more, by the volume's own limit, which is one that a volume may have; the directory is there, and doesn't have the name; the next fileid is that of no inode, no directory and no
 -- card.
 pub record MayMake (n : HeldNaming) : Type 0 where
   pub few : n.set.own.stripes ≤ 16
   pub root_there : (i : ℕ) → i < n.set.own.stripes → IsSome (get (stripe_at n.set.stripes i).cards root)
   pub fileids : n.set.own.inodes.next < 2 ^ 63
-  pub room : len n.set.own.inodes.inodes < most_inodes
-  pub links : IfSome (subdirectories_in n.inode.kind) (λ subdirectories. subdirectories < most_inodes)
+  pub room : len n.set.own.inodes.inodes < n.set.own.most_inodes
+  pub most : n.set.own.most_inodes ≤ inodes_of_a_volume
+  pub links : IfSome (subdirectories_in n.inode.kind) (λ subdirectories. subdirectories < inodes_of_a_volume)
   pub entered : get n.set.own.directories n.fileid ≡ Some n.entries
   pub cookies : n.entries.next < 2 ^ 63
   pub absent : found n.entries n.name ≡ None

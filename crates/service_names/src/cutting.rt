@@ -3,14 +3,15 @@
 ghost use Rattle.std.specs.Prelude.{◌≡◌, ◌-◌, length, is_some, map, IsSome};
 ghost use Rattle.std.specs.FinMap.{get};
 ghost use Rattle.parcels.specs.Filled.{logical_alike};
-ghost use Rattle.nfs_model.specs.volume.Ranges.{with_numbers};
+ghost use Rattle.nfs_model.specs.volume.Ranges.{dead_marked};
 ghost use Rattle.nfs_model.specs.volume.Stripes.{cut, numbers_freed};
 ghost use Rattle.filer_state.specs.changes.NodesSized.{all_freed, stripe_sized};
 ghost use Rattle.filer_state.specs.state.Sets.{logical_before, logical_after, stripe_value};
+ghost use Rattle.stripes.specs.Numbers.{numbers};
 ghost use Rattle.service_names.specs.Changing.{AreNumbers, MayBeSet, with_dead};
 
 use filer_state::{Files, LogicalParcel};
-use nfs_values::Fileid;
+use nfs_values::{BlockNumber, Fileid};
 use parcels::{LogicalHeld, StripeHeld};
 use stripes::Stripe;
 use vbn_ranges::DeadBlocks;
@@ -56,7 +57,8 @@ fn size_place(
     filled: u32,
 ) -> u32
     requires card { IsSome (get (stripe_value place.old).cards fileid.0) }
-    requires numbers { AreNumbers (numbers_freed fileid.0 size (stripe_value place.old)) }
+    requires numbers { AreNumbers own.old.dead.range_blocks
+        (numbers_freed fileid.0 size (stripe_value place.old)) }
     ensures left { result
         ≡ filled - length (numbers_freed fileid.0 size (stripe_value place.old)) }
     ensures own { own.new
@@ -83,9 +85,10 @@ fn size_stripe(
     filled: u32,
 ) -> u32
     requires card { IsSome (get stripe.old.cards fileid.0) }
-    requires numbers { AreNumbers (numbers_freed fileid.0 size stripe.old) }
+    requires numbers { AreNumbers dead.old.range_blocks
+        (numbers_freed fileid.0 size stripe.old) }
     ensures left { result ≡ filled - length (numbers_freed fileid.0 size stripe.old) }
-    ensures dead { dead.new ≡ with_numbers (numbers_freed fileid.0 size stripe.old) dead.old }
+    ensures dead { dead.new ≡ dead_marked (numbers_freed fileid.0 size stripe.old) dead.old }
     ensures sized { stripe.new ≡ stripe_sized fileid.0 size stripe.old }
 {
     stripe.take_touch(fileid);
@@ -94,7 +97,20 @@ fn size_stripe(
     left
 }
 
-/// Cuts a file to a size in a stripe, block by block.
+/// Marks blocks dead, and tells how many of so many are left. It takes no memory.
+fn mark_all(dead: &mut DeadBlocks, blocks: &[BlockNumber], filled: u32) -> u32
+    requires { AreNumbers dead.old.range_blocks (numbers blocks.now) }
+    ensures left { result ≡ filled - length (numbers blocks.now) }
+    ensures dead { dead.new ≡ dead_marked (numbers blocks.now) dead.old }
+{
+    let Some((number, rest)) = blocks.split_first() else {
+        return filled;
+    };
+    dead.mark(*number);
+    mark_all(dead, rest, filled.saturating_sub(1))
+}
+
+/// Cuts a file to a size in a stripe, span by span.
 fn cut_stripe(
     stripe: &mut Stripe,
     dead: &mut DeadBlocks,
@@ -102,15 +118,14 @@ fn cut_stripe(
     size: u64,
     filled: u32,
 ) -> u32
-    requires { AreNumbers (numbers_freed fileid.0 size stripe.old) }
+    requires { AreNumbers dead.old.range_blocks (numbers_freed fileid.0 size stripe.old) }
     ensures left { result ≡ filled - length (numbers_freed fileid.0 size stripe.old) }
-    ensures dead { dead.new ≡ with_numbers (numbers_freed fileid.0 size stripe.old) dead.old }
+    ensures dead { dead.new ≡ dead_marked (numbers_freed fileid.0 size stripe.old) dead.old }
     ensures cut { stripe.new ≡ cut fileid.0 size stripe.old }
 {
     let mut left = filled;
-    while let Some(number) = stripe.cut(fileid, size) {
-        dead.mark(number);
-        left = left.saturating_sub(1);
+    while let Some(freed) = stripe.cut(fileid, size) {
+        left = mark_all(dead, freed.as_slice(), left);
     }
     left
 }

@@ -17,13 +17,13 @@ ghost use Rattle.std.specs.Prelude.{
   OnErr,
 };
 ghost use Rattle.std.specs.FinMap.{get, len};
-ghost use Rattle.nfs_model.specs.Server.{most_inodes};
 ghost use Rattle.nfs_values.specs.Answer.{node_made as made_told};
 ghost use Rattle.nfs_values.specs.Moment.{moment_of};
 ghost use Rattle.parcels.specs.Filled.{logical_alike};
 ghost use Rattle.inodes.specs.Inode.{inode_value, kind_value};
 ghost use Rattle.nfs_model.specs.volume.Directories.{added, found};
 ghost use Rattle.nfs_model.specs.volume.Inodes.{filled_blocks, inode_created, inode_of, inode_set};
+ghost use Rattle.nfs_model.specs.volume.Inodes.{inodes_of_a_volume};
 ghost use Rattle.nfs_model.specs.volume.Maps.{changed_at};
 ghost use Rattle.filer_state.specs.state.Names.{subdirectories_in};
 ghost use Rattle.filer_state.specs.state.Sets.{logical_before, logical_after};
@@ -125,7 +125,7 @@ fn make_node(
 /// Makes an inode under the next fileid.
 fn create_inode(held: &mut LogicalHeld<Files>, made: Inode) -> Result<Created, AllocError>
     requires fileids { held.old.own.inodes.next < 2 ^ 63 }
-    requires room { len held.old.own.inodes.inodes < most_inodes }
+    requires room { len held.old.own.inodes.inodes < inodes_of_a_volume }
     ensures fileid { IfOk result (λ created. created ≡ held.old.own.inodes.next) }
     ensures ok { OnOk result (held.new.own ≡ with_inodes
         (inode_created (inode_value made) held.old.own.inodes) held.old.own) }
@@ -233,7 +233,7 @@ fn drop_inode(held: &mut LogicalHeld<Files>, created: Created)
 /// Sets the inode of a directory in which a node of a kind is made.
 fn set_directory(held: &mut LogicalHeld<Files>, parent: Parent, made: InodeKind)
     requires { IfSome (subdirectories_in (kind_value parent.inode.kind))
-        (λ subdirectories. subdirectories < most_inodes) }
+        (λ subdirectories. subdirectories < inodes_of_a_volume) }
     ensures own { held.new.own ≡ with_inodes (inode_set parent.fileid.0
         (inode_dated (inode_value parent.inode) (kind_value made) (moment_of parent.moment))
         held.old.own.inodes) held.old.own }
@@ -247,7 +247,7 @@ fn set_directory(held: &mut LogicalHeld<Files>, parent: Parent, made: InodeKind)
 /// directory is one more subdirectory.
 fn dated(parent: Parent, made: InodeKind) -> Inode
     requires { IfSome (subdirectories_in (kind_value parent.inode.kind))
-        (λ subdirectories. subdirectories < most_inodes) }
+        (λ subdirectories. subdirectories < inodes_of_a_volume) }
     ensures { inode_value result ≡ inode_dated (inode_value parent.inode) (kind_value made)
         (moment_of parent.moment) }
 {

@@ -23,7 +23,6 @@ use crate::making::make_told;
 use crate::new_inodes::{asked_attributes, file_inode, made_directory_inode};
 use crate::parent::Parent;
 use filer_state::Files;
-use inodes::MOST_INODES;
 use nfs_values::{CreateMode, Credential, MakeResults, SetAttributes, Status};
 use parcels::LogicalHeld;
 use std::alloc::{AllocError, Global};
@@ -132,5 +131,6 @@ fn mkdir_fault(held: &LogicalHeld<Files>, set: &SetAttributes) -> Option<Status>
 fn is_full(held: &LogicalHeld<Files>) -> bool
     ensures { result ≡ is_full_set (logical_before held.now) }
 {
-    held.own.get().inodes.len() >= MOST_INODES
+    let own = held.own.get();
+    own.inodes.len() >= own.most_inodes as usize
 }

@@ -1,10 +1,19 @@
 //! Ranges at the edges of their words, the stock, and dead blocks of two ranges.
 
+ghost use Rattle.std.specs.Prelude.{◌≡◌, ◌<◌};
+
 use crate::same::same;
 use nfs_values::BlockNumber;
 use std::mem;
 use std::process::Abort;
 use vbn_ranges::{Batch, DeadBlocks, Range, RangeFault, Stock};
+
+/// A range of 1,024 blocks that isn't in use.
+pub(crate) fn small_range(rt: &(impl Abort + AllocGlobal), number: u32) -> Range
+    requires { number < 16 }
+{
+    Range::new(rt.alloc(), 1_024, number).expect(rt, "no memory")
+}
 
 /// Takes four blocks at most, and looks whether they are these.
 fn takes(rt: &impl Abort, range: &mut Range, wanted: &[BlockNumber]) {
@@ -13,8 +22,10 @@ fn takes(rt: &impl Abort, range: &mut Range, wanted: &[BlockNumber]) {
 }
 
 /// Dead blocks of these numbers.
-fn dead(rt: &(impl Abort + AllocGlobal), numbers: &[u32]) -> DeadBlocks {
-    let mut dead = DeadBlocks::new(rt.alloc()).expect(rt, "no memory");
+fn dead(rt: &(impl Abort + AllocGlobal), numbers: &[u32]) -> DeadBlocks
+    ensures { result.range_blocks ≡ 1024 }
+{
+    let mut dead = DeadBlocks::new(rt.alloc(), 1_024).expect(rt, "no memory");
     for number in numbers {
         if *number < 16384 {
             dead.mark(BlockNumber(*number));
@@ -34,7 +45,7 @@ fn leave(range: &mut Range, free: &Batch) {
 #[test]
 fn lowest_free(rt: HostRuntime) {
     let mut dead = dead(&rt, &[1023, 63, 128, 64, 127]);
-    let mut range = Range::new(0);
+    let mut range = small_range(&rt, 0);
     range.put_in_use();
     leave(&mut range, &dead.take_batch());
     mem::forget(dead);
@@ -61,7 +72,7 @@ fn numbers_of_refusals(rt: HostRuntime) {
 
 #[test]
 fn range_not_in_use(rt: HostRuntime) {
-    let mut range = Range::new(15);
+    let mut range = small_range(&rt, 15);
     let refused = range.take(1).err();
     range.put_in_use();
     let batch = range.take(0).expect(&rt, "refused");
@@ -71,7 +82,7 @@ fn range_not_in_use(rt: HostRuntime) {
 
 #[test]
 fn most_at_once(rt: HostRuntime) {
-    let mut range = Range::new(15);
+    let mut range = small_range(&rt, 15);
     range.put_in_use();
     let batch = range.take(200).expect(&rt, "refused");
     let taken = batch.as_slice();
@@ -83,13 +94,13 @@ fn most_at_once(rt: HostRuntime) {
 
 #[test]
 fn given_back_once(rt: HostRuntime) {
-    let mut range = Range::new(15);
+    let mut range = small_range(&rt, 15);
     range.put_in_use();
     let batch = range.take(200).expect(&rt, "refused");
     let given = [
         range.give(&batch),
         range.give(&batch),
-        Range::new(15).give(&batch),
+        small_range(&rt, 15).give(&batch),
     ];
     let not_held = Err(RangeFault::NotHeld);
     same(&rt, &given, &[Ok(()), not_held, not_held]);
@@ -133,7 +144,7 @@ fn stock_of(rt: &(impl Abort + AllocGlobal), batch: &Batch) -> Stock {
 
 #[test]
 fn stock_of_a_batch(rt: HostRuntime) {
-    let mut range = Range::new(0);
+    let mut range = small_range(&rt, 0);
     range.put_in_use();
     let batch = range.take(2).expect(&rt, "refused");
     let mut stock = stock_of(&rt, &batch);

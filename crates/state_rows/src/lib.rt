@@ -14,3 +14,5 @@ mod names;
 mod nodes;
 #[cfg(test)]
 mod same;
+#[cfg(test)]
+mod sizes;

@@ -1,11 +1,8 @@
 -- The blocks of all spans, after what a cut does to the arrays.
-use Rattle.std.proofs.Common.{◌≡◌, ◌≢◌, ◌⊎◌, min, ℕ, ◌+◌, ◌*◌, ◌/◌, ◌%◌, ◌<◌, ◌≤◌, ◌&&◌, Bool, true, false, not, cond, [], ◌∷◌, length, map, refl, sym, ap}
-use Rattle.std.proofs.Common.{◌∙◌, inl, inr, arith, subst, Option, Some, None, is_some, nat_le, eq-eqb}
+use Rattle.std.proofs.Common.{◌≡◌, ◌≢◌, ◌⊎◌, min, ℕ, ◌+◌, ◌*◌, ◌/◌, ◌%◌, Bool, true, false, not, cond, List, [], ◌++◌, ◌-◌, length, map, refl, sym, ap}
+use Rattle.std.proofs.Common.{◌∙◌, inl, inr, arith, subst, Option, Some, None, is_some, eq-eqb}
 use Rattle.std.proofs.lemmas.Bool.{cases_eq, cases_lt}
-use Rattle.std.proofs.lemmas.Bool.Decides.{nat_tests}
 use Rattle.std.proofs.lemmas.Option.{same_Some}
-use Rattle.std.specs.declared.cmp.Ordering.TheVariants.{Greater}
-use Rattle.std.specs.Ordering.{is_gt}
 use Rattle.std.specs.Option.{option_map}
 use Rattle.std.specs.BTreeMap.{is_at}
 use Rattle.std.specs.FinMap.{FinMap, get, retain_keys, get-retain_keys, same_map}
@@ -15,62 +12,74 @@ use Rattle.nfs_model.specs.volume.Maps.{map_values}
 use Rattle.nfs_model.specs.volume.lemmas.Entries.{place_total, place_same}
 use Rattle.nfs_model.specs.volume.Stripes.{Block, FileBlock, file_block_cmp, span_blocks, block_mapped, file_mapped, byte_cut, is_past}
 use Rattle.stripes.specs.Spans.{Places, Spans, place_of, span_of, block_at, span_at, blocks_of, AllFilled, IsSpans, ChangesSpan, Where, CutsSpan, HasBlock}
-use Rattle.stripes.specs.Spans.{HasNoneFrom, FreesFirst, numbers_past, cut_blocks, IsFirstPast}
-use Rattle.stripes.proofs.Keys.{key-cases, key-apart, upto-span}
+use Rattle.stripes.specs.Spans.{HasNoneFrom, FreesFirst, FreesSpan, is_in_rest, numbers_past, cut_blocks, IsFirstPast}
+use Rattle.stripes.proofs.Keys.{key-cases, key-apart}
 use Rattle.stripes.proofs.Places.{unlike}
 use Rattle.stripes.proofs.Bytes.{byte_kept}
 use Rattle.stripes.proofs.Mapped.{place-same, place-of-file}
 use Rattle.stripes.proofs.Law.{get-blocks_of}
-use Rattle.stripes.proofs.Freed.{freed-first, freed-none}
+use Rattle.stripes.proofs.Freed.{freed-none}
+use Rattle.stripes.proofs.FreedSpan.{past-place, is-past, rest-place, freed-rest}
 use Rattle.stripes.proofs.Words.{at-array, at-other, file-long, file-mapped, some-kept}
-
-past-place : (f size : ℕ) (p : FileBlock) → is_past f size p ≡ true → (p.0 ≡ f) × (size ≤ block_size * p.1)
-past-place f size p h = elim (cases_eq p.0 f) [
-  | inl e ↦ (
-    e,
-    let g : nat_le size (block_size * p.1) ≡ true = ap (λ t. t && nat_le size (block_size * p.1)) (sym (eq-eqb p.0 f e))
-        ∙ h in grind (arith, nat_tests),
-  )
-  | inr n ↦ absurd (let no : false ≡ true = sym (ap (λ t. t && nat_le size (block_size * p.1)) (unlike p.0 f n)) ∙ h in cc)
-]
-
-is-past : (f size b : ℕ) → size ≤ block_size * b → is_past f size (f, b) ≡ true
-is-past f size b h = ap (λ t. t && nat_le size (block_size * b)) (eq-eqb f f refl)
-    ∙ (let e : nat_le size (block_size * b) ≡ true = grind (arith, nat_tests) in e)
 
 get-retained : (f size : ℕ) (m : FinMap file_block_cmp Block) (q : FileBlock)
     → get (retain_keys m (λ p. not (is_past f size p))) q ≡ cond (not (is_past f size q)) (get m q) None
 get-retained f size m q = get-retain_keys m (λ p. not (is_past f size p)) q (λ x e. ap (λ p. not (is_past f size p)) (sym (place_same q x e)))
 
-module _ (f size first : ℕ) (block : Block) (old new : Spans) where
-  -- the numbers past the size, one of which is gone
-  pub freed-numbers : IsFirstPast size first → FreesFirst f first block old new
-      → numbers_past f size (blocks_of old) ≡ block.number ∷ numbers_past f size (blocks_of new)
+module _ (f size first : ℕ) (numbers : List ℕ) (old new : Spans) where
+  -- the numbers past the size, of which those of a span are gone
+  pub freed-numbers : IsFirstPast size first → FreesSpan f first numbers old new
+      → numbers_past f size (blocks_of old) ≡ numbers ++ numbers_past f size (blocks_of new)
   freed-numbers past frees =
-      ap (map (λ (e : FileBlock × Block). e.1.number)) (freed-first (is_past f size) (f, frees.number) block (blocks_of old) (blocks_of new)
-      (is-past f size frees.number (past.past frees.number frees.from))
-      (get-blocks_of old (f, frees.number) ∙ frees.there)
-      (λ q. get-blocks_of new q ∙ frees.gone q ∙ ap (cond (is_at (file_block_cmp (f, frees.number)) q) None) (sym (get-blocks_of old q)))
-      (λ q h after. let is = past-place f size q h in get-blocks_of old q ∙ ap (λ t. block_at old (t, q.1)) is.0
-      ∙ frees.before q.1 (past.from q.1 is.1) (before q is.0 after)))
-    where
-      before : (q : FileBlock) → q.0 ≡ f → file_block_cmp (f, frees.number) q ≡ Greater → q.1 < frees.number
-      before q e after = elim (cases_lt q.1 frees.number) [
-        | inl h ↦ h
-        | inr h ↦ absurd (let no : true ≡ false = sym (ap is_gt after) ∙ ap (λ t. is_gt (file_block_cmp (f, frees.number) (t, q.1))) e
-            ∙ upto-span f frees.number q.1 h in cc)
-      ]
+      freed-rest f size frees.span (λ i. block_at old (f, span_blocks * frees.span + i)) (span_blocks - frees.from) frees.from (blocks_of old) (blocks_of new)
+      (let within = frees.within in omega (arith, within))
+      (record {
+        past = past.past (span_blocks * frees.span + frees.from) frees.after;
+        same = λ j after below. get-blocks_of old (f, span_blocks * frees.span + j);
+        before = λ q h less.
+            let is = past-place f size q h in get-blocks_of old q ∙ ap (λ t. block_at old (t, q.1)) is.0 ∙ frees.before q.1 (past.from q.1 is.1) less;
+        gone = λ q. get-blocks_of new q ∙ frees.gone q ∙ ap (cond (is_in_rest f frees.span frees.from q) None) (sym (get-blocks_of old q));
+      })
+      ∙ ap (λ ns. ns ++ numbers_past f size (blocks_of new)) (sym frees.told)
 
-  pub freed-cut : IsFirstPast size first → FreesFirst f first block old new → cut_blocks f size (blocks_of new) ≡ cut_blocks f size (blocks_of old)
+  -- what is gone is past the size
+  rest-past : IsFirstPast size first → (frees : FreesSpan f first numbers old new) → (q : FileBlock) → is_in_rest f frees.span frees.from q ≡ true
+      → is_past f size q ≡ true
+  rest-past past frees q h =
+      let both = rest-place f frees.span frees.from q h in
+      let after = frees.after in
+      let from = both.1.1 in
+      ap (λ t. is_past f size (t, q.1)) both.0 ∙ is-past f size q.1 (past.past q.1 (let span = both.1.0 in omega (arith, after, from, span)))
+
+  pub freed-cut : IsFirstPast size first → FreesSpan f first numbers old new → cut_blocks f size (blocks_of new) ≡ cut_blocks f size (blocks_of old)
   freed-cut past frees = ap (map_values (file_mapped (byte_cut size) f)) (same_map place_total place_same _ _ (λ q.
-      get-retained f size (blocks_of new) q ∙ elim (key-cases (f, frees.number) q) [
-        | inl same ↦ let gone : not (is_past f size q) ≡ false = ap (λ k. not (is_past f size k)) (sym same)
-            ∙ ap not (is-past f size frees.number (past.past frees.number frees.from)) in
-            ap (λ t. cond t (get (blocks_of new) q) None) gone ∙ sym (ap (λ t. cond t (get (blocks_of old) q) None) gone)
-        | inr other ↦ ap (λ o. cond (not (is_past f size q)) o None) (get-blocks_of new q ∙ frees.gone q
-            ∙ ap (λ t. cond t None (block_at old q)) other ∙ sym (get-blocks_of old q))
-      ] ∙ sym (get-retained f size (blocks_of old) q)))
+      get-retained f size (blocks_of new) q
+      ∙ ap (λ o. cond (not (is_past f size q)) o None) (get-blocks_of new q ∙ frees.gone q)
+      ∙ by q (is_in_rest f frees.span frees.from q) refl
+      ∙ ap (λ o. cond (not (is_past f size q)) o None) (sym (get-blocks_of old q))
+      ∙ sym (get-retained f size (blocks_of old) q)))
+    where
+      nothing : Option Block
+      nothing = None
 
+      by : (q : FileBlock) (t : Bool) → is_in_rest f frees.span frees.from q ≡ t
+          → cond (not (is_past f size q)) (cond t None (block_at old q)) None ≡ cond (not (is_past f size q)) (block_at old q) None
+      by q true h =
+          let gone : not (is_past f size q) ≡ false = ap not (rest-past past frees q h) in
+          ap (λ t. cond t nothing None) gone ∙ sym (ap (λ t. cond t (block_at old q) None) gone)
+      by q false h = refl
+
+  pub spans-left : IsSpans old → FreesSpan f first numbers old new → IsSpans new
+  spans-left is frees = record {
+    long = λ p b e. by p b (is_in_rest f frees.span frees.from p) (sym (frees.gone p) ∙ e);
+    filled = frees.filled;
+  }
+    where
+      by : (p : FileBlock) (b : Block) (t : Bool) → cond t None (block_at old p) ≡ Some b → length b.bytes ≡ block_size
+      by p b true e = absurd (cc)
+      by p b false e = is.long p b e
+
+module _ (f first : ℕ) (block : Block) (old new : Spans) where
   pub freed-spans : IsSpans old → FreesFirst f first block old new → IsSpans new
   freed-spans is frees = record {
     long = λ p b e. by p b (is_at (file_block_cmp (f, frees.number)) p) (sym (frees.gone p) ∙ e);

@@ -11,9 +11,10 @@ use Rattle.nfs_model.specs.volume.lemmas.Maps.{get-changed_at}
 use Rattle.nfs_model.specs.volume.lemmas.Entries.{place_total, place_same}
 use Rattle.nfs_model.specs.volume.Stripes.{Block, FileBlock, file_block_cmp, span_blocks}
 use Rattle.stripes.specs.Spans.{Places, Spans, place_of, span_of, block_at, span_at, blocks_of, AllFilled, IsSpans, ChangesSpan, Where, NumbersSpan, HasBlock}
-use Rattle.stripes.specs.Spans.{FreesFirst, HasNoneFrom, renumbered, block_renumbered}
+use Rattle.stripes.specs.Spans.{FreesFirst, TakesNone, renumbered, block_renumbered}
 use Rattle.stripes.proofs.Keys.{key-cases, key-turned, key-within, key-other}
 use Rattle.stripes.proofs.Law.{get-blocks_of}
+use Rattle.stripes.proofs.Takes.{none-in}
 use Rattle.stripes.proofs.Words.{at-array, at-other, some-kept}
 
 module _ (f block n : ℕ) (old new : Spans) where
@@ -107,8 +108,10 @@ pub not-filled : (o : Option Block) → is_some o ≡ false → o ≡ None
 not-filled None e = refl
 not-filled (Some b) e = absurd (cc)
 
-pub none-there : (spans : Spans) (f block : ℕ) → HasNoneFrom f block spans → get (blocks_of spans) (f, block) ≡ None
-none-there spans f block none = get-blocks_of spans (f, block) ∙ none block (omega arith)
+pub none-here : (spans : Spans) (f block : ℕ) → TakesNone (block % span_blocks) (span_at spans (f, block / span_blocks)) → get (blocks_of spans) (f, block) ≡ None
+none-here spans f block none =
+    get-blocks_of spans (f, block)
+    ∙ none-in spans f (block / span_blocks) (block % span_blocks) block (span_at spans (f, block / span_blocks)) refl none refl (omega arith)
 
 module _ (f block : ℕ) (b : Block) (old new : Spans) (filled : is_some (get (blocks_of old) (f, block)) ≡ true) (frees : FreesFirst f block b old new) where
   -- the first from a block on that is filled is that one

@@ -1,12 +1,12 @@
 -- Blocks that are taken out of the arrays.
-use Rattle.std.proofs.Common.{◌≡◌, ℕ, ◌+◌, ◌*◌, ◌/◌, ◌%◌, ◌<◌, ◌≤◌, ◌==◌, Bool, true, false, cond, refl, sym, ap, ◌∙◌, inl, inr, arith, subst, Option, Some}
+use Rattle.std.proofs.Common.{◌≡◌, ℕ, ◌+◌, ◌*◌, ◌/◌, ◌%◌, ◌<◌, ◌≤◌, ◌==◌, cond, refl, sym, ap, ◌∙◌, inl, inr, arith, subst, Option, Some}
 use Rattle.std.proofs.Common.{None, IfSome, IfNone, get_or}
 use Rattle.std.proofs.lemmas.Bool.{cases_lt}
 use Rattle.std.proofs.lemmas.Option.{same_Some}
 use Rattle.std.specs.BTreeMap.{is_at}
 use Rattle.nfs_model.specs.volume.Stripes.{Block, FileBlock, file_block_cmp, span_blocks}
-use Rattle.stripes.specs.Spans.{Places, Spans, place_of, place_in, span_of, block_at, span_at, AllFilled, SameSpans, ChangesSpan, Where, There, Stays}
-use Rattle.stripes.specs.Spans.{Takes, TakesFirst, TakesNone, IsFirst, HasBlock, HasNoneFrom, FreesFirst}
+use Rattle.stripes.specs.Spans.{Places, Spans, place_of, place_in, span_of, block_at, span_at, AllFilled, SameSpans, ChangesSpan, Where, Stays}
+use Rattle.stripes.specs.Spans.{Takes, TakesNone, IsFirst, HasBlock, HasNoneFrom, FreesFirst}
 use Rattle.stripes.proofs.Keys.{key-cases, key-other, key-within}
 
 -- the block of a file in a span
@@ -89,21 +89,6 @@ frees-in f s from block old new few changes filled = by (span_at old (f, s)) ref
       ];
     }
 
--- no block before it is there
-pub frees-from : (f first after : ℕ) (block : Block) (old mid new : Spans) → first ≤ after → SameSpans old mid
-    → ((b : ℕ) → first ≤ b → b < after → block_at old (f, b) ≡ None) → FreesFirst f after block mid new → FreesFirst f first block old new
-frees-from f first after block old mid new le same none frees = record {
-  number = frees.number;
-  from = let h = frees.from in omega arith;
-  before = λ b from below. elim (cases_lt b after) [
-    | inl h ↦ none b from h
-    | inr h ↦ sym (same-blocks old mid same (f, b)) ∙ frees.before b h below
-  ];
-  there = sym (same-blocks old mid same (f, frees.number)) ∙ frees.there;
-  gone = λ p. frees.gone p ∙ ap (cond (is_at (file_block_cmp (f, frees.number)) p) None) (same-blocks old mid same p);
-  filled = frees.filled;
-}
-
 -- an array without blocks from a place on
 pub none-in : (spans : Spans) (f s from b : ℕ) (o : Option Places) → span_at spans (f, s) ≡ o → TakesNone from o → b / span_blocks ≡ s
     → from ≤ b % span_blocks
@@ -111,16 +96,6 @@ pub none-in : (spans : Spans) (f s from b : ℕ) (o : Option Places) → span_at
 none-in spans f s from b None h none e le = block-in-span spans f s b None e h
 none-in spans f s from b (Some a) h none e le =
     block-in-span spans f s b (Some a) e h ∙ sym (place-mod a b) ∙ none (b % span_blocks) le (omega arith)
-
-left-there : (from : ℕ) (block : Block) (e : Bool) (o n : Option Places) → e ≡ false → There (TakesFirst from block e) o n → Takes from block o n
-left-there from block e None n is t = absurd t
-left-there from block e (Some a) None is t = absurd t
-left-there from block e (Some a) (Some b) is t = subst (λ e. TakesFirst from block e a b) is t
-
-none-left : (from : ℕ) (block : Block) (e : Bool) (o m n : Option Places) → e ≡ true → There (TakesFirst from block e) o m → n ≡ None → Takes from block o n
-none-left from block e None m n is t gone = absurd t
-none-left from block e (Some a) None n is t gone = absurd t
-none-left from block e (Some a) (Some b) n is t gone = subst (Takes from block (Some a)) (sym gone) (b, subst (λ e. TakesFirst from block e a b) is t)
 
 -- what follows of what is taken, and where nothing is
 pub after-some : {A : Type 0} {P Q : A → Type 0} → ((x : A) → P x → Q x) → (o : Option A) → IfSome o P → IfSome o Q
@@ -131,14 +106,6 @@ pub after-none : {A P Q : Type 0} → (P → Q) → (o : Option A) → IfNone o 
 after-none f None h = f h
 after-none f (Some x) h = h
 
--- a file's first block in a span on which no span before is there
-pub frees-after : (f s next : ℕ) (block : Block) (old new : Spans) → s + 1 ≤ next → ((t : ℕ) → s + 1 ≤ t → t < next → span_at old (f, t) ≡ None)
-    → AllFilled old → ChangesSpan (Takes 0 block) (f, next) old new → FreesFirst f (span_blocks * (s + 1)) block old new
-frees-after f s next block old new le none filled changes =
-    frees-from f (span_blocks * (s + 1)) (span_blocks * next + 0) block old old new (omega arith) (λ k. refl)
-    (λ b from below. block-in-span old f (b / span_blocks) b None refl (none (b / span_blocks) (omega arith) (omega arith)))
-    (frees-in f next 0 block old new (omega arith) changes filled)
-
 -- a file's first block in the span of a number
 pub frees-at : (f first : ℕ) (block : Block) (old new : Spans) → AllFilled old
     → ChangesSpan (Takes (first % span_blocks) block) (f, first / span_blocks) old new
@@ -147,19 +114,12 @@ frees-at f first block old new filled changes =
     subst (λ n. FreesFirst f n block old new) (let e : span_blocks * (first / span_blocks) + first % span_blocks ≡ first = omega arith in e)
     (frees-in f (first / span_blocks) (first % span_blocks) block old new (omega arith) changes filled)
 
-none-until : (f first b : ℕ) (old : Spans) → TakesNone (first % span_blocks) (span_at old (f, first / span_blocks)) → first ≤ b
+pub none-until : (f first b : ℕ) (old : Spans) → TakesNone (first % span_blocks) (span_at old (f, first / span_blocks)) → first ≤ b
     → b < span_blocks * (first / span_blocks + 1) → block_at old (f, b) ≡ None
 none-until f first b old none from below =
     none-in old f (first / span_blocks) (first % span_blocks) b (span_at old (f, first / span_blocks)) refl none (omega arith) (omega arith)
 
--- a file's first block past the span of a number
-pub frees-later : (f first : ℕ) (block : Block) (old mid new : Spans) → SameSpans old mid
-    → TakesNone (first % span_blocks) (span_at old (f, first / span_blocks))
-    → FreesFirst f (span_blocks * (first / span_blocks + 1)) block mid new → FreesFirst f first block old new
-frees-later f first block old mid new same none =
-    frees-from f first (span_blocks * (first / span_blocks + 1)) block old mid new (omega arith) same
-    (λ b from below. none-until f first b old none from below)
-
+-- no block is there from a number on
 pub none-later : (f first : ℕ) (old mid : Spans) → SameSpans old mid → TakesNone (first % span_blocks) (span_at old (f, first / span_blocks))
     → HasNoneFrom f (span_blocks * (first / span_blocks + 1)) mid → HasNoneFrom f first old
 none-later f first old mid same none after b from = elim (cases_lt b (span_blocks * (first / span_blocks + 1))) [

@@ -131,6 +131,29 @@ pub record TakesBlock (i : ℕ) (block : Block) (old new : Places) : Type 0 wher
   pub there : place_of old i ≡ Some block
   pub gone : (b : ℕ) → place_of new b ≡ (if b % span_blocks == i then None else place_of old b)
 
+-- a number, where there is a block
+abbrev pub with_number : Option Block → List ℕ → List ℕ
+with_number None ns = ns
+with_number (Some b) ns = b.number ∷ ns
+
+-- the numbers of the blocks that are at n places from one on
+abbrev pub numbers_at : (ℕ → Option Block) → (from n : ℕ) → List ℕ
+numbers_at block from zero = []
+numbers_at block from (suc n) = with_number (block from) (numbers_at block (from + 1) n)
+
+-- the numbers of an array's blocks from a place on
+abbrev pub numbers_from : ℕ → Places → List ℕ
+numbers_from from places = numbers_at (place_of places) from (span_blocks - from)
+
+-- The blocks from a place on to before another are gone.
+abbrev pub IsTakenUpTo : (from past : ℕ) → Places → Places → Type 0
+IsTakenUpTo from past old new =
+    (b : ℕ) → place_of new b ≡ (if nat_le from (b % span_blocks) && nat_lt (b % span_blocks) past then None else place_of old b)
+
+-- The blocks from a place on are gone.
+abbrev pub IsTakenFrom : ℕ → Places → Places → Type 0
+IsTakenFrom from = IsTakenUpTo from span_blocks
+
 -- ---- all spans
 
 -- the array under a file and a span
@@ -198,6 +221,20 @@ Takes from block None new = ⊥
 Takes from block (Some old) None = (left : Places) × TakesFirst from block true old left
 Takes from block (Some old) (Some new) = TakesFirst from block false old new
 
+-- The blocks from a place on are taken out of an array, their numbers told, and whether none is left.
+pub record TakesRest (from : ℕ) (numbers : List ℕ) (is_empty : Bool) (old new : Places) : Type 0 where
+  pub some : 0 < length numbers
+  pub told : numbers ≡ numbers_from from old
+  pub taken : IsTakenFrom from old new
+  pub empty : is_empty ≡ true → HasNone 0 new
+  pub filled : is_empty ≡ false → HasBlock new
+
+-- The blocks from a place on are taken out of an array, which goes with its last block.
+abbrev pub TakesFrom : ℕ → List ℕ → Option Places → Option Places → Type 0
+TakesFrom from numbers None new = ⊥
+TakesFrom from numbers (Some old) None = (left : Places) × TakesRest from numbers true old left
+TakesFrom from numbers (Some old) (Some new) = TakesRest from numbers false old new
+
 -- No block is at a place of an array or after it.
 abbrev pub TakesNone : ℕ → Option Places → Type 0
 TakesNone from None = ⊤
@@ -214,6 +251,22 @@ pub record FreesFirst (fileid first : ℕ) (block : Block) (old new : Spans) : T
   pub before : (b : ℕ) → first ≤ b → b < number → block_at old (fileid, b) ≡ None
   pub there : block_at old (fileid, number) ≡ Some block
   pub gone : (p : FileBlock) → block_at new p ≡ (if is_at (file_block_cmp (fileid, number)) p then None else block_at old p)
+  pub filled : AllFilled new
+
+-- whether a block is in a file's span, at a place or after it
+abbrev pub is_in_rest : (fileid span from : ℕ) → FileBlock → Bool
+is_in_rest fileid span from p = is_at (file_block_cmp (fileid, span)) (span_of p) && nat_le from (p.1 % span_blocks)
+
+-- Of a file's blocks from a number on, those in the span of the first are gone, and their numbers told.
+pub record FreesSpan (fileid first : ℕ) (numbers : List ℕ) (old new : Spans) : Type 0 where
+  pub span : ℕ
+  pub from : ℕ
+  pub within : from ≤ span_blocks
+  pub after : first ≤ span_blocks * span + from
+  pub before : (b : ℕ) → first ≤ b → b < span_blocks * span + from → block_at old (fileid, b) ≡ None
+  pub some : 0 < length numbers
+  pub told : numbers ≡ numbers_at (λ i. block_at old (fileid, span_blocks * span + i)) from (span_blocks - from)
+  pub gone : (p : FileBlock) → block_at new p ≡ (if is_in_rest fileid span from p then None else block_at old p)
   pub filled : AllFilled new
 
 -- ---- words on blocks

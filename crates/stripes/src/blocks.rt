@@ -36,9 +36,10 @@ ghost use Rattle.stripes.specs.Spans.{
 };
 
 use crate::block::Block;
+use crate::freed_blocks::FreedBlocks;
 use crate::span::{SPAN_BLOCKS, put_zeros};
 use crate::spans::{
-    SpanMap, insert_in, number_block, overwrite_in, take_from, write_in, zero_tail,
+    SpanMap, insert_in, number_block, overwrite_in, take_from, take_in, write_in, zero_tail,
 };
 use nfs_values::{BLOCK_BYTES, BlockNumber, SPAN_BYTES};
 use std::alloc::{AllocError, Global};
@@ -151,7 +152,8 @@ impl Blocks {
         if !self.is_filled(fileid, block) {
             return None;
         }
-        let Some(taken) = take_from(&mut self.spans, fileid, block) else {
+        let place = (block % SPAN_BLOCKS) as usize;
+        let Some(taken) = take_in(&mut self.spans, fileid, block / SPAN_BLOCKS, place) else {
             return None;
         };
         Some(taken.number())
@@ -165,11 +167,12 @@ impl Blocks {
         number_block(&mut self.spans, fileid, block, number);
     }
 
-    /// Takes a file's first block that lies wholly past a size, and tells its number. Where there
-    /// is none it zeroes the rest of the block in which the size lies.
-    pub fn cut(&mut self, fileid: u64, size: u64) -> Option<BlockNumber>
-        ensures freed { IfSome result
-            (λ n. numbers_past fileid size self.old ≡ n.0 ∷ numbers_past fileid size self.new) }
+    /// Takes a file's blocks that lie wholly past a size in the span of the first of them, and tells
+    /// their numbers. Where there is none it zeroes the rest of the block in which the size lies.
+    pub fn cut(&mut self, fileid: u64, size: u64) -> Option<FreedBlocks>
+        ensures freed { IfSome result (λ freed. numbers_past fileid size self.old
+            ≡ freed ++ numbers_past fileid size self.new) }
+        ensures some { IfSome result (λ freed. 0 < length freed) }
         ensures rest { IfSome result
             (λ _. cut_blocks fileid size self.new ≡ cut_blocks fileid size self.old) }
         ensures none { IfNone result (numbers_past fileid size self.old ≡ []) }
@@ -177,7 +180,7 @@ impl Blocks {
         ensures long { IsLong self.new }
     {
         match take_from(&mut self.spans, fileid, first_past(size)) {
-            Some(block) => Some(block.number()),
+            Some(freed) => Some(freed),
             None => {
                 zero_tail(&mut self.spans, fileid, size);
                 None

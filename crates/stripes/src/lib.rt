@@ -3,8 +3,10 @@
 
 mod block;
 mod blocks;
+mod freed_blocks;
 mod span;
 mod spans;
 mod stripe;
 
+pub use freed_blocks::FreedBlocks;
 pub use stripe::Stripe;

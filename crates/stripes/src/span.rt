@@ -47,11 +47,15 @@ ghost use Rattle.stripes.specs.Spans.{
   renumbered,
   TakesBlock,
   IsFirst,
+  IsTakenFrom,
   HasNone,
   HasBlock,
+  numbers_from,
+  with_number,
 };
 
 use crate::block::Block;
+use crate::freed_blocks::FreedBlocks;
 use nfs_values::{BLOCK_BYTES, BlockNumber};
 use std::alloc::{AllocError, Global};
 use std::array;
@@ -202,6 +206,23 @@ impl Span {
         Some((first, block))
     }
 
+    /// Takes all blocks from a place on, if there is one, and tells their numbers.
+    pub fn take_rest(&mut self, from: usize) -> Option<FreedBlocks>
+        requires { from ≤ span_blocks }
+        ensures some { IfSome result (λ freed. 0 < length freed) }
+        ensures told { IfSome result (λ freed. freed ≡ numbers_from from self.old) }
+        ensures taken { IfSome result (λ _. IsTakenFrom from self.old self.new) }
+        ensures none { IfNone result (HasNone from self.old) }
+        ensures kept { IfNone result (self.new ≡ self.old) }
+    {
+        first_block(&self.places[..], from)?;
+        let mut freed = FreedBlocks::new();
+        for i in from..64 {
+            take_place(&mut self.places[i], &mut freed);
+        }
+        Some(freed)
+    }
+
     /// Whether no block is there.
     pub fn is_empty(&self) -> bool
         ensures empty { IsTrue result → HasNone 0 self.now }
@@ -224,6 +245,17 @@ fn first_block(places: &[Option<Block>], from: usize) -> Option<usize>
         }
     }
     None
+}
+
+/// Takes a place's block, if it is there, and tells its number after others.
+fn take_place(place: &mut Option<Block>, freed: &mut FreedBlocks)
+    requires { length freed.old < span_blocks }
+    ensures told { freed.new ≡ freed.old ++ with_number place.old [] }
+    ensures taken { place.new ≡ None }
+{
+    if let Some(block) = place.take() {
+        freed.push(block.number());
+    }
 }
 
 /// Appends bytes of a place's block; without a block they are zeros.

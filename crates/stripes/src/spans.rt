@@ -41,11 +41,13 @@ ghost use Rattle.stripes.specs.Spans.{
   Where,
   Puts,
   Takes,
+  TakesFrom,
   HasNone,
   HasNoneFrom,
-  FreesFirst,
+  FreesSpan,
   Stays,
   TakesFirst,
+  TakesRest,
   TakesNone,
   WritesSpan,
   CutsSpan,
@@ -55,6 +57,7 @@ ghost use Rattle.stripes.specs.Spans.{
 };
 
 use crate::block::Block;
+use crate::freed_blocks::FreedBlocks;
 use crate::span::{SPAN_BLOCKS, Span};
 use nfs_values::{BlockNumber, SPAN_BYTES};
 use std::alloc::{AllocError, Global};
@@ -135,43 +138,91 @@ fn add_span(
     Ok(())
 }
 
-/// Takes a file's first block from a number on.
-pub fn take_from(spans: &mut SpanMap, fileid: u64, first: u64) -> Option<Block>
+/// Takes a file's blocks from a number on that lie in the span of the first of them, and tells their
+/// numbers.
+pub fn take_from(spans: &mut SpanMap, fileid: u64, first: u64) -> Option<FreedBlocks>
     requires { AllFilled spans.old.entries }
     ensures taken { IfSome result
-        (λ block. FreesFirst fileid first block spans.old.entries spans.new.entries) }
+        (λ freed. FreesSpan fileid first freed spans.old.entries spans.new.entries) }
     ensures none { IfNone result (HasNoneFrom fileid first spans.old.entries) }
     ensures kept { IfNone result (SameSpans spans.old.entries spans.new.entries) }
 {
-    match take_in(
+    match take_span(
         spans,
         fileid,
         first / SPAN_BLOCKS,
         (first % SPAN_BLOCKS) as usize,
     ) {
-        Some(block) => Some(block),
+        Some(freed) => Some(freed),
         None => take_after(spans, fileid, first / SPAN_BLOCKS),
     }
 }
 
-/// Takes a file's first block in the spans after one.
-fn take_after(spans: &mut SpanMap, fileid: u64, span: u64) -> Option<Block>
+/// Takes a file's blocks in its first span after one, and tells their numbers.
+fn take_after(spans: &mut SpanMap, fileid: u64, span: u64) -> Option<FreedBlocks>
     requires filled { AllFilled spans.old.entries }
     requires span { span < 2 ^ 63 }
-    ensures taken { IfSome result (λ block. FreesFirst fileid (span_blocks * (span + 1)) block
+    ensures taken { IfSome result (λ freed. FreesSpan fileid (span_blocks * (span + 1)) freed
         spans.old.entries spans.new.entries) }
     ensures none { IfNone result
         (HasNoneFrom fileid (span_blocks * (span + 1)) spans.old.entries) }
     ensures kept { IfNone result (SameSpans spans.old.entries spans.new.entries) }
 {
     match next_span(spans, fileid, span + 1) {
-        Some(next) => take_in(spans, fileid, next, 0),
+        Some(next) => take_span(spans, fileid, next, 0),
         None => None,
     }
 }
 
+/// Takes the blocks of a span from a place on, and the span with its last block.
+fn take_span(spans: &mut SpanMap, fileid: u64, number: u64, from: usize) -> Option<FreedBlocks>
+    requires { from ≤ span_blocks }
+    ensures taken { IfSome result (λ freed. ChangesSpan (TakesFrom from freed) (fileid, number)
+        spans.old.entries spans.new.entries) }
+    ensures none { IfNone result (TakesNone from (span_at spans.old.entries (fileid, number))) }
+    ensures kept { IfNone result (SameSpans spans.old.entries spans.new.entries) }
+{
+    let (freed, is_empty) = take_rest_of(spans, fileid, number, from)?;
+    if !is_empty {
+        return Some(freed);
+    }
+    drop_span(spans, fileid, number);
+    Some(freed)
+}
+
+/// Takes the blocks of a span from a place on, and tells whether none is left.
+fn take_rest_of(
+    spans: &mut SpanMap,
+    fileid: u64,
+    number: u64,
+    from: usize,
+) -> Option<(FreedBlocks, bool)>
+    requires { from ≤ span_blocks }
+    ensures taken { IfSome result (λ r. ChangesSpan (There (TakesRest from r.0 r.1))
+        (fileid, number) spans.old.entries spans.new.entries) }
+    ensures none { IfNone result (TakesNone from (span_at spans.old.entries (fileid, number))) }
+    ensures kept { IfNone result (ChangesSpan (Where Stays) (fileid, number)
+        spans.old.entries spans.new.entries) }
+{
+    match spans.get_mut(&(fileid, number)) {
+        Some(span) => take_rest(span, from),
+        None => None,
+    }
+}
+
+/// Takes the blocks of a span from a place on, and tells whether none is left.
+fn take_rest(span: &mut Span, from: usize) -> Option<(FreedBlocks, bool)>
+    requires { from ≤ span_blocks }
+    ensures taken { IfSome result (λ r. TakesRest from r.0 r.1 span.old span.new) }
+    ensures none { IfNone result (HasNone from span.old) }
+    ensures kept { IfNone result (span.new ≡ span.old) }
+{
+    let freed = span.take_rest(from)?;
+    Some((freed, span.is_empty()))
+}
+
 /// Takes the first block of a span from a place on, and the span with its last block.
-fn take_in(spans: &mut SpanMap, fileid: u64, number: u64, from: usize) -> Option<Block>
+pub fn take_in(spans: &mut SpanMap, fileid: u64, number: u64, from: usize) -> Option<Block>
     requires { from ≤ span_blocks }
     ensures taken { IfSome result (λ block. ChangesSpan (Takes from block) (fileid, number)
         spans.old.entries spans.new.entries) }

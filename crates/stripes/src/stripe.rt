@@ -46,6 +46,7 @@ ghost use Rattle.nfs_model.specs.volume.Stripes.{
 ghost use Rattle.stripe_cards.specs.Cards.{card_of, card_set};
 
 use crate::blocks::Blocks;
+use crate::freed_blocks::FreedBlocks;
 use nfs_values::{BlockNumber, Fileid, Moment, Verifier};
 use std::alloc::{AllocError, Global};
 use std::marker::Model;
@@ -270,12 +271,13 @@ impl Stripe {
         cards.touch(fileid, moment);
     }
 
-    /// Cuts a file to a size in steps, to be called until it answers `None`. Each step frees a
-    /// block that lies wholly past the size, and gives its number; the last sets the rest of the
-    /// block in which the size lies to zero. It takes no memory.
-    pub fn cut(&mut self, fileid: Fileid, size: u64) -> Option<BlockNumber>
-        ensures freed { IfSome result (λ n. numbers_freed fileid.0 size self.old
-            ≡ n.0 ∷ numbers_freed fileid.0 size self.new) }
+    /// TakesFrom a file to a size in steps, to be called until it answers `None`. Each step frees the
+    /// blocks of a span that lie wholly past the size, and gives their numbers; the last sets the
+    /// rest of the block in which the size lies to zero. It takes no memory.
+    pub fn cut(&mut self, fileid: Fileid, size: u64) -> Option<FreedBlocks>
+        ensures freed { IfSome result (λ freed. numbers_freed fileid.0 size self.old
+            ≡ freed ++ numbers_freed fileid.0 size self.new) }
+        ensures some { IfSome result (λ freed. 0 < length freed) }
         ensures rest { IfSome result
             (λ _. cut fileid.0 size self.new ≡ cut fileid.0 size self.old) }
         ensures none { IfNone result (numbers_freed fileid.0 size self.old ≡ []) }

@@ -9,4 +9,6 @@ mod homes;
 #[cfg(test)]
 mod layouts;
 #[cfg(test)]
+mod sizes;
+#[cfg(test)]
 mod waiting;

@@ -2,7 +2,7 @@
 use Rattle.std.proofs.Common.{◌≡◌, Bool, true, false, ◌&&◌, nat_lt, length, Ok, Err, Result, refl, sym, subst}
 use Rattle.std.specs.Prelude.{if◌then◌else◌}
 use Rattle.std.proofs.lemmas.Bool.{and_parts, ltb-true}
-use Rattle.nfs_model.specs.Tree.{Layout}
+use Rattle.nfs_model.specs.Tree.{Layout, range_blocks_of}
 use Rattle.nfs_model.specs.Parts.{Hand, Empty, Fresh, Dead, most_ranges, range_of}
 use Rattle.filer_state.specs.state.Jobs as jobs
 use Rattle.filer_state.specs.state.Jobs.{InnerCall}
@@ -40,10 +40,10 @@ fits-hand layout (Cull v) Empty call inside e = by (nat_lt v.0 (length layout.vo
 fits-hand layout PutDown Empty call inside e = absurd (let no : ⊥ = cc in no)
 fits-hand layout PutDown (Fresh v blocks) call inside e =
     let same : jobs.Deliver v ≡ call = cc in
-    subst (λ (x : InnerCall). FitsHand layout x (Fresh v blocks)) same (record { node = inside.0; moves = tt; fits = (blocks, refl, inside.1) })
+    subst (λ (x : InnerCall). FitsHand layout x (Fresh v blocks)) same (record { node = inside.0; moves = tt; fits = (blocks, refl, inside.1, inside.2) })
 fits-hand layout PutDown (Dead v blocks) call inside e =
-    let same : jobs.Free v (range_of blocks) ≡ call = cc in
-    subst (λ (x : InnerCall). FitsHand layout x (Dead v blocks)) same (record { node = inside.0; moves = tt; fits = (blocks, refl, inside.1, refl) })
+    let same : jobs.Free v (range_of (range_blocks_of layout v) blocks) ≡ call = cc in
+    subst (λ (x : InnerCall). FitsHand layout x (Dead v blocks)) same (record { node = inside.0; moves = tt; fits = (blocks, refl, inside.1, inside.2) })
 fits-hand layout (Fetch v r) (Fresh u blocks) call inside e = absurd (let no : ⊥ = cc in no)
 fits-hand layout (Fetch v r) (Dead u blocks) call inside e = absurd (let no : ⊥ = cc in no)
 fits-hand layout (Cull v) (Fresh u blocks) call inside e = absurd (let no : ⊥ = cc in no)

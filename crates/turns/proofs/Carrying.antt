@@ -1,17 +1,21 @@
 -- A worker after an inner call: its balance, its hand, and what its tend answers.
-use Rattle.std.proofs.Common.{◌≡◌, List, [], ◌∷◌, Option, refl, sym, ap, ◌∙◌, subst, arith}
+use Rattle.std.proofs.Common.{◌≡◌, ℕ, None, List, [], ◌∷◌, Option, refl, sym, ap, ◌∙◌, subst, arith}
 use Rattle.std.specs.Prelude.{Result, Ok}
 use Rattle.nfs_model.specs.Tree.{Layout}
 use Rattle.nfs_model.specs.Parts.{Hand}
+use Rattle.affinity.specs.Fault.{fault_of}
+use Rattle.affinity.specs.Numbers.{parents}
 use Rattle.affinity.specs.Tree.{IsNode}
 use Rattle.depot_rule.specs.Sums.{total}
 use Rattle.depot_rule.specs.lemmas.Sums.{total-append}
 use Rattle.depot_rule.specs.lemmas.Histories.{moved-snoc}
 use Rattle.depot_rule.specs.History.{AreHands, entries_of}
+use Rattle.filer_state.specs.state.Contents.{filer_contents}
 use Rattle.filer_state.specs.state.Tree.{ranges_used}
 use Rattle.filer_state.specs.state.Partition.{parts_of}
 use Rattle.filer_state.specs.state.Jobs as jobs
-use Rattle.filer_state.specs.state.Jobs.{InnerCall, JobReply, takes, gives, batches_in, inner_node}
+use Rattle.filer_state.specs.state.Jobs.{InnerCall, JobReply, takes, gives, batches_in, inner_node, inner_volume, InnerMoves}
+use Rattle.filer_state.specs.laws.lemmas.LayoutSizes.{contents-sized}
 use Rattle.service.specs.Jobs.{job_of, job_reply_of, job_takes, job_gives}
 use Rattle.service.specs.declared.job.Job.{Job}
 use Rattle.service.specs.declared.job.Job.TheVariants.{Serve, Inner}
@@ -22,10 +26,11 @@ use Rattle.turns.specs.declared.tend.TendRefusal.{TendRefusal}
 use Rattle.turns.specs.declared.tend.Tended.{Tended}
 use Rattle.turns.specs.declared.worker.Worker.{Worker}
 use Rattle.turns.specs.Balance.{Passed, FilerView, FilerEntry, Weight, by_job, by_entry, IsEven}
-use Rattle.turns.specs.Carries.{HasCarried, IsToldOf, hand_after}
+use Rattle.turns.specs.Carries.{HasCarried, IsToldOf, hand_after, left_by}
 use Rattle.turns.specs.Tends.{Answers}
-use Rattle.turns.specs.Words.{seat_view, IsHandIn}
+use Rattle.turns.specs.Words.{seat_view, HasOpened, IsHandIn}
 use Rattle.turns.proofs.Batches.{OfOneRange, hand-in}
+use Rattle.turns.proofs.Sized.{before-sized}
 
 -- ---- entries of inner calls
 
@@ -83,13 +88,18 @@ module _ (layout : Layout) (v w : FilerView) (call : InnerCall) (hand : Hand) wh
       subst (λ (es : List FilerEntry). AreHands job_takes job_gives es (batches_in next)) (sym did.1)
       (subst (λ h. AreHands job_takes job_gives (entries_of v) (batches_in h)) (sym (told.0 ∙ did.0)) own)
 
-  pub hand-inside : OfOneRange → (carried : Carried) (next : Hand) (answer : Result Tended TendRefusal) → HasCarried layout v call hand carried w
+  pub hand-inside : fault_of layout ≡ None → (verifier : List ℕ) → v.tree ≡ parents layout → HasOpened layout verifier v
+      → OfOneRange → (carried : Carried) (next : Hand) (answer : Result Tended TendRefusal) → HasCarried layout v call hand carried w
       → IsToldOf carried next answer → IsNode layout (inner_node call) → IsHandIn layout hand → IsHandIn layout next
-  hand-inside one (Done reply) next answer did told node inside =
+  hand-inside lawful verifier of opened one (Done reply) next answer did told node inside =
       let d = did.did in
+      let size =
+      contents-sized layout (filer_contents layout (left_by v did.between)) (before-sized layout lawful verifier v of opened did.between did.entry did.added)
+      (inner_volume call) d.before d.volume_before in
       subst (λ h. IsHandIn layout h) (sym told.0)
-      (hand-in one layout call (ranges_used d.before.ranges) (parts_of d.before) (parts_of d.after) (job_reply_of reply) node d.moves)
-  hand-inside one (Refused back refusal) next answer did told node inside = subst (λ h. IsHandIn layout h) (sym (told.0 ∙ did.0)) inside
+      (hand-in one layout call (ranges_used d.before.ranges) (parts_of d.before) (parts_of d.after) (job_reply_of reply) node
+      (subst (λ (m : ℕ). InnerMoves m call (ranges_used d.before.ranges) (parts_of d.before) (job_reply_of reply) (parts_of d.after)) size d.moves))
+  hand-inside lawful verifier of opened one (Refused back refusal) next answer did told node inside = subst (λ h. IsHandIn layout h) (sym (told.0 ∙ did.0)) inside
 
 -- what its tend answers of it
 pub answers-it : (layout : Layout) (before after : Worker) (call : InnerCall) (carried : Carried) (answer : Result Tended TendRefusal)

@@ -16,3 +16,4 @@ mod Carrying
 mod Lent
 mod Told
 pub mod Crossing
+mod Sized

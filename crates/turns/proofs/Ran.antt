@@ -1,7 +1,8 @@
 -- An inner call on a seat: what it needs, what its run may end in, and what comes of it.
 use Rattle.std.proofs.Common.{◌≡◌, ℕ, ◌<◌, List, [], ◌∷◌, ◌++◌, length, Option, Some, None, refl, sym, ap, ◌∙◌, subst, arith}
-use Rattle.nfs_model.specs.Tree.{Layout, Affinity}
+use Rattle.nfs_model.specs.Tree.{Layout, Affinity, range_blocks_of}
 use Rattle.nfs_model.specs.Parts.{Hand, Empty}
+use Rattle.nfs_laws.specs.Sizes.{HaveSizes}
 use Rattle.affinity.specs.Affinity.{affinity_of}
 use Rattle.affinity.specs.Fault.{fault_of}
 use Rattle.affinity.specs.Numbers.{number_of, parents}
@@ -9,7 +10,7 @@ use Rattle.affinity.specs.Tree.{IsNode}
 use Rattle.affinity.specs.lemmas.Alike.{alike}
 use Rattle.parcels.specs.Exact.{kind_in}
 use Rattle.depot_rule.specs.Sums.{total}
-use Rattle.depot_rule.specs.History.{after, listed, entries_of, AreHands, SoundHistory}
+use Rattle.depot_rule.specs.History.{after, listed, entries_of, AreHands, Legal, SoundHistory, SoundThroughout}
 use Rattle.depot_rule.specs.Plays.{HasAdded}
 use Rattle.depot.specs.Grants.{entry_of, HasWith, IsBegun, IsAfter, IsStep, IsEnded, IsFinished, IsRefused}
 use Rattle.depot.specs.declared.grants.Refusal.{Refusal}
@@ -22,13 +23,14 @@ use Rattle.filer_state.specs.state.Jobs.{InnerCall, Fetch, Deliver, Cull, Free, 
 use Rattle.filer_state.specs.state.Deeds.{FilerSteps}
 use Rattle.filer_state.specs.state.Parcels.{FilerParcel}
 use Rattle.filer_state.specs.state.Promises.{HandsMove}
-use Rattle.filer_state.specs.state.Running.{HasFiler, IsRefusedIn, IsRefusedOn}
+use Rattle.filer_state.specs.state.Running.{HasSizedFiler, IsRefusedIn, IsRefusedOn}
 use Rattle.filer_state.specs.state.Sound.{AreSound, IsFiler}
+use Rattle.filer_state.specs.state.Tree.{tree}
 use Rattle.filer_state.specs.laws.lemmas.Alike.{filer-same}
 use Rattle.filer_state.specs.laws.lemmas.Each.{each-get}
 use Rattle.filer_state.specs.declared.files.Files.{Files}
 use Rattle.service.specs.Inner.{IsHandFor, MayLackMemory, InnerHasRun}
-use Rattle.service.specs.Jobs.{inner_of, job_reply_of, job_takes, job_gives}
+use Rattle.service.specs.Jobs.{inner_of, job_reply_of, job_steps, job_takes, job_gives}
 use Rattle.service.specs.declared.inner.InnerOutcome.{InnerOutcome}
 use Rattle.service.specs.declared.inner.InnerOutcome.TheVariants.{Done, Refused, NoMemory}
 use Rattle.service.specs.declared.job.InnerCall as codes
@@ -41,6 +43,7 @@ use Rattle.turns.specs.Turns.{filer_behaviour}
 use Rattle.turns.specs.Words.{HasOpened, IsReady}
 use Rattle.turns.proofs.Added.{added-did}
 use Rattle.turns.proofs.Grants.{as-left}
+use Rattle.turns.proofs.Sized.{log-sized}
 
 abbrev Parcels : Type 0
 Parcels = ℕ → Option (FilerParcel Files)
@@ -59,10 +62,11 @@ pub refused-for : (layout : Layout) (v w : FilerView) (call : InnerCall) (refusa
 refused-for layout v w call (refusals.Busy at word) refused = refused
 refused-for layout v w call refusals.Worn refused = refused
 
--- the parcels that were granted are some sound filer's, and what the seat took and didn't give is in its hands
-pub granted-hand : (layout : Layout) (node : Affinity) → IsNode layout node → (v : FilerView) → v.tree ≡ parents layout → (f : Parcels) (given : List Hand)
-    → AreHands job_takes job_gives (entries_of v) given → IsAfter filer_behaviour v (number_of layout node) f → HasFiler layout node given f
-granted-hand layout node there v of f given own seen =
+-- the parcels that were granted are some sound filer's, whose sizes are the layout's, and what the seat took and didn't give is in its hands
+pub granted-hand : (layout : Layout) → fault_of layout ≡ None → (node : Affinity) → IsNode layout node → (v : FilerView) → v.tree ≡ parents layout
+    → (opened : (verifier : List ℕ) × HasOpened layout verifier v) → (f : Parcels) (given : List Hand)
+    → AreHands job_takes job_gives (entries_of v) given → IsAfter filer_behaviour v (number_of layout node) f → HasSizedFiler layout node given f
+granted-hand layout lawful node there v of opened f given own seen =
     let history : SoundHistory filer_behaviour v.tree v.first v.seen v.mine seen.0 = seen.1 in
     let g : Parcels = after (parents layout) (listed v.first) seen.0 in
     let good : IsFiler (parents layout) g history.hands (length seen.0) =
@@ -72,15 +76,21 @@ granted-hand layout node there v of f given own seen =
     let a = known weigh in
     let b = own weigh in
     let t = history.together weigh in
-    omega (arith, a, b, t) in (
-      g,
-      history.hands,
-      history.others,
-      length seen.0,
-      as-left layout node there v of f seen,
-      seen.2,
-      moves,
-      subst (λ c. AreSound c history.hands (length seen.0)) (filer-same good.0 layout (alike good.0 layout good.1.1) g) good.2,
+    omega (arith, a, b, t) in
+    let sized : HaveSizes layout (tree layout g) =
+    log-sized layout lawful opened.0 (listed v.first) opened.1 seen.0 (subst (λ (ps : List ℕ). Legal job_steps ps (listed v.first) seen.0) of history.legal)
+    (subst (λ (ps : List ℕ). SoundThroughout filer_behaviour ps (listed v.first) seen.0) of history.throughout) in (
+      (
+        g,
+        history.hands,
+        history.others,
+        length seen.0,
+        as-left layout node there v of f seen,
+        seen.2,
+        moves,
+        subst (λ c. AreSound c history.hands (length seen.0)) (filer-same good.0 layout (alike good.0 layout good.1.1) g) good.2,
+      ),
+      sized,
     )
 
 module _ (layout : Layout) (lawful : fault_of layout ≡ None) (code : codes.InnerCall) (hand : Hand) (v w : FilerView)
@@ -211,13 +221,13 @@ module _ (layout : Layout) (lawful : fault_of layout ≡ None) (code : codes.Inn
     -- then it would fetch, and its hand is empty
     pub empty-hand : hand ≡ Empty
     empty-hand =
-        let h = granted-hand layout node may.fits.node v of_v before (batches_in hand) may.own left in
+        let h = (granted-hand layout lawful node may.fits.node v of_v may.opened before (batches_in hand) may.own left).0 in
         by h.0 call may.fits.node may.fits.fits (λ p there. refused.0 h.0 h.1 h.3 h.4 h.7 p there)
       where
         at : (f : Parcels) (n : ℕ) → n < length layout.volumes → volume_at (filer_contents layout f) n ≡ Some (contents_of layout f n)
         at f n less = each-get (contents_of layout f) (length layout.volumes) n less
 
-        by : (f : Parcels) (x : InnerCall) → IsNode layout (inner_node x) → IsHandFor x hand
+        by : (f : Parcels) (x : InnerCall) → IsNode layout (inner_node x) → IsHandFor (range_blocks_of layout (inner_volume x)) x hand
             → ((p : VolumeContents) → volume_at (filer_contents layout f) (inner_volume x) ≡ Some p → IsRefusedOn x p) → hand ≡ Empty
         by f (Fetch n i) on fits why = fits
         by f (Cull n) on fits why = fits

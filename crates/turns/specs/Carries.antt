@@ -1,6 +1,6 @@
 -- An inner call of a worker, with what is in its hand (our profile).
 use Rattle.std.specs.Prelude.{◌≡◌, ℕ, List, [], ◌∷◌, ◌++◌, length, Option, Result, Ok, Err}
-use Rattle.nfs_model.specs.Tree.{Layout}
+use Rattle.nfs_model.specs.Tree.{Layout, range_blocks_of}
 use Rattle.nfs_model.specs.Parts.{Hand, Empty, batch_in}
 use Rattle.affinity.specs.declared.affinity.Affinity as codes
 use Rattle.affinity.specs.declared.affinity.Affinity.TheVariants as nodes
@@ -16,7 +16,7 @@ use Rattle.desk.specs.laws.Backing.{IsWhole, IsGranted, IsDone}
 use Rattle.filer_state.specs.state.Contents.{filer_contents}
 use Rattle.filer_state.specs.state.Deeds.{DoesInner}
 use Rattle.filer_state.specs.state.Jobs as jobs
-use Rattle.filer_state.specs.state.Jobs.{InnerCall, JobReply, Took, Gave, gives, batches_in, inner_node}
+use Rattle.filer_state.specs.state.Jobs.{InnerCall, JobReply, Took, Gave, gives, batches_in, inner_node, inner_volume}
 use Rattle.filer_state.specs.state.Parcels.{FilerParcel}
 use Rattle.filer_state.specs.state.Running.{IsRefusedIn}
 use Rattle.filer_state.specs.declared.files.Files.{Files}
@@ -32,6 +32,7 @@ use Rattle.turns.specs.declared.tend.Tended.TheVariants as tendeds
 use Rattle.turns.specs.Balance.{FilerView, FilerEntry}
 use Rattle.turns.specs.Runs.{FilerLent}
 use Rattle.turns.specs.Turns.{filer_behaviour}
+use Rattle.turns.specs.Words.{HasOpened}
 
 -- the node under which an inner call runs, as the code has it
 abbrev pub node_tried : InnerCall → codes.Affinity
@@ -52,11 +53,12 @@ MovesBatch call = Unit {0}
 pub record FitsHand (layout : Layout) (call : InnerCall) (hand : Hand) : Type 0 where
   pub node : IsNode layout (inner_node call)
   pub moves : MovesBatch call
-  pub fits : IsHandFor call hand
+  pub fits : IsHandFor (range_blocks_of layout (inner_volume call)) call hand
 
--- and what is in the hand is all that the seat's calls took and didn't give
+-- and the seat's history began with the parcels of the layout, and what is in the hand is all that the seat's calls took and didn't give
 pub record MayCarry (layout : Layout) (v : FilerView) (call : InnerCall) (hand : Hand) : Type 0 where
   pub fits : FitsHand layout call hand
+  pub opened : (verifier : List ℕ) × HasOpened layout verifier v
   pub own : AreHands job_takes job_gives (entries_of v) (batches_in hand)
 
 -- ---- what comes of it

@@ -1,6 +1,6 @@
 -- What a worker does without a message, on the batch of block numbers in its hand (our profile).
 use Rattle.std.specs.Prelude.{◌≡◌, ℕ, ◌*◌, ◌/◌, ◌%◌, ◌&&◌, nat_lt, length, Option, Result, Ok, Err, if◌then◌else◌}
-use Rattle.nfs_model.specs.Tree.{Layout}
+use Rattle.nfs_model.specs.Tree.{Layout, range_blocks_of}
 use Rattle.nfs_model.specs.Parts.{Hand, Empty, Fresh, Dead, most_ranges, range_of}
 use Rattle.nfs_model.specs.Events.Refusals.{is_empty_hand}
 use Rattle.filer_state.specs.state.Jobs as jobs
@@ -29,10 +29,10 @@ kept_in w = w.kept
 -- ---- which inner call it is
 
 -- a fresh batch comes into the stock of its volume, a dead one is free in its range
-abbrev pub call_to_put : Hand → Result InnerCall TendRefusal
-call_to_put Empty = Err HandEmpty
-call_to_put (Fresh volume blocks) = Ok (jobs.Deliver volume)
-call_to_put (Dead volume blocks) = Ok (jobs.Free volume (range_of blocks))
+abbrev pub call_to_put : Layout → Hand → Result InnerCall TendRefusal
+call_to_put layout Empty = Err HandEmpty
+call_to_put layout (Fresh volume blocks) = Ok (jobs.Deliver volume)
+call_to_put layout (Dead volume blocks) = Ok (jobs.Free volume (range_of (range_blocks_of layout volume) blocks))
 
 -- The inner call of a tend with what is in the hand, or why there is none: a batch comes into an empty hand alone, and from a
 -- volume and a range of the layout.
@@ -45,7 +45,7 @@ call_of layout (Cull volume) hand =
     if is_empty_hand hand
     then (if nat_lt volume.0 (length layout.volumes) then Ok (jobs.Cull volume.0) else Err NoSuchRange)
     else Err HandFull
-call_of layout PutDown hand = call_to_put hand
+call_of layout PutDown hand = call_to_put layout hand
 
 -- ---- what comes of it
 
@@ -90,9 +90,10 @@ tend_refusal_number NoMemory = 90
 -- ---- which tend is next
 
 -- With a batch in the hand it is put down. With an empty one, after so many such tends, a cull is next or a fetch, in turn: each two
--- of them are of the next volume, and once round the volumes, the fetches are of the next range.
+-- of them are of the next volume, and once round the volumes, the fetches are of the next range. A cull may take the place of a fetch:
+-- one does where the stock has enough numbers.
 abbrev pub IsNextTend : (volumes made : ℕ) → Hand → Tend → Type 0
-IsNextTend volumes made Empty (Cull volume) = (made % 2 ≡ 0) × (volume.0 ≡ made / 2 % volumes)
+IsNextTend volumes made Empty (Cull volume) = volume.0 ≡ made / 2 % volumes
 IsNextTend volumes made Empty (Fetch volume range) = (made % 2 ≡ 1) × (volume.0 ≡ made / 2 % volumes) × (range ≡ made / (2 * volumes) % most_ranges)
 IsNextTend volumes made Empty PutDown = ⊥
 IsNextTend volumes made hand tend = tend ≡ PutDown

@@ -2,7 +2,7 @@
 use Rattle.std.specs.Prelude.{◌≡◌, ◌+◌, ◌<◌, ℕ, List, [], length, Option, Some, option_map, IfSome}
 use Rattle.nfs_model.specs.Tree as trees
 use Rattle.nfs_model.specs.Tree.{Logical, Range}
-use Rattle.nfs_model.specs.Parts.{Hand, Empty, Fresh, Dead, range_of}
+use Rattle.nfs_model.specs.Parts.{Hand, Empty, Fresh, Dead, range_of, IsBatch}
 use Rattle.affinity.specs.declared.layout.Layout.{Layout}
 use Rattle.affinity.specs.Layout.{layout_of}
 use Rattle.affinity.specs.Tree.{IsNode}
@@ -82,11 +82,13 @@ pub record IsSameWorker (before after : Worker) : Type 0 where
   pub hand : after.hand ≡ before.hand
   pub kept : after.kept ≡ before.kept
 
--- a batch is of a volume of the layout, and of a range of it
+-- a batch is of one range of a volume of the layout, by the volume's size; of a dead one the range is there
 abbrev pub IsHandIn : trees.Layout → Hand → Type 0
 IsHandIn layout Empty = Unit {0}
 IsHandIn layout (Fresh volume blocks) = IsNode layout (Logical volume) × (0 < length blocks)
-IsHandIn layout (Dead volume blocks) = IsNode layout (Range volume (range_of blocks)) × (0 < length blocks)
+    × IsBatch (trees.range_blocks_of layout volume) (range_of (trees.range_blocks_of layout volume) blocks) blocks
+IsHandIn layout (Dead volume blocks) = IsNode layout (Range volume (range_of (trees.range_blocks_of layout volume) blocks)) × (0 < length blocks)
+    × IsBatch (trees.range_blocks_of layout volume) (range_of (trees.range_blocks_of layout volume) blocks) blocks
 
 -- a worker is of this filer and takes its messages from this queue: its seat, its pass, what is in its hand and what it keeps
 pub record IsAt (filer : Filer) (queue : SharedWaiting Message Layout) (w : Worker) : Type 0 where

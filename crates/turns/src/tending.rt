@@ -41,18 +41,18 @@ fn has_volume(layout: &Layout, volume: VolumeNumber) -> bool
 }
 
 /// The call that puts down what is in a hand.
-fn put_call(hand: &BatchInHand) -> Result<InnerCall, TendRefusal>
-    requires { (layout : _) × IsHandIn layout hand.now }
-    ensures { MatchResult result
-        (λ call. call_to_put hand.now ≡ Ok (inner_of call))
-        (λ refusal. call_to_put hand.now ≡ Err refusal) }
+fn put_call(layout: &Layout, hand: &BatchInHand) -> Result<InnerCall, TendRefusal>
+    requires { IsHandIn (layout_of layout.now) hand.now }
+    ensures { let asked = call_to_put (layout_of layout.now) hand.now in MatchResult result
+        (λ call. asked ≡ Ok (inner_of call))
+        (λ refusal. asked ≡ Err refusal) }
 {
     match hand.hand() {
         Hand::Empty => Err(TendRefusal::HandEmpty),
         Hand::Fresh { volume, batch: _ } => Ok(InnerCall::Deliver {
             volume: VolumeNumber(*volume),
         }),
-        Hand::Dead { volume, batch } => match batch.range() {
+        Hand::Dead { volume, batch } => match batch.range(layout.range_blocks_of(*volume)) {
             Some(range) => Ok(InnerCall::Free {
                 volume: VolumeNumber(*volume),
                 range,
@@ -91,7 +91,7 @@ fn call_of(layout: &Layout, hand: &BatchInHand, tend: Tend) -> Result<InnerCall,
             }
             Ok(InnerCall::Cull { volume })
         }
-        Tend::PutDown => put_call(hand),
+        Tend::PutDown => put_call(layout, hand),
     }
 }
 
@@ -119,7 +119,8 @@ fn told(reply: JobReply) -> (BatchInHand, Tended)
         }
         JobReply::Gave(hand) => {
             let count = blocks_in(&hand);
-            (BatchInHand::new(Hand::Empty), Tended::PutDown { count })
+            let empty = BatchInHand::new(Hand::Empty).seen(hand.has_enough());
+            (empty, Tended::PutDown { count })
         }
         JobReply::Replied(_) | JobReply::Surveyed(_) => unreachable!(),
     }
@@ -167,7 +168,8 @@ impl Worker {
 
     /// The tend after a turn without a message, where so many were made with an empty hand: what is
     /// in the hand is put down, else culls and fetches take turns, over all volumes, and the
-    /// fetches of a volume over its ranges.
+    /// fetches of a volume over its ranges. Where the last call on a stock told that it has enough
+    /// numbers, a cull takes the place of the fetch; that call is the cull before it as a rule.
     pub fn next_tend(&self, filer: &Filer, made: u64) -> Tend
         ensures { IsNextTend (length (layout_in filer.now).volumes) made
             (hand_in self.now) result }
@@ -178,6 +180,9 @@ impl Worker {
         let volumes = filer.depot.layout().volume_count() as u64;
         let volume = VolumeNumber((made / 2 % volumes) as u32);
         if made % 2 == 0 {
+            return Tend::Cull { volume };
+        }
+        if self.hand.has_enough() {
             return Tend::Cull { volume };
         }
         let range = (made / (2 * volumes) % u64::from(RANGES)) as u32;

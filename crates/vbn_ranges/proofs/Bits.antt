@@ -22,16 +22,16 @@ pub odd : (size first word : ℕ) → word % 2 ≡ 1 → bits_from (suc size) fi
 unfolding bits_from
 odd size first word e = ap (λ n. if n == 1 then first ∷ bits_from size (first + 1) (word / 2) else bits_from size (first + 1) (word / 2)) e
 
-even : (size first word : ℕ) → word % 2 ≡ 0 → bits_from (suc size) first word ≡ bits_from size (first + 1) (word / 2)
+pub even : (size first word : ℕ) → word % 2 ≡ 0 → bits_from (suc size) first word ≡ bits_from size (first + 1) (word / 2)
 unfolding bits_from
 even size first word e = ap (λ n. if n == 1 then first ∷ bits_from size (first + 1) (word / 2) else bits_from size (first + 1) (word / 2)) e
 
-none : (first word : ℕ) → bits_from zero first word ≡ []
+pub none : (first word : ℕ) → bits_from zero first word ≡ []
 unfolding bits_from
 none first word = refl
 
 -- the lowest bit is 0 or 1
-lowest : (word : ℕ) → (word % 2 ≡ 0) ⊎ (word % 2 ≡ 1)
+pub lowest : (word : ℕ) → (word % 2 ≡ 0) ⊎ (word % 2 ≡ 1)
 lowest word = ⊎_elim (λ l. inl (omega arith)) (λ l. inr (omega arith)) (cases_lt (word % 2) 1)
 
 pub bits-rising : (size first high word : ℕ) → first + size ≡ high → Rising first high (bits_from size first word)
@@ -90,9 +90,6 @@ at-odd word first t e = omega arith ∙ ap (λ n. first + under n t) (sym e)
 or-false : (t : Bool) → (t || false) ≡ t
 or-false true = refl
 or-false false = refl
-
-same-place : (first k t : ℕ) → first + 64 + 64 * k + t ≡ first + 64 * suc k + t
-same-place first k t = omega arith
 
 pub lowest-bit : (size first word : ℕ) → 0 < word → word < 2 ^ size
     → bits_from size first word ≡ (first + count_trailing_zeros size word) ∷ bits_from size first (bit_and word (word - 1))
@@ -188,19 +185,3 @@ zero-whole k first [] l z = refl
 zero-whole zero first (w ∷ words) l z = absurd (omega arith)
 zero-whole (suc k) first (w ∷ words) l z =
     (λ i. bits_from 64 first (z.0 i) ++ zero-whole k (first + 64) words (omega arith) z.1 i) ∙ ap (λ bs. bs ++ []) (bits-zero 64 first)
-
--- the lowest number, and what is left without it
-pub lowest-member : (k first : ℕ) (words : List ℕ) → ZeroBefore k words → k < length words → 0 < get_or words k 0 → get_or words k 0 < 2 ^ 64
-    → members first words
-    ≡ (first + 64 * k + count_trailing_zeros 64 (get_or words k 0)) ∷ members first (set words k (bit_and (get_or words k 0) (get_or words k 0 - 1)))
-lowest-member k first [] z l p u = absurd (omega arith)
-lowest-member zero first (w ∷ words) z l p u =
-    ap (λ bs. bs ++ members (first + 64) words) (lowest-bit 64 first w p u)
-    ∙ ap (λ n. (n + count_trailing_zeros 64 w) ∷ (bits_from 64 first (bit_and w (w - 1)) ++ members (first + 64) words)) (omega arith)
-lowest-member (suc k) first (w ∷ words) z l p u =
-    let x = get_or words k 0 in
-    let rest = members (first + 64) (set words k (bit_and x (x - 1))) in
-    let none : bits_from 64 first w ≡ [] = ap (bits_from 64 first) z.0 ∙ bits-zero 64 first in
-    ap (λ bs. bs ++ members (first + 64) words) none
-    ∙ lowest-member k (first + 64) words z.1 (omega arith) p u
-    ∙ (λ i. same-place first k (count_trailing_zeros 64 x) i ∷ (sym none i ++ rest))

@@ -9,16 +9,17 @@ use Rattle.std.specs.FinSet.{FinSet, contains, len, from_list, remove, insert, c
 use Rattle.std.specs.FinSet.{contains-empty, contains-union, contains-difference, contains-from_list_nat, same_set, nat_cmp-IsAntisymmetric}
 use borrow.Author.Tests.{eqb-true}
 use Rattle.std.proofs.lemmas.Bool.{cases_lt}
-use Rattle.nfs_model.specs.Parts.{range_blocks, most_ranges, most_carried}
+use Rattle.nfs_model.specs.Parts.{most_ranges, most_carried}
 use Rattle.nfs_model.specs.Moves.{in_range, first_filled, lowest_batch}
-use Rattle.nfs_model.specs.volume.Ranges.{with_numbers, without_numbers, IsOfVolume}
+use Rattle.nfs_model.specs.volume.Ranges.{with_numbers, without_numbers, DeadValue, dead_taken, IsOfVolume}
 use Rattle.nfs_values.specs.declared.number.BlockNumber.{BlockNumber}
 use Rattle.std.specs.Option.{IfSome, IfNone, option_map}
 use Rattle.vbn_ranges.specs.Batch.{numbers, first_of}
 use Rattle.vbn_ranges.specs.Marks.{MarksValue, lowest_marked}
-use Rattle.vbn_ranges.specs.Dead.{all_of, AreNumbered, AreDead, lowest_dead, lowest_of}
+use Rattle.vbn_ranges.specs.Dead.{all_of, dead_of, AreNumbered, AreDead, lowest_dead, lowest_of}
 use Rattle.vbn_ranges.proofs.Rising.{is_in, Rising, rising-weaker, not-below, in-head}
 use Rattle.vbn_ranges.proofs.Ranged.{not-both}
+use Rattle.vbn_ranges.proofs.Quotients.{below-range, quotient-is, within-range}
 use Rattle.vbn_ranges.proofs.DeadSets.{in-all, in-union, without-none, lowest-rising, lowest-in}
 
 -- ---- counts
@@ -143,33 +144,35 @@ filter-agree p r (suc n) low high e a =
     λ i. cond (a low (omega arith) (omega arith) i) (low ∷ filter-agree p r n (low + 1) high (omega arith) (λ q l u. a q (omega arith) u) i)
     (filter-agree p r n (low + 1) high (omega arith) (λ q l u. a q (omega arith) u) i)
 
-in-range-agree : (range : ℕ) (s t : FinSet nat_cmp) → ((q : ℕ) → q / range_blocks ≡ range → contains s q ≡ contains t q)
-    → in_range range s ≡ in_range range t
+in-range-agree : (size range : ℕ) (s t : FinSet nat_cmp) → ((q : ℕ) → q / size ≡ range → contains s q ≡ contains t q)
+    → in_range size range s ≡ in_range size range t
 unfolding in_range
-in-range-agree range s t a =
-    filter-agree (contains s) (contains t) range_blocks (range_blocks * range) (range_blocks * range + range_blocks) refl (λ q l u. a q (omega arith))
+in-range-agree size range s t a =
+    filter-agree (contains s) (contains t) size (size * range) (size * range + size) refl (λ q l u. a q (quotient-is size range q l u))
 
-batches : (n : ℕ) (whole : FinSet nat_cmp) (from : ℕ) (marks : List MarksValue) → AreNumbered from marks
-    → ((i : ℕ) (d : MarksValue) (q : ℕ) → i < length marks → q / range_blocks ≡ from + i → contains whole q ≡ contains (get_or marks i d).set q)
-    → map (λ r. take (min n most_carried) (in_range r whole)) (range_with_len from (length marks)) ≡ map (lowest_marked n) marks
-batches n whole from [] h a = refl
-batches n whole from (m ∷ marks) h a =
+batches : (size n : ℕ) (whole : FinSet nat_cmp) (from : ℕ) (marks : List MarksValue) → AreNumbered size from marks
+    → ((i : ℕ) (d : MarksValue) (q : ℕ) → i < length marks → q / size ≡ from + i → contains whole q ≡ contains (get_or marks i d).set q)
+    → map (λ r. take (min n most_carried) (in_range size r whole)) (range_with_len from (length marks)) ≡ map (lowest_marked n) marks
+batches size n whole from [] h a = refl
+batches size n whole from (m ∷ marks) h a =
     let k = min n most_carried in
-    let number = h.0 in
-    (λ i. take k (in-range-agree from whole m.set (λ q e. a 0 m q (omega arith) (omega arith)) i)
-    ∷ map (λ r. take k (in_range r whole)) (range_with_len (from + 1) (length marks)))
-    ∙ (λ i. take k (in_range (sym number i) m.set)
-    ∷ batches n whole (from + 1) marks h.1.1 (λ j d q l e. a (suc j) d q (omega arith) (omega arith)) i)
+    let sized = h.0.size_is in
+    let number = h.0.range_is in
+    (λ i. take k (in-range-agree size from whole m.set (λ q e. a 0 m q (omega arith) (omega (arith, e))) i)
+    ∷ map (λ r. take k (in_range size r whole)) (range_with_len (from + 1) (length marks)))
+    ∙ (λ i. take k (in_range (sym sized i) (sym number i) m.set)
+    ∷ batches size n whole (from + 1) marks h.1 (λ j d q l e. a (suc j) d q (omega arith) (omega (arith, e))) i)
 
-lowest-of-is : (n : ℕ) (marks : List MarksValue) → AreNumbered 0 marks → length marks ≡ most_ranges → lowest_of n (all_of marks) ≡ lowest_dead n marks
+lowest-of-is : (size n : ℕ) (marks : List MarksValue) → AreNumbered size 0 marks → length marks ≡ most_ranges
+    → lowest_of size n (all_of marks) ≡ lowest_dead n marks
 unfolding lowest_of
-lowest-of-is n marks h s =
-    ap (λ (k : ℕ). first_filled (map (λ r. take (min n most_carried) (in_range r (all_of marks))) (range_with_len 0 k))) (sym s)
-    ∙ ap first_filled (batches n (all_of marks) 0 marks h (λ i d q l e. in-all 0 i marks d q h l e))
+lowest-of-is size n marks h s =
+    ap (λ (k : ℕ). first_filled (map (λ r. take (min n most_carried) (in_range size r (all_of marks))) (range_with_len 0 k))) (sym s)
+    ∙ ap first_filled (batches size n (all_of marks) 0 marks h (λ i d q l e. in-all size 0 i marks d q h l e))
 
-pub lowest-batch-is : (set : FinSet nat_cmp) → lowest_of 64 set ≡ lowest_batch set
+pub lowest-batch-is : (size : ℕ) (set : FinSet nat_cmp) → lowest_of size 64 set ≡ lowest_batch size set
 unfolding lowest_of lowest_batch
-lowest-batch-is set = refl
+lowest-batch-is size set = refl
 
 -- ---- a step of all dead blocks
 
@@ -180,49 +183,52 @@ refilled zero (m ∷ new) rest e = absurd (omega arith)
 refilled (suc n) (m ∷ new) rest e = ap (λ (ms : List MarksValue). m ∷ ms) (refilled n new rest (omega arith))
 
 -- what is taken from the marks of all ranges
-pub record TakenFrom (n : ℕ) (old new : List MarksValue) (blocks : List ℕ) : Type 0 where
+pub record TakenFrom (size n : ℕ) (old new : List MarksValue) (blocks : List ℕ) : Type 0 where
   pub batch : blocks ≡ lowest_dead n old
   pub left : all_of new ≡ without_numbers (lowest_dead n old) (all_of old)
-  pub numbered : AreNumbered 0 new
-  pub size : length new ≡ length old
+  pub numbered : AreNumbered size 0 new
+  pub long : length new ≡ length old
 
-pub taken-from : (n : ℕ) (lent old new : List MarksValue) (blocks : List ℕ) → lent ≡ old → blocks ≡ lowest_dead n lent
-    → all_of new ≡ without_numbers (lowest_dead n lent) (all_of lent) → AreNumbered 0 new → length new ≡ length lent → TakenFrom n old new blocks
-taken-from n lent old new blocks same b l h s =
-    subst (λ (ms : List MarksValue). TakenFrom n ms new blocks) same (record { batch = b; left = l; numbered = h; size = s })
+pub taken-from : (size n : ℕ) (lent old new : List MarksValue) (blocks : List ℕ) → lent ≡ old → blocks ≡ lowest_dead n lent
+    → all_of new ≡ without_numbers (lowest_dead n lent) (all_of lent) → AreNumbered size 0 new → length new ≡ length lent → TakenFrom size n old new blocks
+taken-from size n lent old new blocks same b l h s =
+    subst (λ (ms : List MarksValue). TakenFrom size n ms new blocks) same (record { batch = b; left = l; numbered = h; long = s })
 
-pub fits-count : (n count : ℕ) (old new : List MarksValue) (blocks : List ℕ) → AreDead old count → TakenFrom n old new blocks → length blocks ≤ count
-fits-count n count old new blocks h t =
+pub fits-count : (size n count : ℕ) (old new : List MarksValue) (blocks : List ℕ) → AreDead size old count → TakenFrom size n old new blocks
+    → length blocks ≤ count
+fits-count size n count old new blocks h t =
     let all = len-taken n old in
     let counted = h.counted in
-    let size = ap length t.batch in
-    omega arith
+    let long = ap length t.batch in
+    omega (arith, all, counted, long)
 
-pub still-dead : (n count : ℕ) (old new : List MarksValue) (blocks : List ℕ) → AreDead old count → TakenFrom n old new blocks
-    → AreDead (take (length old) (new ++ drop (length new) old)) (count - length blocks)
-still-dead n count old new blocks h t =
-    subst (λ (ms : List MarksValue). AreDead ms (count - length blocks)) (sym (refilled (length old) new (drop (length new) old) t.size))
+pub still-dead : (size n count : ℕ) (old new : List MarksValue) (blocks : List ℕ) → AreDead size old count → TakenFrom size n old new blocks
+    → AreDead size (take (length old) (new ++ drop (length new) old)) (count - length blocks)
+still-dead size n count old new blocks h t =
+    subst (λ (ms : List MarksValue). AreDead size ms (count - length blocks)) (sym (refilled (length old) new (drop (length new) old) t.long))
     (record {
-      all_ranges = t.size ∙ h.all_ranges;
+      sized = h.sized;
+      all_ranges = t.long ∙ h.all_ranges;
       numbered = t.numbered;
       counted =
           let all = len-taken n old in
           let counted = h.counted in
-          let size = ap length t.batch in
+          let long = ap length t.batch in
           let left = ap len t.left in
-          omega arith;
+          omega (arith, all, counted, long, left);
     })
 
-pub lowest-taken-is : (n count : ℕ) (old new : List MarksValue) (blocks : List ℕ) → AreDead old count → TakenFrom n old new blocks
-    → blocks ≡ lowest_of n (all_of old)
-lowest-taken-is n count old new blocks h t = t.batch ∙ sym (lowest-of-is n old h.numbered h.all_ranges)
+pub lowest-taken-is : (size n count : ℕ) (old new : List MarksValue) (blocks : List ℕ) → AreDead size old count → TakenFrom size n old new blocks
+    → blocks ≡ lowest_of size n (all_of old)
+lowest-taken-is size n count old new blocks h t = t.batch ∙ sym (lowest-of-is size n old h.numbered h.all_ranges)
 
-pub lowest-left : (n count : ℕ) (old new : List MarksValue) (blocks : List ℕ) → AreDead old count → TakenFrom n old new blocks
-    → all_of (take (length old) (new ++ drop (length new) old)) ≡ without_numbers (lowest_of n (all_of old)) (all_of old)
-lowest-left n count old new blocks h t =
-    ap all_of (refilled (length old) new (drop (length new) old) t.size)
+pub lowest-left : (size n count : ℕ) (old new : List MarksValue) (blocks : List ℕ) → AreDead size old count → TakenFrom size n old new blocks
+    → dead_of size (take (length old) (new ++ drop (length new) old)) ≡ dead_taken (lowest_of size n (all_of old)) (dead_of size old)
+lowest-left size n count old new blocks h t =
+    ap (λ (s : FinSet nat_cmp). record { range_blocks = size; blocks = s })
+    (ap all_of (refilled (length old) new (drop (length new) old) t.long)
     ∙ t.left
-    ∙ ap (λ (bs : List ℕ). without_numbers bs (all_of old)) (sym (lowest-of-is n old h.numbered h.all_ranges))
+    ∙ ap (λ (bs : List ℕ). without_numbers bs (all_of old)) (sym (lowest-of-is size n old h.numbered h.all_ranges)))
 
 -- ---- the lowest number alone
 
@@ -236,9 +242,9 @@ first-of-ranges : (f : ℕ → List ℕ) (rs : List ℕ)
 first-of-ranges f [] = refl
 first-of-ranges f (r ∷ rs) = first-of-filled (f r) (map (λ r. take 1 (f r)) rs) (map (λ r. take 64 (f r)) rs) (first-of-ranges f rs)
 
-pub first-lowest : (set : FinSet nat_cmp) → first_of (lowest_of 1 set) ≡ first_of (lowest_of 64 set)
+pub first-lowest : (size : ℕ) (set : FinSet nat_cmp) → first_of (lowest_of size 1 set) ≡ first_of (lowest_of size 64 set)
 unfolding lowest_of
-first-lowest set = first-of-ranges (λ r. in_range r set) (range_with_len 0 most_ranges)
+first-lowest size set = first-of-ranges (λ r. in_range size r set) (range_with_len 0 most_ranges)
 
 one-filled : (xs : List ℕ) (a : List (List ℕ)) → length (first_filled a) ≤ 1 → length (first_filled (take 1 xs ∷ a)) ≤ 1
 one-filled [] a l = l
@@ -253,9 +259,9 @@ single [] b l e = absurd cc
 single (c ∷ []) b l e = let same : c ≡ b = cc in ap (λ (n : ℕ). n ∷ []) same
 single (c ∷ (d ∷ bs)) b l e = absurd (omega arith)
 
-pub lowest-one : (set : FinSet nat_cmp) (b : ℕ) → first_of (lowest_of 1 set) ≡ Some b → lowest_of 1 set ≡ b ∷ []
+pub lowest-one : (size : ℕ) (set : FinSet nat_cmp) (b : ℕ) → first_of (lowest_of size 1 set) ≡ Some b → lowest_of size 1 set ≡ b ∷ []
 unfolding lowest_of
-lowest-one set b e = single (lowest_of 1 set) b (one-of-ranges (λ r. in_range r set) (range_with_len 0 most_ranges)) e
+lowest-one size set b e = single (lowest_of size 1 set) b (one-of-ranges (λ r. in_range size r set) (range_with_len 0 most_ranges)) e
 
 -- ---- nothing is taken only where nothing is dead
 
@@ -291,24 +297,26 @@ none-taken : (xs : List ℕ) → take 1 xs ≡ [] → xs ≡ []
 none-taken [] e = refl
 none-taken (x ∷ xs) e = absurd cc
 
-there : (set : FinSet nat_cmp) (q : ℕ) → contains set q ≡ true → is_in (in_range (q / range_blocks) set) q ≡ true
+there : (size : ℕ) (set : FinSet nat_cmp) (q : ℕ) → 0 < size → contains set q ≡ true → is_in (in_range size (q / size) set) q ≡ true
 unfolding in_range
-there set q e = filter-keeps (contains set) range_blocks (range_blocks * (q / range_blocks)) q (omega arith) (omega arith) e
+there size set q some e =
+    let within = within-range size (q / size) q some refl in filter-keeps (contains set) size (size * (q / size)) q within.low within.high e
 
 if-never : (t : Bool) → (t ≡ true → ⊥) → t ≡ false
 if-never true h = absurd (h refl)
 if-never false h = refl
 
-pub none-lowest : (set : FinSet nat_cmp) → IsOfVolume set → first_of (lowest_of 1 set) ≡ None → set ≡ sets.empty
+pub none-lowest : (size : ℕ) (set : FinSet nat_cmp) → 0 < size → IsOfVolume size set → first_of (lowest_of size 1 set) ≡ None → set ≡ sets.empty
 unfolding lowest_of
-none-lowest set v e =
+none-lowest size set some v e =
     same_set nat_cmp_total nat_cmp-IsAntisymmetric _ _
     (λ q. if-never (contains set q)
     (λ t.
-    let low = v.below q t in
-    let none = none-taken (in_range (q / range_blocks) set)
-    (none-of-range (λ r. take 1 (in_range r set)) most_ranges 0 (q / range_blocks) (omega arith) (omega arith) (no-first (lowest_of 1 set) e)) in
-    not-both _ (there set q t) (ap (λ (bs : List ℕ). is_in bs q) none))
+    let low = below-range size most_ranges q some (v.below q t) in
+    let none = none-taken (in_range size (q / size) set)
+    (none-of-range (λ r. take 1 (in_range size r set)) most_ranges 0 (q / size) (omega arith) (omega (arith, low))
+    (no-first (lowest_of size 1 set) e)) in
+    not-both _ (there size set q some t) (ap (λ (bs : List ℕ). is_in bs q) none))
     ∙ sym (contains-empty nat_cmp q))
 
 -- ---- the first of a batch
@@ -321,27 +329,33 @@ pub first-is : (r : Option BlockNumber) (blocks : List BlockNumber) (lowest : Li
     → option_map (λ (b : BlockNumber). b.0) r ≡ first_of lowest
 first-is r blocks lowest e f = ap (option_map (λ (b : BlockNumber). b.0)) e ∙ firsts blocks ∙ ap first_of f
 
-pub one-left : (r : Option BlockNumber) (set new : FinSet nat_cmp) → option_map (λ (b : BlockNumber). b.0) r ≡ first_of (lowest_of 1 set)
-    → new ≡ without_numbers (lowest_of 1 set) set → IfSome r (λ b. new ≡ without_numbers (b.0 ∷ []) set)
-one-left None set new e l = tt
-one-left (Some b) set new e l = l ∙ ap (λ (bs : List ℕ). without_numbers bs set) (lowest-one set b.0 (sym e))
+pub one-left : (r : Option BlockNumber) (d new : DeadValue) → option_map (λ (b : BlockNumber). b.0) r ≡ first_of (lowest_of d.range_blocks 1 d.blocks)
+    → new ≡ dead_taken (lowest_of d.range_blocks 1 d.blocks) d → IfSome r (λ b. new ≡ dead_taken (b.0 ∷ []) d)
+one-left None d new e l = tt
+one-left (Some b) d new e l = l ∙ ap (λ (bs : List ℕ). dead_taken bs d) (lowest-one d.range_blocks d.blocks b.0 (sym e))
 
-pub none-left : (r : Option BlockNumber) (set new : FinSet nat_cmp) → IsOfVolume set → option_map (λ (b : BlockNumber). b.0) r ≡ first_of (lowest_of 1 set)
-    → new ≡ without_numbers (lowest_of 1 set) set → IfNone r ((set ≡ sets.empty) × (new ≡ set))
-none-left None set new v e l =
-    (none-lowest set v (sym e), l ∙ ap (λ (bs : List ℕ). without_numbers bs set) (no-first (lowest_of 1 set) (sym e)) ∙ without-none set)
-none-left (Some b) set new v e l = tt
+none-taken-of : (d : DeadValue) → dead_taken [] d ≡ d
+none-taken-of d = ap (λ (s : FinSet nat_cmp). record { range_blocks = d.range_blocks; blocks = s }) (without-none d.blocks)
+
+pub none-left : (r : Option BlockNumber) (d new : DeadValue) → 0 < d.range_blocks → IsOfVolume d.range_blocks d.blocks
+    → option_map (λ (b : BlockNumber). b.0) r ≡ first_of (lowest_of d.range_blocks 1 d.blocks)
+    → new ≡ dead_taken (lowest_of d.range_blocks 1 d.blocks) d → IfNone r ((d.blocks ≡ sets.empty) × (new ≡ d))
+none-left None d new some v e l = (
+  none-lowest d.range_blocks d.blocks some v (sym e),
+  l ∙ ap (λ (bs : List ℕ). dead_taken bs d) (no-first (lowest_of d.range_blocks 1 d.blocks) (sym e)) ∙ none-taken-of d,
+)
+none-left (Some b) d new some v e l = tt
 
 never-first : (bs : List ℕ) → ((q : ℕ) → is_in bs q ≡ true → ⊥) → first_of bs ≡ None
 never-first [] h = refl
 never-first (b ∷ bs) h = absurd (h b (in-head b bs b refl))
 
-pub empty-first : (marks : List MarksValue) (count : ℕ) → AreDead marks count → count ≡ 0
-    → (all_of marks ≡ sets.empty) × (None ≡ first_of (lowest_batch (all_of marks)))
-empty-first marks count h z =
+pub empty-first : (size : ℕ) (marks : List MarksValue) (count : ℕ) → AreDead size marks count → count ≡ 0
+    → (all_of marks ≡ sets.empty) × (None ≡ first_of (lowest_batch size (all_of marks)))
+empty-first size marks count h z =
     let none : all_of marks ≡ sets.empty = empty_of_len (all_of marks) (sym h.counted ∙ z) in (
       none,
-      sym (ap first_of (sym (lowest-batch-is (all_of marks)) ∙ lowest-of-is 64 marks h.numbered h.all_ranges)
+      sym (ap first_of (sym (lowest-batch-is size (all_of marks)) ∙ lowest-of-is size 64 marks h.numbered h.all_ranges)
           ∙ never-first (lowest_dead 64 marks)
           (λ q t. not-both _ (in-dead 64 marks q t) (ap (λ s. contains s q) none ∙ contains-empty nat_cmp q))),
     )

@@ -11,13 +11,14 @@ use Rattle.std.proofs.lemmas.Bool.{cases_lt}
 use Rattle.std.proofs.lemmas.List.{take-append-drop}
 use Rattle.std.proofs.lemmas.List.Folds.{list_any-append}
 use borrow.Author.Tests.{eqb-true}
-use Rattle.nfs_model.specs.Parts.{range_blocks, most_carried}
+use Rattle.nfs_model.specs.Parts.{most_carried}
 use Rattle.nfs_model.specs.Moves.{in_range, first_filled}
 use Rattle.nfs_model.specs.volume.Ranges.{with_numbers, without_numbers, IsOfVolume}
 use Rattle.vbn_ranges.specs.Marks.{MarksValue, no_marks, lowest_marked, marked, unmarked, IsMarks}
-use Rattle.vbn_ranges.specs.Dead.{all_of, AreNumbered, AreDead, lowest_dead}
+use Rattle.vbn_ranges.specs.Dead.{all_of, IsMarksOf, AreNumbered, AreDead, lowest_dead}
 use Rattle.vbn_ranges.proofs.Rising.{is_in, Rising, rising-weaker, rising-front, within-rising}
 use Rattle.vbn_ranges.proofs.Ranged.{not-both}
+use Rattle.vbn_ranges.proofs.Quotients.{quotient-is, range-below, size-some}
 
 -- ---- which numbers are there
 
@@ -25,65 +26,74 @@ if-never : (t : Bool) → (t ≡ true → ⊥) → t ≡ false
 if-never true h = absurd (h refl)
 if-never false h = refl
 
-elsewhere : (m : MarksValue) (q : ℕ) → IsMarks m → (q / range_blocks ≡ m.range → ⊥) → contains m.set q ≡ false
-elsewhere m q h n = if-never (contains m.set q) (λ t. n (h q t))
+elsewhere : (size range : ℕ) (m : MarksValue) (q : ℕ) → IsMarksOf size range m → (q / size ≡ range → ⊥) → contains m.set q ≡ false
+elsewhere size range m q h n =
+    if-never (contains m.set q) (λ t. n (sym (ap (λ k. q / k) h.size_is) ∙ h.marks q t ∙ h.range_is))
 
 pub in-union : (m : MarksValue) (marks : List MarksValue) (q : ℕ) → contains (all_of (m ∷ marks)) q ≡ (contains m.set q || contains (all_of marks) q)
 in-union m marks q = contains-union nat_cmp_total m.set (all_of marks) q
 
-below-all : (from : ℕ) (marks : List MarksValue) (q : ℕ) → AreNumbered from marks → q / range_blocks < from → contains (all_of marks) q ≡ false
-below-all from [] q h l = contains-empty nat_cmp q
-below-all from (m ∷ marks) q h l =
-    let number = h.0 in
+below-all : (size from : ℕ) (marks : List MarksValue) (q : ℕ) → AreNumbered size from marks → q / size < from → contains (all_of marks) q ≡ false
+below-all size from [] q h l = contains-empty nat_cmp q
+below-all size from (m ∷ marks) q h l =
     in-union m marks q
-    ∙ (λ i. elsewhere m q h.1.0 (λ e. omega arith) i || below-all (from + 1) marks q h.1.1 (omega arith) i)
+    ∙ (λ i. elsewhere size from m q h.0 (λ e. omega (arith, l, e)) i || below-all size (from + 1) marks q h.1 (omega (arith, l)) i)
 
-above-all : (from : ℕ) (marks : List MarksValue) (q : ℕ) → AreNumbered from marks → from + length marks ≤ q / range_blocks
+above-all : (size from : ℕ) (marks : List MarksValue) (q : ℕ) → AreNumbered size from marks → from + length marks ≤ q / size
     → contains (all_of marks) q ≡ false
-above-all from [] q h l = contains-empty nat_cmp q
-above-all from (m ∷ marks) q h l =
-    let number = h.0 in
+above-all size from [] q h l = contains-empty nat_cmp q
+above-all size from (m ∷ marks) q h l =
     in-union m marks q
-    ∙ (λ i. elsewhere m q h.1.0 (λ e. omega arith) i || above-all (from + 1) marks q h.1.1 (omega arith) i)
+    ∙ (λ i. elsewhere size from m q h.0 (λ e. omega (arith, l, e)) i || above-all size (from + 1) marks q h.1 (omega (arith, l)) i)
 
 or-false : (t : Bool) → (t || false) ≡ t
 or-false true = refl
 or-false false = refl
 
-pub in-all : (from i : ℕ) (marks : List MarksValue) (d : MarksValue) (q : ℕ) → AreNumbered from marks → i < length marks → q / range_blocks ≡ from + i
+pub in-all : (size from i : ℕ) (marks : List MarksValue) (d : MarksValue) (q : ℕ) → AreNumbered size from marks → i < length marks → q / size ≡ from + i
     → contains (all_of marks) q ≡ contains (get_or marks i d).set q
-in-all from i [] d q h l e = absurd (omega arith)
-in-all from zero (m ∷ marks) d q h l e =
-    in-union m marks q ∙ (λ i. contains m.set q || below-all (from + 1) marks q h.1.1 (omega arith) i) ∙ or-false (contains m.set q)
-in-all from (suc i) (m ∷ marks) d q h l e =
-    let number = h.0 in
+in-all size from i [] d q h l e = absurd (omega arith)
+in-all size from zero (m ∷ marks) d q h l e =
+    in-union m marks q ∙ (λ i. contains m.set q || below-all size (from + 1) marks q h.1 (omega (arith, e)) i) ∙ or-false (contains m.set q)
+in-all size from (suc i) (m ∷ marks) d q h l e =
     in-union m marks q
-    ∙ (λ j. elsewhere m q h.1.0 (λ is. omega arith) j || in-all (from + 1) i marks d q h.1.1 (omega arith) (omega arith) j)
+    ∙ (λ j. elsewhere size from m q h.0 (λ is. omega (arith, e, is)) j || in-all size (from + 1) i marks d q h.1 (omega arith) (omega (arith, e)) j)
 
-pub of-volume : (marks : List MarksValue) (count : ℕ) → AreDead marks count → IsOfVolume (all_of marks)
-of-volume marks count h = record {
+pub of-volume : (size : ℕ) (marks : List MarksValue) (count : ℕ) → AreDead size marks count → IsOfVolume size (all_of marks)
+of-volume size marks count h = record {
   below = λ b t.
-      ⊎_elim (λ l. omega arith)
-      (λ l. let size = h.all_ranges in absurd (not-both _ t (above-all 0 marks b h.numbered (omega arith)))) (cases_lt (b / range_blocks) 16);
+      ⊎_elim (λ (l : b / size < 16). range-below size 16 b (size-some size h.sized) l)
+      (λ (l : 16 ≤ b / size).
+      let all = h.all_ranges in
+      absurd (not-both _ t (above-all size 0 marks b h.numbered (omega (arith, all, l))))) (cases_lt (b / size) 16);
 }
 
 -- ---- the marks of one range
 
-pub numbered-at : (from i : ℕ) (marks : List MarksValue) (d : MarksValue) → AreNumbered from marks → i < length marks
-    → ((get_or marks i d).range ≡ from + i) × IsMarks (get_or marks i d)
-numbered-at from i [] d h l = absurd (omega arith)
-numbered-at from zero (m ∷ marks) d h l = (let number = h.0 in omega arith, h.1.0)
-numbered-at from (suc i) (m ∷ marks) d h l = let r = numbered-at (from + 1) i marks d h.1.1 (omega arith) in (let number = r.0 in omega arith, r.1)
+pub numbered-at : (size from i : ℕ) (marks : List MarksValue) (d : MarksValue) → AreNumbered size from marks → i < length marks
+    → IsMarksOf size (from + i) (get_or marks i d)
+numbered-at size from i [] d h l = absurd (omega arith)
+numbered-at size from zero (m ∷ marks) d h l =
+    let range = h.0.range_is in record { size_is = h.0.size_is; range_is = omega (arith, range); marks = h.0.marks }
+numbered-at size from (suc i) (m ∷ marks) d h l =
+    let rest = numbered-at size (from + 1) i marks d h.1 (omega arith) in
+    let range = rest.range_is in record { size_is = rest.size_is; range_is = omega (arith, range); marks = rest.marks }
 
-pub numbered-set : (from i : ℕ) (marks : List MarksValue) (m : MarksValue) → AreNumbered from marks → m.range ≡ from + i → IsMarks m
-    → AreNumbered from (set marks i m)
-numbered-set from i [] m h e k = tt
-numbered-set from zero (x ∷ marks) m h e k = (omega arith, (k, h.1.1))
-numbered-set from (suc i) (x ∷ marks) m h e k = (h.0, (h.1.0, numbered-set (from + 1) i marks m h.1.1 (omega arith) k))
+pub numbered-set : (size from i : ℕ) (marks : List MarksValue) (m : MarksValue) → AreNumbered size from marks → IsMarksOf size (from + i) m
+    → AreNumbered size from (set marks i m)
+numbered-set size from i [] m h k = tt
+numbered-set size from zero (x ∷ marks) m h k =
+    let range = k.range_is in (record { size_is = k.size_is; range_is = omega (arith, range); marks = k.marks }, h.1)
+numbered-set size from (suc i) (x ∷ marks) m h k =
+    let range = k.range_is in
+    (h.0, numbered-set size (from + 1) i marks m h.1 (record { size_is = k.size_is; range_is = omega (arith, range); marks = k.marks }))
 
-pub none-numbered : (n from : ℕ) → AreNumbered from (map no_marks (range_with_len from n))
-none-numbered zero from = tt
-none-numbered (suc n) from = (refl, (λ b t. absurd (not-both _ t (contains-empty nat_cmp b)), none-numbered n (from + 1)))
+pub none-numbered : (size n from : ℕ) → AreNumbered size from (map (no_marks size) (range_with_len from n))
+none-numbered size zero from = tt
+none-numbered size (suc n) from = (
+  record { size_is = refl; range_is = refl; marks = λ b t. absurd (not-both _ t (contains-empty nat_cmp b)) },
+  none-numbered size n (from + 1),
+)
 
 -- ---- one more
 
@@ -132,25 +142,25 @@ kept-beside true true c h = absurd (not-both true refl (h refl))
 kept-beside true false c h = refl
 kept-beside false b c h = refl
 
-pub all-marked-less : (from i : ℕ) (marks : List MarksValue) (d : MarksValue) (blocks : List ℕ) → AreNumbered from marks → i < length marks
-    → ((q : ℕ) → is_in blocks q ≡ true → q / range_blocks ≡ from + i)
+pub all-marked-less : (size from i : ℕ) (marks : List MarksValue) (d : MarksValue) (blocks : List ℕ) → AreNumbered size from marks → i < length marks
+    → ((q : ℕ) → is_in blocks q ≡ true → q / size ≡ from + i)
     → all_of (set marks i (unmarked blocks (get_or marks i d))) ≡ without_numbers blocks (all_of marks)
-all-marked-less from i [] d blocks h l o = absurd (omega arith)
-all-marked-less from zero (m ∷ marks) d blocks h l o =
+all-marked-less size from i [] d blocks h l o = absurd (omega arith)
+all-marked-less size from zero (m ∷ marks) d blocks h l o =
     same_set nat_cmp_total nat_cmp-IsAntisymmetric _ _
     (λ q. contains-union nat_cmp_total (without_numbers blocks m.set) (all_of marks) q
     ∙ ap (λ t. t || contains (all_of marks) q) (contains-difference nat_cmp_total m.set (from_list blocks) q)
     ∙ kept (contains m.set q) (contains {R = nat_cmp} (from_list blocks) q) (contains (all_of marks) q)
-    (λ t. let place = o q (sym (contains-from_list_nat blocks q) ∙ t) in below-all (from + 1) marks q h.1.1 (omega arith))
+    (λ t. let place = o q (sym (contains-from_list_nat blocks q) ∙ t) in below-all size (from + 1) marks q h.1 (omega (arith, place)))
     ∙ sym (contains-difference nat_cmp_total (all_of (m ∷ marks)) (from_list blocks) q
     ∙ ap (λ t. t && not (contains {R = nat_cmp} (from_list blocks) q)) (in-union m marks q)))
-all-marked-less from (suc i) (m ∷ marks) d blocks h l o =
-    ap (union m.set) (all-marked-less (from + 1) i marks d blocks h.1.1 (omega arith) (λ q t. let place = o q t in omega arith))
+all-marked-less size from (suc i) (m ∷ marks) d blocks h l o =
+    ap (union m.set) (all-marked-less size (from + 1) i marks d blocks h.1 (omega arith) (λ q t. let place = o q t in omega (arith, place)))
     ∙ same_set nat_cmp_total nat_cmp-IsAntisymmetric _ _
     (λ q. contains-union nat_cmp_total m.set (without_numbers blocks (all_of marks)) q
     ∙ ap (λ t. contains m.set q || t) (contains-difference nat_cmp_total (all_of marks) (from_list blocks) q)
     ∙ kept-beside (contains m.set q) (contains {R = nat_cmp} (from_list blocks) q) (contains (all_of marks) q)
-    (λ t. let place = o q (sym (contains-from_list_nat blocks q) ∙ t) in let number = h.0 in elsewhere m q h.1.0 (λ e. omega arith))
+    (λ t. let place = o q (sym (contains-from_list_nat blocks q) ∙ t) in elsewhere size from m q h.0 (λ e. omega (arith, place, e)))
     ∙ sym (contains-difference nat_cmp_total (all_of (m ∷ marks)) (from_list blocks) q
     ∙ ap (λ t. t && not (contains {R = nat_cmp} (from_list blocks) q)) (in-union m marks q)))
 
@@ -198,31 +208,34 @@ filter-in p (x ∷ xs) q t = by (p x) refl (filter-in p xs q) t
 in-front : (xs ys : List ℕ) (q : ℕ) → is_in xs q ≡ true → is_in (xs ++ ys) q ≡ true
 in-front xs ys q t = list_any-append (λ b. nat_eq b q) xs ys ∙ ap (λ s. s || is_in ys q) t
 
-rising-range : (m : MarksValue) → Rising (range_blocks * m.range) (range_blocks * m.range + range_blocks) (in_range m.range m.set)
+rising-range : (m : MarksValue)
+    → Rising (m.range_blocks * m.range) (m.range_blocks * m.range + m.range_blocks) (in_range m.range_blocks m.range m.set)
 unfolding in_range
-rising-range m = filter-rises (contains m.set) range_blocks (range_blocks * m.range) _ refl
+rising-range m = filter-rises (contains m.set) m.range_blocks (m.range_blocks * m.range) _ refl
 
-in-range-in : (m : MarksValue) (q : ℕ) → is_in (in_range m.range m.set) q ≡ true → contains m.set q ≡ true
+in-range-in : (m : MarksValue) (q : ℕ) → is_in (in_range m.range_blocks m.range m.set) q ≡ true → contains m.set q ≡ true
 unfolding in_range
-in-range-in m q t = filter-in (contains m.set) (range_with_len (range_blocks * m.range) range_blocks) q t
+in-range-in m q t = filter-in (contains m.set) (range_with_len (m.range_blocks * m.range) m.range_blocks) q t
 
-pub lowest-rising : (n : ℕ) (m : MarksValue) → Rising (range_blocks * m.range) (range_blocks * m.range + range_blocks) (lowest_marked n m)
+pub lowest-rising : (n : ℕ) (m : MarksValue)
+    → Rising (m.range_blocks * m.range) (m.range_blocks * m.range + m.range_blocks) (lowest_marked n m)
 lowest-rising n m =
     let k = min n most_carried in
-    rising-front (range_blocks * m.range) (range_blocks * m.range + range_blocks) (lowest_marked n m) (drop k (in_range m.range m.set))
-    (subst (Rising (range_blocks * m.range) (range_blocks * m.range + range_blocks)) (sym (take-append-drop k (in_range m.range m.set))) (rising-range m))
+    let all = in_range m.range_blocks m.range m.set in
+    rising-front (m.range_blocks * m.range) (m.range_blocks * m.range + m.range_blocks) (lowest_marked n m) (drop k all)
+    (subst (Rising (m.range_blocks * m.range) (m.range_blocks * m.range + m.range_blocks)) (sym (take-append-drop k all)) (rising-range m))
 
 pub lowest-in : (n : ℕ) (m : MarksValue) (q : ℕ) → is_in (lowest_marked n m) q ≡ true → contains m.set q ≡ true
 lowest-in n m q t =
     let k = min n most_carried in
+    let all = in_range m.range_blocks m.range m.set in
     in-range-in m q
-    (subst (λ (bs : List ℕ). is_in bs q ≡ true) (take-append-drop k (in_range m.range m.set))
-    (in-front (lowest_marked n m) (drop k (in_range m.range m.set)) q t))
+    (subst (λ (bs : List ℕ). is_in bs q ≡ true) (take-append-drop k all)
+    (in-front (lowest_marked n m) (drop k all) q t))
 
-pub lowest-of : (n : ℕ) (m : MarksValue) (q : ℕ) → is_in (lowest_marked n m) q ≡ true → q / range_blocks ≡ m.range
+pub lowest-of : (n : ℕ) (m : MarksValue) (q : ℕ) → is_in (lowest_marked n m) q ≡ true → q / m.range_blocks ≡ m.range
 lowest-of n m q t =
-    let w = within-rising _ _ (lowest_marked n m) q (lowest-rising n m) t in
-    let low = w.0 in let high = w.1 in omega arith
+    let w = within-rising _ _ (lowest_marked n m) q (lowest-rising n m) t in quotient-is m.range_blocks m.range q w.0 w.1
 
 -- ---- the lowest of all
 

@@ -1,5 +1,8 @@
 pub mod Rising
 pub mod Bits
+pub mod Quotients
+pub mod Summaries
+pub mod Leveled
 pub mod Taken
 pub mod Marked
 pub mod Each

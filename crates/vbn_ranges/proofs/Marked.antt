@@ -10,42 +10,42 @@ use Rattle.std.specs.List.{range_with_len}
 use Rattle.std.specs.Ordering.{nat_cmp}
 use Rattle.std.specs.Cmp.{nat_cmp_total}
 use Rattle.std.specs.FinSet.{FinSet, contains, from_list, contains-union, contains-from_list_nat, same_set, nat_cmp-IsAntisymmetric}
-use Rattle.nfs_model.specs.Parts.{range_blocks, most_carried}
+use Rattle.nfs_model.specs.Parts.{most_carried}
 use Rattle.nfs_model.specs.Moves.{in_range}
 use Rattle.nfs_model.specs.volume.Ranges.{with_numbers, without_numbers}
 use Rattle.vbn_ranges.specs.Words.{bits_from, members, set_of, has_bit}
 use Rattle.vbn_ranges.specs.Marks.{MarksValue, marks_of, no_marks, all_marks, marked, unmarked, IsMarks}
 use Rattle.vbn_ranges.proofs.Rising.{is_in, Rising, filter-rising, not-below, within-rising, set-left}
-use Rattle.vbn_ranges.proofs.Bits.{odd, bits-zero, members-rising, members-in, zero-whole}
+use Rattle.vbn_ranges.proofs.Bits.{ZeroBefore, odd, bits-zero, members-rising, members-in, zero-whole}
+use Rattle.vbn_ranges.proofs.Quotients.{quotient-is, within-range}
 use lib.Pow.{pow_pos}
 use Rattle.vbn_ranges.proofs.Single.{same}
 
 -- ---- what is marked
 
-rising-words : (range : ℕ) (words : List ℕ) → length words ≡ 16
-    → Rising (range_blocks * range) (range_blocks * range + range_blocks) (members (range_blocks * range) words)
-rising-words range words n = members-rising (range_blocks * range) _ words (omega arith)
+rising-words : (size first : ℕ) (words : List ℕ) → 64 * length words ≡ size → Rising first (first + size) (members first words)
+rising-words size first words n = members-rising first (first + size) words (ap (λ k. first + k) n)
 
-pub in-range-is : (range : ℕ) (words : List ℕ) → length words ≡ 16
-    → in_range range (set_of (range_blocks * range) words) ≡ members (range_blocks * range) words
+pub in-range-is : (size range : ℕ) (words : List ℕ) → 64 * length words ≡ size
+    → in_range size range (set_of (size * range) words) ≡ members (size * range) words
 unfolding in_range
-in-range-is range words n =
-    filter-rising (contains (set_of (range_blocks * range) words)) range_blocks (range_blocks * range) (range_blocks * range + range_blocks)
-    (members (range_blocks * range) words) refl (rising-words range words n)
-    (λ q l u. contains-from_list_nat (members (range_blocks * range) words) q)
+in-range-is size range words n =
+    filter-rising (contains (set_of (size * range) words)) size (size * range) (size * range + size)
+    (members (size * range) words) refl (rising-words size (size * range) words n)
+    (λ q l u. contains-from_list_nat (members (size * range) words) q)
 
-pub is-marked : (range : ℕ) (words : List ℕ) (block : ℕ) → block / range_blocks ≡ range
-    → has_bit words (block % range_blocks) ≡ contains (set_of (range_blocks * range) words) block
-is-marked range words block e =
-    let number : range_blocks * range + block % range_blocks ≡ block = omega arith in
-    sym (contains-from_list_nat (members (range_blocks * range) words) block
-    ∙ ap (is_in (members (range_blocks * range) words)) (sym number)
-    ∙ members-in (range_blocks * range) words (block % range_blocks))
+pub is-marked : (size range : ℕ) (words : List ℕ) (block : ℕ) → 0 < size → block / size ≡ range
+    → has_bit words (block % size) ≡ contains (set_of (size * range) words) block
+is-marked size range words block some e =
+    let number : size * range + block % size ≡ block = (within-range size range block some e).place in
+    sym (contains-from_list_nat (members (size * range) words) block
+    ∙ ap (is_in (members (size * range) words)) (sym number)
+    ∙ members-in (size * range) words (block % size))
 
-pub are-marks : (range : ℕ) (words : List ℕ) → length words ≡ 16 → IsMarks (marks_of range words)
-are-marks range words n b t =
-    let w = within-rising _ _ _ b (rising-words range words n) (sym (contains-from_list_nat (members (range_blocks * range) words) b) ∙ t) in
-    let low = w.0 in let high = w.1 in omega arith
+pub are-marks : (size range : ℕ) (words : List ℕ) → 64 * length words ≡ size → IsMarks (marks_of size range words)
+are-marks size range words n b t =
+    let w = within-rising _ _ _ b (rising-words size (size * range) words n) (sym (contains-from_list_nat (members (size * range) words) b) ∙ t) in
+    quotient-is size range b w.0 w.1
 
 -- ---- one more
 
@@ -81,38 +81,56 @@ inserted-at low place block words new e bits q =
     (members-in low new n ∙ bits n ∙ hit n place low block (has_bit words n) e
     ∙ ap (λ t. t || is_in (block ∷ []) (low + n)) (sym (members-in low words n)))) (cases_lt q low)
 
-pub inserted : (range : ℕ) (words new : List ℕ) (block : ℕ) → block / range_blocks ≡ range
-    → ((n : ℕ) → has_bit new n ≡ (n == block % range_blocks || has_bit words n)) → marks_of range new ≡ marked (block ∷ []) (marks_of range words)
-inserted range words new block e bits =
-    ap (λ (s : FinSet nat_cmp). record { range = range; set = s })
-    (same_set nat_cmp_total nat_cmp-IsAntisymmetric _ _
-    (λ q. contains-from_list_nat (members (range_blocks * range) new) q
-    ∙ inserted-at (range_blocks * range) (block % range_blocks) block words new (omega arith) bits q
-    ∙ sym (contains-union nat_cmp_total (set_of (range_blocks * range) words) (from_list (block ∷ [])) q
-    ∙ (λ i. contains-from_list_nat (members (range_blocks * range) words) q i || contains-from_list_nat (block ∷ []) q i))))
+-- a number more among those of words
+pub set-inserted : (first place : ℕ) (words new : List ℕ) → ((n : ℕ) → has_bit new n ≡ (n == place || has_bit words n))
+    → set_of first new ≡ with_numbers ((first + place) ∷ []) (set_of first words)
+set-inserted first place words new bits =
+    same_set nat_cmp_total nat_cmp-IsAntisymmetric _ _
+    (λ q. contains-from_list_nat (members first new) q
+    ∙ inserted-at first place (first + place) words new refl bits q
+    ∙ sym (contains-union nat_cmp_total (set_of first words) (from_list ((first + place) ∷ [])) q
+    ∙ (λ i. contains-from_list_nat (members first words) q i || contains-from_list_nat ((first + place) ∷ []) q i)))
+
+pub inserted : (size range : ℕ) (words new : List ℕ) (block : ℕ) → 0 < size → block / size ≡ range
+    → ((n : ℕ) → has_bit new n ≡ (n == block % size || has_bit words n)) → marks_of size range new ≡ marked (block ∷ []) (marks_of size range words)
+inserted size range words new block some e bits =
+    let number : size * range + block % size ≡ block = (within-range size range block some e).place in
+    ap (λ (s : FinSet nat_cmp). record { range_blocks = size; range = range; set = s })
+    (set-inserted (size * range) (block % size) words new bits ∙ ap (λ n. with_numbers (n ∷ []) (set_of (size * range) words)) number)
 
 -- ---- taken
 
-pub lowest-taken : (range most : ℕ) (words new : List ℕ) → length words ≡ 16
-    → members (range_blocks * range) new ≡ drop (min most most_carried) (members (range_blocks * range) words)
-    → marks_of range new ≡ unmarked (take (min most most_carried) (members (range_blocks * range) words)) (marks_of range words)
-lowest-taken range most words new n e =
-    let all = members (range_blocks * range) words in
+pub lowest-taken : (size range most : ℕ) (words new : List ℕ) → 64 * length words ≡ size
+    → members (size * range) new ≡ drop (min most most_carried) (members (size * range) words)
+    → marks_of size range new ≡ unmarked (take (min most most_carried) (members (size * range) words)) (marks_of size range words)
+lowest-taken size range most words new n e =
+    let all = members (size * range) words in
     let k = min most most_carried in
     let whole = take-append-drop k all in
-    ap (λ (s : FinSet nat_cmp). record { range = range; set = s })
+    ap (λ (s : FinSet nat_cmp). record { range_blocks = size; range = range; set = s })
     (ap from_list e
-    ∙ set-left (range_blocks * range) (range_blocks * range + range_blocks) (take k all) (drop k all)
-    (subst (Rising (range_blocks * range) (range_blocks * range + range_blocks)) (sym whole) (rising-words range words n))
+    ∙ set-left (size * range) (size * range + size) (take k all) (drop k all)
+    (subst (Rising (size * range) (size * range + size)) (sym whole) (rising-words size (size * range) words n))
     ∙ ap (λ bs. without_numbers (take k all) (from_list bs)) whole)
 
 -- ---- none and all
 
-pub none-marked : (range : ℕ) → marks_of range (replicate 16 0) ≡ no_marks range
-none-marked range =
-    ap (λ (bs : List ℕ). record { range = range; set = from_list bs })
-    (zero-whole 16 (range_blocks * range) (replicate 16 0) (omega arith)
-    (refl, (refl, (refl, (refl, (refl, (refl, (refl, (refl, (refl, (refl, (refl, (refl, (refl, (refl, (refl, (refl, tt)))))))))))))))))
+pub zeros-before : (k n : ℕ) → ZeroBefore k (replicate n 0)
+zeros-before zero n = tt
+zeros-before (suc k) zero = tt
+zeros-before (suc k) (suc n) = (refl, zeros-before k n)
+
+pub zeros-length : (n : ℕ) → length {A = ℕ} (replicate n 0) ≡ n
+zeros-length zero = refl
+zeros-length (suc n) = ap suc (zeros-length n)
+
+pub zeros-none : (n first : ℕ) → members first (replicate n 0) ≡ []
+zeros-none n first = zero-whole n first (replicate n 0) (let long = zeros-length n in omega (arith, long)) (zeros-before n n)
+
+pub none-marked : (size range n : ℕ) (words : List ℕ) → words ≡ replicate n 0 → marks_of size range words ≡ no_marks size range
+none-marked size range n words e =
+    ap (λ (bs : List ℕ). record { range_blocks = size; range = range; set = from_list bs })
+    (ap (members (size * range)) e ∙ zeros-none n (size * range))
 
 range-append : (m n a : ℕ) → range_with_len a m ++ range_with_len (a + m) n ≡ range_with_len a (m + n)
 range-append zero n a = λ i. range_with_len (add-zero a i) (sym (zero-add n) i)
@@ -132,7 +150,7 @@ ones-bits (suc size) first =
     ∙ ap (λ w. first ∷ bits_from size (first + 1) w) half
     ∙ ap (λ ns. first ∷ ns) (ones-bits size (first + 1))
 
-ones-members : (n first : ℕ) → members first (replicate n (2 ^ 64 - 1)) ≡ range_with_len first (64 * n)
+pub ones-members : (n first : ℕ) → members first (replicate n (2 ^ 64 - 1)) ≡ range_with_len first (64 * n)
 ones-members zero first = refl
 ones-members (suc n) first =
     let count : 64 + 64 * n ≡ 64 * suc n = omega arith in
@@ -140,8 +158,11 @@ ones-members (suc n) first =
     ∙ range-append 64 (64 * n) first
     ∙ ap (range_with_len first) count
 
-pub all-marked : (range : ℕ) → marks_of range (replicate 16 (2 ^ 64 - 1)) ≡ all_marks range
-all-marked range = ap (λ (bs : List ℕ). record { range = range; set = from_list bs }) (ones-members 16 (range_blocks * range))
+pub all-marked : (size range n : ℕ) (words : List ℕ) → 64 * n ≡ size → words ≡ replicate n (2 ^ 64 - 1)
+    → marks_of size range words ≡ all_marks size range
+all-marked size range n words s e =
+    ap (λ (bs : List ℕ). record { range_blocks = size; range = range; set = from_list bs })
+    (ap (members (size * range)) e ∙ ones-members n (size * range) ∙ ap (range_with_len (size * range)) s)
 
 -- ---- more of them
 
@@ -170,7 +191,7 @@ with-none s =
     (λ q. or-false (contains s q) ∙ sym (contains-union nat_cmp_total s (from_list []) q ∙ (λ i. contains s q || contains-from_list_nat [] q i)))
 
 pub marked-more : (blocks : List ℕ) (b : ℕ) (m : MarksValue) → marked (b ∷ []) (marked blocks m) ≡ marked (blocks ++ b ∷ []) m
-marked-more blocks b m = ap (λ (s : FinSet nat_cmp). record { range = m.range; set = s }) (with-more blocks (b ∷ []) m.set)
+marked-more blocks b m = ap (λ (s : FinSet nat_cmp). record { range_blocks = m.range_blocks; range = m.range; set = s }) (with-more blocks (b ∷ []) m.set)
 
 pub marked-none : (m : MarksValue) → m ≡ marked [] m
-marked-none m = ap (λ (s : FinSet nat_cmp). record { range = m.range; set = s }) (with-none m.set)
+marked-none m = ap (λ (s : FinSet nat_cmp). record { range_blocks = m.range_blocks; range = m.range; set = s }) (with-none m.set)

@@ -1,14 +1,14 @@
 -- Lists of numbers that rise within bounds, and their sets.
-use Rattle.std.proofs.Common.{◌≡◌, refl, sym, ap, ◌∙◌, ℕ, zero, suc, ◌+◌, ◌*◌, ◌/◌, ◌<◌, ◌≤◌, Bool, true, false, not, ◌&&◌, cond, nat_eq}
+use Rattle.std.proofs.Common.{◌≡◌, refl, sym, ap, ◌∙◌, ℕ, zero, suc, ◌+◌, ◌<◌, ◌≤◌, Bool, true, false, not, ◌&&◌, cond, nat_eq}
 use Rattle.std.proofs.Common.{List, [], ◌∷◌, ◌++◌, ⊎_elim, arith}
-use Rattle.std.specs.List.{AllByRecursion, list_any, filter, range_with_len}
+use Rattle.std.specs.List.{list_any, filter, range_with_len}
 use Rattle.std.specs.Ordering.{nat_cmp}
 use Rattle.std.specs.Cmp.{nat_cmp_total}
 use Rattle.std.specs.FinSet.{from_list, contains-difference, contains-from_list_nat, same_set}
 use Rattle.std.specs.FinSet.{nat_cmp-IsAntisymmetric}
 use Rattle.std.proofs.lemmas.Bool.Decides.{nat_tests}
 use Rattle.std.proofs.lemmas.Bool.{cases_lt}
-use Rattle.nfs_model.specs.Parts.{range_blocks, IsAscending}
+use Rattle.nfs_model.specs.Parts.{IsAscending}
 use Rattle.nfs_model.specs.volume.Ranges.{without_numbers}
 
 -- whether a number is in a list
@@ -45,14 +45,6 @@ pub ascending : (low high : ℕ) (bs : List ℕ) → Rising low high bs → IsAs
 ascending low high [] h = tt
 ascending low high (b ∷ []) h = tt
 ascending low high (b ∷ (c ∷ bs)) h = (let a = h.1.0 in omega arith, ascending (b + 1) high (c ∷ bs) h.1)
-
-pub of_range : (range low high : ℕ) (bs : List ℕ) → range_blocks * range ≤ low → high ≤ range_blocks * range + range_blocks → Rising low high bs
-    → AllByRecursion (λ b. b / range_blocks ≡ range) bs
-of_range range low high [] l u h = tt
-of_range range low high (b ∷ bs) l u h =
-    let a = h.0 in
-    let above = rising-bounds (b + 1) high bs h.1 in
-    (omega arith, of_range range (b + 1) high bs (omega arith) u h.1)
 
 -- ---- what is in them
 

@@ -18,7 +18,7 @@ use Rattle.std.proofs.lemmas.List.Folds.{list_any-append}
 use Rattle.nfs_values.specs.declared.number.BlockNumber.{BlockNumber}
 use Rattle.nfs_model.specs.Parts.{IsAscending}
 use Rattle.nfs_model.specs.volume.Ranges.{with_numbers, without_numbers}
-use Rattle.vbn_ranges.specs.Batch.{numbers, IsOfOneRange}
+use Rattle.vbn_ranges.specs.Batch.{numbers, AreCarried}
 use Rattle.vbn_ranges.specs.Stock.{AreApart}
 use Rattle.vbn_ranges.specs.Words.{members, set_of}
 use Rattle.vbn_ranges.proofs.Rising.{is_in, in-head, in-tail, ascending}
@@ -100,7 +100,7 @@ none-there bs [] h = tt
 none-there bs (c ∷ cs) h = (sym (contains-from_list_nat bs c) ∙ h.0, none-there bs cs h.1)
 
 pub put-apart : (r : Bool) (old other new : List BlockNumber) (batch : List ℕ) → new ≡ (if r then old ++ other else old) → AreApart (numbers old)
-    → numbers other ≡ batch → IsOfOneRange batch → AllByRecursion (λ c. contains (from_list {R = nat_cmp} (numbers old)) c ≡ false) batch
+    → numbers other ≡ batch → AreCarried batch → AllByRecursion (λ c. contains (from_list {R = nat_cmp} (numbers old)) c ≡ false) batch
     → AreApart (numbers new)
 put-apart false old other new batch e h is one n = subst (λ (bs : List BlockNumber). AreApart (numbers bs)) (sym e) h
 put-apart true old other new batch e h is one n =

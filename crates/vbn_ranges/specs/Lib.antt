@@ -1,6 +1,9 @@
 pub mod Fault
 pub mod Batch
 pub mod Words
+pub mod Summary
+pub mod Levels
+pub mod Store
 pub mod Marks
 pub mod Dead
 pub mod Stock

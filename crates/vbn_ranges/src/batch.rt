@@ -2,13 +2,13 @@
 
 ghost use Rattle.std.specs.Prelude.{◌≡◌, ◌==◌, ◌<◌, ◌++◌, ◌∷◌, [], length};
 ghost use Rattle.nfs_model.specs.Parts.{most_carried};
-ghost use Rattle.vbn_ranges.specs.Batch.{numbers, IsOfOneRange, batch_range};
+ghost use Rattle.nfs_model.specs.Parts.{IsAscending};
+ghost use Rattle.vbn_ranges.specs.Batch.{numbers, AreCarried, batch_range};
 
-use crate::limits::RANGE_BLOCKS;
 use nfs_values::BlockNumber;
 use std::marker::Model;
 
-/// At most 64 block numbers of one range, ascending.
+/// At most 64 block numbers, ascending.
 #[derive(Drop)]
 pub struct Batch {
     blocks: [BlockNumber; 64],
@@ -40,7 +40,7 @@ impl Batch {
     /// The number of blocks.
     pub fn len(&self) -> usize
         ensures value { result ≡ length self.now }
-        ensures batch { IsOfOneRange self.now }
+        ensures carried { AreCarried self.now }
     {
         self.count
     }
@@ -52,18 +52,20 @@ impl Batch {
         self.count == 0
     }
 
-    /// The range of the blocks; without a block there is none.
-    pub fn range(&self) -> Option<u32>
-        ensures { result ≡ batch_range self.now }
+    /// The range of the first block, where a range has so many blocks; without a block there is
+    /// none.
+    pub fn range(&self, range_blocks: u32) -> Option<u32>
+        requires { 0 < range_blocks }
+        ensures { result ≡ batch_range range_blocks self.now }
     {
         let first = self.as_slice().first()?;
-        Some(first.0 / RANGE_BLOCKS)
+        Some(first.0 / range_blocks)
     }
 
     /// The blocks, ascending.
     pub fn as_slice(&self) -> &[BlockNumber]
         ensures value { numbers result.now ≡ self.now }
-        ensures batch { IsOfOneRange self.now }
+        ensures carried { AreCarried self.now }
     {
         &self.blocks[..self.count]
     }
@@ -71,7 +73,7 @@ impl Batch {
     /// Adds a block after the others.
     pub(crate) fn push(&mut self, block: BlockNumber)
         requires room { length self.old < most_carried }
-        requires batch { IsOfOneRange (self.old ++ block.0 ∷ []) }
+        requires ascending { IsAscending (self.old ++ block.0 ∷ []) }
         ensures { self.new ≡ self.old ++ block.0 ∷ [] }
     {
         self.blocks[self.count] = block;

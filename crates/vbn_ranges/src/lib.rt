@@ -4,15 +4,18 @@
 mod batch;
 mod dead;
 mod fault;
+mod levels;
 mod limits;
+mod looks;
 mod marks;
 mod range;
 mod stock;
+mod store;
 mod words;
 
 pub use batch::Batch;
 pub use dead::DeadBlocks;
 pub use fault::RangeFault;
-pub use limits::RANGE_BLOCKS;
+pub use looks::Looks;
 pub use range::Range;
 pub use stock::Stock;

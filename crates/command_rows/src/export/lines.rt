@@ -78,8 +78,6 @@ fn what_is_so_unless_it_is_said(rt: HostRuntime) {
             assert!(&rt; options.connections.is_none());
             assert!(&rt; options.admission.most_open == 1_024);
             assert!(&rt; options.admission.when_full == WhenFull::IsClosed);
-            assert!(&rt; options.plan.ranges == 16 && options.plan.stripes == 16);
-            assert!(&rt; options.plan.mib == 64 && options.plan.spare == 128);
             assert!(&rt; matches!(options.peers, Peers::Loopback));
             assert!(&rt; !options.log && options.statistics.is_none());
             let idle = options.idle.expect(&rt, "an idle time");
@@ -133,6 +131,9 @@ fn help_is_printed(rt: HostRuntime) {
     let text = str::from_utf8(&out).ok().expect(&rt, "a text");
     assert!(&rt; text.contains("Usage: filer export"));
     assert!(&rt; text.contains("--allow <NETWORK>"));
+    assert!(&rt; text.contains("--size <BYTES>"));
+    assert!(&rt; text.contains("--file-size <BYTES>"));
+    assert!(&rt; text.contains("--inodes <N>"));
     assert!(&rt; text.contains("--idle <SECONDS>"));
     assert!(&rt; text.contains("[default: 600]"));
     assert!(&rt; text.contains("--log "));

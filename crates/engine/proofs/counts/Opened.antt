@@ -6,7 +6,6 @@ use Rattle.std.specs.Ordering.{nat_cmp}
 use Rattle.std.specs.FinSet.{len-empty}
 use Rattle.nfs_model.specs.Tree.{VolumeLayout}
 use Rattle.nfs_model.specs.Server.{opening_volume, opening_volumes}
-use Rattle.nfs_model.specs.Parts.{range_blocks}
 use Rattle.nfs_model.specs.Headline.{opening_parts}
 use Rattle.engine.specs.declared.counts.counts.VolumeCounts.{VolumeCounts}
 use Rattle.engine.specs.counts.Counts.{counts_seen, all_seen}
@@ -16,7 +15,7 @@ abbrev pub counts_free : ℕ → VolumeCounts
 counts_free total = record { files = 0; stock = 0; dead = 0; total = total }
 
 abbrev pub counts_given : VolumeLayout → VolumeCounts
-counts_given v = counts_free (range_blocks * v.ranges)
+counts_given v = counts_free (v.range_blocks * v.ranges)
 
 pub opened : (verifier : List ℕ) (number : ℕ) (volumes : List VolumeLayout)
     → map counts_given volumes ≡ all_seen (opening_volumes verifier number volumes) (map opening_parts volumes)
@@ -36,7 +35,7 @@ take-more (v ∷ volumes) (suc n) less =
 -- one volume more
 pub opened-more : (volumes : List VolumeLayout) (n : ℕ) (counts new : List VolumeCounts) (total : ℕ) → n < length volumes
     → counts ≡ map counts_given (take n volumes) → new ≡ counts ++ counts_free total ∷ []
-    → ((v : VolumeLayout) → slice_get volumes n ≡ Some v → total ≡ range_blocks * v.ranges) → new ≡ map counts_given (take (n + 1) volumes)
+    → ((v : VolumeLayout) → slice_get volumes n ≡ Some v → total ≡ v.range_blocks * v.ranges) → new ≡ map counts_given (take (n + 1) volumes)
 opened-more volumes n counts new total less sofar pushed is =
     let more = take-more volumes n less in
     let next : suc n ≡ n + 1 = omega arith in

@@ -4,7 +4,7 @@ use Rattle.std.specs.Global.{Vec}
 use Rattle.std.specs.FinSet.{len}
 use Rattle.nfs_model.specs.Tree.{Layout, Affinity, Vbn, Range, aggregate_of}
 use Rattle.nfs_model.specs.Server.{VolumeState}
-use Rattle.nfs_model.specs.Parts.{Parts, Hand, Empty, Fresh, Dead, Counts, range_blocks}
+use Rattle.nfs_model.specs.Parts.{Parts, Hand, Empty, Fresh, Dead, Counts}
 use Rattle.nfs_model.specs.World.{World, changed_at}
 use Rattle.nfs_model.specs.Events.Refusals.{Done, HandHas, HasPut}
 use Rattle.affinity.specs.Numbers.{number_of, parents}
@@ -22,11 +22,11 @@ use Rattle.engine.specs.declared.counts.counts.PartCounts.{PartCounts}
 
 -- of what Logical has, and so many numbers
 abbrev pub counts_of : LogicalValue → ℕ → VolumeCounts
-counts_of l total = record { files = l.inodes.used; stock = len l.stock; dead = len l.dead; total = total }
+counts_of l total = record { files = l.inodes.used; stock = len l.stock; dead = len l.dead.blocks; total = total }
 
 -- of a volume
 abbrev pub counted : VolumeContents → VolumeCounts
-counted p = counts_of p.logical (range_blocks * ranges_used p.ranges)
+counted p = counts_of p.logical (p.logical.dead.range_blocks * ranges_used p.ranges)
 
 -- these are the counts of all volumes, by number
 abbrev pub IsCounted : {P : Type 0} → Layout → List VolumeCounts → (ℕ → Option (FilerParcel P)) → Type 0
@@ -110,7 +110,7 @@ put_by fresh (Err number) counts = counts
 
 -- of what is under Volume
 abbrev pub counts_in : VolumeSet → VolumeCounts
-counts_in set = counts_of set.logical.own (range_blocks * ranges_used set.ranges)
+counts_in set = counts_of set.logical.own (set.logical.own.dead.range_blocks * ranges_used set.ranges)
 
 -- by what Logical has, of as many numbers as before
 abbrev pub with_logical : LogicalValue → VolumeCounts → VolumeCounts

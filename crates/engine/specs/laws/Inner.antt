@@ -1,7 +1,8 @@
 -- What an inner call leaves: it begins, runs and is finished at once, for a worker that was lent nothing.
 use Rattle.std.specs.Prelude.{◌≡◌, ℕ, ◌+◌, ◌/◌, ◌<◌, [], ◌∷◌, ◌++◌, Option, Some, slice_get, slice_set}
 use Rattle.nfs_model.specs.Server.{VolumeState}
-use Rattle.nfs_model.specs.Parts.{Parts, Hand, Empty, range_blocks}
+use Rattle.nfs_model.specs.Tree.{Layout, range_blocks_of}
+use Rattle.nfs_model.specs.Parts.{Parts, Hand, Empty}
 use Rattle.nfs_model.specs.World.{World, Worker, changed_at, with_hand}
 use Rattle.affinity.specs.Ancestors.{Covers}
 use Rattle.affinity.specs.Numbers.{number_of, parents}
@@ -48,8 +49,9 @@ abbrev pub hand_after : JobReply → Hand
 hand_after (Took hand) = hand
 hand_after reply = Empty
 
--- An inner call moved numbers between a worker's hand and the parts of its volume, under one stamp. What it gave was in the hand.
-pub record HasMoved (w : World) (worker : ℕ) (call : InnerCall) (reply : JobReply) (new : World) : Type 0 where
+-- An inner call moved numbers between a worker's hand and the parts of its volume, whose ranges have as many blocks as the layout says,
+-- under one stamp. What it gave was in the hand.
+pub record HasMoved (layout : Layout) (w : World) (worker : ℕ) (call : InnerCall) (reply : JobReply) (new : World) : Type 0 where
   pub mover : Worker
   pub at : slice_get w.workers worker ≡ Some mover
   pub gave : gives (Inner call) reply ≡ batches_in mover.hand
@@ -58,7 +60,7 @@ pub record HasMoved (w : World) (worker : ℕ) (call : InnerCall) (reply : JobRe
   pub before : Parts
   pub parts : slice_get w.parts (inner_volume call) ≡ Some before
   pub after : Parts
-  pub moves : InnerMoves call (volume.total / range_blocks) before reply after
+  pub moves : InnerMoves (range_blocks_of layout (inner_volume call)) call (volume.total / volume.range_blocks) before reply after
   pub world : new ≡ record w {
     workers = changed_at (with_hand (hand_after reply)) w.workers worker;
     parts = slice_set w.parts (inner_volume call) after;

@@ -3,6 +3,7 @@ pub mod Served
 pub mod Recorded
 pub mod Historied
 pub mod Agreeing
+pub mod Sized
 pub mod Changing
 pub mod Beginning
 pub mod Working

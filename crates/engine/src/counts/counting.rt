@@ -14,9 +14,6 @@ use affinity::Layout;
 use filer_state::{Files, ranges_used};
 use parcels::{AggrHeld, LogicalHeld, SerialHeld, VolumeHeld};
 
-/// The blocks of a range.
-pub(crate) const RANGE_BLOCKS: usize = 1024;
-
 /// Counts the volume again whose Logical is held: so many numbers as before.
 pub(crate) fn recount_logical(
     counts: &mut Vec<VolumeCounts>,
@@ -123,9 +120,10 @@ fn count_placed(place: &Option<VolumeHeld<Files>>) -> VolumeCounts
 fn count_volume(held: &VolumeHeld<Files>) -> VolumeCounts
     ensures { (stripes : ℕ) → result ≡ counts_in (volume_value stripes (Some held.now)) }
 {
+    let range_blocks = held.logical.own.get().dead.range_blocks();
     count(
         &held.logical,
-        RANGE_BLOCKS * ranges_used(&held.vbn) as usize,
+        range_blocks as usize * ranges_used(&held.vbn) as usize,
     )
 }
 

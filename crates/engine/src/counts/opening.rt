@@ -3,12 +3,10 @@
 ghost use Rattle.std.specs.Prelude.{◌≡◌, ◌*◌, map, slice_get, ℕ, List, Some, IfOk};
 ghost use Rattle.nfs_model.specs.Tree.{VolumeLayout};
 ghost use Rattle.nfs_model.specs.Server.{opening};
-ghost use Rattle.nfs_model.specs.Parts.{range_blocks};
 ghost use Rattle.nfs_model.specs.Headline.{opening_parts};
 ghost use Rattle.affinity.specs.Layout.{layout_of};
 ghost use Rattle.engine.specs.counts.Counts.{all_seen};
 
-use crate::counts::counting::RANGE_BLOCKS;
 use crate::counts::counts::VolumeCounts;
 use affinity::Layout;
 use std::alloc::{AllocError, Global};
@@ -34,10 +32,12 @@ pub fn opening_counts(alloc: Global, layout: &Layout) -> Result<Vec<VolumeCounts
 /// How many block numbers a volume begins with; none where there is no volume.
 fn total_at(layout: &Layout, volume: u32) -> usize
     ensures { (v : VolumeLayout) → slice_get (layout_of layout.now).volumes volume ≡ Some v
-        → result ≡ range_blocks * v.ranges }
+        → result ≡ v.range_blocks * v.ranges }
 {
     match layout.volume(volume) {
-        Some(specification) => RANGE_BLOCKS * specification.ranges as usize,
+        Some(specification) => {
+            specification.range_blocks as usize * specification.volume.ranges as usize
+        }
         None => 0,
     }
 }

@@ -8,12 +8,11 @@ use Rattle.std.specs.FinSet as sets
 use Rattle.std.specs.FinSet.{FinSet, contains, len}
 use Rattle.nfs_model.specs.Types.{Status, Stale, Invalid, TooBig, NoSpace, Answer, WriteDone, Failed, Success}
 use Rattle.nfs_model.specs.Tree.{Volume}
-use Rattle.nfs_model.specs.Parts.{range_blocks}
 use Rattle.nfs_model.specs.Serial.Write.{Writing, bytes_kept}
 use Rattle.nfs_model.specs.Work.{Outcome, Replied, Moved}
 use Rattle.depot_rule.specs.Sums.{total}
 use Rattle.nfs_model.specs.volume.Inodes.{InodeKind, RegularFile, DirectoryKind, Inode}
-use Rattle.nfs_model.specs.volume.Ranges.{RangeValue, taken, without_numbers}
+use Rattle.nfs_model.specs.volume.Ranges.{RangeValue, taken, without_numbers, dead_taken}
 use Rattle.filer_state.specs.state.Tree.{ranges_used}
 use Rattle.filer_state.specs.state.WellFormed.{range_at}
 use Rattle.filer_state.specs.state.Lenses.{LogicalSet, VolumeSet}
@@ -112,9 +111,9 @@ pub record LeavesRange (n : ℕ) (old new : VolumeSet) : Type 0 where
 pub record LeavesDead (n : ℕ) (old new : VolumeSet) : Type 0 where
   pub no_stock : old.logical.own.stock ≡ sets.empty
   pub none_free : (range : ℕ) → range < length old.ranges → (range_at old.ranges range).free ≡ sets.empty
-  pub there : contains old.logical.own.dead n ≡ true
+  pub there : contains old.logical.own.dead.blocks n ≡ true
   pub left : new
-      ≡ record old { logical = record old.logical { own = record old.logical.own { dead = without_numbers (n ∷ []) old.logical.own.dead } } }
+      ≡ record old { logical = record old.logical { own = record old.logical.own { dead = dead_taken (n ∷ []) old.logical.own.dead } } }
 
 -- numbers leave one after another: those of the stock first, then the free, then the dead
 abbrev pub LeaveParts : List ℕ → VolumeSet → VolumeSet → Type 0
@@ -128,11 +127,11 @@ free_count ranges = total (λ (r : RangeValue). len r.free) ranges
 
 -- how many blocks there are for holes; the others are in files, or in hands
 abbrev pub for_holes : VolumeSet → ℕ
-for_holes set = len set.logical.own.stock + free_count set.ranges + len set.logical.own.dead
+for_holes set = len set.logical.own.stock + free_count set.ranges + len set.logical.own.dead.blocks
 
 -- how many blocks the volume has
 abbrev pub all_blocks : VolumeSet → ℕ
-all_blocks set = range_blocks * ranges_used set.ranges
+all_blocks set = set.logical.own.dead.range_blocks * ranges_used set.ranges
 
 -- written, its holes filled from the parts of the volume
 pub record WrittenFromParts (fileid : ℕ) (w : Writing) (old : VolumeSet) (outcome : Outcome) (new : VolumeSet) : Type 0 where

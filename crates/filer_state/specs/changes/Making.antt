@@ -3,7 +3,7 @@ use Rattle.std.specs.Prelude.{ℕ, nat_le, Bool, Option, Some, None, is_some, if
 use Rattle.std.specs.FinMap.{len}
 use Rattle.nfs_model.specs.Types.{Moment, Credential, SetAttributes, CreateMode, Unchecked, Guarded, Exclusive, Status}
 use Rattle.nfs_model.specs.Types.{MadeDone, Exists, Invalid, TooBig, NoSpace}
-use Rattle.nfs_model.specs.Server.{handle_bytes, most_inodes}
+use Rattle.nfs_model.specs.Server.{handle_bytes}
 use Rattle.nfs_model.specs.Names.{is_dots}
 use Rattle.nfs_model.specs.Serial.Setattr.{has_bad_time, is_past, given}
 use Rattle.nfs_model.specs.Serial.Create.{new_attributes, is_verifier, asked_attributes, kept_verifier}
@@ -38,7 +38,7 @@ held_made n made = record {
 
 -- no inode is left
 abbrev pub is_full_set : LogicalSet → Bool
-is_full_set s = nat_le most_inodes (len s.own.inodes.inodes)
+is_full_set s = nat_le s.own.most_inodes (len s.own.inodes.inodes)
 
 -- ---- CREATE
 

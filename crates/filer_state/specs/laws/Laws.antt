@@ -2,11 +2,12 @@
 use Rattle.std.specs.Prelude.{◌≡◌, ℕ, Bool, ◌<◌, ◌≤◌, ◌*◌, List, [], length, map, Option, Some, None}
 use Rattle.std.specs.FinMap.{get, len}
 use Rattle.nfs_model.specs.Types.{Credential, Moment}
-use Rattle.nfs_model.specs.Tree.{Layout, Serial, Aggregate, Volume, Logical, Stripe, Vbn, Range, stripes_of}
+use Rattle.nfs_model.specs.Tree.{Layout, Serial, Aggregate, Volume, Logical, Stripe, Vbn, Range, stripes_of, range_blocks_of}
 use Rattle.nfs_model.specs.Server.{opening}
 use Rattle.nfs_model.specs.Headline.{opening_parts}
 use Rattle.nfs_model.specs.Parts as parts
-use Rattle.nfs_model.specs.Parts.{Hand, times_listed, range_blocks}
+use Rattle.nfs_model.specs.Parts.{Hand, times_listed}
+use Rattle.nfs_laws.specs.Sizes.{HaveSizes}
 use Rattle.affinity.specs.Fault.{fault_of}
 use Rattle.affinity.specs.Numbers.{parents, number_of}
 use Rattle.depot_rule.specs.declared.view.Entry.{Entry}
@@ -25,7 +26,7 @@ use Rattle.filer_state.specs.state.Deeds.{Does, FilerSteps}
 use Rattle.filer_state.specs.state.Replayed.{calls_of, replies_of, Replays}
 use Rattle.filer_state.specs.state.Lenses.{with_contents, stripe_lens, range_lens, vbn_lens, logical_lens, volume_lens, aggregate_lens, serial_lens, in_volume}
 use Rattle.filer_state.specs.state.Promises.{HasVolume, HasAll, IsLaidOut, IsRight, IsSeenBy}
-use Rattle.filer_state.specs.state.Running.{HasFiler}
+use Rattle.filer_state.specs.state.Running.{HasFiler, HasSizedFiler}
 use Rattle.filer_state.specs.state.Calls.{VolumeCall, IsCallOn, ServesOn, DoesInnerOn, finished_as}
 use Rattle.filer_state.specs.state.Sets.{FilerRange, FilerStripe, FilerVbn, FilerLogical, FilerVolume, FilerAggregate, FilerSerial}
 use Rattle.filer_state.specs.state.Sets.{vbn_set, logical_set, volume_set, logical_before, volume_before, aggregate_set, serial_set}
@@ -41,7 +42,7 @@ PartsPartition = (p : VolumeContents) (hands : List Hand) (made : ℕ) (in_hands
 
 -- no more blocks are used than there are
 abbrev pub UsedFits : Type 0
-UsedFits = (p : VolumeContents) (hands : List Hand) (made : ℕ) → IsSound p hands made → p.logical.inodes.used ≤ range_blocks * ranges_used p.ranges
+UsedFits = (p : VolumeContents) (hands : List Hand) (made : ℕ) → IsSound p hands made → p.logical.inodes.used ≤ p.logical.dead.range_blocks * ranges_used p.ranges
 
 -- no directory has more entries than there are inodes
 abbrev pub EntriesFit : Type 0
@@ -83,6 +84,13 @@ module _ (P : Type 0) where
   HistoriesReplay = (layout : Layout) → fault_of layout ≡ None → (f : ℕ → Option (FilerParcel P)) (log : List (Entry (FilerParcel P) Job JobReply))
       → Legal FilerSteps (parents layout) f log → SoundThroughout (behaviour FilerSteps takes gives IsFiler) (parents layout) f log
       → Replays (tree layout f) (tree layout (after (parents layout) f log)) (calls_of log) (replies_of log)
+
+  -- Where they begin as a run does, the ranges of their volumes have as many blocks as the layout says.
+  abbrev pub HistoriesKeepSizes : Type 0
+  HistoriesKeepSizes = (layout : Layout) → fault_of layout ≡ None → (verifier : List ℕ) (f : ℕ → Option (FilerParcel P)) → AreOpening layout verifier f
+      → (log : List (Entry (FilerParcel P) Job JobReply)) → Legal FilerSteps (parents layout) f log
+      → SoundThroughout (behaviour FilerSteps takes gives IsFiler) (parents layout) f log
+      → HaveSizes layout (tree layout (after (parents layout) f log))
 
   -- which of two layouts of one tree is taken changes nothing
   abbrev pub LayoutsAgree : Type 0
@@ -159,6 +167,17 @@ module _ (P : Type 0) where
   RootsAreKnown = (layout : Layout) → fault_of layout ≡ None → (given : List Hand) → (held : FilerSerial P)
       → HasFiler layout Serial given (serial_parcels layout Serial held)
       → HasAll layout serial_lens given (serial_set layout held)
+
+  -- where the sizes are the layout's, a range and what is under Logical have them
+  abbrev pub RangesAreSized : Type 0
+  RangesAreSized = (layout : Layout) → fault_of layout ≡ None → (given : List Hand) → (v r : ℕ) → v < length layout.volumes → r < 16 → (held : FilerRange P)
+      → HasSizedFiler layout (Range v r) given (range_parcels layout (Range v r) held)
+      → held.own.range_blocks ≡ range_blocks_of layout v
+
+  abbrev pub LogicalsAreSized : Type 0
+  LogicalsAreSized = (layout : Layout) → fault_of layout ≡ None → (given : List Hand) → (v : ℕ) → v < length layout.volumes → (held : FilerLogical P)
+      → HasSizedFiler layout (Logical v) given (logical_parcels layout (Logical v) held)
+      → held.own.dead.range_blocks ≡ range_blocks_of layout v
 
   -- ---- handlers: where a set's change is right, putting in the set's parcels is a step
 

@@ -2,6 +2,7 @@
 pub mod Each
 pub mod Seen
 pub mod SeenSets
+pub mod Sizes
 pub mod OpeningRanges
 pub mod Opening
 pub mod Commuting
@@ -16,6 +17,7 @@ pub mod Delivering
 pub mod Lawful
 pub mod Replays
 pub mod Granted
+pub mod LayoutSizes
 pub mod Running
 pub mod SameBlocks
 pub mod SameNames

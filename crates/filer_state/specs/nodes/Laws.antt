@@ -5,7 +5,7 @@ use Rattle.std.specs.FinMap.{get, len, insert, remove}
 use Rattle.std.specs.FinSet as sets
 use Rattle.std.specs.FinSet.{retain}
 use Rattle.nfs_model.specs.Types.{Listed}
-use Rattle.nfs_model.specs.Server.{Attributes, Node, File, Directory, FileNode, DirectoryNode, most_inodes, block_size, used}
+use Rattle.nfs_model.specs.Server.{Attributes, Node, File, Directory, FileNode, DirectoryNode, block_size, used}
 use Rattle.nfs_model.specs.Serial.Setattr.{resized_bytes, with_node}
 use Rattle.nfs_model.specs.Moves.{Emptied}
 use Rattle.nfs_model.specs.Names.{with_name, dropped_name}
@@ -48,7 +48,7 @@ pub record MayBeMade (m : Making) (p : VolumeContents) : Type 0 where
   pub there : get p.logical.inodes.inodes m.directory ≡ Some m.inode
   pub entered : get p.logical.directories m.directory ≡ Some m.entries
   pub absent : found m.entries m.name ≡ None
-  pub few : len p.logical.inodes.inodes < most_inodes
+  pub few : len p.logical.inodes.inodes < p.logical.most_inodes
   pub is_new : IsNewIn m.directory p.logical.largest m.made.kind
 
 -- a new node as it is seen: a file of zeros without blocks, or a directory without entries

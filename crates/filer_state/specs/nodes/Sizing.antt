@@ -1,9 +1,9 @@
 -- What a size set for a file comes to, by what is under Logical (SETATTR, RFC 1813 section 3.3.2): cut, or grown by a hole.
 use Rattle.std.specs.Prelude.{ℕ, ◌-◌, List, [], ◌∷◌, ◌++◌, map, length}
-use Rattle.std.specs.FinSet.{union, from_list}
 use Rattle.nfs_model.specs.Server.{Attributes}
 use Rattle.nfs_model.specs.volume.Inodes.{InodeKind, RegularFile, DirectoryKind, Inode, inode_set}
 use Rattle.nfs_model.specs.volume.Stripes.{StripeValue, touch_taken, file_card_set, cut, numbers_freed}
+use Rattle.nfs_model.specs.volume.Ranges.{dead_marked}
 use Rattle.filer_state.specs.state.Lenses.{LogicalSet}
 
 -- a file that gets a size
@@ -36,7 +36,7 @@ abbrev pub file_sized : Sizing → LogicalSet → LogicalSet
 file_sized m set = record {
   own = record set.own {
     inodes = inode_set m.fileid (inode_sized m (length (all_freed m.fileid m.size set.stripes))) set.own.inodes;
-    dead = union set.own.dead (from_list (all_freed m.fileid m.size set.stripes));
+    dead = dead_marked (all_freed m.fileid m.size set.stripes) set.own.dead;
   };
   stripes = map (stripe_sized m.fileid m.size) set.stripes;
 }

@@ -111,4 +111,6 @@ ServesOn c starved old reply new = ⊥
 
 -- what an inner call does on the volume
 abbrev pub DoesInnerOn : InnerCall → VolumeContents → JobReply → VolumeContents → Type 0
-DoesInnerOn call old reply new = (volume_of new ≡ volume_of old) × InnerMoves call (ranges_used old.ranges) (parts_of old) reply (parts_of new)
+DoesInnerOn call old reply new =
+    (volume_of new ≡ volume_of old)
+    × InnerMoves old.logical.dead.range_blocks call (ranges_used old.ranges) (parts_of old) reply (parts_of new)

@@ -55,7 +55,7 @@ pub record DoesInner (node : Affinity) (call : InnerCall) (old : FilerContents) 
   pub after : VolumeContents
   pub volume_before : volume_at old (inner_volume call) ≡ Some before
   pub volume_after : volume_at new (inner_volume call) ≡ Some after
-  pub moves : InnerMoves call (ranges_used before.ranges) (parts_of before) reply (parts_of after)
+  pub moves : InnerMoves before.logical.dead.range_blocks call (ranges_used before.ranges) (parts_of before) reply (parts_of after)
   pub others : all_parts new ≡ slice_set (all_parts old) (inner_volume call) (parts_of after)
 
 -- ---- both

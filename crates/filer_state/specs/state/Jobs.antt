@@ -67,19 +67,20 @@ abbrev pub without_hand : Parts → Carrying
 without_hand parts = record { parts = parts; hand = Empty }
 
 -- a batch that is put down isn't empty; after it the hand is
-abbrev pub HandPutDown : ℕ → Hand → Parts → Parts → Type 0
-HandPutDown range hand old new =
-    (0 < length (batch_in hand)) × IsBatch range (batch_in hand)
+abbrev pub HandPutDown : (size range : ℕ) → Hand → Parts → Parts → Type 0
+HandPutDown size range hand old new =
+    (0 < length (batch_in hand)) × IsBatch size range (batch_in hand)
     × PutsDown (length (batch_in hand)) (record { parts = old; hand = hand }) (without_hand new)
 
--- What an inner call does with a volume's parts, where so many ranges are in use, by its reply. A fetch is from a range in use;
--- what is put down is a fresh batch of the volume, or a dead one of the range.
-abbrev pub InnerMoves : InnerCall → ℕ → Parts → JobReply → Parts → Type 0
-InnerMoves (Fetch v r) used old (Took hand) new =
-    (r < used) × Fetches v r (length (batch_in hand)) (without_hand old) (record { parts = new; hand = hand })
-InnerMoves (Cull v) used old (Took hand) new =
-    Culls v (length (batch_in hand)) (without_hand old) (record { parts = new; hand = hand })
-InnerMoves (Deliver v) used old (Gave (Fresh w blocks)) new = (w ≡ v) × HandPutDown (range_of blocks) (Fresh v blocks) old new
-InnerMoves (Free v r) used old (Gave (Dead w blocks)) new = (w ≡ v) × HandPutDown r (Dead v blocks) old new
-InnerMoves (Survey v) used old (Surveyed told) new = Surveys used old told × (new ≡ old)
-InnerMoves call used old reply new = ⊥
+-- What an inner call does with a volume's parts, where a range has so many blocks and so many are in use, by its reply. A fetch
+-- is from a range in use; what is put down is a fresh batch of the volume, or a dead one of the range.
+abbrev pub InnerMoves : (size : ℕ) → InnerCall → (used : ℕ) → Parts → JobReply → Parts → Type 0
+InnerMoves size (Fetch v r) used old (Took hand) new =
+    (r < used) × Fetches size v r (length (batch_in hand)) (without_hand old) (record { parts = new; hand = hand })
+InnerMoves size (Cull v) used old (Took hand) new =
+    Culls size v (length (batch_in hand)) (without_hand old) (record { parts = new; hand = hand })
+InnerMoves size (Deliver v) used old (Gave (Fresh w blocks)) new =
+    (w ≡ v) × HandPutDown size (range_of size blocks) (Fresh v blocks) old new
+InnerMoves size (Free v r) used old (Gave (Dead w blocks)) new = (w ≡ v) × HandPutDown size r (Dead v blocks) old new
+InnerMoves size (Survey v) used old (Surveyed told) new = Surveys size used old told × (new ≡ old)
+InnerMoves size call used old reply new = ⊥

@@ -4,7 +4,6 @@ use Rattle.std.specs.List.{AllByRecursion}
 use Rattle.std.specs.Ordering.{nat_cmp}
 use Rattle.std.specs.FinMap.{FinMap, get, entries, len}
 use Rattle.nfs_model.specs.Types.{Listed}
-use Rattle.nfs_model.specs.Server.{most_inodes}
 use Rattle.nfs_model.specs.Parts.{one_if, count}
 use Rattle.depot_rule.specs.Sums.{total}
 use Rattle.nfs_model.specs.volume.Directories.{DirectoryValue, IsDirectory}
@@ -110,10 +109,10 @@ pub record AreNamed (inodes : InodeMap) (directories : DirectoryMap) : Type 0 wh
   -- following parents from any directory reaches the root
   pub rooted : (fileid : ℕ) → is_directory (get inodes fileid) ≡ true → ReachesRoot inodes fileid
 
--- Of what Volume Logical has: at most 65,536 inodes, the root with them, with fileids below the next one, and files of at
--- most the largest size; and names.
+-- Of what Volume Logical has: at most the volume's most inodes, the root with them, with fileids below the next one, and files
+-- of at most the largest size; and names.
 pub record IsLogical (l : LogicalValue) : Type 0 where
   pub inodes : IsInodes l.inodes
-  pub few : len l.inodes.inodes ≤ most_inodes
+  pub few : len l.inodes.inodes ≤ l.most_inodes
   pub sizes : (fileid : ℕ) → IfSome (size_of (get l.inodes.inodes fileid)) (λ size. size ≤ l.largest)
   pub named : AreNamed l.inodes.inodes l.directories

@@ -5,7 +5,7 @@ use Rattle.std.specs.FinSet as sets
 use Rattle.nfs_model.specs.Parts.{most_ranges}
 use Rattle.parcels.specs.declared.family.Parcel.{Parcel}
 use Rattle.nfs_model.specs.volume.Stripes.{StripeValue, empty_stripe}
-use Rattle.nfs_model.specs.volume.Ranges.{RangeValue, unused_range}
+use Rattle.nfs_model.specs.volume.Ranges.{RangeValue, unused_range, no_dead}
 use Rattle.nfs_model.specs.volume.Logical.{LogicalValue}
 
 -- A Range has the numbers that are free in it, a Stripe cards and blocks, Logical the rest of what calls see of a volume, an
@@ -17,7 +17,7 @@ FilerParcel P = Parcel P RangeValue (Unit {0}) StripeValue LogicalValue (Unit {0
 
 -- with a number that no range has
 abbrev pub no_range : RangeValue
-no_range = unused_range most_ranges
+no_range = unused_range 1024 most_ranges
 
 abbrev pub no_stripe : StripeValue
 no_stripe = empty_stripe [] 0 0
@@ -27,8 +27,9 @@ no_logical = record {
   verifier = [];
   stripes = 0;
   largest = 0;
+  most_inodes = 0;
   inodes = record { next = 0; used = 0; inodes = maps.empty };
   directories = maps.empty;
   stock = sets.empty;
-  dead = sets.empty;
+  dead = no_dead 1024;
 }

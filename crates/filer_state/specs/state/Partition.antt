@@ -3,7 +3,7 @@ use Rattle.std.specs.Prelude.{◌≡◌, ◌≢◌, ℕ, ◌+◌, ◌*◌, nat_l
 use Rattle.std.specs.Ordering.{nat_cmp}
 use Rattle.std.specs.FinMap.{entries}
 use Rattle.std.specs.FinSet.{FinSet, contains, empty, union, from_list}
-use Rattle.nfs_model.specs.Parts.{Parts, Hand, hand_blocks, times_listed, one_if, range_blocks}
+use Rattle.nfs_model.specs.Parts.{Parts, Hand, hand_blocks, times_listed, one_if}
 use Rattle.nfs_model.specs.Moves.{Stored}
 use Rattle.depot_rule.specs.Sums.{total}
 use Rattle.nfs_model.specs.volume.Stripes.{FileBlock, Block, StripeValue}
@@ -31,7 +31,7 @@ free_in (r ∷ ranges) = union r.free (free_in ranges)
 
 -- where they are, but for hands
 abbrev pub parts_of : VolumeContents → Parts
-parts_of p = record { files = files_in p.stripes; stock = p.logical.stock; dead = p.logical.dead; free = free_in p.ranges }
+parts_of p = record { files = files_in p.stripes; stock = p.logical.stock; dead = p.logical.dead.blocks; free = free_in p.ranges }
 
 -- of all volumes
 abbrev pub all_parts : FilerContents → List Parts
@@ -50,7 +50,7 @@ times_in_stripe n s = times_listed n (numbers_in s)
 -- how often it stands in a volume, each block counted for itself
 abbrev pub times_in : ℕ → VolumeContents → ℕ
 times_in n p =
-    total (times_in_stripe n) p.stripes + one_if (contains p.logical.stock n) + one_if (contains p.logical.dead n)
+    total (times_in_stripe n) p.stripes + one_if (contains p.logical.stock n) + one_if (contains p.logical.dead.blocks n)
     + total (λ (r : RangeValue). one_if (contains r.free n)) p.ranges
 
 -- how often it stands in a hand, as a volume's: a weight of hands, whose order doesn't count
@@ -60,7 +60,7 @@ times_in_hand v n hand = times_listed n (hand_blocks v hand)
 -- Each number below total stands in one place, once, and no other does.
 abbrev pub StandOnce : VolumeContents → List Hand → Type 0
 StandOnce p hands =
-    (n : ℕ) → times_in n p + total (times_in_hand p.number n) hands ≡ one_if (nat_lt n (range_blocks * ranges_used p.ranges))
+    (n : ℕ) → times_in n p + total (times_in_hand p.number n) hands ≡ one_if (nat_lt n (p.logical.dead.range_blocks * ranges_used p.ranges))
 
 -- these hands carry nothing of other volumes
 abbrev pub AreOf : ℕ → List Hand → Type 0

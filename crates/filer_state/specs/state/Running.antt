@@ -5,6 +5,7 @@ use Rattle.nfs_model.specs.Tree.{Layout, Affinity}
 use Rattle.nfs_model.specs.Parts.{Hand}
 use Rattle.nfs_model.specs.Replay.{FinishedCall}
 use Rattle.nfs_model.specs.Work.{Task, Outcome, Replied, Starved, Moved, Works}
+use Rattle.nfs_laws.specs.Sizes.{HaveSizes}
 use Rattle.affinity.specs.Ancestors.{Covers}
 use Rattle.affinity.specs.Numbers.{number_of, parents}
 use Rattle.depot_rule.specs.Shares.{too_many}
@@ -17,7 +18,7 @@ use Rattle.filer_state.specs.state.Deeds.{FilerSteps, stored_all}
 use Rattle.filer_state.specs.state.Lenses.{Lens}
 use Rattle.filer_state.specs.state.Promises.{HandsMove, RightOnVolume}
 use Rattle.filer_state.specs.state.Calls.{VolumeCall, WorksOn, DoesInnerOn}
-use Rattle.filer_state.specs.state.Tree.{ranges_used}
+use Rattle.filer_state.specs.state.Tree.{ranges_used, tree}
 
 -- what a handler promises of a call on the volume of a number, by the part of it that it holds
 abbrev pub RunsOn : {S : Type 0} → ℕ → Lens VolumeContents S → VolumeCall → S → Outcome → S → Type 0
@@ -83,6 +84,10 @@ module _ {P : Type 0} (layout : Layout) (node : Affinity) where
   abbrev pub HasFiler : List Hand → (ℕ → Option (FilerParcel P)) → Type 0
   HasFiler given f = (g : ℕ → Option (FilerParcel P)) × (hands hands' : List Hand) × (made : ℕ)
       × AreUnder f g × (made < too_many) × HandsMove [] given hands hands' × AllSound layout g hands made
+
+  -- the same, where the ranges of volumes have as many blocks as the layout says
+  abbrev pub HasSizedFiler : List Hand → (ℕ → Option (FilerParcel P)) → Type 0
+  HasSizedFiler given f = (has : HasFiler given f) × HaveSizes layout (tree layout has.0)
 
   -- an entry of what was asked leads from parcels to others, whatever its connection, number and xid
   abbrev pub Enters : Asked → Moment → Bool → (ℕ → Option (FilerParcel P)) → jobs.JobReply → (ℕ → Option (FilerParcel P)) → Type 0

@@ -9,7 +9,6 @@ use Rattle.nfs_model.specs.Tree.{Layout}
 use Rattle.nfs_model.specs.Server as servers
 use Rattle.nfs_model.specs.Server.{Attributes, Node, File, Directory, Server, block_size}
 use Rattle.nfs_model.specs.Shown.{touched}
-use Rattle.nfs_model.specs.Parts.{range_blocks}
 use Rattle.nfs_model.specs.volume.Maps.{map_values}
 use Rattle.nfs_model.specs.volume.Directories.{DirectoryValue, empty_directory}
 use Rattle.nfs_model.specs.volume.Inodes.{InodeKind, RegularFile, DirectoryKind, Inode}
@@ -35,9 +34,9 @@ file_byte stripes fileid at = byte_at (home_stripe stripes fileid (at / block_si
 abbrev pub file_bytes : List StripeValue → ℕ → ℕ → List ℕ
 file_bytes stripes fileid size = map (file_byte stripes fileid) (range_with_len 0 size)
 
--- more blocks than this no file has: 64 MiB
+-- more blocks than this no file has, in any layout: 1 TiB
 unfoldable pub most_file_blocks : ℕ
-most_file_blocks = 16384
+most_file_blocks = 268435456
 
 -- the blocks of a file that are there
 abbrev pub file_filled : List StripeValue → ℕ → FinSet nat_cmp
@@ -94,8 +93,10 @@ abbrev pub volume_of : VolumeContents → servers.VolumeState
 volume_of p = record {
   number = p.number;
   aggregate = p.aggregate;
-  total = range_blocks * ranges_used p.ranges;
+  total = p.logical.dead.range_blocks * ranges_used p.ranges;
   largest = p.logical.largest;
+  range_blocks = p.logical.dead.range_blocks;
+  most_inodes = p.logical.most_inodes;
   verifier = p.logical.verifier;
   next = p.logical.inodes.next;
   nodes = map_values (node_of p.stripes p.logical.directories) p.logical.inodes.inodes;

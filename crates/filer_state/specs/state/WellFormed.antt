@@ -6,9 +6,9 @@ use Rattle.std.specs.FinSet as sets
 use Rattle.nfs_model.specs.Server.{block_size}
 use Rattle.nfs_model.specs.Parts.{most_ranges}
 use Rattle.depot_rule.specs.Sums.{total}
-use Rattle.nfs_model.specs.volume.Inodes.{Inode, filled_blocks}
+use Rattle.nfs_model.specs.volume.Inodes.{Inode, filled_blocks, inodes_of_a_volume}
 use Rattle.nfs_model.specs.volume.Stripes.{Card, OfFile, OfDirectory, Block, StripeValue, IsStripe, stripe_of, byte_of}
-use Rattle.nfs_model.specs.volume.Ranges.{RangeValue, IsRange}
+use Rattle.nfs_model.specs.volume.Ranges.{RangeValue, IsRange, IsRangeSize}
 use Rattle.nfs_model.specs.volume.Logical.{LogicalValue}
 use Rattle.filer_state.specs.state.Parcels.{no_range}
 use Rattle.filer_state.specs.state.Contents.{VolumeContents}
@@ -45,8 +45,9 @@ pub record StripeFits (l : LogicalValue) (i : ℕ) (s : StripeValue) : Type 0 wh
 abbrev pub range_at : List RangeValue → ℕ → RangeValue
 range_at ranges r = slice_index_or ranges r no_range
 
--- Of the r-th range, where so many are in use: these are the first.
-pub record RangeFits (used r : ℕ) (x : RangeValue) : Type 0 where
+-- Of the r-th range, where a range has so many blocks and so many are in use: these are the first.
+pub record RangeFits (size used r : ℕ) (x : RangeValue) : Type 0 where
+  pub blocks : x.range_blocks ≡ size
   pub number : x.number ≡ r
   pub in_use : x.is_used ≡ nat_lt r used
   pub free : IsRange x
@@ -57,13 +58,22 @@ pub record RangeFits (used r : ℕ) (x : RangeValue) : Type 0 where
 abbrev pub IsStriped : ℕ → Type 0
 IsStriped n = (n ≡ 8) ⊎ (n ≡ 16)
 
--- 16 or 64 MiB
-abbrev pub IsLargest : ℕ → Type 0
-IsLargest n = (n ≡ 16777216) ⊎ (n ≡ 67108864)
+-- 16 to 1,048,576 MiB
+pub record IsLargest (n : ℕ) : Type 0 where
+  pub mebibytes : ℕ
+  pub is : n ≡ 1048576 * mebibytes
+  pub least : 16 ≤ mebibytes
+  pub most : mebibytes ≤ 1048576
+
+-- 65,536 to 67,108,864 inodes
+abbrev pub IsInodeCount : ℕ → Type 0
+IsInodeCount n = (65536 ≤ n) × (n ≤ inodes_of_a_volume)
 
 pub record WellFormed (p : VolumeContents) : Type 0 where
   pub striped : IsStriped p.logical.stripes
   pub largest : IsLargest p.logical.largest
+  pub most_inodes : IsInodeCount p.logical.most_inodes
+  pub size : IsRangeSize p.logical.dead.range_blocks
   pub logical : IsLogical p.logical
   pub as_many : length p.stripes ≡ p.logical.stripes
   pub stripes : (i : ℕ) → i < length p.stripes → StripeFits p.logical i (stripe_at p.stripes i)
@@ -71,7 +81,7 @@ pub record WellFormed (p : VolumeContents) : Type 0 where
   pub used : p.logical.inodes.used ≡ total (λ (s : StripeValue). len s.blocks) p.stripes
   pub filled : (fileid : ℕ) (inode : Inode) → get p.logical.inodes.inodes fileid ≡ Some inode
       → filled_blocks inode.kind ≡ sets.len (file_filled p.stripes fileid)
-  -- 16 ranges, of which 1 to 16 are in use
+  -- 16 ranges, of which 1 to 16 are in use, all of the volume's size
   pub sixteen : length p.ranges ≡ most_ranges
   pub some : 0 < ranges_used p.ranges
-  pub ranges : (r : ℕ) → r < length p.ranges → RangeFits (ranges_used p.ranges) r (range_at p.ranges r)
+  pub ranges : (r : ℕ) → r < length p.ranges → RangeFits p.logical.dead.range_blocks (ranges_used p.ranges) r (range_at p.ranges r)

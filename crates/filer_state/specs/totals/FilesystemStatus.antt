@@ -2,8 +2,7 @@
 use Rattle.std.specs.Prelude.{ℕ, ◌-◌, ◌*◌, Option, Some, None}
 use Rattle.std.specs.FinMap.{get, len}
 use Rattle.nfs_model.specs.Types.{Space, Answer, FsstatDone, Failed, Stale}
-use Rattle.nfs_model.specs.Server.{block_size, most_inodes}
-use Rattle.nfs_model.specs.Parts.{range_blocks}
+use Rattle.nfs_model.specs.Server.{block_size}
 use Rattle.nfs_model.specs.volume.Inodes.{Inode}
 use Rattle.filer_state.specs.state.Tree.{file_touch, ranges_used}
 use Rattle.filer_state.specs.state.Lenses.{VolumeSet}
@@ -12,10 +11,10 @@ use Rattle.filer_state.specs.state.Changes.{shown_inode}
 -- the space by the volume's own counts: its ranges in use, the used count, and the number of its inodes
 abbrev pub space_held : VolumeSet → Space
 space_held set = record {
-  total_bytes = block_size * (range_blocks * ranges_used set.ranges);
-  free_bytes = block_size * (range_blocks * ranges_used set.ranges - set.logical.own.inodes.used);
-  inodes = most_inodes;
-  free_inodes = most_inodes - len set.logical.own.inodes.inodes;
+  total_bytes = block_size * (set.logical.own.dead.range_blocks * ranges_used set.ranges);
+  free_bytes = block_size * (set.logical.own.dead.range_blocks * ranges_used set.ranges - set.logical.own.inodes.used);
+  inodes = set.logical.own.most_inodes;
+  free_inodes = set.logical.own.most_inodes - len set.logical.own.inodes.inodes;
 }
 
 -- the attributes of an inode and the space, or STALE; a failure has one absent part, the attributes

@@ -2,7 +2,7 @@
 use Rattle.std.specs.Prelude.{ℕ, zero, suc, ◌+◌, ◌-◌, ◌*◌, ◌==◌, nat_lt, List, [], ◌∷◌, Option, Some, None, slice_get, slice_set}
 use Rattle.std.specs.Prelude.{if◌then◌else◌}
 use Rattle.nfs_model.specs.Types.{Status, NoEntry, Invalid, TooBig, NoSpace, Answer, GrowDone, Failed}
-use Rattle.nfs_model.specs.Parts.{range_blocks, most_ranges}
+use Rattle.nfs_model.specs.Parts.{most_ranges}
 use Rattle.nfs_model.specs.volume.Ranges.{RangeValue, put_in_use}
 use Rattle.filer_state.specs.state.Lenses.{VolumeSet, AggregateSet}
 use Rattle.filer_state.specs.state.Tree.{ranges_used}
@@ -35,7 +35,7 @@ pub record AggregateAnswer : Type 0 where
 abbrev pub grow_checked : ℕ → ℕ → VolumeSet → Option Status → AggregateSet → AggregateAnswer
 grow_checked v more volume (Some status) s = record { answer = Failed status 0; set = s }
 grow_checked v more volume None s = record {
-  answer = GrowDone (range_blocks * (ranges_used volume.ranges + more));
+  answer = GrowDone (volume.logical.own.dead.range_blocks * (ranges_used volume.ranges + more));
   set = record {
     spare = s.spare - more;
     volumes = slice_set s.volumes v (Some (with_ranges (ranges_used volume.ranges + more) volume));

@@ -3,7 +3,7 @@
 ghost use Rattle.filer_state.specs.laws.Laws.{PartsPartition, UsedFits, EntriesFit};
 ghost use Rattle.filer_state.specs.laws.Laws.{OpensSound, OpensAsServer, OpensFree};
 ghost use Rattle.filer_state.specs.laws.Laws.{StepsAreLocal, StepsKeep, StepsCommute};
-ghost use Rattle.filer_state.specs.laws.Laws.{HistoriesReplay};
+ghost use Rattle.filer_state.specs.laws.Laws.{HistoriesReplay, HistoriesKeepSizes};
 ghost use Rattle.filer_state.specs.laws.Laws.{LayoutsAgree, SoundByWeight};
 ghost use Rattle.filer_state.specs.laws.Laws.{StripesAreSeen, RangesAreSeen, VbnsAreSeen};
 ghost use Rattle.filer_state.specs.laws.Laws.{LogicalsAreSeen, VolumesAreSeen};
@@ -11,6 +11,7 @@ ghost use Rattle.filer_state.specs.laws.Laws.{AggregatesAreSeen, RootsAreSeen};
 ghost use Rattle.filer_state.specs.laws.Laws.{StripesAreKnown, RangesAreKnown, VbnsAreKnown};
 ghost use Rattle.filer_state.specs.laws.Laws.{LogicalsAreKnown, VolumesAreKnown};
 ghost use Rattle.filer_state.specs.laws.Laws.{AggregatesAreKnown, RootsAreKnown};
+ghost use Rattle.filer_state.specs.laws.Laws.{RangesAreSized, LogicalsAreSized};
 ghost use Rattle.filer_state.specs.laws.Laws.{StripeMakesStep, RangeMakesStep, VbnMakesStep};
 ghost use Rattle.filer_state.specs.laws.Laws.{LogicalMakesStep, VolumeMakesStep};
 ghost use Rattle.filer_state.specs.laws.Laws.{AggregateMakesStep, SerialMakesStep};
@@ -35,6 +36,12 @@ pub fn steps_are_lawful<P>()
 /// and the replies to them are the serial server's.
 pub fn histories_replay<P>()
     ensures { HistoriesReplay P }
+{}
+
+/// Where the parcels began as a run does, a legal history leaves each volume's ranges with as many
+/// blocks as the layout says.
+pub fn histories_keep_sizes<P>()
+    ensures { HistoriesKeepSizes P }
 {}
 
 /// Which of two layouts of one tree is taken changes nothing, nor does the order of hands.
@@ -74,6 +81,12 @@ pub fn grants_are_known<P>()
     ensures volume { VolumesAreKnown P }
     ensures aggregate { AggregatesAreKnown P }
     ensures serial { RootsAreKnown P }
+{}
+
+/// Where each volume's ranges have as many blocks as the layout says, so has what a call is granted.
+pub fn grants_are_sized<P>()
+    ensures range { RangesAreSized P }
+    ensures logical { LogicalsAreSized P }
 {}
 
 /// Where a handler's change of a typed set is right, putting in the set's parcels is a step of the

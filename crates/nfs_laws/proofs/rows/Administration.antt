@@ -4,7 +4,9 @@ use Rattle.nfs_model.specs.Types.{Census, Grow, Ask, Refused, Undecoded, Success
 use Rattle.nfs_model.specs.Types.{TooBig, NoSpace}
 use Rattle.nfs_model.specs.Serial.Step.{serial}
 use Rattle.nfs_laws.specs.lemmas.Evaluate.{evaluate}
-use Rattle.nfs_laws.proofs.rows.Cases.{start, at, nobody, fails, block_0, file, with_file}
+use Rattle.nfs_model.specs.Server.{VolumeState, Server}
+use Rattle.nfs_model.specs.Serial.Fsstat.{space}
+use Rattle.nfs_laws.proofs.rows.Cases.{start, at, nobody, fails, block_0, file, with_file, root_with, volume_with}
 
 -- ---- GROW
 
@@ -47,6 +49,33 @@ spare_range_is_gone :
     (serial (serial start (Ask (Grow 1 1) nobody) (at 1) false).server (Ask (Grow 0 1) nobody) (at 2) false).reply
     ≡ fails NoSpace 0
 spare_range_is_gone = refl
+
+-- a volume of one range of 2,048 blocks, with 65,537 inodes at most
+abbrev larger_volume : VolumeState
+larger_volume = record (volume_with 2048 16777216 2 ((1, root_with 3 []) ∷ [])) { range_blocks = 2048; most_inodes = 65537 }
+
+-- with spare ranges
+abbrev larger : Server
+larger = record { spare = 20 ∷ []; volumes = larger_volume ∷ [] }
+
+space_goes_by_the_volumes_own_limits : space larger_volume
+    ≡ record { total_bytes = 8388608; free_bytes = 8388608; inodes = 65537; free_inodes = 65536 }
+space_goes_by_the_volumes_own_limits = simp evaluate refl
+
+growth_goes_by_the_blocks_of_a_range :
+    (serial larger (Ask (Grow 0 1) nobody) (at 1) false).reply
+    ≡ Success (GrowDone 4096)
+growth_goes_by_the_blocks_of_a_range = refl
+
+growth_to_16_larger_ranges :
+    (serial larger (Ask (Grow 0 15) nobody) (at 1) false).reply
+    ≡ Success (GrowDone 32768)
+growth_to_16_larger_ranges = refl
+
+growth_past_16_larger_ranges :
+    (serial larger (Ask (Grow 0 16) nobody) (at 1) false).reply
+    ≡ fails TooBig 0
+growth_past_16_larger_ranges = refl
 
 -- ---- CENSUS
 

@@ -11,7 +11,7 @@ use Rattle.nfs_model.specs.Server.{Attributes, Node, File, Directory, VolumeStat
 use Rattle.nfs_model.specs.Serial.Create.{no_attributes}
 
 abbrev pub one_range : VolumeLayout
-one_range = record { aggregate = 0; ranges = 1; stripes = 8; mebibytes = 16 }
+one_range = record { aggregate = 0; ranges = 1; stripes = 8; mebibytes = 16; range_blocks = 1024; inodes = 65536 }
 
 abbrev pub layout : Layout
 layout = record { spare = 1 ∷ []; volumes = one_range ∷ (one_range ∷ []) }
@@ -115,10 +115,20 @@ root_with next list =
       list = list;
     })
 
--- volume 0 of so many blocks, with files of so many bytes at most, by its next fileid and its nodes
+-- volume 0 of so many blocks, in ranges of 1,024, with 65,536 inodes at most, with files of so many bytes at most, by its next fileid and its nodes
 abbrev pub volume_with : ℕ → ℕ → ℕ → List (ℕ × Node) → VolumeState
 volume_with total largest next nodes =
-    record { number = 0; aggregate = 0; total = total; largest = largest; verifier = verifier; next = next; nodes = from_sorted nodes }
+    record {
+      number = 0;
+      aggregate = 0;
+      total = total;
+      largest = largest;
+      range_blocks = 1024;
+      most_inodes = 65536;
+      verifier = verifier;
+      next = next;
+      nodes = from_sorted nodes;
+    }
 
 -- a server of that volume, and of another as it begins
 abbrev pub small : ℕ → ℕ → ℕ → List (ℕ × Node) → Server

@@ -2,7 +2,7 @@
 use Rattle.std.proofs.Common.{◌≡◌, ℕ, true, false, [], ◌∷◌, replicate, Some, None, refl}
 use Rattle.nfs_model.specs.Types.{ServerTime, ClientTime, Unchecked, Guarded, Exclusive, Setattr, Lookup, Create, Mkdir, Remove, Ask, Success, LookupDone}
 use Rattle.nfs_model.specs.Types.{MadeDone, NoEntry, Access, Exists, NotDirectory, Invalid, TooBig, NoSpace, NameTooLong, Stale, BadHandle}
-use Rattle.nfs_model.specs.Server.{VolumeState, most_inodes}
+use Rattle.nfs_model.specs.Server.{VolumeState}
 use Rattle.nfs_model.specs.Types.{Status}
 use Rattle.std.specs.Prelude.{Bool, Option, nat_le, nat_lt, if◌then◌else◌}
 use Rattle.std.specs.FinMap.{len}
@@ -330,11 +330,15 @@ parent_of_a_made_directory = simp evaluate refl
 
 -- ---- the most inodes
 
-volume_of_65536_inodes_is_full : (v : VolumeState) → len v.nodes ≡ 65536 → is_full v ≡ true
-volume_of_65536_inodes_is_full v same = ap (nat_le most_inodes) same
+volume_of_65536_inodes_is_full : (v : VolumeState) → v.most_inodes ≡ 65536 → len v.nodes ≡ 65536 → is_full v ≡ true
+volume_of_65536_inodes_is_full v most same = λ j. nat_le (most j) (same j)
 
-volume_of_65535_inodes_is_not : (v : VolumeState) → len v.nodes ≡ 65535 → is_full v ≡ false
-volume_of_65535_inodes_is_not v same = ap (nat_le most_inodes) same
+volume_of_65535_inodes_is_not : (v : VolumeState) → v.most_inodes ≡ 65536 → len v.nodes ≡ 65535 → is_full v ≡ false
+volume_of_65535_inodes_is_not v most same = λ j. nat_le (most j) (same j)
+
+-- another volume's limit
+volume_of_more_inodes_is_not : (v : VolumeState) → v.most_inodes ≡ 65537 → len v.nodes ≡ 65536 → is_full v ≡ false
+volume_of_more_inodes_is_not v most same = λ j. nat_le (most j) (same j)
 
 abbrev if_full : Bool → Option Status
 if_full full = if full then Some NoSpace else None

@@ -160,36 +160,36 @@ of blocks = from_list blocks
 abbrev listed_in : ℕ → List ℕ → List ℕ
 listed_in range blocks = filter (λ q. list_any (λ y. nat_eq y q) blocks) (range_with_len (1024 * range) 1024)
 
-in_range_is : (range : ℕ) (blocks : List ℕ) → in_range range (of blocks) ≡ listed_in range blocks
+in_range_is : (range : ℕ) (blocks : List ℕ) → in_range 1024 range (of blocks) ≡ listed_in range blocks
 unfolding in_range
 in_range_is range blocks = λ i. filter (λ q. sets.contains-from_list_nat blocks q i) (range_with_len (1024 * range) 1024)
 
-batch_is : (range : ℕ) (blocks : List ℕ) → batch range (of blocks) ≡ take 64 (listed_in range blocks)
+batch_is : (range : ℕ) (blocks : List ℕ) → batch 1024 range (of blocks) ≡ take 64 (listed_in range blocks)
 batch_is range blocks = ap (take 64) (in_range_is range blocks)
 
-lowest_batch_is : (blocks : List ℕ) → lowest_batch (of blocks) ≡ first_filled (map (λ r. take 64 (listed_in r blocks)) (range_with_len 0 16))
+lowest_batch_is : (blocks : List ℕ) → lowest_batch 1024 (of blocks) ≡ first_filled (map (λ r. take 64 (listed_in r blocks)) (range_with_len 0 16))
 unfolding lowest_batch
 lowest_batch_is blocks = λ i. first_filled (map (λ r. batch_is r blocks i) (range_with_len 0 16))
 
 abbrev some : List ℕ
 some = 5 ∷ (3 ∷ (1030 ∷ []))
 
-lowest_of_a_range_are_a_batch : batch 0 (of some) ≡ 3 ∷ (5 ∷ [])
+lowest_of_a_range_are_a_batch : batch 1024 0 (of some) ≡ 3 ∷ (5 ∷ [])
 lowest_of_a_range_are_a_batch = batch_is 0 some
 
-batch_of_another_range : batch 1 (of some) ≡ 1030 ∷ []
+batch_of_another_range : batch 1024 1 (of some) ≡ 1030 ∷ []
 batch_of_another_range = batch_is 1 some
 
-last_of_a_range_and_first_of_the_next : batch 1 (of (1023 ∷ (1024 ∷ (2047 ∷ (2048 ∷ []))))) ≡ 1024 ∷ (2047 ∷ [])
+last_of_a_range_and_first_of_the_next : batch 1024 1 (of (1023 ∷ (1024 ∷ (2047 ∷ (2048 ∷ []))))) ≡ 1024 ∷ (2047 ∷ [])
 last_of_a_range_and_first_of_the_next = batch_is 1 (1023 ∷ (1024 ∷ (2047 ∷ (2048 ∷ []))))
 
-batch_has_64_at_most : batch 0 (of (range_with_len 0 65)) ≡ range_with_len 0 64
+batch_has_64_at_most : batch 1024 0 (of (range_with_len 0 65)) ≡ range_with_len 0 64
 batch_has_64_at_most = batch_is 0 (range_with_len 0 65)
 
-range_of_the_lowest_is_culled : lowest_batch (of (2050 ∷ (1025 ∷ (1030 ∷ [])))) ≡ 1025 ∷ (1030 ∷ [])
+range_of_the_lowest_is_culled : lowest_batch 1024 (of (2050 ∷ (1025 ∷ (1030 ∷ [])))) ≡ 1025 ∷ (1030 ∷ [])
 range_of_the_lowest_is_culled = lowest_batch_is (2050 ∷ (1025 ∷ (1030 ∷ [])))
 
-last_range_is_culled : lowest_batch (of (16383 ∷ [])) ≡ 16383 ∷ []
+last_range_is_culled : lowest_batch 1024 (of (16383 ∷ [])) ≡ 16383 ∷ []
 last_range_is_culled = lowest_batch_is (16383 ∷ [])
 
 -- ---- what workers carry
@@ -201,27 +201,27 @@ abbrev three_five : List ℕ
 three_five = 3 ∷ (5 ∷ [])
 
 -- a batch that is known, in place of what it is computed from
-fetches : (range : ℕ) (p : Parts) (blocks : List ℕ) → batch range p.free ≡ blocks
-    → Fetches 0 range (length blocks) (carries p Empty) (carries (record p { free = difference p.free (of blocks) }) (fresh_hand 0 blocks))
+fetches : (range : ℕ) (p : Parts) (blocks : List ℕ) → batch 1024 range p.free ≡ blocks
+    → Fetches 1024 0 range (length blocks) (carries p Empty) (carries (record p { free = difference p.free (of blocks) }) (fresh_hand 0 blocks))
 fetches range p blocks e = (sym (ap (λ (bs : List ℕ). length bs) e), sym (ap (λ (bs : List ℕ). fetched 0 bs p) e))
 
-culls : (p : Parts) (blocks : List ℕ) → lowest_batch p.dead ≡ blocks
-    → Culls 0 (length blocks) (carries p Empty) (carries (record p { dead = difference p.dead (of blocks) }) (dead_hand 0 blocks))
+culls : (p : Parts) (blocks : List ℕ) → lowest_batch 1024 p.dead ≡ blocks
+    → Culls 1024 0 (length blocks) (carries p Empty) (carries (record p { dead = difference p.dead (of blocks) }) (dead_hand 0 blocks))
 culls p blocks e = (sym (ap (λ (bs : List ℕ). length bs) e), sym (ap (λ (bs : List ℕ). culled 0 bs p) e))
 
-free_blocks_are_fetched : Fetches 0 0 2 (carries (parts none none none (of some)) Empty)
+free_blocks_are_fetched : Fetches 1024 0 0 2 (carries (parts none none none (of some)) Empty)
     (carries (parts none none none (difference (of some) (of three_five))) (Fresh 0 three_five))
 free_blocks_are_fetched = fetches 0 (parts none none none (of some)) three_five lowest_of_a_range_are_a_batch
 
-nothing_free_leaves_the_hand_empty : Fetches 0 2 0 (carries (parts none none none (of some)) Empty)
+nothing_free_leaves_the_hand_empty : Fetches 1024 0 2 0 (carries (parts none none none (of some)) Empty)
     (carries (parts none none none (difference (of some) (of []))) Empty)
 nothing_free_leaves_the_hand_empty = fetches 2 (parts none none none (of some)) [] (batch_is 2 some)
 
-dead_blocks_are_culled : Culls 0 2 (carries (parts none none (of some) none) Empty)
+dead_blocks_are_culled : Culls 1024 0 2 (carries (parts none none (of some) none) Empty)
     (carries (parts none none (difference (of some) (of three_five)) none) (Dead 0 three_five))
 dead_blocks_are_culled = culls (parts none none (of some) none) three_five (lowest_batch_is some)
 
-nothing_dead_leaves_the_hand_empty : Culls 0 0 (carries (parts none none (of []) none) Empty)
+nothing_dead_leaves_the_hand_empty : Culls 1024 0 0 (carries (parts none none (of []) none) Empty)
     (carries (parts none none (difference (of []) (of [])) none) Empty)
 nothing_dead_leaves_the_hand_empty = culls (parts none none (of []) none) [] (lowest_batch_is [])
 
@@ -233,18 +233,18 @@ dead_batch_comes_to_the_bitmaps : PutsDown 2 (carries (parts none none none (jus
     (carries (parts none none none (union (just 1) (of three_five))) Empty)
 dead_batch_comes_to_the_bitmaps = (refl, refl)
 
-free_blocks_are_surveyed : Surveys 2 (parts none none none (of some)) (2 ∷ (1 ∷ []))
+free_blocks_are_surveyed : Surveys 1024 2 (parts none none none (of some)) (2 ∷ (1 ∷ []))
 free_blocks_are_surveyed = sym (λ i. map (λ r. length (in_range_is r some i)) (range_with_len 0 2))
 
 -- ---- a batch is at most 64 numbers of one range, ascending
 
-two_of_a_range : IsBatch 1 (1024 ∷ (2047 ∷ []))
+two_of_a_range : IsBatch 1024 1 (1024 ∷ (2047 ∷ []))
 two_of_a_range = record { few = omega arith; ascending = (omega arith, tt); of_range = (refl, (refl, tt)) }
 
-two_ranges_are_no_batch : IsBatch 0 (1023 ∷ (1024 ∷ [])) → ⊥
+two_ranges_are_no_batch : IsBatch 1024 0 (1023 ∷ (1024 ∷ [])) → ⊥
 two_ranges_are_no_batch q = let k : 1 ≡ 0 = q.of_range.1.0 in absurd (cc)
 
-descending_are_no_batch : IsBatch 0 (5 ∷ (3 ∷ [])) → ⊥
+descending_are_no_batch : IsBatch 1024 0 (5 ∷ (3 ∷ [])) → ⊥
 descending_are_no_batch q = let k = q.ascending.0 in omega (arith, k)
 
 -- ---- what is told

@@ -57,15 +57,15 @@ most_if true t h = h
 most_if false t h = omega arith
 
 -- a batch has each number of the set at most once, and no other
-pub batch_within : (range n : ℕ) (s : FinSet nat_cmp) → times_listed n (batch range s) ≤ one_if (contains s n)
+pub batch_within : (size range n : ℕ) (s : FinSet nat_cmp) → times_listed n (batch size range s) ≤ one_if (contains s n)
 unfolding in_range
-batch_within range n s =
+batch_within size range n s =
     omega (
       arith,
-      take_fewer n 64 (filter (contains s) (range_with_len (1024 * range) 1024)),
+      take_fewer n 64 (filter (contains s) (range_with_len (size * range) size)),
       times_listed-filter (contains s) n
-          (range_with_len (1024 * range) 1024),
-      most_if (contains s n) _ (range_once n (1024 * range) 1024),
+          (range_with_len (size * range) size),
+      most_if (contains s n) _ (range_once n (size * range) size),
     )
 
 first_within : (n m : ℕ) (xss : List (List ℕ)) → AllByRecursion (λ xs. times_listed n xs ≤ m) xss → times_listed n (first_filled xss) ≤ m
@@ -73,13 +73,15 @@ first_within n m [] p = omega arith
 first_within n m ([] ∷ xss) p = first_within n m xss p.1
 first_within n m ((x ∷ xs) ∷ xss) p = p.0
 
-batches_within : (n : ℕ) (s : FinSet nat_cmp) (ranges : List ℕ) → AllByRecursion (λ xs. times_listed n xs ≤ one_if (contains s n)) (map (λ r. batch r s) ranges)
-batches_within n s [] = tt
-batches_within n s (r ∷ ranges) = (batch_within r n s, batches_within n s ranges)
+batches_within : (size n : ℕ) (s : FinSet nat_cmp) (ranges : List ℕ)
+    → AllByRecursion (λ xs. times_listed n xs ≤ one_if (contains s n)) (map (λ r. batch size r s) ranges)
+batches_within size n s [] = tt
+batches_within size n s (r ∷ ranges) = (batch_within size r n s, batches_within size n s ranges)
 
-pub lowest_within : (n : ℕ) (s : FinSet nat_cmp) → times_listed n (lowest_batch s) ≤ one_if (contains s n)
+pub lowest_within : (size n : ℕ) (s : FinSet nat_cmp) → times_listed n (lowest_batch size s) ≤ one_if (contains s n)
 unfolding lowest_batch
-lowest_within n s = first_within n (one_if (contains s n)) (map (λ r. batch r s) (range_with_len 0 16)) (batches_within n s (range_with_len 0 16))
+lowest_within size n s =
+    first_within n (one_if (contains s n)) (map (λ r. batch size r s) (range_with_len 0 16)) (batches_within size n s (range_with_len 0 16))
 
 -- ---- a batch and a set
 

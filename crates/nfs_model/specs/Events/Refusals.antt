@@ -3,9 +3,9 @@ use Rattle.std.specs.Prelude.{ℕ, ◌+◌, ◌/◌, ◌^◌, Bool, true, false,
 use Rattle.std.specs.Prelude.{[], ◌∷◌, Option, Some, None, is_some, is_none, slice_get, if◌then◌else◌}
 use Rattle.std.specs.List.{list_any}
 use Rattle.nfs_model.specs.Types.{Moment, nanoseconds_of_a_second}
-use Rattle.nfs_model.specs.Tree.{Affinity, Logical, Vbn, Range, excludes}
+use Rattle.nfs_model.specs.Tree.{Affinity, Logical, Vbn, Range, excludes, range_blocks_of}
 use Rattle.nfs_model.specs.Server.{VolumeState}
-use Rattle.nfs_model.specs.Parts.{Hand, Empty, Fresh, Dead, range_blocks, most_ranges, range_of}
+use Rattle.nfs_model.specs.Parts.{Hand, Empty, Fresh, Dead, most_ranges, range_of}
 use Rattle.nfs_model.specs.World.{Setup, World, Connection, Message, Running, Worker, all_running, affinities}
 
 -- what may happen to an engine
@@ -110,7 +110,7 @@ running_of (Some k) = k.running
 -- a range of a volume that is in use
 abbrev pub is_range_in_use : Option VolumeState → ℕ → Bool
 is_range_in_use None range = false
-is_range_in_use (Some v) range = nat_lt range (v.total / range_blocks)
+is_range_in_use (Some v) range = nat_lt range (v.total / v.range_blocks)
 
 -- 41 for a range that isn't in use, after what excludes
 abbrev pub or_not_in_use : Option ℕ → Bool → Option ℕ
@@ -127,7 +127,8 @@ fetch_refusal setup w volume range there =
 abbrev pub put_refusal : Setup → World → Hand → Option ℕ
 put_refusal setup w Empty = Some 34
 put_refusal setup w (Fresh volume blocks) = excluded setup w (Logical volume)
-put_refusal setup w (Dead volume blocks) = excluded setup w (Range volume (range_of blocks))
+put_refusal setup w (Dead volume blocks) =
+    excluded setup w (Range volume (range_of (range_blocks_of setup.layout volume) blocks))
 
 -- what a worker carries
 abbrev pub hand_of : Option Worker → Hand

@@ -3,9 +3,10 @@ use Rattle.std.specs.Prelude.{◌≡◌, ℕ, ◌+◌, ◌/◌, Bool, true, fals
 use Rattle.std.specs.Prelude.{Option, Some, None, Result, Ok, Err, slice_get, slice_set}
 use Rattle.std.specs.List.{remove}
 use Rattle.nfs_model.specs.Types.{Moment, Reply, SystemError}
+use Rattle.nfs_model.specs.Tree.{range_blocks_of}
 use Rattle.nfs_model.specs.Server.{VolumeState}
 use Rattle.nfs_model.specs.Replay.{FinishedCall}
-use Rattle.nfs_model.specs.Parts.{Parts, Hand, Empty, Fresh, Dead, range_blocks}
+use Rattle.nfs_model.specs.Parts.{Parts, Hand, Empty, Fresh, Dead}
 use Rattle.nfs_model.specs.Moves.{Carrying, Fetches, Culls, PutsDown, Surveys}
 use Rattle.nfs_model.specs.Work.{Store, Outcome, Replied, Starved, Moved, Works}
 use Rattle.nfs_model.specs.World.{Setup, World, Connection, Message, Running, Worker, store_of, task_of}
@@ -147,11 +148,13 @@ Happens setup w (Finish worker) done new =
     × (done ≡ told_of setup w r o) × (new ≡ finished_by setup w worker r o)
 Happens setup w (Fetch worker volume range) done new =
     (before : Carrying) × (after : Carrying) × (count : ℕ)
-    × Carries w worker volume before × Fetches volume range count before after
+    × Carries w worker volume before
+    × Fetches (range_blocks_of setup.layout volume) volume range count before after
     × (done ≡ HandHas count) × (new ≡ carried w worker volume after)
 Happens setup w (Cull worker volume) done new =
     (before : Carrying) × (after : Carrying) × (count : ℕ)
-    × Carries w worker volume before × Culls volume count before after
+    × Carries w worker volume before
+    × Culls (range_blocks_of setup.layout volume) volume count before after
     × (done ≡ HandHas count) × (new ≡ carried w worker volume after)
 Happens setup w (PutDown worker) done new =
     (before : Carrying) × (after : Carrying) × (count : ℕ)
@@ -160,7 +163,7 @@ Happens setup w (PutDown worker) done new =
 Happens setup w (Survey worker volume) done new =
     (v : VolumeState) × (p : Parts) × (told : List ℕ)
     × (slice_get w.server.volumes volume ≡ Some v) × (slice_get w.parts volume ≡ Some p)
-    × Surveys (v.total / range_blocks) p told
+    × Surveys (range_blocks_of setup.layout volume) (v.total / v.range_blocks) p told
     × (done ≡ Surveyed told) × (new ≡ stamp_added w)
 
 -- the refusal's number, or 90 for want of memory

@@ -4,7 +4,7 @@ use Rattle.std.specs.FinMap.{insert, len}
 use Rattle.std.specs.FinSet as sets
 use Rattle.nfs_model.specs.Types.{Moment, Credential, SetAttributes, Keep, CreateMode, Unchecked, Guarded}
 use Rattle.nfs_model.specs.Types.{Exclusive, Answer, MadeDone, Status, Exists, Invalid, TooBig, NoSpace}
-use Rattle.nfs_model.specs.Server.{Attributes, Node, File, Directory, VolumeState, handle_bytes, most_inodes}
+use Rattle.nfs_model.specs.Server.{Attributes, Node, File, Directory, VolumeState, handle_bytes}
 use Rattle.nfs_model.specs.Shown.{shown, wcc}
 use Rattle.nfs_model.specs.Names.{same_name, is_dots, with_name}
 use Rattle.nfs_model.specs.Locate.{Effect, Fails, Tells, Changes, unless, Found, Naming, named_child}
@@ -30,7 +30,7 @@ new_attributes set mode credential moment = record {
 
 -- no inode is left
 abbrev pub is_full : VolumeState → Bool
-is_full volume = nat_le most_inodes (len volume.nodes)
+is_full volume = nat_le volume.most_inodes (len volume.nodes)
 
 -- the directory with the name, which stands for the next fileid
 abbrev pub directory_made : Naming → Node

@@ -2,7 +2,7 @@
 use Rattle.std.specs.Prelude.{ℕ, ◌-◌, ◌*◌}
 use Rattle.std.specs.FinMap.{get, len}
 use Rattle.nfs_model.specs.Types.{Space, FsstatDone}
-use Rattle.nfs_model.specs.Server.{VolumeState, used, block_size, most_inodes}
+use Rattle.nfs_model.specs.Server.{VolumeState, used, block_size}
 use Rattle.nfs_model.specs.Shown.{shown}
 use Rattle.nfs_model.specs.Locate.{Effect, Tells, on_node}
 
@@ -11,8 +11,8 @@ abbrev pub space : VolumeState → Space
 space volume = record {
   total_bytes = block_size * volume.total;
   free_bytes = block_size * (volume.total - used volume);
-  inodes = most_inodes;
-  free_inodes = most_inodes - len volume.nodes;
+  inodes = volume.most_inodes;
+  free_inodes = volume.most_inodes - len volume.nodes;
 }
 
 -- the attributes and the space, or STALE

@@ -3,7 +3,7 @@ use Rattle.std.specs.Prelude.{ℕ, ◌+◌, ◌-◌, ◌*◌, ◌==◌, nat_lt, 
 use Rattle.std.specs.Prelude.{slice_index_or, if◌then◌else◌}
 use Rattle.nfs_model.specs.Types.{Answer, GrowDone, Failed, NoEntry, Invalid, TooBig, NoSpace}
 use Rattle.nfs_model.specs.Server.{VolumeState, Server}
-use Rattle.nfs_model.specs.Parts.{range_blocks, most_ranges}
+use Rattle.nfs_model.specs.Parts.{most_ranges}
 
 -- an answer, and the server after it
 pub record Grown : Type 0 where
@@ -14,7 +14,7 @@ pub record Grown : Type 0 where
 abbrev pub grown : Server → ℕ → VolumeState → ℕ → Server
 grown server index volume ranges = record {
   spare = slice_set server.spare volume.aggregate (slice_index_or server.spare volume.aggregate 0 - ranges);
-  volumes = slice_set server.volumes index (record volume { total = volume.total + range_blocks * ranges });
+  volumes = slice_set server.volumes index (record volume { total = volume.total + volume.range_blocks * ranges });
 }
 
 -- NOENT, INVAL for no range, FBIG for more than 16 in all, NOSPC for more than the spare ones
@@ -22,11 +22,14 @@ abbrev pub grow_volume : Server → ℕ → Option VolumeState → ℕ → Grown
 grow_volume server index None ranges = record { answer = Failed NoEntry 0; server = server }
 grow_volume server index (Some volume) ranges =
     if ranges == 0 then record { answer = Failed Invalid 0; server = server }
-    else if nat_lt (range_blocks * most_ranges) (volume.total + range_blocks * ranges)
+    else if nat_lt (volume.range_blocks * most_ranges) (volume.total + volume.range_blocks * ranges)
     then record { answer = Failed TooBig 0; server = server }
     else if nat_lt (slice_index_or server.spare volume.aggregate 0) ranges
     then record { answer = Failed NoSpace 0; server = server }
-    else record { answer = GrowDone (volume.total + range_blocks * ranges); server = grown server index volume ranges }
+    else record {
+      answer = GrowDone (volume.total + volume.range_blocks * ranges);
+      server = grown server index volume ranges;
+    }
 
 -- a volume by its number
 abbrev pub grow : Server → ℕ → ℕ → Grown

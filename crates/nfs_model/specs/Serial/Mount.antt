@@ -1,5 +1,5 @@
 -- MOUNT version 3 (RFC 1813 appendix I, section 5.2). What is exported is the root of each volume.
-use Rattle.std.specs.Prelude.{ℕ, ◌+◌, ◌==◌, ◌&&◌, ◌||◌, Bool, true, false, List, [], ◌∷◌, length, map}
+use Rattle.std.specs.Prelude.{ℕ, ◌+◌, ◌==◌, ◌&&◌, ◌||◌, Bool, false, List, [], ◌∷◌, length, map}
 use Rattle.std.specs.Prelude.{Option, Some, None, nat_lt, not, min, if◌then◌else◌}
 use Rattle.std.specs.List.{find, range_with_len}
 use Rattle.nfs_model.specs.Names.{same_name}

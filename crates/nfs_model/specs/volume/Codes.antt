@@ -13,7 +13,7 @@ use Rattle.nfs_model.specs.Server.{Attributes}
 use Rattle.nfs_model.specs.volume.Directories.{DirectoryValue}
 use Rattle.nfs_model.specs.volume.Inodes.{InodeKind, RegularFile, DirectoryKind, Inode, InodesValue}
 use Rattle.nfs_model.specs.volume.Stripes.{Card, OfFile, OfDirectory, Block, file_block_cmp, StripeValue}
-use Rattle.nfs_model.specs.volume.Ranges.{RangeValue}
+use Rattle.nfs_model.specs.volume.Ranges.{RangeValue, DeadValue}
 use Rattle.nfs_model.specs.volume.Logical.{LogicalValue}
 
 abbrev pub coded_moment : Coded Moment
@@ -98,21 +98,28 @@ coded_stripe =
 
 abbrev pub coded_range : Coded RangeValue
 coded_range =
-    code_by (ℕ × (Bool × FinSet nat_cmp)) (coded× coded_ℕ (coded× coded_bool (sets.code coded_ℕ)))
-    (λ r. (r.number, (r.is_used, r.free))) (λ p. record { number = p.0; is_used = p.1.0; free = p.1.1 }) (λ _. refl)
+    code_by ((ℕ × ℕ) × (Bool × FinSet nat_cmp)) (coded× (coded× coded_ℕ coded_ℕ) (coded× coded_bool (sets.code coded_ℕ)))
+    (λ r. ((r.range_blocks, r.number), (r.is_used, r.free)))
+    (λ p. record { range_blocks = p.0.0; number = p.0.1; is_used = p.1.0; free = p.1.1 }) (λ _. refl)
+
+abbrev pub coded_dead : Coded DeadValue
+coded_dead =
+    code_by (ℕ × FinSet nat_cmp) (coded× coded_ℕ (sets.code coded_ℕ)) (λ d. (d.range_blocks, d.blocks))
+    (λ p. record { range_blocks = p.0; blocks = p.1 }) (λ _. refl)
 
 -- ---- what Volume Logical has
 
 abbrev pub coded_logical : Coded LogicalValue
 coded_logical =
-    code_by ((List ℕ × (ℕ × ℕ)) × (InodesValue × (FinMap nat_cmp DirectoryValue × (FinSet nat_cmp × FinSet nat_cmp))))
-    (coded× (coded× (coded_list coded_ℕ) (coded× coded_ℕ coded_ℕ))
-    (coded× coded_inodes (coded× (maps.code coded_ℕ coded_directory) (coded× (sets.code coded_ℕ) (sets.code coded_ℕ)))))
-    (λ l. ((l.verifier, (l.stripes, l.largest)), (l.inodes, (l.directories, (l.stock, l.dead)))))
+    code_by (((List ℕ × ℕ) × (ℕ × ℕ)) × (InodesValue × (FinMap nat_cmp DirectoryValue × (FinSet nat_cmp × DeadValue))))
+    (coded× (coded× (coded× (coded_list coded_ℕ) coded_ℕ) (coded× coded_ℕ coded_ℕ))
+    (coded× coded_inodes (coded× (maps.code coded_ℕ coded_directory) (coded× (sets.code coded_ℕ) coded_dead))))
+    (λ l. (((l.verifier, l.stripes), (l.largest, l.most_inodes)), (l.inodes, (l.directories, (l.stock, l.dead)))))
     (λ p. record {
-      verifier = p.0.0;
-      stripes = p.0.1.0;
-      largest = p.0.1.1;
+      verifier = p.0.0.0;
+      stripes = p.0.0.1;
+      largest = p.0.1.0;
+      most_inodes = p.0.1.1;
       inodes = p.1.0;
       directories = p.1.1.0;
       stock = p.1.1.1.0;

@@ -23,6 +23,10 @@ pub record InodesValue : Type 0 where
   pub used : ℕ  -- the filled blocks of all files
   pub inodes : FinMap nat_cmp Inode
 
+-- the most inodes of a volume, in any layout
+abbrev pub inodes_of_a_volume : ℕ
+inodes_of_a_volume = 67108864
+
 -- ---- the beginning
 
 -- the root of a volume, its own parent, with the attributes that it begins with

@@ -5,13 +5,15 @@ use Rattle.std.specs.FinMap.{FinMap}
 use Rattle.std.specs.FinSet.{FinSet}
 use Rattle.nfs_model.specs.volume.Directories.{DirectoryValue}
 use Rattle.nfs_model.specs.volume.Inodes.{InodesValue}
+use Rattle.nfs_model.specs.volume.Ranges.{DeadValue}
 
 -- the part of a volume that Volume Logical has
 pub record LogicalValue : Type 0 where
   pub verifier : List ℕ  -- of writes, fixed for the run
   pub stripes : ℕ  -- of the volume
   pub largest : ℕ  -- size of a file of the volume
+  pub most_inodes : ℕ  -- of the volume, the root with them
   pub inodes : InodesValue
   pub directories : FinMap nat_cmp DirectoryValue  -- by fileid
   pub stock : FinSet nat_cmp  -- block numbers for files
-  pub dead : FinSet nat_cmp  -- block numbers left by files, not yet free
+  pub dead : DeadValue  -- block numbers left by files, not yet free

@@ -2,7 +2,8 @@
 use Rattle.std.proofs.Common.{◌≡◌, ℕ, ◌+◌, ◌*◌, ◌≤◌, List, length, Option, Some, None, refl, sym, ap, ◌∙◌, subst, arith}
 use Rattle.std.specs.Prelude.{IfSome}
 use Rattle.std.specs.FinMap.{get, remove}
-use Rattle.nfs_model.specs.Parts.{most_ranges, range_blocks}
+use Rattle.nfs_model.specs.Parts.{most_ranges}
+use Rattle.nfs_model.specs.volume.Ranges.{most_range_blocks}
 use Rattle.nfs_model.specs.Server.{Attributes}
 use Rattle.nfs_values.specs.Moment.{moment_of}
 use Rattle.inodes.specs.Inode.{inode_value, kind_value}
@@ -62,7 +63,7 @@ sized-put directory name fileid s None may = tt
 sized-put directory name fileid s (Some t) may = record { few = may.few; used = may.used; cards = may.cards; numbers = may.numbers }
 
 abbrev most : ℕ
-most = most_ranges * range_blocks
+most = most_ranges * most_range_blocks
 
 module _ (b : Between) (s : LogicalSet) (to_within : IsWithin (kind_value b.to.inode.kind)) where
   pub within-out : (target : Option HeldNode) → IfSome target (λ (t : HeldNode). IsWithin t.inode.kind) → AllWithin s.own.inodes.inodes

@@ -5,7 +5,6 @@ use Rattle.std.specs.Prelude.{slice_get, slice_set, slice_index_or, is_some, Res
 use Rattle.nfs_model.specs.Types as types
 use Rattle.nfs_model.specs.Types.{Ask, Credential, Moment, Success}
 use Rattle.nfs_model.specs.Tree.{Layout, Aggregate, stripes_of, aggregate_of}
-use Rattle.nfs_model.specs.Parts.{range_blocks}
 use Rattle.nfs_model.specs.Work.{Replied}
 use Rattle.nfs_values.specs.Status.{status_of}
 use Rattle.nfs_values.specs.declared.status.Status.{Status}
@@ -123,10 +122,10 @@ module _ {P : Type 0} where
 module _ {P : Type 0} where
   pub volume-grows : (spare more used : ℕ) (old : FilerVolume P) → used ≡ ranges_used (vbn_set old.vbn) → growth_refused None used spare more
       → (vbn : FilerVbn P) → vbn_set vbn ≡ first_in_use (used + more) (vbn_set old.vbn) → vbn_alike old.vbn vbn
-      → (total : ℕ) → total ≡ range_blocks * (used + more) → VolumeGrows spare more old (Ok total) (record old { vbn = vbn })
+      → (total : ℕ) → total ≡ old.logical.own.dead.range_blocks * (used + more) → VolumeGrows spare more old (Ok total) (record old { vbn = vbn })
   volume-grows spare more used old count passed vbn ranges alike total is = (
     subst (λ (u : ℕ). growth_refused None u spare more) count passed,
-    is ∙ ap (λ (u : ℕ). range_blocks * (u + more)) count,
+    is ∙ ap (λ (u : ℕ). old.logical.own.dead.range_blocks * (u + more)) count,
     refl,
     ranges ∙ ap (λ (u : ℕ). first_in_use (u + more) (vbn_set old.vbn)) count,
     ((λ i. refl), alike),

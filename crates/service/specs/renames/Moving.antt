@@ -3,7 +3,8 @@
 use Rattle.std.specs.Prelude.{◌≡◌, ℕ, ◌*◌, ◌<◌, ◌≤◌, ◌^◌, ◌&&◌, ◌==◌, false, true, List, [], Option, Some, None, IfSome}
 use Rattle.std.specs.FinMap.{get}
 use Rattle.nfs_model.specs.Names.{same_name}
-use Rattle.nfs_model.specs.Parts.{most_ranges, range_blocks}
+use Rattle.nfs_model.specs.Parts.{most_ranges}
+use Rattle.nfs_model.specs.volume.Ranges.{most_range_blocks}
 use Rattle.nfs_values.specs.Moment.{moment_of}
 use Rattle.nfs_model.specs.volume.Directories.{DirectoryValue, added, removed}
 use Rattle.nfs_model.specs.volume.Maps.{changed_at}
@@ -71,7 +72,7 @@ node_in b child s = with_map s.own.directories (child_hung (to_of b s) child s)
 -- the directories are there, and stay where the target goes; a name without a target has no entry; and the names aren't of one entry.
 pub record MayMove (b : Between) (from_name to_name : List ℕ) (target : Option HeldNode) (s : LogicalSet) : Type 0 where
   pub few : s.own.stripes ≤ 16
-  pub used : s.own.inodes.used ≤ most_ranges * range_blocks
+  pub used : s.own.inodes.used ≤ most_ranges * most_range_blocks
   pub sized : IfSome target (λ (t : HeldNode). MayBeSet t.fileid s)
   pub cookies : IfSome (get s.own.directories b.to.fileid.0) (λ (d : DirectoryValue). d.next < 2 ^ 63)
   pub within : AllWithin s.own.inodes.inodes

@@ -4,7 +4,8 @@ use Rattle.std.specs.FinMap.{get}
 use Rattle.nfs_model.specs.Types as model
 use Rattle.nfs_model.specs.Types.{Invalid, Wcc, Answer, RenameDone}
 use Rattle.nfs_model.specs.Names.{is_dots, name_fault}
-use Rattle.nfs_model.specs.Parts.{most_ranges, range_blocks}
+use Rattle.nfs_model.specs.Parts.{most_ranges}
+use Rattle.nfs_model.specs.volume.Ranges.{most_range_blocks}
 use Rattle.nfs_values.specs.Moment.{moment_of}
 use Rattle.nfs_values.specs.Status.{status_of}
 use Rattle.nfs_values.specs.declared.status.Status.{Status}
@@ -43,10 +44,10 @@ abbrev pub names_fault : List ℕ → List ℕ → Option model.Status
 names_fault from to =
     first_fault (name_fault from) (first_fault (name_fault to) (if is_dots from || is_dots to then Some Invalid else None))
 
--- what an inode is of within the bounds of a volume: it hasn't too many links, nor more blocks than there are
+-- what an inode is of within the bounds of a volume: it hasn't too many links, nor more blocks than any volume has
 pub record IsWithin (kind : values.InodeKind) : Type 0 where
   pub links : HasFewLinks kind
-  pub filled : values.filled_blocks kind ≤ most_ranges * range_blocks
+  pub filled : values.filled_blocks kind ≤ most_ranges * most_range_blocks
 
 abbrev pub AllWithin : InodeMap → Type 0
 AllWithin inodes = (q : ℕ) → IfSome (get inodes q) (λ (i : values.Inode). IsWithin i.kind)

@@ -4,7 +4,6 @@ use Rattle.std.specs.Option.{option_map}
 use Rattle.nfs_model.specs.Types as types
 use Rattle.nfs_model.specs.Types.{Ask, Credential, Moment, Success}
 use Rattle.nfs_model.specs.Tree.{Layout, Aggregate, aggregate_of}
-use Rattle.nfs_model.specs.Parts.{range_blocks}
 use Rattle.nfs_model.specs.Work.{Outcome, Replied}
 use Rattle.nfs_values.specs.Answer.{answer_of}
 use Rattle.nfs_values.specs.Status.{status_of}
@@ -62,7 +61,7 @@ module _ {P : Type 0} where
   VolumeGrows spare more old (Err status) new = growth_refused (Some status) (ranges_used (vbn_set old.vbn)) spare more × (new ≡ old)
   VolumeGrows spare more old (Ok total) new =
       growth_refused None (ranges_used (vbn_set old.vbn)) spare more
-      × (total ≡ range_blocks * (ranges_used (vbn_set old.vbn) + more))
+      × (total ≡ old.logical.own.dead.range_blocks * (ranges_used (vbn_set old.vbn) + more))
       × (new.logical ≡ old.logical)
       × (vbn_set new.vbn ≡ first_in_use (ranges_used (vbn_set old.vbn) + more) (vbn_set old.vbn))
       × volume_alike old new

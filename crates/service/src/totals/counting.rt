@@ -20,7 +20,6 @@ use filer_state::{Files, ranges_used};
 use nfs_values::{VolumeCount, VolumeNumber};
 use parcels::{AggrHeld, SerialHeld, VolumeHeld};
 use std::alloc::{AllocError, Global};
-use vbn_ranges::RANGE_BLOCKS;
 
 /// CENSUS of the admin program (our profile), on all that is stored: the blocks of each volume and
 /// those of them that are in files, in order of the volumes' numbers.
@@ -82,14 +81,15 @@ fn count_placed(place: &Option<VolumeHeld<Files>>, volume: u32) -> VolumeCount
     }
 }
 
-/// The blocks of a volume, at most 16,384, and how many of them are in files.
+/// The blocks of a volume, at most 268,435,456, and how many of them are in files.
 pub(crate) fn volume_count(held: &VolumeHeld<Files>, volume: VolumeNumber) -> VolumeCount
     ensures value { count_of result ≡ count_in volume.0 (volume_before held.now) }
-    ensures most { result.total ≤ 16384 }
+    ensures most { result.total ≤ 268435456 }
 {
+    let logical = held.logical.own.get();
     VolumeCount {
         volume,
-        total: u64::from(RANGE_BLOCKS) * u64::from(ranges_used(&held.vbn)),
-        used: held.logical.own.get().inodes.used(),
+        total: u64::from(logical.dead.range_blocks()) * u64::from(ranges_used(&held.vbn)),
+        used: logical.inodes.used(),
     }
 }

@@ -8,7 +8,6 @@ ghost use Rattle.service.specs.totals.FilesystemStatus.{TellsFilesystemStatus};
 
 use crate::totals::counting::volume_count;
 use filer_state::Files;
-use inodes::MOST_INODES;
 use nfs_values::{BLOCK_BYTES, Fileid, FilesystemStatusResults, Status, VolumeNumber};
 use parcels::VolumeHeld;
 use service_names::shown_now;
@@ -24,8 +23,8 @@ pub fn filesystem_status(
     requires whole { HasVolume volume.0 volume_lens [] (volume_before held.now) }
     ensures right { TellsFilesystemStatus volume.0 fileid.0 (volume_before held.now) result }
 {
-    let inodes = &held.logical.own.get().inodes;
-    let inode = match inodes.get(fileid) {
+    let own = held.logical.own.get();
+    let inode = match own.inodes.get(fileid) {
         Some(inode) => inode,
         None => return Err(Status::Stale),
     };
@@ -34,7 +33,7 @@ pub fn filesystem_status(
         root: shown_now(&held.logical, volume, fileid, inode),
         total_bytes: BLOCK_BYTES * count.total,
         free_bytes: BLOCK_BYTES * count.total.saturating_sub(count.used),
-        inodes: MOST_INODES as u64,
-        free_inodes: (MOST_INODES as u64).saturating_sub(inodes.len() as u64),
+        inodes: u64::from(own.most_inodes),
+        free_inodes: u64::from(own.most_inodes).saturating_sub(own.inodes.len() as u64),
     })
 }

@@ -18,7 +18,6 @@ use filer_state::totals::growing_calls_are_right;
 use filer_state::{Files, ranges_used};
 use nfs_values::{Status, VolumeNumber};
 use parcels::{AggrHeld, VolumeHeld};
-use vbn_ranges::RANGE_BLOCKS;
 
 /// The ranges of a volume at most.
 const MOST_RANGES: u32 = 16;
@@ -73,7 +72,8 @@ fn grow_volume(held: &mut VolumeHeld<Files>, spare: u32, more: u32) -> Result<u6
         None => {}
     }
     put_in_use(&mut held.vbn, used + more);
-    Ok(RANGE_BLOCKS as u64 * u64::from(used + more))
+    let range_blocks = held.logical.own.get().dead.range_blocks();
+    Ok(u64::from(range_blocks) * u64::from(used + more))
 }
 
 /// The first check that fails of GROW of a volume with so many ranges, where so many are spare.

@@ -5,11 +5,10 @@ use Rattle.std.specs.Prelude.{is_some, IsSome, IfSome, nat_le}
 use Rattle.std.specs.Option.{option_map}
 use Rattle.std.specs.FinMap.{get, len}
 use Rattle.nfs_model.specs.Parts.{Hand}
-use Rattle.nfs_model.specs.Server.{most_inodes}
 use Rattle.nfs_model.specs.Types.{Listed}
 use Rattle.depot_rule.specs.Shares.{too_many}
 use Rattle.nfs_model.specs.volume.Directories.{DirectoryValue, found, fileid_found}
-use Rattle.nfs_model.specs.volume.Inodes.{InodeKind, RegularFile, DirectoryKind, Inode}
+use Rattle.nfs_model.specs.volume.Inodes.{InodeKind, RegularFile, DirectoryKind, Inode, inodes_of_a_volume}
 use Rattle.nfs_model.specs.volume.Stripes.{Card}
 use Rattle.nfs_model.specs.volume.lemmas.Inodes.{next-absent}
 use Rattle.inodes.specs.Inode.{inode_value}
@@ -81,15 +80,16 @@ module _ (p : VolumeContents) (hands hands' : List Hand) (made : ℕ) (few : mad
   inode = inode_value w.inode
 
   links-by : (k : InodeKind) → inode.kind ≡ k → (e : DirectoryValue) → get p.logical.directories d ≡ Some e → get p.logical.inodes.inodes d ≡ Some inode
-      → is_full_set (logical_lens.of p) ≡ false → IfSome (subdirectories_in k) (λ subdirectories. subdirectories < most_inodes)
+      → is_full_set (logical_lens.of p) ≡ false → IfSome (subdirectories_in k) (λ subdirectories. subdirectories < inodes_of_a_volume)
   links-by (RegularFile size filled verifier) is e entered there room = tt
   links-by (DirectoryKind parent subs) is e entered there room =
       let counted : Some subs ≡ Some (directories_listed p.logical.inodes.inodes e.list) =
       sym (ap subdirectories_of there ∙ ap subdirectories_in is) ∙ (well.logical.named.fits d e entered).links in
       let same : subs ≡ directories_listed p.logical.inodes.inodes e.list = cc in
       let most = few-directories p.logical.inodes.inodes p.logical.directories well.logical.named d e entered in
-      let left : nat_le most_inodes (len p.logical.inodes.inodes) ≡ false = room in
-      grind (arith, nat_tests, same, most, left)
+      let left : nat_le p.logical.most_inodes (len p.logical.inodes.inodes) ≡ false = room in
+      let bound = well.most_inodes.1 in
+      grind (arith, nat_tests, same, most, left, bound)
 
   volume-may : get p.logical.inodes.inodes d ≡ Some inode → is_directory (Some inode) ≡ true → fileid_found (entries_of p.logical d) name ≡ None
       → is_full_set (logical_lens.of p) ≡ false → MayMake (naming_in_parent w name (logical_lens.of p))
@@ -103,7 +103,8 @@ module _ (p : VolumeContents) (hands hands' : List Hand) (made : ℕ) (few : mad
             shown-some (get (stripe_at p.stripes i).cards root) (get p.logical.inodes.inodes root)
             ((well.stripes i (omega (arith, less, many))).cards root) well.logical.named.root_there;
         fileids = let y = sound.young.fileids in omega (arith, few, y);
-        room = let left : nat_le most_inodes (len p.logical.inodes.inodes) ≡ false = room in grind (arith, nat_tests, left);
+        room = let left : nat_le p.logical.most_inodes (len p.logical.inodes.inodes) ≡ false = room in grind (arith, nat_tests, left);
+        most = well.most_inodes.1;
         links = links-by inode.kind refl (entries_of p.logical d) entered there room;
         entered = entered;
         cookies = let y = sound.young.cookies d (entries_of p.logical d) entered in omega (arith, few, y);

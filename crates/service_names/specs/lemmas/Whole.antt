@@ -31,6 +31,7 @@ few-links p well fileid inode there = by inode.kind refl
             let same : subs ≡ directories_listed p.logical.inodes.inodes d.list = cc in
             let most = few-directories p.logical.inodes.inodes p.logical.directories well.logical.named fileid d e in
             let few = well.logical.few in
+            let bound = well.most_inodes.1 in
             omega arith
 
 module _ (v : ℕ) (set : LogicalSet) (whole : HasVolume v logical_lens [] set) where

@@ -2,7 +2,7 @@
 use Rattle.std.proofs.Common.{◌≡◌, ℕ, suc, ◌≤◌, Bool, true, false, List, [], ◌∷◌, map, Some, refl, sym, ◌∙◌, arith, nat_lt}
 use Rattle.std.specs.Prelude.{slice_get, ◌*◌}
 use Rattle.std.specs.FinSet as sets
-use Rattle.nfs_model.specs.Parts.{Hand, one_if, times_listed, range_blocks}
+use Rattle.nfs_model.specs.Parts.{Hand, one_if, times_listed}
 use Rattle.filer_state.specs.state.Contents.{VolumeContents, FilerContents}
 use Rattle.filer_state.specs.state.Tree.{volume_of, ranges_used}
 use Rattle.filer_state.specs.state.Partition.{all_numbers, files_in, parts_of}
@@ -21,7 +21,7 @@ module _ (hands : List Hand) (made : ℕ) where
       len-listed (all_numbers p.stripes)
       (λ n.
       let o = sound.partition n in
-      let most = at-most-one (nat_lt n (range_blocks * ranges_used p.ranges)) in
+      let most = at-most-one (nat_lt n (p.logical.dead.range_blocks * ranges_used p.ranges)) in
       let listed = all-times n p.stripes in
       let l : times_listed n (all_numbers p.stripes) ≤ 1 = omega (arith, o, most, listed) in l)
       ∙ all-length p.stripes ∙ sym sound.well_formed.used

@@ -7,6 +7,7 @@ use lib.ListN.{get_elem?}
 use Rattle.atomic_table.proofs.Lists.{set_here, set_else, set_again}
 use Rattle.nfs_model.specs.Tree.{Layout}
 use Rattle.nfs_model.specs.Parts.{Hand}
+use Rattle.nfs_laws.specs.Sizes.{HaveSizes}
 use Rattle.affinity.specs.Fault.{fault_of}
 use Rattle.affinity.specs.Tree.{IsNode}
 use Rattle.affinity.specs.Ancestors.{Covers}
@@ -29,7 +30,8 @@ use Rattle.filer_state.specs.state.Contents.{filer_contents}
 use Rattle.filer_state.specs.state.Sound.{AreSound, AllSound}
 use Rattle.filer_state.specs.state.Jobs.{InnerCall, Inner, Job, JobReply, takes, gives, batches_in, inner_node}
 use Rattle.filer_state.specs.state.Deeds.{FilerSteps}
-use Rattle.filer_state.specs.state.Running.{HasFiler}
+use Rattle.filer_state.specs.state.Running.{HasSizedFiler}
+use Rattle.filer_state.specs.state.Tree.{tree}
 use Rattle.filer_state.specs.laws.lemmas.Alike.{filer-same}
 use Rattle.filer_state.specs.laws.lemmas.Lawful.{steps-local}
 use Rattle.filer_state.specs.laws.lemmas.Steps.{sound-by-weight}
@@ -113,19 +115,23 @@ module _ {P C R : Type 0} (job : C → Job) (told : R → JobReply) (b : FilerBo
         ∙ granted k cover;
   }
 
-  -- what is lent is some sound filer's, where what is in the hand is one of all hands
+  -- what is lent is some sound filer's, whose sizes are the layout's, where what is in the hand is one of all hands
   pub some-filer : (hand : Hand) (others : List Hand) → HasHands (filer job told) b (batches_in hand ++ others) → IsSettled (filer job told) b
-      → stamps b < too_many → HasFiler c.layout (inner_node call) (batches_in hand) begins.parcels
-  some-filer hand others carried sound few =
-      subst (λ (x : FilerBooks P C R). HasFiler x.layout (inner_node call) (batches_in hand) begins.parcels) (sym begins.books) (
-        settled b,
-        batches_in hand ++ others,
-        others,
-        stamps b,
-        (λ k cover. sym (granted k cover)),
-        few,
-        (λ weigh. let joined = total-append weigh (batches_in hand) others in omega (arith, joined)),
-        settled-sound b lawful job told (batches_in hand ++ others) carried sound,
+      → stamps b < too_many → HaveSizes b.layout (tree b.layout (settled b))
+      → HasSizedFiler c.layout (inner_node call) (batches_in hand) begins.parcels
+  some-filer hand others carried sound few sized =
+      subst (λ (x : FilerBooks P C R). HasSizedFiler x.layout (inner_node call) (batches_in hand) begins.parcels) (sym begins.books) (
+        (
+          settled b,
+          batches_in hand ++ others,
+          others,
+          stamps b,
+          (λ k cover. sym (granted k cover)),
+          few,
+          (λ weigh. let joined = total-append weigh (batches_in hand) others in omega (arith, joined)),
+          settled-sound b lawful job told (batches_in hand ++ others) carried sound,
+        ),
+        sized,
       )
 
   -- ---- it runs

@@ -1,13 +1,14 @@
 -- An inner call that was made: the books stand for the world after it, and it did what the model says.
 use Rattle.std.proofs.Common.{◌≡◌, ℕ, zero, suc, ◌+◌, ◌*◌, ◌/◌, ◌<◌, ◌≤◌, false, List, [], ◌∷◌, ◌++◌, length, Option, Some, None}
 use Rattle.std.proofs.Common.{refl, sym, ap, ◌∙◌, subst, arith}
+use Rattle.std.proofs.Math.Nat.{mul_comm, mul-div_cancel}
 use Rattle.std.proofs.lemmas.Bool.Decides.{nat_tests}
 use Rattle.std.specs.Prelude.{slice_get, slice_set, option_map, nat_lt}
 use Rattle.std.proofs.lemmas.List.{length-append, append-nil}
 use Rattle.std.proofs.lemmas.Option.{slice_get-map}
-use Rattle.nfs_model.specs.Tree.{Layout}
+use Rattle.nfs_model.specs.Tree.{Layout, range_blocks_of}
 use Rattle.nfs_model.specs.Server.{Server}
-use Rattle.nfs_model.specs.Parts.{Hand, Empty, range_blocks}
+use Rattle.nfs_model.specs.Parts.{Hand, Empty}
 use Rattle.nfs_model.specs.World.{Setup, World, Worker, changed_at, with_hand}
 use Rattle.nfs_model.specs.Events.Refusals.{excluded, is_range_in_use}
 use Rattle.affinity.specs.Fault.{fault_of}
@@ -33,6 +34,8 @@ use Rattle.filer_state.specs.state.Deeds.{DoesInner, FilerSteps}
 use Rattle.filer_state.specs.state.Running.{IsRefusedIn, IsRefusedOn}
 use Rattle.filer_state.specs.laws.lemmas.Each.{each-get}
 use Rattle.filer_state.specs.laws.lemmas.Lawful.{entry-does}
+use Rattle.filer_state.specs.laws.lemmas.LayoutSizes.{contents-sized}
+use Rattle.filer_state.specs.laws.lemmas.Sizes.{size-some}
 use Rattle.engine.specs.laws.Store.{FilerBooks, filer, RunOn, IsApart, StandsFor, batches_carried, calls_served, with_served}
 use Rattle.engine.specs.laws.Inner.{IsFree, HasMade, HasMoved, hand_after}
 use Rattle.engine.specs.laws.lemmas.Agreeing.{sound-settled, now-served}
@@ -40,6 +43,7 @@ use Rattle.engine.specs.laws.lemmas.Beginning.{told-free}
 use Rattle.engine.specs.laws.lemmas.Changing.{all-kept}
 use Rattle.engine.specs.laws.lemmas.Finishing.{left-is}
 use Rattle.engine.specs.laws.lemmas.Recorded.{served-snoc}
+use Rattle.engine.specs.laws.lemmas.Sized.{now-sized}
 
 -- ---- what workers carry
 
@@ -93,8 +97,8 @@ after-takes call (Surveyed counts) = refl
 after-takes call (Replied reply) = refl
 
 -- a volume's ranges by its total
-ranges-of-total : (n : ℕ) → range_blocks * n / range_blocks ≡ n
-ranges-of-total n = omega arith
+ranges-of-total : (size n : ℕ) → 0 < size → size * n / size ≡ n
+ranges-of-total size n some = ap (λ (m : ℕ). m / size) (mul_comm size n) ∙ mul-div_cancel n some
 
 -- ---- it was made
 
@@ -164,7 +168,17 @@ module _ {P C R : Type 0} (job : C → Job) (told : R → JobReply) (setup : Set
       stamps = w.stamps + 1;
     }
 
-    pub has-moved : HasMoved w i call (told reply) next
+    -- the blocks of a range of its volume are as many as the layout says
+    abbrev own_size : ℕ
+    own_size = did-now.before.logical.dead.range_blocks
+
+    sized-here : own_size ≡ range_blocks_of L v
+    sized-here = contents-sized L (filer_contents L (now b)) (now-sized job told setup w b s) v did-now.before did-now.volume_before
+
+    some-here : 0 < own_size
+    some-here = size-some own_size ((now-served job told setup w b s).0.1 v did-now.before did-now.volume_before).1.well_formed.size
+
+    pub has-moved : HasMoved L w i call (told reply) next
     has-moved = record {
       mover = k;
       at = there;
@@ -176,8 +190,10 @@ module _ {P C R : Type 0} (job : C → Job) (told : R → JobReply) (setup : Set
       parts = ap (λ xs. slice_get xs v) s.parts ∙ slice_get-map parts_of (filer_contents L (now b)).volumes v
           ∙ ap (λ o. option_map parts_of o) did-now.volume_before;
       after = parts_of did-now.after;
-      moves = subst (λ n. InnerMoves call n (parts_of did-now.before) (told reply) (parts_of did-now.after))
-          (sym (ranges-of-total (ranges_used did-now.before.ranges))) did-now.moves;
+      moves = subst (λ m. InnerMoves m call (own_size * ranges_used did-now.before.ranges / own_size) (parts_of did-now.before) (told reply)
+          (parts_of did-now.after)) sized-here
+          (subst (λ n. InnerMoves own_size call n (parts_of did-now.before) (told reply) (parts_of did-now.after))
+          (sym (ranges-of-total own_size (ranges_used did-now.before.ranges) some-here)) did-now.moves);
       world = refl;
     }
 
@@ -264,8 +280,8 @@ module _ {P C R : Type 0} (job : C → Job) (told : R → JobReply) (setup : Set
   volume-there v less = ap (λ (x : Server). slice_get x.volumes v) s.server ∙ slice_get-map volume_of (filer_contents L (now b)).volumes v
       ∙ ap (λ o. option_map volume_of o) (each-get (contents_of L (now b)) (length L.volumes) v less)
 
-  beyond : (n r : ℕ) → n ≤ r → nat_lt r (range_blocks * n / range_blocks) ≡ false
-  beyond n r most = let same = ranges-of-total n in grind (arith, nat_tests, most, same)
+  beyond : (size n r : ℕ) → 0 < size → n ≤ r → nat_lt r (size * n / size) ≡ false
+  beyond size n r some most = ap (λ (m : ℕ). nat_lt r m) (ranges-of-total size n some) ∙ grind (arith, nat_tests, most)
 
   -- the range that it would fetch from isn't in use
   abbrev pub IsOutOfUse : InnerCall → Type 0
@@ -283,7 +299,10 @@ module _ {P C R : Type 0} (job : C → Job) (told : R → JobReply) (setup : Set
       by : (x : InnerCall) → IsNode L (inner_node x) → ((p : VolumeContents) → volume_at (filer_contents L (now b)) (inner_volume x) ≡ Some p → IsRefusedOn x p)
           → IsOutOfUse x
       by (Fetch v r) is why = ap (λ o. is_range_in_use o r) (volume-there v is.0)
-          ∙ beyond (ranges_used (contents_of L (now b) v).ranges) r (why (contents_of L (now b) v) (at v is.0))
+          ∙ beyond (contents_of L (now b) v).logical.dead.range_blocks (ranges_used (contents_of L (now b) v).ranges) r
+          (size-some (contents_of L (now b) v).logical.dead.range_blocks
+          ((now-served job told setup w b s).0.1 v (contents_of L (now b) v) (at v is.0)).1.well_formed.size)
+          (why (contents_of L (now b) v) (at v is.0))
       by (Deliver v) is why = why (contents_of L (now b) v) (at v is)
       by (Cull v) is why = why (contents_of L (now b) v) (at v is)
       by (Free v r) is why = why (contents_of L (now b) v) (at v is.0)

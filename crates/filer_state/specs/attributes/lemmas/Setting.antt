@@ -70,6 +70,8 @@ module _ (p : VolumeContents) (f : ℕ) (old inode : Inode) (there : get p.logic
   well-set well = record {
     striped = well.striped;
     largest = well.largest;
+    most_inodes = well.most_inodes;
+    size = well.size;
     logical = record {
       inodes = set-is p.logical.inodes f inode well.logical.inodes;
       few = let size = len-set p.logical.inodes f inode in let few = well.logical.few in omega arith;

@@ -3,7 +3,7 @@ use Rattle.std.proofs.Common.{◌≡◌, ℕ, ◌+◌, ◌-◌, ◌*◌, ◌≤�
 use Rattle.std.specs.Ordering.{nat_cmp}
 use Rattle.std.specs.FinSet.{contains, from_list}
 use Rattle.nfs_model.specs.Server.{used}
-use Rattle.nfs_model.specs.Parts.{Hand, one_if, times_listed, range_blocks}
+use Rattle.nfs_model.specs.Parts.{Hand, one_if, times_listed}
 use Rattle.depot_rule.specs.Sums.{total}
 use Rattle.filer_state.specs.state.Contents.{VolumeContents}
 use Rattle.filer_state.specs.state.Tree.{volume_of, ranges_used}
@@ -26,6 +26,6 @@ pub files-count : (p : VolumeContents) (hands : List Hand) → StandOnce p hands
     → one_if (contains (files_in p.stripes) m) ≡ total (times_in_stripe m) p.stripes
 files-count p hands once m =
     let o = once m in
-    let most = one-at-most (nat_lt m (range_blocks * ranges_used p.ranges)) in
+    let most = one-at-most (nat_lt m (p.logical.dead.range_blocks * ranges_used p.ranges)) in
     let listed = all-times m p.stripes in
     listed-times m (all_numbers p.stripes) (omega (arith, o, most, listed)) ∙ listed

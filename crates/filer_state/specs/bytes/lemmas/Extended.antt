@@ -1,6 +1,6 @@
 -- A file that bytes extend, or whose holes they fill, with the numbers of a hand: all stays sound, and the file is the one that was written.
 use Rattle.std.proofs.Common.{◌≡◌, ℕ, zero, suc, ◌+◌, ◌-◌, ◌*◌, ◌/◌, ◌<◌, ◌≤◌, ◌==◌, ◌||◌, ◌&&◌, max, Bool, true, false, List, [], ◌∷◌}
-use Rattle.std.proofs.Common.{length, map, Option, Some, nat_eq, refl, sym, ap, ◌∙◌, subst, arith, ⊎_elim}
+use Rattle.std.proofs.Common.{length, map, Option, Some, nat_eq, refl, sym, ap, ◌∙◌, subst, arith}
 use Rattle.std.specs.Prelude.{if◌then◌else◌, is_some}
 use Rattle.std.proofs.lemmas.Bool.{eqb-true}
 use Rattle.std.proofs.lemmas.Bool.Decides.{nat_tests}
@@ -51,9 +51,7 @@ extended-is v f end more inode size blocks verifier there is_file =
 -- within the blocks that a file has at most
 pub largest-small : (largest size : ℕ) → IsLargest largest → size ≤ largest → size ≤ block_size * most_file_blocks
 unfolding most_file_blocks
-largest-small largest size is less = ⊎_elim
-    (λ (e : largest ≡ 16777216). omega (arith, e, less))
-    (λ (e : largest ≡ 67108864). omega (arith, e, less)) is
+largest-small largest size is less = let whole = is.is in let few = is.most in omega (arith, whole, few, less)
 
 -- ---- the blocks met
 

@@ -6,7 +6,7 @@ use Rattle.std.specs.Cmp.{nat_cmp_total}
 use Rattle.std.specs.FinMap.{nat_cmp-IsAntisymmetric}
 use Rattle.std.specs.FinSet as sets
 use Rattle.std.specs.FinSet.{FinSet, contains, from_list, union, len, contains-union}
-use Rattle.nfs_model.specs.Parts.{Hand, Fresh, Parts, one_if, times_listed, range_blocks}
+use Rattle.nfs_model.specs.Parts.{Hand, Fresh, Parts, one_if, times_listed}
 use Rattle.nfs_model.specs.Moves.{FilledInVolume}
 use Rattle.filer_state.specs.state.Contents.{VolumeContents}
 use Rattle.filer_state.specs.state.Tree.{ranges_used}
@@ -57,7 +57,7 @@ filled-none parts n none = record {
 -- each number stands in one range at most
 pub free-once : (p : VolumeContents) (hands : List Hand) → StandOnce p hands → (m : ℕ) → times_free m p.ranges ≤ 1
 free-once p hands once m =
-    let o = once m in let most = one-at-most (nat_lt m (range_blocks * ranges_used p.ranges)) in omega (arith, o, most)
+    let o = once m in let most = one-at-most (nat_lt m (p.logical.dead.range_blocks * ranges_used p.ranges)) in omega (arith, o, most)
 
 or-counts : (b c : Bool) → one_if b + one_if c ≤ 1 → one_if (b || c) ≡ one_if b + one_if c
 or-counts true true h = absurd (omega (arith, h))
@@ -68,14 +68,19 @@ module _ (p : VolumeContents) (numbers : List ℕ) (left : VolumeSet) (moved : H
     (hands : List Hand) (made : ℕ) (sound : IsSound p hands made) where
   -- the volume without the numbers
   abbrev pub without : VolumeContents
-  without = record p { logical = record p.logical { stock = left.logical.own.stock; dead = left.logical.own.dead }; ranges = left.ranges }
+  without = record p {
+    logical = record p.logical { stock = left.logical.own.stock; dead = record p.logical.dead { blocks = left.logical.own.dead.blocks } };
+    ranges = left.ranges;
+  }
 
   well-without : WellFormed without
   well-without =
-      let well = well-restocked p left.logical.own.stock left.logical.own.dead sound.well_formed in
+      let well = well-restocked p left.logical.own.stock left.logical.own.dead.blocks sound.well_formed in
       record {
         striped = well.striped;
         largest = well.largest;
+        most_inodes = well.most_inodes;
+        size = well.size;
         logical = well.logical;
         as_many = well.as_many;
         stripes = well.stripes;
@@ -85,8 +90,8 @@ module _ (p : VolumeContents) (numbers : List ℕ) (left : VolumeSet) (moved : H
         some = (let some = well.some in let same = moved.used in omega (arith, some, same));
         ranges = λ r on.
             let long = moved.long in
-            moved.fits (ranges_used left.ranges) r
-            (subst (λ (u : ℕ). RangeFits u r (range_at p.ranges r)) (sym moved.used)
+            moved.fits p.logical.dead.range_blocks (ranges_used left.ranges) r
+            (subst (λ (u : ℕ). RangeFits p.logical.dead.range_blocks u r (range_at p.ranges r)) (sym moved.used)
             (well.ranges r (omega (arith, on, long))));
       }
 
@@ -102,8 +107,8 @@ module _ (p : VolumeContents) (numbers : List ℕ) (left : VolumeSet) (moved : H
         let dead = moved.from_dead m in
         let all = moved.times m in
         let hand = fresh-times p.number m numbers in
-        let below : one_if (nat_lt m (range_blocks * ranges_used left.ranges)) ≡ one_if (nat_lt m (range_blocks * ranges_used p.ranges)) =
-        ap (λ (u : ℕ). one_if (nat_lt m (range_blocks * u))) moved.used in
+        let below : one_if (nat_lt m (p.logical.dead.range_blocks * ranges_used left.ranges)) ≡ one_if (nat_lt m (p.logical.dead.range_blocks * ranges_used p.ranges)) =
+        ap (λ (u : ℕ). one_if (nat_lt m (p.logical.dead.range_blocks * u))) moved.used in
         omega (arith, once, stock, free, dead, all, hand, below);
   }
 
@@ -113,7 +118,7 @@ module _ (p : VolumeContents) (numbers : List ℕ) (left : VolumeSet) (moved : H
   once m =
       let o = sound-without.partition m in
       let hand = fresh-times p.number m numbers in
-      let most = one-at-most (nat_lt m (range_blocks * ranges_used left.ranges)) in
+      let most = one-at-most (nat_lt m (p.logical.dead.range_blocks * ranges_used left.ranges)) in
       omega (arith, o, hand, most)
 
   once-stock : (m : ℕ) → times_listed m moved.stock ≤ 1
@@ -129,7 +134,7 @@ module _ (p : VolumeContents) (numbers : List ℕ) (left : VolumeSet) (moved : H
       + one_if (contains (from_list {R = nat_cmp} moved.stock) m)
   stock-leaves m = let c = moved.from_stock m in let i = listed-count moved.stock m (once-stock m) in omega (arith, c, i)
 
-  dead-leaves : (m : ℕ) → one_if (contains p.logical.dead m) ≡ one_if (contains left.logical.own.dead m)
+  dead-leaves : (m : ℕ) → one_if (contains p.logical.dead.blocks m) ≡ one_if (contains left.logical.own.dead.blocks m)
       + one_if (contains (from_list {R = nat_cmp} moved.dead) m)
   dead-leaves m = let c = moved.from_dead m in let i = listed-count moved.dead m (once-dead m) in omega (arith, c, i)
 
@@ -207,7 +212,7 @@ module _ (p : VolumeContents) (numbers : List ℕ) (left : VolumeSet) (moved : H
 
     -- the stock first, then the free, then the dead
     pub filled-parts : (n : ℕ) → n ≡ length numbers → FilledInVolume n (parts_of p)
-        (record { files = files; stock = left.logical.own.stock; dead = left.logical.own.dead; free = free_in left.ranges })
+        (record { files = files; stock = left.logical.own.stock; dead = left.logical.own.dead.blocks; free = free_in left.ranges })
     filled-parts n is =
         record {
           by_stock = by_stock;
@@ -229,8 +234,8 @@ module _ (p : VolumeContents) (numbers : List ℕ) (left : VolumeSet) (moved : H
           dead = record {
             blocks = from_list moved.dead;
             count = len-listed moved.dead once-dead ∙ dead-count n is moved.stock_first moved.free_next;
-            there = there-is p.logical.dead left.logical.own.dead (from_list moved.dead) dead-leaves;
-            left = left-is p.logical.dead left.logical.own.dead (from_list moved.dead) dead-leaves;
+            there = there-is p.logical.dead.blocks left.logical.own.dead.blocks (from_list moved.dead) dead-leaves;
+            left = left-is p.logical.dead.blocks left.logical.own.dead.blocks (from_list moved.dead) dead-leaves;
             reached = files-is;
           };
         }

@@ -1,6 +1,6 @@
 -- A file of which holes are filled, with the numbers of a hand: all stays sound, and it has the bytes and touch that it had.
 use Rattle.std.proofs.Common.{◌≡◌, ℕ, suc, ◌+◌, ◌*◌, ◌<◌, ◌≤◌, ◌==◌, ◌||◌, Bool, true, false, List, [], ◌∷◌, length, Option, Some}
-use Rattle.std.proofs.Common.{nat_eq, eq-eqb, ne_eqb, refl, sym, ap, ◌∙◌, subst, arith, ⊎_elim}
+use Rattle.std.proofs.Common.{nat_eq, eq-eqb, ne_eqb, refl, sym, ap, ◌∙◌, subst, arith}
 use Rattle.std.specs.Prelude.{if◌then◌else◌, IfSome}
 use Rattle.std.proofs.lemmas.Bool.{eqb-true}
 use Rattle.std.specs.FinMap.{get}
@@ -57,9 +57,7 @@ pub record FilledUp (f : ℕ) (blocks : List ℕ) (p : VolumeContents) (hands : 
 
 small-block : (largest size b : ℕ) → IsLargest largest → size ≤ largest → block_size * b < size → b < most_file_blocks
 unfolding most_file_blocks
-small-block largest size b is most less = ⊎_elim
-    (λ (e : largest ≡ 16777216). omega (arith, e, most, less))
-    (λ (e : largest ≡ 67108864). omega (arith, e, most, less)) is
+small-block largest size b is most less = let whole = is.is in let few = is.most in omega (arith, whole, few, most, less)
 
 -- it is no longer than the largest
 pub size-small : (p : VolumeContents) (f : ℕ) (inode : Inode) (size blocks : ℕ) (verifier : Option (List ℕ)) → WellFormed p

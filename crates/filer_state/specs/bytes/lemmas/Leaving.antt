@@ -88,12 +88,14 @@ leave-counts (n ∷ numbers) old new left m =
 -- ---- another stock, and other dead
 
 abbrev pub restocked : FinSet nat_cmp → FinSet nat_cmp → VolumeContents → VolumeContents
-restocked stock dead p = record p { logical = record p.logical { stock = stock; dead = dead } }
+restocked stock dead p = record p { logical = record p.logical { stock = stock; dead = record p.logical.dead { blocks = dead } } }
 
 pub well-restocked : (p : VolumeContents) (stock dead : FinSet nat_cmp) → WellFormed p → WellFormed (restocked stock dead p)
 well-restocked p stock dead well = record {
   striped = well.striped;
   largest = well.largest;
+  most_inodes = well.most_inodes;
+  size = well.size;
   logical = record { inodes = well.logical.inodes; few = well.logical.few; sizes = well.logical.sizes; named = well.logical.named };
   as_many = well.as_many;
   stripes = λ i on. let fits = well.stripes i on in record {
@@ -114,7 +116,7 @@ well-restocked p stock dead well = record {
 -- where what leaves them comes into hands
 pub sound-restocked : (p : VolumeContents) (stock dead : FinSet nat_cmp) (hands hands' : List Hand) (made : ℕ)
     → ((m : ℕ) → one_if (contains stock m) + one_if (contains dead m) + total (times_in_hand p.number m) hands'
-    ≡ one_if (contains p.logical.stock m) + one_if (contains p.logical.dead m) + total (times_in_hand p.number m) hands)
+    ≡ one_if (contains p.logical.stock m) + one_if (contains p.logical.dead.blocks m) + total (times_in_hand p.number m) hands)
     → IsSound p hands made → IsSound (restocked stock dead p) hands' made
 sound-restocked p stock dead hands hands' made moved s = record {
   well_formed = well-restocked p stock dead s.well_formed;

@@ -36,17 +36,20 @@ pub record HaveLeft (numbers : List ℕ) (old left : VolumeSet) : Type 0 where
   pub many : length numbers ≡ length stock + length free + length dead
   -- what else there is stays
   pub stripes : left.logical.stripes ≡ old.logical.stripes
-  pub own : left.logical.own ≡ record old.logical.own { stock = left.logical.own.stock; dead = left.logical.own.dead }
+  pub own : left.logical.own ≡ record old.logical.own {
+    stock = left.logical.own.stock;
+    dead = record old.logical.own.dead { blocks = left.logical.own.dead.blocks };
+  }
   pub used : ranges_used left.ranges ≡ ranges_used old.ranges
   pub long : length left.ranges ≡ length old.ranges
-  pub fits : (used r : ℕ) → RangeFits used r (range_at old.ranges r) → RangeFits used r (range_at left.ranges r)
+  pub fits : (size used r : ℕ) → RangeFits size used r (range_at old.ranges r) → RangeFits size used r (range_at left.ranges r)
   -- each came from its part
   pub from_stock : (m : ℕ) → one_if (contains old.logical.own.stock m) ≡ one_if (contains left.logical.own.stock m) + times_listed m stock
   pub from_free : (m : ℕ) → times_free m old.ranges ≡ times_free m left.ranges + times_listed m free
-  pub from_dead : (m : ℕ) → one_if (contains old.logical.own.dead m) ≡ one_if (contains left.logical.own.dead m) + times_listed m dead
+  pub from_dead : (m : ℕ) → one_if (contains old.logical.own.dead.blocks m) ≡ one_if (contains left.logical.own.dead.blocks m) + times_listed m dead
   pub stock_many : len old.logical.own.stock ≡ len left.logical.own.stock + length stock
   pub free_many : free_count old.ranges ≡ free_count left.ranges + length free
-  pub dead_many : len old.logical.own.dead ≡ len left.logical.own.dead + length dead
+  pub dead_many : len old.logical.own.dead.blocks ≡ len left.logical.own.dead.blocks + length dead
   -- the stock first, then the free
   pub stock_first : (length free + length dead ≡ 0) ⊎ (len left.logical.own.stock ≡ 0)
   pub free_next : (length dead ≡ 0) ⊎ (free_count left.ranges ≡ 0)
@@ -59,6 +62,7 @@ first-test false b h = absurd cc
 
 taken-is : (x : RangeValue) (n : ℕ) → IsRange x → IsRange (taken (n ∷ []) x)
 taken-is x n is = record {
+  size = is.size;
   own = λ b e. is.own b (first-test (contains x.free b) (not (contains (from_list {R = nat_cmp} (n ∷ [])) b))
       (sym (contains-difference nat_cmp_total x.free (from_list (n ∷ [])) b) ∙ e));
   used = λ e. ap (λ s. without_numbers (n ∷ []) s) (is.used e) ∙ sets.same_set nat_cmp_total nat_cmp-IsAntisymmetric _ _ (λ q.
@@ -67,8 +71,8 @@ taken-is x n is = record {
       ∙ sym (sets.contains-empty nat_cmp q));
 }
 
-taken-fits : (used r : ℕ) (x : RangeValue) (n : ℕ) → RangeFits used r x → RangeFits used r (taken (n ∷ []) x)
-taken-fits used r x n fits = record { number = fits.number; in_use = fits.in_use; free = taken-is x n fits.free }
+taken-fits : (size used r : ℕ) (x : RangeValue) (n : ℕ) → RangeFits size used r x → RangeFits size used r (taken (n ∷ []) x)
+taken-fits size used r x n fits = record { blocks = fits.blocks; number = fits.number; in_use = fits.in_use; free = taken-is x n fits.free }
 
 module _ (ranges : List RangeValue) (r n : ℕ) (within : r < length ranges) where
   abbrev x : RangeValue
@@ -77,12 +81,12 @@ module _ (ranges : List RangeValue) (r n : ℕ) (within : r < length ranges) whe
   abbrev after : List RangeValue
   after = slice_set ranges r (taken (n ∷ []) x)
 
-  fits-after : (used k : ℕ) → RangeFits used k (range_at ranges k) → RangeFits used k (range_at after k)
-  fits-after used k fits = ⊎_elim
-      (λ (e : k ≡ r). subst (λ (m : ℕ). RangeFits used k (range_at after m)) (sym e)
-      (subst (RangeFits used k) (sym (get_or-set_same ranges r (taken (n ∷ []) x) no_range within))
-      (taken-fits used k x n (subst (λ (m : ℕ). RangeFits used k (range_at ranges m)) e fits))))
-      (λ (ne : k ≢ r). subst (RangeFits used k) (sym (get_or-set_other ranges r k (taken (n ∷ []) x) no_range ne)) fits)
+  fits-after : (size used k : ℕ) → RangeFits size used k (range_at ranges k) → RangeFits size used k (range_at after k)
+  fits-after size used k fits = ⊎_elim
+      (λ (e : k ≡ r). subst (λ (m : ℕ). RangeFits size used k (range_at after m)) (sym e)
+      (subst (RangeFits size used k) (sym (get_or-set_same ranges r (taken (n ∷ []) x) no_range within))
+      (taken-fits size used k x n (subst (λ (m : ℕ). RangeFits size used k (range_at ranges m)) e fits))))
+      (λ (ne : k ≢ r). subst (RangeFits size used k) (sym (get_or-set_other ranges r k (taken (n ∷ []) x) no_range ne)) fits)
       (cases_eq k r)
 
   times-after : contains x.free n ≡ true → (m : ℕ) → times_free m ranges ≡ times_free m after + one_if (n == m)
@@ -149,7 +153,7 @@ module _ (n : ℕ) (numbers : List ℕ) (old next left : VolumeSet) (rest : Have
         own = others.own;
         used = others.used ∙ used-put old.ranges one.range (taken (n ∷ []) (range_at old.ranges one.range)) refl;
         long = others.long ∙ length-set old.ranges one.range (taken (n ∷ []) (range_at old.ranges one.range));
-        fits = λ used r fits. others.fits used r (fits-after old.ranges one.range n one.within used r fits);
+        fits = λ size used r fits. others.fits size used r (fits-after old.ranges one.range n one.within size used r fits);
         from_stock = others.from_stock;
         from_free = λ m.
             let first = times-after old.ranges one.range n one.within one.there m in let t = others.from_free m in omega (arith, first, t);
@@ -176,10 +180,10 @@ module _ (n : ℕ) (numbers : List ℕ) (old next left : VolumeSet) (rest : Have
         fits = others.fits;
         from_stock = others.from_stock;
         from_free = others.from_free;
-        from_dead = λ m. let first = one-leaves old.logical.own.dead n m one.there in let t = others.from_dead m in omega (arith, first, t);
+        from_dead = λ m. let first = one-leaves old.logical.own.dead.blocks n m one.there in let t = others.from_dead m in omega (arith, first, t);
         stock_many = others.stock_many;
         free_many = others.free_many;
-        dead_many = (let first = len-without old.logical.own.dead n one.there in let t = others.dead_many in omega (arith, first, t));
+        dead_many = (let first = len-without old.logical.own.dead.blocks n one.there in let t = others.dead_many in omega (arith, first, t));
         stock_first = inr (stock-none one.no_stock (length others.stock) others.stock_many);
         free_next = inr (let zero_free = none-free old.ranges one.none_free in let t = others.free_many in omega (arith, zero_free, t));
       }) rest
@@ -195,7 +199,7 @@ none-left old = record {
   own = refl;
   used = refl;
   long = refl;
-  fits = λ used r fits. fits;
+  fits = λ size used r fits. fits;
   from_stock = λ m. omega arith;
   from_free = λ m. omega arith;
   from_dead = λ m. omega arith;

@@ -7,7 +7,7 @@ use Rattle.std.specs.Cmp.{nat_cmp_total, unsigned_tied}
 use Rattle.std.specs.FinMap.{nat_cmp-IsAntisymmetric}
 use Rattle.std.specs.FinSet as sets
 use Rattle.std.specs.FinSet.{FinSet, contains, from_list, remove, items, len}
-use Rattle.nfs_model.specs.Parts.{Hand, one_if, times_listed, range_blocks}
+use Rattle.nfs_model.specs.Parts.{Hand, one_if, times_listed}
 use Rattle.nfs_model.specs.volume.Ranges.{without_numbers}
 use Rattle.nfs_model.specs.volume.lemmas.Numbered.{itself}
 use Rattle.filer_state.specs.state.Contents.{VolumeContents}
@@ -84,10 +84,10 @@ times-append n [] ys = omega arith
 times-append n (x ∷ xs) ys = let others = times-append n xs ys in omega (arith, others)
 
 pub stock-fits : (p : VolumeContents) (hands : List Hand) → WellFormed p → StandOnce p hands
-    → p.logical.inodes.used + len p.logical.stock ≤ range_blocks * ranges_used p.ranges
+    → p.logical.inodes.used + len p.logical.stock ≤ p.logical.dead.range_blocks * ranges_used p.ranges
 stock-fits p hands well once =
     let stock : List ℕ = (numbers-of (len p.logical.stock) p.logical.stock refl).0 in
-    let most = few-below (range_blocks * ranges_used p.ranges) (all_numbers p.stripes ++ stock) (λ n.
+    let most = few-below (p.logical.dead.range_blocks * ranges_used p.ranges) (all_numbers p.stripes ++ stock) (λ n.
     let o = once n in
     let files = all-times n p.stripes in
     let both = times-append n (all_numbers p.stripes) stock in

@@ -111,14 +111,14 @@ module _ (p : VolumeContents) (f : ℕ) (handle : List ℕ) (w : Writing) (hands
       -- the numbers are in a hand
       left : IsSound (record p { logical = record p.logical { stock = r.stock; dead = p.logical.dead }; ranges = p.ranges })
           (Fresh p.number r.numbers ∷ hands) made
-      left = sound-restocked p r.stock p.logical.dead hands (Fresh p.number r.numbers ∷ hands) made
+      left = sound-restocked p r.stock p.logical.dead.blocks hands (Fresh p.number r.numbers ∷ hands) made
           (λ m. let c = counts m in let hand = fresh-times p.number m r.numbers in omega (arith, c, hand)) sound
 
       abbrev final : VolumeContents
-      final = volume_written p f handle w (Logical p.number) bytes hands made sound r.stock p.logical.dead p.ranges refl r.numbers r.as_many
+      final = volume_written p f handle w (Logical p.number) bytes hands made sound r.stock p.logical.dead.blocks p.ranges refl r.numbers r.as_many
 
       once : (m : ℕ) → times_listed m r.numbers ≤ 1
-      once = once-then p f handle w (Logical p.number) bytes hands made sound r.stock p.logical.dead p.ranges refl r.numbers r.as_many left
+      once = once-then p f handle w (Logical p.number) bytes hands made sound r.stock p.logical.dead.blocks p.ranges refl r.numbers r.as_many left
 
       in-set : (m : ℕ) → one_if (contains (from_list {R = nat_cmp} r.numbers) m) ≡ times_listed m r.numbers
       in-set m = listed-count r.numbers m (once m)
@@ -129,13 +129,13 @@ module _ (p : VolumeContents) (f : ℕ) (handle : List ℕ) (w : Writing) (hands
           λ m. (let c = counts m in let i = in-set m in omega (arith, c, i)) in
           let comes : (m : ℕ) → one_if (contains (files_in final.stripes) m) ≡ one_if (contains (files_in p.stripes) m)
           + one_if (contains (from_list {R = nat_cmp} r.numbers) m) =
-          λ m. (let c = files-then p f handle w (Logical p.number) bytes hands made sound r.stock p.logical.dead p.ranges refl r.numbers r.as_many left m in
+          λ m. (let c = files-then p f handle w (Logical p.number) bytes hands made sound r.stock p.logical.dead.blocks p.ranges refl r.numbers r.as_many left m in
           let i = in-set m in omega (arith, c, i)) in
           record {
             stock = record {
               blocks = from_list r.numbers;
               count = len-listed r.numbers once
-                  ∙ sym (more-then p f handle w (Logical p.number) bytes hands made sound r.stock p.logical.dead p.ranges refl r.numbers r.as_many left);
+                  ∙ sym (more-then p f handle w (Logical p.number) bytes hands made sound r.stock p.logical.dead.blocks p.ranges refl r.numbers r.as_many left);
               there = there-is p.logical.stock r.stock (from_list r.numbers) leaves;
               left = left-is p.logical.stock r.stock (from_list r.numbers) leaves;
               reached = reached-is (files_in final.stripes) (files_in p.stripes) (from_list r.numbers) comes;
@@ -145,18 +145,18 @@ module _ (p : VolumeContents) (f : ℕ) (handle : List ℕ) (w : Writing) (hands
           }
 
       ran : call.run seen ≡ change_of p f w file
-      ran = ran-then p f handle w (Logical p.number) bytes hands made sound r.stock p.logical.dead p.ranges refl r.numbers r.as_many left
+      ran = ran-then p f handle w (Logical p.number) bytes hands made sound r.stock p.logical.dead.blocks p.ranges refl r.numbers r.as_many left
 
       done-final : WorksOn call p (Replied (Success (WriteDone n p.logical.verifier))) final × IsSound final hands' (made + 1)
       done-final = (
         (
           moves ∙ ap (λ (b : Bool). if b then Some (Volume p.number) else None) enough,
           ap (λ e. Success (answer_of 2 e)) (sym ran),
-          seen-then p f handle w (Logical p.number) bytes hands made sound r.stock p.logical.dead p.ranges refl r.numbers r.as_many left
+          seen-then p f handle w (Logical p.number) bytes hands made sound r.stock p.logical.dead.blocks p.ranges refl r.numbers r.as_many left
               ∙ ap (volume_left seen) (sym ran),
           carried,
         ),
-        sound-then p f handle w (Logical p.number) bytes hands made sound r.stock p.logical.dead p.ranges refl r.numbers r.as_many left hands' weigh,
+        sound-then p f handle w (Logical p.number) bytes hands made sound r.stock p.logical.dead.blocks p.ranges refl r.numbers r.as_many left hands' weigh,
       )
 
       written : Done outcome new

@@ -159,6 +159,8 @@ module _ (p : VolumeContents) (f : ℕ) (inode : Inode) (old_size blocks : ℕ) 
   well-refiled = record {
     striped = well.striped;
     largest = well.largest;
+    most_inodes = well.most_inodes;
+    size = well.size;
     logical = record {
       inodes = set-is old f next well.logical.inodes;
       few = let same = len-set old f next in let few = well.logical.few in omega (arith, same, few);

@@ -90,7 +90,7 @@ module _ (p : VolumeContents) (f : ℕ) (handle : List ℕ) (w : Writing) (hands
         && nat_lt (for_holes old) many then Some (Volume p.number) else None)
     moves = bytes.moved
         ∙ (λ j. if is_none (if space-is j then Some NoSpace else None)
-        && nat_lt (len p.logical.stock + free-is p [] old (none-moved) hands made sound j + len p.logical.dead) (needs j)
+        && nat_lt (len p.logical.stock + free-is p [] old (none-moved) hands made sound j + len p.logical.dead.blocks) (needs j)
         then Some (Volume p.number) else None)
       where
         none-moved : HaveLeft [] old old
@@ -118,24 +118,27 @@ module _ (p : VolumeContents) (f : ℕ) (handle : List ℕ) (w : Writing) (hands
         moved : HaveLeft r.numbers old r.left
         moved = have-left r.numbers old r.left r.leave
 
-        left : IsSound (record p { logical = record p.logical { stock = r.left.logical.own.stock; dead = r.left.logical.own.dead }; ranges = r.left.ranges })
+        left : IsSound (record p {
+          logical = record p.logical { stock = r.left.logical.own.stock; dead = record p.logical.dead { blocks = r.left.logical.own.dead.blocks } };
+          ranges = r.left.ranges;
+        })
             (Fresh p.number r.numbers ∷ hands) made
         left = sound-without p r.numbers r.left moved hands made sound
 
         abbrev final : VolumeContents
-        final = volume_written p f handle w (Volume p.number) bytes hands made sound r.left.logical.own.stock r.left.logical.own.dead r.left.ranges
+        final = volume_written p f handle w (Volume p.number) bytes hands made sound r.left.logical.own.stock r.left.logical.own.dead.blocks r.left.ranges
             moved.used r.numbers r.as_many
 
         comes : FilledInVolume (used (volume_of final) - used seen) (parts_of p) (parts_of final)
         comes = filled-parts p r.numbers r.left moved hands made sound (files_in final.stripes)
-            (files-then p f handle w (Volume p.number) bytes hands made sound r.left.logical.own.stock r.left.logical.own.dead r.left.ranges
+            (files-then p f handle w (Volume p.number) bytes hands made sound r.left.logical.own.stock r.left.logical.own.dead.blocks r.left.ranges
             moved.used r.numbers r.as_many left)
             (used (volume_of final) - used seen)
-            (more-then p f handle w (Volume p.number) bytes hands made sound r.left.logical.own.stock r.left.logical.own.dead r.left.ranges
+            (more-then p f handle w (Volume p.number) bytes hands made sound r.left.logical.own.stock r.left.logical.own.dead.blocks r.left.ranges
             moved.used r.numbers r.as_many left)
 
         ran : call.run seen ≡ change_of p f w file
-        ran = ran-then p f handle w (Volume p.number) bytes hands made sound r.left.logical.own.stock r.left.logical.own.dead r.left.ranges
+        ran = ran-then p f handle w (Volume p.number) bytes hands made sound r.left.logical.own.stock r.left.logical.own.dead.blocks r.left.ranges
             moved.used r.numbers r.as_many left
 
         done-final : WorksOn call p (Replied (Success (WriteDone n p.logical.verifier))) final × IsSound final hands' (made + 1)
@@ -143,18 +146,21 @@ module _ (p : VolumeContents) (f : ℕ) (handle : List ℕ) (w : Writing) (hands
           (
             moves-if ∙ ap (λ (b : Bool). if b then Some (Volume p.number) else None) enough,
             ap (λ e. Success (answer_of 2 e)) (sym ran),
-            seen-then p f handle w (Volume p.number) bytes hands made sound r.left.logical.own.stock r.left.logical.own.dead r.left.ranges
+            seen-then p f handle w (Volume p.number) bytes hands made sound r.left.logical.own.stock r.left.logical.own.dead.blocks r.left.ranges
                 moved.used r.numbers r.as_many left
                 ∙ ap (volume_left seen) (sym ran),
             comes,
           ),
-          sound-then p f handle w (Volume p.number) bytes hands made sound r.left.logical.own.stock r.left.logical.own.dead r.left.ranges
+          sound-then p f handle w (Volume p.number) bytes hands made sound r.left.logical.own.stock r.left.logical.own.dead.blocks r.left.ranges
               moved.used r.numbers r.as_many left hands' weigh,
         )
 
         -- what is under Logical when the numbers have left
         abbrev held : LogicalSet
-        held = record { own = record p.logical { stock = r.left.logical.own.stock; dead = r.left.logical.own.dead }; stripes = p.stripes }
+        held = record {
+          own = record p.logical { stock = r.left.logical.own.stock; dead = record p.logical.dead { blocks = r.left.logical.own.dead.blocks } };
+          stripes = p.stripes;
+        }
 
         held-is : r.left.logical ≡ held
         held-is = λ j. record { own = moved.own j; stripes = moved.stripes j }

@@ -1,6 +1,6 @@
 -- A write that passes the checks before that of space: whether it extends the file or fills a hole is told by its stripe.
 use Rattle.std.proofs.Common.{◌≡◌, ℕ, ◌+◌, ◌*◌, ◌≤◌, ◌||◌, ◌&&◌, not, Bool, true, false, List, length, Option, Some, nat_lt, nat_le}
-use Rattle.std.proofs.Common.{refl, sym, ap, ◌∙◌, arith, ⊎_elim}
+use Rattle.std.proofs.Common.{refl, sym, ap, ◌∙◌, arith}
 use Rattle.std.proofs.lemmas.Bool.Decides.{nat_tests}
 use Rattle.std.proofs.lemmas.List.FromFn.{length-map-range_with_len}
 use Rattle.std.specs.List.{list_all}
@@ -8,7 +8,7 @@ use Rattle.std.specs.FinMap.{get}
 use Rattle.std.specs.FinSet.{contains}
 use Rattle.nfs_model.specs.Types.{Moment}
 use Rattle.nfs_model.specs.Server.{FileNode, block_size, used}
-use Rattle.nfs_model.specs.Parts.{Hand, range_blocks}
+use Rattle.nfs_model.specs.Parts.{Hand}
 use Rattle.nfs_model.specs.Serial.Write.{blocks_met, need}
 use Rattle.nfs_model.specs.volume.Inodes.{Inode}
 use Rattle.nfs_model.specs.volume.Stripes.{OfFile, StripeValue, reaches, is_filled, stays_within}
@@ -26,9 +26,10 @@ use Rattle.filer_state.specs.bytes.lemmas.WrittenNodes.{file_before}
 pub end-small : (largest end : ℕ) → IsLargest largest → nat_lt largest end ≡ false → end ≤ block_size * most_file_blocks
 unfolding most_file_blocks
 end-small largest end is fits =
-    let within : end ≤ largest = grind (arith, nat_tests) in ⊎_elim
-    (λ (e : largest ≡ 16777216). omega (arith, e, within))
-    (λ (e : largest ≡ 67108864). omega (arith, e, within)) is
+    let within : end ≤ largest = grind (arith, nat_tests) in
+    let size = is.is in
+    let most = is.most in
+    omega (arith, size, most, within)
 
 both-not : (a b : Bool) → (not a || not b) ≡ not (a && b)
 both-not true b = refl
@@ -75,12 +76,12 @@ module _ (p : VolumeContents) (i f offset n size : ℕ) (inode : Inode) (verifie
 
   -- where it fills nothing there is space
   pub space-there : (hands : List Hand) (made : ℕ) → IsSound p hands made → nat_lt 0 (need file offset n) ≡ false
-      → nat_lt (range_blocks * ranges_used p.ranges) (used (volume_of p) + need file offset n) ≡ false
+      → nat_lt (p.logical.dead.range_blocks * ranges_used p.ranges) (used (volume_of p) + need file offset n) ≡ false
   space-there hands made sound none =
       let fits = used-fits p hands sound.well_formed sound.partition in
       let same = used-is p sound.well_formed in
-      let all : used (volume_of p) ≤ range_blocks * ranges_used p.ranges = omega (arith, fits, same) in
-      full (used (volume_of p)) (need file offset n) (range_blocks * ranges_used p.ranges) all none
+      let all : used (volume_of p) ≤ p.logical.dead.range_blocks * ranges_used p.ranges = omega (arith, fits, same) in
+      full (used (volume_of p)) (need file offset n) (p.logical.dead.range_blocks * ranges_used p.ranges) all none
     where
       full : (some more most : ℕ) → some ≤ most → nat_lt 0 more ≡ false → nat_lt most (some + more) ≡ false
       full some more most less nothing = grind (arith, nat_tests)

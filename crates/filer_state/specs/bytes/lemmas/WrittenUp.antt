@@ -8,7 +8,7 @@ use Rattle.std.specs.Ordering.{nat_cmp}
 use Rattle.std.specs.FinSet.{FinSet, contains}
 use Rattle.nfs_model.specs.Types.{NoSpace}
 use Rattle.nfs_model.specs.Tree.{Affinity}
-use Rattle.nfs_model.specs.Parts.{Hand, Fresh, one_if, times_listed, range_blocks}
+use Rattle.nfs_model.specs.Parts.{Hand, Fresh, one_if, times_listed}
 use Rattle.nfs_model.specs.Server.{FileNode, File, VolumeState, used, most_bytes}
 use Rattle.nfs_model.specs.Locate.{unless}
 use Rattle.nfs_model.specs.Serial.Setattr.{with_node}
@@ -58,7 +58,7 @@ module _ (p : VolumeContents) (f : ℕ) (handle : List ℕ) (w : Writing) (node 
       (as_many : length numbers ≡ length (holes p.stripes f w.offset n)) where
     -- the volume without the numbers
     abbrev pub volume_left_with : VolumeContents
-    volume_left_with = record p { logical = record p.logical { stock = stock; dead = dead }; ranges = ranges }
+    volume_left_with = record p { logical = record p.logical { stock = stock; dead = record p.logical.dead { blocks = dead } }; ranges = ranges }
 
     abbrev pub volume_written : VolumeContents
     volume_written = logical_lens.put (file_extended (extending f w numbers) (logical_lens.of volume_left_with)) volume_left_with
@@ -98,14 +98,15 @@ module _ (p : VolumeContents) (f : ℕ) (handle : List ℕ) (w : Writing) (node 
           let was = used-is p sound.well_formed in
           let needs = need-is in
           let many = as_many in
-          let same = same_used in
+          let same : volume_written.logical.dead.range_blocks * ranges_used volume_written.ranges ≡ p.logical.dead.range_blocks * ranges_used p.ranges =
+          ap (λ (u : ℕ). p.logical.dead.range_blocks * u) same_used in
           within-not (volume_of p).total (used (volume_of p) + need file w.offset n) (omega (arith, most, now, was, needs, many, same))
 
       pub ran-then : (write_call handle node f w).run (volume_of p) ≡ change_of p f w file
       ran-then = bytes.run ∙ ap (λ (b : Bool). unless (if b then Some NoSpace else None) (change_of p f w file)) space-then
 
       volume-same : volume_of volume_left_with ≡ volume_of p
-      volume-same = λ j. record (volume_of p) { total = range_blocks * same_used j }
+      volume-same = λ j. record (volume_of p) { total = p.logical.dead.range_blocks * same_used j }
 
       pub seen-then : volume_of volume_written ≡ with_node (volume_of p) f (File (written_file file w.offset (bytes_kept w) w.moment))
       seen-then =
@@ -123,7 +124,7 @@ module _ (p : VolumeContents) (f : ℕ) (handle : List ℕ) (w : Writing) (node 
       once-then m =
           let o = left.partition m in
           let hand = fresh-times p.number m numbers in
-          let most = one-at-most (nat_lt m (range_blocks * ranges_used ranges)) in
+          let most = one-at-most (nat_lt m (p.logical.dead.range_blocks * ranges_used ranges)) in
           omega (arith, o, hand, most)
 
       pub files-then : (m : ℕ) → one_if (contains (files_in volume_written.stripes) m) ≡ one_if (contains (files_in p.stripes) m) + times_listed m numbers

@@ -6,7 +6,6 @@ use Rattle.std.proofs.Common.{arith}
 use Rattle.std.specs.Cmp.{nat_cmp_total}
 use Rattle.std.specs.FinMap.{len, nat_cmp-IsAntisymmetric}
 use Rattle.nfs_model.specs.Types.{Moment, Credential, SetAttributes, CreateMode, Status, Invalid, TooBig, NoSpace}
-use Rattle.nfs_model.specs.Server.{most_inodes}
 use Rattle.nfs_model.specs.Locate.{Effect, Fails, unless, Naming}
 use Rattle.nfs_model.specs.Serial.Setattr.{has_bad_time, is_past, given}
 use Rattle.nfs_model.specs.Serial.Create as creating
@@ -41,7 +40,7 @@ all-pass x y z false false false e = (refl, refl)
 
 module _ (p : VolumeContents) where
   full-is : is_full (volume_of p) ≡ is_full_set (logical_lens.of p)
-  full-is = ap (nat_le most_inodes)
+  full-is = ap (nat_le p.logical.most_inodes)
       (len-map_values (node_of p.stripes p.logical.directories) nat_cmp_total nat_cmp-IsAntisymmetric p.logical.inodes.inodes)
 
   create-fault : (set : SetAttributes) → create_fault (volume_of p) set ≡ create_check set (logical_lens.of p)
@@ -52,7 +51,7 @@ module _ (p : VolumeContents) where
   mkdir-fault set = ap (λ (full : Bool). if has_bad_time set then Some Invalid else if is_some set.size then Some Invalid
       else if full then Some NoSpace else None) full-is
 
-  few-left : is_full_set (logical_lens.of p) ≡ false → len p.logical.inodes.inodes < most_inodes
+  few-left : is_full_set (logical_lens.of p) ≡ false → len p.logical.inodes.inodes < p.logical.most_inodes
   few-left h = grind (arith, nat_tests)
 
 small-size : (largest : ℕ) (o : Option ℕ) → is_past o largest ≡ false → given o 0 ≤ largest

@@ -7,7 +7,7 @@ use Rattle.std.specs.FinMap.{len}
 use Rattle.std.specs.FinSet as sets
 use Rattle.std.specs.FinSet.{from_list}
 use Rattle.nfs_model.specs.Types.{Moment, Status, MadeDone}
-use Rattle.nfs_model.specs.Server.{Directory, VolumeState, block_size, handle_bytes, most_inodes, used}
+use Rattle.nfs_model.specs.Server.{Directory, VolumeState, block_size, handle_bytes, used}
 use Rattle.nfs_model.specs.Shown.{shown, before_of}
 use Rattle.nfs_model.specs.Locate.{Fails, Naming}
 use Rattle.nfs_model.specs.Serial.Create as creating
@@ -74,7 +74,7 @@ module _ (p : VolumeContents) (hands hands' : List Hand) (made : ℕ) (sound : I
 
   module _ (fileid : ℕ) (name : List ℕ) (moment : Moment) (inode : Inode) (parent subs : ℕ)
       (here : IsDirectoryHere p fileid name moment inode parent subs) (absent : found (entries_of p.logical fileid) name ≡ None)
-      (few : len p.logical.inodes.inodes < most_inodes) (child : Inode) (is_new : IsNewIn fileid p.logical.largest child.kind) where
+      (few : len p.logical.inodes.inodes < p.logical.most_inodes) (child : Inode) (is_new : IsNewIn fileid p.logical.largest child.kind) where
     abbrev m : Making
     m = making_of (naming_held p fileid name moment inode) child
 

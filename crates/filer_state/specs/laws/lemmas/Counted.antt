@@ -11,7 +11,7 @@ use Rattle.std.specs.FinSet as sets
 use Rattle.std.specs.FinSet.{contains, from_list, contains-union, contains-from_list_nat, contains-empty}
 use Rattle.nfs_model.specs.Server.{Node, filled_in, blocks_of, used}
 use Rattle.nfs_model.specs.Parts as parts
-use Rattle.nfs_model.specs.Parts.{Parts, Hand, one_if, count, times_listed, places, range_blocks}
+use Rattle.nfs_model.specs.Parts.{Parts, Hand, one_if, count, times_listed, places}
 use Rattle.depot_rule.specs.Sums.{total}
 use Rattle.nfs_model.specs.volume.Inodes.{InodeKind, RegularFile, DirectoryKind, Inode, filled_blocks, blocks_filled}
 use Rattle.nfs_model.specs.volume.Stripes.{FileBlock, Block, StripeValue}
@@ -142,7 +142,7 @@ module _ (p : VolumeContents) (hands : List Hand) (in_hands : List ℕ) (well : 
   partition-is = record {
     once = λ n.
         let o = partition n in
-        let most = at-most-one (nat_lt n (range_blocks * ranges_used p.ranges)) in
+        let most = at-most-one (nat_lt n (p.logical.dead.range_blocks * ranges_used p.ranges)) in
         let listed = all-times n p.stripes in
         let files = listed-times n (all_numbers p.stripes) (omega arith) in
         let free = free-times n p.ranges (omega arith) in
@@ -152,7 +152,7 @@ module _ (p : VolumeContents) (hands : List Hand) (in_hands : List ℕ) (well : 
         len-listed (all_numbers p.stripes)
         (λ n.
         let o = partition n in
-        let most = at-most-one (nat_lt n (range_blocks * ranges_used p.ranges)) in
+        let most = at-most-one (nat_lt n (p.logical.dead.range_blocks * ranges_used p.ranges)) in
         let listed = all-times n p.stripes in
         let l : times_listed n (all_numbers p.stripes) ≤ 1 = omega arith in l)
         ∙ all-length p.stripes ∙ sym well.used ∙ sym (used-is p well);

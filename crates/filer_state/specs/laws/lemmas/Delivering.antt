@@ -5,7 +5,7 @@ use Rattle.std.specs.Prelude.{if◌then◌else◌}
 use Rattle.std.specs.Ordering.{nat_cmp}
 use Rattle.std.specs.Cmp.{nat_cmp_total}
 use Rattle.std.specs.FinSet.{FinSet, contains, from_list, contains-union}
-use Rattle.nfs_model.specs.Parts.{Fresh, IsBatch, range_of, one_if, times_listed, range_blocks}
+use Rattle.nfs_model.specs.Parts.{Fresh, IsBatch, range_of, one_if, times_listed}
 use Rattle.nfs_model.specs.volume.Ranges.{with_numbers}
 use Rattle.filer_state.specs.state.Contents.{VolumeContents}
 use Rattle.filer_state.specs.state.Tree.{ranges_used}
@@ -20,12 +20,14 @@ use Rattle.filer_state.specs.laws.lemmas.Counted.{listed-times}
 
 -- other numbers in the stock and among the dead leave all else as it has to be
 abbrev pub restocked : FinSet nat_cmp → FinSet nat_cmp → VolumeContents → VolumeContents
-restocked stock dead p = record p { logical = record p.logical { stock = stock; dead = dead } }
+restocked stock dead p = record p { logical = record p.logical { stock = stock; dead = record p.logical.dead { blocks = dead } } }
 
 pub well-restocked : (p : VolumeContents) (stock dead : FinSet nat_cmp) → WellFormed p → WellFormed (restocked stock dead p)
 well-restocked p stock dead well = record {
   striped = well.striped;
   largest = well.largest;
+  most_inodes = well.most_inodes;
+  size = well.size;
   logical = record {
     inodes = well.logical.inodes;
     few = well.logical.few;
@@ -61,15 +63,26 @@ at-most-one : (b : Bool) → one_if b ≤ 1
 at-most-one true = omega arith
 at-most-one false = omega arith
 
-pub deliver-right : (v : ℕ) (blocks : List ℕ) (set : LogicalSet) → 0 < length blocks → IsBatch (range_of blocks) blocks
+pub deliver-right : (v : ℕ) (blocks : List ℕ) (set : LogicalSet) → 0 < length blocks
+    → IsBatch set.own.dead.range_blocks (range_of set.own.dead.range_blocks blocks) blocks
     → RightOnVolume v logical_lens (DoesInnerOn (Deliver v)) [] (Fresh v blocks ∷ []) set (Gave (Fresh v blocks)) (delivered blocks set)
 deliver-right v blocks set some batch p hands hands' made has numbered sound moved =
     let q : VolumeContents = logical_lens.put (delivered blocks (logical_lens.of p)) p in
     let same : logical_lens.put (delivered blocks set) p ≡ q = λ j. logical_lens.put (delivered blocks (sym has j)) p in
     subst (λ (x : VolumeContents). DoesInnerOn (Deliver v) p (Gave (Fresh v blocks)) x × IsSound x hands' (made + 1)) (sym same) (
-      (refl, (refl, (some, batch, (refl, refl)))),
+      (
+        refl,
+        (
+          refl,
+          (
+            some,
+            subst (λ (s : LogicalSet). IsBatch s.own.dead.range_blocks (range_of s.own.dead.range_blocks blocks) blocks) (sym has) batch,
+            (refl, refl),
+          ),
+        ),
+      ),
       record {
-        well_formed = well-restocked p (with_numbers blocks p.logical.stock) p.logical.dead sound.well_formed;
+        well_formed = well-restocked p (with_numbers blocks p.logical.stock) p.logical.dead.blocks sound.well_formed;
         young = record {
           fileids = (let y = sound.young.fileids in omega arith);
           cookies = λ fileid d e. let y = sound.young.cookies fileid d e in omega arith;
@@ -77,7 +90,7 @@ deliver-right v blocks set some batch p hands hands' made has numbered sound mov
         partition = λ n.
             let e = moved (times_in_hand p.number n) in
             let o = sound.partition n in
-            let most = at-most-one (nat_lt n (range_blocks * ranges_used p.ranges)) in
+            let most = at-most-one (nat_lt n (p.logical.dead.range_blocks * ranges_used p.ranges)) in
             let mine : times_in_hand p.number n (Fresh v blocks) ≡ times_listed n blocks =
             ap (λ (b : Bool). times_listed n (if b then blocks else [])) (eq-eqb p.number v numbered) in
             let listed = listed-times n blocks (omega arith) in

@@ -9,7 +9,7 @@ use Rattle.std.specs.Ordering.{nat_cmp}
 use Rattle.std.specs.Cmp.{nat_cmp_total}
 use Rattle.std.specs.FinMap.{nat_cmp-IsAntisymmetric}
 use Rattle.std.specs.FinSet.{FinSet, contains, difference, from_list, contains-difference, contains-union, contains-empty, same_set}
-use Rattle.nfs_model.specs.Parts.{Hand, batch_in, one_if, times_listed, range_blocks, most_carried}
+use Rattle.nfs_model.specs.Parts.{Hand, batch_in, one_if, times_listed, most_carried}
 use Rattle.nfs_model.specs.Moves.{in_range, batch, fresh_hand}
 use Rattle.nfs_laws.specs.lemmas.Counting.{batch_within, batch_leaves, contains_listed}
 use Rattle.depot_rule.specs.Sums.{total}
@@ -26,6 +26,7 @@ use Rattle.filer_state.specs.state.Promises.{HandsMove}
 use Rattle.filer_state.specs.state.Calls.{DoesInnerOn}
 use Rattle.filer_state.specs.state.Running.{InnerRunsOn}
 use Rattle.filer_state.specs.laws.lemmas.Parts.{used-put, range-sound}
+use Rattle.filer_state.specs.laws.lemmas.Sizes.{quotient-is}
 use Rattle.filer_state.specs.laws.lemmas.Steps.{sound-later}
 
 false-where : (b : Bool) → (b ≡ true → ⊥) → b ≡ false
@@ -43,36 +44,42 @@ or-false false b e = e
 -- ---- a number is free in the range that it is of
 
 -- the free numbers of each range are its own, from a number of ranges on
-abbrev AreOwn : ℕ → List RangeValue → Type 0
-AreOwn from ranges = (j : ℕ) → j < length ranges → (b : ℕ) → contains (range_at ranges j).free b ≡ true → b / range_blocks ≡ from + j
+abbrev AreOwn : (size from : ℕ) → List RangeValue → Type 0
+AreOwn size from ranges = (j : ℕ) → j < length ranges → (b : ℕ) → contains (range_at ranges j).free b ≡ true → b / size ≡ from + j
 
-later-own : (from : ℕ) (x : RangeValue) (ranges : List RangeValue) → AreOwn from (x ∷ ranges) → AreOwn (from + 1) ranges
-later-own from x ranges own j less b e = let at = own (suc j) (omega arith) b e in omega arith
+later-own : (size from : ℕ) (x : RangeValue) (ranges : List RangeValue) → AreOwn size from (x ∷ ranges) → AreOwn size (from + 1) ranges
+later-own size from x ranges own j less b e = let at = own (suc j) (omega arith) b e in omega arith
 
-free-before : (from : ℕ) (ranges : List RangeValue) → AreOwn from ranges → (n : ℕ) → n / range_blocks < from → contains (free_in ranges) n ≡ false
-free-before from [] own n below = contains-empty nat_cmp n
-free-before from (x ∷ ranges) own n below =
+free-before : (size from : ℕ) (ranges : List RangeValue) → AreOwn size from ranges → (n : ℕ) → n / size < from → contains (free_in ranges) n ≡ false
+free-before size from [] own n below = contains-empty nat_cmp n
+free-before size from (x ∷ ranges) own n below =
     let here : contains x.free n ≡ false = false-where (contains x.free n) (λ e. let at = own 0 (omega arith) n e in omega arith) in
     contains-union nat_cmp_total x.free (free_in ranges) n ∙ ap (λ (b : Bool). b || contains (free_in ranges) n) here
-    ∙ free-before (from + 1) ranges (later-own from x ranges own) n (omega arith)
+    ∙ free-before size (from + 1) ranges (later-own size from x ranges own) n (omega arith)
 
-free-from : (from : ℕ) (ranges : List RangeValue) → AreOwn from ranges → (r : ℕ) → r < length ranges → (n : ℕ) → n / range_blocks ≡ from + r
+free-from : (size from : ℕ) (ranges : List RangeValue) → AreOwn size from ranges → (r : ℕ) → r < length ranges → (n : ℕ) → n / size ≡ from + r
     → contains (free_in ranges) n ≡ contains (range_at ranges r).free n
-free-from from [] own r less n of = absurd (omega arith)
-free-from from (x ∷ ranges) own zero less n of =
+free-from size from [] own r less n of = absurd (omega arith)
+free-from size from (x ∷ ranges) own zero less n of =
     contains-union nat_cmp_total x.free (free_in ranges) n
-    ∙ or-false (contains x.free n) (contains (free_in ranges) n) (free-before (from + 1) ranges (later-own from x ranges own) n (omega arith))
-free-from from (x ∷ ranges) own (suc r) less n of =
+    ∙ or-false (contains x.free n) (contains (free_in ranges) n) (free-before size (from + 1) ranges (later-own size from x ranges own) n (omega arith))
+free-from size from (x ∷ ranges) own (suc r) less n of =
     let here : contains x.free n ≡ false = false-where (contains x.free n) (λ e. let at = own 0 (omega arith) n e in omega arith) in
     contains-union nat_cmp_total x.free (free_in ranges) n ∙ ap (λ (b : Bool). b || contains (free_in ranges) n) here
-    ∙ free-from (from + 1) ranges (later-own from x ranges own) r (omega arith) n (omega arith)
+    ∙ free-from size (from + 1) ranges (later-own size from x ranges own) r (omega arith) n (omega arith)
 
 module _ (p : VolumeContents) (well : WellFormed p) where
-  are-own : AreOwn 0 p.ranges
-  are-own j less b e = let fits = well.ranges j less in let at = fits.free.own b e in let is = fits.number in omega (arith, at, is)
+  abbrev size : ℕ
+  size = p.logical.dead.range_blocks
 
-  pub free-at : (r : ℕ) → r < length p.ranges → (n : ℕ) → n / range_blocks ≡ r → contains (free_in p.ranges) n ≡ contains (range_at p.ranges r).free n
-  free-at r on n of = free-from 0 p.ranges are-own r on n (omega arith)
+  are-own : AreOwn size 0 p.ranges
+  are-own j less b e =
+      let fits = well.ranges j less in
+      let at : b / size ≡ j = ap (λ (k : ℕ). b / k) (sym fits.blocks) ∙ fits.free.own b e ∙ fits.number in
+      omega (arith, at)
+
+  pub free-at : (r : ℕ) → r < length p.ranges → (n : ℕ) → n / size ≡ r → contains (free_in p.ranges) n ≡ contains (range_at p.ranges r).free n
+  free-at r on n of = free-from size 0 p.ranges are-own r on n (omega (arith, of))
 
   filter-agree : (f g : ℕ → Bool) (a k : ℕ) → ((n : ℕ) → a ≤ n → n < a + k → f n ≡ g n) → filter f (range_with_len a k) ≡ filter g (range_with_len a k)
   filter-agree f g a zero same = refl
@@ -82,10 +89,10 @@ module _ (p : VolumeContents) (well : WellFormed p) where
       λ j. cond (here j) (a ∷ others j) (others j)
 
   -- the volume's free numbers of a range are the range's
-  pub in-range-at : (r : ℕ) → r < length p.ranges → in_range r (free_in p.ranges) ≡ in_range r (range_at p.ranges r).free
+  pub in-range-at : (r : ℕ) → r < length p.ranges → in_range size r (free_in p.ranges) ≡ in_range size r (range_at p.ranges r).free
   unfolding in_range
-  in-range-at r on = filter-agree (contains (free_in p.ranges)) (contains (range_at p.ranges r).free) (range_blocks * r) range_blocks
-      (λ n l m. free-at r on n (omega arith))
+  in-range-at r on = filter-agree (contains (free_in p.ranges)) (contains (range_at p.ranges r).free) (size * r) size
+      (λ n l m. free-at r on n (quotient-is size r n l m))
 
 -- a number that is as free in a range's place as it was
 pub free-other : (ranges : List RangeValue) (r : ℕ) (x : RangeValue) (n : ℕ) → contains x.free n ≡ contains (range_at ranges r).free n
@@ -101,11 +108,11 @@ free-other (y ∷ ranges) (suc r) x n e =
 -- ---- fetch
 
 -- a batch has numbers of its set alone
-in-batch : (k n : ℕ) (s : FinSet nat_cmp) → contains (from_list {R = nat_cmp} (batch k s)) n ≡ true → contains s n ≡ true
-in-batch k n s h =
-    let most = batch_within k n s in
-    let some : nat_lt 0 (times_listed n (batch k s)) ≡ true = sym (contains_listed (batch k s) n) ∙ h in
-    by (contains s n) (times_listed n (batch k s)) most some
+in-batch : (size k n : ℕ) (s : FinSet nat_cmp) → contains (from_list {R = nat_cmp} (batch size k s)) n ≡ true → contains s n ≡ true
+in-batch size k n s h =
+    let most = batch_within size k n s in
+    let some : nat_lt 0 (times_listed n (batch size k s)) ≡ true = sym (contains_listed (batch size k s) n) ∙ h in
+    by (contains s n) (times_listed n (batch size k s)) most some
   where
     by : (b : Bool) (t : ℕ) → t ≤ one_if b → nat_lt 0 t ≡ true → b ≡ true
     by true t most some = refl
@@ -132,7 +139,7 @@ times-fresh u v n (b ∷ blocks) e =
 
 -- the batch that is fetched of a range, and the range without it
 abbrev pub fetched_of : ℕ → RangeValue → List ℕ
-fetched_of r x = batch r x.free
+fetched_of r x = batch x.range_blocks r x.free
 
 abbrev pub fetched_from : ℕ → RangeValue → RangeValue
 fetched_from r x = taken (fetched_of r x) x
@@ -150,12 +157,14 @@ module _ (p : VolumeContents) (r : ℕ) (on : r < length p.ranges) (hands hands'
   abbrev after : VolumeContents
   after = (range_lens r).put next p
 
-  fits-next : RangeFits (ranges_used p.ranges) r next
+  fits-next : RangeFits p.logical.dead.range_blocks (ranges_used p.ranges) r next
   fits-next =
       let fits = sound.well_formed.ranges r on in record {
+        blocks = fits.blocks;
         number = fits.number;
         in_use = fits.in_use;
         free = record {
+          size = fits.free.size;
           own = λ b e. fits.free.own b (first (contains x.free b) (contains (from_list {R = nat_cmp} blocks) b)
               (sym (contains-difference nat_cmp_total x.free (from_list blocks) b) ∙ e));
           used = λ e. same_set nat_cmp_total nat_cmp-IsAntisymmetric _ _ (λ b.
@@ -177,7 +186,7 @@ module _ (p : VolumeContents) (r : ℕ) (on : r < length p.ranges) (hands hands'
   sound-next v numbered moved = range-sound p r next on fits-next hands hands' made sound (λ n.
       let weighed = moved (times_in_hand p.number n) in
       let mine = times-fresh p.number v n blocks numbered in
-      let left = batch_leaves x.free blocks n (batch_within r n x.free) in
+      let left = batch_leaves x.free blocks n (batch_within x.range_blocks r n x.free) in
       omega (arith, weighed, mine, left))
 
   -- the volume's free numbers lose the batch
@@ -191,8 +200,9 @@ module _ (p : VolumeContents) (r : ℕ) (on : r < length p.ranges) (hands hands'
       by : (n : ℕ) (b : Bool) → contains (from_list {R = nat_cmp} blocks) n ≡ b
           → contains (free_in (slice_set p.ranges r next)) n ≡ contains (difference (free_in p.ranges) (from_list blocks)) n
       by n true e =
-          let of : n / range_blocks ≡ r =
-          (sound.well_formed.ranges r on).free.own n (in-batch r n x.free e) ∙ (sound.well_formed.ranges r on).number in
+          let of : n / p.logical.dead.range_blocks ≡ r =
+          ap (λ (k : ℕ). n / k) (sym (sound.well_formed.ranges r on).blocks)
+          ∙ (sound.well_formed.ranges r on).free.own n (in-batch x.range_blocks r n x.free e) ∙ (sound.well_formed.ranges r on).number in
           let long = later.well_formed.sixteen in
           let size = sound.well_formed.sixteen in
           free-at after later.well_formed r (omega arith) n of
@@ -210,9 +220,11 @@ module _ (p : VolumeContents) (r : ℕ) (on : r < length p.ranges) (hands hands'
   does-fetch : (v : ℕ) → p.number ≡ v → x.is_used ≡ true → HandsMove (batches_in (fresh_hand v blocks)) [] hands hands'
       → DoesInnerOn (Fetch v r) p (Took (fresh_hand v blocks)) after
   does-fetch v numbered used moved =
-      let same : batch r (free_in p.ranges) ≡ blocks = ap (take most_carried) (in-range-at p sound.well_formed r on) in
+      let same : batch p.logical.dead.range_blocks r (free_in p.ranges) ≡ blocks =
+      ap (take most_carried) (in-range-at p sound.well_formed r on)
+      ∙ ap (λ (k : ℕ). batch k r x.free) (sym (sound.well_formed.ranges r on).blocks) in
       let below : nat_lt r (ranges_used p.ranges) ≡ true = sym (sound.well_formed.ranges r on).in_use ∙ used in (
-        λ j. record (volume_of p) { total = range_blocks * used-same j },
+        λ j. record (volume_of p) { total = p.logical.dead.range_blocks * used-same j },
         (
           grind (arith, nat_tests),
           (

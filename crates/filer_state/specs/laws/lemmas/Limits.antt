@@ -9,7 +9,7 @@ use Rattle.std.specs.List.{filter}
 use Rattle.std.specs.Ordering.{nat_cmp}
 use Rattle.std.specs.Cmp.{nat_cmp_total, unsigned_tied}
 use Rattle.std.specs.FinMap.{FinMap, get, remove, len, get-remove, len-remove, get-empty, empty_of_len, nat_cmp-IsAntisymmetric}
-use Rattle.nfs_model.specs.Parts.{Hand, one_if, times_listed, range_blocks}
+use Rattle.nfs_model.specs.Parts.{Hand, one_if, times_listed}
 use Rattle.nfs_model.specs.Types.{Listed}
 use Rattle.nfs_model.specs.volume.Directories.{DirectoryValue}
 use Rattle.nfs_model.specs.volume.Ranges.{RangeValue}
@@ -87,9 +87,9 @@ few-below (suc t) ns h =
 
 module _ (p : VolumeContents) (hands : List Hand) (well : WellFormed p) (once : StandOnce p hands) where
   -- no more blocks are used than there are
-  pub used-fits : p.logical.inodes.used ≤ range_blocks * ranges_used p.ranges
+  pub used-fits : p.logical.inodes.used ≤ p.logical.dead.range_blocks * ranges_used p.ranges
   used-fits =
-      let most = few-below (range_blocks * ranges_used p.ranges) (all_numbers p.stripes) (λ n. let o = once n in
+      let most = few-below (p.logical.dead.range_blocks * ranges_used p.ranges) (all_numbers p.stripes) (λ n. let o = once n in
       let listed = all-times n p.stripes in omega arith) in
       let size = all-length p.stripes in
       let used = well.used in

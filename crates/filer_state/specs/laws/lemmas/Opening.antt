@@ -12,17 +12,17 @@ use Rattle.std.specs.FinMap as maps
 use Rattle.std.specs.FinMap.{get, from_sorted, get-from_sorted, entries, entries-from_sorted, len-entries, get-empty, same_map, nat_cmp-IsAntisymmetric}
 use Rattle.std.specs.FinSet as sets
 use Rattle.std.specs.FinSet.{contains, from_list, contains-from_list_nat, contains-empty}
-use Rattle.nfs_model.specs.Parts.{one_if, range_blocks, most_ranges}
+use Rattle.nfs_model.specs.Parts.{one_if, most_ranges}
 use Rattle.depot_rule.specs.Sums.{total}
-use Rattle.nfs_model.specs.volume.Ranges.{RangeValue, range_numbers}
+use Rattle.nfs_model.specs.volume.Ranges.{RangeValue, IsRangeSize, range_numbers}
 use Rattle.filer_state.specs.state.Contents.{filer_contents, each}
 use Rattle.filer_state.specs.state.Tree.{ranges_used}
-use Rattle.affinity.specs.Fault.{fault_of, is_within, is_known, is_sized}
-use Rattle.affinity.specs.Largest.{largest_of, mebibytes_in}
-use Rattle.affinity.specs.lemmas.Lawful.{stripes_either, mebibytes_either}
+use Rattle.affinity.specs.Fault.{fault_of, is_sized}
+use Rattle.affinity.specs.Largest.{largest_of, mebibytes_in, inodes_in, inodes_of}
+use Rattle.affinity.specs.lemmas.Lawful.{keeps_rules, stripes_either, mebibytes_between, inodes_between, range_blocks_size}
 use Rattle.nfs_model.specs.Types.{Listed}
 use Rattle.nfs_model.specs.Tree as trees
-use Rattle.nfs_model.specs.Tree.{Layout, VolumeLayout, Affinity, stripes_of, aggregate_of, aggregate_in}
+use Rattle.nfs_model.specs.Tree.{Layout, VolumeLayout, Affinity, stripes_of, aggregate_of, aggregate_in, range_blocks_of, range_blocks_in}
 use Rattle.nfs_model.specs.Server.{VolumeState, root_node, opening_volume, opening_volumes, opening}
 use Rattle.nfs_model.specs.Parts.{count}
 use Rattle.nfs_model.specs.volume.Maps.{map_values}
@@ -41,6 +41,7 @@ use Rattle.filer_state.specs.state.Sound.{IsSound, AllSound}
 use Rattle.filer_state.specs.state.Opening.{opening_logical, opening_stripe, opening_range, ranges_in, AreOpening}
 use Rattle.filer_state.specs.laws.lemmas.Each.{each-same, each-get, each-index, each-length, each-map, get-there}
 use Rattle.filer_state.specs.laws.lemmas.OpeningRanges.{one-below, none-below, same-below, listed-once, opening-used, opening-unused, all-used, all-free}
+use Rattle.filer_state.specs.laws.lemmas.Sizes.{quotient-is}
 use Rattle.filer_state.specs.laws.lemmas.Counted.{free-times}
 use Rattle.filer_state.specs.state.Partition.{all_numbers, free_in, numbers_in, parts_of, all_parts}
 use Rattle.nfs_model.specs.Headline.{opening_parts}
@@ -112,10 +113,11 @@ opening-sizes largest q = subst (λ o. IfSome (size_of o) (λ size. size ≤ lar
     by true = tt
     by false = tt
 
-opening-is-logical : (verifier : List ℕ) (stripes largest : ℕ) → IsLogical (opening_logical verifier stripes largest)
-opening-is-logical verifier stripes largest = record {
+opening-is-logical : (verifier : List ℕ) (stripes largest most size : ℕ) → 0 < most
+    → IsLogical (opening_logical verifier stripes largest most size)
+opening-is-logical verifier stripes largest most size some = record {
   inodes = opening-inodes;
-  few = let one = len-entries root_inodes ∙ ap length (single-entries root_inode) in omega arith;
+  few = let one = len-entries root_inodes ∙ ap length (single-entries root_inode) in omega (arith, one, some);
   sizes = opening-sizes largest;
   named = opening-named;
 }
@@ -167,42 +169,45 @@ none-filled s bare n fileid =
 
 -- ---- a range
 
-in-own : (r b : ℕ) → contains (from_list {R = nat_cmp} (range_numbers r)) b ≡ true → b / range_blocks ≡ r
-in-own r b h =
-    let one : one_if (list_any (λ y. nat_eq y b) (range_numbers r)) ≡ 1 = ap one_if (sym (contains-from_list_nat (range_numbers r) b) ∙ h) in
-    let once = listed-once (range_blocks * r) range_blocks b in
+pub in-own : (size r b : ℕ) → contains (from_list {R = nat_cmp} (range_numbers size r)) b ≡ true → b / size ≡ r
+in-own size r b h =
+    let one : one_if (list_any (λ y. nat_eq y b) (range_numbers size r)) ≡ 1 = ap one_if (sym (contains-from_list_nat (range_numbers size r) b) ∙ h) in
+    let once = listed-once (size * r) size b in
     ⊎_elim
-    (λ (less : b < range_blocks * r).
-    let low = one-below b (range_blocks * r) less in
-    let high = one-below b (range_blocks * r + range_blocks) (omega arith) in
+    (λ (less : b < size * r).
+    let low = one-below b (size * r) less in
+    let high = one-below b (size * r + size) (omega arith) in
     absurd (omega arith))
-    (λ (more : range_blocks * r ≤ b). ⊎_elim
-    (λ (less : b < range_blocks * r + range_blocks). omega arith)
-    (λ (past : range_blocks * r + range_blocks ≤ b).
-    let low = none-below b (range_blocks * r) more in
-    let high = none-below b (range_blocks * r + range_blocks) past in
+    (λ (more : size * r ≤ b). ⊎_elim
+    (λ (less : b < size * r + size). quotient-is size r b more less)
+    (λ (past : size * r + size ≤ b).
+    let low = none-below b (size * r) more in
+    let high = none-below b (size * r + size) past in
     absurd (omega arith))
-    (cases_lt b (range_blocks * r + range_blocks)))
-    (cases_lt b (range_blocks * r))
+    (cases_lt b (size * r + size)))
+    (cases_lt b (size * r))
 
-range-fits : (u r : ℕ) → RangeFits u r (opening_range u r)
-range-fits u r = ⊎_elim
-    (λ (less : r < u). subst (RangeFits u r) (sym (opening-used u r less)) (record {
+range-fits : (size u r : ℕ) → IsRangeSize size → RangeFits size u r (opening_range size u r)
+range-fits size u r is = ⊎_elim
+    (λ (less : r < u). subst (RangeFits size u r) (sym (opening-used size u r less)) (record {
+      blocks = refl;
       number = refl;
       in_use = sym (lt-ltb r u less);
-      free = record { own = λ b h. in-own r b h; used = λ e. absurd cc };
+      free = record { size = is; own = λ b h. in-own size r b h; used = λ e. absurd cc };
     }))
-    (λ (more : u ≤ r). subst (RangeFits u r) (sym (opening-unused u r more)) (record {
+    (λ (more : u ≤ r). subst (RangeFits size u r) (sym (opening-unused size u r more)) (record {
+      blocks = refl;
       number = refl;
       in_use = sym (le-ltb r u more);
-      free = record { own = λ b h. let none = contains-empty nat_cmp b in absurd cc; used = λ e. refl };
+      free = record { size = is; own = λ b h. let none = contains-empty nat_cmp b in absurd cc; used = λ e. refl };
     }))
     (cases_lt r u)
 
 -- ---- a stripe
 
-opening-fits : (verifier : List ℕ) (stripes largest i : ℕ) → StripeFits (opening_logical verifier stripes largest) i (opening_stripe verifier stripes largest)
-opening-fits verifier stripes largest i = record {
+opening-fits : (verifier : List ℕ) (stripes largest most size i : ℕ)
+    → StripeFits (opening_logical verifier stripes largest most size) i (opening_stripe verifier stripes largest)
+opening-fits verifier stripes largest most size i = record {
   verifier = refl;
   stripes = refl;
   largest = refl;
@@ -222,9 +227,9 @@ abbrev pub opening_contents : Layout → List ℕ → ℕ → VolumeContents
 opening_contents layout verifier v = record {
   number = v;
   aggregate = aggregate_of layout v;
-  logical = opening_logical verifier (stripes_of layout v) (largest_of layout v);
+  logical = opening_logical verifier (stripes_of layout v) (largest_of layout v) (inodes_of layout v) (range_blocks_of layout v);
   stripes = each (λ i. opening_stripe verifier (stripes_of layout v) (largest_of layout v)) 0 (stripes_of layout v);
-  ranges = each (opening_range (ranges_in (slice_get layout.volumes v))) 0 most_ranges;
+  ranges = each (opening_range (range_blocks_of layout v) (ranges_in (slice_get layout.volumes v))) 0 most_ranges;
 }
 
 pub contents-open : {P : Type 0} (layout : Layout) (verifier : List ℕ) (f : ℕ → Option (FilerParcel P)) → AreOpening layout verifier f
@@ -236,22 +241,14 @@ contents-open layout verifier f is v on = λ j. record {
   stripes = each-same (λ i. stripe_in (at layout f (trees.Stripe v i)))
       (λ i. opening_stripe verifier (stripes_of layout v) (largest_of layout v)) 0 (stripes_of layout v)
       (λ i low high. ap stripe_in (is (trees.Stripe v i) (on, omega arith))) j;
-  ranges = each-same (λ r. range_in (at layout f (trees.Range v r))) (opening_range (ranges_in (slice_get layout.volumes v))) 0 most_ranges
+  ranges = each-same (λ r. range_in (at layout f (trees.Range v r)))
+      (opening_range (range_blocks_of layout v) (ranges_in (slice_get layout.volumes v))) 0 most_ranges
       (λ r low high. ap range_in (is (trees.Range v r) (on, omega arith))) j;
 }
 
 -- a volume of a lawful layout begins with at most 16 ranges
 sized : (layout : Layout) → fault_of layout ≡ None → list_all is_sized layout.volumes ≡ true
-sized layout h = by (is_within 1 2 (length layout.spare)) (is_within 1 8 (length layout.volumes)) (list_all (is_known (length layout.spare)) layout.volumes)
-    (list_all is_sized layout.volumes) _ h
-  where
-    by : (a b c d : Bool) (others : Option ℕ)
-        → (if not a then Some 51 else if not b then Some 52 else if not c then Some 53 else if not d then Some 54 else others) ≡ None → d ≡ true
-    by true true true true others e = refl
-    by true true true false others e = absurd cc
-    by true true false d others e = absurd cc
-    by true false c d others e = absurd cc
-    by false b c d others e = absurd cc
+sized layout h = (keeps_rules layout h).sized
 
 ranges-some : (layout : Layout) → fault_of layout ≡ None → (v : ℕ) → v < length layout.volumes → 0 < ranges_in (slice_get layout.volumes v)
 ranges-some layout h v on = at-least layout.volumes v on (sized layout h)
@@ -278,6 +275,9 @@ module _ (layout : Layout) (lawful : fault_of layout ≡ None) (verifier : List 
   abbrev u : ℕ
   u = ranges_in (slice_get layout.volumes v)
 
+  abbrev blocks : ℕ
+  blocks = range_blocks_of layout v
+
   abbrev first : StripeValue
   first = opening_stripe verifier n (largest_of layout v)
 
@@ -285,30 +285,35 @@ module _ (layout : Layout) (lawful : fault_of layout ≡ None) (verifier : List 
   p = opening_contents layout verifier v
 
   in-use : ranges_used p.ranges ≡ u
-  in-use = let most = ranges-most layout lawful v in let all = all-used u 0 most_ranges (omega arith) (omega arith) in omega arith
+  in-use = let most = ranges-most layout lawful v in let all = all-used blocks u 0 most_ranges (omega arith) (omega arith) in omega arith
 
   opening-well-formed : WellFormed p
   opening-well-formed = record {
     striped = stripes_either layout v lawful;
-    largest = ⊎_elim
-        (λ (e : mebibytes_in (slice_get layout.volumes v) ≡ 16). inl (let size : largest_of layout v ≡ 16777216 = omega arith in size))
-        (λ (e : mebibytes_in (slice_get layout.volumes v) ≡ 64). inr (let size : largest_of layout v ≡ 67108864 = omega arith in size))
-        (mebibytes_either layout v lawful);
-    logical = opening-is-logical verifier n (largest_of layout v);
+    largest = record {
+      mebibytes = mebibytes_in (slice_get layout.volumes v);
+      is = refl;
+      least = (mebibytes_between layout v lawful).0;
+      most = (mebibytes_between layout v lawful).1;
+    };
+    most_inodes = inodes_between layout v lawful;
+    size = range_blocks_size layout v lawful;
+    logical = opening-is-logical verifier n (largest_of layout v) (inodes_of layout v) blocks
+        (let least = (inodes_between layout v lawful).0 in omega (arith, least));
     as_many = each-length (λ i. first) 0 n;
     stripes = λ i less.
         let long = each-length (λ k. first) 0 n in
-        subst (StripeFits p.logical i) (sym (each-index (λ k. first) no_stripe n i (omega arith))) (opening-fits verifier n (largest_of layout v) i);
+        subst (StripeFits p.logical i) (sym (each-index (λ k. first) no_stripe n i (omega arith))) (opening-fits verifier n (largest_of layout v) (inodes_of layout v) blocks i);
     used = sym (total-none (λ s. maps.len s.blocks) (λ i. first) 0 n (λ i. maps.len-empty file_block_cmp Block));
     filled = λ q inode e.
         let is = single-is root_inode inode q e in
         ap (λ (x : Inode). filled_blocks x.kind) is.1 ∙ sym (none-filled first refl n q);
-    sixteen = each-length (opening_range u) 0 most_ranges;
+    sixteen = each-length (opening_range blocks u) 0 most_ranges;
     some = (let used = in-use in let least = ranges-some layout lawful v on in omega arith);
     ranges = λ r less.
-        let long = each-length (opening_range u) 0 most_ranges in
-        subst (λ (x : RangeValue). RangeFits (ranges_used p.ranges) r x) (sym (each-index (opening_range u) no_range most_ranges r (omega arith)))
-        (subst (λ (k : ℕ). RangeFits k r (opening_range u r)) (sym in-use) (range-fits u r));
+        let long = each-length (opening_range blocks u) 0 most_ranges in
+        subst (λ (x : RangeValue). RangeFits blocks (ranges_used p.ranges) r x) (sym (each-index (opening_range blocks u) no_range most_ranges r (omega arith)))
+        (subst (λ (k : ℕ). RangeFits blocks k r (opening_range blocks u r)) (sym in-use) (range-fits blocks u r (range_blocks_size layout v lawful)));
   }
 
   opening-partition : StandOnce p []
@@ -316,9 +321,9 @@ module _ (layout : Layout) (lawful : fault_of layout ≡ None) (verifier : List 
       let most = ranges-most layout lawful v in
       let stripes = total-none (times_in_stripe q) (λ i. first) 0 n (λ i. no-numbers first refl q) in
       let empty_set : one_if (contains (sets.empty {R = nat_cmp}) q) ≡ 0 = ap one_if (contains-empty nat_cmp q) in
-      let free = all-free u q 0 most_ranges (omega arith) (omega arith) in
-      let low = none-below q (range_blocks * 0) (omega arith) in
-      let same = same-below q (range_blocks * u) (range_blocks * ranges_used p.ranges) (let e = in-use in omega arith) in
+      let free = all-free blocks u q 0 most_ranges (omega arith) (omega arith) in
+      let low = none-below q (blocks * 0) (let zero_blocks : blocks * 0 ≤ q = omega arith in zero_blocks) in
+      let same = same-below q (blocks * u) (blocks * ranges_used p.ranges) (ap (λ (k : ℕ). blocks * k) (sym in-use)) in
       omega arith
 
   pub opening-is-sound : IsSound p [] 0
@@ -362,14 +367,16 @@ volume-opens : (layout : Layout) (verifier : List ℕ) (v : ℕ) (x : VolumeLayo
     → volume_of (opening_contents layout verifier v) ≡ opening_volume verifier v x
 volume-opens layout verifier v x lawful there =
     let used = in-use layout lawful verifier v (get-there layout.volumes v x there) in
-    let total : range_blocks * ranges_used (opening_contents layout verifier v).ranges ≡ 1024 * x.ranges =
-    ap (λ (k : ℕ). 1024 * k) (used ∙ ap ranges_in there) in
+    let total : range_blocks_of layout v * ranges_used (opening_contents layout verifier v).ranges ≡ x.range_blocks * x.ranges =
+    λ j. range_blocks_in (there j) * (used ∙ ap ranges_in there) j in
     let largest : largest_of layout v ≡ 1048576 * x.mebibytes = ap (λ o. 1048576 * mebibytes_in o) there in
     λ j. record {
       number = v;
       aggregate = aggregate_in (there j);
       total = total j;
       largest = largest j;
+      range_blocks = range_blocks_in (there j);
+      most_inodes = inodes_in (there j);
       verifier = verifier;
       next = 2;
       nodes = root-nodes (opening_contents layout verifier v).stripes j;
@@ -420,20 +427,20 @@ no-numbers-in s bare from zero = refl
 no-numbers-in s bare from (suc n) = λ j. none-listed s bare j ++ no-numbers-in s bare (from + 1) n j
 
 -- all numbers below total are free, and no other
-opening-free : (u : ℕ) → u ≤ 16 → free_in (each (opening_range u) 0 most_ranges) ≡ from_list (range_with_len 0 (range_blocks * u))
-opening-free u most = sets.same_set nat_cmp_total nat_cmp-IsAntisymmetric (free_in (each (opening_range u) 0 most_ranges)) (from_list
-    (range_with_len 0 (range_blocks * u)))
+opening-free : (size u : ℕ) → u ≤ 16 → free_in (each (opening_range size u) 0 most_ranges) ≡ from_list (range_with_len 0 (size * u))
+opening-free size u most = sets.same_set nat_cmp_total nat_cmp-IsAntisymmetric (free_in (each (opening_range size u) 0 most_ranges)) (from_list
+    (range_with_len 0 (size * u)))
     (λ q.
-    let free = all-free u q 0 most_ranges (omega arith) (omega arith) in
-    let low = none-below q (range_blocks * 0) (omega arith) in
-    let at_most = at-most-one (nat_lt q (range_blocks * u)) in
-    let counted = free-times q (each (opening_range u) 0 most_ranges) (omega arith) in
-    let listed = listed-once 0 (range_blocks * u) q in
+    let free = all-free size u q 0 most_ranges (omega arith) (omega arith) in
+    let low = none-below q (size * 0) (let zero_blocks : size * 0 ≤ q = omega arith in zero_blocks) in
+    let at_most = at-most-one (nat_lt q (size * u)) in
+    let counted = free-times q (each (opening_range size u) 0 most_ranges) (omega arith) in
+    let listed = listed-once 0 (size * u) q in
     let start = none-below q 0 (omega arith) in
-    let end = same-below q (0 + range_blocks * u) (range_blocks * u) (omega arith) in
-    let has = ap one_if (contains-from_list_nat (range_with_len 0 (range_blocks * u)) q) in
-    one-same-bool (contains (free_in (each (opening_range u) 0 most_ranges)) q) (contains (from_list {R = nat_cmp} (range_with_len 0
-    (range_blocks * u))) q) (omega arith))
+    let end = same-below q (0 + size * u) (size * u) (omega arith) in
+    let has = ap one_if (contains-from_list_nat (range_with_len 0 (size * u)) q) in
+    one-same-bool (contains (free_in (each (opening_range size u) 0 most_ranges)) q) (contains (from_list {R = nat_cmp} (range_with_len 0
+    (size * u))) q) (omega arith))
   where
     at-most-one : (b : Bool) → one_if b ≤ 1
     at-most-one true = omega arith
@@ -462,12 +469,12 @@ module _ {P : Type 0} (layout : Layout) (lawful : fault_of layout ≡ None) (ver
         files = from_list (no-numbers-in (opening_stripe verifier (stripes_of layout i) (largest_of layout i)) refl 0 (stripes_of layout i) j);
         stock = sets.empty;
         dead = sets.empty;
-        free = opening-free (ranges_in (slice_get layout.volumes i)) (ranges-most layout lawful i) j;
+        free = opening-free (range_blocks_of layout i) (ranges_in (slice_get layout.volumes i)) (ranges-most layout lawful i) j;
       })
       ∙ ap (λ (o : Option VolumeLayout). record {
         files = sets.empty;
         stock = sets.empty;
         dead = sets.empty;
         free = from_list (range_with_len 0
-            (range_blocks * ranges_in o));
+            (range_blocks_in o * ranges_in o));
       }) e)

@@ -6,12 +6,13 @@ use Rattle.std.proofs.lemmas.Bool.{cases_lt, cases_eq, lt-ltb, le-ltb}
 use Rattle.std.specs.List.{range_with_len, list_any}
 use Rattle.std.specs.Ordering.{nat_cmp}
 use Rattle.std.specs.FinSet.{contains, contains-from_list_nat, contains-empty}
-use Rattle.nfs_model.specs.Parts.{one_if, range_blocks}
+use Rattle.nfs_model.specs.Parts.{one_if}
 use Rattle.depot_rule.specs.Sums.{total}
 use Rattle.nfs_model.specs.volume.Ranges.{RangeValue, unused_range, put_in_use, range_numbers}
 use Rattle.filer_state.specs.state.Contents.{each}
 use Rattle.filer_state.specs.state.Tree.{ranges_used}
 use Rattle.filer_state.specs.state.Opening.{opening_range}
+use Rattle.filer_state.specs.laws.lemmas.Sizes.{next-range}
 
 -- ---- counts below a number
 
@@ -48,54 +49,57 @@ listed-once a (suc n) q =
 
 -- ---- ranges
 
-pub opening-used : (u r : ℕ) → r < u → opening_range u r ≡ put_in_use (unused_range r)
-opening-used u r less = ap (λ (b : Bool). if b then put_in_use (unused_range r) else unused_range r) (lt-ltb r u less)
+pub opening-used : (size u r : ℕ) → r < u → opening_range size u r ≡ put_in_use (unused_range size r)
+opening-used size u r less = ap (λ (b : Bool). if b then put_in_use (unused_range size r) else unused_range size r) (lt-ltb r u less)
 
-pub opening-unused : (u r : ℕ) → u ≤ r → opening_range u r ≡ unused_range r
-opening-unused u r more = ap (λ (b : Bool). if b then put_in_use (unused_range r) else unused_range r) (le-ltb r u more)
+pub opening-unused : (size u r : ℕ) → u ≤ r → opening_range size u r ≡ unused_range size r
+opening-unused size u r more = ap (λ (b : Bool). if b then put_in_use (unused_range size r) else unused_range size r) (le-ltb r u more)
 
-module _ (u : ℕ) where
-  none-used : (from n : ℕ) → u ≤ from → ranges_used (each (opening_range u) from n) ≡ 0
+module _ (size u : ℕ) where
+  none-used : (from n : ℕ) → u ≤ from → ranges_used (each (opening_range size u) from n) ≡ 0
   none-used from zero more = refl
   none-used from (suc n) more =
-      let here : ranges_used (each (opening_range u) from (suc n)) ≡ 0 + ranges_used (each (opening_range u) (from + 1) n) =
-      ap (λ (x : RangeValue). (if x.is_used then 1 else 0) + ranges_used (each (opening_range u) (from + 1) n)) (opening-unused u from more) in
+      let here : ranges_used (each (opening_range size u) from (suc n)) ≡ 0 + ranges_used (each (opening_range size u) (from + 1) n) =
+      ap (λ (x : RangeValue). (if x.is_used then 1 else 0) + ranges_used (each (opening_range size u) (from + 1) n)) (opening-unused size u from more) in
       let others = none-used (from + 1) n (omega arith) in
       omega arith
 
   -- as many are in use as were asked
-  pub all-used : (from n : ℕ) → from ≤ u → u ≤ from + n → ranges_used (each (opening_range u) from n) + from ≡ u
+  pub all-used : (from n : ℕ) → from ≤ u → u ≤ from + n → ranges_used (each (opening_range size u) from n) + from ≡ u
   all-used from zero low high = omega arith
   all-used from (suc n) low high = ⊎_elim
       (λ (less : from < u).
-      let here : ranges_used (each (opening_range u) from (suc n)) ≡ 1 + ranges_used (each (opening_range u) (from + 1) n) =
-      ap (λ (x : RangeValue). (if x.is_used then 1 else 0) + ranges_used (each (opening_range u) (from + 1) n)) (opening-used u from less) in
+      let here : ranges_used (each (opening_range size u) from (suc n)) ≡ 1 + ranges_used (each (opening_range size u) (from + 1) n) =
+      ap (λ (x : RangeValue). (if x.is_used then 1 else 0) + ranges_used (each (opening_range size u) (from + 1) n)) (opening-used size u from less) in
       let others = all-used (from + 1) n (omega arith) (omega arith) in
       omega arith)
       (λ (more : u ≤ from). let none = none-used from (suc n) more in omega arith)
       (cases_lt from u)
 
-  free-in : (q r : ℕ) → r < u → one_if (contains (opening_range u r).free q) + one_if (nat_lt q (range_blocks * r))
-      ≡ one_if (nat_lt q (range_blocks * (r + 1)))
+  free-in : (q r : ℕ) → r < u → one_if (contains (opening_range size u r).free q) + one_if (nat_lt q (size * r))
+      ≡ one_if (nat_lt q (size * (r + 1)))
   free-in q r less =
-      let here : one_if (contains (opening_range u r).free q) ≡ one_if (list_any (λ y. nat_eq y q) (range_numbers r)) =
-      ap (λ (x : RangeValue). one_if (contains x.free q)) (opening-used u r less) ∙ ap one_if (contains-from_list_nat (range_numbers r) q) in
-      let once = listed-once (range_blocks * r) range_blocks q in
-      let next = same-below q (range_blocks * r + range_blocks) (range_blocks * (r + 1)) (omega arith) in
+      let here : one_if (contains (opening_range size u r).free q) ≡ one_if (list_any (λ y. nat_eq y q) (range_numbers size r)) =
+      ap (λ (x : RangeValue). one_if (contains x.free q)) (opening-used size u r less) ∙ ap one_if (contains-from_list_nat (range_numbers size r) q) in
+      let once = listed-once (size * r) size q in
+      let next = same-below q (size * r + size) (size * (r + 1)) (next-range size r) in
       omega arith
 
-  none-in : (q r : ℕ) → u ≤ r → one_if (contains (opening_range u r).free q) ≡ 0
-  none-in q r more = ap (λ (x : RangeValue). one_if (contains x.free q)) (opening-unused u r more) ∙ ap one_if (contains-empty nat_cmp q)
+  none-in : (q r : ℕ) → u ≤ r → one_if (contains (opening_range size u r).free q) ≡ 0
+  none-in q r more = ap (λ (x : RangeValue). one_if (contains x.free q)) (opening-unused size u r more) ∙ ap one_if (contains-empty nat_cmp q)
 
-  none-free : (q from n : ℕ) → u ≤ from → total (λ (x : RangeValue). one_if (contains x.free q)) (each (opening_range u) from n) ≡ 0
+  none-free : (q from n : ℕ) → u ≤ from → total (λ (x : RangeValue). one_if (contains x.free q)) (each (opening_range size u) from n) ≡ 0
   none-free q from zero more = refl
   none-free q from (suc n) more = let here = none-in q from more in let others = none-free q (from + 1) n (omega arith) in omega arith
 
   -- each number below the end of those in use is free once
   pub all-free : (q from n : ℕ) → from ≤ u → u ≤ from + n
-      → total (λ (x : RangeValue). one_if (contains x.free q)) (each (opening_range u) from n) + one_if (nat_lt q (range_blocks * from))
-      ≡ one_if (nat_lt q (range_blocks * u))
-  all-free q from zero low high = let same = same-below q (range_blocks * from) (range_blocks * u) (omega arith) in omega arith
+      → total (λ (x : RangeValue). one_if (contains x.free q)) (each (opening_range size u) from n) + one_if (nat_lt q (size * from))
+      ≡ one_if (nat_lt q (size * u))
+  all-free q from zero low high =
+      let end : from ≡ u = omega (arith, low, high) in
+      let same = same-below q (size * from) (size * u) (ap (λ (k : ℕ). size * k) end) in
+      omega arith
   all-free q from (suc n) low high = ⊎_elim
       (λ (less : from < u).
       let here = free-in q from less in
@@ -103,6 +107,7 @@ module _ (u : ℕ) where
       omega arith)
       (λ (more : u ≤ from).
       let none = none-free q from (suc n) more in
-      let same = same-below q (range_blocks * from) (range_blocks * u) (omega arith) in
+      let end : from ≡ u = omega (arith, low, more) in
+      let same = same-below q (size * from) (size * u) (ap (λ (k : ℕ). size * k) end) in
       omega arith)
       (cases_lt from u)

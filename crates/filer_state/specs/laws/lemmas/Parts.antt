@@ -7,7 +7,7 @@ use Rattle.std.specs.List.{range_with_len}
 use Rattle.std.specs.FinMap.{len}
 use Rattle.std.specs.FinSet as sets
 use Rattle.std.specs.FinSet.{contains}
-use Rattle.nfs_model.specs.Parts.{Hand, one_if, range_blocks}
+use Rattle.nfs_model.specs.Parts.{Hand, one_if}
 use Rattle.depot_rule.specs.Sums.{total}
 use Rattle.nfs_model.specs.volume.Ranges.{RangeValue}
 use Rattle.nfs_model.specs.volume.Stripes.{StripeValue, is_filled, stripe_of}
@@ -34,7 +34,7 @@ used-put [] r x e = refl
 used-put (y ∷ ranges) zero x e = ap (λ (b : Bool). (if b then 1 else 0) + ranges_used ranges) e
 used-put (y ∷ ranges) (suc r) x e = ap (λ (n : ℕ). (if y.is_used then 1 else 0) + n) (used-put ranges r x e)
 
-module _ (p : VolumeContents) (r : ℕ) (x : RangeValue) (on : r < length p.ranges) (fits : RangeFits (ranges_used p.ranges) r x) where
+module _ (p : VolumeContents) (r : ℕ) (x : RangeValue) (on : r < length p.ranges) (fits : RangeFits p.logical.dead.range_blocks (ranges_used p.ranges) r x) where
   -- where what comes into the range leaves hands, and the other way round
   pub range-sound : (hands hands' : List Hand) (made : ℕ) → IsSound p hands made
       → ((n : ℕ) → one_if (contains x.free n) + total (times_in_hand p.number n) hands'
@@ -48,6 +48,8 @@ module _ (p : VolumeContents) (r : ℕ) (x : RangeValue) (on : r < length p.rang
         well_formed = record {
           striped = well.striped;
           largest = well.largest;
+          most_inodes = well.most_inodes;
+          size = well.size;
           logical = well.logical;
           as_many = well.as_many;
           stripes = well.stripes;
@@ -57,10 +59,10 @@ module _ (p : VolumeContents) (r : ℕ) (x : RangeValue) (on : r < length p.rang
           some = (let some = well.some in omega arith);
           ranges = λ i less.
               let long = length-set p.ranges r x in
-              subst (λ (u : ℕ). RangeFits u i (range_at (slice_set p.ranges r x) i)) (sym used) (⊎_elim
-              (λ (e : i ≡ r). subst (λ (k : ℕ). RangeFits (ranges_used p.ranges) k (range_at (slice_set p.ranges r x) k)) (sym e)
-              (subst (RangeFits (ranges_used p.ranges) r) (sym (get_or-set_same p.ranges r x no_range on)) fits))
-              (λ (ne : i ≢ r). subst (RangeFits (ranges_used p.ranges) i) (sym (get_or-set_other p.ranges r i x no_range ne)) (well.ranges i (omega arith)))
+              subst (λ (u : ℕ). RangeFits p.logical.dead.range_blocks u i (range_at (slice_set p.ranges r x) i)) (sym used) (⊎_elim
+              (λ (e : i ≡ r). subst (λ (k : ℕ). RangeFits p.logical.dead.range_blocks (ranges_used p.ranges) k (range_at (slice_set p.ranges r x) k)) (sym e)
+              (subst (RangeFits p.logical.dead.range_blocks (ranges_used p.ranges) r) (sym (get_or-set_same p.ranges r x no_range on)) fits))
+              (λ (ne : i ≢ r). subst (RangeFits p.logical.dead.range_blocks (ranges_used p.ranges) i) (sym (get_or-set_other p.ranges r i x no_range ne)) (well.ranges i (omega arith)))
               (cases_eq i r));
         };
         young = record {
@@ -71,8 +73,8 @@ module _ (p : VolumeContents) (r : ℕ) (x : RangeValue) (on : r < length p.rang
             let once = sound.partition n in
             let put = total-put (λ (y : RangeValue). one_if (contains y.free n)) p.ranges r no_range x on in
             let moved = moves n in
-            let below : one_if (nat_lt n (range_blocks * ranges_used (slice_set p.ranges r x))) ≡ one_if (nat_lt n (range_blocks * ranges_used p.ranges)) =
-            ap (λ (u : ℕ). one_if (nat_lt n (range_blocks * u))) used in
+            let below : one_if (nat_lt n (p.logical.dead.range_blocks * ranges_used (slice_set p.ranges r x))) ≡ one_if (nat_lt n (p.logical.dead.range_blocks * ranges_used p.ranges)) =
+            ap (λ (u : ℕ). one_if (nat_lt n (p.logical.dead.range_blocks * u))) used in
             omega (arith, once, put, moved, below);
       }
 
@@ -114,6 +116,8 @@ module _ (p : VolumeContents) (i : ℕ) (s : StripeValue) (on : i < length p.str
         well_formed = record {
           striped = well.striped;
           largest = well.largest;
+          most_inodes = well.most_inodes;
+          size = well.size;
           logical = well.logical;
           as_many = length-set p.stripes i s ∙ well.as_many;
           stripes = λ k less.

@@ -163,6 +163,8 @@ module _ (p : VolumeContents) (m : Dropping) (well : WellFormed p) (may : LosesN
   well-left = record {
     striped = well.striped;
     largest = well.largest;
+    most_inodes = well.most_inodes;
+    size = well.size;
     logical = record {
       inodes = set-is (inode_dropped m.fileid old) m.directory (directory_left m) (dropped-is old m.fileid well.logical.inodes);
       few =

@@ -37,7 +37,7 @@ module _ (p : VolumeContents) (m : Sizing) (hands : List Hand) (partition : Stan
   once : (n : ℕ) → total (times_in_stripe n) p.stripes ≤ 1
   once n =
       let all = partition n in
-      let most = one-at-most (nat_lt n (1024 * ranges_used p.ranges)) in
+      let most = one-at-most (nat_lt n (p.logical.dead.range_blocks * ranges_used p.ranges)) in
       omega (arith, all, most)
 
   stands : (n : ℕ) → one_if (contains (files_in p.stripes) n) ≡ times_listed n (all_numbers p.stripes)

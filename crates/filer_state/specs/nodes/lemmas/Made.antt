@@ -296,6 +296,8 @@ module _ (p : VolumeContents) (m : Making) (well : WellFormed p) (may : MayBeMad
   well-made = record {
     striped = well.striped;
     largest = well.largest;
+    most_inodes = well.most_inodes;
+    size = well.size;
     logical = record {
       inodes = set-is (inode_created m.made old) m.directory (directory_inode m) (created-is old m.made well.logical.inodes);
       few =

@@ -127,6 +127,8 @@ module _ (p : VolumeContents) (inodes : InodesValue) (directories : DirectoryMap
   well-then = record {
     striped = well.striped;
     largest = well.largest;
+    most_inodes = well.most_inodes;
+    size = well.size;
     logical = record {
       inodes = same.lawful well.logical.inodes;
       few = let count = same.few in let few = well.logical.few in omega (arith, count, few);

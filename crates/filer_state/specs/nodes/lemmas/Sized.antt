@@ -107,9 +107,8 @@ less-from a b h = grind (arith, nat_tests)
 
 largest-blocks : (largest size block : ℕ) → IsLargest largest → size ≤ largest → block_size * block < size → block < most_file_blocks
 unfolding most_file_blocks
-largest-blocks largest size block is most less = ⊎_elim
-    (λ (e : largest ≡ 16777216). omega (arith, e, most, less))
-    (λ (e : largest ≡ 67108864). omega (arith, e, most, less)) is
+largest-blocks largest size block is most less =
+    let whole = is.is in let few = is.most in omega (arith, whole, few, most, less)
 
 module _ (p : VolumeContents) (m : Sizing) (well : WellFormed p) (there : get p.logical.inodes.inodes m.fileid ≡ Some m.inode)
     (old_size filled : ℕ) (verifier : Option (List ℕ)) (is_file : m.inode.kind ≡ RegularFile old_size filled verifier)
@@ -318,6 +317,8 @@ module _ (p : VolumeContents) (m : Sizing) (well : WellFormed p) (there : get p.
   well-sized = record {
     striped = well.striped;
     largest = well.largest;
+    most_inodes = well.most_inodes;
+    size = well.size;
     logical = record {
       inodes = set-is old f next_inode well.logical.inodes;
       few = let same = len-set old f next_inode in let few = well.logical.few in omega (arith, same, few);
@@ -371,11 +372,11 @@ module _ (p : VolumeContents) (m : Sizing) (well : WellFormed p) (there : get p.
     partition = λ n.
         let e = weigh n in
         let o = s.partition n in
-        let most = one-at-most (nat_lt n (1024 * ranges_used p.ranges)) in
+        let most = one-at-most (nat_lt n (p.logical.dead.range_blocks * ranges_used p.ranges)) in
         let left = freed-times f m.size n p.stripes in
         let listed = listed-times n freed (omega (arith, o, most, left)) in
-        let dead = or-counts (contains p.logical.dead n) (contains (from_list {R = nat_cmp} freed) n) (omega (arith, o, most, left, listed)) in
-        let now : one_if (contains after.logical.dead n) ≡ one_if (contains p.logical.dead n) + times_listed n freed =
-        ap one_if (contains-union nat_cmp_total p.logical.dead (from_list freed) n) ∙ dead ∙ ap (λ (k : ℕ). one_if (contains p.logical.dead n) + k) listed in
+        let dead = or-counts (contains p.logical.dead.blocks n) (contains (from_list {R = nat_cmp} freed) n) (omega (arith, o, most, left, listed)) in
+        let now : one_if (contains after.logical.dead.blocks n) ≡ one_if (contains p.logical.dead.blocks n) + times_listed n freed =
+        ap one_if (contains-union nat_cmp_total p.logical.dead.blocks (from_list freed) n) ∙ dead ∙ ap (λ (k : ℕ). one_if (contains p.logical.dead.blocks n) + k) listed in
         omega (arith, e, o, left, now);
   }

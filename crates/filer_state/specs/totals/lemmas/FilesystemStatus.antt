@@ -5,8 +5,7 @@ use Rattle.std.specs.Cmp.{nat_cmp_total}
 use Rattle.std.specs.FinMap.{get, nat_cmp-IsAntisymmetric}
 use Rattle.nfs_model.specs.Types.{Success, FsstatDone}
 use Rattle.nfs_model.specs.Tree.{Affinity}
-use Rattle.nfs_model.specs.Server.{Node, VolumeState, block_size, most_inodes}
-use Rattle.nfs_model.specs.Parts.{range_blocks}
+use Rattle.nfs_model.specs.Server.{Node, VolumeState, block_size}
 use Rattle.nfs_model.specs.Shown.{shown}
 use Rattle.nfs_model.specs.Serial.Fsstat.{space}
 use Rattle.nfs_model.specs.Locate.{on_node, Tells}
@@ -37,8 +36,8 @@ module _ (p : VolumeContents) (well : WellFormed p) where
       let used = sym (used-is p well) in
       let inodes = sym (len-map_values (node_of p.stripes p.logical.directories) nat_cmp_total nat_cmp-IsAntisymmetric p.logical.inodes.inodes) in
       λ j. record (space_held (volume_lens.of p)) {
-        free_bytes = block_size * (range_blocks * ranges_used p.ranges - used j);
-        free_inodes = most_inodes - inodes j;
+        free_bytes = block_size * (p.logical.dead.range_blocks * ranges_used p.ranges - used j);
+        free_inodes = p.logical.most_inodes - inodes j;
       }
 
   by_inode : (fileid : ℕ) (o : Option Inode) → get p.logical.inodes.inodes fileid ≡ o

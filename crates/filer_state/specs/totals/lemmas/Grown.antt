@@ -1,11 +1,12 @@
 -- A volume in which more ranges are in use: it is sound, calls see a greater total, and the new numbers are free.
 use Rattle.std.proofs.Common.{◌≡◌, ℕ, ◌+◌, ◌-◌, ◌*◌, ◌≤◌, ◌||◌, Bool, true, false, List, [], length, refl, sym, ap, ◌∙◌, subst, arith, nat_lt}
+use Rattle.std.proofs.Math.Nat.{mul-add, mul-le-mul_left}
 use Rattle.std.specs.List.{range_with_len}
 use Rattle.std.specs.Ordering.{nat_cmp}
 use Rattle.std.specs.Cmp.{nat_cmp_total}
 use Rattle.std.specs.FinMap.{nat_cmp-IsAntisymmetric}
 use Rattle.std.specs.FinSet.{FinSet, contains, union, from_list, contains-union, contains-from_list_nat, contains-empty, same_set}
-use Rattle.nfs_model.specs.Parts.{Hand, one_if, range_blocks, most_ranges}
+use Rattle.nfs_model.specs.Parts.{Hand, one_if, most_ranges}
 use Rattle.nfs_model.specs.Moves.{grown_by}
 use Rattle.depot_rule.specs.Sums.{total}
 use Rattle.filer_state.specs.state.Contents.{VolumeContents}
@@ -51,14 +52,17 @@ module _ (p : VolumeContents) (hands : List Hand) (made : ℕ) (sound : IsSound 
   abbrev used : ℕ
   used = ranges_used p.ranges
 
+  abbrev blocks : ℕ
+  blocks = p.logical.dead.range_blocks
+
   abbrev pub after : VolumeContents
   after = record p { ranges = first_in_use (used + more) p.ranges }
 
-  before-fit : AllFit used 0 p.ranges
-  before-fit = all-here used p.ranges (λ i less. sound.well_formed.ranges i less)
+  before-fit : AllFit blocks used 0 p.ranges
+  before-fit = all-here blocks used p.ranges (λ i less. sound.well_formed.ranges i less)
 
-  after-fit : AllFit (used + more) 0 after.ranges
-  after-fit = first-fit used (used + more) 0 (used + more) p.ranges (omega arith) (omega arith) before-fit
+  after-fit : AllFit blocks (used + more) 0 after.ranges
+  after-fit = first-fit blocks used (used + more) 0 (used + more) p.ranges (omega arith) (omega arith) before-fit
 
   long : length after.ranges ≡ most_ranges
   long = first-length (used + more) p.ranges ∙ sound.well_formed.sixteen
@@ -66,14 +70,14 @@ module _ (p : VolumeContents) (hands : List Hand) (made : ℕ) (sound : IsSound 
   pub now-used : ranges_used after.ranges ≡ used + more
   now-used =
       let l = long in
-      let count = used-count (used + more) 0 after.ranges (omega arith) (omega arith) after-fit in
+      let count = used-count blocks (used + more) 0 after.ranges (omega arith) (omega arith) after-fit in
       omega (arith, count)
 
-  now-free : (q : ℕ) → times_free q after.ranges + one_if (nat_lt q (range_blocks * used))
-      ≡ times_free q p.ranges + one_if (nat_lt q (range_blocks * (used + more)))
+  now-free : (q : ℕ) → times_free q after.ranges + one_if (nat_lt q (blocks * used))
+      ≡ times_free q p.ranges + one_if (nat_lt q (blocks * (used + more)))
   now-free q =
       let l = sound.well_formed.sixteen in
-      more-free used (used + more) 0 (used + more) q p.ranges (omega arith) (omega arith) (omega arith) (omega arith) before-fit
+      more-free blocks used (used + more) 0 (used + more) q p.ranges (omega arith) (omega arith) (omega arith) (omega arith) before-fit
 
   -- it is sound, with one more entry, and hands that weigh as much
   pub sound-after : (hands' : List Hand) → ((n : ℕ) → total (times_in_hand p.number n) hands' ≡ total (times_in_hand p.number n) hands)
@@ -84,6 +88,8 @@ module _ (p : VolumeContents) (hands : List Hand) (made : ℕ) (sound : IsSound 
         well_formed = record {
           striped = well.striped;
           largest = well.largest;
+          most_inodes = well.most_inodes;
+          size = well.size;
           logical = well.logical;
           as_many = well.as_many;
           stripes = well.stripes;
@@ -91,8 +97,8 @@ module _ (p : VolumeContents) (hands : List Hand) (made : ℕ) (sound : IsSound 
           filled = well.filled;
           sixteen = long;
           some = (let some = well.some in let count = now-used in omega (arith, some, count));
-          ranges = λ i less. subst (λ (u : ℕ). RangeFits u i (range_at after.ranges i)) (sym now-used)
-              (each-here (used + more) after.ranges after-fit i less);
+          ranges = λ i less. subst (λ (u : ℕ). RangeFits blocks u i (range_at after.ranges i)) (sym now-used)
+              (each-here blocks (used + more) after.ranges after-fit i less);
         };
         young = record {
           fileids = (let y = sound.young.fileids in omega (arith, y));
@@ -102,16 +108,16 @@ module _ (p : VolumeContents) (hands : List Hand) (made : ℕ) (sound : IsSound 
             let once = sound.partition n in
             let hand = same n in
             let free = now-free n in
-            let below = same-below n (range_blocks * ranges_used after.ranges) (range_blocks * (used + more)) (ap (λ (u : ℕ). range_blocks * u) now-used) in
+            let below = same-below n (blocks * ranges_used after.ranges) (blocks * (used + more)) (ap (λ (u : ℕ). blocks * u) now-used) in
             omega (arith, once, hand, free, below);
       }
 
   -- calls see a greater total
-  pub volume-after : volume_of after ≡ record (volume_of p) { total = (volume_of p).total + 1024 * more }
+  pub volume-after : volume_of after ≡ record (volume_of p) { total = (volume_of p).total + blocks * more }
   volume-after = λ j. record (volume_of p) { total = count j }
     where
-      count : range_blocks * ranges_used after.ranges ≡ range_blocks * used + 1024 * more
-      count = let now = now-used in omega (arith, now)
+      count : blocks * ranges_used after.ranges ≡ blocks * used + blocks * more
+      count = ap (λ (u : ℕ). blocks * u) now-used ∙ mul-add blocks used more
 
   -- the new numbers are free
   pub parts-after : parts_of after ≡ record (parts_of p) { free = union (parts_of p).free (grown_by (stored p) (stored after)) }
@@ -120,17 +126,18 @@ module _ (p : VolumeContents) (hands : List Hand) (made : ℕ) (sound : IsSound 
       same : free_in after.ranges ≡ union (free_in p.ranges) (grown_by (stored p) (stored after))
       same = same_set nat_cmp_total nat_cmp-IsAntisymmetric (free_in after.ranges) (union (free_in p.ranges) (grown_by (stored p) (stored after)))
           (λ q.
-          let first : ℕ = range_blocks * used in
-          let count : ℕ = range_blocks * ranges_used after.ranges - first in
+          let first : ℕ = blocks * used in
+          let count : ℕ = blocks * ranges_used after.ranges - first in
           let once = sound.partition q in
           let once' = (sound-after hands (λ n. refl)).partition q in
-          let most = at-most-one (nat_lt q (range_blocks * used)) in
-          let most' = at-most-one (nat_lt q (range_blocks * ranges_used after.ranges)) in
+          let most = at-most-one (nat_lt q (blocks * used)) in
+          let most' = at-most-one (nat_lt q (blocks * ranges_used after.ranges)) in
           let old = free-times q p.ranges (omega (arith, once, most)) in
           let new = free-times q after.ranges (omega (arith, once', most')) in
           let free = now-free q in
-          let below = same-below q (range_blocks * ranges_used after.ranges) (range_blocks * (used + more)) (ap (λ (u : ℕ). range_blocks * u) now-used) in
-          let end = same-below q (first + count) (range_blocks * ranges_used after.ranges) (let now = now-used in omega (arith, now)) in
+          let below = same-below q (blocks * ranges_used after.ranges) (blocks * (used + more)) (ap (λ (u : ℕ). blocks * u) now-used) in
+          let larger = mul-le-mul_left blocks (let now = now-used in let l : used ≤ ranges_used after.ranges = omega (arith, now) in l) in
+          let end = same-below q (first + count) (blocks * ranges_used after.ranges) (omega (arith, larger)) in
           let listed = listed-once first count q in
           let numbers = contains-from_list_nat (range_with_len first count) q in
           let here = ap one_if numbers in

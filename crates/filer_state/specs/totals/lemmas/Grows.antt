@@ -3,13 +3,14 @@ use Rattle.std.proofs.Common.{◌≡◌, ◌≢◌, ℕ, zero, suc, ◌+◌, ◌
 use Rattle.std.proofs.Common.{refl, sym, ap, ◌∙◌, subst, arith, nat_lt, ⊎_elim}
 use Rattle.std.proofs.lemmas.Bool.{cases_lt, lt-ltb, le-ltb}
 use Rattle.std.specs.Prelude.{slice_get, slice_set, slice_index_or, if◌then◌else◌}
+use Rattle.std.proofs.Math.Nat.{mul-add, mul-le-mul_left, mul-lt-mul_of_pos_left}
 use Rattle.std.specs.List.{range_with_len}
 use Rattle.std.specs.FinSet.{union, from_list}
 use Rattle.nfs_model.specs.Types.{Status, Invalid, TooBig, NoSpace, GrowDone, Failed, Ask, Grow, Credential, Moment, Success}
 use Rattle.nfs_model.specs.Tree.{Layout, Aggregate, aggregate_of}
 use Rattle.nfs_model.specs.Server.{VolumeState, Server}
 use Rattle.nfs_model.specs.Serial.Grow.{Grown, grown, grow_volume, grow}
-use Rattle.nfs_model.specs.Parts.{Hand, range_blocks, most_ranges}
+use Rattle.nfs_model.specs.Parts.{Hand, most_ranges}
 use Rattle.nfs_model.specs.Work.{Replied}
 use Rattle.depot_rule.specs.Sums.{total}
 use Rattle.filer_state.specs.state.Contents.{VolumeContents, FilerContents, volume_at}
@@ -18,6 +19,7 @@ use Rattle.filer_state.specs.state.Partition.{parts_of, all_parts, stored, times
 use Rattle.filer_state.specs.state.Sound.{IsSound, AreSound}
 use Rattle.filer_state.specs.state.Lenses.{AggregateSet, volume_lens, aggregate_lens}
 use Rattle.filer_state.specs.state.Running.{task_under}
+use Rattle.filer_state.specs.laws.lemmas.Sizes.{size-some}
 use Rattle.filer_state.specs.laws.lemmas.Steps.{get-some, get-set, sound-later}
 use Rattle.filer_state.specs.laws.lemmas.Each.{get-there}
 use Rattle.filer_state.specs.totals.Running.{WorksOnAll, RunsOnAll}
@@ -30,22 +32,22 @@ use Rattle.filer_state.specs.totals.lemmas.Grown.{union-none, after, sound-after
 -- what the serial server comes to, by the check that fails
 abbrev serial_checked : Server → ℕ → VolumeState → ℕ → Option Status → Grown
 serial_checked server v volume more (Some status) = record { answer = Failed status 0; server = server }
-serial_checked server v volume more None = record { answer = GrowDone (volume.total + 1024 * more); server = grown server v volume more }
+serial_checked server v volume more None = record { answer = GrowDone (volume.total + volume.range_blocks * more); server = grown server v volume more }
 
 abbrev first_failed : Bool → Bool → Bool → Option Status
 first_failed none big short = if none then Some Invalid else if big then Some TooBig else if short then Some NoSpace else None
 
 serial-by : (server : Server) (v : ℕ) (volume : VolumeState) (more : ℕ)
     → grow_volume server v (Some volume) more ≡ serial_checked server v volume more
-    (first_failed (more == 0) (nat_lt 16384 (volume.total + 1024 * more)) (nat_lt (slice_index_or server.spare volume.aggregate 0) more))
+    (first_failed (more == 0) (nat_lt (volume.range_blocks * most_ranges) (volume.total + volume.range_blocks * more)) (nat_lt (slice_index_or server.spare volume.aggregate 0) more))
 serial-by server v volume more =
-    by (more == 0) (nat_lt 16384 (volume.total + 1024 * more)) (nat_lt (slice_index_or server.spare volume.aggregate 0) more)
+    by (more == 0) (nat_lt (volume.range_blocks * most_ranges) (volume.total + volume.range_blocks * more)) (nat_lt (slice_index_or server.spare volume.aggregate 0) more)
   where
     by : (none big short : Bool)
         → (if none then record { answer = Failed Invalid 0; server = server }
         else if big then record { answer = Failed TooBig 0; server = server }
         else if short then record { answer = Failed NoSpace 0; server = server }
-        else record { answer = GrowDone (volume.total + 1024 * more); server = grown server v volume more })
+        else record { answer = GrowDone (volume.total + volume.range_blocks * more); server = grown server v volume more })
         ≡ serial_checked server v volume more (first_failed none big short)
     by true big short = refl
     by false true short = refl
@@ -53,10 +55,14 @@ serial-by server v volume more =
     by false false false = refl
 
 -- a total of blocks is too great where the ranges are too many
-too-big : (used more : ℕ) → nat_lt 16384 (range_blocks * used + 1024 * more) ≡ nat_lt most_ranges (used + more)
-too-big used more = ⊎_elim
-    (λ (less : most_ranges < used + more). lt-ltb 16384 (range_blocks * used + 1024 * more) (omega arith) ∙ sym (lt-ltb most_ranges (used + more) less))
-    (λ (few : used + more ≤ most_ranges). le-ltb 16384 (range_blocks * used + 1024 * more) (omega arith) ∙ sym (le-ltb most_ranges (used + more) few))
+too-big : (size used more : ℕ) → 0 < size → nat_lt (size * most_ranges) (size * used + size * more) ≡ nat_lt most_ranges (used + more)
+too-big size used more some =
+    ap (λ (n : ℕ). nat_lt (size * most_ranges) n) (sym (mul-add size used more))
+    ∙ ⊎_elim
+    (λ (less : most_ranges < used + more).
+    lt-ltb (size * most_ranges) (size * (used + more)) (mul-lt-mul_of_pos_left less some) ∙ sym (lt-ltb most_ranges (used + more) less))
+    (λ (few : used + more ≤ most_ranges).
+    le-ltb (size * most_ranges) (size * (used + more)) (mul-le-mul_left size few) ∙ sym (le-ltb most_ranges (used + more) few))
     (cases_lt most_ranges (used + more))
 
 -- where no check fails, there is room
@@ -101,6 +107,12 @@ module _ (a v more : ℕ) (credential : Credential) (moment : Moment) (c : Filer
   abbrev used : ℕ
   used = ranges_used p.ranges
 
+  abbrev blocks : ℕ
+  blocks = p.logical.dead.range_blocks
+
+  blocks-some : 0 < blocks
+  blocks-some = size-some blocks (sound v p there).1.well_formed.size
+
   abbrev spare : ℕ
   spare = slice_index_or c.spare a 0
 
@@ -115,7 +127,7 @@ module _ (a v more : ℕ) (credential : Credential) (moment : Moment) (c : Filer
       ap (λ o. grow_volume (server_of c) v o more) server-there
       ∙ serial-by (server_of c) v (volume_of p) more
       ∙ (λ j. serial_checked (server_of c) v (volume_of p) more
-      (first_failed (more == 0) (too-big used more j) (nat_lt (slice_index_or c.spare (on j) 0) more)))
+      (first_failed (more == 0) (too-big blocks used more blocks-some j) (nat_lt (slice_index_or c.spare (on j) 0) more)))
 
   -- with new contents, the run is right and all is sound
   abbrev IsDone : AggregateAnswer → Type 0
@@ -178,7 +190,7 @@ module _ (a v more : ℕ) (credential : Credential) (moment : Moment) (c : Filer
     abbrev later : FilerContents
     later = record { spare = slice_set c.spare a (spare - more); volumes = slice_set c.volumes v next }
 
-    volumes-later : (server_of later).volumes ≡ slice_set (server_of c).volumes v (record (volume_of p) { total = (volume_of p).total + 1024 * more })
+    volumes-later : (server_of later).volumes ≡ slice_set (server_of c).volumes v (record (volume_of p) { total = (volume_of p).total + blocks * more })
     volumes-later = map-set volume_of c.volumes v next
         ∙ ap (λ (x : VolumeState). slice_set (server_of c).volumes v x) (volume-after p hands made own.1 more fits)
 
@@ -208,9 +220,9 @@ module _ (a v more : ℕ) (credential : Credential) (moment : Moment) (c : Filer
     done : IsDone (grow_checked v more (volume_lens.of p) None held)
     done =
         let is = serial-is ∙ ap (serial_checked (server_of c) v (volume_of p) more) e in
-        let count : range_blocks * (used + more) ≡ (volume_of p).total + 1024 * more = omega arith in
+        let count : blocks * (used + more) ≡ (volume_of p).total + blocks * more = mul-add blocks used more in
         subst (λ (x : FilerContents). WorksOnAll (task_under (Aggregate a) (Ask (Grow v more) credential) moment) c
-        (Replied (Success (GrowDone (range_blocks * (used + more))))) x × AreSound x hands' (made + 1)) (sym put-later) (
+        (Replied (Success (GrowDone (blocks * (used + more))))) x × AreSound x hands' (made + 1)) (sym put-later) (
           (
             (
               refl,

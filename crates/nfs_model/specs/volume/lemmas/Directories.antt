@@ -4,7 +4,7 @@ use Rattle.std.proofs.Common.{not, nat_eq, List, [], ◌∷◌, ◌++◌, length
 use Rattle.std.specs.Cmp.Lexicographic.{pointwise, same_text, nat_list_eq_equiv}
 use Rattle.nfs_model.specs.Types.{Listed}
 use Rattle.nfs_model.specs.Names.{same_name, find_name, without_name}
-use Rattle.nfs_model.specs.volume.Directories.{DirectoryValue, found, added, removed, IsOnlyOne, NamesDiffer, IsDirectory}
+use Rattle.nfs_model.specs.volume.Directories.{DirectoryValue, found, removed, IsOnlyOne, NamesDiffer, IsDirectory}
 
 -- ---- names that are the same
 

@@ -10,6 +10,6 @@ pub extended_kind-requires : goal.extended_kind-requires
 extended_kind-requires c =
     let here : get c.args.held.now.own.inodes.inodes c.args.fileid.0 ≡ Some (inode_value c.in-Some.inode) =
     sym (ap (λ (l : LogicalValue). inode_of l.inodes c.args.fileid.0) c.get.ensures) ∙ sym c.get-2.ensures ∙ ap (option_map inode_value) c.in-Some.is in
-    let room : filled_blocks (kind_value c.in-Some.inode.kind) < 65536 = c.requires.room.filled (inode_value c.in-Some.inode) here in
+    let room : filled_blocks (kind_value c.in-Some.inode.kind) < 2147483648 = c.requires.room.filled (inode_value c.in-Some.inode) here in
     let few = c.requires.few in
     omega (arith, room, few)

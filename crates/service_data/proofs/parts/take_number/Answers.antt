@@ -10,7 +10,7 @@ unreachable-requires c =
     none-for-holes (volume_before c.args.held.now)
     (sym (ap (λ (l : LogicalValue). l.stock) c.get_mut.ensures.value) ∙ c.in_default.ensures.empty.0 refl)
     c.in_default-take_free.ensures.none
-    (sym (ap (λ (l : LogicalValue). l.dead) (c.get_mut-2.ensures.value) ∙ ap (λ (l : LogicalValue). l.dead) c.get_mut.ensures.value)
+    (sym (ap (λ (l : LogicalValue). l.dead.blocks) (c.get_mut-2.ensures.value) ∙ ap (λ (l : LogicalValue). l.dead.blocks) c.get_mut.ensures.value)
     ∙ c.in-None.ensures.none.0) c.requires
 
 pub returns-clause-leaves : goal.returns-clause-leaves
@@ -20,5 +20,6 @@ returns-clause-leaves c =
     leaves-dead c.args.held.now (logical_value c.get_mut-2.result.now) c.take_free.new.held c.in-Some-take.number.0 c.take-2.new.self none
     c.in_default-take_free.ensures.kept
     (sym (ap (λ (l : LogicalValue). l.stock) c.get_mut.ensures.value) ∙ c.in_default.ensures.empty.0 refl)
-    c.in_default-take_free.ensures.none (lowest-there c.get_mut-2.result.now.dead c.in-Some-take.number.0 c.in-Some-take.ensures.lowest)
+    c.in_default-take_free.ensures.none (lowest-there (logical_value c.get_mut-2.result.now).dead.range_blocks (logical_value c.get_mut-2.result.now).dead.blocks
+    c.in-Some-take.number.0 c.in-Some-take.ensures.lowest)
     c.in-Some-take.ensures.left

@@ -1,9 +1,8 @@
 use Rattle.std.proofs.Common.{arith, rules, refl, sym, ap, subst, ◌≡◌, ℕ, length, ◌-◌, IsSome}
 use Rattle.std.specs.FinMap.{get}
 use Rattle.nfs_model.specs.volume.Logical.{LogicalValue}
-use Rattle.nfs_model.specs.volume.Stripes.{StripeValue, numbers_freed}
-use Rattle.service_names.specs.Changing.{AreNumbers}
-use Rattle.service_names.proofs.Sized.{AreSizedFrom, none-sized, place-sized, place-was, all-sized, card-of-place, numbers-of-place}
+use Rattle.nfs_model.specs.volume.Stripes.{StripeValue}
+use Rattle.service_names.proofs.Sized.{AreSizedFrom, none-sized, place-sized, place-was, all-sized, size-stays, numbers-then, card-of-place, numbers-of-place}
 use Rattle.service_names.proofs.cutting.size_stripes.Goals as goal
 
 pub loop-left-init : goal.loop-left-init
@@ -34,7 +33,9 @@ size_place-rest-requires-clause-numbers c =
     let below = c.loop-left.invariant.0 in
     let same = place-was c.args.fileid.0 c.args.size c.args.held.now.own.stripes c.args.held.now.stripes.at c.args.held.now.own c.args.filled
     c.loop-left.left c.loop-left.held.stripes.at c.loop-left.held.own c.loop-left.rest _ _ some below (omega arith) refl c.loop-left.invariant.1 in
-    subst (λ (s : StripeValue). AreNumbers (numbers_freed c.args.fileid.0 c.args.size s)) (sym same)
+    let kept = size-stays c.args.fileid.0 c.args.size c.args.held.now.own.stripes c.args.held.now.stripes.at c.args.held.now.own c.args.filled
+    c.loop-left.left c.loop-left.held.stripes.at c.loop-left.held.own c.loop-left.rest below c.loop-left.invariant.1 in
+    numbers-then _ _ c.args.fileid.0 c.args.size _ _ kept same
     (numbers-of-place c.args.held.now c.args.fileid.0 c.args.size (c.loop-left.left - 1) c.requires (omega arith))
 
 pub loop-left-preserved : goal.loop-left-preserved

@@ -1,4 +1,4 @@
-use Rattle.std.proofs.Common.{◌≡◌, ◌+◌, ◌∙◌, ℕ, true, ap, sym, subst}
+use Rattle.std.proofs.Common.{◌≡◌, ◌+◌, ◌∙◌, ℕ, true, ap, sym, subst, arith}
 use Rattle.parcels.specs.Filled.{is_filled}
 use Rattle.std.specs.Prelude.{is_some, slice_get}
 use Rattle.nfs_model.specs.volume.Inodes.{inode_of}
@@ -7,6 +7,12 @@ use Rattle.service_names.specs.Cards.{InFirst, IsDropped}
 use Rattle.service_names.specs.Making.{node_unmade}
 use Rattle.service_names.proofs.Unmade.{was-last, was-made, all-back, places-alike, all-made}
 use Rattle.service_names.proofs.making.make_node.Goals as goal
+
+pub create_inode-requires-clause-room : goal.create_inode-requires-clause-room
+create_inode-requires-clause-room c =
+    let room = c.requires.may.room in
+    let most = c.requires.may.most in
+    omega (arith, room, most)
 
 pub unmake-requires-clause-last : goal.unmake-requires-clause-last
 unmake-requires-clause-last c =

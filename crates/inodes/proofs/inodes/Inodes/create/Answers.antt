@@ -1,7 +1,7 @@
 use Rattle.std.proofs.Common.{◌<◌, ◌∙◌, sym, subst, arith}
 use Rattle.nfs_model.specs.volume.lemmas.Inodes.{created-is}
 use Rattle.std.specs.FinMap.{len}
-use Rattle.nfs_model.specs.Server.{most_inodes}
+use Rattle.nfs_model.specs.volume.Inodes.{inodes_of_a_volume}
 use Rattle.nfs_model.specs.volume.Inodes.{InodesValue}
 use Rattle.inodes.specs.Inode.{inode_value, inodes_value}
 use Rattle.inodes.proofs.Changes.{kept, created, none-next}
@@ -21,7 +21,7 @@ invariant_of-self-2 c =
     (c.from.ensures ∙ c.filled.ensures) c.in_ok-insert.ensures.ok in (
       kept _ _ is (created-is old (inode_value c.args.inode) c.self.invariant.0),
       kept-few _ _ is (created-few old (inode_value c.args.inode) c.self.invariant.0 c.self.invariant.1
-          (subst (λ (v : InodesValue). len v.inodes < most_inodes) (sym c.self.view_is) c.requires.room)
+          (subst (λ (v : InodesValue). len v.inodes < inodes_of_a_volume) (sym c.self.view_is) c.requires.room)
           (subst (λ n. n < 4294967296) c.filled.ensures c.filled.type_inv)),
     )
 
@@ -32,7 +32,7 @@ returns-clause-ok c =
     (c.from.ensures ∙ c.filled.ensures) c.in_ok-insert.ensures.ok)
 
 pub insert-requires-clause-room : goal.insert-requires-clause-room
-insert-requires-clause-room c = subst (λ (v : InodesValue). len v.inodes < most_inodes) (sym c.self.view_is) c.requires.room
+insert-requires-clause-room c = subst (λ (v : InodesValue). len v.inodes < inodes_of_a_volume) (sym c.self.view_is) c.requires.room
 
 pub insert-requires-clause-absent : goal.insert-requires-clause-absent
 insert-requires-clause-absent c = none-next c.self.inside.next c.self.inside.used c.self.inside.by_fileid c.self.invariant.0

@@ -1,7 +1,7 @@
 use Rattle.std.proofs.Common.{◌≡◌, ◌<◌, ◌+◌, sym, ap, subst, ◌∙◌, None, arith}
 use Rattle.std.specs.Ordering.{nat_cmp}
 use Rattle.std.specs.FinMap.{FinMap, get, insert, len}
-use Rattle.nfs_model.specs.Server.{most_inodes}
+use Rattle.nfs_model.specs.volume.Inodes.{inodes_of_a_volume}
 use Rattle.nfs_model.specs.volume.Inodes as values
 use Rattle.chunk_maps.specs.Chunks.{values_of}
 use Rattle.inodes.specs.Inode.{inode_value}
@@ -10,8 +10,8 @@ use Rattle.inodes.proofs.table.Table.insert.Goals as goal
 
 pub overflow_add-self : goal.overflow_add-self
 overflow_add-self c =
-    let few : len (values_of c.self.inside.chunks.entries) < most_inodes =
-    subst (λ (m : FinMap nat_cmp values.Inode). len m < most_inodes) (sym c.self.view_is) c.requires.room in
+    let few : len (values_of c.self.inside.chunks.entries) < inodes_of_a_volume =
+    subst (λ (m : FinMap nat_cmp values.Inode). len m < inodes_of_a_volume) (sym c.self.view_is) c.requires.room in
     omega (arith, few, c.self.invariant)
 
 pub invariant_of-self : goal.invariant_of-self

@@ -41,7 +41,8 @@ returns-in-Deliver-clause-does c =
     let asks = subst (λ (k : InnerCall). AsksForInner (inner_of k) hand L a (logical_parcels L a old)) c.in-Deliver.is c.requires.asks in
     subst (λ (k : InnerCall). InnerHasRun (inner_of k) hand L a (logical_parcels L a old) outcome (logical_parcels L a new)) (sym c.in-Deliver.is)
     (deliver-runs L c.args.arg2.now.lawful c.in-Deliver.volume.0 a asks.0 c.requires.node hand asks.1 old new asks.2 outcome
-    c.deliver_from.ensures.unless (c.deliver_from.ensures.runs c.in-Deliver.volume.0 asks.1))
+    c.deliver_from.ensures.unless (c.deliver_from.ensures.runs c.in-Deliver.volume.0
+    (deliver-asks L c.args.arg2.now.lawful c.in-Deliver.volume.0 a asks.0 c.requires.node hand asks.1 old asks.2).0))
 
 pub returns-in-Cull-clause-exact : goal.returns-in-Cull-clause-exact
 returns-in-Cull-clause-exact c =

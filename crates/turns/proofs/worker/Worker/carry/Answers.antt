@@ -11,7 +11,7 @@ use Rattle.turns.proofs.worker.Worker.carry.Goals as goal
 pub carry-requires-clause-may : goal.carry-requires-clause-may
 carry-requires-clause-may c =
     subst (λ (h : Hand). MayCarry (layout_in c.args.filer.now) (view c.args.self.now.seat) (inner_of c.args.call) h) (sym c.replace-held.ensures.value)
-    (record { fits = c.requires.fits; own = c.args.self.now.in_hand })
+    (record { fits = c.requires.fits; opened = (_, c.requires.inside.opened); own = c.args.self.now.in_hand })
 
 pub invariant_of-self : goal.invariant_of-self
 invariant_of-self c =
@@ -38,7 +38,8 @@ returns-clause-inside c =
       opened = c.carry.ensures.ready.opened;
       pass = c.requires.inside.pass;
       layout = c.requires.inside.layout;
-      hand = hand-inside L v w (inner_of c.args.call) c.args.self.now.hand
+      hand = hand-inside L v w (inner_of c.args.call) c.args.self.now.hand c.args.filer.now.depot.layout.lawful _ c.requires.inside.seat.1.0
+          c.requires.inside.opened
           c.batches_are_of_one_range.ensures.fetched c.carry.result c.answer-hand.result.0 c.answer-hand.result.1 did
           c.answer-hand.ensures c.requires.fits.node c.requires.inside.hand;
       kept = c.requires.inside.kept;

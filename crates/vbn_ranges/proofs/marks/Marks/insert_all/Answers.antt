@@ -1,5 +1,4 @@
-use Rattle.std.proofs.Common.{◌≡◌, ◌∙◌, ◌/◌, ◌∷◌, [], ap, sym, ℕ, List, take, get_or, add-one}
-use Rattle.nfs_model.specs.Parts.{range_blocks}
+use Rattle.std.proofs.Common.{◌≡◌, ◌∙◌, ◌/◌, ◌∷◌, [], ap, sym, subst, ℕ, List, take, get_or, add-one}
 use Rattle.vbn_ranges.specs.Batch.{numbers}
 use Rattle.vbn_ranges.specs.Marks.{MarksValue, marked}
 use Rattle.vbn_ranges.proofs.Each.{all-at, numbers-more}
@@ -11,8 +10,10 @@ loop-block-init c = marked-none c.args.self.now
 
 pub insert-requires : goal.insert-requires
 insert-requires c =
-    all-at (λ b. b / range_blocks ≡ c.args.self.now.range) c.args.blocks.now c.loop-block.block-index _ c.requires c.loop-block-test.true
-    ∙ sym (ap (λ (m : MarksValue). m.range) c.loop-block.invariant)
+    subst (λ (m : MarksValue). (get_or c.args.blocks.now c.loop-block.block-index (record { 0 = 0 })).0 / m.range_blocks ≡ m.range)
+    (sym c.loop-block.invariant)
+    (all-at (λ b. b / c.args.self.now.range_blocks ≡ c.args.self.now.range) c.args.blocks.now c.loop-block.block-index _ c.requires
+    c.loop-block-test.true)
 
 pub loop-block-preserved : goal.loop-block-preserved
 loop-block-preserved c =

@@ -7,7 +7,7 @@ use Rattle.vbn_ranges.proofs.stock.Stock.put.Goals as goal
 pub invariant_of-self : goal.invariant_of-self
 invariant_of-self c =
     put-apart (is_ok c.extend_from_slice.result) c.self.inside.blocks.items c.as_slice.result.now c.extend_from_slice.new.self.items c.args.batch.now
-    c.extend_from_slice.ensures.items c.self.invariant c.as_slice.ensures.value c.as_slice.ensures.batch
+    c.extend_from_slice.ensures.items c.self.invariant c.as_slice.ensures.value c.as_slice.ensures.carried
     (subst (λ s. AllByRecursion (λ b. contains s b ≡ false) c.args.batch.now) (sym c.self.view_is) c.requires)
 
 pub returns-clause-ok : goal.returns-clause-ok

@@ -1,0 +1,161 @@
+//! How large the volumes of `filer export` are.
+
+use filer_commands::{Command, Machine, ProgramFault, command, command_told};
+use server::VolumePlan;
+use std::io;
+use std::process::Abort;
+
+/// Words behind `filer export --listen 127.0.0.1:0` that make no command.
+const REFUSED: [[&str; 2]; 13] = [
+    ["--size", "4194303"],
+    ["--size", "1099511627777"],
+    ["--size", "2T"],
+    ["--size", "40g"],
+    ["--size", "G"],
+    ["--size", "1.5G"],
+    ["--size", "-4M"],
+    ["--size", "16777216T"],
+    ["--file-size", "16777215"],
+    ["--file-size", "1025G"],
+    ["--inodes", "65535"],
+    ["--inodes", "67108865"],
+    ["--ranges", "0"],
+];
+
+/// What volumes have by the words behind `filer export --listen 127.0.0.1:0`: ranges, blocks of
+/// each, mebibytes of the largest file, inodes and spare ranges.
+const LAWFUL: [([&str; 2], [u32; 5]); 18] = [
+    (["--size", "4194304"], [1, 1_024, 16, 65_536, 0]),
+    (["--size", "4M"], [1, 1_024, 16, 65_536, 0]),
+    (["--size", "8191K"], [1, 1_024, 16, 65_536, 0]),
+    (["--size", "64M"], [16, 1_024, 64, 65_536, 0]),
+    (["--size", "67112960"], [8, 2_048, 64, 65_536, 0]),
+    (["--size", "100M"], [12, 2_048, 96, 65_536, 0]),
+    (["--size", "1G"], [16, 16_384, 1_024, 65_536, 0]),
+    (["--size", "40G"], [10, 1_048_576, 40_960, 2_621_440, 0]),
+    (
+        ["--size", "1099511627775"],
+        [15, 16_777_216, 983_040, 62_914_560, 0],
+    ),
+    (["--size", "1T"], [16, 16_777_216, 1_048_576, 67_108_864, 0]),
+    (["--file-size", "16777216"], [16, 16_384, 16, 65_536, 0]),
+    (["--file-size", "20971519"], [16, 16_384, 19, 65_536, 0]),
+    (["--file-size", "1T"], [16, 16_384, 1_048_576, 65_536, 0]),
+    (["--inodes", "65536"], [16, 16_384, 1_024, 65_536, 0]),
+    (["--inodes", "67108864"], [16, 16_384, 1_024, 67_108_864, 0]),
+    (["--ranges", "1"], [1, 1_024, 64, 65_536, 128]),
+    (["--ranges", "16"], [16, 1_024, 64, 65_536, 128]),
+    (["--volumes", "8"], [16, 2_048, 128, 65_536, 0]),
+];
+
+/// The numbers of a plan whose volumes have 16 stripes.
+fn numbers_of(rt: &impl Abort, plan: &VolumePlan) -> [u32; 5] {
+    assert!(rt; plan.stripes == 16);
+    [
+        plan.ranges,
+        plan.range_blocks,
+        plan.mib,
+        plan.inodes,
+        plan.spare,
+    ]
+}
+
+#[test]
+fn sizes_that_are_none(rt: HostRuntime) {
+    for [option, value] in REFUSED {
+        let words = ["filer", "export", "--listen", "127.0.0.1:0", option, value];
+        let fault = command(rt.alloc(), &words).err();
+        assert!(&rt;
+            fault == Some(ProgramFault::CommandLine),
+            "{option} {value}"
+        );
+    }
+}
+
+#[test]
+fn sizes_that_are_some(rt: HostRuntime) {
+    for ([option, value], wanted) in LAWFUL {
+        let words = ["filer", "export", "--listen", "127.0.0.1:0", option, value];
+        match command(rt.alloc(), &words) {
+            Ok(Command::Export(options)) => {
+                let numbers = numbers_of(&rt, &options.plan);
+                assert_eq!(&rt; numbers, wanted, "{option} {value}");
+            }
+            _ => panic!(&rt; "no export: {option} {value}"),
+        }
+    }
+}
+
+#[test]
+fn a_size_or_ranges(rt: HostRuntime) {
+    let words = [
+        "filer",
+        "export",
+        "--listen",
+        "127.0.0.1:0",
+        "--size",
+        "64M",
+        "--ranges",
+        "16",
+    ];
+    let fault = command(rt.alloc(), &words).err();
+    assert!(&rt; fault == Some(ProgramFault::CommandLine));
+}
+
+#[test]
+fn ranges_with_files_and_inodes(rt: HostRuntime) {
+    let words = [
+        "filer",
+        "export",
+        "--listen",
+        "127.0.0.1:0",
+        "--inodes",
+        "100000",
+        "--file-size",
+        "1G",
+        "--ranges",
+        "3",
+    ];
+    match command(rt.alloc(), &words) {
+        Ok(Command::Export(options)) => {
+            let numbers = numbers_of(&rt, &options.plan);
+            assert_eq!(&rt; numbers, [3, 1_024, 1_024, 100_000, 128]);
+        }
+        _ => panic!(&rt; "no export"),
+    }
+}
+
+/// What two volumes have on a machine with so much memory.
+fn on_a_machine(rt: &(impl Abort + AllocGlobal), memory: Option<u64>) -> [u32; 5] {
+    let words = [
+        "filer",
+        "export",
+        "--volumes",
+        "2",
+        "--listen",
+        "127.0.0.1:0",
+    ];
+    let machine = Machine {
+        processors: 2,
+        memory,
+    };
+    match command_told(rt.alloc(), &words, machine, &mut io::sink()) {
+        Ok(Command::Export(options)) => {
+            assert!(rt; options.workers == 2);
+            numbers_of(rt, &options.plan)
+        }
+        _ => panic!(rt; "no export"),
+    }
+}
+
+#[test]
+fn a_quarter_of_the_memory(rt: HostRuntime) {
+    let none = on_a_machine(&rt, None);
+    assert_eq!(&rt; none, [16, 8_192, 512, 65_536, 0]);
+    let large = on_a_machine(&rt, Some(24 << 30));
+    assert_eq!(&rt; large, [12, 65_536, 3_072, 196_608, 0]);
+    let small = on_a_machine(&rt, Some(1 << 20));
+    assert_eq!(&rt; small, [1, 1_024, 16, 65_536, 0]);
+    let huge = on_a_machine(&rt, Some(1 << 50));
+    assert_eq!(&rt; huge, [16, 16_777_216, 1_048_576, 67_108_864, 0]);
+}

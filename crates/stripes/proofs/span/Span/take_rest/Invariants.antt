@@ -1,0 +1,13 @@
+use Rattle.std.proofs.Common.{◌≡◌, ◌-◌, ◌≤◌, ◌++◌, length}
+use Rattle.nfs_model.specs.volume.Stripes.{span_blocks}
+use Rattle.stripes.specs.Spans.{place_of, numbers_at, numbers_from, IsTakenUpTo}
+use Rattle.stripes.proofs.span.Span.take_rest.Given as goal
+
+abbrev pub invariant-loop-i : goal.invariant-loop-i
+invariant-loop-i l = record {
+  joined : l.freed ++ numbers_at (place_of l.initial.self-inside.places.value) l.i (span_blocks - l.i)
+      ≡ numbers_from l.from l.initial.self-inside.places.value;
+  taken : IsTakenUpTo l.from l.i l.initial.self-inside.places.value l.self-inside.places.value;
+  few : length l.freed ≤ l.i;
+  long : length l.self-inside.places.value ≡ span_blocks;
+}

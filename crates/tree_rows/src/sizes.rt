@@ -1,0 +1,110 @@
+//! Sizes of volumes at their limits.
+
+use crate::holds::holds;
+use affinity::{AggregateSpec, Layout, SizedVolumeSpec, VolumeSpec};
+use std::mem;
+use std::process::Abort;
+
+/// A volume by its stripes, mebibytes, blocks of a range and inodes.
+type Sizes = (u32, u32, u32, u32);
+
+/// A volume of one range, on the first aggregate.
+fn volume(row: Sizes) -> SizedVolumeSpec {
+    SizedVolumeSpec {
+        volume: VolumeSpec {
+            aggregate: 0,
+            ranges: 1,
+            stripes: row.0,
+            mib: row.1,
+        },
+        range_blocks: row.2,
+        inodes: row.3,
+    }
+}
+
+/// Which rule a layout of an ordinary volume and of this one breaks; 0 for none.
+fn fault_number(rt: &(impl Abort + AllocGlobal), row: Sizes) -> u32 {
+    let volumes = [VolumeSpec::new(0, 1).sized(), volume(row)];
+    let made = Layout::with_sizes(rt.alloc(), &[AggregateSpec { spare: 0 }], &volumes);
+    let number = match &made {
+        Ok(_layout) => 0,
+        Err(fault) => fault.number(),
+    };
+    mem::forget(made);
+    number
+}
+
+/// Volumes, and the rule that each breaks.
+const VOLUMES: [(Sizes, u32); 28] = [
+    ((8, 16, 0, 65_536), 58),
+    ((8, 16, 512, 65_536), 58),
+    ((8, 16, 1_023, 65_536), 58),
+    ((8, 16, 1_024, 65_536), 0),
+    ((8, 16, 1_025, 65_536), 58),
+    ((8, 16, 2_047, 65_536), 58),
+    ((8, 16, 2_048, 65_536), 0),
+    ((8, 16, 2_049, 65_536), 58),
+    ((8, 16, 3_072, 65_536), 58),
+    ((8, 16, 16_777_215, 65_536), 58),
+    ((8, 16, 16_777_216, 65_536), 0),
+    ((8, 16, 16_777_217, 65_536), 58),
+    ((8, 16, 33_554_432, 65_536), 58),
+    ((8, 0, 1_024, 65_536), 59),
+    ((8, 15, 1_024, 65_536), 59),
+    ((8, 17, 1_024, 65_536), 0),
+    ((8, 65, 1_024, 65_536), 0),
+    ((8, 1_048_576, 1_024, 65_536), 0),
+    ((8, 1_048_577, 1_024, 65_536), 59),
+    ((8, 16, 1_024, 0), 67),
+    ((8, 16, 1_024, 65_535), 67),
+    ((8, 16, 1_024, 65_537), 0),
+    ((8, 16, 1_024, 67_108_864), 0),
+    ((8, 16, 1_024, 67_108_865), 67),
+    ((9, 15, 1_023, 65_535), 56),
+    ((16, 15, 1_023, 65_535), 58),
+    ((16, 15, 2_048, 65_535), 59),
+    ((16, 1_048_576, 16_777_216, 67_108_864), 0),
+];
+
+#[test]
+fn faults(rt: HostRuntime) {
+    for (row, fault) in &VOLUMES {
+        holds(&rt, fault_number(&rt, *row) == *fault);
+    }
+}
+
+/// A layout of an ordinary volume and of the largest.
+fn two_sizes(rt: &(impl Abort + AllocGlobal)) -> Layout {
+    let largest = (16, 1_048_576, 16_777_216, 67_108_864);
+    let volumes = [VolumeSpec::new(0, 1).sized(), volume(largest)];
+    let layout = Layout::with_sizes(rt.alloc(), &[AggregateSpec { spare: 0 }], &volumes).ok();
+    layout.expect(rt, "a fault")
+}
+
+/// The blocks of a range, the inodes and the bytes of the largest file of a volume.
+fn sizes_of(layout: &Layout, volume: u32) -> (u32, u32, u64) {
+    (
+        layout.range_blocks_of(volume),
+        layout.inodes_of(volume),
+        layout.largest_of(volume),
+    )
+}
+
+#[test]
+fn sizes(rt: HostRuntime) {
+    let layout = two_sizes(&rt);
+    let largest = (16_777_216, 67_108_864, 1_099_511_627_776);
+    holds(&rt, sizes_of(&layout, 0) == (1_024, 65_536, 16_777_216));
+    holds(&rt, sizes_of(&layout, 1) == largest);
+    holds(&rt, sizes_of(&layout, 2) == (1_024, 65_536, 16_777_216));
+    mem::forget(layout);
+}
+
+#[test]
+fn sizes_not_given(rt: HostRuntime) {
+    let volumes = [VolumeSpec::new(0, 1)];
+    let layout = Layout::new(rt.alloc(), &[AggregateSpec { spare: 0 }], &volumes).ok();
+    let layout = layout.expect(&rt, "a fault");
+    holds(&rt, sizes_of(&layout, 0) == (1_024, 65_536, 16_777_216));
+    mem::forget(layout);
+}
