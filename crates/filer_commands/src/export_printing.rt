@@ -1,5 +1,7 @@
 //! What `filer export` tells people as it starts.
 
+ghost use Rattle.std.specs.Prelude.{◌+◌, ◌*◌, ◌≤◌};
+
 use server::{Options, VolumePlan};
 use std::io::Write;
 use std::net::SocketAddr;
@@ -7,22 +9,8 @@ use std::net::SocketAddr;
 /// The bytes of a mebibyte.
 const MEBIBYTE: u64 = 1_048_576;
 
-/// The bytes of the words that have so many bits.
-fn words_for(bits: u64) -> u64 {
-    8 * bits.div_ceil(64)
-}
-
-/// The bytes of the marks of a range of so many blocks, a bit for each, and of what stands above
-/// them where they are more than 1,024: a bit for each word, for each word of these, and so on, in
-/// three levels.
-fn marks_of(blocks: u64) -> u64 {
-    let words = words_for(blocks);
-    if blocks <= 1_024 {
-        return words;
-    }
-    let low = words_for(words / 8);
-    words + low + words_for(low / 8) + 8
-}
+/// The bytes of a block.
+const BLOCK: u64 = 4_096;
 
 /// The bytes of a block's number.
 const NUMBER: u64 = 4;
@@ -30,13 +18,34 @@ const NUMBER: u64 = 4;
 /// So many numbers come into a volume's stock before it has enough.
 const STOCKED: u64 = 1_048_576;
 
+/// The bytes of the words that have so many bits.
+fn words_for(bits: u64) -> u64
+    requires { bits ≤ 8589934592 }
+    ensures { result ≤ bits + 8 }
+{
+    8 * ((bits + 63) / 64)
+}
+
+/// The bytes of the marks of a range of so many blocks, a bit for each, and of what stands above
+/// them where they are more than 1,024: a bit for each word, for each word of these, and so on, in
+/// three levels.
+fn marks_of(blocks: u32) -> u64
+    ensures { result ≤ 2 * blocks + 64 }
+{
+    let words = words_for(u64::from(blocks));
+    if blocks <= 1_024 {
+        return words;
+    }
+    let low = words_for(words / 8);
+    words + low + words_for(low / 8) + 8
+}
+
 /// The kibibytes that a volume takes for its blocks before a file has one: marks of each block of
 /// its 16 ranges, whether it is free and whether it is of a file that is gone; and the numbers that
 /// come into the stock soon after the start: of all blocks in use, or 1,048,576.
 fn kibibytes_at_start(plan: &VolumePlan) -> u64 {
-    let blocks = u64::from(plan.range_blocks);
-    let numbers = NUMBER * (u64::from(plan.ranges) * blocks).min(STOCKED);
-    (2 * 16 * marks_of(blocks) + numbers).div_ceil(1_024)
+    let numbers = NUMBER * (plan.bytes() / BLOCK).min(STOCKED);
+    (2 * 16 * marks_of(plan.range_blocks) + numbers).div_ceil(1_024)
 }
 
 /// Tells people what is exported, to whom, and how to mount it.

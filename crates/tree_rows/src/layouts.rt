@@ -25,7 +25,8 @@ fn volumes(rt: &(impl Abort + AllocGlobal), rows: &[Volume]) -> Vec<VolumeSpec> 
     specs
 }
 
-fn aggregates(rt: &(impl Abort + AllocGlobal), spare: &[u32]) -> Vec<AggregateSpec> {
+/// Aggregates by their spare ranges.
+pub(crate) fn aggregates(rt: &(impl Abort + AllocGlobal), spare: &[u32]) -> Vec<AggregateSpec> {
     let mut specs = Vec::new(rt.alloc());
     for ranges in spare {
         let spec = AggregateSpec { spare: *ranges };

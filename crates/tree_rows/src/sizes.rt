@@ -1,6 +1,7 @@
 //! Sizes of volumes at their limits.
 
 use crate::holds::holds;
+use crate::layouts::aggregates;
 use affinity::{AggregateSpec, Layout, SizedVolumeSpec, VolumeSpec};
 use std::mem;
 use std::process::Abort;
@@ -22,10 +23,13 @@ fn volume(row: Sizes) -> SizedVolumeSpec {
     }
 }
 
-/// Which rule a layout of an ordinary volume and of this one breaks; 0 for none.
-fn fault_number(rt: &(impl Abort + AllocGlobal), row: Sizes) -> u32 {
-    let volumes = [VolumeSpec::new(0, 1).sized(), volume(row)];
-    let made = Layout::with_sizes(rt.alloc(), &[AggregateSpec { spare: 0 }], &volumes);
+/// Which rule a layout of these breaks; 0 for none.
+fn rule_broken(
+    rt: &(impl Abort + AllocGlobal),
+    aggregates: &[AggregateSpec],
+    volumes: &[SizedVolumeSpec],
+) -> u32 {
+    let made = Layout::with_sizes(rt.alloc(), aggregates, volumes);
     let number = match &made {
         Ok(_layout) => 0,
         Err(fault) => fault.number(),
@@ -34,8 +38,55 @@ fn fault_number(rt: &(impl Abort + AllocGlobal), row: Sizes) -> u32 {
     number
 }
 
+/// Which rule a layout of an ordinary volume and of this one breaks; 0 for none.
+fn fault_number(rt: &(impl Abort + AllocGlobal), row: Sizes) -> u32 {
+    let volumes = [VolumeSpec::new(0, 1).sized(), volume(row)];
+    rule_broken(rt, &[AggregateSpec { spare: 0 }], &volumes)
+}
+
+/// Volumes by their aggregates and ranges, whose stripes and sizes are none that a volume may have.
+fn lawless(rt: &(impl Abort + AllocGlobal), rows: &[(u32, u32)]) -> Vec<SizedVolumeSpec> {
+    let mut specs = Vec::new(rt.alloc());
+    for row in rows {
+        let mut spec = volume((9, 15, 1_023, 65_535));
+        spec.volume.aggregate = row.0;
+        spec.volume.ranges = row.1;
+        specs.push(spec).expect(rt, "no memory");
+    }
+    specs
+}
+
+/// Which rule a layout of these breaks first.
+fn fault_of_tree(rt: &(impl Abort + AllocGlobal), spare: &[u32], rows: &[(u32, u32)]) -> u32 {
+    let aggregates = aggregates(rt, spare);
+    let volumes = lawless(rt, rows);
+    rule_broken(rt, &aggregates, &volumes)
+}
+
+/// The spare ranges of aggregates, the aggregates and ranges of volumes that break each further
+/// rule, and the first rule that they break.
+const TREES: [(&[u32], &[(u32, u32)], u32); 10] = [
+    (&[], &[(0, 1)], 51),
+    (&[0, 0, 0], &[], 51),
+    (&[0], &[], 52),
+    (&[129], &[(9, 0); 9], 52),
+    (&[129], &[(0, 17), (1, 1)], 53),
+    (&[129], &[(0, 1), (0, 0)], 54),
+    (&[128, 129], &[(1, 17)], 54),
+    (&[128, 129], &[(1, 16)], 55),
+    (&[128], &[(0, 16)], 56),
+    (&[128, 128], &[(1, 1); 8], 56),
+];
+
+#[test]
+fn faults_of_the_tree(rt: HostRuntime) {
+    for (spare, rows, fault) in &TREES {
+        holds(&rt, fault_of_tree(&rt, spare, rows) == *fault);
+    }
+}
+
 /// Volumes, and the rule that each breaks.
-const VOLUMES: [(Sizes, u32); 28] = [
+const VOLUMES: [(Sizes, u32); 35] = [
     ((8, 16, 0, 65_536), 58),
     ((8, 16, 512, 65_536), 58),
     ((8, 16, 1_023, 65_536), 58),
@@ -45,24 +96,31 @@ const VOLUMES: [(Sizes, u32); 28] = [
     ((8, 16, 2_048, 65_536), 0),
     ((8, 16, 2_049, 65_536), 58),
     ((8, 16, 3_072, 65_536), 58),
+    ((8, 16, 8_388_608, 65_536), 0),
     ((8, 16, 16_777_215, 65_536), 58),
     ((8, 16, 16_777_216, 65_536), 0),
     ((8, 16, 16_777_217, 65_536), 58),
     ((8, 16, 33_554_432, 65_536), 58),
+    ((8, 16, 4_294_967_295, 65_536), 58),
     ((8, 0, 1_024, 65_536), 59),
     ((8, 15, 1_024, 65_536), 59),
     ((8, 17, 1_024, 65_536), 0),
     ((8, 65, 1_024, 65_536), 0),
+    ((8, 1_048_575, 1_024, 65_536), 0),
     ((8, 1_048_576, 1_024, 65_536), 0),
     ((8, 1_048_577, 1_024, 65_536), 59),
+    ((8, 4_294_967_295, 1_024, 65_536), 59),
     ((8, 16, 1_024, 0), 67),
     ((8, 16, 1_024, 65_535), 67),
     ((8, 16, 1_024, 65_537), 0),
+    ((8, 16, 1_024, 67_108_863), 0),
     ((8, 16, 1_024, 67_108_864), 0),
     ((8, 16, 1_024, 67_108_865), 67),
+    ((8, 16, 1_024, 4_294_967_295), 67),
     ((9, 15, 1_023, 65_535), 56),
     ((16, 15, 1_023, 65_535), 58),
     ((16, 15, 2_048, 65_535), 59),
+    ((16, 16, 2_048, 65_535), 67),
     ((16, 1_048_576, 16_777_216, 67_108_864), 0),
 ];
 

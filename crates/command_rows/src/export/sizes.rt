@@ -5,47 +5,62 @@ use server::VolumePlan;
 use std::io;
 use std::process::Abort;
 
-/// Words behind `filer export --listen 127.0.0.1:0` that make no command.
-const REFUSED: [[&str; 2]; 13] = [
-    ["--size", "4194303"],
-    ["--size", "1099511627777"],
-    ["--size", "2T"],
-    ["--size", "40g"],
-    ["--size", "G"],
-    ["--size", "1.5G"],
-    ["--size", "-4M"],
-    ["--size", "16777216T"],
-    ["--file-size", "16777215"],
-    ["--file-size", "1025G"],
-    ["--inodes", "65535"],
-    ["--inodes", "67108865"],
-    ["--ranges", "0"],
+/// An option behind `filer export --listen 127.0.0.1:0`, with a value that makes no command.
+const REFUSED: [(&str, &str); 17] = [
+    ("--size", "0"),
+    ("--size", "4194303"),
+    ("--size", "4095K"),
+    ("--size", "1099511627777"),
+    ("--size", "2T"),
+    ("--size", "40g"),
+    ("--size", "G"),
+    ("--size", "1.5G"),
+    ("--size", "-4M"),
+    ("--size", "16777216T"),
+    ("--file-size", "16777215"),
+    ("--file-size", "1099511627777"),
+    ("--file-size", "1025G"),
+    ("--file-size", "all"),
+    ("--inodes", "65535"),
+    ("--inodes", "67108865"),
+    ("--ranges", "0"),
 ];
 
-/// What volumes have by the words behind `filer export --listen 127.0.0.1:0`: ranges, blocks of
-/// each, mebibytes of the largest file, inodes and spare ranges.
-const LAWFUL: [([&str; 2], [u32; 5]); 18] = [
-    (["--size", "4194304"], [1, 1_024, 16, 65_536, 0]),
-    (["--size", "4M"], [1, 1_024, 16, 65_536, 0]),
-    (["--size", "8191K"], [1, 1_024, 16, 65_536, 0]),
-    (["--size", "64M"], [16, 1_024, 64, 65_536, 0]),
-    (["--size", "67112960"], [8, 2_048, 64, 65_536, 0]),
-    (["--size", "100M"], [12, 2_048, 96, 65_536, 0]),
-    (["--size", "1G"], [16, 16_384, 1_024, 65_536, 0]),
-    (["--size", "40G"], [10, 1_048_576, 40_960, 2_621_440, 0]),
+/// An option behind `filer export --listen 127.0.0.1:0`, its value, and what volumes have by it:
+/// ranges, blocks of each, mebibytes of the largest file, inodes and spare ranges.
+const LAWFUL: [(&str, &str, [u32; 5]); 24] = [
+    ("--size", "4194304", [1, 1_024, 16, 65_536, 0]),
+    ("--size", "4M", [1, 1_024, 16, 65_536, 0]),
+    ("--size", "8191K", [1, 1_024, 16, 65_536, 0]),
+    ("--size", "8M", [2, 1_024, 16, 65_536, 0]),
+    ("--size", "64M", [16, 1_024, 64, 65_536, 0]),
+    ("--size", "67112959", [16, 1_024, 64, 65_536, 0]),
+    ("--size", "67112960", [8, 2_048, 64, 65_536, 0]),
+    ("--size", "100M", [12, 2_048, 96, 65_536, 0]),
+    ("--size", "1G", [16, 16_384, 1_024, 65_536, 0]),
+    ("--size", "40G", [10, 1_048_576, 40_960, 2_621_440, 0]),
     (
-        ["--size", "1099511627775"],
+        "--size",
+        "1099511627775",
         [15, 16_777_216, 983_040, 62_914_560, 0],
     ),
-    (["--size", "1T"], [16, 16_777_216, 1_048_576, 67_108_864, 0]),
-    (["--file-size", "16777216"], [16, 16_384, 16, 65_536, 0]),
-    (["--file-size", "20971519"], [16, 16_384, 19, 65_536, 0]),
-    (["--file-size", "1T"], [16, 16_384, 1_048_576, 65_536, 0]),
-    (["--inodes", "65536"], [16, 16_384, 1_024, 65_536, 0]),
-    (["--inodes", "67108864"], [16, 16_384, 1_024, 67_108_864, 0]),
-    (["--ranges", "1"], [1, 1_024, 64, 65_536, 128]),
-    (["--ranges", "16"], [16, 1_024, 64, 65_536, 128]),
-    (["--volumes", "8"], [16, 2_048, 128, 65_536, 0]),
+    ("--size", "1T", [16, 16_777_216, 1_048_576, 67_108_864, 0]),
+    ("--file-size", "16777216", [16, 16_384, 16, 65_536, 0]),
+    ("--file-size", "20971519", [16, 16_384, 19, 65_536, 0]),
+    (
+        "--file-size",
+        "1099511627775",
+        [16, 16_384, 1_048_575, 65_536, 0],
+    ),
+    ("--file-size", "1T", [16, 16_384, 1_048_576, 65_536, 0]),
+    ("--inodes", "65536", [16, 16_384, 1_024, 65_536, 0]),
+    ("--inodes", "65537", [16, 16_384, 1_024, 65_537, 0]),
+    ("--inodes", "67108863", [16, 16_384, 1_024, 67_108_863, 0]),
+    ("--inodes", "67108864", [16, 16_384, 1_024, 67_108_864, 0]),
+    ("--ranges", "1", [1, 1_024, 64, 65_536, 128]),
+    ("--ranges", "2", [2, 1_024, 64, 65_536, 128]),
+    ("--ranges", "16", [16, 1_024, 64, 65_536, 128]),
+    ("--volumes", "8", [16, 2_048, 128, 65_536, 0]),
 ];
 
 /// The numbers of a plan whose volumes have 16 stripes.
@@ -62,8 +77,15 @@ fn numbers_of(rt: &impl Abort, plan: &VolumePlan) -> [u32; 5] {
 
 #[test]
 fn sizes_that_are_none(rt: HostRuntime) {
-    for [option, value] in REFUSED {
-        let words = ["filer", "export", "--listen", "127.0.0.1:0", option, value];
+    for (option, value) in &REFUSED {
+        let words = [
+            "filer",
+            "export",
+            "--listen",
+            "127.0.0.1:0",
+            *option,
+            *value,
+        ];
         let fault = command(rt.alloc(), &words).err();
         assert!(&rt;
             fault == Some(ProgramFault::CommandLine),
@@ -74,12 +96,19 @@ fn sizes_that_are_none(rt: HostRuntime) {
 
 #[test]
 fn sizes_that_are_some(rt: HostRuntime) {
-    for ([option, value], wanted) in LAWFUL {
-        let words = ["filer", "export", "--listen", "127.0.0.1:0", option, value];
+    for (option, value, wanted) in &LAWFUL {
+        let words = [
+            "filer",
+            "export",
+            "--listen",
+            "127.0.0.1:0",
+            *option,
+            *value,
+        ];
         match command(rt.alloc(), &words) {
             Ok(Command::Export(options)) => {
                 let numbers = numbers_of(&rt, &options.plan);
-                assert_eq!(&rt; numbers, wanted, "{option} {value}");
+                assert_eq!(&rt; numbers, *wanted, "{option} {value}");
             }
             _ => panic!(&rt; "no export: {option} {value}"),
         }
