@@ -1,6 +1,6 @@
 -- That a worker is of a filer and a queue, out of that fact truncated: it can be shown in one way, but for where a WRITE is run, and that can be
 -- told from its node.
-use Rattle.std.specs.Prelude.{◌≡◌, ◌⊎◌, ℕ, ◌+◌, ◌-◌, ◌/◌, ◌==◌, ◌||◌, min, Bool, true, false, List, Option, Some, None}
+use Rattle.std.specs.Prelude.{◌≡◌, ◌⊎◌, ℕ, ◌+◌, ◌-◌, ◌/◌, ◌==◌, ◌||◌, min, Bool, true, false, List, [], ◌∷◌, Option, Some, None}
 use Rattle.std.specs.Prelude.{IfSome, if◌then◌else◌}
 use Rattle.std.specs.Coded.{Coded, Coded-set, codes, le_prop}
 use Rattle.std.proofs.Common.{inl, inr, ⊎_elim}
@@ -8,7 +8,7 @@ use Rattle.std.proofs.Math.Logic.{∥∥₁_elim, ∥∥₁_map}
 use Rattle.std.proofs.Props.{props}
 use Rattle.nfs_model.specs.Route.{Route, AtOnce, OfBytesWritten, route}
 use Rattle.nfs_model.specs.Home.{home_of_route, bytes_home, named_by, span_bytes, stripe_of_span}
-use Rattle.nfs_model.specs.Parts.{Hand, Empty, Fresh, Dead}
+use Rattle.nfs_model.specs.Parts.{Hand, Empty, Fresh, Dead, IsAscending}
 use Rattle.nfs_model.specs.Server.{Named, most_bytes}
 use Rattle.nfs_model.specs.Tree.{Affinity, Layout, Serial, Aggregate, Volume, Logical, Stripe, Vbn, Range}
 use Rattle.affinity.specs.Affinity.{affinity_of}
@@ -109,10 +109,15 @@ placed layout m t =
       room = ∥∥₁_elim t le_prop (λ p. p.room);
     }
 
+ascending-prop : (blocks : List ℕ) → IsProp (IsAscending blocks)
+ascending-prop [] = Prim.hlevel props
+ascending-prop (b ∷ []) = Prim.hlevel props
+ascending-prop (b ∷ (c ∷ rest)) = let others = ascending-prop (c ∷ rest) in Prim.hlevel (others, props)
+
 hand-prop : (layout : Layout) (hand : Hand) → IsProp (IsHandIn layout hand)
 hand-prop layout Empty = Prim.hlevel props
-hand-prop layout (Fresh volume blocks) = Prim.hlevel props
-hand-prop layout (Dead volume blocks) = Prim.hlevel props
+hand-prop layout (Fresh volume blocks) = Prim.hlevel (ascending-prop, Coded-set, codes, props)
+hand-prop layout (Dead volume blocks) = Prim.hlevel (ascending-prop, Coded-set, codes, props)
 
 kept : (layout : Layout) (o : Option Message) → ∥ IfSome o (IsPlaced layout) ∥₁ → IfSome o (IsPlaced layout)
 kept layout None t = tt
