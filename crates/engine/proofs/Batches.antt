@@ -4,7 +4,7 @@ use Rattle.std.specs.List.{range_with_len}
 use Rattle.std.specs.Ordering.{nat_cmp}
 use Rattle.std.specs.FinSet.{FinSet}
 use Rattle.nfs_model.specs.Tree.{Layout, range_blocks_of}
-use Rattle.nfs_model.specs.Parts.{Parts, most_ranges, range_of, IsBatch}
+use Rattle.nfs_model.specs.Parts.{Parts, most_ranges, IsBatch}
 use Rattle.nfs_model.specs.Moves.{Carrying, batch, first_filled, lowest_batch, fresh_hand, dead_hand}
 use Rattle.affinity.specs.Tree.{IsNode}
 use Rattle.filer_state.specs.state.Jobs.{InnerCall, Fetch, Deliver, Cull, Free, Survey, JobReply, Took, Gave, Surveyed, Replied}
@@ -34,7 +34,7 @@ module _ (one : OfOneRange) (size : ℕ) where
           → (first_filled (map (λ r. batch size r blocks) (range_with_len (from + 1) n)) ≡ b ∷ bs
           → (b / size < from + 1 + n) × IsBatch size (b / size) (b ∷ bs))
           → (b / size < from + suc n) × IsBatch size (b / size) (b ∷ bs)
-      by [] is e others = let later = others e in (let below = later.0 in omega (arith, below), later.1)
+      by [] is e others = let later = others e in let below = later.0 in (omega (arith, below), later.1)
       by (x ∷ xs) is e others =
           let here : IsBatch size from (b ∷ bs) = subst (λ (ys : List ℕ). IsBatch size from ys) (is ∙ e) (one size from blocks) in
           let at = here.of_range.0 in

@@ -56,6 +56,10 @@ module _ (setup : Setup) (w : World) (i : ℕ) where
   abbrev Tends : InnerCall → Result events.Done ℕ → World → Type 0
   Tends call answer new = tending.Happens setup w i call answer new
 
+  -- the call that puts down dead blocks
+  abbrev to_free : ℕ → List ℕ → InnerCall
+  to_free v blocks = jobs.Free v (range_of (range_blocks_of setup.layout v) blocks)
+
   -- ---- fetch, cull and survey: an idle worker with an empty hand, and a volume that is there
 
   -- a worker that isn't idle, or whose hand isn't empty
@@ -243,11 +247,11 @@ module _ (setup : Setup) (w : World) (i : ℕ) where
         by (inr (inl e)) = absurd e.2
         by (inr (inr e)) = inr (e.0, put-asks free (Fresh v blocks) carries ∙ e.1, may)
 
-    pub freed : hand_of at ≡ Dead v blocks → (answer : Result events.Done ℕ) (new : World) → Tends (jobs.Free v (range_of (range_blocks_of setup.layout v) blocks)) answer new
+    pub freed : hand_of at ≡ Dead v blocks → (answer : Result events.Done ℕ) (new : World) → Tends (to_free v blocks) answer new
         → Events setup w (PutDown i) answer new
     freed carries (Ok done) new h = (put-asks free (Dead v blocks) carries ∙ h.0, told h.1 h.2 h.3)
       where
-        told : (reply : JobReply) → HasMoved setup.layout w i (jobs.Free v (range_of (range_blocks_of setup.layout v) blocks)) reply new → done ≡ told_as reply → Happens setup w (PutDown i) done new
+        told : (reply : JobReply) → HasMoved setup.layout w i (to_free v blocks) reply new → done ≡ told_as reply → Happens setup w (PutDown i) done new
         told (Gave (Dead u bs)) m is =
             let own = hand-one (Dead u bs) m.mover.hand refl m.gave in
             let same : Dead u bs ≡ Dead v bs = ap (λ n. Dead n bs) m.moves.0 in (
@@ -266,7 +270,7 @@ module _ (setup : Setup) (w : World) (i : ℕ) where
         told (Replied reply) m is = absurd m.moves
     freed carries (Err number) new h = (by h.0, h.1)
       where
-        by : Refuses setup w (jobs.Free v (range_of (range_blocks_of setup.layout v) blocks)) number
+        by : Refuses setup w (to_free v blocks) number
             → (refusal setup w (PutDown i) ≡ Some number)
             ⊎ ((number ≡ 90) × (refusal setup w (PutDown i) ≡ None) × IsTrue (may_lack_memory w (PutDown i)))
         by (inl e) = inl (put-asks free (Dead v blocks) carries ∙ e)
@@ -285,7 +289,7 @@ module _ (setup : Setup) (w : World) (i : ℕ) where
         one x y e = cc
     put-as (Dead v []) carries call is h = absurd cc
     put-as (Dead v (b ∷ bs)) carries call is h =
-        freed free v (b ∷ bs) carries answer new (subst (λ x. Tends x answer new) (sym (one (jobs.Free v (range_of (range_blocks_of setup.layout v) (b ∷ bs))) call is)) h)
+        freed free v (b ∷ bs) carries answer new (subst (λ x. Tends x answer new) (sym (one (to_free v (b ∷ bs)) call is)) h)
       where
         one : (x y : InnerCall) → Some x ≡ Some y → x ≡ y
         one x y e = cc

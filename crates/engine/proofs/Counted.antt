@@ -31,7 +31,7 @@ use Rattle.engine.specs.laws.lemmas.Agreeing.{agreed, now-served}
 use Rattle.service.specs.Running.{IsRunAt, AsksFor}
 use Rattle.service.specs.lemmas.Homes.{not-here}
 use Rattle.engine.specs.declared.counts.counts.VolumeCounts.{VolumeCounts}
-use Rattle.engine.specs.counts.Counts.{counted, IsCounted, all_seen, world_counts, told_of, IsOfCalls, AsksForCounts, HasCounted}
+use Rattle.engine.specs.counts.Counts.{counted, IsCounted, AreSized, all_seen, world_counts, told_of, IsOfCalls, AsksForCounts, HasCounted}
 use Rattle.engine.specs.counts.lemmas.Seen.{contents-seen}
 use Rattle.engine.specs.counts.lemmas.Happening.{IsParted, told-is}
 use Rattle.engine.specs.declared.worker.Worker.{Worker}
@@ -163,14 +163,17 @@ module _ {P C R : Type 0} where
     }
 
     -- and the counts are right of the parcels as they are then
-    pub recounted : (new : List VolumeCounts) → IsRecounted c i counts new → IsCounted c.layout new (now c)
-    recounted new r =
+    pub recounted : (new : List VolumeCounts) → IsRecounted c i counts new → AreSized b.layout (now b) → AreSized c.layout (now c)
+        → IsCounted c.layout new (now c)
+    recounted new r before after =
         let same = one-lent c i r.0 l r.1 lent-is in
         let put : now c ≡ patched (parents b.layout) (number_of b.layout h.lent.affinity) h.parcels (now b) = λ j k. h.now_is k j in
-        let here : IsCounted c.layout new (patched (parents c.layout) (number_of c.layout r.0.affinity) r.0.parcels (now b)) =
-        r.2 (now b) (subst (λ (x : Layout). IsCounted x counts (now b)) (sym layout-is) right) in
-        subst (λ (f : ℕ → Option (FilerParcel P)). IsCounted c.layout new f)
-        ((λ j. patched (parents (layout-is j)) (number_of (layout-is j) (same j).affinity) (same j).parcels (now b)) ∙ sym put) here
+        let are : patched (parents c.layout) (number_of c.layout r.0.affinity) r.0.parcels (now b) ≡ now c =
+        (λ j. patched (parents (layout-is j)) (number_of (layout-is j) (same j).affinity) (same j).parcels (now b)) ∙ sym put in
+        subst (λ (f : ℕ → Option (FilerParcel P)). IsCounted c.layout new f) are
+        (r.2 (now b) (subst (λ (x : Layout). AreSized x (now b)) (sym layout-is) before)
+        (subst (λ (f : ℕ → Option (FilerParcel P)). AreSized c.layout f) (sym are) after)
+        (subst (λ (x : Layout). IsCounted x counts (now b)) (sym layout-is) right))
 
 -- ---- what workers carry
 

@@ -5,8 +5,7 @@ use Rattle.std.specs.Prelude.{slice_get, slice_index_or, is_some, nat_lt}
 use Rattle.std.proofs.lemmas.Bool.{and_parts, ltb-true, lt-ltb}
 use Rattle.std.proofs.lemmas.Bool.Decides.{nat_tests}
 use Rattle.std.proofs.lemmas.List.{length-map}
-use Rattle.nfs_model.specs.Tree.{Layout}
-use Rattle.nfs_model.specs.Tree.{range_blocks_of}
+use Rattle.nfs_model.specs.Tree.{Layout, range_blocks_of}
 use Rattle.nfs_model.specs.Parts.{Hand, Empty, Fresh, Dead, range_of}
 use Rattle.nfs_model.specs.Events.Refusals.{is_idle, has_empty_hand, hand_of}
 use Rattle.filer_state.specs.state.Contents.{filer_contents}
@@ -115,8 +114,8 @@ module _ (s : State) (sound : IsSoundEngine s) where
         pub may_put : (call : InnerCall) → call_to_put (layout_in s.calls) k.hand ≡ Some call → MayTend s i call
         may_put call is = by k.hand idle-place carried is
           where
-            by : (h : Hand) → slice_get s.workers.items i ≡ Some (worker_with Idle h) → IsCarried (layout_in s.calls) h → call_to_put (layout_in s.calls) h ≡ Some call
-                → MayTend s i call
+            by : (h : Hand) → slice_get s.workers.items i ≡ Some (worker_with Idle h) → IsCarried (layout_in s.calls) h
+                → call_to_put (layout_in s.calls) h ≡ Some call → MayTend s i call
             by Empty there is e = absurd cc
             by (Fresh v bs) there is e = subst (MayTend s i) (inner (Deliver v) call e)
                 (record { hand = Fresh v bs; there = there; fits = (bs, refl, is.1, is.2); node = is.0 })

@@ -61,13 +61,14 @@ IsRunReady layout connections Idle = Unit {0}
 IsRunReady layout connections (Begun r) = IsPlaced layout connections r.message
 IsRunReady layout connections (Worked r outcome) = IsPlaced layout connections r.message × MayEnd layout r.message outcome
 
--- a batch has blocks of a volume that is there; a dead one is of one of its ranges
+-- a batch has blocks of one range of a volume that is there, by the volume's size; of a dead one the range is there
 abbrev pub IsCarried : Layout → Hand → Type 0
 IsCarried layout Empty = Unit {0}
 IsCarried layout (Fresh volume blocks) = (volume < length layout.volumes) × (0 < length blocks)
     × IsBatch (range_blocks_of layout volume) (range_of (range_blocks_of layout volume) blocks) blocks
 IsCarried layout (Dead volume blocks) = (volume < length layout.volumes) × (0 < length blocks)
-    × (range_of (range_blocks_of layout volume) blocks < most_ranges) × IsBatch (range_blocks_of layout volume) (range_of (range_blocks_of layout volume) blocks) blocks
+    × (range_of (range_blocks_of layout volume) blocks < most_ranges)
+    × IsBatch (range_blocks_of layout volume) (range_of (range_blocks_of layout volume) blocks) blocks
 
 abbrev pub IsReady : Layout → ℕ → Worker → Type 0
 IsReady layout connections k = IsRunReady layout connections k.run × IsCarried layout k.hand

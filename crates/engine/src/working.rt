@@ -6,7 +6,7 @@ ghost use Rattle.desk.specs.laws.Books.{now};
 ghost use Rattle.desk.specs.laws.Calls.{MayWork, HasWorked};
 ghost use Rattle.desk.specs.Words.{books, IsKept};
 ghost use Rattle.service.specs.Running.{AsksFor};
-ghost use Rattle.engine.specs.counts.Counts.{IsCounted, world_counts};
+ghost use Rattle.engine.specs.counts.Counts.{AreSized, IsCounted, world_counts};
 ghost use Rattle.engine.specs.Seen.{told_of, world};
 ghost use Rattle.engine.specs.Working.{run_of};
 ghost use Rattle.engine.specs.Words.{Does, HasItsSetup, IsWhole};
@@ -52,8 +52,10 @@ fn run_on(
     requires kept { IsKept desk.old }
     requires may { MayWork (AsksFor running.now.message.call) (books desk.old) worker }
     requires counted { let b = books desk.old in IsCounted b.layout counts.old.items (now b) }
+    requires sized { let b = books desk.old in AreSized b.layout (now b) }
     ensures kept { IsKept desk.new }
-    ensures counted { let b = books desk.new in IsCounted b.layout counts.new.items (now b) }
+    ensures counted { let b = books desk.new in AreSized b.layout (now b)
+        → IsCounted b.layout counts.new.items (now b) }
     ensures worked { HasWorked (run_of running.now) (books desk.old) worker result
         (books desk.new) }
 {

@@ -99,7 +99,8 @@ module _ (layout : Layout) (v w : FilerView) (call : InnerCall) (hand : Hand) wh
       subst (λ h. IsHandIn layout h) (sym told.0)
       (hand-in one layout call (ranges_used d.before.ranges) (parts_of d.before) (parts_of d.after) (job_reply_of reply) node
       (subst (λ (m : ℕ). InnerMoves m call (ranges_used d.before.ranges) (parts_of d.before) (job_reply_of reply) (parts_of d.after)) size d.moves))
-  hand-inside lawful verifier of opened one (Refused back refusal) next answer did told node inside = subst (λ h. IsHandIn layout h) (sym (told.0 ∙ did.0)) inside
+  hand-inside lawful verifier of opened one (Refused back refusal) next answer did told node inside =
+      subst (λ h. IsHandIn layout h) (sym (told.0 ∙ did.0)) inside
 
 -- what its tend answers of it
 pub answers-it : (layout : Layout) (before after : Worker) (call : InnerCall) (carried : Carried) (answer : Result Tended TendRefusal)

@@ -7,12 +7,13 @@ use Rattle.nfs_model.specs.Server.{VolumeState}
 use Rattle.nfs_model.specs.Parts.{Parts, Hand, Empty, Fresh, Dead, Counts}
 use Rattle.nfs_model.specs.World.{World, changed_at}
 use Rattle.nfs_model.specs.Events.Refusals.{Done, HandHas, HasPut}
+use Rattle.nfs_laws.specs.Sizes.{HaveSizes}
 use Rattle.affinity.specs.Numbers.{number_of, parents}
 use Rattle.depot_rule.specs.History.{patched}
 use Rattle.nfs_model.specs.volume.Logical.{LogicalValue}
 use Rattle.filer_state.specs.state.Parcels.{FilerParcel}
 use Rattle.filer_state.specs.state.Contents.{VolumeContents, filer_contents}
-use Rattle.filer_state.specs.state.Tree.{ranges_used}
+use Rattle.filer_state.specs.state.Tree.{tree, ranges_used}
 use Rattle.filer_state.specs.state.Lenses.{VolumeSet}
 use Rattle.filer_state.specs.state.Sets.{FilerVolume, FilerAggregate, FilerSerial, placed, volume_before, volume_placed}
 use Rattle.engine.specs.declared.counts.counts.VolumeCounts.{VolumeCounts}
@@ -31,6 +32,10 @@ counted p = counts_of p.logical (p.logical.dead.range_blocks * ranges_used p.ran
 -- these are the counts of all volumes, by number
 abbrev pub IsCounted : {P : Type 0} → Layout → List VolumeCounts → (ℕ → Option (FilerParcel P)) → Type 0
 IsCounted layout counts f = counts ≡ map counted (filer_contents layout f).volumes
+
+-- the ranges of all volumes have as many blocks as the layout says
+abbrev pub AreSized : {P : Type 0} → Layout → (ℕ → Option (FilerParcel P)) → Type 0
+AreSized layout f = HaveSizes layout (tree layout f)
 
 -- ---- by the server and the parts that are seen
 
@@ -146,9 +151,14 @@ IsOfCalls node = Unit {0}
 abbrev pub AsksForCounts : {P : Type 0} → List VolumeCounts → Layout → Affinity → (ℕ → Option (FilerParcel P)) → Type 0
 AsksForCounts counts layout node f = IsOfCalls node × (length counts ≡ length layout.volumes)
 
--- No parcel has changed. Whatever the others are: where the counts were right of them and of those that were under the node, the
--- new counts are right of them and of those that are under it.
+-- Whatever the other parcels are: where counts were right of them and of those that were under a node, others are right of them and of
+-- these, which are under it now. Volumes have the layout's sizes before and after, since no call changes them.
+abbrev pub AreCountedAgain : {P : Type 0} → Layout → Affinity → List VolumeCounts → (ℕ → Option (FilerParcel P)) → List VolumeCounts → Type 0
+AreCountedAgain {P} layout node old f new = (g : ℕ → Option (FilerParcel P))
+    → AreSized layout g → AreSized layout (patched (parents layout) (number_of layout node) f g)
+    → IsCounted layout old g → IsCounted layout new (patched (parents layout) (number_of layout node) f g)
+
+-- No parcel has changed, and the counts are taken again of those under the node.
 abbrev pub HasCounted : {P : Type 0} → List VolumeCounts → Layout → Affinity → (ℕ → Option (FilerParcel P)) → Vec VolumeCounts
     → (ℕ → Option (FilerParcel P)) → Type 0
-HasCounted counts layout node f new f' = ((k : ℕ) → f' k ≡ f k)
-    × ((g : ℕ → Option (FilerParcel _)) → IsCounted layout counts g → IsCounted layout new.items (patched (parents layout) (number_of layout node) f g))
+HasCounted counts layout node f new f' = ((k : ℕ) → f' k ≡ f k) × AreCountedAgain layout node counts f new.items

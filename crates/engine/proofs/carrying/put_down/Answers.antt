@@ -29,24 +29,26 @@ tend-requires-clause-may c =
     let s = c.args.state.now in
     let free = idle-there s.workers.items c.deref.result.now c.args.worker c.is_idle.result c.deref.ensures.value c.is_idle.ensures c.if-not-is_idle.false in
     let there = there-at c.args.state.now c.args.worker free c.index.result.now c.index.ensures in
-    may_put s c.requires c.args.worker free c.index.result.now there (inner_of c.in-Some.call)
-    (ap (λ (l : Layout). call_to_put l c.index.result.now.hand) (sym c.layout.ensures) ∙ sym c.call_of.ensures ∙ ap (λ o. option_map inner_of o) c.in-Some.is)
+    let asked = ap (λ (l : Layout). call_to_put l c.index.result.now.hand) (sym c.layout.ensures) ∙ sym c.call_of.ensures in
+    may_put s c.requires c.args.worker free c.index.result.now there (inner_of c.in-Some.call) (asked ∙ ap (λ o. option_map inner_of o) c.in-Some.is)
 
 pub returns-in-Some-clause-events : goal.returns-in-Some-clause-events
 returns-in-Some-clause-events c =
     let s = c.args.state.now in
     let free = idle-there s.workers.items c.deref.result.now c.args.worker c.is_idle.result c.deref.ensures.value c.is_idle.ensures c.if-not-is_idle.false in
     let there = there-at c.args.state.now c.args.worker free c.index.result.now c.index.ensures in
+    let asked = ap (λ (l : Layout). call_to_put l c.index.result.now.hand) (sym c.layout.ensures) ∙ sym c.call_of.ensures in
     put-as (setup_in s) (world s) c.args.worker free (answer_of c.tend.result) (world c.tend.new.state) c.index.result.now.hand
     (in-hand s c.requires c.args.worker free c.index.result.now there) (inner_of c.in-Some.call)
-    (ap (λ (l : Layout). call_to_put l c.index.result.now.hand) (sym c.layout.ensures) ∙ sym c.call_of.ensures ∙ ap (λ o. option_map inner_of o) c.in-Some.is) c.tend.ensures.tends
+    (asked ∙ ap (λ o. option_map inner_of o) c.in-Some.is) c.tend.ensures.tends
 
 pub returns-in-None-clause-events : goal.returns-in-None-clause-events
 returns-in-None-clause-events c =
     let s = c.args.state.now in
     let free = idle-there s.workers.items c.deref.result.now c.args.worker c.is_idle.result c.deref.ensures.value c.is_idle.ensures c.if-not-is_idle.false in
     let there = there-at c.args.state.now c.args.worker free c.index.result.now c.index.ensures in
-    let empty = has-call s c.requires c.args.worker free c.index.result.now there (ap (λ (l : Layout). call_to_put l c.index.result.now.hand) (sym c.layout.ensures) ∙ sym c.call_of.ensures ∙ ap (λ o. option_map inner_of o) c.in-None.is) in (
+    let asked = ap (λ (l : Layout). call_to_put l c.index.result.now.hand) (sym c.layout.ensures) ∙ sym c.call_of.ensures in
+    let empty = has-call s c.requires c.args.worker free c.index.result.now there (asked ∙ ap (λ o. option_map inner_of o) c.in-None.is) in (
       inl (put-nothing (setup_in s) (world s) c.args.worker free c.index.result.now.hand (in-hand s c.requires c.args.worker free c.index.result.now there)
           empty),
       refl,

@@ -9,7 +9,7 @@ use Rattle.engine.specs.laws.Store.{FilerBooks}
 use Rattle.service.specs.declared.job.Job.{Job}
 use Rattle.service.specs.declared.job.JobReply.{JobReply}
 use Rattle.service.specs.Running.{HasRun}
-use Rattle.engine.specs.counts.Counts.{IsCounted}
+use Rattle.engine.specs.counts.Counts.{AreSized, IsCounted}
 use Rattle.engine.proofs.Counted.{may-recount, recounted}
 use Rattle.engine.proofs.working.run_on.Goals as goal
 
@@ -32,6 +32,7 @@ returns-clause-worked c =
 
 pub returns-clause-counted : goal.returns-clause-counted
 returns-clause-counted c =
-    subst (λ (b : FilerBooks Files Job JobReply). IsCounted b.layout c.recount.new.counts.items (now b)) (sym c.recount.ensures.same)
+    subst (λ (b : FilerBooks Files Job JobReply). AreSized b.layout (now b) → IsCounted b.layout c.recount.new.counts.items (now b))
+    (sym c.recount.ensures.same)
     (recounted _ (books c.args.desk.now) (books c.work-outcome.new.self) c.args.worker c.work-outcome.result c.work-outcome.ensures.worked
-    c.args.counts.now.items c.requires.counted c.recount.new.counts.items c.recount.ensures.counted)
+    c.args.counts.now.items c.requires.counted c.recount.new.counts.items c.recount.ensures.counted c.requires.sized)

@@ -28,6 +28,7 @@ use Rattle.engine.specs.laws.Store.{FilerBooks, StandsFor}
 use Rattle.engine.specs.laws.Serving.{Serving}
 use Rattle.engine.specs.laws.lemmas.Working.{works, worked-stands}
 use Rattle.engine.specs.laws.lemmas.Happening.{book-apart, work-happens}
+use Rattle.engine.specs.laws.lemmas.Sized.{now-sized}
 use Rattle.desk.specs.Words.{books}
 use Rattle.service.specs.Jobs.{job_of, job_reply_of}
 use Rattle.service.specs.Running.{outcome_of, IsRunAt, MovesOn, HasRun}
@@ -67,6 +68,11 @@ pub run_on-outcome-requires-clause-counted : goal.run_on-outcome-requires-clause
 run_on-outcome-requires-clause-counted c =
     let s = c.args.state.now in
     c.requires.counted ∙ stands-counted job_of job_reply_of (setup_in s) (world s) (books s.desk) c.requires.whole.0.stands
+
+pub run_on-outcome-requires-clause-sized : goal.run_on-outcome-requires-clause-sized
+run_on-outcome-requires-clause-sized c =
+    let s = c.args.state.now in
+    now-sized job_of job_reply_of (setup_in s) (world s) (books s.desk) c.requires.whole.0.stands
 
 pub returns-in-Some-Worked-clause-events : goal.returns-in-Some-Worked-clause-events
 returns-in-Some-Worked-clause-events c =
@@ -263,4 +269,5 @@ returns-clause-sound c =
 
 pub returns-clause-counted : goal.returns-clause-counted
 returns-clause-counted c =
-    c.run_on-outcome.ensures.counted ∙ sym (stands-counted job_of job_reply_of (setup_new c) (new c) (next c) (stands c))
+    c.run_on-outcome.ensures.counted (now-sized job_of job_reply_of (setup_new c) (new c) (next c) (stands c))
+    ∙ sym (stands-counted job_of job_reply_of (setup_new c) (new c) (next c) (stands c))

@@ -4,6 +4,7 @@ use Rattle.std.proofs.Common.{Result, Ok, Err, refl, sym, ap, ◌∙◌, subst, 
 use Rattle.std.specs.Prelude.{slice_get, slice_set, if◌then◌else◌, min}
 use Rattle.std.specs.Option.{option_map}
 use Rattle.std.specs.FinSet as sets
+use Rattle.nfs_model.specs.Tree.{range_blocks_of}
 use Rattle.nfs_model.specs.Server.{VolumeState}
 use Rattle.nfs_model.specs.Home.{home_of_asked}
 use Rattle.nfs_model.specs.Parts.{Parts, Hand, Empty, Fresh, Dead, hand_blocks, IsPartition, counts}
@@ -131,7 +132,7 @@ found [] i less = absurd (omega (arith, less))
 found (y ∷ xs) zero less = (y, refl)
 found (y ∷ xs) (suc i) less = found xs i (omega (arith, less))
 
-set-there : {A : Type 0} (xs : List A) (i : ℕ) (x y : A) → slice_get xs i ≡ Some y → slice_get (slice_set xs i x) i ≡ Some x
+pub set-there : {A : Type 0} (xs : List A) (i : ℕ) (x y : A) → slice_get xs i ≡ Some y → slice_get (slice_set xs i x) i ≡ Some x
 set-there [] i x y e = absurd cc
 set-there (z ∷ xs) zero x y e = refl
 set-there (z ∷ xs) (suc i) x y e = set-there xs i x y e
@@ -244,7 +245,8 @@ module _ (setup : Setup) (w new : World) (parted : IsParted w) (parted-then : Is
             ∙ culled-seen w parted worker volume h.0 h.1 carries.0 carries.1 carries.2 carries.3 (subst IsParted h.6 parted-then) h.2
             (ap (λ (c : Carrying). c.parts.files) after) (ap (λ (c : Carrying). c.parts.stock) after) (ap (λ (c : Carrying). c.parts.free) after)
             (nothing-carried volume (slice_get w.workers worker) _ carries.0 h.0.hand e.0 carries.1 carries.2)
-            (ap (λ (c : Carrying). length (hand_blocks volume c.hand)) after ∙ dead-length volume (lowest_batch h.0.parts.dead) ∙ sym culls.0),
+            (ap (λ (c : Carrying). length (hand_blocks volume c.hand)) after
+            ∙ dead-length volume (lowest_batch (range_blocks_of setup.layout volume) h.0.parts.dead) ∙ sym culls.0),
       )
 
   puts : (worker count : ℕ) (p : Parts) (hand : Hand) (after : Carrying)

@@ -41,7 +41,8 @@ work_node-outcome-requires-clause-asks g c =
     (sym c.layout-layout.ensures) (
       begun.affinity ∙ at,
       c.requires.may.fits.fits,
-      granted-hand L c.args.filer.now.depot.layout.lawful l.affinity (subst (λ a. IsNode L a) (sym (begun.affinity ∙ at)) c.requires.may.fits.node) (view c.args.seat.now) c.requires.seat.1.0 c.requires.may.opened
+      granted-hand L c.args.filer.now.depot.layout.lawful l.affinity
+          (subst (λ a. IsNode L a) (sym (begun.affinity ∙ at)) c.requires.may.fits.node) (view c.args.seat.now) c.requires.seat.1.0 c.requires.may.opened
           l.parcels (batches_in c.args.hand) c.requires.may.own begun.after,
     )
 
