@@ -104,7 +104,8 @@ module _ {P : Type 0} (layout : Layout) (lawful : fault_of layout ≡ None) wher
           (subst (λ (n : ℕ). HasRunOn v (range_lens n) (Fetch v n) hand old.own outcome new.own) numbered ran)
 
       free-ran : IsHandFor size (Free v r) hand
-          → (IsHandFor old.own.range_blocks (Free v old.own.number) hand → HasRunOn v (range_lens old.own.number) (Free v old.own.number) hand old.own outcome new.own)
+          → (IsHandFor old.own.range_blocks (Free v old.own.number) hand
+          → HasRunOn v (range_lens old.own.number) (Free v old.own.number) hand old.own outcome new.own)
           → InnerHasRun (Free v r) hand layout (Range v r) (range_parcels layout (Range v r) old) outcome (range_parcels layout (Range v r) new)
       free-ran is ran =
           has-run layout (Free v r) there.0 (range_lens r) (λ s p. refl) (range_parcels layout (Range v r) old) (range_parcels layout (Range v r) new)
@@ -113,7 +114,8 @@ module _ {P : Type 0} (layout : Layout) (lawful : fault_of layout ≡ None) wher
           (subst (λ (n : ℕ). IsHandFor old.own.range_blocks (Free v n) hand → HasRunOn v (range_lens n) (Free v n) hand old.own outcome new.own)
           numbered ran (own-hand is))
 
-  pub fetch-runs : (v r : ℕ) (a : Affinity) → a ≡ Range v r → IsNode layout a → (hand : Hand) → IsHandFor (range_blocks_of layout v) (Fetch v r) hand → (old new : FilerRange P)
+  pub fetch-runs : (v r : ℕ) (a : Affinity) → a ≡ Range v r → IsNode layout a → (hand : Hand) → IsHandFor (range_blocks_of layout v) (Fetch v r) hand
+      → (old new : FilerRange P)
       → HasSizedFiler layout a (batches_in hand) (range_parcels layout a old) → (outcome : InnerOutcome) → UnlessDone outcome (new ≡ old)
       → HasRunOn v (range_lens old.own.number) (Fetch v old.own.number) hand old.own outcome new.own
       → InnerHasRun (Fetch v r) hand layout a (range_parcels layout a old) outcome (range_parcels layout a new)
@@ -122,16 +124,20 @@ module _ {P : Type 0} (layout : Layout) (lawful : fault_of layout ≡ None) wher
       → InnerHasRun (Fetch v r) hand layout b (range_parcels layout b old) outcome (range_parcels layout b new)) (sym at)
       (λ node has. fetch-ran v r node hand old has new outcome same is ran) there filer
 
-  pub free-asks : (v r : ℕ) (a : Affinity) → a ≡ Range v r → IsNode layout a → (hand : Hand) → IsHandFor (range_blocks_of layout v) (Free v r) hand → (old : FilerRange P)
-      → HasSizedFiler layout a (batches_in hand) (range_parcels layout a old) → MayRunOn old.own.range_blocks v (range_lens old.own.number) (Free v old.own.number) hand old.own
+  pub free-asks : (v r : ℕ) (a : Affinity) → a ≡ Range v r → IsNode layout a → (hand : Hand) → IsHandFor (range_blocks_of layout v) (Free v r) hand
+      → (old : FilerRange P)
+      → HasSizedFiler layout a (batches_in hand) (range_parcels layout a old)
+      → MayRunOn old.own.range_blocks v (range_lens old.own.number) (Free v old.own.number) hand old.own
   free-asks v r a at there hand is old filer =
       subst (λ (b : Affinity). IsNode layout b → HasSizedFiler layout b (batches_in hand) (range_parcels layout b old)
       → MayRunOn old.own.range_blocks v (range_lens old.own.number) (Free v old.own.number) hand old.own) (sym at)
       (λ node has. may-free v r node hand old has is) there filer
 
-  pub free-runs : (v r : ℕ) (a : Affinity) → a ≡ Range v r → IsNode layout a → (hand : Hand) → IsHandFor (range_blocks_of layout v) (Free v r) hand → (old new : FilerRange P)
+  pub free-runs : (v r : ℕ) (a : Affinity) → a ≡ Range v r → IsNode layout a → (hand : Hand) → IsHandFor (range_blocks_of layout v) (Free v r) hand
+      → (old new : FilerRange P)
       → HasSizedFiler layout a (batches_in hand) (range_parcels layout a old) → (outcome : InnerOutcome) → UnlessDone outcome (new ≡ old)
-      → (IsHandFor old.own.range_blocks (Free v old.own.number) hand → HasRunOn v (range_lens old.own.number) (Free v old.own.number) hand old.own outcome new.own)
+      → (IsHandFor old.own.range_blocks (Free v old.own.number) hand
+      → HasRunOn v (range_lens old.own.number) (Free v old.own.number) hand old.own outcome new.own)
       → InnerHasRun (Free v r) hand layout a (range_parcels layout a old) outcome (range_parcels layout a new)
   free-runs v r a at there hand is old new filer outcome same ran =
       subst (λ (b : Affinity). IsNode layout b → HasSizedFiler layout b (batches_in hand) (range_parcels layout b old)
@@ -139,7 +145,8 @@ module _ {P : Type 0} (layout : Layout) (lawful : fault_of layout ≡ None) wher
       (λ node has. free-ran v r node hand old has new outcome same is ran) there filer
 
   -- a survey changes nothing
-  pub survey-runs : (v : ℕ) (a : Affinity) → a ≡ Vbn v → IsNode layout a → (hand : Hand) → IsHandFor (range_blocks_of layout v) (Survey v) hand → (held : FilerVbn P)
+  pub survey-runs : (v : ℕ) (a : Affinity) → a ≡ Vbn v → IsNode layout a → (hand : Hand) → IsHandFor (range_blocks_of layout v) (Survey v) hand
+      → (held : FilerVbn P)
       → (outcome : InnerOutcome) → HasRunOn v vbn_lens (Survey v) hand (vbn_set held) outcome (vbn_set held)
       → InnerHasRun (Survey v) hand layout a (vbn_parcels layout a held) outcome (vbn_parcels layout a held)
   survey-runs v a at there hand is held outcome ran =
@@ -147,7 +154,8 @@ module _ {P : Type 0} (layout : Layout) (lawful : fault_of layout ≡ None) wher
       (λ node.
       has-run layout (Survey v) node vbn_lens (λ s p. refl) (vbn_parcels layout (Vbn v) held) (vbn_parcels layout (Vbn v) held)
       (vbn_set held) (vbn_set held) (vbn-seen layout lawful v node held)
-      (λ reply step. vbn-step layout lawful (Inner (Survey v)) reply v node held held step) (range_blocks_of layout v) hand is outcome (unchanged outcome) ran) there
+      (λ reply step. vbn-step layout lawful (Inner (Survey v)) reply v node held held step) (range_blocks_of layout v) hand is outcome
+      (unchanged outcome) ran) there
     where
       unchanged : (o : InnerOutcome) → UnlessDone o ((k : ℕ) → vbn_parcels layout (Vbn v) held k ≡ vbn_parcels layout (Vbn v) held k)
       unchanged (Done reply) = tt
@@ -166,7 +174,8 @@ module _ {P : Type 0} (layout : Layout) (lawful : fault_of layout ≡ None) wher
         unless-mapped outcome (new ≡ old) ((k : ℕ) → logical_parcels layout (Logical v) new k ≡ logical_parcels layout (Logical v) old k)
         (λ e k. ap (λ (h : FilerLogical P). logical_parcels layout (Logical v) h k) e) same
 
-    deliver-ran : IsHandFor (range_blocks_of layout v) (Deliver v) hand → HasRunOn v logical_lens (Deliver v) hand (logical_before old) outcome (logical_after old new)
+    deliver-ran : IsHandFor (range_blocks_of layout v) (Deliver v) hand
+        → HasRunOn v logical_lens (Deliver v) hand (logical_before old) outcome (logical_after old new)
         → InnerHasRun (Deliver v) hand layout (Logical v) (logical_parcels layout (Logical v) old) outcome (logical_parcels layout (Logical v) new)
     deliver-ran is ran =
         has-run layout (Deliver v) there logical_lens (λ s p. refl) (logical_parcels layout (Logical v) old) (logical_parcels layout (Logical v) new)
@@ -182,8 +191,10 @@ module _ {P : Type 0} (layout : Layout) (lawful : fault_of layout ≡ None) wher
         (λ reply step. logical-step layout lawful (Inner (Cull v)) reply v there old new step) (range_blocks_of layout v) hand is outcome same-logical
         (subst (λ (n : ℕ). HasRunOn v logical_lens (Cull v) hand (logical_set n old) outcome (logical_set n new)) striped ran)
 
-  pub deliver-asks : (v : ℕ) (a : Affinity) → a ≡ Logical v → IsNode layout a → (hand : Hand) → IsHandFor (range_blocks_of layout v) (Deliver v) hand → (old : FilerLogical P)
-      → HasSizedFiler layout a (batches_in hand) (logical_parcels layout a old) → MayRunOn old.own.dead.range_blocks v logical_lens (Deliver v) hand (logical_before old)
+  pub deliver-asks : (v : ℕ) (a : Affinity) → a ≡ Logical v → IsNode layout a → (hand : Hand) → IsHandFor (range_blocks_of layout v) (Deliver v) hand
+      → (old : FilerLogical P)
+      → HasSizedFiler layout a (batches_in hand) (logical_parcels layout a old)
+      → MayRunOn old.own.dead.range_blocks v logical_lens (Deliver v) hand (logical_before old)
   deliver-asks v a at there hand is old filer =
       subst (λ (b : Affinity). IsNode layout b → HasSizedFiler layout b (batches_in hand) (logical_parcels layout b old)
       → MayRunOn old.own.dead.range_blocks v logical_lens (Deliver v) hand (logical_before old)) (sym at)
@@ -192,7 +203,8 @@ module _ {P : Type 0} (layout : Layout) (lawful : fault_of layout ≡ None) wher
         (logical-has layout lawful (batches_in hand) v node old has.0).1,
       )) there filer
 
-  pub deliver-runs : (v : ℕ) (a : Affinity) → a ≡ Logical v → IsNode layout a → (hand : Hand) → IsHandFor (range_blocks_of layout v) (Deliver v) hand → (old new : FilerLogical P)
+  pub deliver-runs : (v : ℕ) (a : Affinity) → a ≡ Logical v → IsNode layout a → (hand : Hand) → IsHandFor (range_blocks_of layout v) (Deliver v) hand
+      → (old new : FilerLogical P)
       → HasSizedFiler layout a (batches_in hand) (logical_parcels layout a old) → (outcome : InnerOutcome) → UnlessDone outcome (new ≡ old)
       → HasRunOn v logical_lens (Deliver v) hand (logical_before old) outcome (logical_after old new)
       → InnerHasRun (Deliver v) hand layout a (logical_parcels layout a old) outcome (logical_parcels layout a new)
@@ -201,7 +213,8 @@ module _ {P : Type 0} (layout : Layout) (lawful : fault_of layout ≡ None) wher
       → InnerHasRun (Deliver v) hand layout b (logical_parcels layout b old) outcome (logical_parcels layout b new)) (sym at)
       (λ node has. deliver-ran v node hand old new has outcome same is ran) there filer
 
-  pub cull-runs : (v : ℕ) (a : Affinity) → a ≡ Logical v → IsNode layout a → (hand : Hand) → IsHandFor (range_blocks_of layout v) (Cull v) hand → (old new : FilerLogical P)
+  pub cull-runs : (v : ℕ) (a : Affinity) → a ≡ Logical v → IsNode layout a → (hand : Hand) → IsHandFor (range_blocks_of layout v) (Cull v) hand
+      → (old new : FilerLogical P)
       → HasSizedFiler layout a (batches_in hand) (logical_parcels layout a old) → (outcome : InnerOutcome) → UnlessDone outcome (new ≡ old)
       → HasRunOn v logical_lens (Cull v) hand (logical_before old) outcome (logical_after old new)
       → InnerHasRun (Cull v) hand layout a (logical_parcels layout a old) outcome (logical_parcels layout a new)
@@ -213,7 +226,8 @@ module _ {P : Type 0} (layout : Layout) (lawful : fault_of layout ≡ None) wher
 -- ---- where no inner call is run
 
 -- on Vbn only a survey
-pub survey-hand : (size : ℕ) (call : InnerCall) (a : Affinity) → a ≡ inner_node call → kind_of a ≡ kinds.VolumeVbn → (hand : Hand) → IsHandFor size call hand → hand ≡ Empty
+pub survey-hand : (size : ℕ) (call : InnerCall) (a : Affinity) → a ≡ inner_node call → kind_of a ≡ kinds.VolumeVbn → (hand : Hand) → IsHandFor size call hand
+    → hand ≡ Empty
 survey-hand size (Survey v) a at kind hand is = is
 survey-hand size (Fetch v r) a at kind hand is = absurd (let other : kinds.Range ≡ kinds.VolumeVbn = sym (ap kind_of at) ∙ kind in cc)
 survey-hand size (Free v r) a at kind hand is = absurd (let other : kinds.Range ≡ kinds.VolumeVbn = sym (ap kind_of at) ∙ kind in cc)
@@ -221,7 +235,8 @@ survey-hand size (Deliver v) a at kind hand is = absurd (let other : kinds.Volum
 survey-hand size (Cull v) a at kind hand is = absurd (let other : kinds.VolumeLogical ≡ kinds.VolumeVbn = sym (ap kind_of at) ∙ kind in cc)
 
 pub vbn-runs : {P : Type 0} (layout : Layout) (lawful : fault_of layout ≡ None) (call : InnerCall) (a : Affinity) → a ≡ inner_node call
-    → kind_of a ≡ kinds.VolumeVbn → IsNode layout a → (hand : Hand) → IsHandFor (range_blocks_of layout (inner_volume call)) call hand → (held : FilerVbn P) (outcome : InnerOutcome)
+    → kind_of a ≡ kinds.VolumeVbn → IsNode layout a → (hand : Hand) → IsHandFor (range_blocks_of layout (inner_volume call)) call hand
+    → (held : FilerVbn P) (outcome : InnerOutcome)
     → ((v : ℕ) → HasRunOn v vbn_lens (Survey v) hand (vbn_set held) outcome (vbn_set held))
     → InnerHasRun call hand layout a (vbn_parcels layout a held) outcome (vbn_parcels layout a held)
 vbn-runs layout lawful (Survey v) a at kind there hand is held outcome ran = survey-runs layout lawful v a at there hand is held outcome (ran v)

@@ -195,7 +195,8 @@ pub grants-once : GrantsHaveEachBlockOnce
 grants-once layout seat node f hand of there exact left own v on n =
     let less = less-times layout f (as_left layout seat of node f left) (left-or-nothing layout seat of node f left there exact) v n on in
     let once = left-once layout (as_left layout seat of node f left) left.1.hands (length left.0) (left-good layout seat of node f left) v on n in
-    let total_n = nat_lt n ((contents_of layout (as_left layout seat of node f left) v).logical.dead.range_blocks * ranges_used (contents_of layout (as_left layout seat of node f left) v).ranges) in
+    let total_n = nat_lt n ((contents_of layout (as_left layout seat of node f left) v).logical.dead.range_blocks
+    * ranges_used (contents_of layout (as_left layout seat of node f left) v).ranges) in
     let most = at-most-one total_n in
     let mine = same-weight (entries_of seat) hand left.1.hand own left.1.own_hand (times_in_hand v n) in
     let all = left.1.together (times_in_hand v n) in
@@ -211,7 +212,8 @@ whole-grants layout seat f hands of left are v on n =
     let weight = same-weight left.0 hands left.1.hands are left.1.all_hands (times_in_hand v n) in
     let left_so : times_in n (contents_of layout g v) + total (times_in_hand v n) hands
     ≡ one_if (nat_lt n ((contents_of layout g v).logical.dead.range_blocks * ranges_used (contents_of layout g v).ranges)) = omega (arith, once, weight) in
-    subst (λ (p : VolumeContents). times_in n p + total (times_in_hand v n) hands ≡ one_if (nat_lt n (p.logical.dead.range_blocks * ranges_used p.ranges))) (sym same) left_so
+    subst (λ (p : VolumeContents). times_in n p + total (times_in_hand v n) hands
+    ≡ one_if (nat_lt n (p.logical.dead.range_blocks * ranges_used p.ranges))) (sym same) left_so
 
 pub closed-depots : ClosedDepotsHaveAllBlocks
 closed-depots layout seat f hands of closed are v on n =
@@ -225,4 +227,5 @@ closed-depots layout seat f hands of closed are v on n =
     let weight = same-weight (entries_of seat) hands closed.2.0 are closed.2.1 (times_in_hand v n) in
     let left_so : times_in n (contents_of layout g v) + total (times_in_hand v n) hands
     ≡ one_if (nat_lt n ((contents_of layout g v).logical.dead.range_blocks * ranges_used (contents_of layout g v).ranges)) = omega (arith, once, weight) in
-    subst (λ (p : VolumeContents). times_in n p + total (times_in_hand v n) hands ≡ one_if (nat_lt n (p.logical.dead.range_blocks * ranges_used p.ranges))) (sym same) left_so
+    subst (λ (p : VolumeContents). times_in n p + total (times_in_hand v n) hands
+    ≡ one_if (nat_lt n (p.logical.dead.range_blocks * ranges_used p.ranges))) (sym same) left_so

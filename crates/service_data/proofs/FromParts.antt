@@ -5,7 +5,7 @@ use Rattle.std.specs.FinSet.{FinSet}
 use Rattle.std.specs.Ordering.{nat_cmp}
 use Rattle.nfs_model.specs.Types.{Moment}
 use Rattle.nfs_model.specs.volume.Logical.{LogicalValue}
-use Rattle.nfs_model.specs.volume.Ranges.{DeadValue}
+use Rattle.nfs_model.specs.volume.Ranges.{DeadValue, dead_taken}
 use Rattle.nfs_model.specs.volume.Stripes.{StripeValue}
 use Rattle.filer_state.specs.state.Contents.{each}
 use Rattle.filer_state.specs.state.Lenses.{VolumeSet}
@@ -26,7 +26,8 @@ module _ {A : Type 0} (of : LogicalValue → A) (by_stock : (l : LogicalValue) (
   one-keeps : (n : ℕ) (old new : VolumeSet) → LeavesOne n old new → of new.logical.own ≡ of old.logical.own
   one-keeps n old new (inl leaves) = ap (λ (s : VolumeSet). of s.logical.own) leaves.left ∙ by_stock old.logical.own _
   one-keeps n old new (inr (inl leaves)) = ap (λ (s : VolumeSet). of s.logical.own) leaves.left
-  one-keeps n old new (inr (inr leaves)) = ap (λ (s : VolumeSet). of s.logical.own) leaves.left ∙ by_dead old.logical.own _
+  one-keeps n old new (inr (inr leaves)) =
+      ap (λ (s : VolumeSet). of s.logical.own) leaves.left ∙ by_dead old.logical.own (dead_taken (n ∷ []) old.logical.own.dead)
 
   parts-keep : (ns : List ℕ) (old new : VolumeSet) → LeaveParts ns old new → of new.logical.own ≡ of old.logical.own
   parts-keep [] old new leave = ap (λ (s : VolumeSet). of s.logical.own) leave

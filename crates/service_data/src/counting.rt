@@ -48,8 +48,8 @@ fn free_in(place: &Option<RangeHeld<Files>>) -> usize
     ensures few { result ≤ 16777216 }
 {
     match place {
-        Some(range) => {
-            let range = range.own.get();
+        Some(held) => {
+            let range = held.own.get();
             let _blocks = range.range_blocks();
             range.free_count()
         }

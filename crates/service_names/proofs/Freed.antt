@@ -61,13 +61,13 @@ added-before xs ys d = same (with_numbers xs (with_numbers ys d)) (with_numbers 
 
 -- the same of dead blocks
 pub marked-none : (d : DeadValue) → dead_marked [] d ≡ d
-marked-none d j = record d { blocks = added-none d.blocks j }
+marked-none d = λ j. record d { blocks = added-none d.blocks j }
 
 pub marked-then : (xs ys : List ℕ) (d : DeadValue) → dead_marked ys (dead_marked xs d) ≡ dead_marked (xs ++ ys) d
-marked-then xs ys d j = record d { blocks = added-then xs ys d.blocks j }
+marked-then xs ys d = λ j. record d { blocks = added-then xs ys d.blocks j }
 
 pub marked-before : (xs ys : List ℕ) (d : DeadValue) → dead_marked xs (dead_marked ys d) ≡ dead_marked (xs ++ ys) d
-marked-before xs ys d j = record d { blocks = added-before xs ys d.blocks j }
+marked-before xs ys d = λ j. record d { blocks = added-before xs ys d.blocks j }
 
 -- ---- the first of some numbers, and the rest
 
@@ -105,14 +105,15 @@ none-marked (b ∷ bs) dead none = absurd (omega arith)
 
 -- ---- one stripe, span by span
 
-numbers-parted : (blocks : ℕ) (xs ys : List ℕ) → AreNumbers blocks (xs ++ ys) → AreNumbers blocks xs × AreNumbers blocks ys
+-- numbers of a volume whose ranges have so many blocks, in two parts
+pub numbers-parted : (blocks : ℕ) (xs ys : List ℕ) → AreNumbers blocks (xs ++ ys) → AreNumbers blocks xs × AreNumbers blocks ys
 numbers-parted blocks [] ys are = (tt, are)
 numbers-parted blocks (x ∷ xs) ys are = let rest = numbers-parted blocks xs ys are.1 in ((are.0, rest.0), rest.1)
 
 -- what has left a file and what is still to leave are all that was to leave
 pub record IsCutOn (fileid size : ℕ) (old : StripeValue) (dead : DeadValue) (filled : ℕ) (now : StripeValue) (marked : DeadValue)
     (left : ℕ) : Type 0 where
-  pub numbers : AreNumbers marked.range_blocks (numbers_freed fileid size now)
+  pub are_numbers : AreNumbers marked.range_blocks (numbers_freed fileid size now)
   pub stays : left - length (numbers_freed fileid size now) ≡ filled - length (numbers_freed fileid size old)
   pub added : dead_marked (numbers_freed fileid size now) marked ≡ dead_marked (numbers_freed fileid size old) dead
   pub cuts : cut fileid size now ≡ cut fileid size old
@@ -123,7 +124,7 @@ module _ (fileid size : ℕ) (old : StripeValue) (dead : DeadValue) (filled : �
       → numbers_freed fileid size now ≡ ns ++ numbers_freed fileid size next
       → AreNumbers marked.range_blocks ns × AreNumbers marked.range_blocks (numbers_freed fileid size next)
   both-numbers now next marked left ns is freed =
-      numbers-parted marked.range_blocks ns (numbers_freed fileid size next) (subst (AreNumbers marked.range_blocks) freed is.numbers)
+      numbers-parted marked.range_blocks ns (numbers_freed fileid size next) (subst (AreNumbers marked.range_blocks) freed is.are_numbers)
 
   pub cut-some : (now next : StripeValue) (marked more : DeadValue) (left fewer : ℕ) (ns : List ℕ) → IsCutOn fileid size old dead filled now marked left
       → numbers_freed fileid size now ≡ ns ++ numbers_freed fileid size next → cut fileid size next ≡ cut fileid size now
@@ -134,7 +135,7 @@ module _ (fileid size : ℕ) (old : StripeValue) (dead : DeadValue) (filled : �
       ap length freed ∙ length-append ns (numbers_freed fileid size next) in
       let was = is.stays in
       record {
-        numbers = subst (λ (d : DeadValue). AreNumbers d.range_blocks (numbers_freed fileid size next)) (sym marks) both.1;
+        are_numbers = subst (λ (d : DeadValue). AreNumbers d.range_blocks (numbers_freed fileid size next)) (sym marks) both.1;
         stays = omega arith;
         added = ap (dead_marked (numbers_freed fileid size next)) marks ∙ marked-then ns (numbers_freed fileid size next) marked
             ∙ ap (λ ns. dead_marked ns marked) (sym freed) ∙ is.added;

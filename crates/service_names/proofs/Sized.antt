@@ -13,16 +13,8 @@ use Rattle.filer_state.specs.state.Sets.{FilerStripe, FilerLogical, stripe_value
 use Rattle.filer_state.specs.laws.lemmas.Each.{each-same, each-map, each-index}
 use Rattle.filer_state.specs.changes.NodesSized.{stripe_sized, all_freed}
 use Rattle.service_names.specs.Changing.{AreNumbers, MayBeSet, with_dead}
-use Rattle.service_names.proofs.Freed.{marked-none, marked-before}
+use Rattle.service_names.proofs.Freed.{marked-none, marked-before, numbers-parted}
 use Rattle.service_names.proofs.Taking.{set-here, set-else, found-here, filled-as}
-
-numbers-left : (blocks : ℕ) (xs ys : List ℕ) → AreNumbers blocks (xs ++ ys) → AreNumbers blocks xs
-numbers-left blocks [] ys are = tt
-numbers-left blocks (x ∷ xs) ys are = (are.0, numbers-left blocks xs ys are.1)
-
-numbers-right : (blocks : ℕ) (xs ys : List ℕ) → AreNumbers blocks (xs ++ ys) → AreNumbers blocks ys
-numbers-right blocks [] ys are = are
-numbers-right blocks (x ∷ xs) ys are = numbers-right blocks xs ys are.1
 
 module _ (blocks fileid size : ℕ) where
   -- the numbers that leave one of the stripes
@@ -31,9 +23,9 @@ module _ (blocks fileid size : ℕ) where
   numbers-each f from zero i low high are = absurd (omega arith)
   numbers-each f from (suc n) i low high are = ⊎_elim
       (λ (e : i ≡ from). subst (λ (k : ℕ). AreNumbers blocks (numbers_freed fileid size (f k))) (sym e)
-      (numbers-left blocks (numbers_freed fileid size (f from)) (all_freed fileid size (each f (from + 1) n)) are))
+      (numbers-parted blocks (numbers_freed fileid size (f from)) (all_freed fileid size (each f (from + 1) n)) are).0)
       (λ (ne : i ≢ from). numbers-each f (from + 1) n i (omega (arith, ne)) (omega arith)
-      (numbers-right blocks (numbers_freed fileid size (f from)) (all_freed fileid size (each f (from + 1) n)) are))
+      (numbers-parted blocks (numbers_freed fileid size (f from)) (all_freed fileid size (each f (from + 1) n)) are).1)
       (cases_eq i from)
 
 module _ {P : Type 0} (fileid size n : ℕ) (old : List (Option (FilerStripe P))) (own : LogicalValue) (filled : ℕ) where
@@ -174,4 +166,6 @@ module _ {P : Type 0} (held : FilerLogical P) (fileid size i : ℕ) (may : MayBe
       (each-index (λ k. stripe_value (placed held.stripes.at k)) no_stripe held.own.stripes i less) (may.cards i less)
 
   pub numbers-of-place : AreNumbers held.own.dead.range_blocks (numbers_freed fileid size (stripe_value (placed held.stripes.at i)))
-  numbers-of-place = numbers-each held.own.dead.range_blocks fileid size (λ k. stripe_value (placed held.stripes.at k)) 0 held.own.stripes i (omega arith) (omega arith) (may.numbers size)
+  numbers-of-place =
+      numbers-each held.own.dead.range_blocks fileid size (λ k. stripe_value (placed held.stripes.at k)) 0 held.own.stripes i (omega arith) (omega arith)
+      (may.numbers size)

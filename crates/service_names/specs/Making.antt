@@ -35,8 +35,8 @@ inode_dated inode made moment = record {
 }
 
 -- What making a node under a name takes: there are no more stripes than places, each with the root's card; inodes, fileids and cookies
--- have room for one more, by the volume's own limit, which is one that a volume may have; the directory is there, and doesn't have the name; the next fileid is that of no inode, no directory and no
--- card.
+-- have room for one more, inodes by the volume's own limit, which no volume's exceeds; the directory is there, and doesn't have the name;
+-- the next fileid is that of no inode, no directory and no card.
 pub record MayMake (n : HeldNaming) : Type 0 where
   pub few : n.set.own.stripes ≤ 16
   pub root_there : (i : ℕ) → i < n.set.own.stripes → IsSome (get (stripe_at n.set.stripes i).cards root)

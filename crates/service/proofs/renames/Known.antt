@@ -21,13 +21,12 @@ use Rattle.filer_state.specs.state.Contents.{VolumeContents}
 use Rattle.filer_state.specs.state.Lenses.{LogicalSet, logical_lens}
 use Rattle.filer_state.specs.state.Promises.{HasVolume}
 use Rattle.filer_state.specs.state.Sound.{IsSound}
-use Rattle.filer_state.specs.laws.lemmas.Limits.{used-fits, ranges-fit}
 use Rattle.service_names.specs.NameAnswers.{entries_of}
 use Rattle.service_names.specs.ChangeLaws.{IsDone}
 use Rattle.service_names.specs.NamedChanges.{HeldNode, node_there, node_at}
 use Rattle.service_names.specs.RenamingChanges.{may_replace, target_may_go}
 use Rattle.service_names.specs.lemmas.May.{whole-absent}
-use Rattle.service_names.specs.lemmas.Nodes.{whole-used, whole-may-be-set, whole-entered}
+use Rattle.service_names.specs.lemmas.Nodes.{used-most, whole-used, whole-may-be-set, whole-entered}
 use Rattle.service_names.specs.lemmas.Whole.{few-links, whole-few}
 use Rattle.service.specs.declared.renames.between.Between.{Between}
 use Rattle.service.specs.renames.Moving.{AreThere, MayMove, target_left}
@@ -46,10 +45,8 @@ module _ (p : VolumeContents) (hands : List Hand) (made : ℕ) (sound : IsSound 
         links = few-links p sound.well_formed q i e;
         filled =
             let one = filled-within p.logical.inodes q i sound.well_formed.logical.inodes e in
-            let fits = used-fits p hands sound.well_formed sound.partition in
-            let ranges = ranges-fit p.ranges in
-            let sixteen = sound.well_formed.sixteen in
-            omega arith;
+            let most = used-most p hands made sound in
+            omega (arith, one, most);
       }
 
   volume-cookies : made < too_many → (d : ℕ) → IfSome (get p.logical.directories d) (λ (e : DirectoryValue). e.next < 2 ^ 63)

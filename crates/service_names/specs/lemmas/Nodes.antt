@@ -56,7 +56,8 @@ module _ (p : VolumeContents) (hands : List Hand) (made : ℕ) (sound : IsSound 
       absurd (omega arith))
       (cases_lt n (size_here * ranges_used p.ranges)))
 
-  used-most : p.logical.inodes.used ≤ most_ranges * most_range_blocks
+  -- no more blocks are used than any volume has
+  pub used-most : p.logical.inodes.used ≤ most_ranges * most_range_blocks
   used-most =
       let fits = used-fits p hands sound.well_formed sound.partition in
       let within = in-sixteen in

@@ -5,8 +5,13 @@ use Rattle.service.proofs.inner.deliver_from.Goals as goal
 
 pub deliver-delivered-requires-clause-carried : goal.deliver-delivered-requires-clause-carried
 deliver-delivered-requires-clause-carried c =
-    to-deliver c.args.held.now.own.dead.range_blocks c.requires.0 c.fresh_batch-volume.result.0 c.fresh_batch-volume.result.1 c.args.hand (logical_before c.args.held.now)
-    c.fresh_batch-volume.ensures c.requires.1
+    to-deliver c.args.held.now.own.dead.range_blocks c.requires.0 c.fresh_batch-volume.result.0 c.fresh_batch-volume.result.1 c.args.hand
+    (logical_before c.args.held.now) c.fresh_batch-volume.ensures c.requires.1
+
+pub deliver-delivered-requires-clause-some : goal.deliver-delivered-requires-clause-some
+deliver-delivered-requires-clause-some c =
+    (to-deliver-batch c.args.held.now.own.dead.range_blocks c.requires.0 c.fresh_batch-volume.result.0 c.fresh_batch-volume.result.1 c.args.hand
+    (logical_before c.args.held.now) c.fresh_batch-volume.ensures c.requires.1).0
 
 pub deliver-delivered-requires-clause-batch : goal.deliver-delivered-requires-clause-batch
 deliver-delivered-requires-clause-batch c =
@@ -15,8 +20,9 @@ deliver-delivered-requires-clause-batch c =
 
 pub returns-in-Ok-clause-runs : goal.returns-in-Ok-clause-runs
 returns-in-Ok-clause-runs c = λ v is.
-    delivered-runs c.args.held.now.own.dead.range_blocks v c.fresh_batch-volume.result.0 c.fresh_batch-volume.result.1 c.args.hand c.seen-hand.result (logical_before c.args.held.now)
-    (logical_after c.args.held.now c.deliver-delivered.new.held) c.fresh_batch-volume.ensures (c.seen-hand.ensures ∙ c.new-given.ensures) c.in-Ok.ensures.right is
+    delivered-runs c.args.held.now.own.dead.range_blocks v c.fresh_batch-volume.result.0 c.fresh_batch-volume.result.1 c.args.hand c.seen-hand.result
+    (logical_before c.args.held.now) (logical_after c.args.held.now c.deliver-delivered.new.held) c.fresh_batch-volume.ensures
+    (c.seen-hand.ensures ∙ c.new-given.ensures) c.in-Ok.ensures.right is
 
 pub returns-in-Err-clause-runs : goal.returns-in-Err-clause-runs
 returns-in-Err-clause-runs c = λ v is. (tt, c.seen-hand.ensures ∙ c.new-given.ensures ∙ c.fresh_batch-volume.ensures)

@@ -7,7 +7,7 @@ use Rattle.service_data.proofs.counting.free_in.Goals as goal
 
 pub returns-in-Some-clause-few : goal.returns-in-Some-clause-few
 returns-in-Some-clause-few c =
-    let few = few-free c.get.result.now c.range_blocks.ensures.size in
+    let few = few-free c.get-range.result.now c.range_blocks-blocks.ensures.size in
     let listed = c.free_count.ensures.listed in
     omega (arith, few, listed)
 

@@ -20,6 +20,7 @@ returns-clause-leaves c =
     leaves-dead c.args.held.now (logical_value c.get_mut-2.result.now) c.take_free.new.held c.in-Some-take.number.0 c.take-2.new.self none
     c.in_default-take_free.ensures.kept
     (sym (ap (λ (l : LogicalValue). l.stock) c.get_mut.ensures.value) ∙ c.in_default.ensures.empty.0 refl)
-    c.in_default-take_free.ensures.none (lowest-there (logical_value c.get_mut-2.result.now).dead.range_blocks (logical_value c.get_mut-2.result.now).dead.blocks
+    c.in_default-take_free.ensures.none
+    (lowest-there (logical_value c.get_mut-2.result.now).dead.range_blocks (logical_value c.get_mut-2.result.now).dead.blocks
     c.in-Some-take.number.0 c.in-Some-take.ensures.lowest)
     c.in-Some-take.ensures.left

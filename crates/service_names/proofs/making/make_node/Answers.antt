@@ -1,7 +1,8 @@
-use Rattle.std.proofs.Common.{◌≡◌, ◌+◌, ◌∙◌, ℕ, true, ap, sym, subst, arith}
+use Rattle.std.proofs.Common.{◌≡◌, ◌+◌, ◌<◌, ◌≤◌, ◌∙◌, ℕ, true, ap, sym, subst, arith}
 use Rattle.parcels.specs.Filled.{is_filled}
 use Rattle.std.specs.Prelude.{is_some, slice_get}
-use Rattle.nfs_model.specs.volume.Inodes.{inode_of}
+use Rattle.std.specs.FinMap.{len}
+use Rattle.nfs_model.specs.volume.Inodes.{inode_of, inodes_of_a_volume}
 use Rattle.inodes.specs.Inode.{inode_value}
 use Rattle.service_names.specs.Cards.{InFirst, IsDropped}
 use Rattle.service_names.specs.Making.{node_unmade}
@@ -10,8 +11,8 @@ use Rattle.service_names.proofs.making.make_node.Goals as goal
 
 pub create_inode-requires-clause-room : goal.create_inode-requires-clause-room
 create_inode-requires-clause-room c =
-    let room = c.requires.may.room in
-    let most = c.requires.may.most in
+    let room : len c.args.held.now.own.inodes.inodes < c.args.held.now.own.most_inodes = c.requires.may.room in
+    let most : c.args.held.now.own.most_inodes ≤ inodes_of_a_volume = c.requires.may.most in
     omega (arith, room, most)
 
 pub unmake-requires-clause-last : goal.unmake-requires-clause-last

@@ -11,8 +11,8 @@ pub survey_with-requires : goal.survey_with-requires
 survey_with-requires c =
     let L = layout_of c.args.arg2.now in
     let a = affinity_of c.args.arg3 in
-    survey-hand (range_blocks_of L (inner_volume (inner_of c.args.self.call))) (inner_of c.args.self.call) a c.requires.asks.0 (vbn-kind L a c.args.held.now c.requires.node c.requires.exact)
-    c.args.self.hand c.requires.asks.1
+    survey-hand (range_blocks_of L (inner_volume (inner_of c.args.self.call))) (inner_of c.args.self.call) a c.requires.asks.0
+    (vbn-kind L a c.args.held.now c.requires.node c.requires.exact) c.args.self.hand c.requires.asks.1
 
 pub returns-clause-does : goal.returns-clause-does
 returns-clause-does c =
