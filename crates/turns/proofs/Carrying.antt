@@ -1,8 +1,8 @@
 -- A worker after an inner call: its balance, its hand, and what its tend answers.
-use Rattle.std.proofs.Common.{◌≡◌, ℕ, None, List, [], ◌∷◌, Option, refl, sym, ap, ◌∙◌, subst, arith}
+use Rattle.std.proofs.Common.{◌≡◌, ℕ, Bool, None, List, [], ◌∷◌, Option, refl, sym, ap, ◌∙◌, subst, arith}
 use Rattle.std.specs.Prelude.{Result, Ok}
 use Rattle.nfs_model.specs.Tree.{Layout}
-use Rattle.nfs_model.specs.Parts.{Hand}
+use Rattle.nfs_model.specs.Parts.{Parts, Hand}
 use Rattle.affinity.specs.Fault.{fault_of}
 use Rattle.affinity.specs.Numbers.{parents}
 use Rattle.affinity.specs.Tree.{IsNode}
@@ -26,8 +26,9 @@ use Rattle.turns.specs.declared.tend.TendRefusal.{TendRefusal}
 use Rattle.turns.specs.declared.tend.Tended.{Tended}
 use Rattle.turns.specs.declared.worker.Worker.{Worker}
 use Rattle.turns.specs.Balance.{Passed, FilerView, FilerEntry, Weight, by_job, by_entry, IsEven}
-use Rattle.turns.specs.Carries.{HasCarried, IsToldOf, hand_after, left_by}
-use Rattle.turns.specs.Tends.{Answers}
+use Rattle.turns.specs.Carries.{MovesBatch, NamesBatch, HasMovedBatch, HasCarried, IsToldOf, hand_after, left_by, stock_by}
+use Rattle.turns.specs.Stocks.{stocked_after}
+use Rattle.turns.specs.Tends.{stocked_in, Answers}
 use Rattle.turns.specs.Words.{seat_view, HasOpened, IsHandIn}
 use Rattle.turns.proofs.Batches.{OfOneRange, hand-in}
 use Rattle.turns.proofs.Sized.{before-sized}
@@ -52,16 +53,39 @@ gives-same i j (jobs.Gave hand) = refl
 gives-same i j (jobs.Surveyed told) = refl
 gives-same i j (jobs.Replied reply) = refl
 
+-- the reply of a call that moves a batch names one
+names-batch : (size : ℕ) (call : InnerCall) (used : ℕ) (before after : Parts) (reply : JobReply) → MovesBatch call
+    → InnerMoves size call used before reply after → NamesBatch reply
+names-batch size call used before after (jobs.Took hand) batch moves = tt
+names-batch size call used before after (jobs.Gave hand) batch moves = tt
+names-batch size (jobs.Fetch v r) used before after (jobs.Surveyed told) batch moves = moves
+names-batch size (jobs.Deliver v) used before after (jobs.Surveyed told) batch moves = moves
+names-batch size (jobs.Cull v) used before after (jobs.Surveyed told) batch moves = moves
+names-batch size (jobs.Free v r) used before after (jobs.Surveyed told) batch moves = moves
+names-batch size (jobs.Survey v) used before after (jobs.Surveyed told) batch moves = batch
+names-batch size (jobs.Fetch v r) used before after (jobs.Replied reply) batch moves = moves
+names-batch size (jobs.Deliver v) used before after (jobs.Replied reply) batch moves = moves
+names-batch size (jobs.Cull v) used before after (jobs.Replied reply) batch moves = moves
+names-batch size (jobs.Free v r) used before after (jobs.Replied reply) batch moves = moves
+names-batch size (jobs.Survey v) used before after (jobs.Replied reply) batch moves = moves
+
 module _ (layout : Layout) (v w : FilerView) (call : InnerCall) (hand : Hand) where
+  -- what came of it names a batch, where it is done
+  pub moved-batch : (carried : Carried) → MovesBatch call → HasCarried layout v call hand carried w → HasMovedBatch carried
+  moved-batch (Done reply stock) batch did =
+      let d = did.0.did in
+      names-batch d.before.logical.dead.range_blocks call (ranges_used d.before.ranges) (parts_of d.before) (parts_of d.after) (job_reply_of reply) batch d.moves
+  moved-batch (Refused back refusal) batch did = tt
+
   -- ---- the worker after it
 
   pub still-even : (carried : Carried) (pass : Passed) (kept : Option Message) → HasCarried layout v call hand carried w → IsEven pass (entries_of v) kept
       → IsEven pass (entries_of w) kept
-  still-even (Done reply) pass kept did even = λ h.
+  still-even (Done reply told) pass kept did even = λ h.
       let b = even h in
-      let d = ap (total (by_entry h)) did.entries in
-      let s = total-append (by_entry h) (entries_of v) (did.entry ∷ []) in
-      let k : by_entry h did.entry ≡ 0 = inner-weighs h did.entry.call call did.is_call in
+      let d = ap (total (by_entry h)) did.0.entries in
+      let s = total-append (by_entry h) (entries_of v) (did.0.entry ∷ []) in
+      let k : by_entry h did.0.entry ≡ 0 = inner-weighs h did.0.entry.call call did.0.is_call in
       omega (arith, b, d, s, k)
   still-even (Refused back refusal) pass kept did even =
       subst (λ (es : List FilerEntry). IsEven pass es kept) (sym did.1) even
@@ -69,15 +93,15 @@ module _ (layout : Layout) (v w : FilerView) (call : InnerCall) (hand : Hand) wh
   pub hand-after-it : (carried : Carried) (next : Hand) (answer : Result Tended TendRefusal) → HasCarried layout v call hand carried w
       → IsToldOf carried next answer → AreHands job_takes job_gives (entries_of v) (batches_in hand)
       → AreHands job_takes job_gives (entries_of w) (batches_in next)
-  hand-after-it (Done reply) next answer did told own =
-      let e = did.entry in
+  hand-after-it (Done reply stock) next answer did told own =
+      let e = did.0.entry in
       let es : List FilerEntry = entries_of v in
       let took : job_takes e.call e.reply ≡ batches_in next =
-      ap (λ (r : JobReply). takes (job_of e.call) r) did.is_reply ∙ takes-after (job_of e.call) (job_reply_of reply)
+      ap (λ (r : JobReply). takes (job_of e.call) r) did.0.is_reply ∙ takes-after (job_of e.call) (job_reply_of reply)
       ∙ ap batches_in (sym told.0) in
       let gave : job_gives e.call e.reply ≡ batches_in hand =
-      ap (λ (r : JobReply). gives (job_of e.call) r) did.is_reply ∙ gives-same (job_of e.call) (jobs.Inner call) (job_reply_of reply) ∙ did.gave in
-      subst (λ (ds : List FilerEntry). AreHands job_takes job_gives ds (batches_in next)) (sym did.entries) (λ weigh.
+      ap (λ (r : JobReply). gives (job_of e.call) r) did.0.is_reply ∙ gives-same (job_of e.call) (jobs.Inner call) (job_reply_of reply) ∙ did.0.gave in
+      subst (λ (ds : List FilerEntry). AreHands job_takes job_gives ds (batches_in next)) (sym did.0.entries) (λ weigh.
       let t = moved-snoc job_takes weigh es e in
       let g = moved-snoc job_gives weigh es e in
       let t' = ap (total weigh) took in
@@ -91,10 +115,11 @@ module _ (layout : Layout) (v w : FilerView) (call : InnerCall) (hand : Hand) wh
   pub hand-inside : fault_of layout ≡ None → (verifier : List ℕ) → v.tree ≡ parents layout → HasOpened layout verifier v
       → OfOneRange → (carried : Carried) (next : Hand) (answer : Result Tended TendRefusal) → HasCarried layout v call hand carried w
       → IsToldOf carried next answer → IsNode layout (inner_node call) → IsHandIn layout hand → IsHandIn layout next
-  hand-inside lawful verifier of opened one (Done reply) next answer did told node inside =
-      let d = did.did in
+  hand-inside lawful verifier of opened one (Done reply stock) next answer did told node inside =
+      let c = did.0 in
+      let d = c.did in
       let size =
-      contents-sized layout (filer_contents layout (left_by v did.between)) (before-sized layout lawful verifier v of opened did.between did.entry did.added)
+      contents-sized layout (filer_contents layout (left_by v c.between)) (before-sized layout lawful verifier v of opened c.between c.entry c.added)
       (inner_volume call) d.before d.volume_before in
       subst (λ h. IsHandIn layout h) (sym told.0)
       (hand-in one layout call (ranges_used d.before.ranges) (parts_of d.before) (parts_of d.after) (job_reply_of reply) node
@@ -105,9 +130,16 @@ module _ (layout : Layout) (v w : FilerView) (call : InnerCall) (hand : Hand) wh
 -- what its tend answers of it
 pub answers-it : (layout : Layout) (before after : Worker) (call : InnerCall) (carried : Carried) (answer : Result Tended TendRefusal)
     → HasCarried layout (seat_view before) call before.hand carried (seat_view after) → IsToldOf carried after.hand answer
+    → stocked_in after ≡ stocked_after (inner_volume call) (stock_by carried) (stocked_in before)
     → Answers layout before (Ok call) answer after
-answers-it layout before after call (Done reply) answer did told =
+answers-it layout before after call (Done reply stock) answer did told known =
     subst (λ (x : Result Tended TendRefusal). Answers layout before (Ok call) x after) (sym told.2)
-    (record { reply = job_reply_of reply; carries = did; hand = told.0; told = told.3 })
-answers-it layout before after call (Refused back refusal) answer did told =
-    subst (λ (x : Result Tended TendRefusal). Answers layout before (Ok call) x after) (sym told.1) (did.1, told.0 ∙ did.0, did.2)
+    (record {
+      reply = job_reply_of reply;
+      carries = did.0;
+      hand = told.0;
+      told = told.3;
+      stocked = known ∙ ap (λ (o : Option Bool). stocked_after (inner_volume call) o (stocked_in before)) did.1;
+    })
+answers-it layout before after call (Refused back refusal) answer did told known =
+    subst (λ (x : Result Tended TendRefusal). Answers layout before (Ok call) x after) (sym told.1) (did.1, told.0 ∙ did.0, did.2, known)

@@ -36,7 +36,10 @@ worker-send = declared_send Worker.the_type (
   search (seat.the_send, sendable) depth 20,
   (
     search (pass.the_send, envelope-send, sendable) depth 20,
-    (search (batch.the_send, sendable) depth 20, (search (envelope-send, crosses, sendable) depth 20, tt)),
+    (
+      search (batch.the_send, sendable) depth 20,
+      (search (envelope-send, crosses, sendable) depth 20, (search (crosses, sendable) depth 20, tt)),
+    ),
   ),
 )
 

@@ -11,6 +11,7 @@ mod Turning
 mod Started
 mod Batches
 mod Added
+mod Looked
 mod Ran
 mod Carrying
 mod Lent

@@ -1,5 +1,5 @@
 -- An inner call on a seat: what it needs, what its run may end in, and what comes of it.
-use Rattle.std.proofs.Common.{◌≡◌, ℕ, ◌<◌, List, [], ◌∷◌, ◌++◌, length, Option, Some, None, refl, sym, ap, ◌∙◌, subst, arith}
+use Rattle.std.proofs.Common.{◌≡◌, ℕ, ◌<◌, Bool, List, [], ◌∷◌, ◌++◌, length, Option, Some, None, refl, sym, ap, ◌∙◌, subst, arith}
 use Rattle.nfs_model.specs.Tree.{Layout, Affinity, range_blocks_of}
 use Rattle.nfs_model.specs.Parts.{Hand, Empty}
 use Rattle.nfs_laws.specs.Sizes.{HaveSizes}
@@ -37,12 +37,14 @@ use Rattle.service.specs.declared.job.InnerCall as codes
 use Rattle.service.specs.declared.job.Job.TheVariants.{Inner}
 use Rattle.service.specs.declared.job.JobReply.{JobReply}
 use Rattle.turns.specs.Balance.{FilerView, FilerEntry}
-use Rattle.turns.specs.Carries.{node_tried, refusal_by, IsRefusedFor, MayCarry, Carries, HasRunInner}
+use Rattle.turns.specs.Carries.{node_tried, refusal_by, IsRefusedFor, MayCarry, Carries, HasRunInner, stock_left}
 use Rattle.turns.specs.Runs.{FilerLent}
+use Rattle.turns.specs.Stocks.{stock_told}
 use Rattle.turns.specs.Turns.{filer_behaviour}
 use Rattle.turns.specs.Words.{HasOpened, IsReady}
 use Rattle.turns.proofs.Added.{added-did}
 use Rattle.turns.proofs.Grants.{as-left}
+use Rattle.turns.proofs.Looked.{told-left}
 use Rattle.turns.proofs.Sized.{log-sized}
 
 abbrev Parcels : Type 0
@@ -95,7 +97,7 @@ granted-hand layout lawful node there v of opened f given own seen =
 
 module _ (layout : Layout) (lawful : fault_of layout ≡ None) (code : codes.InnerCall) (hand : Hand) (v w : FilerView)
     (may : MayCarry layout v (inner_of code) hand) (of_v : v.tree ≡ parents layout) (of_w : w.tree ≡ parents layout)
-    (outcome : InnerOutcome) (l : FilerLent) (r : HasRunInner layout v (inner_of code) hand outcome l w) where
+    (outcome : InnerOutcome) (said : Option Bool) (l : FilerLent) (r : HasRunInner layout v (inner_of code) hand outcome said l w) where
   abbrev call : InnerCall
   call = inner_of code
 
@@ -182,6 +184,10 @@ module _ (layout : Layout) (lawful : fault_of layout ≡ None) (code : codes.Inn
             added = added;
             did = added-did layout lawful v of_v ends.2 entry node may.fits.node (ap (number_of layout) here) added;
           }
+
+      -- what was told of a stock is so of what the entry left
+      pub made-told : said ≡ stock_left layout call entry
+      made-told = r.looked ∙ ap (λ (a : Affinity). stock_told layout a l.parcels) here ∙ told-left layout node may.fits.node l.parcels
 
   -- ---- it did nothing
 

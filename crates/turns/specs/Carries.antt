@@ -1,5 +1,5 @@
 -- An inner call of a worker, with what is in its hand (our profile).
-use Rattle.std.specs.Prelude.{◌≡◌, ℕ, List, [], ◌∷◌, ◌++◌, length, Option, Result, Ok, Err}
+use Rattle.std.specs.Prelude.{◌≡◌, ℕ, Bool, List, [], ◌∷◌, ◌++◌, length, Option, None, Result, Ok, Err}
 use Rattle.nfs_model.specs.Tree.{Layout, range_blocks_of}
 use Rattle.nfs_model.specs.Parts.{Hand, Empty, batch_in}
 use Rattle.affinity.specs.declared.affinity.Affinity as codes
@@ -31,6 +31,7 @@ use Rattle.turns.specs.declared.tend.Tended.{Tended}
 use Rattle.turns.specs.declared.tend.Tended.TheVariants as tendeds
 use Rattle.turns.specs.Balance.{FilerView, FilerEntry}
 use Rattle.turns.specs.Runs.{FilerLent}
+use Rattle.turns.specs.Stocks.{stock_told}
 use Rattle.turns.specs.Turns.{filer_behaviour}
 use Rattle.turns.specs.Words.{HasOpened}
 
@@ -96,18 +97,24 @@ abbrev pub refusal_by : Refusal → TendRefusal
 refusal_by (refusals.Busy at word) = Busy at word
 refusal_by refusals.Worn = Worn
 
--- what came of an inner call on a seat
+-- what the parcels that an entry of an inner call left under its node tell of a stock
+abbrev pub stock_left : Layout → InnerCall → FilerEntry → Option Bool
+stock_left layout call e = stock_told layout (inner_node call) (listed e.left)
+
+-- what came of an inner call on a seat. Where it is done, this is told of the stock as it left it.
 abbrev pub HasCarried : Layout → FilerView → InnerCall → Hand → Carried → FilerView → Type 0
-HasCarried layout v call hand (Done reply) w = Carries layout v call hand (job_reply_of reply) w
+HasCarried layout v call hand (Done reply told) w =
+    (c : Carries layout v call hand (job_reply_of reply) w) × (told ≡ stock_left layout call c.entry)
 HasCarried layout v call hand (Refused back refusal) w = (back ≡ hand) × (entries_of w ≡ entries_of v) × IsRefusedFor layout v call refusal w
 
--- a depot granted a seat the parcels of an inner call, and its run came to this, and left them so
-pub record HasRunInner (layout : Layout) (v : FilerView) (call : InnerCall) (hand : Hand) (outcome : InnerOutcome) (l : FilerLent)
+-- A depot granted a seat the parcels of an inner call, and its run came to this, and left them so. Then a look at them told this.
+pub record HasRunInner (layout : Layout) (v : FilerView) (call : InnerCall) (hand : Hand) (outcome : InnerOutcome) (told : Option Bool) (l : FilerLent)
     (w : FilerView) : Type 0 where
   pub before : FilerLent
   pub granted : IsGranted kind_in filer_behaviour layout v (inner_node call) before w
   pub done : IsDone (InnerHasRun call hand) layout before outcome l
   pub whole : IsWhole kind_in layout l
+  pub looked : told ≡ stock_told layout l.affinity l.parcels
 
 -- ---- what is told of it
 
@@ -129,10 +136,16 @@ NamesBatch (Gave hand) = Unit {0}
 NamesBatch reply = ⊥
 
 abbrev pub HasMovedBatch : Carried → Type 0
-HasMovedBatch (Done reply) = NamesBatch (job_reply_of reply)
+HasMovedBatch (Done reply told) = NamesBatch (job_reply_of reply)
 HasMovedBatch (Refused back refusal) = Unit {0}
 
 -- what is in the hand after it, and what its tend answers
 abbrev pub IsToldOf : Carried → Hand → Result Tended TendRefusal → Type 0
-IsToldOf (Done reply) hand answer = (hand ≡ hand_after (job_reply_of reply)) × (tended : Tended) × (answer ≡ Ok tended) × IsToldAs (job_reply_of reply) tended
+IsToldOf (Done reply told) hand answer =
+    (hand ≡ hand_after (job_reply_of reply)) × (tended : Tended) × (answer ≡ Ok tended) × IsToldAs (job_reply_of reply) tended
 IsToldOf (Refused back refusal) hand answer = (hand ≡ back) × (answer ≡ Err refusal)
+
+-- what was told of a stock; nothing where it was refused
+abbrev pub stock_by : Carried → Option Bool
+stock_by (Done reply told) = told
+stock_by (Refused back refusal) = None

@@ -10,6 +10,7 @@ pub mod Apart
 pub mod Works
 pub mod Logs
 pub mod lemmas
+pub mod Stocks
 pub mod Tends
 pub mod Carries
 pub use Rattle.service.specs.Jobs

@@ -1,10 +1,10 @@
 -- What a worker does without a message, on the batch of block numbers in its hand (our profile).
-use Rattle.std.specs.Prelude.{◌≡◌, ℕ, ◌*◌, ◌/◌, ◌%◌, ◌&&◌, nat_lt, length, Option, Result, Ok, Err, if◌then◌else◌}
+use Rattle.std.specs.Prelude.{◌≡◌, ℕ, ◌*◌, ◌/◌, ◌%◌, ◌==◌, ◌&&◌, ◌||◌, nat_lt, Bool, true, false, length, Option, Result, Ok, Err, if◌then◌else◌}
 use Rattle.nfs_model.specs.Tree.{Layout, range_blocks_of}
 use Rattle.nfs_model.specs.Parts.{Hand, Empty, Fresh, Dead, most_ranges, range_of}
 use Rattle.nfs_model.specs.Events.Refusals.{is_empty_hand}
 use Rattle.filer_state.specs.state.Jobs as jobs
-use Rattle.filer_state.specs.state.Jobs.{InnerCall, JobReply}
+use Rattle.filer_state.specs.state.Jobs.{InnerCall, JobReply, inner_volume}
 use Rattle.turns.specs.Messages.{Message}
 use Rattle.turns.specs.declared.tend.Tend.{Tend}
 use Rattle.turns.specs.declared.tend.Tend.TheVariants.{Fetch, Cull, PutDown}
@@ -13,7 +13,8 @@ use Rattle.turns.specs.declared.tend.Tended.TheVariants as tendeds
 use Rattle.turns.specs.declared.tend.TendRefusal.{TendRefusal}
 use Rattle.turns.specs.declared.tend.TendRefusal.TheVariants.{Busy, Worn, HandFull, HandEmpty, NoSuchRange, NoMemory}
 use Rattle.turns.specs.declared.worker.Worker.{Worker}
-use Rattle.turns.specs.Carries.{Carries, IsRefusedFor, hand_after, IsToldAs}
+use Rattle.turns.specs.Carries.{Carries, IsRefusedFor, hand_after, stock_left, IsToldAs}
+use Rattle.turns.specs.Stocks.{stocked_after, is_stocked}
 use Rattle.turns.specs.Words.{seat_view, entries_in}
 
 -- ---- of a worker
@@ -25,6 +26,10 @@ hand_in w = w.hand
 -- the message that it keeps
 abbrev pub kept_in : Worker → Option Message
 kept_in w = w.kept
+
+-- the volume of which it knows that the stock had enough numbers, if it knows of one
+abbrev pub stocked_in : Worker → Option ℕ
+stocked_in w = w.stocked
 
 -- ---- which inner call it is
 
@@ -49,20 +54,24 @@ call_of layout PutDown hand = call_to_put layout hand
 
 -- ---- what comes of it
 
--- one entry was made, of the inner call, with what was in the hand; its reply says what is in the hand then, and how many blocks moved
+-- One entry was made, of the inner call, with what was in the hand; its reply says what is in the hand then, and how many blocks moved.
+-- What the worker knows then of a stock is what the entry left: after a cull or a delivery, whether the stock of that volume has enough.
 pub record HasTended (layout : Layout) (before : Worker) (call : InnerCall) (tended : Tended) (after : Worker) : Type 0 where
   pub reply : JobReply
   pub carries : Carries layout (seat_view before) call (hand_in before) reply (seat_view after)
   pub hand : hand_in after ≡ hand_after reply
   pub told : IsToldAs reply tended
+  pub stocked : stocked_in after ≡ stocked_after (inner_volume call) (stock_left layout call carries.entry) (stocked_in before)
 
--- What a tend did by its answer, where this is its inner call, or there is none. A refused one made no entry and left the hand;
--- where there is no inner call, nothing was tried.
+-- What a tend did by its answer, where this is its inner call, or there is none. A refused one made no entry and left the hand, and
+-- what is known of a stock; where there is no inner call, nothing was tried.
 abbrev pub Answers : Layout → Worker → Result InnerCall TendRefusal → Result Tended TendRefusal → Worker → Type 0
 Answers layout before (Ok call) (Ok tended) after = HasTended layout before call tended after
 Answers layout before (Ok call) (Err refusal) after =
     (entries_in after ≡ entries_in before) × (hand_in after ≡ hand_in before) × IsRefusedFor layout (seat_view before) call refusal (seat_view after)
-Answers layout before (Err why) answer after = (answer ≡ Err why) × (seat_view after ≡ seat_view before) × (hand_in after ≡ hand_in before)
+    × (stocked_in after ≡ stocked_in before)
+Answers layout before (Err why) answer after =
+    (answer ≡ Err why) × (seat_view after ≡ seat_view before) × (hand_in after ≡ hand_in before) × (stocked_in after ≡ stocked_in before)
 
 abbrev pub Tends : Layout → Worker → Tend → Result Tended TendRefusal → Worker → Type 0
 Tends layout before tend answer after = Answers layout before (call_of layout tend (hand_in before)) answer after
@@ -89,11 +98,17 @@ tend_refusal_number NoMemory = 90
 
 -- ---- which tend is next
 
+-- Whether the tend after so many is a cull of this volume, where a stock is known to have enough numbers: each second tend is one, and
+-- the tend after it too where it is the volume's stock that has.
+abbrev pub is_cull : (made volume : ℕ) → (stocked : Option ℕ) → Bool
+is_cull made volume stocked = (made % 2 == 0) || is_stocked stocked volume
+
 -- With a batch in the hand it is put down. With an empty one, after so many such tends, a cull is next or a fetch, in turn: each two
--- of them are of the next volume, and once round the volumes, the fetches are of the next range. A cull may take the place of a fetch:
--- one does where the stock has enough numbers.
-abbrev pub IsNextTend : (volumes made : ℕ) → Hand → Tend → Type 0
-IsNextTend volumes made Empty (Cull volume) = volume.0 ≡ made / 2 % volumes
-IsNextTend volumes made Empty (Fetch volume range) = (made % 2 ≡ 1) × (volume.0 ≡ made / 2 % volumes) × (range ≡ made / (2 * volumes) % most_ranges)
-IsNextTend volumes made Empty PutDown = ⊥
-IsNextTend volumes made hand tend = tend ≡ PutDown
+-- of them are of the next volume, and once round the volumes, the fetches are of the next range. A cull takes the place of a fetch just
+-- where the volume's stock had enough numbers when the worker looked last.
+abbrev pub IsNextTend : (volumes made : ℕ) → (stocked : Option ℕ) → Hand → Tend → Type 0
+IsNextTend volumes made stocked Empty (Cull volume) = (volume.0 ≡ made / 2 % volumes) × (is_cull made volume.0 stocked ≡ true)
+IsNextTend volumes made stocked Empty (Fetch volume range) =
+    (volume.0 ≡ made / 2 % volumes) × (is_cull made volume.0 stocked ≡ false) × (range ≡ made / (2 * volumes) % most_ranges)
+IsNextTend volumes made stocked Empty PutDown = ⊥
+IsNextTend volumes made stocked hand tend = tend ≡ PutDown

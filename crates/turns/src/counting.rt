@@ -12,6 +12,7 @@ impl Worker {
     ghost use Rattle.crossbeam_queue.specs.Fifo.{Held};
     ghost use Rattle.turns.specs.shared_waiting.Balance.{both, Leaves};
     ghost use Rattle.turns.specs.shared_waiting.Passes.{known, IsOf};
+    ghost use Rattle.turns.specs.Tends.{stocked_in};
     ghost use Rattle.turns.specs.Turns.{standing_of};
     ghost use Rattle.turns.specs.Words.{passed, seats_in, IsAt};
 
@@ -34,6 +35,7 @@ impl Worker {
         ensures held { Held result (Leaves (both (passed self.old) (known other.old))) }
         ensures seats { seats_in self.new ≡ seats_in self.old }
         ensures hand { self.new.hand ≡ self.old.hand }
+        ensures stocked { stocked_in self.new ≡ stocked_in self.old }
     {
         queue.count_beside(rt, &mut self.pass, other)
     }

@@ -23,6 +23,7 @@ mod shared;
 mod shared_outboxes;
 pub mod shared_waiting;
 mod starting;
+mod stock;
 mod telling;
 mod tend;
 mod tending;

@@ -65,9 +65,10 @@ impl Worker {
     ghost use Rattle.service.specs.Jobs.{job_takes, job_gives};
     ghost use Rattle.turns.specs.shared_waiting.Passes.{known};
     ghost use Rattle.turns.specs.Balance.{IsEven};
+    ghost use Rattle.turns.specs.Tends.{stocked_in};
 
-    /// A worker with an empty hand that keeps nothing: whatever its pass picked, its seat finished
-    /// or its pass put back.
+    /// A worker with an empty hand that keeps nothing and knows of no stock: whatever its pass
+    /// picked, its seat finished or its pass put back.
     pub fn new(seat: Seat<Service>, pass: Pass<Envelope, Layout>) -> Worker
         requires balance { IsEven (known pass) (entries_of (view seat)) None }
         requires in_hand { AreHands job_takes job_gives (entries_of (view seat)) [] }
@@ -76,12 +77,14 @@ impl Worker {
         ensures pass { result.pass ≡ pass }
         ensures hand { result.hand ≡ parts.Empty }
         ensures kept { result.kept ≡ None }
+        ensures stocked { stocked_in result ≡ None }
     {
         Worker {
             seat,
             pass,
             hand: BatchInHand::new(Hand::Empty),
             kept: None,
+            stocked: None,
         }
     }
 }

@@ -35,6 +35,7 @@ pub(crate) fn told(served: Served) -> (Option<Envelope>, Turn)
 }
 
 impl Worker {
+    ghost use Rattle.turns.specs.Tends.{stocked_in};
     ghost use Rattle.turns.specs.Turns.{Did, HasShareOf};
     ghost use Rattle.turns.specs.Words.{layout_in, passed, seats_in, IsAt, IsIn};
 
@@ -54,6 +55,7 @@ impl Worker {
         ensures share { HasShareOf (passed self.old) (passed self.new) }
         ensures seats { seats_in self.new ≡ seats_in self.old }
         ensures hand { self.new.hand ≡ self.old.hand }
+        ensures stocked { stocked_in self.new ≡ stocked_in self.old }
     {
         self.pick(filer, queue, rt);
         let turned = self.try_kept(filer, queue, gate, moment);
@@ -75,6 +77,7 @@ impl Worker {
         ensures share { HasShareOf (passed self) (passed result.0) }
         ensures seats { seats_in result.0 ≡ seats_in self }
         ensures hand { result.0.hand ≡ self.hand }
+        ensures stocked { stocked_in result.0 ≡ stocked_in self }
     {
         let mut worker = self;
         let turned = worker.turn_in(filer, &filer.waiting, rt, gate, moment);

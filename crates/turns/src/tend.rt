@@ -79,8 +79,9 @@ impl TendRefusal {
 
 /// What came of an inner call on a seat.
 pub(crate) enum Carried {
-    /// It is finished by an entry with this reply.
-    Done(JobReply),
+    /// It is finished by an entry with this reply, and this was told of a stock: whether it has
+    /// enough numbers.
+    Done(JobReply, Option<bool>),
     /// There is no entry, and the hand is as it was.
     Refused(BatchInHand, TendRefusal),
 }

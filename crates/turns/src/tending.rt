@@ -1,17 +1,19 @@
 //! What a worker does without a message.
 
-ghost use Rattle.std.specs.Prelude.{◌≡◌, length, nat_lt, Ok, Err, MatchResult};
+ghost use Rattle.std.specs.Prelude.{◌≡◌, ◌||◌, length, nat_lt, Ok, Err, MatchResult};
 ghost use Rattle.affinity.specs.Layout.{layout_of};
 ghost use Rattle.nfs_model.specs.Events.Refusals.{is_empty_hand};
 ghost use Rattle.nfs_model.specs.Parts.{batch_in};
 ghost use Rattle.service.specs.Jobs.{inner_of, job_reply_of};
-ghost use Rattle.turns.specs.Carries.{hand_after, HasMovedBatch, IsToldAs, IsToldOf, NamesBatch};
-ghost use Rattle.turns.specs.Tends.{call_of, call_to_put};
+ghost use Rattle.turns.specs.Carries.{hand_after, stock_by};
+ghost use Rattle.turns.specs.Carries.{HasMovedBatch, IsToldAs, IsToldOf, NamesBatch};
+ghost use Rattle.turns.specs.Tends.{call_of, call_to_put, is_cull};
 ghost use Rattle.turns.specs.Words.{IsHandIn};
 
 use crate::envelope::Envelope;
 use crate::shared::Filer;
 use crate::shared_waiting::SharedWaiting;
+use crate::stock::is_stocked;
 use crate::tend::{Carried, Tend, TendRefusal, Tended};
 use crate::worker::Worker;
 use affinity::Layout;
@@ -119,30 +121,48 @@ fn told(reply: JobReply) -> (BatchInHand, Tended)
         }
         JobReply::Gave(hand) => {
             let count = blocks_in(&hand);
-            let empty = BatchInHand::new(Hand::Empty).seen(hand.has_enough());
-            (empty, Tended::PutDown { count })
+            (BatchInHand::new(Hand::Empty), Tended::PutDown { count })
         }
         JobReply::Replied(_) | JobReply::Surveyed(_) => unreachable!(),
     }
 }
 
-/// What is in the hand after an inner call, and what its tend answers.
-pub(crate) fn answer(carried: Carried) -> (BatchInHand, Result<Tended, TendRefusal>)
+/// What is in the hand after an inner call, what its tend answers, and what was told of a stock.
+pub(crate) fn answer(
+    carried: Carried,
+) -> (BatchInHand, Result<Tended, TendRefusal>, Option<bool>)
     requires { HasMovedBatch carried }
-    ensures { IsToldOf carried result.0 result.1 }
+    ensures told { IsToldOf carried result.0 result.1 }
+    ensures stock { result.2 ≡ stock_by carried }
 {
     match carried {
-        Carried::Done(reply) => {
+        Carried::Done(reply, stock) => {
             let (hand, tended) = told(reply);
-            (hand, Ok(tended))
+            (hand, Ok(tended), stock)
         }
-        Carried::Refused(hand, refusal) => (hand, Err(refusal)),
+        Carried::Refused(hand, refusal) => (hand, Err(refusal), None),
     }
+}
+
+/// Whether one of two is true.
+fn either(a: bool, b: bool) -> bool
+    ensures { result ≡ (a || b) }
+{
+    a || b
+}
+
+/// Whether the tend after so many with an empty hand is a cull of a volume, where it is known of
+/// which volume's stock that it has enough numbers.
+fn is_cull(made: u64, volume: u32, stocked: Option<u32>) -> bool
+    ensures { result ≡ is_cull made volume stocked }
+{
+    either(made % 2 == 0, is_stocked(stocked, volume))
 }
 
 impl Worker {
     ghost use Rattle.std.specs.Option.{is_some};
-    ghost use Rattle.turns.specs.Tends.{hand_in, kept_in, IsNextTend, Tends, TendsTo};
+    ghost use Rattle.turns.specs.Tends.{hand_in, kept_in, stocked_in};
+    ghost use Rattle.turns.specs.Tends.{IsNextTend, Tends, TendsTo};
     ghost use Rattle.turns.specs.Words.{layout_in, passed, seats_in, IsAt, IsIn};
 
     /// What is in the worker's hand.
@@ -168,21 +188,18 @@ impl Worker {
 
     /// The tend after a turn without a message, where so many were made with an empty hand: what is
     /// in the hand is put down, else culls and fetches take turns, over all volumes, and the
-    /// fetches of a volume over its ranges. Where the last call on a stock told that it has enough
-    /// numbers, a cull takes the place of the fetch; that call is the cull before it as a rule.
+    /// fetches of a volume over its ranges. A cull takes the place of a fetch where the stock of
+    /// the volume had enough numbers when the worker looked last: as a rule, at the cull before it.
     pub fn next_tend(&self, filer: &Filer, made: u64) -> Tend
         ensures { IsNextTend (length (layout_in filer.now).volumes) made
-            (hand_in self.now) result }
+            (stocked_in self.now) (hand_in self.now) result }
     {
         if !self.has_empty_hand() {
             return Tend::PutDown;
         }
         let volumes = filer.depot.layout().volume_count() as u64;
         let volume = VolumeNumber((made / 2 % volumes) as u32);
-        if made % 2 == 0 {
-            return Tend::Cull { volume };
-        }
-        if self.hand.has_enough() {
+        if is_cull(made, volume.0, self.stocked) {
             return Tend::Cull { volume };
         }
         let range = (made / (2 * volumes) % u64::from(RANGES)) as u32;

@@ -20,6 +20,7 @@ impl Worker {
     ghost use Rattle.turns.specs.shared_waiting.Passes.{known, IsOf};
     ghost use Rattle.turns.specs.Chains.{turns_at_most, HasDoneFew, HasTriedAll, HasTurnedOn};
     ghost use Rattle.turns.specs.Telling.{TookTold};
+    ghost use Rattle.turns.specs.Tends.{stocked_in};
     ghost use Rattle.turns.specs.Turns.{standing_of, HasShareOf};
     ghost use Rattle.turns.specs.Words.{layout_in, passed, seat_view, seats_in, IsAt};
 
@@ -46,6 +47,7 @@ impl Worker {
         ensures share { HasShareOf (passed self.old) (passed self.new) }
         ensures seats { seats_in self.new ≡ seats_in self.old }
         ensures hand { self.new.hand ≡ self.old.hand }
+        ensures stocked { stocked_in self.new ≡ stocked_in self.old }
     {
         let message = match self.kept.take() {
             Some(message) => message,
@@ -102,6 +104,7 @@ impl Worker {
         ensures share { HasShareOf (passed self.old) (passed self.new) }
         ensures seats { seats_in self.new ≡ seats_in self.old }
         ensures hand { self.new.hand ≡ self.old.hand }
+        ensures stocked { stocked_in self.new ≡ stocked_in self.old }
     {
         self.pick_beside(filer, queue, other, rt);
         let chained = self.try_all(filer, queue, rt, gate, hint, moment, most, handles, sink);

@@ -8,13 +8,14 @@ ghost use Rattle.turns.specs.shared_waiting.Passes.{known};
 ghost use Rattle.turns.specs.Balance.{IsEven};
 
 use crate::envelope::Envelope;
-use crate::inner::carry;
+use crate::inner::{carry, volume_of};
 use crate::one_turn::told;
 use crate::parts::WorkerParts;
 use crate::queueing::{next, next_beside, put_kept};
 use crate::serving::run_message;
 use crate::shared::Filer;
 use crate::shared_waiting::{Pass, SharedWaiting};
+use crate::stock::stocked;
 use crate::tend::{TendRefusal, Tended};
 use crate::tending::answer;
 use crate::turned::{Gate, Turn};
@@ -28,14 +29,16 @@ use std::mem;
 use std::sync::Wait;
 
 /// A seat of the depot and a pass of the queue, the batch of block numbers in the worker's hand,
-/// and a message that it keeps where the queue was full. What its pass picked is, as often, what
-/// its seat finished, what its pass put and what it keeps; the batch is all that its seat's calls
-/// took and didn't give; and its seat has no open grant.
+/// a message that it keeps where the queue was full, and of which volume it knows that the stock
+/// has enough numbers. What its pass picked is, as often, what its seat finished, what its pass put
+/// and what it keeps; the batch is all that its seat's calls took and didn't give; and its seat has
+/// no open grant.
 pub struct Worker {
     pub(crate) seat: Seat<Service>,
     pub(crate) pass: Pass<Envelope, Layout>,
     pub(crate) hand: BatchInHand,
     pub(crate) kept: Option<Envelope>,
+    pub(crate) stocked: Option<u32>,
     pub ghost balance: { IsEven (known pass) (entries_of (view seat)) kept },
     pub ghost in_hand: { AreHands job_takes job_gives (entries_of (view seat)) (batches_in hand) },
     pub ghost none_open: { HasNoGrant seat },
@@ -50,6 +53,7 @@ impl Drop for Worker {
             pass: _,
             hand: _,
             kept: _,
+            stocked: _,
         } = self;
     }
 }
@@ -63,7 +67,7 @@ impl Worker {
     ghost use Rattle.turns.specs.shared_waiting.Passes.{IsOf};
     ghost use Rattle.turns.specs.Apart.{AreOf, IsSettled};
     ghost use Rattle.turns.specs.Carries.{FitsHand};
-    ghost use Rattle.turns.specs.Tends.{Answers};
+    ghost use Rattle.turns.specs.Tends.{stocked_in, Answers};
     ghost use Rattle.turns.specs.Turns.{HasNext, HasPut, HasShareOf, HasTried};
     ghost use Rattle.turns.specs.Words.{entries_in, layout_in, layout_known, passed, seats_in};
     ghost use Rattle.turns.specs.Words.{IsAt, IsIn};
@@ -82,6 +86,7 @@ impl Worker {
         ensures share { HasShareOf (passed self.old) (passed self.new) }
         ensures seat { self.new.seat ≡ self.old.seat }
         ensures hand { self.new.hand ≡ self.old.hand }
+        ensures stocked { stocked_in self.new ≡ stocked_in self.old }
     {
         let kept = self.kept.take();
         self.kept = next(queue, rt, &mut self.pass, kept);
@@ -107,6 +112,7 @@ impl Worker {
         ensures share { HasShareOf (passed self.old) (passed self.new) }
         ensures seat { self.new.seat ≡ self.old.seat }
         ensures hand { self.new.hand ≡ self.old.hand }
+        ensures stocked { stocked_in self.new ≡ stocked_in self.old }
     {
         let kept = self.kept.take();
         self.kept = next_beside(queue, rt, &mut self.pass, other, kept);
@@ -126,6 +132,7 @@ impl Worker {
         ensures pass { self.new.pass ≡ self.old.pass }
         ensures seats { seats_in self.new ≡ seats_in self.old }
         ensures hand { self.new.hand ≡ self.old.hand }
+        ensures stocked { stocked_in self.new ≡ stocked_in self.old }
     {
         let message = match self.kept.take() {
             Some(message) => message,
@@ -150,6 +157,7 @@ impl Worker {
         ensures share { HasShareOf (passed self.old) (passed self.new) }
         ensures seat { self.new.seat ≡ self.old.seat }
         ensures hand { self.new.hand ≡ self.old.hand }
+        ensures stocked { stocked_in self.new ≡ stocked_in self.old }
     {
         let kept = self.kept.take();
         self.kept = put_kept(queue, rt, &mut self.pass, kept);
@@ -173,8 +181,9 @@ impl Worker {
     {
         batches_are_of_one_range();
         let held = mem::replace(&mut self.hand, BatchInHand::new(Hand::Empty));
-        let (hand, answer) = answer(carry(filer, &mut self.seat, call, held));
+        let (hand, answer, stock) = answer(carry(filer, &mut self.seat, call, held));
         self.hand = hand;
+        self.stocked = stocked(volume_of(call), stock, self.stocked);
         answer
     }
 
@@ -197,6 +206,7 @@ impl Worker {
             pass,
             hand,
             kept,
+            stocked,
         } = self;
         match filer.depot.split_seat(seat) {
             Ok((seat, second)) => {
@@ -206,6 +216,7 @@ impl Worker {
                     pass,
                     hand,
                     kept,
+                    stocked,
                 };
                 (first, Worker::new(second, half))
             }
@@ -240,6 +251,7 @@ impl Worker {
             pass: first_pass,
             hand,
             kept,
+            stocked,
         } = self;
         match filer.depot.split_seat(seat) {
             Ok((seat, second)) => {
@@ -248,6 +260,7 @@ impl Worker {
                     pass: first_pass,
                     hand,
                     kept,
+                    stocked,
                 };
                 (first, Worker::new(second, pass))
             }
@@ -265,6 +278,7 @@ impl Worker {
             pass,
             hand,
             kept,
+            stocked: _,
         } = self;
         WorkerParts {
             seat,

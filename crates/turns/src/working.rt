@@ -53,6 +53,7 @@ fn put_answer<R: Wait>(
 
 impl Worker {
     ghost use Rattle.turns.specs.SharedOutboxes.{HasLentShareOf};
+    ghost use Rattle.turns.specs.Tends.{stocked_in};
     ghost use Rattle.turns.specs.Turns.{HasShareOf};
     ghost use Rattle.turns.specs.Words.{layout_in, passed, seats_in, IsIn};
     ghost use Rattle.turns.specs.Works.{HasWorked};
@@ -78,6 +79,7 @@ impl Worker {
         ensures share { HasShareOf (passed self) (passed result.0) }
         ensures seats { seats_in result.0 ≡ seats_in self }
         ensures hand { result.0.hand ≡ self.hand }
+        ensures stocked { stocked_in result.0 ≡ stocked_in self }
     {
         let (worker, turn) = self.turn(filer, rt, gate, moment);
         (worker, put_answer(outboxes, rt, pass, turn))

@@ -10,7 +10,7 @@ use Rattle.turns.specs.declared.tend.Tended.{Tended}
 use Rattle.turns.specs.declared.tend.TendRefusal.{TendRefusal}
 use Rattle.turns.specs.declared.tend.TendRefusal.TheVariants.{Busy, NoMemory}
 use Rattle.turns.specs.declared.worker.Worker.{Worker}
-use Rattle.turns.specs.Tends.{blocks_moved, hand_in, IsNextTend, Tends}
+use Rattle.turns.specs.Tends.{blocks_moved, hand_in, stocked_in, IsNextTend, Tends}
 
 -- what a tend found, by its answer: a refusal because a node was taken says nothing of what is there
 abbrev pub found_by : Result Tended TendRefusal → Found
@@ -37,13 +37,13 @@ pub record IsCounted (t : Tending) (empty : Bool) (what : Found) (t' : Tending) 
 -- a worker made the tend that was next, and it was counted by what it found
 pub record HasTended (layout : Layout) (before : Worker) (t : Tending) (what : Found) (after : Worker) (t' : Tending) : Type 0 where
   pub tend : Tend
-  pub next : IsNextTend (length layout.volumes) t.made (hand_in before) tend
+  pub next : IsNextTend (length layout.volumes) t.made (stocked_in before) (hand_in before) tend
   pub answer : Result Tended TendRefusal
   pub tends : Tends layout before tend answer after
   pub is : what ≡ found_by answer
   pub counted : IsCounted t (is_empty_hand (hand_in before)) what t'
 
--- tends over all volumes and ranges: for each range of each volume a fetch, and a cull before it
+-- tends over all volumes and ranges: for each range of each volume a fetch, or a cull where its stock has enough numbers, and a cull before it
 abbrev pub all_tends : Layout → ℕ
 all_tends layout = length layout.volumes * 32
 

@@ -6,7 +6,8 @@ use Rattle.service.specs.Jobs.{inner_of}
 use Rattle.turns.specs.declared.tend.TendRefusal.{TendRefusal}
 use Rattle.turns.specs.Carries.{node_tried, IsRefusedFor}
 use Rattle.turns.specs.Words.{layout_in, verifier_in}
-use Rattle.turns.proofs.Ran.{refused-for, may-finish, made-ready, made, unused-goes-back, is-unused, empty-hand, starved-goes-back, left-entries, left-ready}
+use Rattle.turns.proofs.Ran.{refused-for, may-finish, made-ready, made, made-told, unused-goes-back, is-unused, empty-hand, starved-goes-back}
+use Rattle.turns.proofs.Ran.{left-entries, left-ready}
 use Rattle.turns.proofs.Served.{refused-entries, refused-ready}
 use Rattle.turns.proofs.inner.carry_on.Goals as goal
 
@@ -37,7 +38,8 @@ finish_node-requires-clause-can g c =
     let w = view c.run_inner.new.seat in
     let call = inner_of c.args.call in
     may-finish L c.args.filer.now.depot.layout.lawful c.args.call c.args.hand v w c.requires.may
-    c.requires.seat.1.0 c.run_inner.ensures.seat.1.0 c.in-Ok.ran.outcome (node_lent L c.in-Ok.ran.grant) c.in-Ok.ensures.ran c.in-Done.reply c.in-Done.is
+    c.requires.seat.1.0 c.run_inner.ensures.seat.1.0
+    c.in-Ok.ran.outcome c.in-Ok.ran.told (node_lent L c.in-Ok.ran.grant) c.in-Ok.ensures.ran c.in-Done.reply c.in-Done.is
 
 pub returns-in-Done-clause-ready : goal.returns-in-Done-clause-ready
 returns-in-Done-clause-ready g c =
@@ -47,7 +49,8 @@ returns-in-Done-clause-ready g c =
     let call = inner_of c.args.call in
     let u = view c.finish_node.new.seat in
     made-ready L c.args.filer.now.depot.layout.lawful c.args.call c.args.hand v w c.requires.may
-    c.requires.seat.1.0 c.run_inner.ensures.seat.1.0 c.in-Ok.ran.outcome (node_lent L c.in-Ok.ran.grant) c.in-Ok.ensures.ran c.in-Done.reply c.in-Done.is u
+    c.requires.seat.1.0 c.run_inner.ensures.seat.1.0
+    c.in-Ok.ran.outcome c.in-Ok.ran.told (node_lent L c.in-Ok.ran.grant) c.in-Ok.ensures.ran c.in-Done.reply c.in-Done.is u
     c.finish_node.ensures.finished (verifier_in c.args.filer.now) c.requires.ready
 
 pub returns-in-Done-clause-carried : goal.returns-in-Done-clause-carried
@@ -57,9 +60,14 @@ returns-in-Done-clause-carried g c =
     let w = view c.run_inner.new.seat in
     let call = inner_of c.args.call in
     let u = view c.finish_node.new.seat in
-    made L c.args.filer.now.depot.layout.lawful c.args.call c.args.hand v w c.requires.may
-    c.requires.seat.1.0 c.run_inner.ensures.seat.1.0 c.in-Ok.ran.outcome (node_lent L c.in-Ok.ran.grant) c.in-Ok.ensures.ran c.in-Done.reply c.in-Done.is u
-    c.finish_node.ensures.finished
+    let finished = c.finish_node.ensures.finished in (
+      made L c.args.filer.now.depot.layout.lawful c.args.call c.args.hand v w c.requires.may
+          c.requires.seat.1.0 c.run_inner.ensures.seat.1.0
+          c.in-Ok.ran.outcome c.in-Ok.ran.told (node_lent L c.in-Ok.ran.grant) c.in-Ok.ensures.ran c.in-Done.reply c.in-Done.is u finished,
+      made-told L c.args.filer.now.depot.layout.lawful c.args.call c.args.hand v w c.requires.may
+          c.requires.seat.1.0 c.run_inner.ensures.seat.1.0
+          c.in-Ok.ran.outcome c.in-Ok.ran.told (node_lent L c.in-Ok.ran.grant) c.in-Ok.ensures.ran c.in-Done.reply c.in-Done.is u finished,
+    )
 
 -- ---- it is refused
 
@@ -70,7 +78,8 @@ put_back_node-requires-clause-can g c =
     let w = view c.run_inner.new.seat in
     let call = inner_of c.args.call in
     unused-goes-back L c.args.filer.now.depot.layout.lawful c.args.call c.args.hand v w c.requires.may
-    c.requires.seat.1.0 c.run_inner.ensures.seat.1.0 c.in-Ok.ran.outcome (node_lent L c.in-Ok.ran.grant) c.in-Ok.ensures.ran c.in-Refused.is
+    c.requires.seat.1.0 c.run_inner.ensures.seat.1.0
+    c.in-Ok.ran.outcome c.in-Ok.ran.told (node_lent L c.in-Ok.ran.grant) c.in-Ok.ensures.ran c.in-Refused.is
 
 pub returns-in-Refused-clause-ready : goal.returns-in-Refused-clause-ready
 returns-in-Refused-clause-ready g c =
@@ -80,7 +89,8 @@ returns-in-Refused-clause-ready g c =
     let call = inner_of c.args.call in
     let u = view c.put_back_node.new.seat in
     left-ready L c.args.filer.now.depot.layout.lawful c.args.call c.args.hand v w c.requires.may
-    c.requires.seat.1.0 c.run_inner.ensures.seat.1.0 c.in-Ok.ran.outcome (node_lent L c.in-Ok.ran.grant) c.in-Ok.ensures.ran u c.put_back_node.ensures.ended
+    c.requires.seat.1.0 c.run_inner.ensures.seat.1.0
+    c.in-Ok.ran.outcome c.in-Ok.ran.told (node_lent L c.in-Ok.ran.grant) c.in-Ok.ensures.ran u c.put_back_node.ensures.ended
     (verifier_in c.args.filer.now) c.requires.ready
 
 pub returns-in-Refused-clause-carried : goal.returns-in-Refused-clause-carried
@@ -91,13 +101,16 @@ returns-in-Refused-clause-carried g c =
     let call = inner_of c.args.call in
     let u = view c.put_back_node.new.seat in
     let empty : c.args.hand ≡ Empty = empty-hand L c.args.filer.now.depot.layout.lawful c.args.call c.args.hand v w c.requires.may
-    c.requires.seat.1.0 c.run_inner.ensures.seat.1.0 c.in-Ok.ran.outcome (node_lent L c.in-Ok.ran.grant) c.in-Ok.ensures.ran c.in-Refused.is in (
+    c.requires.seat.1.0 c.run_inner.ensures.seat.1.0
+    c.in-Ok.ran.outcome c.in-Ok.ran.told (node_lent L c.in-Ok.ran.grant) c.in-Ok.ensures.ran c.in-Refused.is in (
       c.new.ensures ∙ sym empty,
       left-entries L c.args.filer.now.depot.layout.lawful c.args.call c.args.hand v w c.requires.may
-          c.requires.seat.1.0 c.run_inner.ensures.seat.1.0 c.in-Ok.ran.outcome (node_lent L c.in-Ok.ran.grant) c.in-Ok.ensures.ran u
+          c.requires.seat.1.0 c.run_inner.ensures.seat.1.0
+          c.in-Ok.ran.outcome c.in-Ok.ran.told (node_lent L c.in-Ok.ran.grant) c.in-Ok.ensures.ran u
           c.put_back_node.ensures.ended,
       is-unused L c.args.filer.now.depot.layout.lawful c.args.call c.args.hand v w c.requires.may
-          c.requires.seat.1.0 c.run_inner.ensures.seat.1.0 c.in-Ok.ran.outcome (node_lent L c.in-Ok.ran.grant) c.in-Ok.ensures.ran c.in-Refused.is,
+          c.requires.seat.1.0 c.run_inner.ensures.seat.1.0
+          c.in-Ok.ran.outcome c.in-Ok.ran.told (node_lent L c.in-Ok.ran.grant) c.in-Ok.ensures.ran c.in-Refused.is,
     )
 
 -- ---- there is no memory
@@ -109,7 +122,8 @@ put_back_node-requires-in-NoMemory-clause-can g c =
     let w = view c.run_inner.new.seat in
     let call = inner_of c.args.call in
     starved-goes-back L c.args.filer.now.depot.layout.lawful c.args.call c.args.hand v w c.requires.may
-    c.requires.seat.1.0 c.run_inner.ensures.seat.1.0 c.in-Ok.ran.outcome (node_lent L c.in-Ok.ran.grant) c.in-Ok.ensures.ran c.in-NoMemory.hand c.in-NoMemory.is
+    c.requires.seat.1.0 c.run_inner.ensures.seat.1.0
+    c.in-Ok.ran.outcome c.in-Ok.ran.told (node_lent L c.in-Ok.ran.grant) c.in-Ok.ensures.ran c.in-NoMemory.hand c.in-NoMemory.is
 
 pub returns-in-NoMemory-clause-ready : goal.returns-in-NoMemory-clause-ready
 returns-in-NoMemory-clause-ready g c =
@@ -119,5 +133,6 @@ returns-in-NoMemory-clause-ready g c =
     let call = inner_of c.args.call in
     let u = view c.put_back_node-in-NoMemory.new.seat in
     left-ready L c.args.filer.now.depot.layout.lawful c.args.call c.args.hand v w c.requires.may
-    c.requires.seat.1.0 c.run_inner.ensures.seat.1.0 c.in-Ok.ran.outcome (node_lent L c.in-Ok.ran.grant) c.in-Ok.ensures.ran u
+    c.requires.seat.1.0 c.run_inner.ensures.seat.1.0
+    c.in-Ok.ran.outcome c.in-Ok.ran.told (node_lent L c.in-Ok.ran.grant) c.in-Ok.ensures.ran u
     c.put_back_node-in-NoMemory.ensures.ended (verifier_in c.args.filer.now) c.requires.ready

@@ -22,4 +22,4 @@ pub returns-in-Err-clause-tends : goal.returns-in-Err-clause-tends
 returns-in-Err-clause-tends c =
     let L = layout_in c.args.filer.now in
     let asked = subst (λ (x : trees.Layout). call_of x c.args.tend c.args.self.now.hand ≡ Err c.in-Err.refusal) c.layout.ensures c.in-Err.ensures in
-    tends-by L c.args.self.now c.args.self.now c.args.tend (Err c.in-Err.refusal) (Err c.in-Err.refusal) asked (refl, refl, refl)
+    tends-by L c.args.self.now c.args.self.now c.args.tend (Err c.in-Err.refusal) (Err c.in-Err.refusal) asked (refl, refl, refl, refl)
