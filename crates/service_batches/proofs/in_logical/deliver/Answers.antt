@@ -22,7 +22,7 @@ returns-clause-right c =
 
 pub returns-clause-most : goal.returns-clause-most
 returns-clause-most c =
-    let wide = c.if-room-lt-count.false in
+    let wide = c.if-room-count.false in
     let fits : c.len-count.result ≤ c.saturating_sub-room.result = omega (arith, wide) in
     on-good c.put.result _ _
     (λ put. within-most (logical_value c.get_mut.result.now) (logical_value c.get.result.now) c.put.new.self c.args.batch.now c.len-count.result
