@@ -96,7 +96,7 @@ module _ (b : BlockNumber) (blocks rest : List BlockNumber) (is : blocks ≡ b �
       ∙ ap (λ (l : List BlockNumber). dead_marked (numbers l) old) (sym is)
 
 pub none-fewer : (blocks : List BlockNumber) (filled : ℕ) → length blocks ≡ 0 → filled ≡ filled - length (numbers blocks)
-none-fewer [] filled none = refl
+none-fewer [] filled none = omega arith
 none-fewer (b ∷ bs) filled none = absurd (omega arith)
 
 pub none-marked : (blocks : List BlockNumber) (dead : DeadValue) → length blocks ≡ 0 → dead ≡ dead_marked (numbers blocks) dead
