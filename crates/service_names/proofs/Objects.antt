@@ -1,5 +1,5 @@
 -- ACCESS, FSINFO and PATHCONF of a set under Logical, by the attributes of a node.
-use Rattle.std.proofs.Common.{◌≡◌, ℕ, false, List, [], Option, Some, None, Ok, Err, sym, ap, ◌∙◌, subst, Result}
+use Rattle.std.proofs.Common.{◌≡◌, ℕ, false, [], Some, None, Ok, Err, sym, ap, ◌∙◌, subst, Result}
 use Rattle.nfs_model.specs.Types as model
 use Rattle.nfs_model.specs.Types.{Credential, Shown, Answer, Success, AccessDone, FsinfoDone, PathconfDone, Failed}
 use Rattle.nfs_model.specs.Serial.Access.{access_given}
