@@ -1,4 +1,4 @@
-use Rattle.std.proofs.Common.{ℕ, ◌<◌, ◌≡◌, sym, ap, ◌∙◌, Ok, Err, arith}
+use Rattle.std.proofs.Common.{◌<◌, ◌≡◌, sym, ap, ◌∙◌, Ok, Err, arith}
 use Rattle.std.proofs.lemmas.Bool.Decides.{nat_tests}
 use Rattle.nfs_values.specs.Answer as answers
 use Rattle.nfs_values.specs.declared.answer.ReadResults.{ReadResults}
