@@ -1,4 +1,4 @@
-use Rattle.std.proofs.Common.{sym, ap, ◌∙◌, Option, Some, Ok, Err}
+use Rattle.std.proofs.Common.{sym, ap, ◌∙◌, Option, Ok, Err}
 use Rattle.nfs_values.specs.declared.status.Status.TheVariants.{Stale}
 use Rattle.nfs_model.specs.Types.{GetattrDone}
 use Rattle.nfs_model.specs.volume.Inodes.{Inode, inode_of}

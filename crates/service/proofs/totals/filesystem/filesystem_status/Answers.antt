@@ -1,4 +1,4 @@
-use Rattle.std.proofs.Common.{◌≡◌, ◌*◌, ◌-◌, ℕ, sym, ap, ◌∙◌, Ok, Err, Some}
+use Rattle.std.proofs.Common.{◌≡◌, ◌*◌, ◌-◌, sym, ap, ◌∙◌, Ok, Err, Some}
 use Rattle.std.specs.FinMap.{get, len}
 use Rattle.nfs_model.specs.Types.{Space, FsstatDone}
 use Rattle.nfs_model.specs.Server.{block_size}
