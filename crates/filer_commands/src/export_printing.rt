@@ -30,7 +30,8 @@ fn words_for(bits: u64) -> u64
 /// them where they are more than 1,024: a bit for each word, for each word of these, and so on, in
 /// three levels.
 fn marks_of(blocks: u32) -> u64
-    ensures { result ≤ 2 * blocks + 64 }
+    ensures by_blocks { result ≤ 2 * blocks + 64 }
+    ensures fits { result ≤ 8589934654 }
 {
     let words = words_for(u64::from(blocks));
     if blocks <= 1_024 {
