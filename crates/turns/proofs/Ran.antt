@@ -170,7 +170,7 @@ module _ (layout : Layout) (lawful : fault_of layout ≡ None) (code : codes.Inn
         none_open = finished-none filer_behaviour v w u (number_of layout node) before entry ready.none_open begun ends;
       }
 
-      pub made : Carries layout v call hand (job_reply_of reply) u
+      made : Carries layout v call hand (job_reply_of reply) u
       made =
           let added : HasAdded filer_behaviour v ends.2 entry = subst (λ (x : FilerView). HasAdded filer_behaviour x ends.2 entry) begun.3 ends.4 in
           record {
@@ -185,9 +185,13 @@ module _ (layout : Layout) (lawful : fault_of layout ≡ None) (code : codes.Inn
             did = added-did layout lawful v of_v ends.2 entry node may.fits.node (ap (number_of layout) here) added;
           }
 
-      -- what was told of a stock is so of what the entry left
-      pub made-told : said ≡ stock_left layout call entry
-      made-told = r.looked ∙ ap (λ (a : Affinity). stock_told layout a l.parcels) here ∙ told-left layout node may.fits.node l.parcels
+      -- and what was told of a stock is so of what the entry left
+      pub has-carried : (c : Carries layout v call hand (job_reply_of reply) u) × (said ≡ stock_left layout call c.entry)
+      unfolding made
+      has-carried = (
+        made,
+        r.looked ∙ ap (λ (a : Affinity). stock_told layout a l.parcels) here ∙ told-left layout node may.fits.node l.parcels,
+      )
 
   -- ---- it did nothing
 

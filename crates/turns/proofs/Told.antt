@@ -1,5 +1,5 @@
 -- What is told of a turn whose answer is put.
-use Rattle.std.proofs.Common.{◌≡◌, refl, sym, subst, ap}
+use Rattle.std.proofs.Common.{◌≡◌, sym, subst, ap}
 use Rattle.nfs_model.specs.Tree.{Layout}
 use Rattle.nfs_values.specs.declared.moment.Moment.{Moment}
 use Rattle.turns.specs.SharedOutboxes.{Lent, HasLentShareOf}

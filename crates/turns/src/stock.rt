@@ -69,13 +69,7 @@ pub(crate) fn stocked(volume: u32, told: Option<bool>, before: Option<u32>) -> O
     ensures { result ≡ stocked_after volume told before }
 {
     match told {
-        Some(enough) => {
-            if enough {
-                Some(volume)
-            } else {
-                None
-            }
-        }
+        Some(enough) => { if enough { Some(volume) } else { None } }
         None => before,
     }
 }

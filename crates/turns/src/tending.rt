@@ -128,9 +128,7 @@ fn told(reply: JobReply) -> (BatchInHand, Tended)
 }
 
 /// What is in the hand after an inner call, what its tend answers, and what was told of a stock.
-pub(crate) fn answer(
-    carried: Carried,
-) -> (BatchInHand, Result<Tended, TendRefusal>, Option<bool>)
+pub(crate) fn answer(carried: Carried) -> (BatchInHand, Result<Tended, TendRefusal>, Option<bool>)
     requires { HasMovedBatch carried }
     ensures told { IsToldOf carried result.0 result.1 }
     ensures stock { result.2 ≡ stock_by carried }

@@ -6,7 +6,7 @@ use Rattle.service.specs.Jobs.{inner_of}
 use Rattle.turns.specs.declared.tend.TendRefusal.{TendRefusal}
 use Rattle.turns.specs.Carries.{node_tried, IsRefusedFor}
 use Rattle.turns.specs.Words.{layout_in, verifier_in}
-use Rattle.turns.proofs.Ran.{refused-for, may-finish, made-ready, made, made-told, unused-goes-back, is-unused, empty-hand, starved-goes-back}
+use Rattle.turns.proofs.Ran.{refused-for, may-finish, made-ready, has-carried, unused-goes-back, is-unused, empty-hand, starved-goes-back}
 use Rattle.turns.proofs.Ran.{left-entries, left-ready}
 use Rattle.turns.proofs.Served.{refused-entries, refused-ready}
 use Rattle.turns.proofs.inner.carry_on.Goals as goal
@@ -60,14 +60,9 @@ returns-in-Done-clause-carried g c =
     let w = view c.run_inner.new.seat in
     let call = inner_of c.args.call in
     let u = view c.finish_node.new.seat in
-    let finished = c.finish_node.ensures.finished in (
-      made L c.args.filer.now.depot.layout.lawful c.args.call c.args.hand v w c.requires.may
-          c.requires.seat.1.0 c.run_inner.ensures.seat.1.0
-          c.in-Ok.ran.outcome c.in-Ok.ran.told (node_lent L c.in-Ok.ran.grant) c.in-Ok.ensures.ran c.in-Done.reply c.in-Done.is u finished,
-      made-told L c.args.filer.now.depot.layout.lawful c.args.call c.args.hand v w c.requires.may
-          c.requires.seat.1.0 c.run_inner.ensures.seat.1.0
-          c.in-Ok.ran.outcome c.in-Ok.ran.told (node_lent L c.in-Ok.ran.grant) c.in-Ok.ensures.ran c.in-Done.reply c.in-Done.is u finished,
-    )
+    has-carried L c.args.filer.now.depot.layout.lawful c.args.call c.args.hand v w c.requires.may
+    c.requires.seat.1.0 c.run_inner.ensures.seat.1.0
+    c.in-Ok.ran.outcome c.in-Ok.ran.told (node_lent L c.in-Ok.ran.grant) c.in-Ok.ensures.ran c.in-Done.reply c.in-Done.is u c.finish_node.ensures.finished
 
 -- ---- it is refused
 

@@ -62,4 +62,4 @@ returns-clause-answers c =
     let w = view c.carry.new.seat in
     let did = subst (λ (h : Hand). HasCarried L v (inner_of c.args.call) h c.carry.result w) c.replace-held.ensures.value c.carry.ensures.carried in
     answers-it L c.args.self.now _ (inner_of c.args.call) c.carry.result c.answer-hand.result.1 did c.answer-hand.ensures.told
-    (c.stocked.ensures ∙ (λ j. stocked_after (c.volume_of.ensures j) (c.answer-hand.ensures.stock j) (stocked_in c.args.self.now)))
+    (c.stocked-self.ensures ∙ (λ j. stocked_after (c.volume_of.ensures j) (c.answer-hand.ensures.stock j) (stocked_in c.args.self.now)))
