@@ -16,8 +16,8 @@ all-places : (b : ℕ) → (nat_le 0 (b % span_blocks) && nat_lt (b % span_block
 all-places b = let below : b % span_blocks < span_blocks = omega arith in grind (arith, nat_tests, below)
 
 -- all blocks are taken out of an array that has one
-rest-of : (numbers : List ℕ) (old : Places) → (i : ℕ) → i < span_blocks → numbers ≡ numbers_from 0 old → 0 < length (numbers_from 0 old) → TakesRest 0 numbers true old left
-rest-of numbers old i below told some = record {
+rest-of : (numbers : List ℕ) (old : Places) → numbers ≡ numbers_from 0 old → 0 < length (numbers_from 0 old) → TakesRest 0 numbers true old left
+rest-of numbers old told some = record {
   some = let long = ap length told in omega (arith, long, some);
   told = told;
   taken = λ b. nothing-there 64 (b % span_blocks) ∙ sym (ap (λ (t : Bool). if t then None else place_of old b) (all-places b));
@@ -32,7 +32,7 @@ whole-taken k numbers places old new filled there told drops =
     let block = filled k places (sym there) in
     let some = numbers-some (place_of places) 0 span_blocks block.0 (omega arith) (omega (arith, block.1)) block.2 in
     record {
-      here = by (span_at old k) (span_at new k) there drops.here (rest-of numbers places block.0 block.1 told some);
+      here = by (span_at old k) (span_at new k) there drops.here (rest-of numbers places told some);
       others = drops.others;
     }
   where

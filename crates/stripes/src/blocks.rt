@@ -171,9 +171,9 @@ impl Blocks {
         number_block(&mut self.spans, fileid, block, number);
     }
 
-    /// Takes a file's blocks that lie wholly past a size in the span of the first of them, and tells
-    /// their numbers. Where there is none it zeroes the rest of the block in which the size lies. The
-    /// memory of a whole span may be given back later.
+    /// Takes a file's blocks that lie wholly past a size in the span of the first of them, and
+    /// tells their numbers. Where there is none it zeroes the rest of the block in which the size
+    /// lies. The memory of a whole span may be given back later.
     pub fn cut(&mut self, fileid: u64, size: u64, later: bool) -> Option<FreedBlocks>
         ensures freed { IfSome result (λ freed. numbers_past fileid size self.old
             ≡ freed ++ numbers_past fileid size self.new) }

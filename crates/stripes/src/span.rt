@@ -274,9 +274,8 @@ fn take_place(place: &mut Option<Block>, freed: &mut FreedBlocks)
     ensures told { freed.new ≡ freed.old ++ with_number place.old [] }
     ensures taken { place.new ≡ None }
 {
-    if let Some(block) = place.take() {
-        freed.push(block.number());
-    }
+    tell_place(place, freed);
+    *place = None;
 }
 
 /// Appends bytes of a place's block; without a block they are zeros.

@@ -139,8 +139,9 @@ fn add_span(
     Ok(())
 }
 
-/// Takes a file's blocks from a number on that lie in the span of the first of them, and tells their
-/// numbers. A span after the first may be kept among those whose memory is given back later.
+/// Takes a file's blocks from a number on that lie in the span of the first of them, and tells
+/// their numbers. A span after that of the number may be kept among those whose memory is given
+/// back later.
 pub fn take_from(
     spans: &mut SpanMap,
     gone: &mut Vec<Span>,
@@ -214,8 +215,8 @@ fn take_out(spans: &mut SpanMap, fileid: u64, number: u64) -> Option<Span>
     spans.remove(&(fileid, number))
 }
 
-/// Tells the numbers of a span's blocks. Its memory is given back at once, or, where there is memory
-/// to keep it in mind, later.
+/// Tells the numbers of a span's blocks. Its memory is given back at once, or, where there is
+/// memory to keep it in mind, later.
 fn pass_on(span: Span, gone: &mut Vec<Span>, later: bool) -> FreedBlocks
     ensures { result ≡ numbers_from 0 span }
 {
