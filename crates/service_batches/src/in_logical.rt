@@ -51,8 +51,8 @@ pub fn has_enough(held: &LogicalHeld<Files>) -> bool
 }
 
 /// Cull (our profile), on the parcels under Volume Logical: the 64 lowest dead blocks of the range
-/// of the lowest come into the hand, or all of that range if they are fewer. It takes no memory, and
-/// gives back that of as many blocks which cuts left for later.
+/// of the lowest come into the hand, or all of that range if they are fewer. It takes no memory,
+/// and gives back that of as many blocks which cuts left for later.
 pub fn cull(held: &mut LogicalHeld<Files>) -> Batch
     ensures right { CullsHere (logical_before held.old) result (logical_after held.old held.new) }
     ensures stripes { held.new.stripes ≡ held.old.stripes }
