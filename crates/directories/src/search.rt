@@ -66,7 +66,7 @@ fn narrow_by_hash(index: &Sequence<Spot>, hash: u32) -> Around
             high = at;
             guess = at.saturating_sub(beyond(found - hash, size));
         } else {
-            break;
+            guess = at + 1;
         }
     }
     Around { low, high }
@@ -82,7 +82,7 @@ fn share(hash: u32, size: usize) -> usize
 /// A little more than so many hashes as a part of all has.
 fn beyond(hashes: u32, size: usize) -> usize {
     let far = share(hashes, size);
-    far + far / 4 + 2
+    far + far / 4 + 8
 }
 
 /// Searches an index for a name: by halving, where its hash is guessed to be.
@@ -146,7 +146,7 @@ fn hash_of(name: &[u8]) -> u32
 {
     let mut hash: u32 = 0;
     for byte in name {
-        hash = hash.wrapping_add(u32::from(*byte)).wrapping_mul(FACTOR);
+        hash = hash.wrapping_mul(FACTOR).wrapping_add(u32::from(*byte));
     }
     hash
 }

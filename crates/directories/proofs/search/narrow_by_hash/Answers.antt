@@ -2,7 +2,7 @@ use Rattle.std.proofs.Common.{◌<◌, ◌≤◌, ◌+◌, arith}
 use Rattle.directories.specs.sequences.lemmas.Parts.{has-fewer, read-there}
 use Rattle.directories.proofs.Around.{around-above, around-below}
 use Rattle.directories.proofs.search.narrow_by_hash.Goals as goal
-use Rattle.directories.proofs.search.narrow_by_hash.Goals.{then-found-hash, else-found-hash+then-found-hash-2}
+use Rattle.directories.proofs.search.narrow_by_hash.Goals.{then-found-hash, else-found-hash+then-found-hash-2, else-found-hash+else-found-hash-2}
 
 pub at-found-requires-clause-begins : goal.at-found-requires-clause-begins
 at-found-requires-clause-begins c =
@@ -33,4 +33,5 @@ loop-preserved c =
                 w.if-found-hash-2.true;
             part = has-fewer c.args.index.now c.loop.low c.loop.high _ _ c.loop.low c.clamp-at.result part (omega arith) (omega (arith, below));
           }
+      | else-found-hash+else-found-hash-2 w ↦ rw (w.low-is, w.high-is) record { around = c.loop.invariant.around; part = part }
     ]
