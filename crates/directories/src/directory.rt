@@ -278,13 +278,7 @@ fn replace_at(
     let was = entries.at(old.cookie, old.slot).fileid;
     let (cookie, slot) = entries.add(name, fileid)?;
     entries.remove(old.cookie);
-    by_name.set(
-        position,
-        Spot {
-            cookie,
-            slot,
-            hash: old.hash,
-        },
-    );
+    let hash = old.hash;
+    by_name.set(position, Spot { cookie, slot, hash });
     Ok(was)
 }

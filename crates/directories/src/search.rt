@@ -18,10 +18,10 @@ const FACTOR: u32 = 1_540_483_477;
 /// How many guesses are made before a search by halving.
 const GUESSES: usize = 4;
 
-/// Among how many names no guess is made.
+/// Among how many names no more guesses are made.
 const FEW: usize = 16;
 
-/// Positions of an index.
+/// Positions of an index before and behind which a name isn't.
 #[derive(Clone, Copy)]
 struct Around {
     low: usize,
@@ -40,9 +40,9 @@ pub struct Search {
     pub hash: u32,
 }
 
-/// Between which positions of an index the names of a hash are, as well as a few guesses tell.
-/// Hashes are spread evenly, so a guess is wrong by little, and the next one is made so far beyond
-/// that the hash is passed; but nothing rests on that but the time.
+/// Positions between which the names of a hash are, as near to one another as a few guesses bring
+/// them. Hashes are spread evenly, so each guess is wrong by little, and the next goes so far beyond
+/// that it passes the hash. Nothing rests on that but the time.
 fn narrow_by_hash(index: &Sequence<Spot>, hash: u32) -> Around
     ensures around { IsAround index.now hash result.low result.high }
     ensures room { length index.now < 2 ^ 64 }
@@ -79,13 +79,13 @@ fn share(hash: u32, size: usize) -> usize
     (hash as usize).wrapping_mul(size) / (1 << 32)
 }
 
-/// A little more than so many hashes as a part of all has.
-fn beyond(hashes: u32, size: usize) -> usize {
-    let far = share(hashes, size);
+/// A little more than how many of so many hashes are in a gap, if they are spread evenly.
+fn beyond(gap: u32, size: usize) -> usize {
+    let far = share(gap, size);
     far + far / 4 + 8
 }
 
-/// Searches an index for a name: by halving, where its hash is guessed to be.
+/// Searches an index for a name by halving, between positions that its hash leaves.
 pub fn find_position(entries: &Entries, index: &Sequence<Spot>, name: &[u8]) -> Search
     requires index { IsIndex entries.now.list (cookies index.now) }
     requires hashed { AreHashed entries.now.list index.now }
