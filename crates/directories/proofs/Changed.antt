@@ -87,11 +87,18 @@ all-known P (x ∷ xs) h = (h x (grind (arith, nat_tests)), all-known P xs (λ c
     by true b t = refl
     by false b t = t
 
-names-kept : (es : List Listed) (index : List Cookie) (e : Listed) → IsIndex es index
+pub names-kept : (es : List Listed) (index : List Cookie) (e : Listed) → IsIndex es index
     → AllByRecursion (λ c. name_under (es ++ e ∷ []) c ≡ name_under es c) index
 names-kept es index e x =
     all-known (λ c. name_under (es ++ e ∷ []) c ≡ name_under es c) index
     (λ c t. ap (λ (o : Option Listed). name_in o) (under-push es e c.0 (x.same c.0 ∙ t)))
+
+-- the name of the entry that comes
+pub name-added : (d : DirectoryValue) (index : List Cookie) (c : Cookie) (name : List ℕ) (fileid : ℕ) → IsIndexed d index → c.0 ≡ d.next
+    → name_under (added name fileid d).list c ≡ name
+name-added d index c name fileid x is =
+    ap (λ (o : Option Listed). name_in o)
+    (under-pushed d.list (entry_added name fileid d) c.0 (subst (λ k. has d.list k ≡ false) (sym is) (none-at-next 3 d.list d.next x.directory.cookies)) (sym is))
 
 index-added : (d : DirectoryValue) (index : List Cookie) (position : ℕ) (c : Cookie) (name : List ℕ) (fileid : ℕ) → IsIndexed d index
     → IsPosition d index name position
@@ -101,9 +108,7 @@ index-added d index position c name fileid x p is =
     let f = name_under d.list in
     let g = name_under (d.list ++ e ∷ []) in
     let kept = names-kept d.list index e x.index in
-    let here : g c ≡ name =
-    ap (λ (o : Option Listed). name_in o)
-    (under-pushed d.list e c.0 (subst (λ k. has d.list k ≡ false) (sym is) (none-at-next 3 d.list d.next x.directory.cookies)) (sym is)) in
+    let here : g c ≡ name = name-added d index c name fileid x is in
     let agrees = λ (y : Cookie). g y ≡ f y in
     record {
       count = let i = length-insert index position c in let l = length-append d.list (e ∷ []) in let s = x.index.count in omega (arith, i, l, s);

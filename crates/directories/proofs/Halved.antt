@@ -27,6 +27,10 @@ digit-less m (suc n) l h =
     let e = digit-more n (suc n) l in
     omega (arith, r, e)
 
+pub fewer-digits : (m n : ℕ) → m ≤ n → binary_digits m ≤ binary_digits n
+unfolding binary_digits
+fewer-digits m n l = no-more-digits m n m n l (omega arith)
+
 few-within : (g n : ℕ) → n ≤ g → digits_within g n ≤ n
 few-within zero n l = omega arith
 few-within (suc g) n l = by (n == 0) refl (few-within g (n / 2))

@@ -10,4 +10,6 @@ pub mod Spots
 pub mod Changed
 pub mod Called
 pub mod Replaced
+pub mod Hashed
+pub mod Around
 pub mod Pages

@@ -7,22 +7,30 @@ use Rattle.std.specs.declared.cmp.Ordering.{Ordering}
 use Rattle.std.specs.declared.cmp.Ordering.TheVariants.{Less, Equal, Greater}
 use Rattle.std.specs.FinMap.{slice_cmp-IsAntisymmetric, nat_cmp-IsAntisymmetric}
 use Rattle.std.proofs.lemmas.Cmp.{nat_list_cmp_total}
+use Rattle.directories.specs.Hash.{name_hash}
 use Rattle.directories.specs.Index.{name_cmp}
 
+-- names are ordered as lists are that begin with their hashes
+abbrev keyed : List ℕ → List ℕ
+keyed x = name_hash x ∷ x
+
+turned : (x y : List ℕ) → name_cmp x y ≡ ordering_reverse (name_cmp y x)
+turned x y = nat_list_cmp_total.antisymm (keyed x) (keyed y)
+
 pub turned-less : (x y : List ℕ) → name_cmp x y ≡ Greater → name_cmp y x ≡ Less
-turned-less x y h = nat_list_cmp_total.antisymm y x ∙ ap ordering_reverse h
+turned-less x y h = turned y x ∙ ap ordering_reverse h
 
 pub turned-greater : (x y : List ℕ) → name_cmp x y ≡ Less → name_cmp y x ≡ Greater
-turned-greater x y h = nat_list_cmp_total.antisymm y x ∙ ap ordering_reverse h
+turned-greater x y h = turned y x ∙ ap ordering_reverse h
 
 pub less-less : (x y z : List ℕ) → name_cmp x y ≡ Less → name_cmp y z ≡ Less → name_cmp x z ≡ Less
-less-less x y z = nat_list_cmp_total.trans x y z
+less-less x y z = nat_list_cmp_total.trans (keyed x) (keyed y) (keyed z)
 
 pub same-names : (x y : List ℕ) → name_cmp x y ≡ Equal → x ≡ y
-same-names x y = slice_cmp-IsAntisymmetric nat_cmp-IsAntisymmetric x y
+same-names x y h = ap (λ l. drop 1 l) (slice_cmp-IsAntisymmetric nat_cmp-IsAntisymmetric (keyed x) (keyed y) h)
 
 pub with-itself : (x : List ℕ) → name_cmp x x ≡ Equal
-with-itself x = by (name_cmp x x) (nat_list_cmp_total.antisymm x x)
+with-itself x = by (name_cmp x x) (turned x x)
   where
     by : (o : Ordering) → o ≡ ordering_reverse o → o ≡ Equal
     by Less e = absurd (grind (arith, e))

@@ -30,7 +30,7 @@ dropped-of-removed [] (suc i) = refl
 dropped-of-removed (x ∷ xs) zero = refl
 dropped-of-removed (x ∷ xs) (suc i) = dropped-of-removed xs i
 
-set-is : (xs : List Cookie) (i : ℕ) (c : Cookie) → i < length xs → slice_set xs i c ≡ insert (remove xs i) i c
+pub set-is : {K : Type 0} (xs : List K) (i : ℕ) (c : K) → i < length xs → slice_set xs i c ≡ insert (remove xs i) i c
 set-is [] i c l = absurd (omega (arith, l))
 set-is (x ∷ xs) zero c l = refl
 set-is (x ∷ xs) (suc i) c l = ap (λ l. x ∷ l) (set-is xs i c (omega (arith, l)))
@@ -56,7 +56,7 @@ module _ (f : Cookie → List ℕ) where
   after-it (y ∷ xs) (suc i) x s g = after-it xs i x s.1 g
 
 -- the name at a position of an index
-name-there : (es : List Listed) (index : List Cookie) (position : ℕ) (c : Cookie) (name : List ℕ) → name_at es index position ≡ Some name
+pub name-there : (es : List Listed) (index : List Cookie) (position : ℕ) (c : Cookie) (name : List ℕ) → name_at es index position ≡ Some name
     → slice_get index position ≡ Some c → name_under es c ≡ name
 name-there es [] position c name n g = absurd (grind (arith, g))
 name-there es (x ∷ index) zero c name n g =
@@ -116,7 +116,7 @@ not-next d index k x t = by (d.next == k) refl
         let there = subst (λ q. has d.list q ≡ true) (sym same) t in absurd (grind (arith, none, there))
     by false p = refl
 
-dropped-added : (d : DirectoryValue) (index : List Cookie) (k : ℕ) (name : List ℕ) (fileid : ℕ) → IsIndexed d index → has d.list k ≡ true
+pub dropped-added : (d : DirectoryValue) (index : List Cookie) (k : ℕ) (name : List ℕ) (fileid : ℕ) → IsIndexed d index → has d.list k ≡ true
     → dropped k (added name fileid d) ≡ added name fileid (dropped k d)
 dropped-added d index k name fileid x t =
     ap (λ (l : List Listed). record (added name fileid d) { list = l }) (without-push d.list (entry_added name fileid d) k (not-next d index k x t))

@@ -1,9 +1,9 @@
--- The index of a directory: the cookies of its entries in the order of their names.
-use Rattle.std.specs.Prelude.{◌≡◌, ℕ, Bool, List, [], ◌==◌, Option, Some, None, map, take, drop, length}
+-- The index of a directory: the cookies of its entries in the order of their names' hashes.
+use Rattle.std.specs.Prelude.{◌≡◌, ℕ, ◌≤◌, Bool, List, [], ◌==◌, Option, Some, None, map, take, drop, length}
 use Rattle.std.specs.List.{AllByRecursion, list_any, slice_get}
 use Rattle.std.specs.Option.{option_map}
 use Rattle.std.specs.List.Sorted.{IsStrictlySortedBy}
-use Rattle.std.specs.Ordering.{nat_cmp, on}
+use Rattle.std.specs.Ordering.{nat_cmp, on, ordering_then}
 use Rattle.std.specs.declared.cmp.Ordering.{Ordering}
 use Rattle.std.specs.declared.cmp.Ordering.TheVariants.{Less, Greater}
 use Rattle.std.specs.Cmp.Lexicographic.{slice_cmp}
@@ -13,14 +13,15 @@ use Rattle.nfs_values.specs.declared.number.Fileid.{Fileid}
 use Rattle.nfs_model.specs.volume.Directories.{DirectoryValue, IsDirectory}
 use Rattle.directories.specs.declared.spot.Spot.{Spot}
 use Rattle.directories.specs.Entries.{under, has}
+use Rattle.directories.specs.Hash.{name_hash}
 
 -- the cookies of spots
 abbrev pub cookies : List Spot → List Cookie
 cookies spots = map (λ (s : Spot). s.cookie) spots
 
--- the order of names: by their bytes
+-- the order of names: by their hashes, and by their bytes where these are the same
 abbrev pub name_cmp : List ℕ → List ℕ → Ordering
-name_cmp = slice_cmp nat_cmp
+name_cmp x y = ordering_then (nat_cmp (name_hash x) (name_hash y)) (slice_cmp nat_cmp x y)
 
 abbrev pub name_in : Option Listed → List ℕ
 name_in None = []
@@ -57,6 +58,10 @@ pub record IsIndexed (d : DirectoryValue) (by_name : List Cookie) : Type 0 where
   pub directory : IsDirectory d
   pub index : IsIndex d.list by_name
 
+-- each spot has the hash of its entry's name
+abbrev pub AreHashed : List Listed → List Spot → Type 0
+AreHashed es spots = AllByRecursion (λ (s : Spot). s.hash ≡ name_hash (name_under es s.cookie)) spots
+
 -- a name is at a position of an index
 abbrev pub IsAt : DirectoryValue → List Cookie → List ℕ → ℕ → Type 0
 IsAt d index name position = name_at d.list index position ≡ Some name
@@ -69,3 +74,12 @@ pub record IsPosition (d : DirectoryValue) (index : List Cookie) (name : List �
 -- a fileid as a number
 abbrev pub fileid_number : Option Fileid → Option ℕ
 fileid_number fileid = option_map (λ (f : Fileid). f.0) fileid
+
+-- A name of a hash isn't before or after these positions of an index.
+pub record IsAround (spots : List Spot) (hash : ℕ) (low : ℕ) (high : ℕ) : Type 0 where
+  pub ordered : low ≤ high
+  pub within : high ≤ length spots
+  pub before : (es : List Listed) (name : List ℕ) → NamesRise es (cookies spots) → AreHashed es spots → name_hash name ≡ hash
+      → AllCompare es name Less (take low (cookies spots))
+  pub after : (es : List Listed) (name : List ℕ) → NamesRise es (cookies spots) → AreHashed es spots → name_hash name ≡ hash
+      → AllCompare es name Greater (drop high (cookies spots))

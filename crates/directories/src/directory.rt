@@ -31,8 +31,9 @@ ghost use Rattle.directories.specs.Entries.{
   page_value,
   page_behind,
 };
-ghost use Rattle.directories.specs.Index.{IsAt, IsIndexed, IsPosition, cookies};
+ghost use Rattle.directories.specs.Index.{IsAt, IsIndexed, IsPosition, AreHashed, cookies};
 ghost use Rattle.directories.specs.Index.{fileid_number};
+ghost use Rattle.directories.specs.Hash.{name_hash};
 
 use crate::entries::Entries;
 use crate::page::Page;
@@ -47,7 +48,7 @@ use std::marker::Model;
 /// and no cookie is given twice (RFC 1813 section 3.3.16).
 pub struct Directory {
     entries: Entries,
-    /// The entries in the order of the names' bytes.
+    /// The entries in the order of the names' hashes, and of their bytes where these are the same.
     by_name: Sequence<Spot>,
 }
 
@@ -64,7 +65,7 @@ impl Drop for Directory {
 impl Model for Directory {
     ghost use Rattle.nfs_model.specs.volume.Directories.{DirectoryValue};
     ghost use Rattle.nfs_model.specs.volume.Codes.{coded_directory};
-    ghost use Rattle.directories.specs.Index.{IsIndexed, cookies};
+    ghost use Rattle.directories.specs.Index.{IsIndexed, AreHashed, cookies};
 
     ghost Value = { DirectoryValue };
 
@@ -72,7 +73,8 @@ impl Model for Directory {
 
     ghost view = { λ d. d.entries };
 
-    ghost invariant = { λ d. IsIndexed d.entries (cookies d.by_name) };
+    ghost invariant = { λ d. IsIndexed d.entries (cookies d.by_name)
+        × AreHashed d.entries.list d.by_name };
 }
 
 impl Directory {
@@ -138,8 +140,15 @@ impl Directory {
         ensures ok { OnOk result (self.new ≡ added name fileid.0 self.old) }
         ensures err { OnErr result (self.new ≡ self.old) }
     {
-        let position = find_position(&self.entries, &self.by_name, name.as_bytes()).position;
-        add_at(&mut self.entries, &mut self.by_name, position, name, fileid)
+        let search = find_position(&self.entries, &self.by_name, name.as_bytes());
+        add_at(
+            &mut self.entries,
+            &mut self.by_name,
+            search.position,
+            search.hash,
+            name,
+            fileid,
+        )
     }
 
     /// Adds an entry in the place of the one with its name, if there is one, and answers the fileid
@@ -157,6 +166,7 @@ impl Directory {
                 &mut self.entries,
                 &mut self.by_name,
                 search.position,
+                search.hash,
                 name,
                 fileid,
             )?;
@@ -218,12 +228,13 @@ impl Directory {
     }
 }
 
-/// Adds an entry with a name that belongs at a position of the index. Where there is no memory for
-/// it nothing changes.
+/// Adds an entry with a name of a hash, which belongs at a position of the index. Where there is no
+/// memory for it nothing changes.
 fn add_at(
     entries: &mut Entries,
     by_name: &mut Sequence<Spot>,
     position: usize,
+    hash: u32,
     name: Name,
     fileid: Fileid,
 ) -> Result<(), AllocError>
@@ -231,13 +242,16 @@ fn add_at(
     requires indexed { IsIndexed entries.old (cookies by_name.old) }
     requires within { position ≤ length by_name.old }
     requires position { IsPosition entries.old (cookies by_name.old) name position }
+    requires hashed { AreHashed entries.old.list by_name.old }
+    requires hash { hash ≡ name_hash name }
     ensures indexed { IsIndexed entries.new (cookies by_name.new) }
+    ensures hashed { AreHashed entries.new.list by_name.new }
     ensures ok { OnOk result (entries.new ≡ added name fileid.0 entries.old) }
     ensures err { OnErr result (entries.new ≡ entries.old) }
 {
     let room = by_name.room()?;
     let (cookie, slot) = entries.add(name, fileid)?;
-    by_name.insert(room, position, Spot { cookie, slot });
+    by_name.insert(room, position, Spot { cookie, slot, hash });
     Ok(())
 }
 
@@ -253,7 +267,9 @@ fn replace_at(
     requires cookies { entries.old.next < 2 ^ 63 }
     requires indexed { IsIndexed entries.old (cookies by_name.old) }
     requires there { IsAt entries.old (cookies by_name.old) name position }
+    requires hashed { AreHashed entries.old.list by_name.old }
     ensures indexed { IsIndexed entries.new (cookies by_name.new) }
+    ensures hashed { AreHashed entries.new.list by_name.new }
     ensures ok { OnOk result (entries.new ≡ added name fileid.0 (removed name entries.old)) }
     ensures was { IfOk result (λ was. Some was.0 ≡ fileid_found entries.old name) }
     ensures err { OnErr result (entries.new ≡ entries.old) }
@@ -262,6 +278,7 @@ fn replace_at(
     let was = entries.at(old.cookie, old.slot).fileid;
     let (cookie, slot) = entries.add(name, fileid)?;
     entries.remove(old.cookie);
-    by_name.set(position, Spot { cookie, slot });
+    let hash = old.hash;
+    by_name.set(position, Spot { cookie, slot, hash });
     Ok(was)
 }

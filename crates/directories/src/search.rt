@@ -1,15 +1,32 @@
 //! Search by name.
 
-ghost use Rattle.std.specs.Prelude.{◌≡◌, ◌≤◌, length, true, false, Some};
+ghost use Rattle.std.specs.Prelude.{◌≡◌, ◌<◌, ◌≤◌, ◌^◌, length, true, false};
 ghost use Rattle.directories.specs.Entries.{has};
 ghost use Rattle.directories.specs.Digits.{binary_digits};
 ghost use Rattle.directories.specs.Index.{IsIndex, IsAt, IsPosition, cookies, name_cmp};
-ghost use Rattle.directories.specs.Index.{name_under};
+ghost use Rattle.directories.specs.Index.{name_under, AreHashed, IsAround};
+ghost use Rattle.directories.specs.Hash.{name_hash};
 
 use crate::entries::Entries;
 use crate::sequences::Sequence;
 use crate::spot::Spot;
 use std::cmp::Ordering;
+
+/// What the hash of a name is multiplied by for each byte.
+const FACTOR: u32 = 1_540_483_477;
+
+/// How many guesses are made before a search by halving.
+const GUESSES: usize = 4;
+
+/// Among how many names no more guesses are made.
+const FEW: usize = 16;
+
+/// Positions of an index before and behind which a name isn't.
+#[derive(Clone, Copy)]
+struct Around {
+    low: usize,
+    high: usize,
+}
 
 /// What a search for a name has found.
 #[derive(Clone, Copy)]
@@ -19,11 +36,60 @@ pub struct Search {
     pub is_there: bool,
     /// How many names were compared.
     pub compared: usize,
+    /// The hash of the name.
+    pub hash: u32,
 }
 
-/// Searches an index for a name by halving.
+/// Positions between which the names of a hash are, as near to one another as a few guesses bring
+/// them. Hashes are spread evenly, so each guess is wrong by little, and the next goes so far beyond
+/// that it passes the hash. Nothing rests on that but the time.
+fn narrow_by_hash(index: &Sequence<Spot>, hash: u32) -> Around
+    ensures around { IsAround index.now hash result.low result.high }
+    ensures room { length index.now < 2 ^ 64 }
+{
+    let size = index.len();
+    let mut low = 0;
+    let mut high = size;
+    let mut part = index.part();
+    let mut guess = share(hash, size);
+    for _ in 0..GUESSES {
+        if high - low <= FEW {
+            break;
+        }
+        part = part.narrowed(low, high);
+        let at = guess.clamp(low, high - 1);
+        let found = part.at(at).hash;
+        if found < hash {
+            low = at + 1;
+            guess = at.saturating_add(beyond(hash - found, size));
+        } else if found > hash {
+            high = at;
+            guess = at.saturating_sub(beyond(found - hash, size));
+        } else {
+            guess = at + 1;
+        }
+    }
+    Around { low, high }
+}
+
+/// How many of so many hashes are below one, if they are spread evenly.
+fn share(hash: u32, size: usize) -> usize
+    ensures { result < 2 ^ 32 }
+{
+    (hash as usize).wrapping_mul(size) / (1 << 32)
+}
+
+/// A little more than how many of so many hashes are in a gap, if they are spread evenly.
+fn beyond(gap: u32, size: usize) -> usize {
+    let far = share(gap, size);
+    far + far / 4 + 8
+}
+
+/// Searches an index for a name by halving, between positions that its hash leaves.
 pub fn find_position(entries: &Entries, index: &Sequence<Spot>, name: &[u8]) -> Search
-    requires { IsIndex entries.now.list (cookies index.now) }
+    requires index { IsIndex entries.now.list (cookies index.now) }
+    requires hashed { AreHashed entries.now.list index.now }
+    ensures hash { result.hash ≡ name_hash name.now }
     ensures within { result.position ≤ length index.now }
     ensures there { result.is_there ≡ true
         → IsAt entries.now (cookies index.now) name.now result.position }
@@ -31,15 +97,15 @@ pub fn find_position(entries: &Entries, index: &Sequence<Spot>, name: &[u8]) -> 
         → IsPosition entries.now (cookies index.now) name.now result.position }
     ensures compared { result.compared ≤ binary_digits (length index.now) }
 {
-    let mut low = 0;
-    let mut high = index.len();
+    let hash = hash_of(name);
+    let Around { mut low, mut high } = narrow_by_hash(index, hash);
     let mut compared = 0;
     let mut part = index.part();
     while low < high {
         part = part.narrowed(low, high);
         let middle = low + (high - low) / 2;
         compared += 1;
-        match compare(entries, part.at(middle), name) {
+        match compare(entries, part.at(middle), name, hash) {
             Ordering::Less => low = middle + 1,
             Ordering::Greater => high = middle,
             Ordering::Equal => {
@@ -47,6 +113,7 @@ pub fn find_position(entries: &Entries, index: &Sequence<Spot>, name: &[u8]) -> 
                     position: middle,
                     is_there: true,
                     compared,
+                    hash,
                 };
             }
         }
@@ -55,13 +122,31 @@ pub fn find_position(entries: &Entries, index: &Sequence<Spot>, name: &[u8]) -> 
         position: low,
         is_there: false,
         compared,
+        hash,
     }
 }
 
-/// How the name of an entry compares with another.
-fn compare(entries: &Entries, spot: Spot, name: &[u8]) -> Ordering
-    requires { has entries.now.list spot.cookie.0 ≡ true }
+/// How the name of an entry compares with another: by their hashes, and only where these are the
+/// same by their bytes.
+fn compare(entries: &Entries, spot: Spot, name: &[u8], hash: u32) -> Ordering
+    requires there { has entries.now.list spot.cookie.0 ≡ true }
+    requires hashed { spot.hash ≡ name_hash (name_under entries.now.list spot.cookie) }
+    requires hash { hash ≡ name_hash name.now }
     ensures { result ≡ name_cmp (name_under entries.now.list spot.cookie) name.now }
 {
-    entries.at(spot.cookie, spot.slot).name.as_bytes().cmp(name)
+    match spot.hash.cmp(&hash) {
+        Ordering::Equal => entries.at(spot.cookie, spot.slot).name.as_bytes().cmp(name),
+        other => other,
+    }
+}
+
+/// The hash of a name.
+fn hash_of(name: &[u8]) -> u32
+    ensures { result ≡ name_hash name.now }
+{
+    let mut hash: u32 = 0;
+    for byte in name {
+        hash = hash.wrapping_mul(FACTOR).wrapping_add(u32::from(*byte));
+    }
+    hash
 }

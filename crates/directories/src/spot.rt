@@ -8,4 +8,6 @@ pub struct Spot {
     pub cookie: Cookie,
     /// Nothing rests on it but the time of a search.
     pub slot: u32,
+    /// The hash of its name, by which the index is ordered.
+    pub hash: u32,
 }

@@ -1,9 +1,10 @@
-use Rattle.std.proofs.Common.{arith}
+use Rattle.std.proofs.Common.{refl, arith}
 use Rattle.nfs_values.specs.Answer.{entry_of}
 use Rattle.directories.specs.Index.{cookies}
 use Rattle.directories.proofs.Spots.{length-cookies, cookie-at, cookies-set}
 use Rattle.directories.proofs.Called.{name-inside, name-known, fileid-there}
 use Rattle.directories.proofs.Replaced.{still-has, replaced, indexed-replaced}
+use Rattle.directories.proofs.Hashed.{hashed-replaced}
 use Rattle.directories.proofs.directory.replace_at.Goals as goal
 
 pub at-old-requires : goal.at-old-requires
@@ -39,6 +40,15 @@ returns-clause-indexed c =
     (indexed-replaced d index c.args.position c.at-old.result.cookie _ c.args.name c.args.fileid.0 c.requires.indexed c.requires.there
     (cookie-at c.args.by_name.now c.args.position c.at-old.result c.at-old.ensures) (name-inside d.list index c.args.position c.args.name c.requires.there)
     (omega (arith, next)))
+
+pub returns-clause-hashed : goal.returns-clause-hashed
+returns-clause-hashed c =
+    let inside = name-inside c.args.entries.now.list (cookies c.args.by_name.now) c.args.position c.args.name c.requires.there in
+    let same = length-cookies c.args.by_name.now in
+    rw (c.set.ensures, c.remove.ensures, c.in_ok-cookie.ensures.ok)
+    (hashed-replaced c.args.entries.now c.args.by_name.now c.args.position c.at-old.result
+    (record { cookie = c.in_ok-cookie.cookie; slot = c.in_ok-cookie.slot; hash = c.at-old.result.hash }) c.args.name c.args.fileid.0 c.requires.indexed
+    c.requires.hashed c.requires.there c.at-old.ensures (omega (arith, inside, same)) c.in_ok-cookie.ensures.cookie refl)
 
 pub returns-clause-ok : goal.returns-clause-ok
 returns-clause-ok c =

@@ -1,19 +1,47 @@
-use Rattle.std.proofs.Common.{sym, ◌∙◌, ◌+◌, ◌-◌, ◌/◌, length, arith}
+use Rattle.std.proofs.Common.{◌≡◌, sym, ◌∙◌, ◌+◌, ◌-◌, ◌/◌, length, arith}
 use Rattle.directories.specs.sequences.lemmas.Parts.{has-fewer, read-there}
-use Rattle.directories.proofs.Halved.{digit-less, few-digits}
+use Rattle.directories.proofs.Halved.{digit-less, few-digits, fewer-digits}
 use Rattle.directories.proofs.Middle.{less-middle, greater-middle, equal-middle, one-more}
-use Rattle.directories.specs.Index.{cookies}
+use Rattle.directories.specs.Hash.{name_hash}
+use Rattle.directories.specs.Index.{cookies, name_under}
+use Rattle.directories.proofs.Orders.{all-at}
 use Rattle.directories.proofs.Found.{known-here}
 use Rattle.directories.proofs.Spots.{cookie-at}
 use Rattle.directories.proofs.search.find_position.Goals as goal
 
-pub compare-requires : goal.compare-requires
-compare-requires c =
+pub loop-low-init : goal.loop-low-init
+loop-low-init c =
+    let around = c.narrow_by_hash-low.ensures.around in
+    let ordered = around.ordered in
+    let within = around.within in
+    record {
+      ordered = ordered;
+      part = has-fewer c.args.index.now 0 (length c.args.index.now) _ _ c.narrow_by_hash-low.result.low c.narrow_by_hash-low.result.high c.part-part.ensures
+          (omega arith) within;
+      within = within;
+      before = around.before c.args.entries.now.list c.args.name.now c.requires.index.sorted c.requires.hashed (sym c.hash_of-hash.ensures);
+      after = around.after c.args.entries.now.list c.args.name.now c.requires.index.sorted c.requires.hashed (sym c.hash_of-hash.ensures);
+      room = c.narrow_by_hash-low.ensures.room;
+      counted =
+          let fewer = fewer-digits (c.narrow_by_hash-low.result.high - c.narrow_by_hash-low.result.low) (length c.args.index.now) (omega (arith, within)) in
+          omega (arith, fewer);
+    }
+
+pub compare-requires-clause-there : goal.compare-requires-clause-there
+compare-requires-clause-there c =
     let middle = c.loop-low.low + (c.loop-low.high - c.loop-low.low) / 2 in
     let part = c.narrowed-part.ensures c.args.index.now c.loop-low.invariant.part in
     let spot = read-there c.args.index.now c.loop-low.low c.loop-low.high _ _ middle c.at.result part (omega arith)
     (omega (arith, c.loop-low-test.true)) c.at.ensures in
-    known-here c.args.entries.now.list (cookies c.args.index.now) middle c.at.result.cookie c.requires (cookie-at c.args.index.now middle c.at.result spot)
+    known-here c.args.entries.now.list (cookies c.args.index.now) middle c.at.result.cookie c.requires.index (cookie-at c.args.index.now middle c.at.result spot)
+
+pub compare-requires-clause-hashed : goal.compare-requires-clause-hashed
+compare-requires-clause-hashed c =
+    let middle = c.loop-low.low + (c.loop-low.high - c.loop-low.low) / 2 in
+    let part = c.narrowed-part.ensures c.args.index.now c.loop-low.invariant.part in
+    let spot = read-there c.args.index.now c.loop-low.low c.loop-low.high _ _ middle c.at.result part (omega arith)
+    (omega (arith, c.loop-low-test.true)) c.at.ensures in
+    all-at (λ s. s.hash ≡ name_hash (name_under c.args.entries.now.list s.cookie)) c.args.index.now middle c.at.result c.requires.hashed spot
 
 pub at-requires-clause-begins : goal.at-requires-clause-begins
 at-requires-clause-begins c =
@@ -43,7 +71,7 @@ loop-low-preserved-in-Less c =
       part = has-fewer c.args.index.now c.loop-low.low c.loop-low.high _ _ (middle + 1) c.loop-low.high part (omega arith) (omega arith);
       within = c.loop-low.invariant.within;
       before =
-          less-middle c.args.entries.now.list (cookies c.args.index.now) c.args.name.now middle c.at.result.cookie c.requires.sorted there
+          less-middle c.args.entries.now.list (cookies c.args.index.now) c.args.name.now middle c.at.result.cookie c.requires.index.sorted there
           (sym c.compare.ensures ∙ c.in-Less.is);
       after = c.loop-low.invariant.after;
       room = c.loop-low.invariant.room;
@@ -64,7 +92,7 @@ loop-low-preserved c =
       part = has-fewer c.args.index.now c.loop-low.low c.loop-low.high _ _ c.loop-low.low middle part (omega arith) (omega (arith, c.loop-low-test.true));
       within = omega (arith, c.loop-low.invariant, c.loop-low-test.true);
       before = c.loop-low.invariant.before;
-      after = greater-middle c.args.entries.now.list (cookies c.args.index.now) c.args.name.now middle c.at.result.cookie c.requires.sorted there
+      after = greater-middle c.args.entries.now.list (cookies c.args.index.now) c.args.name.now middle c.at.result.cookie c.requires.index.sorted there
           (sym c.compare.ensures ∙ c.in-Greater.is);
       room = c.loop-low.invariant.room;
       counted =

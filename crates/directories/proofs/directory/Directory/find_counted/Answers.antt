@@ -9,7 +9,7 @@ pub returns-then-not-search-clause-answer : goal.returns-then-not-search-clause-
 returns-then-not-search-clause-answer c =
     let position = c.find_position-search.ensures.absent (is-false _ c.if-not-search.true) in
     rw (← c.self.view_is) (fileid-nowhere c.self.inside.entries (cookies c.self.inside.by_name) c.find_position-search.result.position c.args.name.now
-    c.self.invariant position)
+    c.self.invariant.0 position)
 
 pub at-spot-requires : goal.at-spot-requires
 at-spot-requires c =
@@ -22,7 +22,7 @@ pub at-entry-requires : goal.at-entry-requires
 at-entry-requires c =
     let there = c.find_position-search.ensures.there (is-true _ c.if-not-search.false) in
     name-known c.self.inside.entries (cookies c.self.inside.by_name) c.find_position-search.result.position c.at-spot.result.cookie c.args.name.now
-    c.self.invariant there
+    c.self.invariant.0 there
     (cookie-at c.self.inside.by_name c.find_position-search.result.position c.at-spot.result c.at-spot.ensures)
 
 pub returns-clause-answer : goal.returns-clause-answer
@@ -30,5 +30,5 @@ returns-clause-answer c =
     let there = c.find_position-search.ensures.there (is-true _ c.if-not-search.false) in
     rw (← c.self.view_is)
     (fileid-there c.self.inside.entries (cookies c.self.inside.by_name) c.find_position-search.result.position c.at-spot.result.cookie c.args.name.now
-    (entry_of c.at-entry.result.now) c.self.invariant there
+    (entry_of c.at-entry.result.now) c.self.invariant.0 there
     (cookie-at c.self.inside.by_name c.find_position-search.result.position c.at-spot.result c.at-spot.ensures) c.at-entry.ensures)
