@@ -1,7 +1,7 @@
 -- A lane may cross threads, where its device and what it waits by may.
 use denote.RattleType.{RattleType}
 use denote.Param.Send.{IsSend, sendable, view_send}
-use denote.Param.SendFields.{as_row_send, declared_send}
+use denote.Param.SendFields.{declared_send}
 use Rattle.std.proofs.Crossing.{crosses, send, frees}
 use Rattle.slab.proofs.Slab.TheSendSync as slab
 use Rattle.statistics.proofs.counts.ReplyCounts.TheSendSync as counts
@@ -22,7 +22,6 @@ use Rattle.lanes.proofs.backlog.Backlog.TheSendSync as backlog
 use Rattle.lanes.proofs.connection.Flags.TheSendSync as flags
 use Rattle.lanes.proofs.due.Due.TheSendSync as due
 use Rattle.lanes.proofs.watched.Watched.TheSendSync as watched
-use Rattle.lanes.specs.contracts.backlog.Backlog as Backlog
 use Rattle.lanes.specs.contracts.connection.Connection as Connection
 use Rattle.lanes.specs.contracts.intake.Intake as Intake
 use Rattle.lanes.specs.contracts.lane.Lane as Lane

@@ -1,5 +1,5 @@
 -- A call that was read fits the queue of its lane.
-use Rattle.std.proofs.Common.{◌≡◌, ◌≤◌, ◌∙◌, Option, Some, None, subst, ap, arith}
+use Rattle.std.proofs.Common.{◌≡◌, Option, Some, None, subst, arith}
 use Rattle.std.specs.Prelude.{option_map}
 use Rattle.nfs_model.specs.Tree as trees
 use Rattle.nfs_model.specs.Home.{home}

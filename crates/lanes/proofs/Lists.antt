@@ -1,5 +1,5 @@
 -- What came and what ended, list by list.
-use Rattle.std.proofs.Common.{◌≡◌, ◌≢◌, ◌==◌, ℕ, ◌+◌, Bool, true, false, if◌then◌else◌, List, [], ◌∷◌, ◌++◌, Option, Some, None, refl, sym, ap, ◌∙◌}
+use Rattle.std.proofs.Common.{◌≡◌, ◌≢◌, ◌==◌, ℕ, ◌+◌, Bool, true, false, if◌then◌else◌, List, [], ◌∷◌, ◌++◌, Option, Some, None, refl, ap, ◌∙◌}
 use Rattle.std.proofs.Common.{length, ne_eqb, arith}
 use Rattle.nfs_model.specs.Home.{home_of_asked}
 use Rattle.nfs_model.specs.Tree.{Affinity, Layout}
@@ -10,7 +10,7 @@ use Rattle.outboxes.specs.Messages.{ReplyMessage}
 use Rattle.service.specs.declared.job.Job.{Job}
 use Rattle.service.specs.declared.job.Job.TheVariants.{Serve, Inner}
 use Rattle.turns.specs.Balance.{FilerEntry}
-use Rattle.tcp_front.specs.Arrivals.{Arrival, Waits, Answered, placed, arrivals}
+use Rattle.tcp_front.specs.Arrivals.{Arrival, placed, arrivals}
 use Rattle.lanes.specs.Story.{comes_of, of_connection, Ending, Served, AtOnce, said_by, with_reply, replies_to}
 use Rattle.lanes.specs.Story.{served_of, at_once_of, with_served, served_in}
 

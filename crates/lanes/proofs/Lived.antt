@@ -1,6 +1,6 @@
 -- The story of a lane, call by call.
-use Rattle.std.proofs.Common.{◌≡◌, ◌≢◌, ◌==◌, ◌<◌, ◌≤◌, ℕ, ◌+◌, ◌*◌, Bool, true, false, if◌then◌else◌, List, [], ◌∷◌, ◌++◌, map, length, Option}
-use Rattle.std.proofs.Common.{Some, None, refl, sym, ap, subst, ◌∙◌, append_assoc, append-nil, cond, ne_eqb, arith}
+use Rattle.std.proofs.Common.{◌≡◌, ◌≢◌, ◌==◌, ◌<◌, ◌≤◌, ℕ, ◌+◌, Bool, true, false, if◌then◌else◌, List, [], ◌∷◌, ◌++◌, map, Option}
+use Rattle.std.proofs.Common.{Some, None, refl, sym, ap, subst, ◌∙◌, append-nil, cond, ne_eqb, arith}
 use Rattle.std.specs.FinMap.{get}
 use Rattle.std.proofs.Math.Arith.{lt_of_le-ne}
 use Rattle.std.proofs.lemmas.Bool.{eqb-false}
@@ -25,7 +25,7 @@ use Rattle.lanes.specs.declared.connection.Connection.{Connection}
 use Rattle.lanes.specs.Connections.{number_of}
 use Rattle.lanes.specs.Intakes.{all_put, answered_of}
 use Rattle.lanes.specs.Reading.{Reads}
-use Rattle.lanes.specs.Story.{of_connection, Ending, Served, AtOnce, said_by, told_to, served_of, at_once_of, served_in, number_at, IsServed}
+use Rattle.lanes.specs.Story.{of_connection, Served, AtOnce, said_by, told_to, served_of, at_once_of, served_in, number_at, IsServed}
 use Rattle.lanes.specs.Story.{Life, Open, Closed, HasLived, Story}
 use Rattle.lanes.specs.Writing.{Writes}
 use Rattle.lanes.specs.lemmas.Coming.{calls-append, answered-append}

@@ -1,6 +1,6 @@
 -- One write to a connection, by its answer.
-use Rattle.std.proofs.Common.{◌≡◌, ◌==◌, ◌+◌, ◌<◌, ◌≤◌, ℕ, Bool, true, false, true≢false, ne_eqb, List, [], ◌∷◌, ◌++◌, length, length-append, take}
-use Rattle.std.proofs.Common.{drop, Option, Some, None, refl, sym, ap, subst, ◌∙◌, append-nil, append_assoc, take-append-drop, ◌⊎◌, inl, inr, arith}
+use Rattle.std.proofs.Common.{◌≡◌, ◌==◌, ◌+◌, ◌<◌, ◌≤◌, ℕ, Bool, false, true≢false, ne_eqb, List, [], ◌∷◌, ◌++◌, length, length-append, take}
+use Rattle.std.proofs.Common.{drop, Option, Some, None, refl, sym, ap, subst, ◌∙◌, append-nil, append_assoc, take-append-drop, inl, inr, arith}
 use Rattle.std.specs.Prelude.{IsTrue}
 use Rattle.std.proofs.lemmas.List.{drop-append-le, length-take-le}
 use Rattle.std.proofs.KnownBytes.{Appends-kept, Appends-nil}
@@ -16,11 +16,10 @@ use Rattle.lanes.specs.declared.watched.Watched.{Watched}
 use Rattle.lanes.specs.declared.writing.Sent.{Sent}
 use Rattle.lanes.specs.declared.writing.Sent.TheVariants as sents
 use Rattle.lanes.specs.Told.{device_of, HasCalled, HasGiven, MovesAtMost}
-use Rattle.lanes.specs.Connections.{number_of}
 use Rattle.lanes.specs.Rests.{list_of}
 use Rattle.lanes.specs.Taking.{IsOut, Takes}
-use Rattle.lanes.specs.Joining.{HasJoined, IsOutAs}
-use Rattle.lanes.specs.Writing.{all_of, breaks, ComesTo, HasSent, HasWrittenAs, HasWrittenParts, IsOutcome, Tells}
+use Rattle.lanes.specs.Joining.{HasJoined}
+use Rattle.lanes.specs.Writing.{all_of, ComesTo, HasSent, HasWrittenAs, HasWrittenParts, IsOutcome, Tells}
 use Rattle.lanes.specs.lemmas.Taking.{takes-first, takes-more, takes-none, takes-out}
 use Rattle.lanes.specs.lemmas.Writing.{record-some, records-append}
 

@@ -1,9 +1,8 @@
 -- A connection of which nothing came has no reply.
-use Rattle.std.proofs.Common.{◌≡◌, ◌≤◌, ◌==◌, ℕ, ◌+◌, Bool, true, false, if◌then◌else◌, List, [], ◌∷◌, map, Option, Some, None, refl, sym, ap, ◌∙◌}
+use Rattle.std.proofs.Common.{◌≡◌, ◌≤◌, ◌==◌, ℕ, ◌+◌, Bool, true, false, if◌then◌else◌, List, [], ◌∷◌, map, refl, ap, ◌∙◌}
 use Rattle.std.proofs.Common.{arith}
 use Rattle.depot_rule.specs.Sums.{total}
 use Rattle.nfs_model.specs.World as worlds
-use Rattle.nfs_model.specs.Types.{Asked}
 use Rattle.outboxes.specs.Boxes.{Addressed}
 use Rattle.outboxes.specs.Messages.{ReplyMessage}
 use Rattle.filer_state.specs.state.Jobs as jobs

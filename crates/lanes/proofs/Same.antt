@@ -1,5 +1,5 @@
 -- A worker that is the same but for how it uses its queue.
-use Rattle.std.proofs.Common.{◌≡◌, ◌+◌, ℕ, Option, Some, sym, ap, subst}
+use Rattle.std.proofs.Common.{◌≡◌, ◌+◌, Option, Some, sym, ap, subst}
 use Rattle.std.specs.Prelude.{IfSome}
 use Rattle.affinity.specs.declared.layout.Layout as layouts
 use Rattle.depot.specs.Words as depots

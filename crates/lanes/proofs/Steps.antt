@@ -1,5 +1,5 @@
 -- What each call of a lane leaves: its story, and both passes.
-use Rattle.std.proofs.Common.{◌≡◌, ◌≢◌, ◌<◌, ◌≤◌, ℕ, ◌+◌, ◌*◌, ◌^◌, List, [], ◌∷◌, ◌++◌, map, Option, Some, None, Result, Ok, Err, refl, sym, ap}
+use Rattle.std.proofs.Common.{◌≡◌, ◌≢◌, ◌≤◌, ℕ, ◌+◌, ◌*◌, ◌^◌, List, [], ◌∷◌, ◌++◌, map, Option, Some, None, Result, Ok, Err, refl, sym, ap}
 use Rattle.std.proofs.Common.{subst, ◌∙◌, append-nil, cond, ne_eqb, arith}
 use Rattle.std.specs.Prelude.{IsSome}
 use Rattle.std.specs.FinMap as maps
@@ -8,16 +8,14 @@ use Rattle.rpc_msg.specs.declared.offer.Offer.{Offer}
 use Rattle.rpc_msg.specs.Offer.{form_of}
 use Rattle.turns.specs.Telling.{answer_told, TookTold}
 use Rattle.nfs_model.specs.Tree.{Layout}
-use Rattle.nfs_model.specs.World.{Heard}
 use Rattle.affinity.specs.declared.layout.Layout as layouts
 use Rattle.nfs_model.specs.volume.lemmas.Numbered.{get-remove_at}
 use Rattle.nfs_values.specs.declared.moment.Moment.{Moment}
-use Rattle.nfs_values.specs.Credential.{credential_of}
 use Rattle.filer_state.specs.state.Jobs as jobs
 use Rattle.depot_rule.specs.History.{entries_of}
 use Rattle.depot_rule.specs.Sums.{total}
 use Rattle.depot_rule.specs.lemmas.Sums.{total-append}
-use Rattle.slab.specs.Slab.{Slab, get, ContainsKey, Updates, with_value}
+use Rattle.slab.specs.Slab.{Slab, get, Updates, with_value}
 use Rattle.slab.proofs.SlabLemmas.{Updates-with_value}
 use Rattle.outboxes.specs.Boxes.{Addressed, addressed, Boxes, put, shut, opened}
 use Rattle.outboxes.specs.Messages.{ReplyMessage, message}
@@ -30,7 +28,7 @@ use Rattle.turns.specs.declared.tend.Tended.{Tended}
 use Rattle.turns.specs.declared.tend.TendRefusal.{TendRefusal}
 use Rattle.turns.specs.Balance.{FilerEntry, Passed, Weight, by_entry, by_key}
 use Rattle.turns.specs.Chains.{puts, DidAll, EndsBy, HasPutAll, HasTurnedOn}
-use Rattle.turns.specs.Turns.{HasDoneFrom, HasFinished, IsEntryOf, Standing, HasShareOf, job_of_message}
+use Rattle.turns.specs.Turns.{HasDoneFrom, IsEntryOf, Standing, HasShareOf, job_of_message}
 use Rattle.turns.specs.Words.{entries_in, passed, IsSameWorker}
 use Rattle.turns.specs.Messages.{Message}
 use Rattle.turns.specs.declared.shared_waiting.pass.Pass.{Pass}
@@ -43,20 +41,18 @@ use Rattle.lanes.specs.declared.connection.Flags.{Flags}
 use Rattle.lanes.specs.declared.intake.Intake.{Intake}
 use Rattle.lanes.specs.declared.reading.Came.{Came}
 use Rattle.lanes.specs.declared.writing.Sent.{Sent}
-use Rattle.tcp_front.specs.declared.stream.Stopped.{Stopped}
 use Rattle.tcp_front.specs.declared.stream.Stream.{Stream}
-use Rattle.tcp_front.specs.Arrivals.{Arrival}
-use Rattle.lanes.specs.Connections.{flagged, number_of, owing}
+use Rattle.lanes.specs.Connections.{flagged, number_of}
 use Rattle.lanes.specs.Intakes.{HasTakenIn, has_room_in}
 use Rattle.lanes.specs.Lanes.{Closes, Flagged, ReadsOn, ReadsUnder, WritesUnder, owing_in}
 use Rattle.lanes.specs.Queues.{HasBoth}
-use Rattle.lanes.specs.Reading.{Cuts, HasRead, Reads}
-use Rattle.lanes.specs.Story.{Ending, Served, answer_to, said_by, served_in, with_served, Story}
+use Rattle.lanes.specs.Reading.{HasRead, Reads}
+use Rattle.lanes.specs.Story.{Served, answer_to, said_by, served_in, with_served, Story}
 use Rattle.lanes.specs.Writing.{HasWritten, Writes}
 use Rattle.lanes.specs.lemmas.Reading.{reads-on, writes-kept}
 use Rattle.lanes.specs.lemmas.Writing.{written-takes, written-same, writes-on, reads-kept}
 use Rattle.lanes.proofs.Lists.{entries-append}
-use Rattle.lanes.proofs.Lived.{Sets, story-turns, story-ends, story-opens, story-reads, story-writes, story-shuts}
+use Rattle.lanes.proofs.Lived.{story-turns, story-ends, story-opens, story-reads, story-writes, story-shuts}
 
 -- ---- both passes
 

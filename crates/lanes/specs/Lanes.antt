@@ -1,5 +1,5 @@
 -- What the calls of a lane do.
-use Rattle.std.specs.Prelude.{◌≡◌, ◌≢◌, ℕ, Bool, List, [], Option, Some, None, Result, Ok, Err}
+use Rattle.std.specs.Prelude.{◌≡◌, ℕ, List, Option, Some, None, Result, Ok, Err}
 use Rattle.slab.specs.Slab.{Slab, get, Updates, with_value}
 use Rattle.nfs_model.specs.Tree.{Layout}
 use Rattle.rpc_msg.specs.declared.handle_form.HandleForm.{HandleForm}

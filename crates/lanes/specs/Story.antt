@@ -1,9 +1,9 @@
 -- The whole life of a lane: what came, what ended, and what is known of each connection that it ever had.
-use Rattle.std.specs.Prelude.{◌≡◌, ◌≢◌, ◌==◌, ℕ, ◌<◌, ◌≤◌, ◌+◌, ◌*◌, Bool, List, [], ◌∷◌, ◌++◌, map, Option, Some, None, if◌then◌else◌}
+use Rattle.std.specs.Prelude.{◌≡◌, ◌≢◌, ◌==◌, ℕ, ◌<◌, ◌≤◌, ◌+◌, ◌*◌, List, [], ◌∷◌, ◌++◌, map, Option, Some, None, if◌then◌else◌}
 use Rattle.std.specs.FinMap.{get}
 use Rattle.depot_rule.specs.Sums.{total}
 use Rattle.nfs_model.specs.Tree.{Layout}
-use Rattle.nfs_model.specs.World.{Heard, Message}
+use Rattle.nfs_model.specs.World.{Heard}
 use Rattle.rpc_msg.specs.declared.offer.Offer.{Offer}
 use Rattle.rpc_msg.specs.Offer.{form_of}
 use Rattle.turns.specs.Telling.{message_told}

@@ -12,7 +12,7 @@ use Rattle.lanes.specs.declared.watched.Watched.{Watched}
 use Rattle.lanes.specs.declared.writing.Sent.{Sent}
 use Rattle.lanes.specs.declared.writing.Sent.TheVariants as sents
 use Rattle.lanes.specs.Told.{device_of, HasCalled}
-use Rattle.lanes.specs.Connections.{now_of, number_of, rest_of}
+use Rattle.lanes.specs.Connections.{now_of, number_of}
 use Rattle.lanes.specs.Taking.{IsOut, Takes}
 
 -- ---- from the first reply on

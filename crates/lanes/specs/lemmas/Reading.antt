@@ -1,5 +1,5 @@
 -- The reading of a connection, call after call.
-use Rattle.std.proofs.Common.{◌≡◌, ◌+◌, ℕ, Bool, List, [], ◌∷◌, ◌++◌, length, length-append, Option, Some, None, refl, sym, ap, subst, ◌∙◌}
+use Rattle.std.proofs.Common.{◌≡◌, ℕ, Bool, List, ◌++◌, length-append, Option, Some, None, refl, sym, ap, subst, ◌∙◌}
 use Rattle.std.proofs.Common.{append_assoc, append-nil, arith}
 use Rattle.std.proofs.KnownBytes.{Appends-kept, Consumes-trans}
 use Rattle.std.specs.Io.KnownBytes.{Consumes}
@@ -8,7 +8,6 @@ use Rattle.nfs_model.specs.World.{Heard, Scanned}
 use Rattle.outboxes.specs.Messages.{ReplyMessage}
 use Rattle.rpc_msg.specs.declared.offer.Offer.{Offer}
 use Rattle.engine_feed.specs.Numbers.{fault_number}
-use Rattle.engine_feed.specs.Streams.{scan_stream}
 use Rattle.tcp_front.specs.declared.stream.Stopped.{Stopped}
 use Rattle.tcp_front.specs.declared.stream.Stopped.TheVariants as stops
 use Rattle.tcp_front.specs.declared.stream.Stream.{Stream}

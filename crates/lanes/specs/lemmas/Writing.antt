@@ -1,6 +1,6 @@
 -- The writing of a connection, call after call.
-use Rattle.std.proofs.Common.{◌≡◌, ◌+◌, ◌<◌, ℕ, Bool, true, false, true≢false, List, [], ◌∷◌, ◌++◌, length, Option, Some, None, refl, sym, ap, subst}
-use Rattle.std.proofs.Common.{◌∙◌, append_assoc, append-nil, arith}
+use Rattle.std.proofs.Common.{◌≡◌, ◌+◌, ◌<◌, ℕ, Bool, true, false, List, [], ◌∷◌, ◌++◌, length, Option, Some, None, refl, sym, ap, subst}
+use Rattle.std.proofs.Common.{◌∙◌, append_assoc, arith}
 use Rattle.std.proofs.KnownBytes.{Appends-trans, Consumes-kept, Keeps-refl}
 use Rattle.std.specs.FinMap.{get}
 use Rattle.std.specs.Io.KnownBytes.{Appends, Keeps}
@@ -19,7 +19,7 @@ use Rattle.lanes.specs.Connections.{now_of, number_of}
 use Rattle.lanes.specs.Reading.{IsReadFrom, Reads}
 use Rattle.lanes.specs.lemmas.Taking.{takes-none}
 use Rattle.lanes.specs.Taking.{Takes, TakesOf}
-use Rattle.lanes.specs.Writing.{HasWritten, HasWrittenAs, IsWrittenTo, Writes, breaks}
+use Rattle.lanes.specs.Writing.{HasWritten, HasWrittenAs, IsWrittenTo, Writes}
 
 pub records-append : (ms ks : List ReplyMessage) → records_of (ms ++ ks) ≡ records_of ms ++ records_of ks
 records-append [] ks = refl

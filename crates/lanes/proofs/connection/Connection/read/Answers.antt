@@ -1,4 +1,4 @@
-use Rattle.std.proofs.Common.{◌≡◌, ◌<◌, [], true, false, length, None, take, rules, refl, sym, ap, subst, ◌∙◌, ℕ}
+use Rattle.std.proofs.Common.{◌≡◌, ◌<◌, [], true, false, length, take, rules, refl, subst, ℕ}
 use Rattle.std.proofs.KnownBytes.{Consumes-nil, Keeps-refl}
 use Rattle.affinity.specs.Layout.{layout_of}
 use Rattle.lanes.specs.declared.reading.Came.TheVariants as cames

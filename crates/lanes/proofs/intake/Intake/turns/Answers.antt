@@ -1,4 +1,4 @@
-use Rattle.std.proofs.Common.{◌≡◌, ◌≤◌, refl, sym, ap, subst, ◌∙◌, Some, rules}
+use Rattle.std.proofs.Common.{◌≡◌, ◌≤◌, refl, sym, ap, subst, ◌∙◌, Some}
 use Rattle.crossbeam_queue.specs.Fifo.{Held}
 use Rattle.depot_rule.specs.History.{entries_of}
 use Rattle.depot_rule.specs.Sums.{total}

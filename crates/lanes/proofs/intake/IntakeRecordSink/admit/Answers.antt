@@ -1,13 +1,11 @@
-use Rattle.std.proofs.Common.{◌≡◌, ◌<◌, ap, sym, subst, ◌∙◌, rules}
+use Rattle.std.proofs.Common.{◌<◌, sym, subst, rules}
 use Rattle.turns.specs.Balance.{Passed}
 use Rattle.turns.specs.shared_waiting.Balance.{FitsIn}
 use Rattle.turns.specs.Messages.{Fits, Message}
 use Rattle.turns.specs.shared_waiting.Passes.{known}
 use Rattle.turns.specs.Words.{layout_in}
-use Rattle.lanes.proofs.Counted.{counted-more, not-full}
+use Rattle.lanes.proofs.Counted.{not-full}
 use Rattle.lanes.proofs.Fitting.{fits-by, placed}
-use Rattle.lanes.proofs.Same.{same-rights}
-use Rattle.lanes.proofs.Steps.{both-kept}
 use Rattle.lanes.proofs.intake.IntakeRecordSink.admit.Goals as goal
 
 pub put_last-requires-clause-key : goal.put_last-requires-clause-key

@@ -1,5 +1,5 @@
-use Rattle.std.proofs.Common.{refl, rules}
-use Rattle.turns.specs.Words.{entries_in, layout_in}
+use Rattle.std.proofs.Common.{rules}
+use Rattle.turns.specs.Words.{entries_in}
 use Rattle.turns.specs.shared_waiting.Passes.{known}
 use Rattle.lanes.proofs.Lived.{story-begins}
 use Rattle.lanes.proofs.Counted.{counted-none}

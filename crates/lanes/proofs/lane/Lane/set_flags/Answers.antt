@@ -1,11 +1,6 @@
-use Rattle.std.proofs.Common.{refl, sym, ap, subst, ◌∙◌, rules}
 use Rattle.std.specs.Arc.{arc_value}
-use Rattle.affinity.specs.declared.layout.Layout.{Layout}
-use Rattle.turns.specs.Words.{entries_in, layout_in, IsAt}
+use Rattle.turns.specs.Words.{entries_in, layout_in}
 use Rattle.turns.specs.shared_waiting.Passes.{known}
-use Rattle.turns.specs.Messages.{Message}
-use Rattle.turns.specs.declared.shared.Filer.{Filer}
-use Rattle.turns.specs.declared.shared_waiting.pass.SharedWaiting.{SharedWaiting}
 use Rattle.lanes.proofs.Steps.{flags-told}
 use Rattle.lanes.proofs.lane.Lane.set_flags.Goals as goal
 

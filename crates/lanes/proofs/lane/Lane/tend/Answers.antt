@@ -1,12 +1,9 @@
-use Rattle.std.proofs.Common.{◌≡◌, refl, sym, ap, subst, ◌∙◌, rules}
+use Rattle.std.proofs.Common.{◌≡◌, refl, sym, ap, subst, rules}
 use Rattle.std.specs.Arc.{arc_value}
-use Rattle.affinity.specs.declared.layout.Layout.{Layout}
 use Rattle.turns.specs.Tends.{Tends}
-use Rattle.turns.specs.Words.{entries_in, layout_in, IsAt}
+use Rattle.turns.specs.Words.{layout_in, IsAt}
 use Rattle.turns.specs.shared_waiting.Passes.{known}
-use Rattle.turns.specs.Messages.{Message}
 use Rattle.turns.specs.declared.shared.Filer.{Filer}
-use Rattle.turns.specs.declared.shared_waiting.pass.SharedWaiting.{SharedWaiting}
 use Rattle.lanes.proofs.Counted.{counted-same}
 use Rattle.lanes.proofs.Inside.{at-inside}
 use Rattle.lanes.proofs.Steps.{both-kept, tends-told}

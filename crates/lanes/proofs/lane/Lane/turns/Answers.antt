@@ -1,4 +1,4 @@
-use Rattle.std.proofs.Common.{◌≡◌, refl, sym, ap, subst, ◌∙◌, rules}
+use Rattle.std.proofs.Common.{◌≡◌, sym, ap, subst, ◌∙◌, rules}
 use Rattle.std.specs.Arc.{arc_value}
 use Rattle.affinity.specs.declared.layout.Layout.{Layout}
 use Rattle.turns.specs.Chains.{HasPutAll, HasTurnedOn}
