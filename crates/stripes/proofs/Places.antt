@@ -19,10 +19,10 @@ same-default (x ∷ xs) (suc i) d e h = same-default xs i d e (omega arith)
 pub at-place : (xs ys : Places) (i block : ℕ) (d : Option Block) → ys ≡ xs → i ≡ block % span_blocks → i < length xs → get_or ys i d ≡ place_of xs block
 at-place xs ys i block d e h below = ap (λ l. get_or l i d) e ∙ same-default xs i d None below ∙ ap (λ j. get_or xs j None) h
 
-abbrev none_here : Option Block
+abbrev pub none_here : Option Block
 none_here = None
 
-nothing-there : (n i : ℕ) → get_or (replicate n none_here) i None ≡ None
+pub nothing-there : (n i : ℕ) → get_or (replicate n none_here) i None ≡ None
 nothing-there n i = elim (cases_lt i n) [
   | inl below ↦ get_or-replicate n i none_here None below
   | inr past ↦ get_or_past (replicate n none_here) i None (omega (arith, length-replicate n none_here))

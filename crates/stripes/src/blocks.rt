@@ -37,9 +37,10 @@ ghost use Rattle.stripes.specs.Spans.{
 
 use crate::block::Block;
 use crate::freed_blocks::FreedBlocks;
-use crate::span::{SPAN_BLOCKS, put_zeros};
+use crate::span::{SPAN_BLOCKS, Span, put_zeros};
 use crate::spans::{
-    SpanMap, insert_in, number_block, overwrite_in, take_from, take_in, write_in, zero_tail,
+    SpanMap, give_back, insert_in, number_block, overwrite_in, take_from, take_in, write_in,
+    zero_tail,
 };
 use nfs_values::{BLOCK_BYTES, BlockNumber, SPAN_BYTES};
 use std::alloc::{AllocError, Global};
@@ -51,6 +52,8 @@ use std::marker::Model;
 pub struct Blocks {
     alloc: Global,
     spans: SpanMap,
+    /// Spans that are no file's any more, whose memory is still to be given back.
+    gone: Vec<Span>,
 }
 
 impl Model for Blocks {
@@ -79,6 +82,7 @@ impl Blocks {
         Blocks {
             alloc,
             spans: BTreeMap::new(alloc),
+            gone: Vec::new(alloc),
         }
     }
 
@@ -167,9 +171,10 @@ impl Blocks {
         number_block(&mut self.spans, fileid, block, number);
     }
 
-    /// Takes a file's blocks that lie wholly past a size in the span of the first of them, and tells
-    /// their numbers. Where there is none it zeroes the rest of the block in which the size lies.
-    pub fn cut(&mut self, fileid: u64, size: u64) -> Option<FreedBlocks>
+    /// Takes a file's blocks that lie wholly past a size in the span of the first of them, and
+    /// tells their numbers. Where there is none it zeroes the rest of the block in which the size
+    /// lies. The memory of a whole span may be given back later.
+    pub fn cut(&mut self, fileid: u64, size: u64, later: bool) -> Option<FreedBlocks>
         ensures freed { IfSome result (λ freed. numbers_past fileid size self.old
             ≡ freed ++ numbers_past fileid size self.new) }
         ensures some { IfSome result (λ freed. 0 < length freed) }
@@ -179,13 +184,28 @@ impl Blocks {
         ensures done { IfNone result (self.new ≡ cut_blocks fileid size self.old) }
         ensures long { IsLong self.new }
     {
-        match take_from(&mut self.spans, fileid, first_past(size)) {
+        match take_from(
+            &mut self.spans,
+            &mut self.gone,
+            fileid,
+            first_past(size),
+            later,
+        ) {
             Some(freed) => Some(freed),
             None => {
                 zero_tail(&mut self.spans, fileid, size);
                 None
             }
         }
+    }
+
+    /// Gives back the memory of so many blocks at least that cuts took, or of all that is left, and
+    /// tells of how many.
+    pub fn give_back(&mut self, blocks: usize) -> usize
+        ensures same { self.new ≡ self.old }
+        ensures long { IsLong self.new }
+    {
+        give_back(&mut self.gone, blocks)
     }
 }
 

@@ -223,6 +223,17 @@ impl Span {
         Some(freed)
     }
 
+    /// The numbers of its blocks.
+    pub fn numbers(&self) -> FreedBlocks
+        ensures { result ≡ numbers_from 0 self.now }
+    {
+        let mut freed = FreedBlocks::new();
+        for i in 0..64 {
+            tell_place(&self.places[i], &mut freed);
+        }
+        freed
+    }
+
     /// Whether no block is there.
     pub fn is_empty(&self) -> bool
         ensures empty { IsTrue result → HasNone 0 self.now }
@@ -247,15 +258,24 @@ fn first_block(places: &[Option<Block>], from: usize) -> Option<usize>
     None
 }
 
+/// Tells the number of a place's block, if it is there, after others.
+fn tell_place(place: &Option<Block>, freed: &mut FreedBlocks)
+    requires { length freed.old < span_blocks }
+    ensures { freed.new ≡ freed.old ++ with_number place.now [] }
+{
+    if let Some(block) = place {
+        freed.push(block.number());
+    }
+}
+
 /// Takes a place's block, if it is there, and tells its number after others.
 fn take_place(place: &mut Option<Block>, freed: &mut FreedBlocks)
     requires { length freed.old < span_blocks }
     ensures told { freed.new ≡ freed.old ++ with_number place.old [] }
     ensures taken { place.new ≡ None }
 {
-    if let Some(block) = place.take() {
-        freed.push(block.number());
-    }
+    tell_place(place, freed);
+    *place = None;
 }
 
 /// Appends bytes of a place's block; without a block they are zeros.

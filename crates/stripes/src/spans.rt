@@ -52,6 +52,7 @@ ghost use Rattle.stripes.specs.Spans.{
   WritesSpan,
   CutsSpan,
   NumbersSpan,
+  numbers_from,
   Drops,
   There,
 };
@@ -138,9 +139,16 @@ fn add_span(
     Ok(())
 }
 
-/// Takes a file's blocks from a number on that lie in the span of the first of them, and tells their
-/// numbers.
-pub fn take_from(spans: &mut SpanMap, fileid: u64, first: u64) -> Option<FreedBlocks>
+/// Takes a file's blocks from a number on that lie in the span of the first of them, and tells
+/// their numbers. A span after that of the number may be kept among those whose memory is given
+/// back later.
+pub fn take_from(
+    spans: &mut SpanMap,
+    gone: &mut Vec<Span>,
+    fileid: u64,
+    first: u64,
+    later: bool,
+) -> Option<FreedBlocks>
     requires { AllFilled spans.old.entries }
     ensures taken { IfSome result
         (λ freed. FreesSpan fileid first freed spans.old.entries spans.new.entries) }
@@ -154,12 +162,18 @@ pub fn take_from(spans: &mut SpanMap, fileid: u64, first: u64) -> Option<FreedBl
         (first % SPAN_BLOCKS) as usize,
     ) {
         Some(freed) => Some(freed),
-        None => take_after(spans, fileid, first / SPAN_BLOCKS),
+        None => take_after(spans, gone, fileid, first / SPAN_BLOCKS, later),
     }
 }
 
 /// Takes a file's blocks in its first span after one, and tells their numbers.
-fn take_after(spans: &mut SpanMap, fileid: u64, span: u64) -> Option<FreedBlocks>
+fn take_after(
+    spans: &mut SpanMap,
+    gone: &mut Vec<Span>,
+    fileid: u64,
+    span: u64,
+    later: bool,
+) -> Option<FreedBlocks>
     requires filled { AllFilled spans.old.entries }
     requires span { span < 2 ^ 63 }
     ensures taken { IfSome result (λ freed. FreesSpan fileid (span_blocks * (span + 1)) freed
@@ -169,9 +183,64 @@ fn take_after(spans: &mut SpanMap, fileid: u64, span: u64) -> Option<FreedBlocks
     ensures kept { IfNone result (SameSpans spans.old.entries spans.new.entries) }
 {
     match next_span(spans, fileid, span + 1) {
-        Some(next) => take_span(spans, fileid, next, 0),
+        Some(next) => Some(take_whole(spans, gone, fileid, next, later)),
         None => None,
     }
+}
+
+/// Takes a span with its blocks, and tells their numbers.
+fn take_whole(
+    spans: &mut SpanMap,
+    gone: &mut Vec<Span>,
+    fileid: u64,
+    number: u64,
+    later: bool,
+) -> FreedBlocks
+    requires filled { AllFilled spans.old.entries }
+    requires there { IsSome (span_at spans.old.entries (fileid, number)) }
+    ensures { ChangesSpan (TakesFrom 0 result) (fileid, number)
+        spans.old.entries spans.new.entries }
+{
+    match take_out(spans, fileid, number) {
+        Some(span) => pass_on(span, gone, later),
+        None => unreachable!(),
+    }
+}
+
+/// Takes a span, if it is there.
+fn take_out(spans: &mut SpanMap, fileid: u64, number: u64) -> Option<Span>
+    ensures there { result ≡ span_at spans.old.entries (fileid, number) }
+    ensures taken { ChangesSpan Drops (fileid, number) spans.old.entries spans.new.entries }
+{
+    spans.remove(&(fileid, number))
+}
+
+/// Tells the numbers of a span's blocks. Its memory is given back at once, or, where there is
+/// memory to keep it in mind, later.
+fn pass_on(span: Span, gone: &mut Vec<Span>, later: bool) -> FreedBlocks
+    ensures { result ≡ numbers_from 0 span }
+{
+    let numbers = span.numbers();
+    if later {
+        let _kept = gone.push(span);
+    }
+    numbers
+}
+
+/// Gives back the memory of spans with so many blocks at least, or of all that are left, and tells
+/// how many blocks they had.
+pub fn give_back(gone: &mut Vec<Span>, blocks: usize) -> usize {
+    let mut given = 0_usize;
+    for _span in 0..blocks {
+        if given >= blocks {
+            return given;
+        }
+        match gone.pop() {
+            Some(span) => given = given.saturating_add(span.numbers().as_slice().len()),
+            None => return given,
+        }
+    }
+    given
 }
 
 /// Takes the blocks of a span from a place on, and the span with its last block.

@@ -271,10 +271,11 @@ impl Stripe {
         cards.touch(fileid, moment);
     }
 
-    /// TakesFrom a file to a size in steps, to be called until it answers `None`. Each step frees the
+    /// Cuts a file to a size in steps, to be called until it answers `None`. Each step frees the
     /// blocks of a span that lie wholly past the size, and gives their numbers; the last sets the
-    /// rest of the block in which the size lies to zero. It takes no memory.
-    pub fn cut(&mut self, fileid: Fileid, size: u64) -> Option<FreedBlocks>
+    /// rest of the block in which the size lies to zero. It needs no memory. The memory of the
+    /// blocks is given back at once, or, for most of them, later by `give_back`.
+    pub fn cut(&mut self, fileid: Fileid, size: u64, later: bool) -> Option<FreedBlocks>
         ensures freed { IfSome result (λ freed. numbers_freed fileid.0 size self.old
             ≡ freed ++ numbers_freed fileid.0 size self.new) }
         ensures some { IfSome result (λ freed. 0 < length freed) }
@@ -283,7 +284,15 @@ impl Stripe {
         ensures none { IfNone result (numbers_freed fileid.0 size self.old ≡ []) }
         ensures done { IfNone result (self.new ≡ cut fileid.0 size self.old) }
     {
-        self.blocks.cut(fileid.0, size)
+        self.blocks.cut(fileid.0, size, later)
+    }
+
+    /// Gives back the memory of so many blocks at least that cuts left for later, or of all that
+    /// they left, and tells of how many blocks.
+    pub fn give_back(&mut self, blocks: usize) -> usize
+        ensures { self.new ≡ self.old }
+    {
+        self.blocks.give_back(blocks)
     }
 }
 

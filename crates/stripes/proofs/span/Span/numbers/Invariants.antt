@@ -1,0 +1,10 @@
+use Rattle.std.proofs.Common.{◌≡◌, ◌-◌, ◌≤◌, ◌++◌, length}
+use Rattle.nfs_model.specs.volume.Stripes.{span_blocks}
+use Rattle.stripes.specs.Spans.{place_of, numbers_at, numbers_from}
+use Rattle.stripes.proofs.span.Span.numbers.Given as goal
+
+abbrev pub invariant-loop-i : goal.invariant-loop-i
+invariant-loop-i l = record {
+  joined : l.freed ++ numbers_at (place_of l.self-inside.places.value) l.i (span_blocks - l.i) ≡ numbers_from 0 l.self-inside.places.value;
+  few : length l.freed ≤ l.i;
+}
