@@ -1,15 +1,18 @@
 -- Words that sum up others, and the lowest bit found by them.
 use Rattle.std.proofs.Common.{◌≡◌, refl, sym, ap, ◌∙◌, ℕ, zero, suc, ◌+◌, ◌*◌, ◌/◌, ◌%◌, ◌^◌, ◌<◌, ◌≤◌, Bool, true, false, not, ◌==◌}
-use Rattle.std.proofs.Common.{List, [], ◌∷◌, length, replicate, get_or, ⊎_elim, if◌then◌else◌, arith, w64}
+use Rattle.std.proofs.Common.{List, [], ◌∷◌, length, replicate, get_or, ⊎_elim, if◌then◌else◌, arith, length-set, set, w64}
+use mathlib.Core.Bool.{beq}
 use lib.Count.{count_trailing_zeros}
 use borrow.Author.Tests.{eqb-true}
 use Rattle.std.specs.Int.{bit_at}
 use Rattle.std.proofs.lemmas.Bool.{cases_lt}
 use Rattle.std.proofs.lemmas.Bool.Decides.{nat_tests}
+use Rattle.std.proofs.lemmas.List.{get_or-set_same}
 use Rattle.std.proofs.lemmas.Nat.Bits.{bit_at-zero, bit_at-trailing_zeros}
 use Rattle.vbn_ranges.specs.Words.{has_bit}
 use Rattle.vbn_ranges.specs.Summary.{IsSummary}
 use Rattle.vbn_ranges.proofs.Bits.{ZeroBefore}
+use Rattle.vbn_ranges.proofs.Single.{other-words}
 
 -- ---- words
 
@@ -112,6 +115,27 @@ summary-again lower new upper told i h others same bits long = record {
     at : (place : ℕ) (t : Bool) → (place == i) ≡ t → (if t then not (get_or new i 0 == 0) else has_bit upper place) ≡ not (get_or new place 0 == 0)
     at place true e = ap (λ k. not (get_or new k 0 == 0)) (sym (eqb-true place i e))
     at place false e = h.bits place ∙ ap (λ w. not (w == 0)) (sym (others place e))
+
+pub alike : (a b : Bool) → beq a b ≡ true → a ≡ b
+alike true true e = refl
+alike true false e = absurd (cc)
+alike false true e = absurd (cc)
+alike false false e = refl
+
+-- a lower word changed that stays 0, or stays another
+pub summary-kept : (lower upper : List ℕ) (i word : ℕ) → IsSummary lower upper → i < length lower → not (get_or lower i 0 == 0) ≡ not (word == 0)
+    → IsSummary (set lower i word) upper
+summary-kept lower upper i word h within same = record {
+  size = let size = h.size in let long = length-set lower i word in omega (arith, size, long);
+  bits = λ place. h.bits place ∙ at place (place == i) refl;
+}
+  where
+    at : (place : ℕ) (t : Bool) → (place == i) ≡ t → not (get_or lower place 0 == 0) ≡ not (get_or (set lower i word) place 0 == 0)
+    at place true e =
+        let here = eqb-true place i e in
+        ap (λ k. not (get_or lower k 0 == 0)) here ∙ same
+        ∙ sym (ap (λ k. not (get_or (set lower i word) k 0 == 0)) here ∙ ap (λ w. not (w == 0)) (get_or-set_same lower i word 0 within))
+    at place false e = ap (λ w. not (w == 0)) (sym (other-words lower i word place e))
 
 -- words that are 0 sum up words that are
 pub none-summed : (n m : ℕ) → n ≤ 64 * m → (lower upper : List ℕ) → lower ≡ replicate n 0 → upper ≡ replicate m 0 → length lower ≡ n → length upper ≡ m

@@ -159,7 +159,8 @@ impl Levels {
         }
     }
 
-    /// Puts a word, and what the levels above tell of it. It looks at four words.
+    /// Puts a word, and what the levels above tell of it. It looks at four words, or at one where
+    /// they tell the same as before.
     fn put(&mut self, place: usize, word: u64)
         requires summaries { HasSummaries self.old }
         requires within { place < length self.old.words.items }
@@ -167,7 +168,11 @@ impl Levels {
         ensures summaries { HasSummaries self.new }
         ensures count { self.new.count ≡ self.old.count }
     {
+        let was_filled = self.words[place] != 0;
         self.words[place] = word;
+        if was_filled == (word != 0) {
+            return;
+        }
         set_bit(&mut self.low, place, word != 0);
         let of_low = place / 64;
         let is_low = self.low[of_low] != 0;

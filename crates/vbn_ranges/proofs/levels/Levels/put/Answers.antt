@@ -3,7 +3,7 @@ use Rattle.std.proofs.lemmas.List.{get_or-set_same}
 use Rattle.std.proofs.lemmas.Grind.{get_or_default_zero}
 use Rattle.vbn_ranges.specs.Words.{has_bit}
 use Rattle.vbn_ranges.proofs.Single.{other-words}
-use Rattle.vbn_ranges.proofs.Summaries.{summary-again}
+use Rattle.vbn_ranges.proofs.Summaries.{alike, summary-again, summary-kept}
 use Rattle.vbn_ranges.proofs.levels.Levels.put.Goals as goal
 
 pub returns-clause-summaries : goal.returns-clause-summaries
@@ -18,11 +18,11 @@ returns-clause-summaries c =
     let middle-size = h.middle.size in
     let low-long = c.set_bit.ensures.length in
     let middle-long = c.set_bit-2.ensures.length in
-    let low-word : c.index.result.now ≡ get_or c.set_bit.new.words.items (place / 64) 0 =
-    c.index.ensures ∙ get_or_default_zero c.set_bit.new.words.items (place / 64) c.index.result.now (omega (arith, within, low-size, low-long)) in
-    let middle-word : c.index-2.result.now ≡ get_or c.set_bit-2.new.words.items (place / 64 / 64) 0 =
-    c.index-2.ensures
-    ∙ get_or_default_zero c.set_bit-2.new.words.items (place / 64 / 64) c.index-2.result.now
+    let low-word : c.index-2.result.now ≡ get_or c.set_bit.new.words.items (place / 64) 0 =
+    c.index-2.ensures ∙ get_or_default_zero c.set_bit.new.words.items (place / 64) c.index-2.result.now (omega (arith, within, low-size, low-long)) in
+    let middle-word : c.index-3.result.now ≡ get_or c.set_bit-2.new.words.items (place / 64 / 64) 0 =
+    c.index-3.ensures
+    ∙ get_or_default_zero c.set_bit-2.new.words.items (place / 64 / 64) c.index-3.result.now
     (omega (arith, within, low-size, middle-size, middle-long)) in
     record {
       low = summary-again words _ low c.set_bit.new.words.items place h.low (λ k e. other-words words place word k e) (length-set words place word)
@@ -40,4 +40,18 @@ returns-clause-summaries c =
           ∙ ap (λ (w : ℕ). if n == place / 64 / 64 then not (w == 0) else has_bit c.args.self.now.top.items n) middle-word)
           c.set_bit-3.ensures.length;
       one = c.set_bit-3.ensures.length ∙ h.one;
+    }
+
+pub returns-then-was_filled-word-clause-summaries : goal.returns-then-was_filled-word-clause-summaries
+returns-then-was_filled-word-clause-summaries c =
+    let h = c.requires.summaries in
+    let words = c.args.self.now.words.items in
+    let read : c.index.result.now ≡ get_or words c.args.place 0 =
+    c.index.ensures ∙ get_or_default_zero words c.args.place c.index.result.now c.requires.within in
+    record {
+      low = summary-kept words c.args.self.now.low.items c.args.place c.args.word h.low c.requires.within
+          (ap (λ w. not (w == 0)) (sym read) ∙ alike _ _ c.if-was_filled-word.true);
+      middle = h.middle;
+      top = h.top;
+      one = h.one;
     }
