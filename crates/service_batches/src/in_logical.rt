@@ -8,7 +8,7 @@ ghost use Rattle.filer_state.specs.state.Sets.{logical_before, logical_after};
 ghost use Rattle.service_batches.specs.Batches.{CullsHere, DeliversHere, MayDeliver};
 ghost use Rattle.service_batches.specs.Batches.{enough_stocked, most_stocked};
 
-use filer_state::Files;
+use filer_state::{Files, give_back};
 use parcels::LogicalHeld;
 use std::alloc::AllocError;
 use vbn_ranges::Batch;
@@ -51,11 +51,14 @@ pub fn has_enough(held: &LogicalHeld<Files>) -> bool
 }
 
 /// Cull (our profile), on the parcels under Volume Logical: the 64 lowest dead blocks of the range
-/// of the lowest come into the hand, or all of that range if they are fewer. It takes no memory.
+/// of the lowest come into the hand, or all of that range if they are fewer. It takes no memory,
+/// and gives back that of as many blocks which cuts left for later.
 pub fn cull(held: &mut LogicalHeld<Files>) -> Batch
     ensures right { CullsHere (logical_before held.old) result (logical_after held.old held.new) }
     ensures stripes { held.new.stripes ≡ held.old.stripes }
     ensures alike { logical_alike held.old held.new }
 {
-    held.own.get_mut().dead.take_batch()
+    let batch = held.own.get_mut().dead.take_batch();
+    give_back(held, batch.len());
+    batch
 }
