@@ -16,8 +16,12 @@ use parcels::{LogicalHeld, StripeHeld};
 use stripes::Stripe;
 use vbn_ranges::DeadBlocks;
 
+/// A file of more filled blocks has the memory of those that it loses given back later, as their
+/// numbers come into use again: to give it back takes longer than all the rest of a cut.
+const MANY_BLOCKS: u32 = 1024;
+
 /// Sets a file to a size in the stripes of its volume, whose blocks past it are dead then. Of so
-/// many filled blocks it tells how many are left. It takes no memory.
+/// many filled blocks it tells how many are left. It needs no memory.
 pub(crate) fn size_stripes(
     held: &mut LogicalHeld<Files>,
     fileid: Fileid,
@@ -33,6 +37,7 @@ pub(crate) fn size_stripes(
         ≡ map (stripe_sized fileid.0 size) (logical_before held.old).stripes }
     ensures alike { logical_alike held.old held.new }
 {
+    let later = filled > MANY_BLOCKS;
     let mut rest = filled;
     let mut left = held.own.get().stripes as usize;
     while left > 0 {
@@ -43,6 +48,7 @@ pub(crate) fn size_stripes(
             fileid,
             size,
             rest,
+            later,
         );
     }
     rest
@@ -55,6 +61,7 @@ fn size_place(
     fileid: Fileid,
     size: u64,
     filled: u32,
+    later: bool,
 ) -> u32
     requires card { IsSome (get (stripe_value place.old).cards fileid.0) }
     requires numbers { AreNumbers own.old.dead.range_blocks
@@ -70,7 +77,7 @@ fn size_place(
     match place {
         Some(stripe) => {
             let dead = &mut own.get_mut().dead;
-            size_stripe(stripe.own.get_mut(), dead, fileid, size, filled)
+            size_stripe(stripe.own.get_mut(), dead, fileid, size, filled, later)
         }
         None => unreachable!(),
     }
@@ -83,6 +90,7 @@ fn size_stripe(
     fileid: Fileid,
     size: u64,
     filled: u32,
+    later: bool,
 ) -> u32
     requires card { IsSome (get stripe.old.cards fileid.0) }
     requires numbers { AreNumbers dead.old.range_blocks
@@ -92,7 +100,7 @@ fn size_stripe(
     ensures sized { stripe.new ≡ stripe_sized fileid.0 size stripe.old }
 {
     stripe.take_touch(fileid);
-    let left = cut_stripe(stripe, dead, fileid, size, filled);
+    let left = cut_stripe(stripe, dead, fileid, size, filled, later);
     stripe.set_size(fileid, size);
     left
 }
@@ -117,6 +125,7 @@ fn cut_stripe(
     fileid: Fileid,
     size: u64,
     filled: u32,
+    later: bool,
 ) -> u32
     requires { AreNumbers dead.old.range_blocks (numbers_freed fileid.0 size stripe.old) }
     ensures left { result ≡ filled - length (numbers_freed fileid.0 size stripe.old) }
@@ -124,7 +133,7 @@ fn cut_stripe(
     ensures cut { stripe.new ≡ cut fileid.0 size stripe.old }
 {
     let mut left = filled;
-    while let Some(freed) = stripe.cut(fileid, size) {
+    while let Some(freed) = stripe.cut(fileid, size, later) {
         left = mark_all(dead, freed.as_slice(), left);
     }
     left

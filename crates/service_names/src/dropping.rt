@@ -32,7 +32,7 @@ use nfs_values::{Fileid, Moment};
 use parcels::LogicalHeld;
 
 /// Drops a file under a name of a directory, whose blocks are dead then, and tells the directory's
-/// inode. It takes no memory.
+/// inode. It needs no memory.
 pub(crate) fn drop_file(
     held: &mut LogicalHeld<Files>,
     directory: Node,

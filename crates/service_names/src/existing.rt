@@ -37,7 +37,7 @@ use nfs_values::{
 use parcels::LogicalHeld;
 
 /// CREATE where the name is there: EXIST if it is guarded, or for a directory; an exclusive one
-/// answers the file of its verifier, and an unchecked one sets the file. It takes no memory.
+/// answers the file of its verifier, and an unchecked one sets the file. It needs no memory.
 pub(crate) fn create_existing(
     held: &mut LogicalHeld<Files>,
     parent: Parent,

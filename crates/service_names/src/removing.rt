@@ -30,7 +30,7 @@ use parcels::LogicalHeld;
 
 /// REMOVE (RFC 1813 section 3.3.12), on the parcels of a volume's names and attributes, at a
 /// moment: STALE, NOTDIR, what is wrong with the name, INVAL for `.` and `..`, NOENT, or ISDIR for
-/// a directory; else the file is gone with its name, and its blocks are dead. It takes no memory.
+/// a directory; else the file is gone with its name, and its blocks are dead. It needs no memory.
 pub fn remove(
     held: &mut LogicalHeld<Files>,
     volume: VolumeNumber,

@@ -29,7 +29,7 @@ use parcels::LogicalHeld;
 /// SETATTR (RFC 1813 section 3.3.2), on the parcels of a volume's names and attributes, at a
 /// moment: STALE where there is no node of the fileid, NOT_SYNC where a guard is another ctime,
 /// INVAL for a bad time or the size of a directory, FBIG for a size over the largest; else the
-/// node is set, and the blocks that leave a file are dead. It takes no memory.
+/// node is set, and the blocks that leave a file are dead. It needs no memory.
 pub fn set_attributes(
     held: &mut LogicalHeld<Files>,
     volume: VolumeNumber,
@@ -80,7 +80,7 @@ fn attributes_set(
 }
 
 /// Sets the node of a fileid, whose inode this is, to attributes at a moment, and tells its inode
-/// after it. It takes no memory.
+/// after it. It needs no memory.
 pub(crate) fn set_node(
     held: &mut LogicalHeld<Files>,
     fileid: Fileid,

@@ -16,7 +16,7 @@ use nfs_values::Fileid;
 use parcels::LogicalHeld;
 
 /// Sets a file to a size, cut or grown by a hole, and to attributes, and tells its inode; the
-/// blocks that leave it are dead. It takes no memory.
+/// blocks that leave it are dead. It needs no memory.
 pub fn size_file(
     held: &mut LogicalHeld<Files>,
     fileid: Fileid,
