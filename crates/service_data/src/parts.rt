@@ -17,7 +17,7 @@ ghost use Rattle.service_data.specs.Parts.{
 ghost use Rattle.service_data.specs.Stripes.{HasStripes};
 
 use crate::homes::number_block;
-use filer_state::Files;
+use filer_state::{Files, give_back};
 use nfs_values::{BlockNumber, Fileid};
 use parcels::{RangeHeld, VbnHeld, VolumeHeld};
 use vbn_ranges::Range;
@@ -37,7 +37,8 @@ pub(crate) fn number_blocks(held: &mut VolumeHeld<Files>, fileid: Fileid, blocks
 }
 
 /// Takes a number of a volume that has one: of its stock, else the lowest free one of the first
-/// range that has one, else the lowest dead one. It takes no memory.
+/// range that has one, else the lowest dead one. It takes no memory, and where the number was dead
+/// gives back that of a block or more which cuts left for later.
 pub(crate) fn take_number(held: &mut VolumeHeld<Files>) -> BlockNumber
     requires { 0 < for_holes (volume_before held.old) }
     ensures leaves { LeavesOne result.0 (volume_before held.old) (volume_after held.old held.new) }
@@ -52,7 +53,10 @@ pub(crate) fn take_number(held: &mut VolumeHeld<Files>) -> BlockNumber
         return number;
     }
     match held.logical.own.get_mut().dead.take() {
-        Some(number) => number,
+        Some(number) => {
+            give_back(&mut held.logical, 1);
+            number
+        }
         None => unreachable!(),
     }
 }
