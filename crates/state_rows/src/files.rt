@@ -91,7 +91,7 @@ fn hole(rt: HostRuntime) {
 
 /// Looks whether a cut to a size frees these blocks next.
 fn frees(rt: &impl Abort, stripe: &mut Stripe, size: u64, wanted: &[BlockNumber]) {
-    let freed = stripe.cut(FILE, size).expect(rt, "nothing freed");
+    let freed = stripe.cut(FILE, size, true).expect(rt, "nothing freed");
     same(rt, &freed.as_slice(), &wanted);
 }
 
@@ -106,7 +106,7 @@ fn cut_within_a_block(rt: HostRuntime) {
     fill(&rt, &mut stripe, &past);
     frees(&rt, &mut stripe, 8193, &[BlockNumber(8), BlockNumber(6)]);
     frees(&rt, &mut stripe, 8193, &[BlockNumber(9)]);
-    same(&rt, &stripe.cut(FILE, 8193).is_none(), &true);
+    same(&rt, &stripe.cut(FILE, 8193, true).is_none(), &true);
     stripe
         .set_card(FILE, CardKind::File { size: 8200 })
         .expect(&rt, "no memory");
@@ -118,7 +118,7 @@ fn cut_within_a_block(rt: HostRuntime) {
 fn cut_to_nothing(rt: HostRuntime) {
     let mut stripe = written(&rt);
     frees(&rt, &mut stripe, 0, &[BlockNumber(7)]);
-    same(&rt, &stripe.cut(FILE, 0).is_none(), &true);
+    same(&rt, &stripe.cut(FILE, 0, true).is_none(), &true);
     mem::forget(stripe);
 }
 
