@@ -37,7 +37,7 @@ pub(crate) fn drop_target(held: &mut LogicalHeld<Files>, between: Between, targe
     }
 }
 
-/// Drops a file of a directory, whose entry is gone; its blocks are dead. It takes no memory.
+/// Drops a file of a directory, whose entry is gone; its blocks are dead. It needs no memory.
 fn drop_file(held: &mut LogicalHeld<Files>, directory: Node, child: Node, moment: Moment)
     requires { MayBeSet child.fileid.0 (logical_before held.old) }
     ensures set { (v : ℕ) (name : List ℕ) → logical_after held.old held.new ≡ emptied_gone
