@@ -48,7 +48,11 @@ fn dead_of_largest(rt: &(impl Abort + AllocGlobal), numbers: &[u32]) -> DeadBloc
 /// The first and the last block of a batch, and how many it has.
 fn ends(batch: &Batch) -> (Option<BlockNumber>, Option<BlockNumber>, usize) {
     let blocks = batch.as_slice();
-    (blocks.first().copied(), blocks.last().copied(), blocks.len())
+    (
+        blocks.first().copied(),
+        blocks.last().copied(),
+        blocks.len(),
+    )
 }
 
 /// Looks whether a batch has so many blocks, from a first one to a last.
@@ -88,7 +92,11 @@ fn last_of_2048_blocks(rt: HostRuntime) {
     is_from(&rt, &batch, 32_704, 32_767, 64);
     let none = range.take(64).expect(&rt, "refused");
     same(&rt, &(none.len(), range.free_count()), &(0, 0));
-    same(&rt, &(range.give(&batch), range.free_count()), &(Ok(()), 64));
+    same(
+        &rt,
+        &(range.give(&batch), range.free_count()),
+        &(Ok(()), 64),
+    );
     mem::forget(range);
 }
 
@@ -131,7 +139,13 @@ fn largest_of_ranges(rt: HostRuntime) {
 
 #[test]
 fn dead_of_largest_ranges(rt: HostRuntime) {
-    let marked = [268_435_455, 268_435_391, 251_658_240, 16_777_216, 16_777_215];
+    let marked = [
+        268_435_455,
+        268_435_391,
+        251_658_240,
+        16_777_216,
+        16_777_215,
+    ];
     let mut dead = dead_of_largest(&rt, &marked);
     same(&rt, &dead.len(), &5);
     is_from(&rt, &dead.take_batch(), 16_777_215, 16_777_215, 1);
