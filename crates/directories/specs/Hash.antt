@@ -1,7 +1,7 @@
 -- The hash of a name, by which an index is ordered.
 use Rattle.std.specs.Prelude.{ℕ, ◌+◌, ◌*◌, ◌^◌, ◌%◌, List, [], ◌∷◌}
 
--- a hash with more bytes: it is multiplied by a prime for each, which is added, in 32 bits
+-- a hash with more bytes, in 32 bits: for each it is multiplied by a number, and the byte added
 abbrev pub hash_with : ℕ → List ℕ → ℕ
 hash_with hash [] = hash
 hash_with hash (byte ∷ bytes) = hash_with ((hash * 1540483477 % 2 ^ 32 + byte) % 2 ^ 32) bytes

@@ -75,7 +75,7 @@ pub record IsPosition (d : DirectoryValue) (index : List Cookie) (name : List �
 abbrev pub fileid_number : Option Fileid → Option ℕ
 fileid_number fileid = option_map (λ (f : Fileid). f.0) fileid
 
--- A name of a hash isn't before or after these positions of an index.
+-- Names of a hash aren't before the first of these positions of an index, nor at the second or behind it.
 pub record IsAround (spots : List Spot) (hash : ℕ) (low : ℕ) (high : ℕ) : Type 0 where
   pub ordered : low ≤ high
   pub within : high ≤ length spots

@@ -41,8 +41,8 @@ pub struct Search {
 }
 
 /// Positions between which the names of a hash are, as near to one another as a few guesses bring
-/// them. Hashes are spread evenly, so each guess is wrong by little, and the next goes so far beyond
-/// that it passes the hash. Nothing rests on that but the time.
+/// them. Hashes are spread evenly, so each guess is wrong by little, and the next goes so far that
+/// it passes the hash. Nothing rests on that but the time.
 fn narrow_by_hash(index: &Sequence<Spot>, hash: u32) -> Around
     ensures around { IsAround index.now hash result.low result.high }
     ensures room { length index.now < 2 ^ 64 }

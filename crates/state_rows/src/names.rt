@@ -1,4 +1,4 @@
-//! Directories of one entry and of a thousand, and pages at their edges.
+//! Directories of one entry and of a thousand, names of one hash, and pages at their edges.
 
 use crate::same::same;
 use directories::Directory;
@@ -69,7 +69,8 @@ fn thousand_names(rt: HostRuntime) {
     for i in 0..1000 {
         add(&rt, &mut directory, &name_at(i), u64::from(i) + 2);
     }
-    same(&rt, &found(&directory), &(1000, 10));
+    let (right, most) = found(&directory);
+    same(&rt, &(right, most <= 10), &(1000, true));
     let most = directory.find_counted(b"0500x").1;
     same(&rt, &(most <= 10, directory.len()), &(true, 1000));
     mem::forget(directory);
@@ -143,6 +144,20 @@ fn names_replaced(rt: HostRuntime) {
     let found = (was, directory.find(b"c"), directory.next_cookie());
     same(&rt, &found, &(None, Some(Fileid(8)), Cookie(8)));
     lists(&rt, &directory, 5, 56, &(2, 6, 7, true));
+    mem::forget(directory);
+}
+
+#[test]
+fn names_of_one_hash(rt: HostRuntime) {
+    let mut directory = Directory::new(rt.alloc());
+    add(&rt, &mut directory, b"txkfjud", 2);
+    same(&rt, &directory.find(b"hvoryrb"), &None);
+    add(&rt, &mut directory, b"hvoryrb", 3);
+    let found = (directory.find(b"hvoryrb"), directory.find(b"txkfjud"));
+    same(&rt, &found, &(Some(Fileid(3)), Some(Fileid(2))));
+    same(&rt, &directory.remove(b"txkfjud"), &true);
+    let found = (directory.find(b"hvoryrb"), directory.find(b"txkfjud"));
+    same(&rt, &found, &(Some(Fileid(3)), None));
     mem::forget(directory);
 }
 
