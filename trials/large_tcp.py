@@ -30,6 +30,9 @@ MOST_FOR_A_FILE = 1_000
 # What a call among many names may cost, in costs of one among few, and how fast the last tenth of
 # a file has to be written, in speeds of the first.
 MOST_COST, LEAST_SPEED = 1.5, 0.9
+# The memory of a volume that is full again, in that of one that is full for the first time: what a
+# large cut leaves is given back as its numbers come into use.
+MOST_AGAIN = 1.05
 FEW = 1_000
 # The MiB that two volumes of a tebibyte may take that nobody uses, of which 130 are marks; how long
 # lanes may fetch before they rest, and what part of a processor they take then.
@@ -343,7 +346,7 @@ def read_all(client, file, count):
 
 def many_bytes(filer, scale, tell):
     """A file that fills its volume: written at one speed, read and compared; then there is no
-    space, and once it is cut there is again."""
+    space, and once it is cut there is again, for which no more memory is taken."""
     with Client(filer, "--size", str(scale.bytes)) as client:
         file, count = client.made(CREATE, ROOT, "large"), scale.bytes // PIECE
         handle = client.files.handle(file)
@@ -354,6 +357,7 @@ def many_bytes(filer, scale, tell):
             not scale.judged or speeds[-1] >= LEAST_SPEED * speeds[0],
             f"the last tenth is written at {speeds[-1]:.0f} MiB/s, the first at {speeds[0]:.0f}",
         )
+        full = client.memory()
         hold(client.size_and_used(file) == (scale.bytes,) * 2, "the file's size")
         hold(client.space()[0] == (scale.bytes, 0), f"FSSTAT: {client.space()[0]}")
         other = client.files.handle(client.made(CREATE, ROOT, "other"))
@@ -370,8 +374,11 @@ def many_bytes(filer, scale, tell):
         tell(f"{blocks} blocks cut in {took:.0f} ms: {took * 100_000 / blocks:.1f} for 100000")
         hold(client.size_and_used(file) == (0, 0), "the file's size once it is cut")
         hold(client.space()[0] == (scale.bytes, scale.bytes), f"FSSTAT: {client.space()[0]}")
-        again = write_all(client, file, count // 4)
+        again = write_all(client, file, count)
         tell("again, MiB/s of each tenth: " + " ".join(f"{speed:.0f}" for speed in again))
+        now = client.memory()
+        tell(f"memory of the full volume: {full >> 20} MiB, again {now >> 20} MiB")
+        hold(now <= MOST_AGAIN * full, "the volume takes more memory once it is full again")
         read_all(client, file, count // 4)
 
 
