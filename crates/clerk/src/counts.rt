@@ -63,7 +63,7 @@ fn put_refused<E: Write>(page: &mut Page, since: &Totals, err: &mut E) {
     if since.refused() > 0 {
         page.put(&since.refusals(), err);
     }
-    let starved = since.replies(ReplyKind::SystemError);
+    let starved = since.replies(ReplyKind::STARVED);
     if starved > 0 {
         page.put(&format_args!("out of memory for calls: {starved}"), err);
     }

@@ -12,8 +12,8 @@ use Rattle.scheduler.specs.declared.message.Origin.{Origin}
 use Rattle.scheduler.specs.declared.message.Message.{Message}
 use Rattle.service.specs.declared.job.Job.{Job}
 use Rattle.service.specs.declared.job.Job.TheVariants.{Serve}
-use Rattle.service.specs.declared.job.Asked.{Asked}
-use Rattle.service.specs.declared.job.Asked.TheVariants as askeds
+use Rattle.nfs_values.specs.declared.call.Call.{Call}
+use Rattle.nfs_values.specs.declared.credential.Credential.{Credential}
 use Rattle.service.specs.declared.job.ServedCall.{ServedCall}
 use Rattle.service.specs.declared.job.JobReply.{JobReply}
 use Rattle.service.specs.declared.job.JobReply.TheVariants.{Replied}
@@ -30,12 +30,13 @@ use Rattle.engine.specs.Seen.{connection_seen}
 
 -- ---- the entry
 
-abbrev pub served_made : Origin → Asked → Affinity → Moment → Bool → ServedCall
-served_made origin asked affinity moment starved = record {
+abbrev pub served_made : Origin → Call → Credential → Affinity → Moment → Bool → ServedCall
+served_made origin call credential affinity moment starved = record {
   connection = origin.connection;
   number = origin.number;
   xid = origin.xid;
-  asked = asked;
+  call = call;
+  credential = credential;
   affinity = affinity;
   moment = moment;
   starved = starved;
@@ -43,7 +44,7 @@ served_made origin asked affinity moment starved = record {
 
 abbrev pub job_made : Running → Bool → Job
 job_made r starved =
-    Serve (served_made r.message.origin (askeds.Call r.message.call r.message.credential) r.message.affinity r.moment starved)
+    Serve (served_made r.message.origin r.message.call r.message.credential r.message.affinity r.moment starved)
 
 abbrev pub answer_made : Reply → JobReply
 answer_made reply = Replied reply

@@ -25,21 +25,22 @@ use crate::worker::{Running, WorkerRun, run_at, take_run};
 use affinity::Affinity;
 use desk::{Desk, ParcelKinds};
 use engine_feed::{Calls, OpenConnection};
-use nfs_values::{Moment, Reply};
+use nfs_values::{Call, Credential, Moment, Reply};
 use rpc_msg::tell;
 use scheduler::{Message, Origin};
-use service::{Asked, Job, JobReply, Outcome, ServedCall, Service};
+use service::{Job, JobReply, Outcome, ServedCall, Service};
 use slab::Slab;
 
 /// The entry of a call that ran.
 fn served(
     origin: Origin,
-    asked: Asked,
+    call: Call,
+    credential: Credential,
     affinity: Affinity,
     moment: Moment,
     starved: bool,
 ) -> ServedCall
-    ensures { result ≡ served_made origin asked affinity moment starved }
+    ensures { result ≡ served_made origin call credential affinity moment starved }
 {
     let Origin {
         connection,
@@ -50,7 +51,8 @@ fn served(
         connection,
         number,
         xid,
-        asked,
+        call,
+        credential,
         affinity,
         moment,
         starved,
@@ -83,20 +85,11 @@ fn end_on(
         affinity,
         room,
     } = message;
-    let asked = Asked::Call { call, credential };
-    let job = Job::Serve(served(origin, asked, affinity, moment, starved));
+    let job = Job::Serve(served(origin, call, credential, affinity, moment, starved));
     let answer = JobReply::Replied(reply);
     enter(desk, worker, &job, &answer);
     let (call, reply) = match (job, answer) {
-        (
-            Job::Serve(
-                ServedCall {
-                    asked: Asked::Call { call, .. },
-                    ..
-                },
-            ),
-            JobReply::Replied(reply),
-        ) => (call, reply),
+        (Job::Serve(ServedCall { call, .. }), JobReply::Replied(reply)) => (call, reply),
         _ => unreachable!(),
     };
     let message = Message {

@@ -6,7 +6,8 @@ use crate::opening::MemoryLane;
 use crate::rows::{MANY, device};
 use crate::texts::{GETATTR, NO_PROGRAM, NULL, TOO_LONG};
 use lanes::{Came, Stopped, StreamFault};
-use statistics::{ReplyKind, Tally, Totals};
+use nfs_values::Procedure;
+use statistics::{RefusalKind, ReplyKind, Tally, Totals};
 use std::process::Abort;
 use std::sync::Wait;
 
@@ -37,11 +38,11 @@ fn calls_are_counted(rt: HostRuntime) {
     let mut totals = Totals::new();
     totals.add(&tally);
     assert!(&rt; totals.calls() == 4);
-    assert!(&rt; totals.replies(ReplyKind::Null) == 1);
-    assert!(&rt; totals.replies(ReplyKind::GetAttributes) == 3);
-    assert!(&rt; totals.replies(ReplyKind::ProgramUnavailable) == 2);
-    assert!(&rt; lane.at_once().of(ReplyKind::ProgramUnavailable) == 2);
-    assert!(&rt; lane.at_once().of(ReplyKind::GetAttributes) == 0);
+    assert!(&rt; totals.replies(ReplyKind::Answered(Procedure::Null)) == 1);
+    assert!(&rt; totals.replies(ReplyKind::Answered(Procedure::GetAttributes)) == 3);
+    assert!(&rt; totals.replies(ReplyKind::Refused(RefusalKind::ProgramUnavailable)) == 2);
+    assert!(&rt; lane.at_once().of(ReplyKind::Refused(RefusalKind::ProgramUnavailable)) == 2);
+    assert!(&rt; lane.at_once().of(ReplyKind::Answered(Procedure::GetAttributes)) == 0);
     part(rt, lane, 0);
 }
 

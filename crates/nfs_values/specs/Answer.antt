@@ -24,13 +24,15 @@ use Rattle.nfs_values.specs.declared.answer.CommitResults.{CommitResults}
 use Rattle.nfs_values.specs.declared.answer.VolumeCount.{VolumeCount}
 use Rattle.nfs_values.specs.declared.answer.Answer.{Answer}
 use Rattle.nfs_values.specs.declared.mount.Exports.{Exports}
+use Rattle.nfs_values.specs.declared.procedure.Procedure.{Procedure}
+use Rattle.nfs_values.specs.declared.procedure.Procedure.TheVariants as procedures
 use Rattle.nfs_values.specs.declared.mount.MountResults.{MountResults}
 use Rattle.nfs_values.specs.declared.answer.Answer.TheVariants.{Null, GetAttributes, SetAttributes, Lookup, CheckAccess, Read, Write, Create}
 use Rattle.nfs_values.specs.declared.answer.Answer.TheVariants.{MakeDirectory, Remove, RemoveDirectory, Rename, ReadDirectory, ReadDirectoryPlus, FilesystemStatus}
 use Rattle.nfs_values.specs.declared.answer.Answer.TheVariants.{FilesystemInfo, PathConfiguration, Commit, Unsupported, Census, Grow, Mount, ListMounts, ListExports}
 use Rattle.nfs_values.specs.Attributes.{shown_of, change_of}
 use Rattle.nfs_values.specs.Status.{status_of}
-use Rattle.nfs_values.specs.Unsupported.{unsupported_of}
+use Rattle.nfs_values.specs.Unsupported.{unsupported_of, unsupported_procedure}
 
 -- ---- what was done, as the model has it
 
@@ -148,3 +150,30 @@ answer_of (Grow result) = result_of volume_grown 0 result
 answer_of (Mount result) = result_of volume_mounted 0 result
 answer_of ListMounts = model.DumpDone
 answer_of (ListExports exports) = volumes_exported exports
+
+-- the procedure whose results these are (RFC 1813 section 3.3 and appendix I)
+abbrev pub procedure_of : Answer → Procedure
+procedure_of Null = procedures.Null
+procedure_of (GetAttributes results) = procedures.GetAttributes
+procedure_of (SetAttributes results) = procedures.SetAttributes
+procedure_of (Lookup results) = procedures.Lookup
+procedure_of (CheckAccess results) = procedures.CheckAccess
+procedure_of (Read results) = procedures.Read
+procedure_of (Write results) = procedures.Write
+procedure_of (Create results) = procedures.Create
+procedure_of (MakeDirectory results) = procedures.MakeDirectory
+procedure_of (Remove results) = procedures.Remove
+procedure_of (RemoveDirectory results) = procedures.RemoveDirectory
+procedure_of (Rename results) = procedures.Rename
+procedure_of (ReadDirectory results) = procedures.ReadDirectory
+procedure_of (ReadDirectoryPlus results) = procedures.ReadDirectoryPlus
+procedure_of (FilesystemStatus results) = procedures.FilesystemStatus
+procedure_of (FilesystemInfo results) = procedures.FilesystemInfo
+procedure_of (PathConfiguration results) = procedures.PathConfiguration
+procedure_of (Commit results) = procedures.Commit
+procedure_of (Unsupported which) = unsupported_procedure which
+procedure_of (Census results) = procedures.Census
+procedure_of (Grow results) = procedures.Grow
+procedure_of (Mount results) = procedures.Mount
+procedure_of ListMounts = procedures.ListMounts
+procedure_of (ListExports results) = procedures.ListExports

@@ -6,6 +6,7 @@ use crate::handle::FileHandle;
 use crate::mount::{Exports, MountResults};
 use crate::name::Name;
 use crate::number::{Cookie, Fileid, VolumeNumber};
+use crate::procedure::Procedure;
 use crate::status::Status;
 use crate::unsupported::UnsupportedProcedure;
 use crate::verifier::Verifier;
@@ -218,6 +219,73 @@ impl Drop for Answer {
             Answer::Mount(_) => {}
             Answer::ListMounts => {}
             Answer::ListExports(_) => {}
+        }
+    }
+}
+
+impl Answer {
+    ghost use Rattle.nfs_values.specs.Answer.{procedure_of};
+    ghost use Rattle.std.specs.Prelude.{◌≡◌};
+
+    /// The procedure whose results these are; NULL of NFS where there are none.
+    pub fn procedure(&self) -> Procedure
+        ensures { result ≡ procedure_of self.now }
+    {
+        match self {
+            Answer::Null => Procedure::Null,
+            Answer::GetAttributes(_) => Procedure::GetAttributes,
+            Answer::SetAttributes(_) => Procedure::SetAttributes,
+            Answer::Lookup(_) => Procedure::Lookup,
+            Answer::CheckAccess(_) => Procedure::CheckAccess,
+            Answer::Read(_) => Procedure::Read,
+            Answer::Write(_) => Procedure::Write,
+            Answer::Create(_) => Procedure::Create,
+            Answer::MakeDirectory(_) => Procedure::MakeDirectory,
+            Answer::Remove(_) => Procedure::Remove,
+            Answer::RemoveDirectory(_) => Procedure::RemoveDirectory,
+            Answer::Rename(_) => Procedure::Rename,
+            Answer::ReadDirectory(_) => Procedure::ReadDirectory,
+            Answer::ReadDirectoryPlus(_) => Procedure::ReadDirectoryPlus,
+            Answer::FilesystemStatus(_) => Procedure::FilesystemStatus,
+            Answer::FilesystemInfo(_) => Procedure::FilesystemInfo,
+            Answer::PathConfiguration(_) => Procedure::PathConfiguration,
+            Answer::Commit(_) => Procedure::Commit,
+            Answer::Unsupported(which) => which.procedure(),
+            Answer::Census(_) => Procedure::Census,
+            Answer::Grow(_) => Procedure::Grow,
+            Answer::Mount(_) => Procedure::Mount,
+            Answer::ListMounts => Procedure::ListMounts,
+            Answer::ListExports(_) => Procedure::ListExports,
+        }
+    }
+
+    /// Whether they have memory of their own.
+    pub fn has_memory(&self) -> bool {
+        match self {
+            Answer::Read(_) => true,
+            Answer::ReadDirectory(_) => true,
+            Answer::ReadDirectoryPlus(_) => true,
+            Answer::Census(_) => true,
+            Answer::Null => false,
+            Answer::GetAttributes(_) => false,
+            Answer::SetAttributes(_) => false,
+            Answer::Lookup(_) => false,
+            Answer::CheckAccess(_) => false,
+            Answer::Write(_) => false,
+            Answer::Create(_) => false,
+            Answer::MakeDirectory(_) => false,
+            Answer::Remove(_) => false,
+            Answer::RemoveDirectory(_) => false,
+            Answer::Rename(_) => false,
+            Answer::FilesystemStatus(_) => false,
+            Answer::FilesystemInfo(_) => false,
+            Answer::PathConfiguration(_) => false,
+            Answer::Commit(_) => false,
+            Answer::Unsupported(_) => false,
+            Answer::Grow(_) => false,
+            Answer::Mount(_) => false,
+            Answer::ListMounts => false,
+            Answer::ListExports(_) => false,
         }
     }
 }

@@ -2,11 +2,11 @@
 
 ghost use Rattle.std.specs.Prelude.{◌≡◌};
 ghost use Rattle.nfs_model.specs.Route.{route};
-ghost use Rattle.nfs_values.specs.Call.{call_of};
+ghost use Rattle.nfs_values.specs.Call.{call_of, call_with};
 ghost use Rattle.nfs_values.specs.Route.{route_of};
 
 use crate::bytes::BytesToWrite;
-use crate::handle::FileHandle;
+use crate::handle::{FileHandle, HandleMap};
 use crate::moment::Moment;
 use crate::mount::MountCall;
 use crate::number::{Cookie, VolumeNumber};
@@ -223,4 +223,98 @@ impl Call {
             Call::Mount(_) => Route::AtOnce,
         }
     }
+
+    /// Whether it has memory of its own.
+    pub fn has_memory(&self) -> bool {
+        match self {
+            Call::Lookup(_) => true,
+            Call::Write {
+                handle: _,
+                offset: _,
+                count: _,
+                bytes: _,
+            } => true,
+            Call::Create { target: _, mode: _ } => true,
+            Call::MakeDirectory { target: _, set: _ } => true,
+            Call::Remove(_) => true,
+            Call::RemoveDirectory(_) => true,
+            Call::Rename { from: _, to: _ } => true,
+            Call::Null => false,
+            Call::GetAttributes { handle: _ } => false,
+            Call::SetAttributes {
+                handle: _,
+                set: _,
+                guard: _,
+            } => false,
+            Call::CheckAccess {
+                handle: _,
+                asked: _,
+            } => false,
+            Call::Read {
+                handle: _,
+                offset: _,
+                count: _,
+            } => false,
+            Call::ReadDirectory {
+                directory: _,
+                cookie: _,
+                verifier: _,
+                count: _,
+            } => false,
+            Call::ReadDirectoryPlus {
+                directory: _,
+                cookie: _,
+                verifier: _,
+                names_count: _,
+                count: _,
+            } => false,
+            Call::FilesystemStatus { handle: _ } => false,
+            Call::FilesystemInfo { handle: _ } => false,
+            Call::PathConfiguration { handle: _ } => false,
+            Call::Commit { handle: _ } => false,
+            Call::Unsupported(_) => false,
+            Call::Census => false,
+            Call::Grow {
+                volume: _,
+                ranges: _,
+            } => false,
+            Call::Mount(_) => true,
+        }
+    }
+
+    /// Puts in place of each of its handles the one that is made of it.
+    pub fn map_handles<M: HandleMap>(&mut self, map: &M)
+        ensures { call_of self.new ≡ call_with (M.made map.now) (call_of self.old) }
+    {
+        match self {
+            Call::GetAttributes { handle } => put_made(handle, map),
+            Call::SetAttributes { handle, .. } => put_made(handle, map),
+            Call::Lookup(target) => put_made(&mut target.directory, map),
+            Call::CheckAccess { handle, .. } => put_made(handle, map),
+            Call::Read { handle, .. } => put_made(handle, map),
+            Call::Write { handle, .. } => put_made(handle, map),
+            Call::Create { target, .. } => put_made(&mut target.directory, map),
+            Call::MakeDirectory { target, .. } => put_made(&mut target.directory, map),
+            Call::Remove(target) => put_made(&mut target.directory, map),
+            Call::RemoveDirectory(target) => put_made(&mut target.directory, map),
+            Call::Rename { from, to } => {
+                put_made(&mut from.directory, map);
+                put_made(&mut to.directory, map);
+            }
+            Call::ReadDirectory { directory, .. } => put_made(directory, map),
+            Call::ReadDirectoryPlus { directory, .. } => put_made(directory, map),
+            Call::FilesystemStatus { handle } => put_made(handle, map),
+            Call::FilesystemInfo { handle } => put_made(handle, map),
+            Call::PathConfiguration { handle } => put_made(handle, map),
+            Call::Commit { handle } => put_made(handle, map),
+            Call::Null | Call::Unsupported(_) | Call::Census | Call::Grow { .. } | Call::Mount(_) => {}
+        }
+    }
+}
+
+/// Puts in place of a handle the one that is made of it.
+fn put_made<M: HandleMap>(handle: &mut FileHandle, map: &M)
+    ensures { handle.new ≡ M.made map.now handle.old }
+{
+    *handle = map.made_of(handle);
 }

@@ -1,6 +1,6 @@
 //! File handles.
 
-ghost use Rattle.std.specs.Prelude.{◌≡◌, ◌-◌, ◌≤◌, ◌++◌, length, replicate};
+ghost use Rattle.std.specs.Prelude.{◌≡◌, ◌-◌, ◌≤◌, ◌++◌, List, ℕ, length, replicate};
 ghost use Rattle.nfs_model.specs.Server.{handle_bytes as bytes_naming};
 
 use crate::number::{Fileid, VolumeNumber};
@@ -72,4 +72,14 @@ impl FileHandle {
     {
         &self.bytes[..self.size as usize]
     }
+}
+
+/// What makes one handle of another.
+pub trait HandleMap {
+    // The bytes that it makes of those of a handle.
+    ghost made: { Self → List ℕ → List ℕ };
+
+    /// The handle that it makes of one.
+    fn made_of(&self, handle: &FileHandle) -> FileHandle
+        ensures { result ≡ made self.now handle.now };
 }

@@ -1,6 +1,6 @@
 //! The procedures of the programs.
 
-ghost use Rattle.std.specs.Prelude.{◌≡◌, ◌≢◌, ◌<◌, IfSome, None};
+ghost use Rattle.std.specs.Prelude.{◌≡◌, ◌≢◌, ◌<◌, IfSome, None, length};
 
 /// The program number of NFS (RFC 1813 section 2.2).
 pub const NFS_PROGRAM: u32 = 100003;
@@ -10,6 +10,9 @@ pub const ADMIN_PROGRAM: u32 = 0x2000_0001;
 
 /// The program number of MOUNT (RFC 1813 appendix I, section 5.1.2).
 pub const MOUNT_PROGRAM: u32 = 100005;
+
+/// How many procedures there are.
+pub const PROCEDURES: usize = 31;
 
 /// A procedure, offered or not.
 #[derive(Clone, Copy)]
@@ -79,7 +82,7 @@ pub enum Procedure {
 }
 
 impl Procedure {
-    ghost use Rattle.nfs_values.specs.Procedure.{numbers_of, place_of};
+    ghost use Rattle.nfs_values.specs.Procedure.{all_procedures, numbers_of, place_of};
     ghost use Rattle.nfs_values.specs.declared.procedure.Procedure.{Procedure as Known};
 
     /// The procedure of this number in this program, offered or not.
@@ -124,7 +127,7 @@ impl Procedure {
     }
 
     /// All of them.
-    pub(crate) const ALL: [Procedure; 31] = [
+    pub const ALL: [Procedure; PROCEDURES] = [
         Procedure::Null,
         Procedure::GetAttributes,
         Procedure::SetAttributes,
@@ -175,10 +178,47 @@ impl Procedure {
     }
 
     /// Its place among all of them.
-    pub(crate) fn place(self) -> usize
+    pub fn place(self) -> usize
         ensures place { result ≡ place_of self }
-        ensures within { result < 31 }
+        ensures within { result < length all_procedures }
     {
         self as usize
+    }
+
+    /// Its name, as in the standards.
+    pub fn name(self) -> &'static str {
+        match self {
+            Procedure::Null => "NULL",
+            Procedure::GetAttributes => "GETATTR",
+            Procedure::SetAttributes => "SETATTR",
+            Procedure::Lookup => "LOOKUP",
+            Procedure::CheckAccess => "ACCESS",
+            Procedure::ReadLink => "READLINK",
+            Procedure::Read => "READ",
+            Procedure::Write => "WRITE",
+            Procedure::Create => "CREATE",
+            Procedure::MakeDirectory => "MKDIR",
+            Procedure::MakeSymbolicLink => "SYMLINK",
+            Procedure::MakeDevice => "MKNOD",
+            Procedure::Remove => "REMOVE",
+            Procedure::RemoveDirectory => "RMDIR",
+            Procedure::Rename => "RENAME",
+            Procedure::MakeLink => "LINK",
+            Procedure::ReadDirectory => "READDIR",
+            Procedure::ReadDirectoryPlus => "READDIRPLUS",
+            Procedure::FilesystemStatus => "FSSTAT",
+            Procedure::FilesystemInfo => "FSINFO",
+            Procedure::PathConfiguration => "PATHCONF",
+            Procedure::Commit => "COMMIT",
+            Procedure::AdminNull => "NULL",
+            Procedure::Census => "CENSUS",
+            Procedure::Grow => "GROW",
+            Procedure::MountNull => "NULL",
+            Procedure::Mount => "MNT",
+            Procedure::ListMounts => "DUMP",
+            Procedure::Unmount => "UMNT",
+            Procedure::UnmountAll => "UMNTALL",
+            Procedure::ListExports => "EXPORT",
+        }
     }
 }

@@ -2,6 +2,8 @@
 
 ghost use Rattle.std.specs.Prelude.{◌≡◌, ◌≤◌};
 
+use crate::procedure::Procedure;
+
 /// A procedure on links or devices, of which there are none (our profile).
 #[derive(Clone, Copy)]
 pub enum UnsupportedProcedure {
@@ -17,7 +19,7 @@ pub enum UnsupportedProcedure {
 
 impl UnsupportedProcedure {
     ghost use Rattle.nfs_model.specs.Serial.Absent.{absent_in};
-    ghost use Rattle.nfs_values.specs.Unsupported.{unsupported_of};
+    ghost use Rattle.nfs_values.specs.Unsupported.{unsupported_of, unsupported_procedure};
 
     /// How many optional parts its failure arm has: attributes are one, attributes before and
     /// after are two.
@@ -30,6 +32,18 @@ impl UnsupportedProcedure {
             UnsupportedProcedure::MakeSymbolicLink => 2,
             UnsupportedProcedure::MakeDevice => 2,
             UnsupportedProcedure::MakeLink => 3,
+        }
+    }
+
+    /// Which procedure it is.
+    pub fn procedure(self) -> Procedure
+        ensures { result ≡ unsupported_procedure self }
+    {
+        match self {
+            UnsupportedProcedure::ReadLink => Procedure::ReadLink,
+            UnsupportedProcedure::MakeSymbolicLink => Procedure::MakeSymbolicLink,
+            UnsupportedProcedure::MakeDevice => Procedure::MakeDevice,
+            UnsupportedProcedure::MakeLink => Procedure::MakeLink,
         }
     }
 }

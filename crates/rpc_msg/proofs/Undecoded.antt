@@ -14,7 +14,8 @@ use Rattle.nfs_values.specs.declared.procedure.Procedure.TheVariants.{Null}
 use Rattle.nfs_types.specs.Arguments.{arguments_shape, call_from, asked, takes_memory}
 use Rattle.nfs_types.specs.lemmas.Exact.{asked_is}
 use Rattle.rpc_msg.specs.declared.record.Request.TheVariants as requests
-use Rattle.rpc_msg.specs.Handles.{call_heard, call_with}
+use Rattle.nfs_values.specs.Call.{call_with}
+use Rattle.rpc_msg.specs.Handles.{call_heard}
 use Rattle.rpc_msg.specs.Heads.{Call}
 use Rattle.rpc_msg.specs.Records.{asked_by, heard_from}
 use Rattle.rpc_msg.specs.Seen.{Tells}

@@ -5,18 +5,11 @@ ghost use Rattle.nfs_values.specs.Answer.{answer_of, entry_plus_of};
 ghost use Rattle.nfs_values.specs.Call.{call_of};
 ghost use Rattle.rpc_msg.specs.HandleForm.{heard_in_run, told_in_run};
 ghost use Rattle.nfs_values.specs.Reply.{reply_of};
-ghost use Rattle.rpc_msg.specs.Handles.{answer_with, call_heard, call_with, listed_with};
+ghost use Rattle.rpc_msg.specs.Handles.{answer_with, call_heard, listed_with};
 ghost use Rattle.rpc_msg.specs.Handles.{reply_told};
 
 use crate::handle_form::{HandleForm, heard_in_run, told_in_run};
-use nfs_values::{Answer, Call, DirectoryEntryPlus, FileHandle, Reply};
-
-/// Hears a handle in the run of this number.
-fn hear_handle(handle: &mut FileHandle, run: u64)
-    ensures { handle.new ≡ heard_in_run run handle.old }
-{
-    *handle = heard_in_run(handle, run);
-}
+use nfs_values::{Answer, Call, DirectoryEntryPlus, FileHandle, HandleMap, Reply};
 
 /// Tells a handle in the run of this number.
 fn tell_handle(handle: &mut FileHandle, run: u64)
@@ -25,32 +18,14 @@ fn tell_handle(handle: &mut FileHandle, run: u64)
     *handle = told_in_run(handle, run);
 }
 
-/// Hears the handles of a call in the run of this number.
-fn hear_in_run(call: &mut Call, run: u64)
-    ensures { call_of call.new ≡ call_with (heard_in_run run) (call_of call.old) }
-{
-    match call {
-        Call::GetAttributes { handle } => hear_handle(handle, run),
-        Call::SetAttributes { handle, .. } => hear_handle(handle, run),
-        Call::Lookup(target) => hear_handle(&mut target.directory, run),
-        Call::CheckAccess { handle, .. } => hear_handle(handle, run),
-        Call::Read { handle, .. } => hear_handle(handle, run),
-        Call::Write { handle, .. } => hear_handle(handle, run),
-        Call::Create { target, .. } => hear_handle(&mut target.directory, run),
-        Call::MakeDirectory { target, .. } => hear_handle(&mut target.directory, run),
-        Call::Remove(target) => hear_handle(&mut target.directory, run),
-        Call::RemoveDirectory(target) => hear_handle(&mut target.directory, run),
-        Call::Rename { from, to } => {
-            hear_handle(&mut from.directory, run);
-            hear_handle(&mut to.directory, run);
-        }
-        Call::ReadDirectory { directory, .. } => hear_handle(directory, run),
-        Call::ReadDirectoryPlus { directory, .. } => hear_handle(directory, run),
-        Call::FilesystemStatus { handle } => hear_handle(handle, run),
-        Call::FilesystemInfo { handle } => hear_handle(handle, run),
-        Call::PathConfiguration { handle } => hear_handle(handle, run),
-        Call::Commit { handle } => hear_handle(handle, run),
-        Call::Null | Call::Unsupported(_) | Call::Census | Call::Grow { .. } | Call::Mount(_) => {}
+/// Hears handles in the run of this number.
+struct InRun(u64);
+
+impl HandleMap for InRun {
+    ghost made = { λ r. heard_in_run r.0 };
+
+    fn made_of(&self, handle: &FileHandle) -> FileHandle {
+        heard_in_run(handle, self.0)
     }
 }
 
@@ -60,7 +35,7 @@ pub(crate) fn hear(call: &mut Call, form: HandleForm)
 {
     match form {
         HandleForm::Plain => {}
-        HandleForm::OfRun(run) => hear_in_run(call, run),
+        HandleForm::OfRun(run) => call.map_handles(&InRun(run)),
     }
 }
 

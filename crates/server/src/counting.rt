@@ -5,7 +5,7 @@ use clerk::{Journal, Times};
 use lanes::Lane;
 use nfs_values::{Moment, Reply};
 use service::JobReply;
-use statistics::{ReplyCounts, ReplyKind, Tally};
+use statistics::{RefusalKind, ReplyCounts, ReplyKind, Tally};
 use std::alloc::{AllocError, Global};
 use turns::{Chained, Gate, Place};
 
@@ -61,9 +61,9 @@ fn microseconds_of(moment: Moment) -> u64 {
 
 /// How many replies refuse.
 fn refusals_among(counts: &ReplyCounts) -> u64 {
-    let mut refusals = counts.of(ReplyKind::SystemError);
-    for kind in &ReplyKind::REFUSALS {
-        refusals = refusals.wrapping_add(counts.of(*kind));
+    let mut refusals = counts.of(ReplyKind::STARVED);
+    for kind in &RefusalKind::TOLD {
+        refusals = refusals.wrapping_add(counts.of(ReplyKind::Refused(*kind)));
     }
     refusals
 }

@@ -7,7 +7,7 @@ use Rattle.affinity.specs.Affinity.{affinity_of}
 use Rattle.nfs_values.specs.Call.{call_of}
 use Rattle.nfs_values.specs.Credential.{credential_of}
 use Rattle.nfs_values.specs.Moment.{moment_of}
-use Rattle.nfs_values.specs.Reply.{refusal_of, reply_of}
+use Rattle.nfs_values.specs.Reply.{reply_of}
 use Rattle.depot_rule.specs.Machine.{IsLocal, Keeps}
 use Rattle.filer_state.specs.state.Parcels.{FilerParcel}
 use Rattle.filer_state.specs.state.Sound.{IsFiler}
@@ -15,8 +15,6 @@ use Rattle.filer_state.specs.state.Jobs as jobs
 use Rattle.filer_state.specs.state.Jobs.{takes, gives}
 use Rattle.filer_state.specs.state.Deeds.{FilerSteps}
 use Rattle.filer_state.specs.laws.lemmas.Lawful.{steps-local, steps-keep}
-use Rattle.service.specs.declared.job.Asked.{Asked}
-use Rattle.service.specs.declared.job.Asked.TheVariants.{Call, Refused, Undecoded}
 use Rattle.service.specs.declared.job.ServedCall.{ServedCall}
 use Rattle.service.specs.declared.job.InnerCall.{InnerCall}
 use Rattle.service.specs.declared.job.InnerCall.TheVariants.{Fetch, Deliver, Cull, Free, Survey}
@@ -25,17 +23,16 @@ use Rattle.service.specs.declared.job.Job.TheVariants.{Serve, Inner}
 use Rattle.service.specs.declared.job.JobReply.{JobReply}
 use Rattle.service.specs.declared.job.JobReply.TheVariants.{Replied, Took, Gave, Surveyed}
 
-abbrev pub asked_of : Asked → types.Asked
-asked_of (Call call credential) = types.Ask (call_of call) (credential_of credential)
-asked_of (Refused refusal) = types.Refused (refusal_of refusal)
-asked_of Undecoded = types.Undecoded
+-- what it asked
+abbrev pub asked_in : ServedCall → types.Asked
+asked_in c = types.Ask (call_of c.call) (credential_of c.credential)
 
 abbrev pub finished_of : ServedCall → replay.FinishedCall
 finished_of c = record {
   connection = c.connection.0;
   number = c.number;
   xid = c.xid;
-  asked = asked_of c.asked;
+  asked = asked_in c;
   affinity = Some (affinity_of c.affinity);
   moment = moment_of c.moment;
   starved = c.starved;

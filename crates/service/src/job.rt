@@ -2,18 +2,7 @@
 
 use crate::batch::BatchInHand;
 use affinity::Affinity;
-use nfs_values::{Call, ConnectionNumber, Credential, Moment, Refusal, Reply, VolumeNumber};
-
-/// What a record asks.
-#[derive(Drop)]
-pub enum Asked {
-    /// A call, and whom it acts for.
-    Call { call: Call, credential: Credential },
-    /// A call message that is refused by this reply.
-    Refused(Refusal),
-    /// A call whose name there was no memory for.
-    Undecoded,
-}
+use nfs_values::{Call, ConnectionNumber, Credential, Moment, Reply, VolumeNumber};
 
 /// A call that a record asked for, as it is finished.
 #[derive(Drop)]
@@ -22,7 +11,9 @@ pub struct ServedCall {
     /// Its place among the records that the connection served, from 0.
     pub number: usize,
     pub xid: u32,
-    pub asked: Asked,
+    pub call: Call,
+    /// Whom it acts for.
+    pub credential: Credential,
     /// The node that it ran on.
     pub affinity: Affinity,
     pub moment: Moment,

@@ -24,7 +24,7 @@ pub use at_node::run;
 pub use attributes::get_attributes;
 pub use batch::BatchInHand;
 pub use inner::{InnerOutcome, RunInner};
-pub use job::{Asked, InnerCall, Job, JobReply, ServedCall};
+pub use job::{InnerCall, Job, JobReply, ServedCall};
 pub use machine::Service;
 pub use outcome::Outcome;
 pub use task::Run;

@@ -4,6 +4,7 @@ use Rattle.statistics.specs.declared.counts.ReplyCounts.{ReplyCounts}
 use Rattle.statistics.specs.declared.histogram.Histogram.{Histogram}
 use Rattle.statistics.specs.declared.totals.Totals.{Totals}
 use Rattle.statistics.specs.Counts.{kinds_in}
+use Rattle.statistics.specs.Kind.{kinds_count}
 use Rattle.statistics.specs.Histogram.{buckets_in}
 use Rattle.statistics.specs.Wrapping.{wrapping_sum, wrapping_difference, AreSums, AreDifferences}
 
@@ -21,7 +22,7 @@ busy_in t = t.busy
 
 -- nothing was counted
 pub record IsNothing (t : Totals) : Type 0 where
-  pub replies : kinds_in (replies_in t) ≡ replicate 34 0
+  pub replies : kinds_in (replies_in t) ≡ replicate kinds_count 0
   pub times : buckets_in (times_in t) ≡ replicate 124 0
   pub busy : busy_in t ≡ 0
 

@@ -1,8 +1,8 @@
 //! Replies, counted by kind.
 
-ghost use Rattle.std.specs.Prelude.{◌≡◌, ◌≢◌, ◌%◌, ◌^◌, replicate, slice_range, sum, take};
+ghost use Rattle.std.specs.Prelude.{◌≡◌, ◌≢◌, ◌%◌, ◌^◌, drop, replicate, sum, take};
 
-use crate::kind::{KINDS, ReplyKind};
+use crate::kind::{KINDS, REFUSALS, RefusalKind, ReplyKind};
 use crate::wrapping::{add_each, less_each, sum_of};
 
 /// How many replies of each kind there were. Each count wraps at 2^64.
@@ -14,12 +14,13 @@ pub struct ReplyCounts {
 
 impl ReplyCounts {
     ghost use Rattle.statistics.specs.Counts.{count_of, kinds_in};
+    ghost use Rattle.statistics.specs.Kind.{kinds_count};
     ghost use Rattle.statistics.specs.Wrapping.{wrapping_sum, AreDifferences, AreSums};
     ghost use Rattle.statistics.specs.declared.kind.ReplyKind.{ReplyKind as Kind};
 
     /// No reply.
     pub fn new() -> ReplyCounts
-        ensures { kinds_in result ≡ replicate 34 0 }
+        ensures { kinds_in result ≡ replicate kinds_count 0 }
     {
         ReplyCounts { counts: [0; KINDS] }
     }
@@ -56,17 +57,16 @@ impl ReplyCounts {
 
     /// How many gave none, but for those that told that memory ran out.
     pub fn refused(&self) -> u64
-        ensures { result ≡ sum (slice_range (kinds_in self.now) 27 33) % 2 ^ 64 }
+        ensures { result ≡ sum (take 6 (kinds_in self.now)) % 2 ^ 64 }
     {
-        let first = ReplyKind::PROCEDURES.len();
-        sum_of(&self.counts[first..first + ReplyKind::REFUSALS.len()])
+        sum_of(&self.counts[..RefusalKind::TOLD.len()])
     }
 
     /// How many gave results.
     pub fn answered(&self) -> u64
-        ensures { result ≡ sum (take 27 (kinds_in self.now)) % 2 ^ 64 }
+        ensures { result ≡ sum (drop 7 (kinds_in self.now)) % 2 ^ 64 }
     {
-        sum_of(&self.counts[..ReplyKind::PROCEDURES.len()])
+        sum_of(&self.counts[REFUSALS..])
     }
 
     /// The counts of both together.

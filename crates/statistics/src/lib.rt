@@ -11,6 +11,6 @@ mod wrapping;
 
 pub use counts::ReplyCounts;
 pub use histogram::Histogram;
-pub use kind::ReplyKind;
+pub use kind::{RefusalKind, ReplyKind};
 pub use tally::Tally;
 pub use totals::{Refusals, Totals};

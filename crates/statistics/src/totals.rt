@@ -1,10 +1,11 @@
 //! What was counted, in all, and the line that tells it.
 
-ghost use Rattle.std.specs.Prelude.{◌≡◌, ◌%◌, ◌^◌, min, slice_range, sum, take};
+ghost use Rattle.std.specs.Prelude.{◌≡◌, ◌%◌, ◌^◌, drop, min, sum, take};
 
 use crate::counts::ReplyCounts;
 use crate::histogram::Histogram;
-use crate::kind::ReplyKind;
+use crate::kind::{RefusalKind, ReplyKind};
+use nfs_values::Procedure;
 use crate::tally::Tally;
 use std::fmt;
 
@@ -82,14 +83,14 @@ impl Totals {
 
     /// How many calls were answered with results, whatever they told.
     pub fn calls(&self) -> u64
-        ensures { result ≡ sum (take 27 (kinds_in (replies_in self.now))) % 2 ^ 64 }
+        ensures { result ≡ sum (drop 7 (kinds_in (replies_in self.now))) % 2 ^ 64 }
     {
         self.replies.answered()
     }
 
     /// How many calls were refused, but for those for which there was no memory.
     pub fn refused(&self) -> u64
-        ensures { result ≡ sum (slice_range (kinds_in (replies_in self.now)) 27 33) % 2 ^ 64 }
+        ensures { result ≡ sum (take 6 (kinds_in (replies_in self.now))) % 2 ^ 64 }
     {
         self.replies.refused()
     }
@@ -123,29 +124,32 @@ pub struct Refusals<'a> {
     replies: &'a ReplyCounts,
 }
 
-/// Writes how many replies there were of each of these kinds, but for those of which there were
-/// none: the first after `before`, the others after a comma.
-fn write_kinds<W: fmt::Write>(
+/// Writes how many replies there were of a kind after some text, or nothing where there were none.
+/// Answers whether it wrote.
+fn write_kind<W: fmt::Write>(
     f: &mut fmt::Formatter<W>,
     replies: &ReplyCounts,
-    kinds: &[ReplyKind],
+    kind: ReplyKind,
     before: &str,
-) -> fmt::Result {
-    let mut between = before;
-    for kind in kinds {
-        let count = replies.of(*kind);
-        if count > 0 {
-            let name = kind.name();
-            write!(f, "{between}{name} {count}")?;
-            between = ", ";
-        }
+) -> Result<bool, fmt::Error> {
+    let count = replies.of(kind);
+    if count == 0 {
+        return Ok(false);
     }
-    Ok(())
+    let name = kind.name();
+    write!(f, "{before}{name} {count}")?;
+    Ok(true)
 }
 
 impl fmt::Display for Refusals<'_> {
     fn fmt<W: fmt::Write>(&self, f: &mut fmt::Formatter<W>) -> fmt::Result {
-        write_kinds(f, self.replies, &ReplyKind::REFUSALS, "refused: ")
+        let mut before = "refused: ";
+        for kind in &RefusalKind::TOLD {
+            if write_kind(f, self.replies, ReplyKind::Refused(*kind), before)? {
+                before = ", ";
+            }
+        }
+        Ok(())
     }
 }
 
@@ -153,7 +157,12 @@ impl fmt::Display for Totals {
     fn fmt<W: fmt::Write>(&self, f: &mut fmt::Formatter<W>) -> fmt::Result {
         let calls = self.calls();
         write!(f, "calls {calls}")?;
-        write_kinds(f, &self.replies, &ReplyKind::PROCEDURES, ": ")?;
+        let mut before = ": ";
+        for procedure in &Procedure::ALL {
+            if write_kind(f, &self.replies, ReplyKind::Answered(*procedure), before)? {
+                before = ", ";
+            }
+        }
         let (half, most) = (self.percentile(50), self.percentile(99));
         write!(f, "; p50 {half} us, p99 {most} us")?;
         if self.refused() > 0 {
@@ -161,7 +170,7 @@ impl fmt::Display for Totals {
             write!(f, "; {refusals}")?;
         }
         let busy = self.busy;
-        let starved = self.replies(ReplyKind::SystemError);
+        let starved = self.replies(ReplyKind::STARVED);
         write!(f, "; busy {busy}, starved {starved}")
     }
 }

@@ -9,7 +9,7 @@ use Rattle.nfs_values.specs.Call.{call_of}
 use Rattle.nfs_values.specs.Credential.{credential_of}
 use Rattle.filer_state.specs.state.Parcels.{FilerParcel}
 use Rattle.filer_state.specs.declared.files.Files.{Files}
-use Rattle.service.specs.Jobs.{asked_of}
+use Rattle.service.specs.Jobs.{asked_in}
 use Rattle.service.specs.declared.job.Job.{Job}
 use Rattle.service.specs.declared.job.Job.TheVariants.{Serve, Inner}
 use Rattle.service.specs.declared.job.JobReply.{JobReply}
@@ -41,7 +41,7 @@ by_kept weight None = 0
 by_kept weight (Some m) = by_key weight m
 
 abbrev pub by_job : Weight → Job → ℕ
-by_job weight (Serve call) = weight call.connection.0 call.number call.xid (asked_of call.asked)
+by_job weight (Serve call) = weight call.connection.0 call.number call.xid (asked_in call)
 by_job weight (Inner call) = 0
 
 module _ {P : Type 0} where

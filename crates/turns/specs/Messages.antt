@@ -14,8 +14,6 @@ use Rattle.affinity.specs.Layout.{layout_of}
 use Rattle.affinity.specs.Tree.{IsNode}
 use Rattle.rpc_msg.specs.Room.{reply_room}
 use Rattle.service.specs.Running.{IsRunAt}
-use Rattle.service.specs.declared.job.Asked.{Asked}
-use Rattle.service.specs.declared.job.Asked.TheVariants as asks
 use Rattle.service.specs.declared.job.Job.{Job}
 use Rattle.service.specs.declared.job.Job.TheVariants.{Serve, Inner}
 use Rattle.service.specs.declared.job.ServedCall.{ServedCall}
@@ -27,37 +25,21 @@ Message = scheduler.Message Call
 
 -- ---- the entry of a call
 
--- it asks for a call, and is not a record that was refused nor one that couldn't be decoded
-abbrev pub IsCall : Asked → Type 0
-IsCall (asks.Call call credential) = Unit {0}
-IsCall (asks.Refused refusal) = ⊥
-IsCall asks.Undecoded = ⊥
-
+-- it is of a call, and not of a worker's hand
 abbrev pub IsOfCall : Job → Type 0
-IsOfCall (Serve s) = IsCall s.asked
+IsOfCall (Serve s) = Unit {0}
 IsOfCall (Inner call) = ⊥
-
--- its call; where it asks for none, this has no meaning
-abbrev pub call_in : Asked → Call
-call_in (asks.Call call credential) = call
-call_in (asks.Refused refusal) = calls.Null
-call_in asks.Undecoded = calls.Null
 
 -- a credential without a meaning
 abbrev pub no_credential : Credential
 no_credential = record { uid = 0; gid = 0; gids = no_gids }
 
-abbrev pub credential_in : Asked → Credential
-credential_in (asks.Call call credential) = credential
-credential_in (asks.Refused refusal) = no_credential
-credential_in asks.Undecoded = no_credential
-
 -- the message of a call, with this room for its reply
 abbrev pub message_of_call : ServedCall → ℕ → Message
 message_of_call s room = record {
   origin = record { connection = s.connection; number = s.number; xid = s.xid };
-  call = call_in s.asked;
-  credential = credential_in s.asked;
+  call = s.call;
+  credential = s.credential;
   affinity = s.affinity;
   room = room;
 }

@@ -23,7 +23,6 @@ use Rattle.filer_state.specs.state.Sound.{IsFiler}
 use Rattle.filer_state.specs.declared.files.Files.{Files}
 use Rattle.outboxes.specs.Boxes.{Addressed}
 use Rattle.service.specs.Jobs.{job_steps, job_takes, job_gives, job_reply_of}
-use Rattle.service.specs.declared.job.Asked.TheVariants.{Call}
 use Rattle.service.specs.declared.job.Job.{Job}
 use Rattle.service.specs.declared.job.Job.TheVariants.{Serve}
 use Rattle.service.specs.declared.job.JobReply.{JobReply}
@@ -74,7 +73,8 @@ job_of_message m moment starved = Serve (record {
   connection = m.origin.connection;
   number = m.origin.number;
   xid = m.origin.xid;
-  asked = Call m.call m.credential;
+  call = m.call;
+  credential = m.credential;
   affinity = m.affinity;
   moment = moment;
   starved = starved;

@@ -9,7 +9,7 @@ use affinity::{Affinity, Layout};
 use nfs_values::{Call, Credential, Moment};
 use outboxes::Room;
 use scheduler::{Message, Origin};
-use service::{Asked, Job, ServedCall};
+use service::{Job, ServedCall};
 use std::alloc::{AllocError, Global};
 use std::marker::Model;
 
@@ -68,7 +68,8 @@ impl Envelope {
             connection: origin.connection,
             number: origin.number,
             xid: origin.xid,
-            asked: Asked::Call { call, credential },
+            call,
+            credential,
             affinity,
             moment: Moment::START,
             starved: false,
@@ -112,10 +113,7 @@ impl Envelope {
         ensures credential { result.1 ≡ self.now.credential }
     {
         match &*self.job {
-            Job::Serve(served) => match &served.asked {
-                Asked::Call { call, credential } => (call, *credential),
-                Asked::Refused(_) | Asked::Undecoded => unreachable!(),
-            },
+            Job::Serve(served) => (&served.call, served.credential),
             Job::Inner(_call) => unreachable!(),
         }
     }

@@ -1,7 +1,7 @@
 //! Rows typed by hand.
 
-use nfs_values::{Answer, AuthFault, Refusal, Reply, Status, UnsupportedProcedure};
-use statistics::{Histogram, ReplyCounts, ReplyKind, Tally, Totals};
+use nfs_values::{Answer, AuthFault, Procedure, Refusal, Reply, Status, UnsupportedProcedure};
+use statistics::{Histogram, RefusalKind, ReplyCounts, ReplyKind, Tally, Totals};
 use std::alloc::AllocError;
 use std::test::Fail;
 use std::thread;
@@ -157,12 +157,12 @@ fn counted() -> Tally {
     }
     tally.count(&Reply::Refused(Refusal::SystemError));
     let mut at_once = ReplyCounts::new();
-    at_once.count(ReplyKind::Null);
+    at_once.count(ReplyKind::Answered(Procedure::Null));
     tally.at_once(&at_once);
-    at_once.count(ReplyKind::Null);
-    at_once.count(ReplyKind::ProgramUnavailable);
-    at_once.count(ReplyKind::Null);
-    at_once.count(ReplyKind::ProgramUnavailable);
+    at_once.count(ReplyKind::Answered(Procedure::Null));
+    at_once.count(ReplyKind::Refused(RefusalKind::ProgramUnavailable));
+    at_once.count(ReplyKind::Answered(Procedure::Null));
+    at_once.count(ReplyKind::Refused(RefusalKind::ProgramUnavailable));
     tally.at_once(&at_once);
     tally
 }
@@ -179,7 +179,7 @@ fn a_line_tells_what_was_counted(rt: HostRuntime) -> Result<(), Fail> {
     totals.add(&tally);
     assert_eq!(rt; totals.calls(), 1_203);
     assert_eq!(rt; totals.busy(), 4);
-    assert_eq!(rt; totals.replies(ReplyKind::SystemError), 1);
+    assert_eq!(rt; totals.replies(ReplyKind::STARVED), 1);
     assert_eq!(rt; totals.percentile(50), 13);
     let line = totals.to_string(rt.alloc())?;
     assert_eq!(rt;

@@ -24,10 +24,6 @@ slice_get-changed_at f (y ∷ xs) zero x e = let same : y ≡ x = cc in ap (λ z
 slice_get-changed_at f (y ∷ xs) (suc i) x e = slice_get-changed_at f xs i x e
 
 -- the last of a list
-pub changed_at-last : {X : Type 0} (f : X → X) (xs : List X) (x : X) → changed_at f (xs ++ x ∷ []) (length xs) ≡ xs ++ f x ∷ []
-changed_at-last f [] x = refl
-changed_at-last f (y ∷ xs) x = ap (λ ys. y ∷ ys) (changed_at-last f xs x)
-
 pub slice_get-last : {X : Type 0} (xs : List X) (x : X) → slice_get (xs ++ x ∷ []) (length xs) ≡ Some x
 slice_get-last [] x = refl
 slice_get-last (y ∷ xs) x = slice_get-last xs x

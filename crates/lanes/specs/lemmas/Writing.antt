@@ -110,15 +110,6 @@ module _ {D : Type 0} (unread written : D → Option (List ℕ)) (old : Connecti
             ),
           )
 
-  -- where it isn't open, it isn't then
-  pub unopened-on : get boxes.waiting (number_of old) ≡ None → get boxes'.waiting (number_of old) ≡ None
-  unopened-on e = by (get boxes.waiting (number_of old)) e written-takes.1.own
-    where
-      by : (o : Option (List ReplyMessage)) → o ≡ None → TakesOf o written-takes.0 (get boxes'.waiting (number_of old))
-          → get boxes'.waiting (number_of old) ≡ None
-      by None e t = t.1
-      by (Some v) e t = absurd cc
-
   -- what a call of write leaves as it was
   pub written-same : (new.stream ≡ old.stream) × (new.kept ≡ old.kept) × (new.stopped ≡ old.stopped) × (new.opened ≡ old.opened)
       × (new.flags ≡ old.flags)

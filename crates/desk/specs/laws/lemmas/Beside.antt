@@ -6,8 +6,8 @@ use Rattle.atomic_table.proofs.Lists.{set_here, set_else}
 use Rattle.nfs_model.specs.Tree.{Affinity}
 use Rattle.affinity.specs.Numbers.{number_of, parents}
 use Rattle.depot_rule.specs.History.{Behaviour}
-use Rattle.desk.specs.laws.Books.{Lent, Books, settled, HasLent, IsIdle, UnderLent, IsUnchanged, IsWorked, HasHands, IsSettled}
-use Rattle.desk.specs.laws.Calls.{Does, with_lent, HasBegun, HasWorked, HasFinished, MayPutBack, AreIdle}
+use Rattle.desk.specs.laws.Books.{Lent, Books, HasLent, IsIdle, IsUnchanged, IsWorked}
+use Rattle.desk.specs.laws.Calls.{Does, with_lent, HasBegun, HasWorked, MayPutBack, AreIdle}
 use Rattle.desk.specs.laws.lemmas.Seats.{at-length}
 
 module _ {P C R : Type 0} (b : Books P C R) (i : ℕ) where
@@ -31,12 +31,6 @@ module _ {P C R : Type 0} (b : Books P C R) (i : ℕ) where
 
     pub worked-still : {B : Type 0} (m : Behaviour P C R B) (l : Lent P) (call : C) (reply : R) → IsWorked m b l call reply → IsWorked m c l call reply
     worked-still m l call reply w = subst (λ (d : Books P C R). IsWorked m d l call reply) (sym changed) w
-
-    pub hands-still : {B : Type 0} (m : Behaviour P C R B) (hands : List B) → HasHands m b hands → HasHands m c hands
-    hands-still m hands h = subst (λ (d : Books P C R). HasHands m d hands) (sym changed) h
-
-    pub settled-still : {B : Type 0} (m : Behaviour P C R B) → IsSettled m b → IsSettled m c
-    settled-still m s = subst (λ (d : Books P C R). IsSettled m d) (sym changed) s
 
   -- ---- a call that began
 
@@ -74,27 +68,6 @@ module _ {P C R : Type 0} (b : Books P C R) (i : ℕ) where
     pub work-done : {B : Type 0} (m : Behaviour P C R B) (call : C) (reply : R)
         → m.steps (parents b.layout) (number_of b.layout h.lent.affinity) call h.lent.parcels reply h.parcels → IsWorked m c lent call reply
     work-done m call reply step = worked-still (Some lent) c h.books m lent call reply (h.lent.parcels, as-left, step)
-
-  -- ---- a call that was finished
-
-  module _ {B : Type 0} (m : Behaviour P C R B) (call : C) (reply : R) (c : Books P C R) (h : HasFinished m b i call reply c) where
-    pub finished-idle : IsIdle c i
-    finished-idle = ap (λ (d : Books P C R). get_elem? d.lent i) h.books ∙ set_here b.lent i None (at-length b.lent i (Some h.lent) h.is_lent)
-
-    pub finished-else : (j : ℕ) (o : Option (Lent P)) → j ≢ i → get_elem? b.lent j ≡ some o → get_elem? c.lent j ≡ some o
-    finished-else j o ne at = ap (λ (d : Books P C R). get_elem? d.lent j) h.books ∙ set_else b.lent i j None ne ∙ at
-
-    module _ (j : ℕ) (l : Lent P) (there : HasLent b j l) (ne : j ≢ i) where
-      pub finished-unchanged : IsUnchanged b l → IsUnchanged c l
-      finished-unchanged un =
-          let left = subst (λ (d : Books P C R). UnderLent b l (λ k. settled d k ≡ settled b k)) h.books (h.others j l there ne) in
-          subst (λ (d : Books P C R). IsUnchanged d l) (sym h.books) (λ k pos lt cover. un k pos lt cover ∙ sym (left k pos lt cover))
-
-      pub finished-worked : (call' : C) (reply' : R) → IsWorked m b l call' reply' → IsWorked m c l call' reply'
-      finished-worked call' reply' w =
-          let left = subst (λ (d : Books P C R). UnderLent b l (λ k. settled d k ≡ settled b k)) h.books (h.others j l there ne) in
-          subst (λ (d : Books P C R). IsWorked m d l call' reply') (sym h.books)
-          (w.0, (λ k pos lt cover. w.1 k pos lt cover ∙ sym (left k pos lt cover)), w.2)
 
 -- each worker is idle
 pub all-idle : {P C R : Type 0} (b : Books P C R) → ((i : ℕ) → i < length b.lent → IsIdle b i) → AreIdle b

@@ -111,9 +111,6 @@ module _ (setup : Setup) (w new : World) where
   event-stays event (Ok done) quiet e = happens-stays event done quiet e.1
   event-stays event (Err number) quiet e = ap world_counts e.1
 
-  pub refused-stays : (event : Event) (number : ℕ) → Events setup w event (Err number) new → world_counts new ≡ world_counts w
-  refused-stays event number e = ap world_counts e.1
-
 -- ---- events that change what workers carry
 
 -- the parts of each volume that there is partition it, and there are as many

@@ -39,10 +39,6 @@ find-before : (es : List Listed) (e : Listed) (other : List ℕ) → same_name e
 find-before [] e other o = rw o refl
 find-before (x ∷ es) e other o = ap (λ r. if same_name x.name other then Some x else r) (find-before es e other o)
 
-length-push : (es : List Listed) (e : Listed) → length (es ++ e ∷ []) ≡ length es + 1
-length-push [] e = refl
-length-push (x ∷ es) e = let r = length-push es e in omega (arith, r)
-
 -- ---- after `removed`
 
 find-gone : (es : List Listed) (name : List ℕ) → find_name name (without_name name es) ≡ None
@@ -75,25 +71,3 @@ found-removed d name = find-gone d.list name
 pub found-removed-other : (d : DirectoryValue) (name other : List ℕ) → same_name name other ≡ false
     → found (removed name d) other ≡ found d other
 found-removed-other d name other o = find-left d.list name other o
-
-without-others : (es : List Listed) (x : Listed) → IsOnlyOne x es → without_name x.name es ≡ es
-without-others [] x o = refl
-without-others (y ∷ es) x o = rw o.0 (ap (λ l. y ∷ l) (without-others es x o.1))
-
-length-left : (es : List Listed) (name : List ℕ) (e : Listed) → NamesDiffer es → find_name name es ≡ Some e
-    → length (without_name name es) + 1 ≡ length es
-length-left [] name e d f = absurd (grind (arith, f))
-length-left (x ∷ es) name e d f = by (same_name x.name name) refl (length-left es name e d.1) f
-  where
-    by : (b : Bool) → b ≡ same_name x.name name → (find_name name es ≡ Some e → length (without_name name es) + 1 ≡ length es)
-        → (if b then Some x else find_name name es) ≡ Some e
-        → length (if not b then x ∷ without_name name es else without_name name es) + 1 ≡ length (x ∷ es)
-    by true p r s =
-        let named = same-is x.name name (sym p) in
-        let kept = ap (λ (l : List Listed). length l) (subst (λ n. without_name n es ≡ es) named (without-others es x d.0)) in
-        omega (arith, kept)
-    by false p r s = let l = r s in omega (arith, l)
-
-pub length-removed : (d : DirectoryValue) (name : List ℕ) (e : Listed) → IsDirectory d → found d name ≡ Some e
-    → length (removed name d).list + 1 ≡ length d.list
-length-removed d name e h f = length-left d.list name e h.names f
