@@ -41,8 +41,16 @@ fn calls_are_counted(rt: HostRuntime) {
     assert!(&rt; totals.replies(ReplyKind::Answered(Procedure::Null)) == 1);
     assert!(&rt; totals.replies(ReplyKind::Answered(Procedure::GetAttributes)) == 3);
     assert!(&rt; totals.replies(ReplyKind::Refused(RefusalKind::ProgramUnavailable)) == 2);
-    assert!(&rt; lane.at_once().of(ReplyKind::Refused(RefusalKind::ProgramUnavailable)) == 2);
-    assert!(&rt; lane.at_once().of(ReplyKind::Answered(Procedure::GetAttributes)) == 0);
+    assert!(&rt;
+        lane.at_once()
+            .of(ReplyKind::Refused(RefusalKind::ProgramUnavailable))
+            == 2
+    );
+    assert!(&rt;
+        lane.at_once()
+            .of(ReplyKind::Answered(Procedure::GetAttributes))
+            == 0
+    );
     part(rt, lane, 0);
 }
 

@@ -307,7 +307,8 @@ impl Call {
             Call::FilesystemInfo { handle } => put_made(handle, map),
             Call::PathConfiguration { handle } => put_made(handle, map),
             Call::Commit { handle } => put_made(handle, map),
-            Call::Null | Call::Unsupported(_) | Call::Census | Call::Grow { .. } | Call::Mount(_) => {}
+            Call::Null | Call::Unsupported(_) | Call::Census | Call::Grow { .. } | Call::Mount(_) =>
+                {}
         }
     }
 }

@@ -5,8 +5,8 @@ ghost use Rattle.std.specs.Prelude.{◌≡◌, ◌%◌, ◌^◌, drop, min, sum,
 use crate::counts::ReplyCounts;
 use crate::histogram::Histogram;
 use crate::kind::{RefusalKind, ReplyKind};
-use nfs_values::Procedure;
 use crate::tally::Tally;
+use nfs_values::Procedure;
 use std::fmt;
 
 /// Replies by kind, times of calls, and how often a node was refused. Each count wraps at 2^64.

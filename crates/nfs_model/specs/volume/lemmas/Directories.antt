@@ -1,10 +1,10 @@
 -- What is found after a name is added or removed.
-use Rattle.std.proofs.Common.{◌≡◌, refl, sym, subst, ◌∙◌, ap, ℕ, ◌+◌, Bool, true, false, ◌==◌, ◌&&◌}
-use Rattle.std.proofs.Common.{not, nat_eq, List, [], ◌∷◌, ◌++◌, length, Some, None, if◌then◌else◌, arith}
+use Rattle.std.proofs.Common.{◌≡◌, refl, sym, subst, ◌∙◌, ap, ℕ, Bool, true, false, ◌==◌, ◌&&◌}
+use Rattle.std.proofs.Common.{not, nat_eq, List, [], ◌∷◌, ◌++◌, Some, None, if◌then◌else◌, arith}
 use Rattle.std.specs.Cmp.Lexicographic.{pointwise, same_text, nat_list_eq_equiv}
 use Rattle.nfs_model.specs.Types.{Listed}
 use Rattle.nfs_model.specs.Names.{same_name, find_name, without_name}
-use Rattle.nfs_model.specs.volume.Directories.{DirectoryValue, found, removed, IsOnlyOne, NamesDiffer, IsDirectory}
+use Rattle.nfs_model.specs.volume.Directories.{DirectoryValue, found, removed}
 
 -- ---- names that are the same
 
