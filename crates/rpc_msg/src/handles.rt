@@ -19,6 +19,7 @@ fn tell_handle(handle: &mut FileHandle, run: u64)
 }
 
 /// Hears handles in the run of this number.
+#[derive(Drop)]
 struct InRun(u64);
 
 impl HandleMap for InRun {
