@@ -1,6 +1,6 @@
 //! Replies, counted by kind.
 
-ghost use Rattle.std.specs.Prelude.{◌≡◌, ◌≢◌, ◌%◌, ◌^◌, drop, replicate, sum, take};
+ghost use Rattle.std.specs.Prelude.{◌≡◌, ◌≢◌, ◌%◌, ◌^◌, replicate, slice_range, sum, take};
 
 use crate::kind::{KINDS, REFUSALS, RefusalKind, ReplyKind};
 use crate::wrapping::{add_each, less_each, sum_of};
@@ -64,9 +64,9 @@ impl ReplyCounts {
 
     /// How many gave results.
     pub fn answered(&self) -> u64
-        ensures { result ≡ sum (drop 7 (kinds_in self.now)) % 2 ^ 64 }
+        ensures { result ≡ sum (slice_range (kinds_in self.now) 7 kinds_count) % 2 ^ 64 }
     {
-        sum_of(&self.counts[REFUSALS..])
+        sum_of(&self.counts[REFUSALS..KINDS])
     }
 
     /// The counts of both together.

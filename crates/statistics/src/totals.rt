@@ -1,6 +1,6 @@
 //! What was counted, in all, and the line that tells it.
 
-ghost use Rattle.std.specs.Prelude.{◌≡◌, ◌%◌, ◌^◌, drop, min, sum, take};
+ghost use Rattle.std.specs.Prelude.{◌≡◌, ◌%◌, ◌^◌, min, slice_range, sum, take};
 
 use crate::counts::ReplyCounts;
 use crate::histogram::Histogram;
@@ -20,6 +20,7 @@ pub struct Totals {
 impl Totals {
     ghost use Rattle.statistics.specs.Buckets.{IsPercentile};
     ghost use Rattle.statistics.specs.Counts.{count_of, kinds_in};
+    ghost use Rattle.statistics.specs.Kind.{kinds_count};
     ghost use Rattle.statistics.specs.Histogram.{buckets_in};
     ghost use Rattle.statistics.specs.Totals.{busy_in, replies_in, times_in};
     ghost use Rattle.statistics.specs.Totals.{HasAdded, IsNothing, IsSince};
@@ -83,7 +84,8 @@ impl Totals {
 
     /// How many calls were answered with results, whatever they told.
     pub fn calls(&self) -> u64
-        ensures { result ≡ sum (drop 7 (kinds_in (replies_in self.now))) % 2 ^ 64 }
+        ensures { result
+            ≡ sum (slice_range (kinds_in (replies_in self.now)) 7 kinds_count) % 2 ^ 64 }
     {
         self.replies.answered()
     }
