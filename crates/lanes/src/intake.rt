@@ -68,21 +68,10 @@ impl<R> Intake<R> {
     }
 }
 
-/// Whether a call may change which blocks of its volume are in files or free, so that there may be
-/// something to tend after it. A WRITE on a stripe may not, unless it moves.
+/// Whether there may be something to tend after a call. After a WRITE on a stripe there isn't,
+/// unless it moves.
 fn may_leave_blocks(message: &Message<Call>) -> bool {
-    if message.affinity.kind() == Kind::Stripe {
-        return false;
-    }
-    match &message.call {
-        Call::SetAttributes { .. }
-        | Call::Write { .. }
-        | Call::Create { .. }
-        | Call::Remove(_)
-        | Call::Rename { .. }
-        | Call::Grow { .. } => true,
-        _ => false,
-    }
+    message.affinity.kind() != Kind::Stripe && message.call.may_move_blocks()
 }
 
 impl<R: Wait> RecordSink for Intake<R> {

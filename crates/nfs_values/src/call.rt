@@ -282,6 +282,34 @@ impl Call {
         }
     }
 
+    /// Whether it may change which blocks of its volume are in files or free.
+    pub fn may_move_blocks(&self) -> bool {
+        match self {
+            Call::SetAttributes { .. } => true,
+            Call::Write { .. } => true,
+            Call::Create { .. } => true,
+            Call::Remove(_) => true,
+            Call::Rename { .. } => true,
+            Call::Grow { .. } => true,
+            Call::Null => false,
+            Call::GetAttributes { .. } => false,
+            Call::Lookup(_) => false,
+            Call::CheckAccess { .. } => false,
+            Call::Read { .. } => false,
+            Call::MakeDirectory { .. } => false,
+            Call::RemoveDirectory(_) => false,
+            Call::ReadDirectory { .. } => false,
+            Call::ReadDirectoryPlus { .. } => false,
+            Call::FilesystemStatus { .. } => false,
+            Call::FilesystemInfo { .. } => false,
+            Call::PathConfiguration { .. } => false,
+            Call::Commit { .. } => false,
+            Call::Unsupported(_) => false,
+            Call::Census => false,
+            Call::Mount(_) => false,
+        }
+    }
+
     /// Puts in place of each of its handles the one that is made of it.
     pub fn map_handles<M: HandleMap>(&mut self, map: &M)
         ensures { call_of self.new ≡ call_with (M.made map.now) (call_of self.old) }
