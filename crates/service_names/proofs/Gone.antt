@@ -44,7 +44,8 @@ module _ {P : Type 0} (old mid new : FilerLogical P) (v directory : ℕ) (as_dir
       left_is ∙ ap (λ (i : Inode). directory_left (dropping_of (naming_in v directory as_directory name moment (logical_before mid)) (there i))) is
 
   pub emptied-gone : logical_after old mid ≡ file_sized (emptying_of child) (logical_before old)
-      → logical_after mid new ≡ node_dropped (dropping_of (naming_in v directory as_directory name moment (logical_before mid)) (there emptied)) (logical_before mid)
+      → logical_after mid new
+      ≡ node_dropped (dropping_of (naming_in v directory as_directory name moment (logical_before mid)) (there emptied)) (logical_before mid)
       → logical_after old new
       ≡ node_dropped (dropping_of (naming_in v directory as_directory name moment (logical_before old)) (child_emptied child (logical_before old)))
       (file_sized (emptying_of child) (logical_before old))

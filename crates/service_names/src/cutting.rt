@@ -13,7 +13,7 @@ ghost use Rattle.service_names.specs.Changing.{AreNumbers, MayBeSet, with_dead};
 use filer_state::{Files, LogicalParcel};
 use nfs_values::{BlockNumber, Fileid};
 use parcels::{LogicalHeld, StripeHeld};
-use stripes::Stripe;
+use stripes::{FreedBlocks, GiveBack, Stripe};
 use vbn_ranges::DeadBlocks;
 
 /// A file of more filled blocks has the memory of those that it loses given back later, as their
@@ -37,7 +37,12 @@ pub(crate) fn size_stripes(
         ≡ map (stripe_sized fileid.0 size) (logical_before held.old).stripes }
     ensures alike { logical_alike held.old held.new }
 {
-    let later = filled > MANY_BLOCKS;
+    let memory = if filled > MANY_BLOCKS {
+        GiveBack::Later
+    } else {
+        GiveBack::AtOnce
+    };
+    let mut freed = FreedBlocks::new();
     let mut rest = filled;
     let mut left = held.own.get().stripes as usize;
     while left > 0 {
@@ -48,7 +53,8 @@ pub(crate) fn size_stripes(
             fileid,
             size,
             rest,
-            later,
+            memory,
+            &mut freed,
         );
     }
     rest
@@ -61,7 +67,8 @@ fn size_place(
     fileid: Fileid,
     size: u64,
     filled: u32,
-    later: bool,
+    memory: GiveBack,
+    freed: &mut FreedBlocks,
 ) -> u32
     requires card { IsSome (get (stripe_value place.old).cards fileid.0) }
     requires numbers { AreNumbers own.old.dead.range_blocks
@@ -77,7 +84,15 @@ fn size_place(
     match place {
         Some(stripe) => {
             let dead = &mut own.get_mut().dead;
-            size_stripe(stripe.own.get_mut(), dead, fileid, size, filled, later)
+            size_stripe(
+                stripe.own.get_mut(),
+                dead,
+                fileid,
+                size,
+                filled,
+                memory,
+                freed,
+            )
         }
         None => unreachable!(),
     }
@@ -90,7 +105,8 @@ fn size_stripe(
     fileid: Fileid,
     size: u64,
     filled: u32,
-    later: bool,
+    memory: GiveBack,
+    freed: &mut FreedBlocks,
 ) -> u32
     requires card { IsSome (get stripe.old.cards fileid.0) }
     requires numbers { AreNumbers dead.old.range_blocks
@@ -100,7 +116,7 @@ fn size_stripe(
     ensures sized { stripe.new ≡ stripe_sized fileid.0 size stripe.old }
 {
     stripe.take_touch(fileid);
-    let left = cut_stripe(stripe, dead, fileid, size, filled, later);
+    let left = cut_stripe(stripe, dead, fileid, size, filled, memory, freed);
     stripe.set_size(fileid, size);
     left
 }
@@ -125,7 +141,8 @@ fn cut_stripe(
     fileid: Fileid,
     size: u64,
     filled: u32,
-    later: bool,
+    memory: GiveBack,
+    freed: &mut FreedBlocks,
 ) -> u32
     requires { AreNumbers dead.old.range_blocks (numbers_freed fileid.0 size stripe.old) }
     ensures left { result ≡ filled - length (numbers_freed fileid.0 size stripe.old) }
@@ -133,7 +150,7 @@ fn cut_stripe(
     ensures cut { stripe.new ≡ cut fileid.0 size stripe.old }
 {
     let mut left = filled;
-    while let Some(freed) = stripe.cut(fileid, size, later) {
+    while stripe.cut(fileid, size, memory, freed) {
         left = mark_all(dead, freed.as_slice(), left);
     }
     left

@@ -5,7 +5,7 @@ use nfs_values::{BlockNumber, Fileid, Moment, Verifier};
 use std::mem;
 use std::process::Abort;
 use stripe_cards::CardKind;
-use stripes::Stripe;
+use stripes::{FreedBlocks, GiveBack, Stripe};
 
 const FILE: Fileid = Fileid(2);
 
@@ -91,8 +91,17 @@ fn hole(rt: HostRuntime) {
 
 /// Looks whether a cut to a size frees these blocks next.
 fn frees(rt: &impl Abort, stripe: &mut Stripe, size: u64, wanted: &[BlockNumber]) {
-    let freed = stripe.cut(FILE, size, true).expect(rt, "nothing freed");
+    let mut freed = FreedBlocks::new();
+    let more = stripe.cut(FILE, size, GiveBack::Later, &mut freed);
+    same(rt, &more, &true);
     same(rt, &freed.as_slice(), &wanted);
+}
+
+/// Looks whether a cut to a size frees no block any more.
+fn frees_nothing(rt: &impl Abort, stripe: &mut Stripe, size: u64) {
+    let mut freed = FreedBlocks::new();
+    let more = stripe.cut(FILE, size, GiveBack::Later, &mut freed);
+    same(rt, &more, &false);
 }
 
 #[test]
@@ -106,7 +115,7 @@ fn cut_within_a_block(rt: HostRuntime) {
     fill(&rt, &mut stripe, &past);
     frees(&rt, &mut stripe, 8193, &[BlockNumber(8), BlockNumber(6)]);
     frees(&rt, &mut stripe, 8193, &[BlockNumber(9)]);
-    same(&rt, &stripe.cut(FILE, 8193, true).is_none(), &true);
+    frees_nothing(&rt, &mut stripe, 8193);
     stripe
         .set_card(FILE, CardKind::File { size: 8200 })
         .expect(&rt, "no memory");
@@ -118,7 +127,7 @@ fn cut_within_a_block(rt: HostRuntime) {
 fn cut_to_nothing(rt: HostRuntime) {
     let mut stripe = written(&rt);
     frees(&rt, &mut stripe, 0, &[BlockNumber(7)]);
-    same(&rt, &stripe.cut(FILE, 0, true).is_none(), &true);
+    frees_nothing(&rt, &mut stripe, 0);
     mem::forget(stripe);
 }
 

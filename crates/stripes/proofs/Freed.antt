@@ -19,7 +19,8 @@ found q es = is_some (find file_block_cmp q es)
 found-here : (e : PlacedBlock) (es : List PlacedBlock) → is_some (find file_block_cmp e.0 (e ∷ es)) ≡ true
 found-here e es = ap (λ t. is_some (cond t (Some e.1) (find file_block_cmp e.0 es))) (key-itself e.0)
 
-found-later : (q : FileBlock) (e : PlacedBlock) (es : List PlacedBlock) → is_some (find file_block_cmp q es) ≡ true → is_some (find file_block_cmp q (e ∷ es)) ≡ true
+found-later : (q : FileBlock) (e : PlacedBlock) (es : List PlacedBlock) → is_some (find file_block_cmp q es) ≡ true
+    → is_some (find file_block_cmp q (e ∷ es)) ≡ true
 found-later q e es h = by (eq_by_cmp file_block_cmp q e.0)
   where
     by : (t : Bool) → is_some (cond t (Some e.1) (find file_block_cmp q es)) ≡ true
@@ -59,7 +60,8 @@ filter-first test k v (e ∷ es) passes other before =
 
 -- what a map without a place has past a size, and what it had before
 pub freed-first : (test : FileBlock → Bool) (k : FileBlock) (v : Block) (old new : FinMap file_block_cmp Block) → test k ≡ true → get old k ≡ Some v
-    → ((q : FileBlock) → get new q ≡ cond (is_at (file_block_cmp k) q) None (get old q)) → ((q : FileBlock) → test q ≡ true → file_block_cmp k q ≡ Greater → get old q ≡ None)
+    → ((q : FileBlock) → get new q ≡ cond (is_at (file_block_cmp k) q) None (get old q))
+    → ((q : FileBlock) → test q ≡ true → file_block_cmp k q ≡ Greater → get old q ≡ None)
     → filter (λ (e : PlacedBlock). test e.0) (entries old) ≡ (k, v) ∷ filter (λ (e : PlacedBlock). test e.0) (entries new)
 freed-first test k v old new passes there gone first =
     ap (λ m. filter (λ (e : PlacedBlock). test e.0) (entries m)) again ∙ ap (filter (λ (e : PlacedBlock). test e.0)) (entries-insert place_total new k v)

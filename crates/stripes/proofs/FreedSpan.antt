@@ -1,5 +1,6 @@
 -- The numbers of the blocks past a size that a span has.
-use Rattle.std.proofs.Common.{◌≡◌, ℕ, zero, suc, ◌+◌, ◌*◌, ◌/◌, ◌%◌, ◌==◌, ◌<◌, ◌≤◌, ◌&&◌, ◌||◌, Bool, true, false, cond, List, ◌∷◌, ◌++◌, map, refl, sym, ap, ◌∙◌, inl, inr, arith}
+use Rattle.std.proofs.Common.{◌≡◌, ℕ, zero, suc, ◌+◌, ◌*◌, ◌/◌, ◌%◌, ◌==◌, ◌<◌, ◌≤◌, ◌&&◌, ◌||◌, Bool, true, false, cond, List, ◌∷◌, ◌++◌}
+use Rattle.std.proofs.Common.{map, refl, sym, ap, ◌∙◌, inl, inr, arith}
 use Rattle.std.proofs.Common.{Option, Some, None, nat_le, eq-eqb}
 use Rattle.std.proofs.lemmas.Bool.{cases_eq, cases_lt}
 use Rattle.std.proofs.lemmas.Bool.Decides.{nat_tests}
@@ -157,7 +158,8 @@ freed-rest f size s g zero i m new e rest =
     ap (numbers_past f size) (same_map place_total place_same m new (λ q.
     sym (rest.gone q ∙ ap (λ t. cond t None (get m q)) (rest-none f s i q (omega (arith, e))))))
 freed-rest f size s g (suc n) i m new e rest =
-    by (g i) refl (λ left without. freed-rest f size s g n (i + 1) left new (omega (arith, e)) (rest-without f size s g i m new left (omega (arith, e)) rest without))
+    by (g i) refl (λ left without. freed-rest f size s g n (i + 1) left new (omega (arith, e))
+    (rest-without f size s g i m new left (omega (arith, e)) rest without))
   where
     k : FileBlock
     k = (f, span_blocks * s + i)

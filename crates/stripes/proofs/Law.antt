@@ -15,7 +15,8 @@ among : FileBlock → List FileBlock → Bool
 among p ps = list_any (is_at (file_block_cmp p)) ps
 
 -- what is found among the entries that are there
-find-present : (f : FileBlock → Option Block) (ps : List FileBlock) (q : FileBlock) → find file_block_cmp q (present f ps) ≡ cond (list_any (is_at (file_block_cmp q)) ps)
+find-present : (f : FileBlock → Option Block) (ps : List FileBlock) (q : FileBlock)
+    → find file_block_cmp q (present f ps) ≡ cond (list_any (is_at (file_block_cmp q)) ps)
     (f q) None
 find-present f [] q = refl
 find-present f (p ∷ ps) q = elim (key-cases q p) [
@@ -35,7 +36,8 @@ find-present f (p ∷ ps) q = elim (key-cases q p) [
     here None e rest same = rest ∙ none (list_any (is_at (file_block_cmp q)) ps) (f q) (ap f same ∙ e)
     here (Some b) e rest same = ap (λ t. cond t (Some b) (find file_block_cmp q (present f ps))) (at same) ∙ sym (ap f same ∙ e)
 
-    there : (o : Option Block) → is_at (file_block_cmp q) p ≡ false → find file_block_cmp q (with_entry p o (present f ps)) ≡ find file_block_cmp q (present f ps)
+    there : (o : Option Block) → is_at (file_block_cmp q) p ≡ false
+        → find file_block_cmp q (with_entry p o (present f ps)) ≡ find file_block_cmp q (present f ps)
     there None other = refl
     there (Some b) other = ap (λ t. cond t (Some b) (find file_block_cmp q (present f ps))) other
 

@@ -108,7 +108,8 @@ pub not-filled : (o : Option Block) → is_some o ≡ false → o ≡ None
 not-filled None e = refl
 not-filled (Some b) e = absurd (cc)
 
-pub none-here : (spans : Spans) (f block : ℕ) → TakesNone (block % span_blocks) (span_at spans (f, block / span_blocks)) → get (blocks_of spans) (f, block) ≡ None
+pub none-here : (spans : Spans) (f block : ℕ) → TakesNone (block % span_blocks) (span_at spans (f, block / span_blocks))
+    → get (blocks_of spans) (f, block) ≡ None
 none-here spans f block none =
     get-blocks_of spans (f, block)
     ∙ none-in spans f (block / span_blocks) (block % span_blocks) block (span_at spans (f, block / span_blocks)) refl none refl (omega arith)

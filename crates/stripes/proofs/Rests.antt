@@ -1,6 +1,6 @@
 -- The blocks of a span that a cut takes out of its array.
 use Rattle.std.proofs.Common.{◌≡◌, ◌≢◌, ℕ, zero, suc, ◌+◌, ◌-◌, ◌%◌, ◌<◌, ◌≤◌, Bool, true, false, List, [], ◌∷◌, ◌++◌, length, get_or, set, refl, sym, ap, ◌∙◌}
-use Rattle.std.proofs.Common.{Option, Some, None, is_some, inl, inr, arith, append_assoc, length-append}
+use Rattle.std.proofs.Common.{Option, Some, None, IfSome, is_some, inl, inr, arith, append_assoc, length-append, subst}
 use Rattle.std.specs.Prelude.{◌&&◌, nat_le, nat_lt, if◌then◌else◌}
 use Rattle.std.proofs.lemmas.Bool.{cases_eq, cases_lt}
 use Rattle.std.proofs.lemmas.Bool.Decides.{nat_tests}
@@ -32,13 +32,20 @@ numbers-some f from (suc n) i a b there = by (f from) refl (λ later. numbers-so
     ]
     by (Some b) e next = omega arith
 
-pub first-some : (from i : ℕ) (places : Places) (numbers : List ℕ) → IsFirst from i places → numbers ≡ numbers_from from places → 0 < length numbers
+first-some : (from i : ℕ) (places : Places) (numbers : List ℕ) → IsFirst from i places → numbers ≡ numbers_from from places → 0 < length numbers
 first-some from i places numbers first told =
     let within = first.within in
     let after = first.after in
     let some = numbers-some (place_of places) from (span_blocks - from) i after (omega (arith, within, after)) first.there in
     let long = ap length told in
     omega (arith, some, long)
+
+-- where a first block was found there is a number
+pub some-from : (from : ℕ) (first : Option ℕ) (found places : Places) (numbers : List ℕ) → is_some first ≡ true
+    → IfSome first (λ i. IsFirst from i found) → found ≡ places → numbers ≡ numbers_from from places → 0 < length numbers
+some-from from None found places numbers some is same told = absurd (cc)
+some-from from (Some i) found places numbers some is same told =
+    first-some from i places numbers (subst (λ (ps : Places). IsFirst from i ps) same is) told
 
 -- ---- place after place
 
@@ -68,6 +75,49 @@ pub joined-last : (f : ℕ → Option Block) (freed whole : List ℕ) (i : ℕ) 
 joined-last f freed whole i past joined =
     let none : span_blocks - i ≡ 0 = omega (arith, past) in
     sym (append-nil freed) ∙ sym (ap (λ n. freed ++ numbers_at f i n) none) ∙ joined
+
+-- ---- blocks counted
+
+-- a place with a block is one more
+pub counted-more : (f : ℕ → Option Block) (count new whole i : ℕ) → i < span_blocks → is_some (f i) ≡ true → new ≡ count + 1
+    → count + length (numbers_at f i (span_blocks - i)) ≡ whole → new + length (numbers_at f (i + 1) (span_blocks - (i + 1))) ≡ whole
+counted-more f count new whole i below there more counted = by (f i) refl
+  where
+    left : suc (span_blocks - (i + 1)) ≡ span_blocks - i
+    left = omega (arith, below)
+
+    long : count + length (with_number (f i) (numbers_at f (i + 1) (span_blocks - (i + 1)))) ≡ whole
+    long = ap (λ n. count + length (numbers_at f i n)) left ∙ counted
+
+    by : (o : Option Block) → f i ≡ o → new + length (numbers_at f (i + 1) (span_blocks - (i + 1))) ≡ whole
+    by None e = absurd (let no : false ≡ true = sym (ap is_some e) ∙ there in cc)
+    by (Some b) e =
+        let all = ap (λ o. count + length (with_number o (numbers_at f (i + 1) (span_blocks - (i + 1))))) (sym e) ∙ long in
+        omega (arith, all, more)
+
+-- a place without one is none
+pub counted-same : (f : ℕ → Option Block) (count new whole i : ℕ) → i < span_blocks → is_some (f i) ≡ false → new ≡ count
+    → count + length (numbers_at f i (span_blocks - i)) ≡ whole → new + length (numbers_at f (i + 1) (span_blocks - (i + 1))) ≡ whole
+counted-same f count new whole i below none same counted = by (f i) refl
+  where
+    left : suc (span_blocks - (i + 1)) ≡ span_blocks - i
+    left = omega (arith, below)
+
+    long : count + length (with_number (f i) (numbers_at f (i + 1) (span_blocks - (i + 1)))) ≡ whole
+    long = ap (λ n. count + length (numbers_at f i n)) left ∙ counted
+
+    by : (o : Option Block) → f i ≡ o → new + length (numbers_at f (i + 1) (span_blocks - (i + 1))) ≡ whole
+    by None e =
+        let all = ap (λ o. count + length (with_number o (numbers_at f (i + 1) (span_blocks - (i + 1))))) (sym e) ∙ long in
+        omega (arith, all, same)
+    by (Some b) e = absurd (let no : true ≡ false = sym (ap is_some e) ∙ none in cc)
+
+-- none is after the last place
+pub counted-last : (f : ℕ → Option Block) (count whole i : ℕ) → span_blocks ≤ i → count + length (numbers_at f i (span_blocks - i)) ≡ whole → count ≡ whole
+counted-last f count whole i past counted =
+    let none : span_blocks - i ≡ 0 = omega (arith, past) in
+    let all = ap (λ n. count + length (numbers_at f i n)) (sym none) ∙ counted in
+    omega (arith, all)
 
 -- ---- the places that are taken
 

@@ -1,6 +1,6 @@
 -- Blocks that are taken out of the arrays.
 use Rattle.std.proofs.Common.{◌≡◌, ℕ, ◌+◌, ◌*◌, ◌/◌, ◌%◌, ◌<◌, ◌≤◌, ◌==◌, cond, refl, sym, ap, ◌∙◌, inl, inr, arith, subst, Option, Some}
-use Rattle.std.proofs.Common.{None, IfSome, IfNone, get_or}
+use Rattle.std.proofs.Common.{None, get_or}
 use Rattle.std.proofs.lemmas.Bool.{cases_lt}
 use Rattle.std.proofs.lemmas.Option.{same_Some}
 use Rattle.std.specs.BTreeMap.{is_at}
@@ -96,15 +96,6 @@ pub none-in : (spans : Spans) (f s from b : ℕ) (o : Option Places) → span_at
 none-in spans f s from b None h none e le = block-in-span spans f s b None e h
 none-in spans f s from b (Some a) h none e le =
     block-in-span spans f s b (Some a) e h ∙ sym (place-mod a b) ∙ none (b % span_blocks) le (omega arith)
-
--- what follows of what is taken, and where nothing is
-pub after-some : {A : Type 0} {P Q : A → Type 0} → ((x : A) → P x → Q x) → (o : Option A) → IfSome o P → IfSome o Q
-after-some f None h = h
-after-some f (Some x) h = f x h
-
-pub after-none : {A P Q : Type 0} → (P → Q) → (o : Option A) → IfNone o P → IfNone o Q
-after-none f None h = f h
-after-none f (Some x) h = h
 
 -- a file's first block in the span of a number
 pub frees-at : (f first : ℕ) (block : Block) (old new : Spans) → AllFilled old

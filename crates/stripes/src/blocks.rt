@@ -13,8 +13,6 @@ ghost use Rattle.std.specs.Prelude.{
   false,
   is_some,
   IsTrue,
-  IfSome,
-  IfNone,
   OnOk,
   OnErr,
 };
@@ -36,7 +34,7 @@ ghost use Rattle.stripes.specs.Spans.{
 };
 
 use crate::block::Block;
-use crate::freed_blocks::FreedBlocks;
+use crate::freed_blocks::{FreedBlocks, GiveBack};
 use crate::span::{SPAN_BLOCKS, Span, put_zeros};
 use crate::spans::{
     SpanMap, give_back, insert_in, number_block, overwrite_in, take_from, take_in, write_in,
@@ -172,31 +170,31 @@ impl Blocks {
     }
 
     /// Takes a file's blocks that lie wholly past a size in the span of the first of them, and
-    /// tells their numbers. Where there is none it zeroes the rest of the block in which the size
-    /// lies. The memory of a whole span may be given back later.
-    pub fn cut(&mut self, fileid: u64, size: u64, later: bool) -> Option<FreedBlocks>
-        ensures freed { IfSome result (λ freed. numbers_past fileid size self.old
-            ≡ freed ++ numbers_past fileid size self.new) }
-        ensures some { IfSome result (λ freed. 0 < length freed) }
-        ensures rest { IfSome result
-            (λ _. cut_blocks fileid size self.new ≡ cut_blocks fileid size self.old) }
-        ensures none { IfNone result (numbers_past fileid size self.old ≡ []) }
-        ensures done { IfNone result (self.new ≡ cut_blocks fileid size self.old) }
+    /// tells whether there was one, and their numbers. Where there is none it zeroes the rest of
+    /// the block in which the size lies. The memory of a whole span may be given back later.
+    pub fn cut(&mut self, fileid: u64, size: u64, memory: GiveBack, freed: &mut FreedBlocks) -> bool
+        ensures freed { IsTrue result → numbers_past fileid size self.old
+            ≡ freed.new ++ numbers_past fileid size self.new }
+        ensures some { IsTrue result → 0 < length freed.new }
+        ensures rest { IsTrue result
+            → cut_blocks fileid size self.new ≡ cut_blocks fileid size self.old }
+        ensures none { result ≡ false → numbers_past fileid size self.old ≡ [] }
+        ensures done { result ≡ false → self.new ≡ cut_blocks fileid size self.old }
         ensures long { IsLong self.new }
     {
-        match take_from(
+        let first = first_past(size);
+        if take_from(
             &mut self.spans,
             &mut self.gone,
             fileid,
-            first_past(size),
-            later,
+            first,
+            memory,
+            freed,
         ) {
-            Some(freed) => Some(freed),
-            None => {
-                zero_tail(&mut self.spans, fileid, size);
-                None
-            }
+            return true;
         }
+        zero_tail(&mut self.spans, fileid, size);
+        false
     }
 
     /// Gives back the memory of so many blocks at least that cuts took, or of all that is left, and

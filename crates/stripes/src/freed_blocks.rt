@@ -7,6 +7,16 @@ ghost use Rattle.stripes.specs.Numbers.{numbers};
 use nfs_values::BlockNumber;
 use std::marker::Model;
 
+/// When the memory of the blocks that a cut takes is given back.
+#[derive(Clone, Copy)]
+pub enum GiveBack {
+    /// By the cut itself.
+    AtOnce,
+    /// By `Stripe::give_back`, where there is memory to keep their spans in mind. That of the span
+    /// in which the new size lies is given back at once.
+    Later,
+}
+
 /// The numbers of the blocks that a cut takes out of a span, at most 64.
 #[derive(Drop)]
 pub struct FreedBlocks {
@@ -26,8 +36,8 @@ impl Model for FreedBlocks {
 }
 
 impl FreedBlocks {
-    /// No number.
-    pub(crate) fn new() -> FreedBlocks
+    /// No number, as a buffer for `Stripe::cut`.
+    pub fn new() -> FreedBlocks
         ensures { result ≡ [] }
     {
         FreedBlocks {
@@ -41,6 +51,13 @@ impl FreedBlocks {
         ensures { numbers result.now ≡ self.now }
     {
         &self.blocks[..self.count]
+    }
+
+    /// Forgets all numbers.
+    pub(crate) fn clear(&mut self)
+        ensures { self.new ≡ [] }
+    {
+        self.count = 0;
     }
 
     /// Adds a number after the others.

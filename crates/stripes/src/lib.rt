@@ -8,5 +8,5 @@ mod span;
 mod spans;
 mod stripe;
 
-pub use freed_blocks::FreedBlocks;
+pub use freed_blocks::{FreedBlocks, GiveBack};
 pub use stripe::Stripe;

@@ -206,32 +206,46 @@ impl Span {
         Some((first, block))
     }
 
-    /// Takes all blocks from a place on, if there is one, and tells their numbers.
-    pub fn take_rest(&mut self, from: usize) -> Option<FreedBlocks>
+    /// Takes all blocks from a place on, and tells whether there was one, and their numbers.
+    pub fn take_rest(&mut self, from: usize, freed: &mut FreedBlocks) -> bool
         requires { from ≤ span_blocks }
-        ensures some { IfSome result (λ freed. 0 < length freed) }
-        ensures told { IfSome result (λ freed. freed ≡ numbers_from from self.old) }
-        ensures taken { IfSome result (λ _. IsTakenFrom from self.old self.new) }
-        ensures none { IfNone result (HasNone from self.old) }
-        ensures kept { IfNone result (self.new ≡ self.old) }
+        ensures some { IsTrue result → 0 < length freed.new }
+        ensures told { IsTrue result → freed.new ≡ numbers_from from self.old }
+        ensures taken { IsTrue result → IsTakenFrom from self.old self.new }
+        ensures none { result ≡ false → HasNone from self.old }
+        ensures kept { result ≡ false → self.new ≡ self.old }
     {
-        first_block(&self.places[..], from)?;
-        let mut freed = FreedBlocks::new();
-        for i in from..64 {
-            take_place(&mut self.places[i], &mut freed);
+        if first_block(&self.places[..], from).is_none() {
+            return false;
         }
-        Some(freed)
+        freed.clear();
+        for i in from..64 {
+            take_place(&mut self.places[i], freed);
+        }
+        true
     }
 
-    /// The numbers of its blocks.
-    pub fn numbers(&self) -> FreedBlocks
-        ensures { result ≡ numbers_from 0 self.now }
+    /// Tells the numbers of its blocks.
+    pub fn tell_numbers(&self, freed: &mut FreedBlocks)
+        ensures { freed.new ≡ numbers_from 0 self.now }
     {
-        let mut freed = FreedBlocks::new();
+        freed.clear();
         for i in 0..64 {
-            tell_place(&self.places[i], &mut freed);
+            tell_place(&self.places[i], freed);
         }
-        freed
+    }
+
+    /// How many blocks it has.
+    pub fn count(&self) -> usize
+        ensures { result ≡ length (numbers_from 0 self.now) }
+    {
+        let mut count = 0;
+        for i in 0..64 {
+            if self.places[i].is_some() {
+                count += 1;
+            }
+        }
+        count
     }
 
     /// Whether no block is there.

@@ -58,7 +58,7 @@ ghost use Rattle.stripes.specs.Spans.{
 };
 
 use crate::block::Block;
-use crate::freed_blocks::FreedBlocks;
+use crate::freed_blocks::{FreedBlocks, GiveBack};
 use crate::span::{SPAN_BLOCKS, Span};
 use nfs_values::{BlockNumber, SPAN_BYTES};
 use std::alloc::{AllocError, Global};
@@ -140,51 +140,53 @@ fn add_span(
 }
 
 /// Takes a file's blocks from a number on that lie in the span of the first of them, and tells
-/// their numbers. A span after that of the number may be kept among those whose memory is given
-/// back later.
+/// whether there was one, and their numbers. A span after that of the number may be kept among
+/// those whose memory is given back later.
 pub fn take_from(
     spans: &mut SpanMap,
     gone: &mut Vec<Span>,
     fileid: u64,
     first: u64,
-    later: bool,
-) -> Option<FreedBlocks>
+    memory: GiveBack,
+    freed: &mut FreedBlocks,
+) -> bool
     requires { AllFilled spans.old.entries }
-    ensures taken { IfSome result
-        (λ freed. FreesSpan fileid first freed spans.old.entries spans.new.entries) }
-    ensures none { IfNone result (HasNoneFrom fileid first spans.old.entries) }
-    ensures kept { IfNone result (SameSpans spans.old.entries spans.new.entries) }
+    ensures taken { IsTrue result
+        → FreesSpan fileid first freed.new spans.old.entries spans.new.entries }
+    ensures none { result ≡ false → HasNoneFrom fileid first spans.old.entries }
+    ensures kept { result ≡ false → SameSpans spans.old.entries spans.new.entries }
 {
-    match take_span(
-        spans,
-        fileid,
-        first / SPAN_BLOCKS,
-        (first % SPAN_BLOCKS) as usize,
-    ) {
-        Some(freed) => Some(freed),
-        None => take_after(spans, gone, fileid, first / SPAN_BLOCKS, later),
+    let (span, place) = (first / SPAN_BLOCKS, (first % SPAN_BLOCKS) as usize);
+    if take_span(spans, fileid, span, place, freed) {
+        return true;
     }
+    take_after(spans, gone, fileid, span, memory, freed)
 }
 
-/// Takes a file's blocks in its first span after one, and tells their numbers.
+/// Takes a file's blocks in its first span after one, and tells whether there was one, and their
+/// numbers.
 fn take_after(
     spans: &mut SpanMap,
     gone: &mut Vec<Span>,
     fileid: u64,
     span: u64,
-    later: bool,
-) -> Option<FreedBlocks>
+    memory: GiveBack,
+    freed: &mut FreedBlocks,
+) -> bool
     requires filled { AllFilled spans.old.entries }
     requires span { span < 2 ^ 63 }
-    ensures taken { IfSome result (λ freed. FreesSpan fileid (span_blocks * (span + 1)) freed
-        spans.old.entries spans.new.entries) }
-    ensures none { IfNone result
-        (HasNoneFrom fileid (span_blocks * (span + 1)) spans.old.entries) }
-    ensures kept { IfNone result (SameSpans spans.old.entries spans.new.entries) }
+    ensures taken { IsTrue result → FreesSpan fileid (span_blocks * (span + 1)) freed.new
+        spans.old.entries spans.new.entries }
+    ensures none { result ≡ false
+        → HasNoneFrom fileid (span_blocks * (span + 1)) spans.old.entries }
+    ensures kept { result ≡ false → SameSpans spans.old.entries spans.new.entries }
 {
     match next_span(spans, fileid, span + 1) {
-        Some(next) => Some(take_whole(spans, gone, fileid, next, later)),
-        None => None,
+        Some(next) => {
+            take_whole(spans, gone, fileid, next, memory, freed);
+            true
+        }
+        None => false,
     }
 }
 
@@ -194,15 +196,16 @@ fn take_whole(
     gone: &mut Vec<Span>,
     fileid: u64,
     number: u64,
-    later: bool,
-) -> FreedBlocks
+    memory: GiveBack,
+    freed: &mut FreedBlocks,
+)
     requires filled { AllFilled spans.old.entries }
     requires there { IsSome (span_at spans.old.entries (fileid, number)) }
-    ensures { ChangesSpan (TakesFrom 0 result) (fileid, number)
+    ensures { ChangesSpan (TakesFrom 0 freed.new) (fileid, number)
         spans.old.entries spans.new.entries }
 {
     match take_out(spans, fileid, number) {
-        Some(span) => pass_on(span, gone, later),
+        Some(span) => pass_on(span, gone, memory, freed),
         None => unreachable!(),
     }
 }
@@ -217,14 +220,16 @@ fn take_out(spans: &mut SpanMap, fileid: u64, number: u64) -> Option<Span>
 
 /// Tells the numbers of a span's blocks. Its memory is given back at once, or, where there is
 /// memory to keep it in mind, later.
-fn pass_on(span: Span, gone: &mut Vec<Span>, later: bool) -> FreedBlocks
-    ensures { result ≡ numbers_from 0 span }
+fn pass_on(span: Span, gone: &mut Vec<Span>, memory: GiveBack, freed: &mut FreedBlocks)
+    ensures { freed.new ≡ numbers_from 0 span }
 {
-    let numbers = span.numbers();
-    if later {
-        let _kept = gone.push(span);
+    span.tell_numbers(freed);
+    match memory {
+        GiveBack::AtOnce => {}
+        GiveBack::Later => {
+            let _kept = gone.push(span);
+        }
     }
-    numbers
 }
 
 /// Gives back the memory of spans with so many blocks at least, or of all that are left, and tells
@@ -236,58 +241,75 @@ pub fn give_back(gone: &mut Vec<Span>, blocks: usize) -> usize {
             return given;
         }
         match gone.pop() {
-            Some(span) => given = given.saturating_add(span.numbers().as_slice().len()),
+            Some(span) => given = given.saturating_add(span.count()),
             None => return given,
         }
     }
     given
 }
 
-/// Takes the blocks of a span from a place on, and the span with its last block.
-fn take_span(spans: &mut SpanMap, fileid: u64, number: u64, from: usize) -> Option<FreedBlocks>
+/// Takes the blocks of a span from a place on, and the span with its last block. It tells whether
+/// there was one, and their numbers.
+fn take_span(
+    spans: &mut SpanMap,
+    fileid: u64,
+    number: u64,
+    from: usize,
+    freed: &mut FreedBlocks,
+) -> bool
     requires { from ≤ span_blocks }
-    ensures taken { IfSome result (λ freed. ChangesSpan (TakesFrom from freed) (fileid, number)
-        spans.old.entries spans.new.entries) }
-    ensures none { IfNone result (TakesNone from (span_at spans.old.entries (fileid, number))) }
-    ensures kept { IfNone result (SameSpans spans.old.entries spans.new.entries) }
+    ensures taken { IsTrue result → ChangesSpan (TakesFrom from freed.new) (fileid, number)
+        spans.old.entries spans.new.entries }
+    ensures none { result ≡ false
+        → TakesNone from (span_at spans.old.entries (fileid, number)) }
+    ensures kept { result ≡ false → SameSpans spans.old.entries spans.new.entries }
 {
-    let (freed, is_empty) = take_rest_of(spans, fileid, number, from)?;
+    let Some(is_empty) = take_rest_of(spans, fileid, number, from, freed) else {
+        return false;
+    };
     if !is_empty {
-        return Some(freed);
+        return true;
     }
     drop_span(spans, fileid, number);
-    Some(freed)
+    true
 }
 
-/// Takes the blocks of a span from a place on, and tells whether none is left.
+/// Takes the blocks of a span from a place on, if there is one, and tells their numbers, and
+/// whether none is left.
 fn take_rest_of(
     spans: &mut SpanMap,
     fileid: u64,
     number: u64,
     from: usize,
-) -> Option<(FreedBlocks, bool)>
+    freed: &mut FreedBlocks,
+) -> Option<bool>
     requires { from ≤ span_blocks }
-    ensures taken { IfSome result (λ r. ChangesSpan (There (TakesRest from r.0 r.1))
-        (fileid, number) spans.old.entries spans.new.entries) }
+    ensures taken { IfSome result
+        (λ is_empty. ChangesSpan (There (TakesRest from freed.new is_empty)) (fileid, number)
+        spans.old.entries spans.new.entries) }
     ensures none { IfNone result (TakesNone from (span_at spans.old.entries (fileid, number))) }
     ensures kept { IfNone result (ChangesSpan (Where Stays) (fileid, number)
         spans.old.entries spans.new.entries) }
 {
     match spans.get_mut(&(fileid, number)) {
-        Some(span) => take_rest(span, from),
+        Some(span) => take_rest(span, from, freed),
         None => None,
     }
 }
 
-/// Takes the blocks of a span from a place on, and tells whether none is left.
-fn take_rest(span: &mut Span, from: usize) -> Option<(FreedBlocks, bool)>
+/// Takes the blocks of a span from a place on, if there is one, and tells their numbers, and
+/// whether none is left.
+fn take_rest(span: &mut Span, from: usize, freed: &mut FreedBlocks) -> Option<bool>
     requires { from ≤ span_blocks }
-    ensures taken { IfSome result (λ r. TakesRest from r.0 r.1 span.old span.new) }
+    ensures taken { IfSome result
+        (λ is_empty. TakesRest from freed.new is_empty span.old span.new) }
     ensures none { IfNone result (HasNone from span.old) }
     ensures kept { IfNone result (span.new ≡ span.old) }
 {
-    let freed = span.take_rest(from)?;
-    Some((freed, span.is_empty()))
+    if !span.take_rest(from, freed) {
+        return None;
+    }
+    Some(span.is_empty())
 }
 
 /// Takes the first block of a span from a place on, and the span with its last block.

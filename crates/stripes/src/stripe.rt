@@ -15,8 +15,6 @@ ghost use Rattle.std.specs.Prelude.{
   IsTrue,
   IsOk,
   IsSome,
-  IfSome,
-  IfNone,
   OnOk,
   OnErr,
 };
@@ -46,7 +44,7 @@ ghost use Rattle.nfs_model.specs.volume.Stripes.{
 ghost use Rattle.stripe_cards.specs.Cards.{card_of, card_set};
 
 use crate::blocks::Blocks;
-use crate::freed_blocks::FreedBlocks;
+use crate::freed_blocks::{FreedBlocks, GiveBack};
 use nfs_values::{BlockNumber, Fileid, Moment, Verifier};
 use std::alloc::{AllocError, Global};
 use std::marker::Model;
@@ -271,20 +269,26 @@ impl Stripe {
         cards.touch(fileid, moment);
     }
 
-    /// Cuts a file to a size in steps, to be called until it answers `None`. Each step frees the
-    /// blocks of a span that lie wholly past the size, and gives their numbers; the last sets the
-    /// rest of the block in which the size lies to zero. It needs no memory. The memory of the
-    /// blocks is given back at once, or, for most of them, later by `give_back`.
-    pub fn cut(&mut self, fileid: Fileid, size: u64, later: bool) -> Option<FreedBlocks>
-        ensures freed { IfSome result (λ freed. numbers_freed fileid.0 size self.old
-            ≡ freed ++ numbers_freed fileid.0 size self.new) }
-        ensures some { IfSome result (λ freed. 0 < length freed) }
-        ensures rest { IfSome result
-            (λ _. cut fileid.0 size self.new ≡ cut fileid.0 size self.old) }
-        ensures none { IfNone result (numbers_freed fileid.0 size self.old ≡ []) }
-        ensures done { IfNone result (self.new ≡ cut fileid.0 size self.old) }
+    /// Cuts a file to a size in steps, to be called until it answers `false`. Each step before
+    /// that frees the blocks of a span that lie wholly past the size, and leaves their numbers in
+    /// `freed`, in place of what was there; the last sets the rest of the block in which the size
+    /// lies to zero. It needs no memory; that of the blocks is given back as is asked.
+    pub fn cut(
+        &mut self,
+        fileid: Fileid,
+        size: u64,
+        memory: GiveBack,
+        freed: &mut FreedBlocks,
+    ) -> bool
+        ensures freed { IsTrue result → numbers_freed fileid.0 size self.old
+            ≡ freed.new ++ numbers_freed fileid.0 size self.new }
+        ensures some { IsTrue result → 0 < length freed.new }
+        ensures rest { IsTrue result
+            → cut fileid.0 size self.new ≡ cut fileid.0 size self.old }
+        ensures none { result ≡ false → numbers_freed fileid.0 size self.old ≡ [] }
+        ensures done { result ≡ false → self.new ≡ cut fileid.0 size self.old }
     {
-        self.blocks.cut(fileid.0, size, later)
+        self.blocks.cut(fileid.0, size, memory, freed)
     }
 
     /// Gives back the memory of so many blocks at least that cuts left for later, or of all that

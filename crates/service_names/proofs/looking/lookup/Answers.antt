@@ -44,7 +44,8 @@ returns-in-None c =
     let as_directory = c.in_ok-inode.ensures.told (told_in v fileid name set) in
     record {
       right = looks-up v fileid name set (Err NoEntry)
-          (sym (no-entry v fileid name set (inode_value c.in_ok-inode.inode) c.in_ok-inode.parent.0 as_directory (sym c.in_default.ensures) (sym c.in-None.ensures)));
+          (sym (no-entry v fileid name set (inode_value c.in_ok-inode.inode) c.in_ok-inode.parent.0 as_directory (sym c.in_default.ensures)
+          (sym c.in-None.ensures)));
     }
 
 pub returns-in-None-get : goal.returns-in-None-get

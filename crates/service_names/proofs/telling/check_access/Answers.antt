@@ -6,7 +6,11 @@ use Rattle.service_names.proofs.telling.check_access.Goals as goal
 pub returns-in-Ok : goal.returns-in-Ok
 returns-in-Ok c =
     let set = logical_before c.args.held.now in
-    record { right = access-of c.args.volume.0 c.args.fileid.0 set c.in-Ok.object c.in-Ok.ensures.object c.args.asked c.access_given-given.result (credential_of c.args.who) c.access_given-given.ensures }
+    record {
+      right =
+          access-of c.args.volume.0 c.args.fileid.0 set c.in-Ok.object c.in-Ok.ensures.object c.args.asked c.access_given-given.result
+          (credential_of c.args.who) c.access_given-given.ensures;
+    }
 
 pub returns-in-Err : goal.returns-in-Err
 returns-in-Err c =

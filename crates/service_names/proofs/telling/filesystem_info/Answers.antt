@@ -7,7 +7,11 @@ use Rattle.service_names.proofs.telling.filesystem_info.Goals as goal
 pub returns-in-Ok : goal.returns-in-Ok
 returns-in-Ok c =
     let set = logical_before c.args.held.now in
-    record { right = info-of c.args.volume.0 c.args.fileid.0 set c.in-Ok.root c.in-Ok.ensures.object c.get.result.now.largest (ap (λ (l : LogicalValue). l.largest) c.get.ensures) }
+    record {
+      right =
+          info-of c.args.volume.0 c.args.fileid.0 set c.in-Ok.root c.in-Ok.ensures.object c.get.result.now.largest
+          (ap (λ (l : LogicalValue). l.largest) c.get.ensures);
+    }
 
 pub returns-in-Err : goal.returns-in-Err
 returns-in-Err c =

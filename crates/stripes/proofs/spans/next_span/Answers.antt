@@ -18,8 +18,8 @@ returns-then-key-fileid-clause-first c = λ t from below.
 pub returns-else-key-fileid-clause-none : goal.returns-else-key-fileid-clause-none
 returns-else-key-fileid-clause-none c = λ t from.
     none-of-file (span_at c.args.spans.now.entries (c.args.fileid, t)) c.in-Some.key.now c.args.fileid c.args.from t
-    (subst (λ r. IfSome (slice_get r 0) (IsEntryInRange file_block_cmp (Included (c.args.fileid, c.args.from)) Unbounded c.args.spans.now)) c.in-Some.ensures.steps
-    (c.range.ensures.in_range tt).1).0.0
+    (subst (λ r. IfSome (slice_get r 0) (IsEntryInRange file_block_cmp (Included (c.args.fileid, c.args.from)) Unbounded c.args.spans.now))
+    c.in-Some.ensures.steps (c.range.ensures.in_range tt).1).0.0
     (λ some. subst (λ r. IfSome (slice_get r 0) (λ e. is_gt (file_block_cmp e.0 (c.args.fileid, t)) ≡ false)) c.in-Some.ensures.steps
     ((c.range.ensures.in_range tt).2 (c.args.fileid, t) (upto-span c.args.fileid c.args.from t from, tt) some))
     c.if-key-fileid.false

@@ -1,14 +1,14 @@
 use Rattle.std.proofs.Common.{◌≡◌, ◌-◌, ◌++◌, ◌∙◌, ap, sym, subst, length, length-set, arith}
 use Rattle.nfs_model.specs.volume.Stripes.{span_blocks}
-use Rattle.stripes.specs.Spans.{Places, place_of, numbers_at, numbers_from, IsFirst, IsTakenUpTo, IsTakenFrom}
-use Rattle.stripes.proofs.Rests.{first-some, joined-more, joined-last, few-more, taken-none, taken-all, taken-found, taken-more}
+use Rattle.stripes.specs.Spans.{Places, place_of, numbers_at, numbers_from, IsTakenUpTo, IsTakenFrom}
+use Rattle.stripes.proofs.Rests.{some-from, joined-more, joined-last, few-more, taken-none, taken-all, taken-found, taken-more}
 use Rattle.stripes.proofs.span.Span.take_rest.Goals as goal
 
 pub loop-i-init : goal.loop-i-init
 loop-i-init c =
-    let none = ap length c.new-freed.ensures in
+    let none = ap length c.clear.ensures in
     record {
-      joined = ap (λ ns. ns ++ numbers_at (place_of c.self.inside.places.value) c.args.from (span_blocks - c.args.from)) c.new-freed.ensures;
+      joined = ap (λ ns. ns ++ numbers_at (place_of c.self.inside.places.value) c.args.from (span_blocks - c.args.from)) c.clear.ensures;
       taken = taken-none c.args.from c.self.inside.places.value;
       few = omega (arith, none);
       long = c.self.invariant;
@@ -34,17 +34,16 @@ loop-i-preserved c =
     }
 
 pub returns-clause-some : goal.returns-clause-some
-returns-clause-some c =
-    first-some c.args.from c.in_ok-first_block.field-0 c.self.inside.places.value c.loop-i.freed
-    (subst (λ (ps : Places). IsFirst c.args.from c.in_ok-first_block.field-0 ps) c.deref.ensures c.in_ok-first_block.ensures.first)
+returns-clause-some c = λ _.
+    some-from c.args.from c.first_block.result _ c.self.inside.places.value c.loop-i.freed c.if-is_none.ensures c.first_block.ensures.first c.deref.ensures
     (joined-last (place_of c.self.inside.places.value) c.loop-i.freed _ c.loop-i.i (omega arith) c.loop-i.invariant.joined)
 
 pub returns-clause-told : goal.returns-clause-told
-returns-clause-told c =
+returns-clause-told c = λ _.
     joined-last (place_of c.self.inside.places.value) c.loop-i.freed _ c.loop-i.i (omega arith) c.loop-i.invariant.joined
     ∙ ap (numbers_from c.args.from) c.self.view_is
 
 pub returns-clause-taken : goal.returns-clause-taken
-returns-clause-taken c =
+returns-clause-taken c = λ _.
     subst (λ (ps : Places). IsTakenFrom c.args.from ps c.loop-i.self-inside.places.value) c.self.view_is
     (taken-all c.args.from c.loop-i.i c.self.inside.places.value c.loop-i.self-inside.places.value (omega arith) c.loop-i.invariant.taken)

@@ -1,15 +1,15 @@
-use Rattle.std.proofs.Common.{◌≡◌, ◌%◌, ◌-◌, ◌++◌, ◌∙◌, ap, sym, length, arith}
+use Rattle.std.proofs.Common.{◌≡◌, ◌%◌, ◌-◌, ◌++◌, ◌∙◌, ap, length, arith}
 use Rattle.nfs_model.specs.volume.Stripes.{span_blocks}
 use Rattle.stripes.specs.Spans.{place_of, numbers_at, numbers_from}
 use Rattle.stripes.proofs.Places.{at-place}
 use Rattle.stripes.proofs.Rests.{joined-more, joined-last, few-more}
-use Rattle.stripes.proofs.span.Span.numbers.Goals as goal
+use Rattle.stripes.proofs.span.Span.tell_numbers.Goals as goal
 
 pub loop-i-init : goal.loop-i-init
 loop-i-init c =
-    let none = ap length c.new-freed.ensures in
+    let none = ap length c.clear.ensures in
     record {
-      joined = ap (λ ns. ns ++ numbers_at (place_of c.self.inside.places.value) 0 (span_blocks - 0)) c.new-freed.ensures;
+      joined = ap (λ ns. ns ++ numbers_at (place_of c.self.inside.places.value) 0 (span_blocks - 0)) c.clear.ensures;
       few = omega (arith, none);
     }
 

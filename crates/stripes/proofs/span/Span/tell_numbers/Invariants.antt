@@ -1,7 +1,7 @@
 use Rattle.std.proofs.Common.{◌≡◌, ◌-◌, ◌≤◌, ◌++◌, length}
 use Rattle.nfs_model.specs.volume.Stripes.{span_blocks}
 use Rattle.stripes.specs.Spans.{place_of, numbers_at, numbers_from}
-use Rattle.stripes.proofs.span.Span.numbers.Given as goal
+use Rattle.stripes.proofs.span.Span.tell_numbers.Given as goal
 
 abbrev pub invariant-loop-i : goal.invariant-loop-i
 invariant-loop-i l = record {
