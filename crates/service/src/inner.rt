@@ -30,7 +30,8 @@ pub enum InnerOutcome {
     Done(JobReply),
     /// The range that it would fetch from isn't in use.
     Refused,
-    /// Memory ran out, so that it changed nothing: the hand is as it was.
+    /// Memory ran out, or the stock has no room for more, so that it changed nothing: the hand is
+    /// as it was.
     NoMemory(BatchInHand),
 }
 
