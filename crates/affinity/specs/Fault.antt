@@ -25,7 +25,7 @@ is_spare n = nat_le n 128
 abbrev pub is_striped : VolumeLayout → Bool
 is_striped v = (v.stripes == 8) || (v.stripes == 16)
 
--- with files of at most 16 or 64 mebibytes
+-- the largest files have 16 or 64 mebibytes
 abbrev pub is_limited : VolumeLayout → Bool
 is_limited v = (v.mebibytes == 16) || (v.mebibytes == 64)
 
@@ -37,11 +37,11 @@ range_sizes = map (λ k. 1024 * 2 ^ k) (range_with_len 0 15)
 abbrev pub has_lawful_ranges : VolumeLayout → Bool
 has_lawful_ranges v = list_any (λ n. n == v.range_blocks) range_sizes
 
--- with files of at most 16 to 1,048,576 mebibytes
+-- the largest files have 16 to 1,048,576 mebibytes
 abbrev pub has_lawful_files : VolumeLayout → Bool
 has_lawful_files v = is_within 16 1048576 v.mebibytes
 
--- with at most 65,536 to 67,108,864 inodes
+-- it has 65,536 to 67,108,864 inodes at most
 abbrev pub has_lawful_inodes : VolumeLayout → Bool
 has_lawful_inodes v = is_within 65536 inodes_of_a_volume v.inodes
 
@@ -57,8 +57,8 @@ tree_fault layout =
     else if not (list_all is_striped layout.volumes) then Some 56
     else None
 
--- The first rule on sizes that volumes break: each with ranges of 1,024 blocks times a power of two, with files of at most 16 to 1,048,576
--- mebibytes, and with at most 65,536 to 67,108,864 inodes.
+-- The first rule on sizes that volumes break: of each the ranges have 1,024 blocks times a power of two, at most 16,777,216, the largest files
+-- 16 to 1,048,576 mebibytes, and it has 65,536 to 67,108,864 inodes at most.
 abbrev pub sizes_fault : List VolumeLayout → Option ℕ
 sizes_fault volumes =
     if not (list_all has_lawful_ranges volumes) then Some 58
@@ -75,7 +75,7 @@ first_broken (Some number) further = Some number
 abbrev pub fault_of : Layout → Option ℕ
 fault_of layout = first_broken (tree_fault layout) (sizes_fault layout.volumes)
 
--- The first rule that a layout breaks whose volumes' sizes aren't given: those of the tree, and each volume with files of at most 16 or 64
+-- The first rule that a layout breaks whose volumes' sizes aren't given: those of the tree, and the largest files of each volume have 16 or 64
 -- mebibytes.
 abbrev pub fault_without_sizes : Layout → Option ℕ
 fault_without_sizes layout =

@@ -10,6 +10,7 @@ mod calls;
 mod claiming;
 mod closed;
 mod depot;
+mod entered;
 mod grants;
 mod hold;
 mod homing;
@@ -25,5 +26,6 @@ mod table;
 pub mod trial;
 
 pub use depot::Depot;
+pub use entered::Entered;
 pub use grants::{Grant, Refusal};
 pub use seats::{Seat, TooManySeats};

@@ -141,11 +141,19 @@ fn finish_small<M: Machine, K: NodeKinds<M::Parcel>>(
         (entry_of L l.affinity l.parcels call.now reply.now) (view seat.new) }
 {
     match grant {
-        SmallGrant::Range(node) => finish_node::<M, K::Range>(depot, seat, node, call, reply),
-        SmallGrant::Vbn(node) => finish_node::<M, K::Vbn>(depot, seat, node, call, reply),
-        SmallGrant::Stripe(node) => finish_node::<M, K::Stripe>(depot, seat, node, call, reply),
-        SmallGrant::Logical(node) => finish_node::<M, K::Logical>(depot, seat, node, call, reply),
-        SmallGrant::Volume(node) => finish_node::<M, K::Volume>(depot, seat, node, call, reply),
+        SmallGrant::Range(node) => finish_node::<M, K::Range, M::Call>(
+            depot, seat, node, call, reply,
+        ),
+        SmallGrant::Vbn(node) => finish_node::<M, K::Vbn, M::Call>(depot, seat, node, call, reply),
+        SmallGrant::Stripe(node) => finish_node::<M, K::Stripe, M::Call>(
+            depot, seat, node, call, reply,
+        ),
+        SmallGrant::Logical(node) => finish_node::<M, K::Logical, M::Call>(
+            depot, seat, node, call, reply,
+        ),
+        SmallGrant::Volume(node) => finish_node::<M, K::Volume, M::Call>(
+            depot, seat, node, call, reply,
+        ),
     }
 }
 
@@ -170,9 +178,11 @@ fn finish_large<M: Machine, K: NodeKinds<M::Parcel>>(
 {
     match grant {
         LargeGrant::Aggregate(node) => {
-            finish_node::<M, K::Aggregate>(depot, seat, node, call, reply)
+            finish_node::<M, K::Aggregate, M::Call>(depot, seat, node, call, reply)
         }
-        LargeGrant::Serial(node) => finish_node::<M, K::Serial>(depot, seat, node, call, reply),
+        LargeGrant::Serial(node) => finish_node::<M, K::Serial, M::Call>(
+            depot, seat, node, call, reply,
+        ),
     }
 }
 

@@ -11,7 +11,7 @@ ghost use Rattle.desk.specs.Any.{node_lent};
 
 use crate::grant::NodeGrant;
 use affinity::Affinity;
-use depot::{Depot, Refusal, Seat};
+use depot::{Depot, Entered, Refusal, Seat};
 use depot_rule::machine::Machine;
 use parcels::Node;
 
@@ -38,22 +38,22 @@ pub fn begin_node<M: Machine, N: Node<M::Parcel>>(
 
 /// Ends a call on a node of one kind by an entry.
 #[inline(never)]
-pub fn finish_node<M: Machine, N: Node<M::Parcel>>(
+pub fn finish_node<M: Machine, N: Node<M::Parcel>, C: Entered<M::Call>>(
     depot: &Depot<M>,
     seat: &mut Seat<M>,
     node: NodeGrant<M::Parcel, N>,
-    call: &M::Call,
+    call: &C,
     reply: &M::Reply,
 )
     requires seat { IsSeatHere depot.now seat.old }
     requires can { let L = layout_in depot.now in
         CanFinish M.Parcel.kind (machine_of seat.old) L (view seat.old) (node_lent L node)
-        call.now reply.now }
+        (C.entered call.now) reply.now }
     ensures seat { IsSeatHere depot.now seat.new }
     ensures splits { splits_left seat.new ≡ splits_left seat.old }
     ensures finished { let L = layout_in depot.now in let l = node_lent L node in
         IsFinished (machine_of seat.old) (view seat.old) (number_of L l.affinity)
-        (entry_of L l.affinity l.parcels call.now reply.now) (view seat.new) }
+        (entry_of L l.affinity l.parcels (C.entered call.now) reply.now) (view seat.new) }
 {
     depot.finish(seat, node.grant, call, reply);
 }
@@ -61,22 +61,22 @@ pub fn finish_node<M: Machine, N: Node<M::Parcel>>(
 /// Ends a call on a node of one kind by an entry, and begins one on the same node, which has its
 /// parcels. Where the ticket is worn, or this entry would wear it, the call is as it was.
 #[inline(never)]
-pub fn go_on_node<M: Machine, N: Node<M::Parcel>>(
+pub fn go_on_node<M: Machine, N: Node<M::Parcel>, C: Entered<M::Call>>(
     depot: &Depot<M>,
     seat: &mut Seat<M>,
     node: &NodeGrant<M::Parcel, N>,
-    call: &M::Call,
+    call: &C,
     reply: &M::Reply,
 ) -> Result<(), Refusal>
     requires seat { IsSeatHere depot.now seat.old }
     requires can { let L = layout_in depot.now in
         CanFinish M.Parcel.kind (machine_of seat.old) L (view seat.old) (node_lent L node.now)
-        call.now reply.now }
+        (C.entered call.now) reply.now }
     ensures seat { IsSeatHere depot.now seat.new }
     ensures splits { splits_left seat.new ≡ splits_left seat.old }
     ensures gone_on { let L = layout_in depot.now in OnOk result
         (HasGoneOn M.Parcel.kind (machine_of seat.old) L (view seat.old) (node_lent L node.now)
-        call.now reply.now (view seat.new)) }
+        (C.entered call.now) reply.now (view seat.new)) }
     ensures refused { IfErr result (λ refusal.
         (refusal ≡ Worn) × IsLast (view seat.old) (view seat.new)) }
 {

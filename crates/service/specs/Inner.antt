@@ -18,7 +18,7 @@ IsHandFor size (Cull v) hand = hand ≡ Empty
 IsHandFor size (Free v r) hand = (blocks : List ℕ) × (hand ≡ Dead v blocks) × (0 < length blocks) × IsBatch size r blocks
 IsHandFor size (Survey v) hand = hand ≡ Empty
 
--- memory may run out where the stock grows, and for what a survey tells
+-- memory may run out where the stock grows, which may also have no room for more, and for what a survey tells
 abbrev pub MayLackMemory : InnerCall → Type 0
 MayLackMemory (Deliver v) = Unit {0}
 MayLackMemory (Survey v) = Unit {0}
@@ -30,8 +30,8 @@ abbrev pub AsksForInner : {P : Type 0} → InnerCall → Hand → Layout → Aff
 AsksForInner call hand layout node f =
     (node ≡ inner_node call) × IsHandFor (range_blocks_of layout (inner_volume call)) call hand × HasSizedFiler layout node (batches_in hand) f
 
--- What its run under the node comes to: an entry that gives all that was in the hand; or it is refused; or there is no memory,
--- the hand is given back, and no parcel has changed.
+-- What its run under the node comes to: an entry that gives all that was in the hand; or it is refused; or there is no memory, or no room
+-- in the stock, the hand is given back, and no parcel has changed.
 abbrev pub InnerHasRun : {P : Type 0} → InnerCall → Hand → Layout → Affinity → (ℕ → Option (FilerParcel P)) → InnerOutcome
     → (ℕ → Option (FilerParcel P)) → Type 0
 InnerHasRun call hand layout node f (Done reply) f' =

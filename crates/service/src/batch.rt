@@ -10,8 +10,6 @@ use vbn_ranges::Batch;
 #[derive(Drop)]
 pub struct BatchInHand {
     hand: Hand<Batch>,
-    /// Whether the stock that was looked at last had enough numbers, as far as is known.
-    has_enough: bool,
 }
 
 impl Model for BatchInHand {
@@ -34,27 +32,7 @@ impl BatchInHand {
     pub fn new(hand: Hand<Batch>) -> BatchInHand
         ensures { result ≡ hand_of hand }
     {
-        BatchInHand {
-            hand,
-            has_enough: false,
-        }
-    }
-
-    /// The same hand of who saw a stock that has enough numbers, or hasn't.
-    pub fn seen(self, has_enough: bool) -> BatchInHand
-        ensures { result ≡ self }
-    {
-        let BatchInHand {
-            hand,
-            has_enough: _,
-        } = self;
-        BatchInHand { hand, has_enough }
-    }
-
-    /// Whether the stock that was looked at last had enough numbers, as far as is known. It is said
-    /// of no volume: who fetches looks at the stock of the same volume before (`next_tend`).
-    pub fn has_enough(&self) -> bool {
-        self.has_enough
+        BatchInHand { hand }
     }
 
     /// The hand.
@@ -79,10 +57,7 @@ impl BatchInHand {
     pub fn into_hand(self) -> Hand<Batch>
         ensures { hand_of result ≡ self }
     {
-        let BatchInHand {
-            hand,
-            has_enough: _,
-        } = self;
+        let BatchInHand { hand } = self;
         hand
     }
 }

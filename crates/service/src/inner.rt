@@ -19,7 +19,7 @@ use nfs_values::VolumeNumber;
 use parcels::{
     AggrHeld, Hand, LogicalHeld, Parcel, RangeHeld, SerialHeld, StripeHeld, VbnHeld, VolumeHeld,
 };
-use service_batches::{cull, deliver, fetch, free, has_enough, survey};
+use service_batches::{cull, deliver, fetch, free, survey};
 use std::alloc::Global;
 use vbn_ranges::Batch;
 
@@ -30,7 +30,8 @@ pub enum InnerOutcome {
     Done(JobReply),
     /// The range that it would fetch from isn't in use.
     Refused,
-    /// Memory ran out, so that it changed nothing: the hand is as it was.
+    /// Memory ran out, or the stock has no room for more, so that it changed nothing: the hand is
+    /// as it was.
     NoMemory(BatchInHand),
 }
 
@@ -128,11 +129,9 @@ fn free_from(hand: BatchInHand, held: &mut RangeHeld<Files>) -> InnerOutcome
         → HasRunOn v (range_lens r) (jobs.Free v r) hand held.old.own result held.new.own }
     ensures unless { UnlessDone result (held.new ≡ held.old) }
 {
-    let has_enough = hand.has_enough();
     let (volume, batch) = dead_batch(hand);
     free(held, &batch);
-    let given = BatchInHand::new(Hand::Dead { volume, batch });
-    InnerOutcome::Done(JobReply::Gave(given.seen(has_enough)))
+    InnerOutcome::Done(JobReply::Gave(BatchInHand::new(Hand::Dead { volume, batch })))
 }
 
 /// Tells how many blocks are free, with an empty hand.
@@ -159,8 +158,7 @@ fn deliver_from(hand: BatchInHand, held: &mut LogicalHeld<Files>) -> InnerOutcom
 {
     let (volume, batch) = fresh_batch(hand);
     let delivered = deliver(held, &batch);
-    let given = BatchInHand::new(Hand::Fresh { volume, batch });
-    let hand = given.seen(has_enough(held));
+    let hand = BatchInHand::new(Hand::Fresh { volume, batch });
     match delivered {
         Ok(()) => InnerOutcome::Done(JobReply::Gave(hand)),
         Err(_) => InnerOutcome::NoMemory(hand),
@@ -177,8 +175,7 @@ fn cull_into(hand: BatchInHand, volume: VolumeNumber, held: &mut LogicalHeld<Fil
 {
     drop(hand);
     let batch = cull(held);
-    let taken = dead_hand(volume, batch);
-    InnerOutcome::Done(JobReply::Took(taken.seen(has_enough(held))))
+    InnerOutcome::Done(JobReply::Took(dead_hand(volume, batch)))
 }
 
 /// A hand with free blocks of a volume; without a block it is empty.

@@ -1,7 +1,8 @@
 //! The machine.
 
 use crate::batch::BatchInHand;
-use crate::job::{Job, JobReply};
+use crate::job::{InnerCall, Job, JobReply, ServedCall};
+use depot::Entered;
 use depot_rule::machine::Machine;
 use filer_state::Files;
 use parcels::Parcel;
@@ -33,4 +34,16 @@ impl Machine for Service {
     ghost local = { jobs-local };
 
     ghost keeps = { jobs-keep };
+}
+
+impl Entered<Job> for ServedCall {
+    ghost use Rattle.service.specs.declared.job.Job.TheVariants.{Serve};
+
+    ghost entered = { λ call. Serve call };
+}
+
+impl Entered<Job> for InnerCall {
+    ghost use Rattle.service.specs.declared.job.Job.TheVariants.{Inner};
+
+    ghost entered = { λ call. Inner call };
 }

@@ -13,10 +13,6 @@ use Rattle.filer_state.specs.state.Running.{InnerRunsOn}
 abbrev pub most_stocked : ℕ
 most_stocked = 2097152
 
--- so many are enough: a worker that was told so fetches none for it
-abbrev pub enough_stocked : ℕ
-enough_stocked = 1048576
-
 -- what a fetch comes to: its blocks come into the hand, or it is refused
 abbrev pub fetch_told : ℕ → Option (List ℕ) → Option JobReply
 fetch_told v None = None

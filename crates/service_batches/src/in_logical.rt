@@ -1,12 +1,11 @@
 //! Batches for the stock, and of the dead.
 
-ghost use Rattle.std.specs.Prelude.{◌≡◌, ◌<◌, ◌≤◌, length, nat_le, OnOk, OnErr};
+ghost use Rattle.std.specs.Prelude.{◌≡◌, ◌<◌, ◌≤◌, length, OnOk, OnErr};
 ghost use Rattle.std.specs.FinSet.{len};
 ghost use Rattle.nfs_model.specs.Parts.{range_of, IsBatch};
 ghost use Rattle.parcels.specs.Filled.{logical_alike};
 ghost use Rattle.filer_state.specs.state.Sets.{logical_before, logical_after};
-ghost use Rattle.service_batches.specs.Batches.{CullsHere, DeliversHere, MayDeliver};
-ghost use Rattle.service_batches.specs.Batches.{enough_stocked, most_stocked};
+ghost use Rattle.service_batches.specs.Batches.{CullsHere, DeliversHere, MayDeliver, most_stocked};
 
 use filer_state::{Files, give_back};
 use parcels::LogicalHeld;
@@ -15,9 +14,6 @@ use vbn_ranges::Batch;
 
 /// The most numbers of a stock: none is delivered that would make it more.
 const MOST_STOCKED: usize = 2_097_152;
-
-/// So many numbers of a stock are enough: 4 GiB of blocks.
-const ENOUGH_STOCKED: usize = 1_048_576;
 
 /// Deliver (our profile), on the parcels under Volume Logical: fresh blocks that were in a hand
 /// come into the stock. Where there is no memory for them, or no room in a stock of 2,097,152
@@ -41,13 +37,6 @@ pub fn deliver(held: &mut LogicalHeld<Files>, batch: &Batch) -> Result<(), Alloc
         return Err(AllocError);
     }
     held.own.get_mut().stock.put(batch)
-}
-
-/// Whether the stock has enough numbers, so that none is to be fetched for it.
-pub fn has_enough(held: &LogicalHeld<Files>) -> bool
-    ensures { result ≡ nat_le enough_stocked (len (logical_before held.now).own.stock) }
-{
-    held.own.get().stock.len() >= ENOUGH_STOCKED
 }
 
 /// Cull (our profile), on the parcels under Volume Logical: the 64 lowest dead blocks of the range

@@ -7,5 +7,5 @@ mod in_logical;
 mod in_range;
 
 pub use counting::survey;
-pub use in_logical::{cull, deliver, has_enough};
+pub use in_logical::{cull, deliver};
 pub use in_range::{fetch, free};

@@ -33,7 +33,7 @@ use Rattle.turns.specs.Messages.{IsPlaced, readdressed, Message}
 use Rattle.turns.specs.Chains.{DidAll, IsAhead, HasTurnedOn, IsPicked, IsLeft, HasServedOn, HasTriedAll, left_standing}
 use Rattle.turns.specs.Chains.{chained_by, each_done}
 use Rattle.turns.specs.Links.{chained_so, kept_of, CanEnd, HasChained, HasEnded, HasGoneSo, HasLinked, HasRunSo}
-use Rattle.turns.specs.Links.{Stands}
+use Rattle.turns.specs.Links.{job_in, Stands}
 use Rattle.turns.specs.Runs.{FilerLent}
 use Rattle.turns.specs.Turns.{HasNext, WaitsAgain, HasPut, HasMoved, HasReturnedFrom, Standing, HasDoneFrom, filer_behaviour}
 use Rattle.turns.specs.Words.{IsReady}
@@ -216,7 +216,7 @@ module _ {S : Type 0} (took : S → List Addressed → S → Type 0)
         (may-go-back layout lawful o.message o.placed moment h.between.view o.holding o.stands.tree tree (outcomes.Moved to) l' run to refl)
     can-end (tries.Entered e next) eight begins stays fit h =
         let o = h.over in (
-          can-read layout o.holding w' l' e.job.value said o.stayed
+          can-read layout o.holding w' l' (job_in e) said o.stayed
               (may-enter layout lawful verifier h.between o.message o.placed moment o.pass o.before o.holding o.stands e said l' o.ran),
           has-room layout lawful verifier h.between o.message o.placed moment o.pass o.before o.holding o.stands e said l' o.ran eight begins stays fit,
         )
@@ -234,7 +234,7 @@ module _ {S : Type 0} (took : S → List Addressed → S → Type 0)
           let o = h.over in
           let ready = is-ready layout lawful verifier h.between o.message o.placed moment o.pass o.before o.holding o.stands e said l' o.ran
           (record u { looked = o.holding.looked }) (unread o.holding w' u (number_of layout l'.affinity)
-          (entry_of layout l'.affinity l'.parcels e.job.value said) o.stayed ended.0) in
+          (entry_of layout l'.affinity l'.parcels (job_in e) said) o.stayed ended.0) in
           record { opened = ready.opened; none_open = ready.none_open }
 
       pub end-placed : (tried : Tried) → HasChained took layout verifier s moment sink tried said pass' l' w' sink1
@@ -279,7 +279,7 @@ module _ {S : Type 0} (took : S → List Addressed → S → Type 0)
           let a = addressed e.origin.connection.0 (replies.message e.origin.xid (reply_of o.ran.reply)) in
           let u0 : FilerView = record u { looked = o.holding.looked } in
           let done = is-done layout lawful verifier h.between o.message o.placed moment o.pass o.before o.holding o.stands e said l' o.ran u0
-          (unread o.holding w' u (number_of layout l'.affinity) (entry_of layout l'.affinity l'.parcels e.job.value said) o.stayed ended.0) a refl in
+          (unread o.holding w' u (number_of layout l'.affinity) (entry_of layout l'.affinity l'.parcels (job_in e) said) o.stayed ended.0) a refl in
           let did : HasDoneFrom h.between moment a (left_standing u o.pass None) = record {
             message = done.message;
             next = done.next;

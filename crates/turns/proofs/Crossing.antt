@@ -9,8 +9,8 @@ use Rattle.parcels.proofs.family.Parcel.TheSendSync as parcel
 use Rattle.filer_state.proofs.range.RangeParcel.TheSendSync as range
 use Rattle.filer_state.proofs.stripe.StripeParcel.TheSendSync as stripe
 use Rattle.service.proofs.batch.BatchInHand.TheSendSync as batch
-use Rattle.service.proofs.job.Job.TheSendSync as job
-use Rattle.service.specs.contracts.job.Job as Job
+use Rattle.service.proofs.job.ServedCall.TheSendSync as served
+use Rattle.service.specs.contracts.job.ServedCall as ServedCall
 use Rattle.turns.proofs.shared_waiting.pass.Pass.TheSendSync as pass
 use Rattle.turns.proofs.shared_waiting.pass.SharedWaiting.TheSendSync as waiting
 use Rattle.turns.specs.contracts.envelope.Envelope as Envelope
@@ -22,11 +22,11 @@ use Rattle.turns.proofs.crossings.Structs.{struct-send}
 use Rattle.turns.proofs.crossings.Outboxes.{room-send, outboxes-send}
 use Rattle.turns.proofs.crossings.Parcels.{logical-parcel-send}
 
-job-send : IsSend Job.the_row
-job-send = search (job.the_send, sendable) depth 20
+served-send : IsSend ServedCall.the_row
+served-send = search (served.the_send, sendable) depth 20
 
 envelope-inside-send : IsSend EnvelopeInside.the_row
-envelope-inside-send = struct-send EnvelopeInside.the_type (Box-send Job.the_row job-send, (room-send, tt))
+envelope-inside-send = struct-send EnvelopeInside.the_type (Box-send ServedCall.the_row served-send, (room-send, tt))
 
 pub envelope-send : IsSend Envelope.the_row
 envelope-send = view_send EnvelopeInside.the_row _ _ _ _ envelope-inside-send

@@ -12,38 +12,34 @@ use Rattle.desk.specs.laws.Backing.{CanFinish}
 use Rattle.outboxes.specs.Boxes.{Addressed, addressed}
 use Rattle.outboxes.specs.Messages as replies
 use Rattle.outboxes.specs.Messages.{record_of}
-use Rattle.service.specs.declared.job.Job.{Job}
-use Rattle.service.specs.declared.job.Job.TheVariants.{Serve, Inner}
+use Rattle.service.specs.declared.job.Job.TheVariants.{Serve}
 use Rattle.service.specs.declared.job.JobReply.{JobReply}
 use Rattle.service.specs.declared.job.JobReply.TheVariants.{Replied}
+use Rattle.service.specs.declared.job.ServedCall.{ServedCall}
 use Rattle.rpc_msg.specs.declared.handle_form.HandleForm.{HandleForm}
 use Rattle.rpc_msg.specs.Handles.{reply_told}
 use Rattle.turns.specs.declared.entering.Entry.{Entry}
 use Rattle.turns.specs.Balance.{FilerView}
-use Rattle.turns.specs.Links.{HasRoom, IsEntryFor}
-use Rattle.turns.specs.Messages.{message_in, Message}
+use Rattle.turns.specs.Links.{job_in, HasRoom, IsEntryFor}
+use Rattle.turns.specs.Messages.{Message}
 use Rattle.turns.specs.Runs.{FilerLent}
 use Rattle.turns.specs.Turns.{filer_behaviour, job_of_message}
 
 pub one-reply : (r s : Reply) (told : JobReply) → told ≡ Replied r → told ≡ Replied s → r ≡ s
 one-reply r s told one two = let e : Replied r ≡ Replied s = sym one ∙ two in cc
 
--- the message of an entry has the room that it is given
-pub room-of : (job : Job) (room : ℕ) → (message_in job room).room ≡ room
-room-of (Serve s) room = refl
-room-of (Inner call) room = refl
-
 module _ (m : Message) (moment : Moment) (starved : Bool) (e : Entry) (is : IsEntryFor m moment starved e) where
   pub entry-can : (told : JobReply) (layout : Layout) (w : FilerView) (l : FilerLent)
       → CanFinish kind_in filer_behaviour layout w l (job_of_message m moment starved) told
-      → CanFinish kind_in filer_behaviour layout w l e.job.value told
-  entry-can told layout w l can = subst (λ (j : Job). CanFinish kind_in filer_behaviour layout w l j told) (sym is.job) can
+      → CanFinish kind_in filer_behaviour layout w l (job_in e) told
+  entry-can told layout w l can = subst (λ (s : ServedCall). CanFinish kind_in filer_behaviour layout w l (Serve s) told) (sym is.served) can
 
   pub entry-finished : (told : JobReply) (layout : Layout) (w : FilerView) (l : FilerLent) (u : FilerView)
-      → IsFinished filer_behaviour w (number_of layout l.affinity) (entry_of layout l.affinity l.parcels e.job.value told) u
+      → IsFinished filer_behaviour w (number_of layout l.affinity) (entry_of layout l.affinity l.parcels (job_in e) told) u
       → IsFinished filer_behaviour w (number_of layout l.affinity) (entry_of layout l.affinity l.parcels (job_of_message m moment starved) told) u
   entry-finished told layout w l u finished =
-      subst (λ (j : Job). IsFinished filer_behaviour w (number_of layout l.affinity) (entry_of layout l.affinity l.parcels j told) u) is.job finished
+      subst (λ (s : ServedCall). IsFinished filer_behaviour w (number_of layout l.affinity) (entry_of layout l.affinity l.parcels (Serve s) told) u)
+      is.served finished
 
   pub entry-room : (told : JobReply) (reply : Reply) → told ≡ Replied reply
       → ((form : HandleForm) → length (record_of (replies.message m.origin.xid (reply_told form (reply_of reply)))) ≤ m.room) → HasRoom e told

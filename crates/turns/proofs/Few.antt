@@ -16,7 +16,7 @@ use Rattle.turns.specs.declared.linking.Tried.{Tried}
 use Rattle.turns.specs.declared.linking.Tried.TheVariants as tries
 use Rattle.turns.specs.declared.linking.Link.TheVariants as links
 use Rattle.turns.specs.Balance.{Passed, FilerView, FilerEntry}
-use Rattle.turns.specs.Links.{HasEnded, HasLinked, HasStayed, Stands}
+use Rattle.turns.specs.Links.{job_in, HasEnded, HasLinked, HasStayed, Stands}
 use Rattle.turns.specs.Runs.{FilerLent}
 use Rattle.turns.specs.Turns.{filer_behaviour, Standing}
 
@@ -67,6 +67,6 @@ pub ended-size : {S : Type 0} (took : S → List Addressed → S → Type 0) (la
 ended-size took layout w u l kept sink sink' (tries.Moved m to) said ended =
     let same = as-many (entries_of w) (entries_of u) (ended-entries w u (number_of layout l.affinity) ended.0) in omega (arith, same)
 ended-size took layout w u l kept sink sink' (tries.Entered e next) said ended =
-    let entry : FilerEntry = entry_of layout l.affinity l.parcels e.job.value said in
+    let entry : FilerEntry = entry_of layout l.affinity l.parcels (job_in e) said in
     let one = one-more (entries_of w) (entries_of u) entry (finished-entries filer_behaviour w u (number_of layout l.affinity) entry ended.0) in
     omega (arith, one)

@@ -27,7 +27,7 @@ use Rattle.turns.specs.declared.entering.Entry.{Entry}
 use Rattle.turns.specs.Balance.{Passed, FilerView, FilerEntry}
 use Rattle.turns.specs.Messages.{IsPlaced, Message}
 use Rattle.turns.specs.Chains.{IsAhead, left_standing}
-use Rattle.turns.specs.Links.{IsEntered, IsToEnter, HasLinked, HasOnlyRead, HasRoom, HasRunSo, IsOver, Stands}
+use Rattle.turns.specs.Links.{job_in, IsEntered, IsToEnter, HasLinked, HasOnlyRead, HasRoom, HasRunSo, IsOver, Stands}
 use Rattle.turns.specs.declared.linking.Tried.{Tried}
 use Rattle.turns.specs.declared.linking.Tried.TheVariants as tries
 use Rattle.turns.specs.declared.linking.Link.TheVariants as links
@@ -84,7 +84,7 @@ module _ (layout : Layout) (lawful : fault_of layout ≡ None) (verifier : List 
     run : HasRunOn layout b.view m moment enters.outcome l' w
     run = ran-on enters.outcome l' enters.ran
 
-    pub may-enter : CanFinish kind_in filer_behaviour layout w l' e.job.value told
+    pub may-enter : CanFinish kind_in filer_behaviour layout w l' (job_in e) told
     may-enter =
         entry-can m moment enters.starved e enters.entry told layout w l'
         (can-as layout w l' (job_of_message m moment enters.starved) told (Replied enters.reply) enters.told (by enters.starved enters.is))
@@ -107,7 +107,7 @@ module _ (layout : Layout) (lawful : fault_of layout ≡ None) (verifier : List 
     -- ---- it was entered
 
     module _ (u : FilerView)
-        (finished : IsFinished filer_behaviour w (number_of layout l'.affinity) (entry_of layout l'.affinity l'.parcels e.job.value told) u) where
+        (finished : IsFinished filer_behaviour w (number_of layout l'.affinity) (entry_of layout l'.affinity l'.parcels (job_in e) told) u) where
       ends : IsFinished filer_behaviour w (number_of layout l'.affinity)
           (entry_of layout l'.affinity l'.parcels (job_of_message m moment enters.starved) (Replied enters.reply)) u
       ends =
@@ -180,7 +180,7 @@ module _ (layout : Layout) (lawful : fault_of layout ≡ None) (verifier : List 
 
     pub link-on : {S : Type 0} (took : S → List Addressed → S → Type 0) (sink sink' : S) (next : Message) (after : JobReply) → next.affinity ≡ m.affinity
         → IsAhead pass pass' (Some next) → (mid : FilerView)
-        → IsFinished filer_behaviour w (number_of layout l'.affinity) (entry_of layout l'.affinity l'.parcels e.job.value said) mid
+        → IsFinished filer_behaviour w (number_of layout l'.affinity) (entry_of layout l'.affinity l'.parcels (job_in e) said) mid
         → IsGranted kind_in filer_behaviour layout mid l'.affinity l' w'
         → ((reply : Reply) → said ≡ Replied reply
         → took sink (addressed e.origin.connection.0 (replies.message e.origin.xid (reply_of reply)) ∷ []) sink')

@@ -16,6 +16,8 @@ use Rattle.desk.specs.laws.Backing.{CanFinish, CanPutBack, IsGranted}
 use Rattle.outboxes.specs.Boxes.{Addressed, addressed}
 use Rattle.outboxes.specs.Messages as replies
 use Rattle.outboxes.specs.Messages.{record_of}
+use Rattle.service.specs.declared.job.Job.{Job}
+use Rattle.service.specs.declared.job.Job.TheVariants.{Serve}
 use Rattle.service.specs.declared.job.JobReply.TheVariants.{Replied}
 use Rattle.service.specs.declared.outcome.Outcome.{Outcome}
 use Rattle.service.specs.declared.outcome.Outcome.TheVariants as outcomes
@@ -31,14 +33,18 @@ use Rattle.turns.specs.Balance.{Passed, FilerView}
 use Rattle.turns.specs.Messages.{IsPlaced, readdressed, Message}
 use Rattle.turns.specs.Chains.{IsAhead, IsPicked, DidAll}
 use Rattle.turns.specs.Runs.{FilerLent, HasRunFrom}
-use Rattle.turns.specs.Turns.{filer_behaviour, job_of_message, Standing, HasDoneFrom}
+use Rattle.turns.specs.Turns.{filer_behaviour, served_of_message, Standing, HasDoneFrom}
 use Rattle.turns.specs.Words.{IsReady}
 
 -- ---- entries
 
+-- the call of an entry
+abbrev pub job_in : Entry → Job
+job_in e = Serve e.served.value
+
 -- the entry is of a message's call
 pub record IsEntryFor (m : Message) (moment : Moment) (starved : Bool) (e : Entry) : Type 0 where
-  pub job : e.job.value ≡ job_of_message m moment starved
+  pub served : e.served.value ≡ served_of_message m moment starved
   pub origin : e.origin ≡ m.origin
   pub room : e.room ≡ m.room
 
@@ -149,7 +155,7 @@ pub record HasGoneSo {S : Type 0} (took : S → List Addressed → S → Type 0)
 
 abbrev pub CanEnd : Layout → FilerView → FilerLent → Tried → JobReply → Type 0
 CanEnd layout w l (tries.Moved m to) told = CanPutBack layout w l
-CanEnd layout w l (tries.Entered e next) told = CanFinish kind_in filer_behaviour layout w l e.job.value told × HasRoom e told
+CanEnd layout w l (tries.Entered e next) told = CanFinish kind_in filer_behaviour layout w l (job_in e) told × HasRoom e told
 
 -- the grant was put back; or the call was finished, and its answer went into the sink
 abbrev pub HasEnded : {S : Type 0} → (S → List Addressed → S → Type 0) → Layout → FilerView → FilerLent → Tried → JobReply → S
@@ -157,6 +163,6 @@ abbrev pub HasEnded : {S : Type 0} → (S → List Addressed → S → Type 0) �
 HasEnded took layout w l (tries.Moved m to) told sink u kept sink' =
     IsEnded w (number_of layout l.affinity) u × (kept ≡ Some (readdressed to m)) × (sink' ≡ sink)
 HasEnded took layout w l (tries.Entered e next) told sink u kept sink' =
-    IsFinished filer_behaviour w (number_of layout l.affinity) (entry_of layout l.affinity l.parcels e.job.value told) u × (kept ≡ next)
+    IsFinished filer_behaviour w (number_of layout l.affinity) (entry_of layout l.affinity l.parcels (job_in e) told) u × (kept ≡ next)
     × ((reply : Reply) → told ≡ Replied reply
     → took sink (addressed e.origin.connection.0 (replies.message e.origin.xid (reply_of reply)) ∷ []) sink')

@@ -2,37 +2,20 @@
 use Rattle.std.specs.Prelude.{◌≤◌, ℕ, length}
 use Rattle.nfs_model.specs.Tree as trees
 use Rattle.nfs_values.specs.Call.{call_of}
-use Rattle.nfs_values.specs.Credential.{no_gids}
 use Rattle.nfs_values.specs.declared.call.Call.{Call}
-use Rattle.nfs_values.specs.declared.call.Call.TheVariants as calls
-use Rattle.nfs_values.specs.declared.credential.Credential.{Credential}
 use Rattle.affinity.specs.declared.affinity.Affinity.{Affinity}
-use Rattle.affinity.specs.declared.affinity.Affinity.TheVariants as affinities
 use Rattle.affinity.specs.declared.layout.Layout.{Layout}
 use Rattle.affinity.specs.Affinity.{affinity_of}
 use Rattle.affinity.specs.Layout.{layout_of}
 use Rattle.affinity.specs.Tree.{IsNode}
 use Rattle.rpc_msg.specs.Room.{reply_room}
 use Rattle.service.specs.Running.{IsRunAt}
-use Rattle.service.specs.declared.job.Job.{Job}
-use Rattle.service.specs.declared.job.Job.TheVariants.{Serve, Inner}
 use Rattle.service.specs.declared.job.ServedCall.{ServedCall}
 use Rattle.scheduler.specs.declared.message.Message as scheduler
 
 -- a call that waits for a worker, with the room of its reply
 abbrev pub Message : Type 0
 Message = scheduler.Message Call
-
--- ---- the entry of a call
-
--- it is of a call, and not of a worker's hand
-abbrev pub IsOfCall : Job → Type 0
-IsOfCall (Serve s) = Unit {0}
-IsOfCall (Inner call) = ⊥
-
--- a credential without a meaning
-abbrev pub no_credential : Credential
-no_credential = record { uid = 0; gid = 0; gids = no_gids }
 
 -- the message of a call, with this room for its reply
 abbrev pub message_of_call : ServedCall → ℕ → Message
@@ -41,17 +24,6 @@ message_of_call s room = record {
   call = s.call;
   credential = s.credential;
   affinity = s.affinity;
-  room = room;
-}
-
--- the message of an entry; where that is of no call, this has no meaning
-abbrev pub message_in : Job → ℕ → Message
-message_in (Serve s) room = message_of_call s room
-message_in (Inner call) room = record {
-  origin = record { connection = record { 0 = 0 }; number = 0; xid = 0 };
-  call = calls.Null;
-  credential = no_credential;
-  affinity = affinities.Serial;
   room = room;
 }
 

@@ -26,6 +26,7 @@ use Rattle.service.specs.Jobs.{job_steps, job_takes, job_gives, job_reply_of}
 use Rattle.service.specs.declared.job.Job.{Job}
 use Rattle.service.specs.declared.job.Job.TheVariants.{Serve}
 use Rattle.service.specs.declared.job.JobReply.{JobReply}
+use Rattle.service.specs.declared.job.ServedCall.{ServedCall}
 use Rattle.turns.specs.shared_waiting.Balance.{Leaves}
 use Rattle.turns.specs.declared.turned.Turn.{Turn}
 use Rattle.turns.specs.declared.turned.Turn.TheVariants as turns
@@ -67,9 +68,9 @@ HasPut before (Some m) after kept = WaitsAgain before after kept m
 
 -- ---- calls on the depot
 
--- the entry of a message's call, under what the message tried, which ran at a moment
-abbrev pub job_of_message : Message → Moment → Bool → Job
-job_of_message m moment starved = Serve (record {
+-- a message's call as it is finished, under what the message tried, which ran at a moment
+abbrev pub served_of_message : Message → Moment → Bool → ServedCall
+served_of_message m moment starved = record {
   connection = m.origin.connection;
   number = m.origin.number;
   xid = m.origin.xid;
@@ -78,7 +79,11 @@ job_of_message m moment starved = Serve (record {
   affinity = m.affinity;
   moment = moment;
   starved = starved;
-})
+}
+
+-- the entry of it
+abbrev pub job_of_message : Message → Moment → Bool → Job
+job_of_message m moment starved = Serve (served_of_message m moment starved)
 
 -- the entry is of the message's call, and the answer is its reply, under the xid of the message and to its connection
 pub record IsEntryOf (m : Message) (moment : Moment) (a : Addressed) (e : FilerEntry) : Type 0 where

@@ -75,7 +75,8 @@ seats_in w = depots.splits_left w.seat + 1
 abbrev pub TakesFrom : SharedWaiting Message Layout → Worker → Type 0
 TakesFrom queue w = IsOf queue w.pass
 
--- It is the same, but for how it uses its queue: so are its seat, what its pass has put and picked, what is in its hand and what it keeps.
+-- It has the same seat and the same in its hand, keeps the same, and its pass has put and picked the same. How it uses its queue may differ,
+-- and of what it knows of a stock nothing is said.
 pub record IsSameWorker (before after : Worker) : Type 0 where
   pub seat : after.seat ≡ before.seat
   pub pass : passed after ≡ passed before

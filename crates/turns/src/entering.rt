@@ -7,9 +7,9 @@ ghost use Rattle.outboxes.specs.Boxes.{addressed};
 ghost use Rattle.outboxes.specs.Messages as replies;
 ghost use Rattle.service.specs.declared.job.JobReply.TheVariants.{Replied};
 ghost use Rattle.turns.specs.Links.{HasRoom, IsEntryFor};
-ghost use Rattle.turns.specs.Messages.{message_in, IsOfCall};
+ghost use Rattle.turns.specs.Messages.{message_of_call};
 ghost use Rattle.turns.specs.Telling.{answer_told};
-ghost use Rattle.turns.specs.Turns.{job_of_message};
+ghost use Rattle.turns.specs.Turns.{served_of_message};
 
 use crate::answer::Answer;
 use crate::envelope::Envelope;
@@ -18,27 +18,22 @@ use nfs_values::Moment;
 use outboxes::Room;
 use rpc_msg::{HandleForm, tell};
 use scheduler::Origin;
-use service::{Job, JobReply};
+use service::{JobReply, ServedCall};
 
 /// The call of an entry, and what its answer needs.
 pub(crate) struct Entry {
     pub(crate) origin: Origin,
-    pub(crate) job: Box<Job>,
+    pub(crate) served: Box<ServedCall>,
     pub(crate) room: Room,
 }
 
 /// When an entry's call ran, and whether memory ran out.
-fn stamp(job: &mut Job, moment: Moment, starved: bool)
-    requires { IsOfCall job.old }
-    ensures { (room : ℕ) → job.new ≡ job_of_message (message_in job.old room) moment starved }
+fn stamp(served: &mut ServedCall, moment: Moment, starved: bool)
+    ensures { (room : ℕ)
+        → served.new ≡ served_of_message (message_of_call served.old room) moment starved }
 {
-    match job {
-        Job::Serve(served) => {
-            served.moment = moment;
-            served.starved = starved;
-        }
-        Job::Inner(_call) => unreachable!(),
-    }
+    served.moment = moment;
+    served.starved = starved;
 }
 
 /// The entry of a message's call.
@@ -46,9 +41,13 @@ pub(crate) fn enter(message: Envelope, moment: Moment, starved: bool) -> Entry
     ensures { IsEntryFor message moment starved result }
 {
     let origin = message.origin();
-    let Envelope { mut job, room } = message;
-    stamp(&mut *job, moment, starved);
-    Entry { origin, job, room }
+    let Envelope { mut served, room } = message;
+    stamp(&mut *served, moment, starved);
+    Entry {
+        origin,
+        served,
+        room,
+    }
 }
 
 /// The answer of an entry, of which this was told, with its handles in a form.
@@ -58,8 +57,12 @@ pub(crate) fn answered(entry: Entry, told: &mut JobReply, handles: HandleForm) -
         → result ≡ answer_told handles (addressed entry.origin.connection.0
         (replies.message entry.origin.xid (reply_of reply))) }
 {
-    let Entry { origin, job, room } = entry;
-    let_go(job);
+    let Entry {
+        origin,
+        served,
+        room,
+    } = entry;
+    let_go(served);
     match told {
         JobReply::Replied(reply) => {
             tell(reply, handles);

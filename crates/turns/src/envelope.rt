@@ -9,7 +9,7 @@ use affinity::{Affinity, Layout};
 use nfs_values::{Call, Credential, Moment};
 use outboxes::Room;
 use scheduler::{Message, Origin};
-use service::{Job, ServedCall};
+use service::ServedCall;
 use std::alloc::{AllocError, Global};
 use std::marker::Model;
 
@@ -17,18 +17,16 @@ use std::marker::Model;
 /// that it isn't moved any more; and what travels through queues and turns is small.
 #[derive(Drop)]
 pub struct Envelope {
-    pub(crate) job: Box<Job>,
+    pub(crate) served: Box<ServedCall>,
     pub(crate) room: Room,
 }
 
 impl Model for Envelope {
-    ghost use Rattle.turns.specs.Messages.{message_in, IsOfCall, Message};
+    ghost use Rattle.turns.specs.Messages.{message_of_call, Message};
 
     ghost Value = { Message };
 
-    ghost view = { λ e. message_in e.job.value e.room };
-
-    ghost invariant = { λ e. IsOfCall e.job.value };
+    ghost view = { λ e. message_of_call e.served.value e.room };
 }
 
 impl Fitting<Layout> for Envelope {
@@ -64,7 +62,7 @@ impl Envelope {
             affinity,
             room: _,
         } = message;
-        let job = Job::Serve(ServedCall {
+        let served = ServedCall {
             connection: origin.connection,
             number: origin.number,
             xid: origin.xid,
@@ -73,9 +71,9 @@ impl Envelope {
             affinity,
             moment: Moment::START,
             starved: false,
-        });
-        match Box::new(alloc, job) {
-            Ok(job) => Ok(Envelope { job, room }),
+        };
+        match Box::new(alloc, served) {
+            Ok(served) => Ok(Envelope { served, room }),
             Err(refused) => {
                 drop(refused);
                 Err(AllocError)
@@ -87,13 +85,11 @@ impl Envelope {
     pub fn origin(&self) -> Origin
         ensures { result ≡ self.now.origin }
     {
-        match &*self.job {
-            Job::Serve(served) => Origin {
-                connection: served.connection,
-                number: served.number,
-                xid: served.xid,
-            },
-            Job::Inner(_call) => unreachable!(),
+        let served = &*self.served;
+        Origin {
+            connection: served.connection,
+            number: served.number,
+            xid: served.xid,
         }
     }
 
@@ -101,10 +97,7 @@ impl Envelope {
     pub(crate) fn affinity(&self) -> Affinity
         ensures { result ≡ self.now.affinity }
     {
-        match &*self.job {
-            Job::Serve(served) => served.affinity,
-            Job::Inner(_call) => unreachable!(),
-        }
+        self.served.affinity
     }
 
     /// Its call, and whom that acts for.
@@ -112,19 +105,14 @@ impl Envelope {
         ensures call { result.0.now ≡ self.now.call }
         ensures credential { result.1 ≡ self.now.credential }
     {
-        match &*self.job {
-            Job::Serve(served) => (&served.call, served.credential),
-            Job::Inner(_call) => unreachable!(),
-        }
+        let served = &*self.served;
+        (&served.call, served.credential)
     }
 
     /// It tries another node.
     pub(crate) fn readdress(&mut self, to: Affinity)
         ensures { self.new ≡ readdressed to self.old }
     {
-        match &mut *self.job {
-            Job::Serve(served) => served.affinity = to,
-            Job::Inner(_call) => unreachable!(),
-        }
+        self.served.affinity = to;
     }
 }

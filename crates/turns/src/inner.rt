@@ -17,7 +17,7 @@ use depot::{Refusal, Seat};
 use desk::{NodeGrant, ParcelKinds, TaskNode, begin_node, finish_node, put_back_node, work_node};
 use filer_state::Files;
 use parcels::{Hand, LogicalNode, Parcel, RangeNode, VbnNode};
-use service::{BatchInHand, InnerCall, InnerOutcome, Job, RunInner, Service};
+use service::{BatchInHand, InnerCall, InnerOutcome, RunInner, Service};
 
 /// The node under which an inner call runs.
 fn node_of(call: InnerCall) -> Affinity
@@ -136,9 +136,7 @@ fn carry_on<N: TaskNode<Parcel<Files>, ParcelKinds>>(
     };
     match outcome {
         InnerOutcome::Done(reply) => {
-            let job = Job::Inner(call);
-            finish_node::<Service, N>(&filer.depot, seat, grant, &job, &reply);
-            drop(job);
+            finish_node::<Service, N, InnerCall>(&filer.depot, seat, grant, &call, &reply);
             Carried::Done(reply, told)
         }
         InnerOutcome::Refused => {

@@ -9,7 +9,7 @@ ghost use Rattle.desk.specs.Any.{node_lent};
 ghost use Rattle.desk.specs.laws.Backing.{CanFinish, HasGoneOn};
 ghost use Rattle.turns.specs.shared_waiting.Passes.{known, IsOf};
 ghost use Rattle.turns.specs.Chains.{IsAhead};
-ghost use Rattle.turns.specs.Links.{CanEnd, HasEnded, HasLinked, HasRunSo, IsNextPlaced};
+ghost use Rattle.turns.specs.Links.{job_in, CanEnd, HasEnded, HasLinked, HasRunSo, IsNextPlaced};
 ghost use Rattle.turns.specs.Links.{Stands};
 ghost use Rattle.turns.specs.Messages.{IsPlaced};
 ghost use Rattle.turns.specs.Runs.{IsLentFor};
@@ -31,7 +31,7 @@ use filer_state::Files;
 use nfs_values::Moment;
 use parcels::{Node, Parcel};
 use rpc_msg::{HandleForm, replies_fit, servers_are_roomy};
-use service::{JobReply, Service};
+use service::{JobReply, ServedCall, Service};
 use std::sync::Wait;
 
 /// What came of a message under a grant that is still open.
@@ -105,15 +105,15 @@ fn go_on_by<N: Node<Parcel<Files>>>(
     requires seat { IsSeatHere filer.now.depot seat.old }
     requires can { let L = layout_in filer.now in
         CanFinish kind_in filer_behaviour L (view seat.old) (node_lent L grant.now)
-        entry.now.job.value told.now }
+        (job_in entry.now) told.now }
     ensures seat { IsSeatHere filer.now.depot seat.new }
     ensures splits { splits_left seat.new ≡ splits_left seat.old }
     ensures went { result ≡ true → let L = layout_in filer.now in
         HasGoneOn kind_in filer_behaviour L (view seat.old) (node_lent L grant.now)
-        entry.now.job.value told.now (view seat.new) }
+        (job_in entry.now) told.now (view seat.new) }
     ensures stayed { result ≡ false → IsLast (view seat.old) (view seat.new) }
 {
-    match go_on_node::<Service, N>(&filer.depot, seat, grant, &entry.job, told) {
+    match go_on_node::<Service, N, ServedCall>(&filer.depot, seat, grant, &entry.served, told) {
         Ok(()) => true,
         Err(_worn) => false,
     }
@@ -229,7 +229,7 @@ pub(crate) fn end_on<N: Node<Parcel<Files>>, G: Gate, S: AnswerSink>(
             Some(message)
         }
         Tried::Entered(entry, next) => {
-            finish_node::<Service, N>(&filer.depot, seat, grant, &entry.job, told);
+            finish_node::<Service, N, ServedCall>(&filer.depot, seat, grant, &entry.served, told);
             gate.finish(told);
             gate.pass(place_of(entry.origin, Stage::Ended));
             sink.take_answer(answered(entry, told, handles));

@@ -37,7 +37,7 @@ use parcels::{
     VolumeNode,
 };
 use rpc_msg::{HandleForm, replies_fit, servers_are_roomy};
-use service::{JobReply, Service};
+use service::{JobReply, ServedCall, Service};
 
 /// Ends a message's call by its entry, and answers it.
 fn answer<N: Node<Parcel<Files>>, G: Gate>(
@@ -69,7 +69,7 @@ fn answer<N: Node<Parcel<Files>>, G: Gate>(
         (replies.message message.origin.xid (reply_of reply)) }
 {
     let entry = enter(message, moment, starved);
-    finish_node::<Service, N>(&filer.depot, seat, grant, &entry.job, told);
+    finish_node::<Service, N, ServedCall>(&filer.depot, seat, grant, &entry.served, told);
     gate.finish(told);
     answered(entry, told, HandleForm::Plain)
 }

@@ -7,7 +7,7 @@ ghost use Rattle.nfs_values.specs.declared.reply.Reply.TheVariants.{Refused};
 ghost use Rattle.service.specs.declared.job.JobReply.TheVariants.{Replied};
 
 use nfs_values::{Refusal, Reply};
-use service::{Job, JobReply};
+use service::{JobReply, ServedCall};
 use std::mem;
 
 /// Whether what is told has memory of its own.
@@ -56,14 +56,10 @@ pub(crate) fn forget(told: JobReply) {
 }
 
 /// Drops the call of an entry.
-pub(crate) fn let_go(job: Box<Job>) {
-    let is_plain = match &*job {
-        Job::Serve(served) => !served.call.has_memory(),
-        Job::Inner(_) => true,
-    };
-    if is_plain {
-        mem::forget(Box::into_inner(job));
+pub(crate) fn let_go(served: Box<ServedCall>) {
+    if served.call.has_memory() {
+        drop(served);
     } else {
-        drop(job);
+        mem::forget(Box::into_inner(served));
     }
 }

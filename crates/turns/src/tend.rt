@@ -55,7 +55,7 @@ pub enum TendRefusal {
     HandEmpty,
     /// There is no such volume, or no such range of it is in use.
     NoSuchRange,
-    /// Memory ran out.
+    /// Memory ran out, or the stock has no room for more.
     NoMemory,
 }
 

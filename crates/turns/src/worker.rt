@@ -188,7 +188,8 @@ impl Worker {
     }
 
     /// This worker, and a second one with one of its seats and half of its share of the right to
-    /// know the queue. The second has done nothing, carries nothing and keeps nothing.
+    /// know the queue. The second has done nothing, carries nothing, keeps nothing and knows of no
+    /// stock; what is known of one stays with the first.
     pub fn split(self, filer: &Filer) -> (Worker, Worker)
         requires inside { IsIn filer.now self }
         requires some { 1 < seats_in self }
@@ -200,6 +201,7 @@ impl Worker {
         ensures entries { (entries_in result.0 ≡ entries_in self) × (entries_in result.1 ≡ []) }
         ensures hands { (result.0.hand ≡ self.hand) × (result.1.hand ≡ parts.Empty) }
         ensures kept { (result.0.kept ≡ self.kept) × (result.1.kept ≡ None) }
+        ensures stocked { (stocked_in result.0 ≡ stocked_in self) × (stocked_in result.1 ≡ None) }
     {
         let Worker {
             seat,
@@ -225,7 +227,8 @@ impl Worker {
     }
 
     /// This worker with one of its seats less, and a second one with that seat and a pass of a
-    /// queue of its own. The second has done nothing, carries nothing and keeps nothing.
+    /// queue of its own. The second has done nothing, carries nothing, keeps nothing and knows of no
+    /// stock; what is known of one stays with the first.
     pub fn split_with(
         self,
         filer: &Filer,
@@ -245,6 +248,7 @@ impl Worker {
         ensures entries { (entries_in result.0 ≡ entries_in self) × (entries_in result.1 ≡ []) }
         ensures hands { (result.0.hand ≡ self.hand) × (result.1.hand ≡ parts.Empty) }
         ensures kept { (result.0.kept ≡ self.kept) × (result.1.kept ≡ None) }
+        ensures stocked { (stocked_in result.0 ≡ stocked_in self) × (stocked_in result.1 ≡ None) }
     {
         let Worker {
             seat,

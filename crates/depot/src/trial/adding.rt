@@ -225,7 +225,7 @@ fn touch_again<N: Node<Parcel<Numbers>>>(
         HasWith (view seat.new) (number_in L grant.now) (parcels_in N.parcels L grant.now) }
     ensures hand { HasInHand (machine_of seat.old) (view seat.new) changes.Touch 0 }
 {
-    match depot.go_on::<N>(seat, grant, &Change::Touch, &0) {
+    match depot.go_on::<N, Change>(seat, grant, &Change::Touch, &0) {
         Ok(()) => true,
         Err(_) => false,
     }

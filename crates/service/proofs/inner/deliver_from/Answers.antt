@@ -1,4 +1,3 @@
-use Rattle.std.proofs.Common.{◌∙◌}
 use Rattle.filer_state.specs.state.Sets.{logical_before, logical_after}
 use Rattle.service.proofs.InHand.{delivered-runs, to-deliver, to-deliver-batch}
 use Rattle.service.proofs.inner.deliver_from.Goals as goal
@@ -20,9 +19,6 @@ deliver-delivered-requires-clause-batch c =
 
 pub returns-in-Ok-clause-runs : goal.returns-in-Ok-clause-runs
 returns-in-Ok-clause-runs c = λ v is.
-    delivered-runs c.args.held.now.own.dead.range_blocks v c.fresh_batch-volume.result.0 c.fresh_batch-volume.result.1 c.args.hand c.seen-hand.result
+    delivered-runs c.args.held.now.own.dead.range_blocks v c.fresh_batch-volume.result.0 c.fresh_batch-volume.result.1 c.args.hand c.new-hand.result
     (logical_before c.args.held.now) (logical_after c.args.held.now c.deliver-delivered.new.held) c.fresh_batch-volume.ensures
-    (c.seen-hand.ensures ∙ c.new-given.ensures) c.in-Ok.ensures.right is
-
-pub returns-in-Err-clause-runs : goal.returns-in-Err-clause-runs
-returns-in-Err-clause-runs c = λ v is. (tt, c.seen-hand.ensures ∙ c.new-given.ensures ∙ c.fresh_batch-volume.ensures)
+    c.new-hand.ensures c.in-Ok.ensures.right is

@@ -1,4 +1,3 @@
-use Rattle.std.proofs.Common.{◌∙◌}
 use Rattle.service.proofs.InHand.{freed-runs, to-free, to-free-batch}
 use Rattle.service.proofs.inner.free_from.Goals as goal
 
@@ -19,5 +18,5 @@ free-requires-clause-batch c =
 
 pub returns-clause-runs : goal.returns-clause-runs
 returns-clause-runs c = λ v is.
-    freed-runs c.args.held.now.own.range_blocks v c.dead_batch-volume.result.0 c.dead_batch-volume.result.1 c.args.hand c.seen.result
-    c.args.held.now.own c.free.new.held.own c.dead_batch-volume.ensures (c.seen.ensures ∙ c.new-given.ensures) c.free.ensures.right is
+    freed-runs c.args.held.now.own.range_blocks v c.dead_batch-volume.result.0 c.dead_batch-volume.result.1 c.args.hand c.new.result
+    c.args.held.now.own c.free.new.held.own c.dead_batch-volume.ensures c.new.ensures c.free.ensures.right is

@@ -5,7 +5,8 @@ use Rattle.depot.specs.Grants.{entry_of, IsFinished}
 use Rattle.depot.specs.Words.{view}
 use Rattle.desk.specs.Any.{node_lent}
 use Rattle.desk.specs.laws.Backing.{CanFinish}
-use Rattle.service.specs.declared.job.Job.{Job}
+use Rattle.service.specs.declared.job.Job.TheVariants.{Serve}
+use Rattle.service.specs.declared.job.ServedCall.{ServedCall}
 use Rattle.turns.specs.Turns.{filer_behaviour}
 use Rattle.turns.specs.Words.{layout_in}
 use Rattle.turns.proofs.Entered.{entry-answer, entry-can, entry-finished, entry-room}
@@ -16,7 +17,7 @@ finish_node-requires-clause-can g c =
     let L = layout_in c.args.filer.now in
     let l = node_lent L c.args.grant in
     let w = view c.args.seat.now in
-    subst (λ (j : Job). CanFinish kind_in filer_behaviour L w l j c.args.told.now) (sym c.deref.ensures)
+    subst (λ (s : ServedCall). CanFinish kind_in filer_behaviour L w l (Serve s) c.args.told.now) (sym c.deref.ensures)
     (entry-can c.args.message c.args.moment c.args.starved c.enter-entry.result c.enter-entry.ensures c.args.told.now L w l c.requires.can)
 
 pub answered-requires : goal.answered-requires
@@ -31,8 +32,8 @@ returns-clause-finished g c =
     let w = view c.args.seat.now in
     let u = view c.finish_node.new.seat in
     entry-finished c.args.message c.args.moment c.args.starved c.enter-entry.result c.enter-entry.ensures c.args.told.now L w l u
-    (subst (λ (j : Job). IsFinished filer_behaviour w (number_of L l.affinity) (entry_of L l.affinity l.parcels j c.args.told.now) u) c.deref.ensures
-    c.finish_node.ensures.finished)
+    (subst (λ (s : ServedCall). IsFinished filer_behaviour w (number_of L l.affinity) (entry_of L l.affinity l.parcels (Serve s) c.args.told.now) u)
+    c.deref.ensures c.finish_node.ensures.finished)
 
 pub returns-clause-answer : goal.returns-clause-answer
 returns-clause-answer g c reply is =
