@@ -140,14 +140,15 @@ impl Layout {
             return Affinity::Aggregate((number - 2) as u32);
         }
         let mut place = number - first;
-        for volume in 0..self.volume_count() as u32 {
+        let last = self.volume_count() as u32 - 1;
+        for volume in 0..last {
             let nodes = self.volume_nodes(volume);
             if place < nodes {
                 return self.node_in_volume(volume, place);
             }
             place -= nodes;
         }
-        unreachable!()
+        self.node_in_volume(last, place)
     }
 
     /// The number of a node's parent; 0 for the root, which has none.

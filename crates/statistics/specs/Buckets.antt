@@ -1,5 +1,5 @@
 -- Buckets of times, in microseconds.
-use Rattle.std.specs.Prelude.{◌≡◌, ℕ, ◌+◌, ◌-◌, ◌*◌, ◌/◌, ◌%◌, ◌^◌, ◌<◌, ◌≤◌, nat_lt, if◌then◌else◌, List, length, slice_index, slice_set, min, sum, take}
+use Rattle.std.specs.Prelude.{◌≡◌, ℕ, ◌+◌, ◌-◌, ◌*◌, ◌/◌, ◌%◌, ◌^◌, ◌<◌, ◌≤◌, nat_lt, if◌then◌else◌, List, slice_index, slice_set, min, sum, take}
 use Rattle.statistics.specs.Wrapping.{wrapping_sum}
 
 -- the longest time of a bucket: each up to 3 has one of its own, and from there on each power of two has four up to the next one

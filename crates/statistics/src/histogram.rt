@@ -65,13 +65,13 @@ fn first_through(counts: &[u64; BUCKETS], share: u128) -> usize
     ensures first { (k : ℕ) → k < result → 100 * through_by counts.now k < share }
 {
     let mut through: u128 = 0;
-    for (bucket, count) in counts.iter().enumerate() {
+    for (bucket, count) in counts[..BUCKETS - 1].iter().enumerate() {
         through += u128::from(*count);
         if share <= 100 * through {
             return bucket;
         }
     }
-    unreachable!()
+    BUCKETS - 1
 }
 
 /// How many calls took how long, by buckets of times. Each count wraps at 2^64.

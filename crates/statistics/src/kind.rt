@@ -1,7 +1,8 @@
 //! Kinds of replies.
 
 ghost use Rattle.std.specs.Prelude.{◌≡◌, ◌<◌};
-ghost use Rattle.statistics.specs.Kind.{kind_of, kinds_count, place_of, refusal_kind, refusal_place};
+ghost use Rattle.statistics.specs.Kind.{kind_of, kinds_count, place_of};
+ghost use Rattle.statistics.specs.Kind.{refusal_kind, refusal_place};
 
 use nfs_values::{PROCEDURES, Procedure, Refusal, Reply};
 

@@ -150,8 +150,8 @@ impl DeadBlocks {
         self.take_counted(64).0
     }
 
-    /// Takes the lowest blocks of the range of the lowest, at most so many and 64. It tells how many
-    /// words it looked at: at most 8 for each word that gives a block, and 32 for each range.
+    /// Takes the lowest blocks of the range of the lowest, at most so many and 64. It tells how
+    /// many words it looked at: at most 8 for each word that gives a block, and 32 for each range.
     pub fn take_counted(&mut self, most: usize) -> (Batch, Looks)
         ensures batch { result.0 ≡ lowest_of self.old.range_blocks most self.old.blocks }
         ensures left { self.new

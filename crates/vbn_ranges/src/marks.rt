@@ -138,8 +138,8 @@ impl Marks {
         }
     }
 
-    /// Takes the lowest marked blocks, at most so many and 64. It tells how many words it looked at:
-    /// at most 8 for each word that gives a block, and 32 more.
+    /// Takes the lowest marked blocks, at most so many and 64. It tells how many words it looked
+    /// at: at most 8 for each word that gives a block, and 32 more.
     pub fn take_counted(&mut self, most: usize) -> (Batch, Looks)
         ensures batch { result.0 ≡ lowest_marked most self.old }
         ensures left { self.new ≡ unmarked (lowest_marked most self.old) self.old }

@@ -69,7 +69,7 @@ above_from layout a b p step h =
 -- ---- the numbers above a node
 
 -- f lists at a node just the numbers of the nodes above it
-pub record IsListed (layout : Layout) (f : ℕ → List ℕ) (b : Affinity) : Type 0 where
+record IsListed (layout : Layout) (f : ℕ → List ℕ) (b : Affinity) : Type 0 where
   pub listed : (a : Affinity) → IsNode layout a → is_above layout a b ≡ true → Contains (f (number_of layout b)) (number_of layout a)
   pub above : (a : Affinity) → IsNode layout a → Contains (f (number_of layout b)) (number_of layout a) → is_above layout a b ≡ true
 
@@ -130,7 +130,7 @@ vbn_listed : (layout : Layout) (f : ℕ → List ℕ) → fault_of layout ≡ No
 vbn_listed layout f lawful lists v h =
     child_listed layout f (Vbn v) (Volume v) h (1, refl) (starts layout f (Vbn v) (Volume v) lists h refl) (volume_listed layout f lawful lists v h)
 
-pub node_listed : (layout : Layout) (f : ℕ → List ℕ) → fault_of layout ≡ None → ListsAbove (parents layout) f → (b : Affinity) → IsNode layout b
+node_listed : (layout : Layout) (f : ℕ → List ℕ) → fault_of layout ≡ None → ListsAbove (parents layout) f → (b : Affinity) → IsNode layout b
     → IsListed layout f b
 node_listed layout f lawful lists Serial h = serial_listed layout f lists
 node_listed layout f lawful lists (Aggregate a) h = aggregate_listed layout f lists a h

@@ -24,7 +24,7 @@ volume_there (x ∷ xs) zero h = (x, refl)
 volume_there (x ∷ xs) (suc v) h = volume_there xs v (omega arith)
 
 -- a test that all volumes pass
-pub passes_at : (test : VolumeLayout → Bool) (volumes : List VolumeLayout) (v : ℕ) (x : VolumeLayout) → list_all test volumes ≡ true
+passes_at : (test : VolumeLayout → Bool) (volumes : List VolumeLayout) (v : ℕ) (x : VolumeLayout) → list_all test volumes ≡ true
     → slice_get volumes v ≡ Some x → test x ≡ true
 passes_at test [] v x h e = cc
 passes_at test (y ∷ ys) zero x h e =
@@ -164,7 +164,7 @@ size_among n from (suc count) most h =
     (or_cases (1024 * 2 ^ from == n) (list_any (λ m. m == n) (map (λ k. 1024 * 2 ^ k) (range_with_len (from + 1) count))) h)
 
 -- a number that a range may have
-pub size_is : (n : ℕ) → list_any (λ m. m == n) range_sizes ≡ true → IsRangeSize n
+size_is : (n : ℕ) → list_any (λ m. m == n) range_sizes ≡ true → IsRangeSize n
 size_is n h =
     let found = size_among n 0 15 (omega arith) h in
     let below = found.1 in

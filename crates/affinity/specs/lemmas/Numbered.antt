@@ -31,7 +31,7 @@ range_at stripes v r =
     (let less : r ≡ stripes + 1 + r - (stripes + 1) = omega arith in ap (Range v) less)
 
 -- a node at a place of a volume
-pub record IsAt (layout : Layout) (a : Affinity) (v place : ℕ) : Type 0 where
+record IsAt (layout : Layout) (a : Affinity) (v place : ℕ) : Type 0 where
   pub there : v < length layout.volumes
   pub within : place < 19 + stripes_of layout v
   pub number : number_of layout a ≡ volume_number layout v + place

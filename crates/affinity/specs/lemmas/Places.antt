@@ -30,7 +30,7 @@ volume_number_more layout v h =
     omega arith
 
 -- the nodes of a later volume come after those of an earlier one
-pub nodes_before_next : (volumes : List VolumeLayout) (v w : ℕ) (x : VolumeLayout) → slice_get volumes v ≡ Some x → v < w
+nodes_before_next : (volumes : List VolumeLayout) (v w : ℕ) (x : VolumeLayout) → slice_get volumes v ≡ Some x → v < w
     → nodes_before volumes v + nodes_of x ≤ nodes_before volumes w
 nodes_before_next [] v w x e h = cc
 nodes_before_next (y ∷ ys) v zero x e h = absurd (omega arith)
@@ -52,7 +52,7 @@ volume_number_next layout v w there h =
     omega arith
 
 -- the last number of a volume is at most the count of nodes
-pub volume_number_last : (layout : Layout) (v : ℕ) → v < length layout.volumes → volume_number layout v + 18 + stripes_of layout v ≤ node_count layout
+volume_number_last : (layout : Layout) (v : ℕ) → v < length layout.volumes → volume_number layout v + 18 + stripes_of layout v ≤ node_count layout
 volume_number_last layout v there =
     let next = volume_number_next layout v (length layout.volumes) there there in
     omega arith

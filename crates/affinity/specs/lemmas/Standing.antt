@@ -24,12 +24,12 @@ one-same x y e = ap one_if (eq-eqb x y e)
 pub one-other : (x y : ℕ) → x ≢ y → one_if (eqb x y) ≡ 0
 one-other x y e = ap one_if (ne_eqb x y e)
 
-pub stands : (n : ℕ) (xs : List ℕ) (k : ℕ) → k < length xs → slice_index_or xs k n ≡ n → 0 < tally n xs
+stands : (n : ℕ) (xs : List ℕ) (k : ℕ) → k < length xs → slice_index_or xs k n ≡ n → 0 < tally n xs
 stands n [] k h e = absurd (omega arith)
 stands n (x ∷ xs) zero h e = let one = one-same x n e in omega arith
 stands n (x ∷ xs) (suc k) h e = let others = stands n xs k (omega arith) e in omega arith
 
-pub contained : (n : ℕ) (xs : List ℕ) → 0 < tally n xs → Contains xs n
+contained : (n : ℕ) (xs : List ℕ) → 0 < tally n xs → Contains xs n
 contained n [] h = absurd (omega arith)
 contained n (x ∷ xs) h = dite (ℕ_discrete x n)
     (λ e. (0, omega arith, e))
@@ -62,7 +62,7 @@ ancestors-parent ps tree (suc b) (suc p) pos e q =
     ap (from_parent (upwards ps b)) e
     ∙ ap (λ (above : List ℕ). suc p ∷ above) (enough ps tree b (suc p) (suc p) q (omega arith) (omega arith))
 
-pub ancestors-list : (ps : List ℕ) → IsTree ps → ListsAbove ps (ancestors ps)
+ancestors-list : (ps : List ℕ) → IsTree ps → ListsAbove ps (ancestors ps)
 ancestors-list ps tree = record {
   root = λ n e. ancestors-root ps n e;
   child = λ n p pn pp e. ancestors-parent ps tree n p pn e pp;

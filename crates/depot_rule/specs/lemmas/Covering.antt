@@ -18,11 +18,11 @@ true-covers ps b k = ⊎_elim
     (λ (u : 0 < tally b (ancestors ps k)). or_right (eqb b k) (nat_lt 0 (tally b (ancestors ps k))) (lt-ltb 0 (tally b (ancestors ps k)) u))
 
 -- of a choice, where it is yes and where it is no
-pub chosen-less : {A : Type 0} (b : Bool) (x y : A) → b ≡ true → if_less b x y ≡ x
+chosen-less : {A : Type 0} (b : Bool) (x y : A) → b ≡ true → if_less b x y ≡ x
 chosen-less true x y e = refl
 chosen-less false x y e = absurd cc
 
-pub chosen-others : {A : Type 0} (b : Bool) (x y : A) → (b ≡ true → ⊥) → if_less b x y ≡ y
+chosen-others : {A : Type 0} (b : Bool) (x y : A) → (b ≡ true → ⊥) → if_less b x y ≡ y
 chosen-others true x y no_way = absurd (no_way refl)
 chosen-others false x y no_way = refl
 

@@ -12,11 +12,11 @@ put-elsewhere P ps tree a b k inner outer apart cover =
     patched-out ps b inner outer k (λ both. apart (cover-excludes ps tree a b k cover both))
 
 module _ {P C R : Type 0} where
-  pub after-append : (ps : List ℕ) (f : ℕ → Option P) (es more : List (Entry P C R)) → after ps f (es ++ more) ≡ after ps (after ps f es) more
+  after-append : (ps : List ℕ) (f : ℕ → Option P) (es more : List (Entry P C R)) → after ps f (es ++ more) ≡ after ps (after ps f es) more
   after-append ps f [] more = refl
   after-append ps f (e ∷ es) more = after-append ps (put_in ps e f) es more
 
-  pub after-elsewhere : (ps : List ℕ) → IsTree ps → (f : ℕ → Option P) (more : List (Entry P C R)) (a k : ℕ) → AreElsewhere ps a more → Covers ps a k
+  after-elsewhere : (ps : List ℕ) → IsTree ps → (f : ℕ → Option P) (more : List (Entry P C R)) (a k : ℕ) → AreElsewhere ps a more → Covers ps a k
       → after ps f more k ≡ f k
   after-elsewhere ps tree f [] a k apart cover = refl
   after-elsewhere ps tree f (e ∷ es) a k apart cover =

@@ -112,7 +112,7 @@ tally-without k m (x ∷ xs) h = by_test (eqb x k) refl (tally-without k m xs)
 
 module _ {A : Type 0} where
   -- a place that is filled counts from then on
-  pub over-fill : (f : ℕ → ℕ) (k : ℕ) (l : List (Option A)) (i : ℕ) (x : A) → get_elem? l i ≡ some None
+  over-fill : (f : ℕ → ℕ) (k : ℕ) (l : List (Option A)) (i : ℕ) (x : A) → get_elem? l i ≡ some None
       → over_taken f k (set l i (Some x)) ≡ over_taken f k l + f (k + i)
   over-fill f k [] i x e = absurd (some-ne-none None (sym e))
   over-fill f k (None ∷ ys) zero x e = let z : f (k + 0) ≡ f k = ap f (omega arith) in omega arith
@@ -121,7 +121,7 @@ module _ {A : Type 0} where
   over-fill f k (Some y ∷ ys) (suc i) x e = let r = over-fill f (suc k) ys i x e in let z : f (suc k + i) ≡ f (k + suc i) = ap f (omega arith) in omega arith
 
   -- and one that is emptied no more
-  pub over-clear : (f : ℕ → ℕ) (k : ℕ) (l : List (Option A)) (i : ℕ) (x : A) → get_elem? l i ≡ some (Some x) → over_taken f k (set l i None) + f
+  over-clear : (f : ℕ → ℕ) (k : ℕ) (l : List (Option A)) (i : ℕ) (x : A) → get_elem? l i ≡ some (Some x) → over_taken f k (set l i None) + f
       (k + i) ≡ over_taken f k l
   over-clear f k [] i x e = absurd (some-ne-none (Some x) (sym e))
   over-clear f k (Some y ∷ ys) zero x e = let z : f (k + 0) ≡ f k = ap f (omega arith) in omega arith

@@ -83,7 +83,8 @@ pub fn grants_are_known<P>()
     ensures serial { RootsAreKnown P }
 {}
 
-/// Where each volume's ranges have as many blocks as the layout says, so has what a call is granted.
+/// Where each volume's ranges have as many blocks as the layout says, so has what a call is
+/// granted.
 pub fn grants_are_sized<P>()
     ensures range { RangesAreSized P }
     ensures logical { LogicalsAreSized P }

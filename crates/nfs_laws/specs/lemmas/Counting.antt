@@ -28,7 +28,7 @@ one_if_most false = omega arith
 range_once : (n a k : ℕ) → times_listed n (range_with_len a k) ≤ 1
 range_once n a k = omega (arith, times_listed-range n a k, one_if_most (nat_le a n && nat_lt n (a + k)))
 
-pub take_fewer : (n m : ℕ) (xs : List ℕ) → times_listed n (take m xs) ≤ times_listed n xs
+take_fewer : (n m : ℕ) (xs : List ℕ) → times_listed n (take m xs) ≤ times_listed n xs
 take_fewer n zero xs = omega arith
 take_fewer n (suc m) [] = omega arith
 take_fewer n (suc m) (x ∷ xs) = omega (arith, take_fewer n m xs)

@@ -4,7 +4,7 @@ use Rattle.std.proofs.lemmas.List.{length-append, append-nil}
 use Rattle.xdr.specs.Shape.{word}
 use Rattle.nfs_types.specs.Results.{absent_parts}
 
-pub absent_parts-suc : (n : ℕ) → absent_parts (suc n) ≡ absent_parts n ++ word 0
+absent_parts-suc : (n : ℕ) → absent_parts (suc n) ≡ absent_parts n ++ word 0
 absent_parts-suc zero = refl
 absent_parts-suc (suc n) = ap (λ (t : List ℕ). word 0 ++ t) (absent_parts-suc n)
 

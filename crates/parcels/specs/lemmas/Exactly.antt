@@ -24,7 +24,7 @@ use Rattle.parcels.specs.Sets.{aggregate_parcels, serial_parcels}
 -- ---- kinds by number
 
 module _ {T K : Type 0} (kind : T → K) where
-  pub alone-kind : (n k : ℕ) (x y : T) → kind x ≡ kind y → option_map kind (alone n x k) ≡ option_map kind (alone n y k)
+  alone-kind : (n k : ℕ) (x y : T) → kind x ≡ kind y → option_map kind (alone n x k) ≡ option_map kind (alone n y k)
   unfolding alone
   alone-kind n k x y e = by (k == n)
     where
@@ -36,7 +36,7 @@ module _ {T K : Type 0} (kind : T → K) where
   or-kind None b = refl
   or-kind (Some x) b = refl
 
-  pub or-same : (a a' b b' : Option T) → option_map kind a ≡ option_map kind a' → option_map kind b ≡ option_map kind b'
+  or-same : (a a' b b' : Option T) → option_map kind a ≡ option_map kind a' → option_map kind b ≡ option_map kind b'
       → option_map kind (or_else a b) ≡ option_map kind (or_else a' b')
   or-same a a' b b' e d = or-kind a b ∙ (λ j. or_else (e j) (d j)) ∙ sym (or-kind a' b')
 
@@ -58,7 +58,7 @@ module _ {T K : Type 0} (kind : T → K) where
   used-same true o p e = e
   used-same false o p e = refl
 
-  pub slots-same : {H : Type 0} (u : ℕ → Bool) (f : ℕ → H → Option T) (ps qs : List (Option H)) (n : ℕ) → AreFilledAlike ps qs
+  slots-same : {H : Type 0} (u : ℕ → Bool) (f : ℕ → H → Option T) (ps qs : List (Option H)) (n : ℕ) → AreFilledAlike ps qs
       → InEachPlace (λ x y. (i : ℕ) → option_map kind (f i x) ≡ option_map kind (f i y)) ps qs
       → option_map kind (in_places u f ps n) ≡ option_map kind (in_places u f qs n)
   unfolding in_places
@@ -78,7 +78,7 @@ module _ {T K : Type 0} (kind : T → K) where
   missing (Some x) e = absurd cc
 
 -- where the kinds by number are the same, so is what is exactly there
-pub exact-same : {T : Type 0} (kind : T → Kind) (layout : Layout) (a : Affinity) (f g : ℕ → Option T)
+exact-same : {T : Type 0} (kind : T → Kind) (layout : Layout) (a : Affinity) (f g : ℕ → Option T)
     → ((k : ℕ) → option_map kind (f k) ≡ option_map kind (g k)) → HasExactly kind layout a f → HasExactly kind layout a g
 exact-same kind layout a f g same e = record {
   each = λ node under.

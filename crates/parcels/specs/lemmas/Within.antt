@@ -21,7 +21,7 @@ use Rattle.parcels.specs.declared.sets.AggrHeld.{AggrHeld}
 use Rattle.parcels.specs.declared.sets.SerialHeld.{SerialHeld}
 
 -- a node whose way goes on from another's is under it
-pub goes_on : (layout : Layout) (a b : Affinity) (more : List ℕ) → IsNode layout b → path layout b ≡ path layout a ++ more → IsUnder layout a b
+goes_on : (layout : Layout) (a b : Affinity) (more : List ℕ) → IsNode layout b → path layout b ≡ path layout a ++ more → IsUnder layout a b
 goes_on layout a b more there e = (
   there,
   covers-cases layout a b

@@ -11,19 +11,19 @@ use Rattle.xdr.specs.lemmas.Steps.{bind_ok, chosen, ok_is}
 use Rattle.xdr.specs.lemmas.Items.{Splits, Splits-then, Found, Again, word_found, word_again}
 
 -- the value of an option of which a fact holds
-pub some_and : (o : Option ℕ) (P : ℕ → Type 0) → IsSomeAnd o P → (x : ℕ) × (o ≡ Some x) × P x
+some_and : (o : Option ℕ) (P : ℕ → Type 0) → IsSomeAnd o P → (x : ℕ) × (o ≡ Some x) × P x
 some_and None P h = absurd h
 some_and (Some x) P h = (x, refl, h)
 
 -- what stands behind the number of a union
-abbrev pub arm_of : (number : ℕ) (arm others : Shape) → List ℕ → ℕ × List ℕ → Reads (Value arm ⊎ Value others)
+abbrev arm_of : (number : ℕ) (arm others : Shape) → List ℕ → ℕ × List ℕ → Reads (Value arm ⊎ Value others)
 arm_of number arm others bytes n =
     if eqb n.0 number then (read arm n.1 >>= λ x. Ok (inl x.0, x.1))
     else if is_union others then (read others bytes >>= λ x. Ok (inr x.0, x.1))
     else Err BadEnum
 
 -- the first arm, or one of the others
-pub arm_is : (number : ℕ) (arm others : Shape) (bytes : List ℕ) (n : ℕ × List ℕ) (x : Value (Case number arm others) × List ℕ)
+arm_is : (number : ℕ) (arm others : Shape) (bytes : List ℕ) (n : ℕ × List ℕ) (x : Value (Case number arm others) × List ℕ)
     → arm_of number arm others bytes n ≡ Ok x
     → ((n.0 ≡ number) × ((y : Value arm × List ℕ) × (read arm n.1 ≡ Ok y) × (x ≡ (inl y.0, y.1)))) ⊎
     ((n.0 ≢ number) × (is_union others ≡ true) × ((y : Value others × List ℕ) × (read others bytes ≡ Ok y) × (x ≡ (inr y.0, y.1))))
@@ -44,7 +44,7 @@ arm_is number arm others bytes n x e =
     ]
 
 -- what is read behind a number has that number
-pub discriminant_is : (shape : Shape) (bytes : List ℕ) (n : ℕ × List ℕ) (x : Value shape × List ℕ) → is_union shape ≡ true → number_at w32 bytes ≡ Ok n
+discriminant_is : (shape : Shape) (bytes : List ℕ) (n : ℕ × List ℕ) (x : Value shape × List ℕ) → is_union shape ≡ true → number_at w32 bytes ≡ Ok n
     → read shape bytes ≡ Ok x → discriminant shape x.0 ≡ Some n.0
 discriminant_is (Case number arm others) bytes n x u at e =
     let p = bind_ok (number_at w32 bytes) (arm_of number arm others bytes) x e in
@@ -59,7 +59,7 @@ discriminant_is NoCase bytes n x u at e =
 discriminant_is shape bytes n x u at e = absurd cc
 
 -- a union's spelling begins with its number
-pub number_before : (shape : Shape) (v : Value shape) (rest : List ℕ) (n : ℕ) → discriminant shape v ≡ Some n → Fits shape v
+number_before : (shape : Shape) (v : Value shape) (rest : List ℕ) (n : ℕ) → discriminant shape v ≡ Some n → Fits shape v
     → (after : List ℕ) × (number_at w32 (spelling shape v ++ rest) ≡ Ok (n, after)) × (is_union shape ≡ true)
 number_before (Case number arm others) (inl v) rest n e fits =
     let same : number ≡ n = cc in (

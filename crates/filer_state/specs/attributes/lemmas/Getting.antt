@@ -47,7 +47,7 @@ module _ (p : VolumeContents) where
       by (Some inode) = kind inode inode.kind
 
   -- the model's count of subdirectories
-  pub subdirectories-are : (list : List Listed) → subdirectories (volume_of p).nodes list ≡ directories_listed p.logical.inodes.inodes list
+  subdirectories-are : (list : List Listed) → subdirectories (volume_of p).nodes list ≡ directories_listed p.logical.inodes.inodes list
   subdirectories-are [] = refl
   subdirectories-are (e ∷ list) =
       let here : one_if (is_directory_node (get (volume_of p).nodes e.fileid))

@@ -41,7 +41,7 @@ use Rattle.filer_state.specs.bytes.lemmas.Padded.{written-longer}
 use Rattle.filer_state.specs.bytes.lemmas.WrittenNodes.{file_before}
 
 -- the inode of a file, and the count of all blocks, extended
-pub extended-is : (v : InodesValue) (f end more : ℕ) (inode : Inode) (size blocks : ℕ) (verifier : Option (List ℕ)) → get v.inodes f ≡ Some inode
+extended-is : (v : InodesValue) (f end more : ℕ) (inode : Inode) (size blocks : ℕ) (verifier : Option (List ℕ)) → get v.inodes f ≡ Some inode
     → inode.kind ≡ RegularFile size blocks verifier
     → inodes_extended f end more (get v.inodes f) v ≡ inode_set f (next_inode inode (max size end) (blocks + more) verifier) v
 extended-is v f end more inode size blocks verifier there is_file =
@@ -49,7 +49,7 @@ extended-is v f end more inode size blocks verifier there is_file =
     ∙ ap (λ k. inode_set f (record inode { kind = kind_extended end more k }) v) is_file
 
 -- within the blocks that a file has at most
-pub largest-small : (largest size : ℕ) → IsLargest largest → size ≤ largest → size ≤ block_size * most_file_blocks
+largest-small : (largest size : ℕ) → IsLargest largest → size ≤ largest → size ≤ block_size * most_file_blocks
 unfolding most_file_blocks
 largest-small largest size is less = let whole = is.is in let few = is.most in omega (arith, whole, few, less)
 

@@ -55,7 +55,7 @@ filled-none parts n none = record {
     within set = sets.contains-is_subset nat_cmp_total sets.empty set (λ q e. let no_one = sets.contains-empty nat_cmp q in absurd cc)
 
 -- each number stands in one range at most
-pub free-once : (p : VolumeContents) (hands : List Hand) → StandOnce p hands → (m : ℕ) → times_free m p.ranges ≤ 1
+free-once : (p : VolumeContents) (hands : List Hand) → StandOnce p hands → (m : ℕ) → times_free m p.ranges ≤ 1
 free-once p hands once m =
     let o = once m in let most = one-at-most (nat_lt m (p.logical.dead.range_blocks * ranges_used p.ranges)) in omega (arith, o, most)
 

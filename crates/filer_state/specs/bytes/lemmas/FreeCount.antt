@@ -15,7 +15,7 @@ use Rattle.filer_state.specs.bytes.lemmas.Listed.{numbers-of, numbers-times, tim
 use Rattle.filer_state.specs.bytes.lemmas.LeavingParts.{times_free}
 
 -- two sets without a common number
-pub len-union : (s t : FinSet nat_cmp) → ((m : ℕ) → one_if (contains s m) + one_if (contains t m) ≤ 1) → len (union s t) ≡ len s + len t
+len-union : (s t : FinSet nat_cmp) → ((m : ℕ) → one_if (contains s m) + one_if (contains t m) ≤ 1) → len (union s t) ≡ len s + len t
 len-union s t apart =
     let some : List ℕ = (numbers-of (len s) s refl).0 in
     let others : List ℕ = (numbers-of (len t) t refl).0 in

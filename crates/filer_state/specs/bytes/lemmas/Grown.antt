@@ -24,7 +24,7 @@ module _ (f end : ℕ) (s : StripeValue) where
   card-at : (q : ℕ) → get (stripe_grown f end s).cards q ≡ (if q == f then option_map (card_grown end) (get s.cards f) else get s.cards q)
   card-at q = get-changed_at (card_grown end) f s.cards q
 
-  pub card-here : get (stripe_grown f end s).cards f ≡ option_map (card_grown end) (get s.cards f)
+  card-here : get (stripe_grown f end s).cards f ≡ option_map (card_grown end) (get s.cards f)
   card-here = card-at f ∙ ap (λ (b : Bool). if b then option_map (card_grown end) (get s.cards f) else get s.cards f) (itself f)
 
   card-other : (q : ℕ) → (q == f) ≡ false → get (stripe_grown f end s).cards q ≡ get s.cards q

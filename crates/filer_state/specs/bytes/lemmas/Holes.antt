@@ -30,7 +30,7 @@ range-filter test other a (suc n) same =
     λ j. cond (here j) (a ∷ rest j) (rest j)
 
 -- two tests that agree on the blocks met
-pub met-filter : (test other : ℕ → Bool) (offset n : ℕ)
+met-filter : (test other : ℕ → Bool) (offset n : ℕ)
     → ((b : ℕ) → 0 < n → offset / block_size ≤ b → b ≤ (offset + n - 1) / block_size → test b ≡ other b)
     → filter test (blocks_met offset n) ≡ filter other (blocks_met offset n)
 met-filter test other offset n same = by (n == 0) refl
@@ -115,7 +115,7 @@ seen-filled-at stripes f b =
     (λ x same. ap (λ (k : ℕ). is_filled (home_stripe stripes f k) f k) (sym (nat_cmp-IsAntisymmetric b x same)))
 
 -- below the most that a file has
-pub seen-filled : (stripes : List StripeValue) (f b : ℕ) → b < most_file_blocks → contains (file_filled stripes f) b ≡ is_filled (home_stripe stripes f b) f b
+seen-filled : (stripes : List StripeValue) (f b : ℕ) → b < most_file_blocks → contains (file_filled stripes f) b ≡ is_filled (home_stripe stripes f b) f b
 seen-filled stripes f b small =
     seen-filled-at stripes f b
     ∙ ap (λ (t : Bool). t && is_filled (home_stripe stripes f b) f b)
@@ -140,7 +140,7 @@ AreHoles f size stripes from [] = Unit {0}
 AreHoles f size stripes from (b ∷ bs) = IsHole f size stripes from b × AreHoles f size stripes (b + 1) bs
 
 module _ (f size : ℕ) where
-  pub holes-earlier : (stripes : List StripeValue) (first from : ℕ) (bs : List ℕ) → first ≤ from → AreHoles f size stripes from bs
+  holes-earlier : (stripes : List StripeValue) (first from : ℕ) (bs : List ℕ) → first ≤ from → AreHoles f size stripes from bs
       → AreHoles f size stripes first bs
   holes-earlier stripes first from [] less are = tt
   holes-earlier stripes first from (b ∷ bs) less are =

@@ -30,17 +30,17 @@ fresh-times v n blocks = ap (λ (b : Bool). times_listed n (if b then blocks els
 
 -- ---- what an inode set twice is
 
-pub refiled-twice : (p : VolumeContents) (f : ℕ) (x y : Inode) (some stripes : List StripeValue)
+refiled-twice : (p : VolumeContents) (f : ℕ) (x y : Inode) (some stripes : List StripeValue)
     → refiled f y stripes (refiled f x some p) ≡ refiled f y stripes p
 refiled-twice p f x y some stripes =
     λ j. record p { logical = record p.logical { inodes = inode-set-twice p.logical.inodes f x y j }; stripes = stripes }
 
-pub refiled-same : (p : VolumeContents) (f : ℕ) (inode : Inode) → WellFormed p → get p.logical.inodes.inodes f ≡ Some inode → refiled f inode p.stripes p ≡ p
+refiled-same : (p : VolumeContents) (f : ℕ) (inode : Inode) → WellFormed p → get p.logical.inodes.inodes f ≡ Some inode → refiled f inode p.stripes p ≡ p
 refiled-same p f inode well there =
     λ j. record p { logical = record p.logical { inodes = inode-set-same p.logical.inodes f inode well.logical.inodes there j } }
 
 -- the same inode
-pub inode-is : (inode : Inode) (size blocks : ℕ) (verifier : Option (List ℕ)) (other : ℕ) → inode.kind ≡ RegularFile size blocks verifier
+inode-is : (inode : Inode) (size blocks : ℕ) (verifier : Option (List ℕ)) (other : ℕ) → inode.kind ≡ RegularFile size blocks verifier
     → blocks ≡ other → next_inode inode size other verifier ≡ inode
 inode-is inode size blocks verifier other is same =
     λ j. record inode { kind = (sym (ap (λ (k : ℕ). RegularFile size k verifier) same) ∙ sym is) j }

@@ -15,7 +15,7 @@ use Rattle.filer_state.specs.state.Partition.{times_in_stripe}
 
 -- ---- zeros
 
-pub zeros-read : (m i : ℕ) → slice_index_or (replicate {A = ℕ} m 0) i 0 ≡ 0
+zeros-read : (m i : ℕ) → slice_index_or (replicate {A = ℕ} m 0) i 0 ≡ 0
 zeros-read zero i = refl
 zeros-read (suc m) zero = refl
 zeros-read (suc m) (suc i) = zeros-read m i

@@ -23,7 +23,7 @@ one-at-most true = omega arith
 one-at-most false = omega arith
 
 -- what is left, and what there was together
-pub rest-is : (a b c : Bool) → one_if c ≡ one_if a + one_if b → a ≡ (c && not b)
+rest-is : (a b c : Bool) → one_if c ≡ one_if a + one_if b → a ≡ (c && not b)
 rest-is true true true h = absurd (omega (arith, h))
 rest-is true true false h = absurd (omega (arith, h))
 rest-is true false true h = refl
@@ -43,7 +43,7 @@ all-is false true false h = absurd (omega (arith, h))
 all-is false false true h = absurd (omega (arith, h))
 all-is false false false h = refl
 
-pub part-is : (a b c : Bool) → one_if c ≡ one_if a + one_if b → b ≡ true → c ≡ true
+part-is : (a b c : Bool) → one_if c ≡ one_if a + one_if b → b ≡ true → c ≡ true
 part-is a b true h e = refl
 part-is true true false h e = absurd (omega (arith, h))
 part-is false true false h e = absurd (omega (arith, h))

@@ -46,7 +46,7 @@ len-without set n there = by (len set) refl
     by (suc k) e = let l = left in omega (arith, l, e)
 
 -- a set that has some has one
-pub one-of : (set : FinSet nat_cmp) (k : ℕ) → len set ≡ suc k → (n : ℕ) × (contains set n ≡ true)
+one-of : (set : FinSet nat_cmp) (k : ℕ) → len set ≡ suc k → (n : ℕ) × (contains set n ≡ true)
 one-of set k e = by (items set) refl
   where
     by : (ns : List ℕ) → items set ≡ ns → (n : ℕ) × (contains set n ≡ true)

@@ -37,7 +37,7 @@ use Rattle.filer_state.specs.bytes.lemmas.Carrying.{listed-count}
 use Rattle.filer_state.specs.bytes.lemmas.WrittenUp.{need-is, volume_written, sound-then, ran-then, seen-then, more-then, once-then, files-then}
 
 -- where nothing is filled no number moves
-pub filled-none : (parts : Parts) (n : ℕ) → n ≡ 0 → FilledInLogical n parts parts
+filled-none : (parts : Parts) (n : ℕ) → n ≡ 0 → FilledInLogical n parts parts
 filled-none parts n none = record {
   stock = record {
     blocks = sets.empty;
@@ -181,7 +181,7 @@ module _ (p : VolumeContents) (f : ℕ) (handle : List ℕ) (w : Writing) (hands
       by true e h = done-as outcome (Moved (Volume p.number)) new h.0 h.1 (short known e)
       by false e h = written known e outcome new h
 
-  pub logical-done : (outcome : Outcome) (new : LogicalSet) → LogicalWrites p.number f w old outcome new → Done outcome new
+  logical-done : (outcome : Outcome) (new : LogicalSet) → LogicalWrites p.number f w old outcome new → Done outcome new
   logical-done outcome new told =
       by-due (bytes_due (get p.logical.inodes.inodes f) p.logical.largest w) (checked p f handle w (Logical p.number)) outcome new told
 

@@ -138,7 +138,7 @@ module _ (p : VolumeContents) (f : ℕ) (inode : Inode) (old_size blocks : ℕ) 
   -- ---- homes
 
   -- a block of another file
-  pub home-other : (q block at : ℕ) → (q == f) ≡ false
+  home-other : (q block at : ℕ) → (q == f) ≡ false
       → get (home_stripe stripes q block).blocks (q, at) ≡ get (home_stripe p.stripes q block).blocks (q, at)
   home-other q block at ne =
       ap (λ (n : ℕ). get (stripe_at stripes (stripe_of n q block)).blocks (q, at)) new.as_many
@@ -155,7 +155,7 @@ module _ (p : VolumeContents) (f : ℕ) (inode : Inode) (old_size blocks : ℕ) 
 
   -- ---- the volume
 
-  pub well-refiled : WellFormed after
+  well-refiled : WellFormed after
   well-refiled = record {
     striped = well.striped;
     largest = well.largest;

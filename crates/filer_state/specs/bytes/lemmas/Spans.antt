@@ -21,7 +21,7 @@ same-stripe stripes i fileid offset n k lies from below =
     ap (λ (span : ℕ). (fileid + span) % stripes) (one-span offset n k lies.span from below) ∙ lies.stripe
 
 module _ (stripes : List StripeValue) (i fileid offset most : ℕ) (lies : LieIn (length stripes) i fileid offset most) where
-  pub byte-here : (k : ℕ) → offset ≤ k → k < offset + most → file_byte stripes fileid k ≡ byte_at (stripe_at stripes i) fileid k
+  byte-here : (k : ℕ) → offset ≤ k → k < offset + most → file_byte stripes fileid k ≡ byte_at (stripe_at stripes i) fileid k
   byte-here k from below =
       ap (λ (m : ℕ). byte_at (stripe_at stripes m) fileid k) (same-stripe (length stripes) i fileid offset most k lies from below)
 

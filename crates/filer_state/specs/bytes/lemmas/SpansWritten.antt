@@ -103,7 +103,7 @@ module _ (p : VolumeContents) (f : ℕ) (inode : Inode) (size blocks : ℕ) (ver
     abbrev after : List StripeValue
     after = slice_set stripes i now
 
-    pub one-span : Overwrites f offset written moment q hands (made + 1) after
+    one-span : Overwrites f offset written moment q hands (made + 1) after
     one-span = record {
       sound = sound-written q i f offset written moment size on sized within hands hands made (λ n. refl) sound;
       bytes = byte-now q i f offset written moment on lies small-end filled size card.0 card.1;

@@ -21,7 +21,7 @@ use Rattle.filer_state.specs.bytes.Reading.{some_told, read_told, on_size, on_ca
 use Rattle.filer_state.specs.bytes.lemmas.Bytes.{bytes-from, many-from}
 
 -- what the serial server tells of a file
-abbrev pub reads : ℕ → ℕ → List ℕ → Effect
+abbrev reads : ℕ → ℕ → List ℕ → Effect
 reads offset most bytes =
     if nat_le (length bytes) offset then Tells (ReadDone 0 true []) else Tells (read_of offset (length bytes) (bytes_at bytes offset most))
 
@@ -37,7 +37,7 @@ module _ (f : ℕ → ℕ) (bytes : ℕ → List ℕ) (offset most : ℕ)
       same (min most (size - offset)) (omega arith) ∙ sym (bytes-from f offset most size) in
       λ j. ReadDone (sym n j) (nat_le size (offset + sym n j)) (is j)
 
-  pub file-told : (size : ℕ) → read_told bytes offset most size ≡ answer_of 1 (reads offset most (map f (range_with_len 0 size)))
+  file-told : (size : ℕ) → read_told bytes offset most size ≡ answer_of 1 (reads offset most (map f (range_with_len 0 size)))
   file-told size = by (nat_le size offset)
       ∙ ap (λ (long : ℕ). answer_of 1 (if nat_le long offset then Tells (ReadDone 0 true [])
       else Tells (read_of offset long (bytes_at (map f (range_with_len 0 size)) offset most)))) (sym (length-map-range_with_len f 0 size))

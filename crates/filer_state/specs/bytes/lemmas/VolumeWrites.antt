@@ -86,7 +86,7 @@ module _ (p : VolumeContents) (f : ℕ) (handle : List ℕ) (w : Writing) (hands
         λ j. nat_lt (all_blocks old) (was j + needs j)
 
     -- it waits again where the rest is in hands
-    pub moves : move_on call p ≡ (if is_none (if nat_lt (all_blocks old) (p.logical.inodes.used + many) then Some NoSpace else None)
+    moves : move_on call p ≡ (if is_none (if nat_lt (all_blocks old) (p.logical.inodes.used + many) then Some NoSpace else None)
         && nat_lt (for_holes old) many then Some (Volume p.number) else None)
     moves = bytes.moved
         ∙ (λ j. if is_none (if space-is j then Some NoSpace else None)
@@ -198,7 +198,7 @@ module _ (p : VolumeContents) (f : ℕ) (handle : List ℕ) (w : Writing) (hands
       by true e h = done-as outcome (Replied (Success (Failed NoSpace 2))) new h.0 h.1 (full known e)
       by false e h = there e (nat_lt (for_holes old) (length (holes p.stripes f w.offset (length (bytes_kept w))))) refl h
 
-  pub volume-done : (outcome : Outcome) (new : VolumeSet) → VolumeWrites p.number f w old outcome new → Done outcome new
+  volume-done : (outcome : Outcome) (new : VolumeSet) → VolumeWrites p.number f w old outcome new → Done outcome new
   volume-done outcome new told =
       by-due (bytes_due (get p.logical.inodes.inodes f) p.logical.largest w) (checked p f handle w (Volume p.number)) outcome new told
 

@@ -91,7 +91,7 @@ module _ (p : VolumeContents) (f : ℕ) (handle : List ℕ) (w : Writing) (node 
       }) weigh
 
       -- there was space
-      pub space-then : nat_lt (volume_of p).total (used (volume_of p) + need file w.offset n) ≡ false
+      space-then : nat_lt (volume_of p).total (used (volume_of p) + need file w.offset n) ≡ false
       space-then =
           let most = used-fits volume_written hands sound-final.well_formed sound-final.partition in
           let now = used-final in

@@ -31,7 +31,7 @@ module _ (inodes : InodeMap) (q : ℕ) where
       by true = refl
       by false = refl
 
-  pub parent-else : (x : ℕ) → (x == q) ≡ false → parent_at less x ≡ parent_at inodes x
+  parent-else : (x : ℕ) → (x == q) ≡ false → parent_at less x ≡ parent_at inodes x
   parent-else x ne = parent-less x ∙ ap (λ (b : Bool). if b then None else parent_at inodes x) ne
 
   fewer : (x : Inode) → get inodes q ≡ Some x → len less + 1 ≡ len inodes
@@ -124,7 +124,7 @@ module _ (inodes : InodeMap) (q : ℕ) where
         by (Some u) e again = up u e (u == q) refl again
 
 -- as many steps as there are inodes find all that is above
-pub climbs-all : (t n : ℕ) (inodes : InodeMap) → len inodes ≤ n → (k q : ℕ) → directory_above inodes k q ≡ t → climbs n inodes t q ≡ true
+climbs-all : (t n : ℕ) (inodes : InodeMap) → len inodes ≤ n → (k q : ℕ) → directory_above inodes k q ≡ t → climbs n inodes t q ≡ true
 climbs-all t zero inodes small k q h = by (parent_at inodes q) refl
   where
     by : (o : Option ℕ) → parent_at inodes q ≡ o → (q == t) ≡ true

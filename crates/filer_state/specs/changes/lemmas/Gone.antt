@@ -91,7 +91,7 @@ module _ (q : VolumeContents) (m : Dropping) (may : LosesName m q.logical.inodes
   volume-gone = volume-left q m sound.well_formed may parent (ap parent_in is)
 
   -- the directory after it
-  pub directory-gone : shown volume_then m.directory (Directory directory_then) ≡ shown_inode q.number m.directory (directory_left m) None
+  directory-gone : shown volume_then m.directory (Directory directory_then) ≡ shown_inode q.number m.directory (directory_left m) None
   directory-gone =
       node-shows after volume_then m.directory (Directory directory_then) (directory_left m) sound-gone.well_formed volume-gone
       (get-insert_at (remove (volume_of q).nodes m.fileid) m.directory (Directory directory_then) m.directory

@@ -51,7 +51,7 @@ some-if true d o some = refl
 some-if false d o some = some
 
 -- a name as the serial server sees it
-abbrev pub naming_of : HeldNaming → VolumeState → DirectoryNode → Naming
+abbrev naming_of : HeldNaming → VolumeState → DirectoryNode → Naming
 naming_of n volume d = record { volume = volume; fileid = n.fileid; directory = d; name = n.name; moment = n.moment }
 
 -- what has to be so of a volume for a node to move there

@@ -40,7 +40,7 @@ or-empty None some = absurd cc
 or-empty (Some d) some = refl
 
 -- what holds of all entries holds of one that is found
-pub all-found : (P : Listed → Type 0) (name : List ℕ) (list : List Listed) (e : Listed) → AllByRecursion P list → find_name name list ≡ Some e → P e
+all-found : (P : Listed → Type 0) (name : List ℕ) (list : List Listed) (e : Listed) → AllByRecursion P list → find_name name list ≡ Some e → P e
 all-found P name [] e all h = absurd cc
 all-found P name (x ∷ list) e all h = by (same_name x.name name) h (all-found P name list e all.1)
   where

@@ -43,7 +43,7 @@ module _ (p : VolumeContents) (f : ℕ) (set : SetAttributes) (old : Inode) wher
   was = node_of p.stripes p.logical.directories f old
 
   -- the attributes that hold
-  pub times-now : times was ≡ attributes_now (file_touch p.stripes f) old.attributes old.kind
+  times-now : times was ≡ attributes_now (file_touch p.stripes f) old.attributes old.kind
   times-now = by old.kind
     where
       by : (kind : InodeKind) → times (node_by p.stripes (get p.logical.directories f) f old.attributes kind)
@@ -78,7 +78,7 @@ pub record MaySize (largest size : ℕ) (kind : InodeKind) : Type 0 where
   pub is_file : kind ≡ RegularFile old_size filled verifier
   pub small : size ≤ largest
 
-pub may-size : (largest size : ℕ) (set : SetAttributes) (guard : Option Moment) (ctime : Moment) (kind : InodeKind)
+may-size : (largest size : ℕ) (set : SetAttributes) (guard : Option Moment) (ctime : Moment) (kind : InodeKind)
     → set.size ≡ Some size → set_fault largest set guard ctime kind ≡ None → MaySize largest size kind
 may-size largest size set guard ctime kind asked passes =
     let pass = all-pass (is_stale_guard guard ctime) (has_bad_time set) (is_directory_sized kind set.size) (is_past set.size largest) passes in

@@ -109,7 +109,7 @@ module _ (p : VolumeContents) (well : WellFormed p) (from_id : ℕ) (from_name :
         entry = upon.found_there;
       }
 
-  pub other-node : (c == t) ≡ false
+  other-node : (c == t) ≡ false
   other-node = by (c == t) refl
     where
       and-false : (b : Bool) → (b && false) ≡ false

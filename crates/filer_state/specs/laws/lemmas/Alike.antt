@@ -15,7 +15,7 @@ use Rattle.filer_state.specs.state.Jobs.{Job, Serve, Inner, JobReply, Replied, T
 use Rattle.filer_state.specs.state.Deeds.{IsHomeOrAbove, Does}
 
 module _ {P : Type 0} (l m : Layout) (s : AreAlike l m) (f : ℕ → Option (FilerParcel P)) where
-  pub contents-same : (v : ℕ) → contents_of l f v ≡ contents_of m f v
+  contents-same : (v : ℕ) → contents_of l f v ≡ contents_of m f v
   contents-same v = λ j. record {
     number = v;
     aggregate = s.aggregate v j;
@@ -54,7 +54,7 @@ module _ (l m : Layout) (s : AreAlike l m) where
   bytes-same (Some h) offset n = ap (λ (k : ℕ). if (n == 0) || (offset / span_bytes == (offset + n - 1) / span_bytes)
       then Some (Stripe h.volume ((h.fileid + offset / span_bytes) % k)) else Some (Logical h.volume)) (s.stripes h.volume)
 
-  pub route-home-same : (r : Route) → home_of_route l r ≡ home_of_route m r
+  route-home-same : (r : Route) → home_of_route l r ≡ home_of_route m r
   route-home-same AtOnce = refl
   route-home-same (OfNames handle) = ap logical_home (named-same handle)
   route-home-same (OfBytesRead handle offset count) =
@@ -67,7 +67,7 @@ module _ (l m : Layout) (s : AreAlike l m) where
       (both-found l.volumes m.volumes volume s.volumes) (s.aggregate volume)
   route-home-same OfEverything = refl
 
-  pub home-of-asked-same : (asked : Asked) → home_of_asked l asked ≡ home_of_asked m asked
+  home-of-asked-same : (asked : Asked) → home_of_asked l asked ≡ home_of_asked m asked
   home-of-asked-same (Ask call credential) = route-home-same (route call)
   home-of-asked-same (Refused reply) = refl
   home-of-asked-same Undecoded = refl
@@ -81,7 +81,7 @@ module _ (l m : Layout) (s : AreAlike l m) where
   path-same (Vbn v) = ap (λ (a : ℕ). a ∷ v ∷ 1 ∷ []) (s.aggregate v)
   path-same (Range v r) = ap (λ (a : ℕ). a ∷ v ∷ 1 ∷ r ∷ []) (s.aggregate v)
 
-  pub tried-same : (asked : Asked) (node : Affinity) → IsHomeOrAbove l asked node → IsHomeOrAbove m asked node
+  tried-same : (asked : Asked) (node : Affinity) → IsHomeOrAbove l asked node → IsHomeOrAbove m asked node
   tried-same asked node h =
       (h.0, sym (home-of-asked-same asked) ∙ h.1, subst IsTrue (λ j. begins (path-same node j) (path-same h.0 j)) h.2)
 

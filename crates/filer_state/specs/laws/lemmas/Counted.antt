@@ -43,7 +43,7 @@ all-length (s ∷ stripes) =
     omega arith
 
 -- what stands there at most once
-pub any-times : (n : ℕ) (bs : List ℕ) → times_listed n bs ≤ 1 → one_if (list_any (λ y. nat_eq y n) bs) ≡ times_listed n bs
+any-times : (n : ℕ) (bs : List ℕ) → times_listed n bs ≤ 1 → one_if (list_any (λ y. nat_eq y n) bs) ≡ times_listed n bs
 any-times n [] h = refl
 any-times n (b ∷ bs) h = ⊎_elim
     (λ (e : b ≡ n).

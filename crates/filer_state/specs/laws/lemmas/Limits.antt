@@ -107,7 +107,7 @@ ranges-fit (r ∷ ranges) = by r.is_used (ranges-fit ranges)
 -- ---- names
 
 -- different keys of a map are at most as many as it has
-pub few-keys : {X : Type 0} (xs : List ℕ) (m : FinMap nat_cmp X) → ((n : ℕ) → times_listed n xs ≤ one_if (is_some (get m n))) → length xs ≤ len m
+few-keys : {X : Type 0} (xs : List ℕ) (m : FinMap nat_cmp X) → ((n : ℕ) → times_listed n xs ≤ one_if (is_some (get m n))) → length xs ≤ len m
 few-keys [] m h = omega arith
 few-keys {X} (x ∷ xs) m h =
     let here : one_if (x == x) ≡ 1 = ap one_if (eq-eqb x x refl) in

@@ -223,7 +223,7 @@ opening-fits verifier stripes largest most size i = record {
 
 -- ---- a volume
 
-abbrev pub opening_contents : Layout → List ℕ → ℕ → VolumeContents
+abbrev opening_contents : Layout → List ℕ → ℕ → VolumeContents
 opening_contents layout verifier v = record {
   number = v;
   aggregate = aggregate_of layout v;
@@ -232,7 +232,7 @@ opening_contents layout verifier v = record {
   ranges = each (opening_range (range_blocks_of layout v) (ranges_in (slice_get layout.volumes v))) 0 most_ranges;
 }
 
-pub contents-open : {P : Type 0} (layout : Layout) (verifier : List ℕ) (f : ℕ → Option (FilerParcel P)) → AreOpening layout verifier f
+contents-open : {P : Type 0} (layout : Layout) (verifier : List ℕ) (f : ℕ → Option (FilerParcel P)) → AreOpening layout verifier f
     → (v : ℕ) → v < length layout.volumes → contents_of layout f v ≡ opening_contents layout verifier v
 contents-open layout verifier f is v on = λ j. record {
   number = v;
@@ -326,7 +326,7 @@ module _ (layout : Layout) (lawful : fault_of layout ≡ None) (verifier : List 
       let same = same-below q (blocks * u) (blocks * ranges_used p.ranges) (ap (λ (k : ℕ). blocks * k) (sym in-use)) in
       omega arith
 
-  pub opening-is-sound : IsSound p [] 0
+  opening-is-sound : IsSound p [] 0
   opening-is-sound = record {
     well_formed = opening-well-formed;
     young = record {

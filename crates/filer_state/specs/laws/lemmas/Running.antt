@@ -18,7 +18,7 @@ use Rattle.filer_state.specs.laws.lemmas.Steps.{laid-out, get-some, volume-right
 use Rattle.filer_state.specs.laws.lemmas.Served.{serve-lift, stays, inner-lift}
 
 -- what is right on a call's volume is right for an entry under the call's node
-pub serve-right : {S : Type 0} (layout : Layout) (v : ℕ) (on : v < length layout.volumes) (lens : Lens VolumeContents S)
+serve-right : {S : Type 0} (layout : Layout) (v : ℕ) (on : v < length layout.volumes) (lens : Lens VolumeContents S)
     → ((s : S) (p : VolumeContents) → (lens.put s p).number ≡ p.number)
     → (q : VolumeCall) (connection number xid : ℕ) (credential : Credential) (moment : Moment) (starved : Bool) → IsCallOn layout v q credential moment
     → (old : S) (reply : Reply) (new : S) → RightOnVolume v lens (ServesOn q starved) [] [] old (jobs.Replied reply) new

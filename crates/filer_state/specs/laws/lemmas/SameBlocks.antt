@@ -21,7 +21,7 @@ module _ (g : StripeValue → StripeValue) where
   total-mapped f same (s ∷ stripes) = let here = same s in let others = total-mapped f same stripes in omega arith
 
   module _ (same : (s : StripeValue) → (g s).blocks ≡ s.blocks) where
-    pub blocks-stay : (stripes : List StripeValue) (i : ℕ) → (stripe_at (map g stripes) i).blocks ≡ (stripe_at stripes i).blocks
+    blocks-stay : (stripes : List StripeValue) (i : ℕ) → (stripe_at (map g stripes) i).blocks ≡ (stripe_at stripes i).blocks
     blocks-stay [] i = refl
     blocks-stay (s ∷ stripes) zero = same s
     blocks-stay (s ∷ stripes) (suc i) = blocks-stay stripes i

@@ -73,12 +73,12 @@ volume-stays layout a f g same w on apart = λ j. record {
 
 module _ {P : Type 0} (layout : Layout) (a : Affinity) (v : ℕ) (rest : List ℕ) (way : path layout a ≡ aggregate_of layout v ∷ v ∷ rest)
     (f g : ℕ → Option (FilerParcel P)) (same : AgreeElsewhere layout a g f) where
-  pub other-volumes : (w : ℕ) → w < length layout.volumes → (w ≡ v → ⊥) → contents_of layout g w ≡ contents_of layout f w
+  other-volumes : (w : ℕ) → w < length layout.volumes → (w ≡ v → ⊥) → contents_of layout g w ≡ contents_of layout f w
   other-volumes w on ne = volume-stays layout a f g same w on
       (λ more h. ne (sym (second-same (aggregate_of layout v) v (aggregate_of layout w) w rest more
       (ap (λ p. begins p (aggregate_of layout w ∷ w ∷ more)) (sym way) ∙ h))))
 
-  pub other-spares : (filer_contents layout g).spare ≡ (filer_contents layout f).spare
+  other-spares : (filer_contents layout g).spare ≡ (filer_contents layout f).spare
   other-spares = each-same (λ b. spare_in (at layout g (Aggregate b))) (λ b. spare_in (at layout f (Aggregate b))) 0 (length layout.spare)
       (λ b low high. ap spare_in (same (Aggregate b) (omega arith)
       (λ h. not-shorter (aggregate_of layout v) v b rest (ap (λ p. begins p (b ∷ [])) (sym way) ∙ h))))

@@ -40,7 +40,7 @@ third a b c d e f r q h =
     let two = way-step b e (c ∷ r) (f ∷ q) one.1 in
     way-step c f r q two.1
 
-pub fourth : (a b c i d e f k : ℕ) → begins (a ∷ b ∷ c ∷ i ∷ []) (d ∷ e ∷ f ∷ k ∷ []) ≡ true → i ≡ k
+fourth : (a b c i d e f k : ℕ) → begins (a ∷ b ∷ c ∷ i ∷ []) (d ∷ e ∷ f ∷ k ∷ []) ≡ true → i ≡ k
 fourth a b c i d e f k h = (way-step i k [] [] (third a b c d e f (i ∷ []) (k ∷ []) h).1).0
 
 -- a node whose way goes on from a's is under a
@@ -143,13 +143,13 @@ module _ {P : Type 0} (layout : Layout) (lawful : fault_of layout ≡ None) (v :
 -- ---- volumes
 
 -- the parcels of a volume's nodes that have contents are as q says
-pub record VolumeIs {P : Type 0} (layout : Layout) (v : ℕ) (f q : ℕ → Option (FilerParcel P)) : Type 0 where
+record VolumeIs {P : Type 0} (layout : Layout) (v : ℕ) (f q : ℕ → Option (FilerParcel P)) : Type 0 where
   pub logical : at layout f (Logical v) ≡ at layout q (Logical v)
   pub stripes : (i : ℕ) → i < stripes_of layout v → at layout f (Stripe v i) ≡ at layout q (Stripe v i)
   pub ranges : (r : ℕ) → r < 16 → at layout f (Range v r) ≡ at layout q (Range v r)
 
 module _ {P : Type 0} (layout : Layout) (v : ℕ) where
-  pub volume-values : (f : ℕ → Option (FilerParcel P)) (held : FilerVolume P) → VolumeIs layout v f (volume_parcels layout (Volume v) held)
+  volume-values : (f : ℕ → Option (FilerParcel P)) (held : FilerVolume P) → VolumeIs layout v f (volume_parcels layout (Volume v) held)
       → volume_lens.of (contents_of layout f v) ≡ volume_set (stripes_of layout v) held
   volume-values f held is = λ j. record {
     logical = record {
@@ -183,7 +183,7 @@ module _ {P : Type 0} (layout : Layout) (v : ℕ) where
         (λ r low high. ap range_in (is.ranges r (omega arith))) j;
   }
 
-  pub volume-in-place : (f : ℕ → Option (FilerParcel P)) (o : Option (Option (FilerVolume P)))
+  volume-in-place : (f : ℕ → Option (FilerParcel P)) (o : Option (Option (FilerVolume P)))
       → VolumeIs layout v f (λ k. in_slot (λ held. volume_parcels layout (Volume v) held k) o)
       → volume_lens.of (contents_of layout f v) ≡ volume_value (stripes_of layout v) (in_one o)
   volume-in-place f None is = volume-missing f is

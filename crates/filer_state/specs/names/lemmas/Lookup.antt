@@ -89,7 +89,7 @@ module _ (p : VolumeContents) (well : WellFormed p) (fileid : ℕ) (name : List 
         by false true = object parent
         by false false = entry (find_name name (entries_of p.logical fileid).list)
 
-    pub checked : (o : Option Status)
+    checked : (o : Option Status)
         → unless_fault o (found_told p.number (logical_lens.of p) own (fileid_named fileid parent (entries_of p.logical fileid) name))
         ≡ answer_of 1 (unless o (lookup_told here (looked_up here)))
     checked None = named

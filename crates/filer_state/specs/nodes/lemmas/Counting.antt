@@ -20,7 +20,7 @@ use Rattle.filer_state.specs.laws.lemmas.Counted.{len-listed}
 
 -- ---- lists
 
-pub count-filter : {A : Type 0} (test : A → Bool) (xs : List A) → length (filter test xs) ≡ count test xs
+count-filter : {A : Type 0} (test : A → Bool) (xs : List A) → length (filter test xs) ≡ count test xs
 count-filter test [] = refl
 count-filter {A} test (x ∷ xs) = by (test x) (count-filter test xs)
   where

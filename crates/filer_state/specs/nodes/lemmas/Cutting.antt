@@ -29,7 +29,7 @@ module _ (f size : ℕ) where
 
   -- ---- what is found
 
-  pub cut-found : (s : StripeValue) (q : FileBlock)
+  cut-found : (s : StripeValue) (q : FileBlock)
       → get (stripe_sized f size s).blocks q ≡ option_map (cut_block q) (cond (kept q) (get s.blocks q) None)
   cut-found s q =
       get-map_values place_total place_same cut_block (retain_keys s.blocks kept) q

@@ -159,7 +159,7 @@ module _ (p : VolumeContents) (m : Dropping) (well : WellFormed p) (may : LosesN
   less-than true n most h = omega (arith, h)
   less-than false n most h = h
 
-  pub well-left : WellFormed after
+  well-left : WellFormed after
   well-left = record {
     striped = well.striped;
     largest = well.largest;

@@ -56,16 +56,16 @@ module _ (old : InodesValue) (directories : DirectoryMap) (m : Naming) (touch : 
   pub still : inode_of between m.fileid ≡ Some m.node
   still = inode-set-other old m.directory dated m.fileid apart-turned ∙ may.node
 
-  pub hung-node : inode_of new m.fileid ≡ Some (node_hung m touch)
+  hung-node : inode_of new m.fileid ≡ Some (node_hung m touch)
   hung-node = inode-set-there between m.fileid m.node (node_hung m touch) still
 
-  pub hung-directory : inode_of new m.directory ≡ Some dated
+  hung-directory : inode_of new m.directory ≡ Some dated
   hung-directory = inode-set-other between m.fileid (node_hung m touch) m.directory apart ∙ inode-set-there old m.directory m.inode dated may.there
 
-  pub hung-other : (q : ℕ) → (q == m.directory) ≡ false → (q == m.fileid) ≡ false → inode_of new q ≡ inode_of old q
+  hung-other : (q : ℕ) → (q == m.directory) ≡ false → (q == m.fileid) ≡ false → inode_of new q ≡ inode_of old q
   hung-other q ne other = inode-set-other between m.fileid (node_hung m touch) q other ∙ inode-set-other old m.directory dated q ne
 
-  pub by-fileid : (P : ℕ → Type 0) → P m.directory → P m.fileid → ((q : ℕ) → (q == m.directory) ≡ false → (q == m.fileid) ≡ false → P q) → (q : ℕ) → P q
+  by-fileid : (P : ℕ → Type 0) → P m.directory → P m.fileid → ((q : ℕ) → (q == m.directory) ≡ false → (q == m.fileid) ≡ false → P q) → (q : ℕ) → P q
   by-fileid = others.by-two m.directory m.fileid
 
   parent-same : (q : ℕ) → (q == m.fileid) ≡ false → parent_directory (inode_of new q) ≡ parent_directory (inode_of old q)

@@ -69,7 +69,7 @@ module _ (k : InodeKind) (f : ℕ) where
       by (DirectoryKind parent subdirectories) = refl
 
   -- where there was no card, there is one without a touch; the others stay
-  pub card-found : (s : StripeValue) → get s.cards f ≡ None → (q : ℕ)
+  card-found : (s : StripeValue) → get s.cards f ≡ None → (q : ℕ)
       → get (card_made k f s).cards q ≡ (if q == f then Some (card_of_kind k) else get s.cards q)
   card-found s none q = by k
     where
@@ -87,14 +87,14 @@ module _ (k : InodeKind) (f : ℕ) where
   untouched (RegularFile size filled verifier) = refl
   untouched (DirectoryKind parent subdirectories) = refl
 
-  pub shown-made : (s : StripeValue) → get s.cards f ≡ None
+  shown-made : (s : StripeValue) → get s.cards f ≡ None
       → option_map size_shown (get (card_made k f s).cards f) ≡ Some (size_in k)
   shown-made s none =
       ap (option_map size_shown) (card-found s none f)
       ∙ ap (λ (b : Bool). option_map size_shown (if b then Some (card_of_kind k) else get s.cards f)) (itself f)
       ∙ ap Some (shown-kind k)
 
-  pub shown-other : (s : StripeValue) → get s.cards f ≡ None → (q : ℕ) → (q == f) ≡ false
+  shown-other : (s : StripeValue) → get s.cards f ≡ None → (q : ℕ) → (q == f) ≡ false
       → get (card_made k f s).cards q ≡ get s.cards q
   shown-other s none q ne = card-found s none q ∙ ap (λ (b : Bool). if b then Some (card_of_kind k) else get s.cards q) ne
 
@@ -292,7 +292,7 @@ module _ (p : VolumeContents) (m : Making) (well : WellFormed p) (may : MayBeMad
   created-lawful : (inode_of (inode_created m.made old) m.directory ≡ Some m.inode)
   created-lawful = inode-created-other old m.made m.directory (apart) ∙ may.there
 
-  pub well-made : WellFormed after
+  well-made : WellFormed after
   well-made = record {
     striped = well.striped;
     largest = well.largest;

@@ -180,7 +180,7 @@ module _ (p : VolumeContents) (m : Making) (well : WellFormed p) (may : MayBeMad
     seen : (q : ℕ) → get (volume_of after).nodes q ≡ answer q
     seen q = get-map_values nat_cmp_total nat_cmp-IsAntisymmetric now new.inodes q ∙ at_each q
 
-    pub nodes-made : (volume_of after).nodes ≡ insert (insert (volume_of p).nodes f (new_node m.made)) m.directory entered_node
+    nodes-made : (volume_of after).nodes ≡ insert (insert (volume_of p).nodes f (new_node m.made)) m.directory entered_node
     nodes-made = same-answers _ _ (λ q. seen q ∙ sym (wanted q))
 
     -- the volume after it

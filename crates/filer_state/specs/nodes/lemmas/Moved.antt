@@ -88,7 +88,7 @@ size-is None = refl
 size-is (Some inode) = refl
 
 -- the volume with other inodes and directories, in which a file settled
-abbrev pub with_names : InodesValue → DirectoryMap → ℕ → VolumeContents → VolumeContents
+abbrev with_names : InodesValue → DirectoryMap → ℕ → VolumeContents → VolumeContents
 with_names inodes directories f p = record p {
   logical = record p.logical { inodes = inodes; directories = directories };
   stripes = touches_taken f p.stripes;
@@ -123,7 +123,7 @@ module _ (p : VolumeContents) (inodes : InodesValue) (directories : DirectoryMap
           let here : filled_blocks x.kind ≡ filled_blocks y.kind = cc in
           here ∙ well.filled q y was
 
-  pub well-then : WellFormed then_volume
+  well-then : WellFormed then_volume
   well-then = record {
     striped = well.striped;
     largest = well.largest;
@@ -148,7 +148,7 @@ module _ (p : VolumeContents) (inodes : InodesValue) (directories : DirectoryMap
     ranges = well.ranges;
   }
 
-  pub sound-then : (hands hands' : List Hand) (made now : ℕ) → made ≤ now
+  sound-then : (hands hands' : List Hand) (made now : ℕ) → made ≤ now
       → ((n : ℕ) → total (times_in_hand p.number n) hands' ≡ total (times_in_hand p.number n) hands)
       → ((q : ℕ) (d : DirectoryValue) → get directories q ≡ Some d → d.next ≤ 3 + now)
       → IsSound p hands made → IsSound then_volume hands' now
@@ -212,7 +212,7 @@ module _ (p : VolumeContents) (from to : Naming) (well : WellFormed p)
   same-all = same-then p.logical.inodes taken (inodes_hung to touch taken)
       (same-then taken (inode_set to.directory dated taken) (inodes_hung to touch taken) same-hung same-dated) same-taken
 
-  pub named-moved : AreNamed (inodes_hung to touch taken).inodes (entries_hung to (entries_untied from p.logical.directories))
+  named-moved : AreNamed (inodes_hung to touch taken).inodes (entries_hung to (entries_untied from p.logical.directories))
   named-moved = named-hung taken (entries_untied from p.logical.directories) to touch may
       (subst (λ (f : ℕ). AreNamedBut f taken.inodes (entries_untied from p.logical.directories)) (sym one)
       (named-untied p.logical.inodes p.logical.directories from stands well.logical.named))

@@ -66,7 +66,7 @@ module _ (old : InodesValue) (directories : DirectoryMap) (m : Making) (lawful :
   by-fileid = others.by-two m.directory old.next
 
   -- an inode that was there shows the same parent and size
-  pub parent-same : (q : ℕ) → (q == old.next) ≡ false → parent_directory (inode_of new q) ≡ parent_directory (inode_of old q)
+  parent-same : (q : ℕ) → (q == old.next) ≡ false → parent_directory (inode_of new q) ≡ parent_directory (inode_of old q)
   parent-same q older = by (q == m.directory) refl
     where
       by : (b : Bool) → (q == m.directory) ≡ b → parent_directory (inode_of new q) ≡ parent_directory (inode_of old q)
@@ -88,7 +88,7 @@ module _ (old : InodesValue) (directories : DirectoryMap) (m : Making) (lawful :
           ∙ sym (ap (λ (k : ℕ). size_of (inode_of old k)) is ∙ ap size_of there)
       by false e = ap size_of (at-other q e older)
 
-  pub some-same : (q : ℕ) → (q == old.next) ≡ false → is_some (inode_of new q) ≡ is_some (inode_of old q)
+  some-same : (q : ℕ) → (q == old.next) ≡ false → is_some (inode_of new q) ≡ is_some (inode_of old q)
   some-same q older = by (q == m.directory) refl
     where
       by : (b : Bool) → (q == m.directory) ≡ b → is_some (inode_of new q) ≡ is_some (inode_of old q)
@@ -174,7 +174,7 @@ module _ (old : InodesValue) (directories : DirectoryMap) (m : Making) (lawful :
     kind-entries (RegularFile size filled verifier) = refl
     kind-entries (DirectoryKind parent subdirectories) = refl
 
-    pub directories-are : (q : ℕ) → is_some (get directories_after q) ≡ is_directory (inode_of new q)
+    directories-are : (q : ℕ) → is_some (get directories_after q) ≡ is_directory (inode_of new q)
     directories-are = by-fileid (λ q. is_some (get directories_after q) ≡ is_directory (inode_of new q))
         (ap (λ o. is_some o) directory-entries ∙ sym (ap is_directory at-directory ∙ ap (λ o. is_some o) (parent-kept (directories_in m.made.kind) m.inode.kind)
         ∙ sym (ap is_directory there) ∙ sym (named.as_directories m.directory) ∙ ap (λ o. is_some o) entered))

@@ -277,7 +277,7 @@ module _ (p : VolumeContents) (m : Sizing) (well : WellFormed p) (there : get p.
             largest-blocks p.logical.largest fitted.0 block well.largest (subst (λ (n : ℕ). n ≤ p.logical.largest) same small) fitted.2.starts,
           )
 
-  pub filled-before : filled ≡ total (blocks_in f) p.stripes
+  filled-before : filled ≡ total (blocks_in f) p.stripes
   filled-before =
       sym (ap filled_blocks is_file) ∙ well.filled f m.inode there ∙ filled-counted p.stripes f some-stripes lies-before
 

@@ -96,7 +96,7 @@ module _ (old : InodesValue) (directories : DirectoryMap) (m : Dropping) (may : 
           ∙ sym (ap (λ (k : ℕ). size_of (inode_of old k)) is ∙ ap size_of may.there)
       by false e = ap size_of (at-other q e left)
 
-  pub some-same : (q : ℕ) → (q == m.fileid) ≡ false → is_some (inode_of new q) ≡ is_some (inode_of old q)
+  some-same : (q : ℕ) → (q == m.fileid) ≡ false → is_some (inode_of new q) ≡ is_some (inode_of old q)
   some-same q left = by (q == m.directory) refl
     where
       by : (b : Bool) → (q == m.directory) ≡ b → is_some (inode_of new q) ≡ is_some (inode_of old q)
@@ -142,7 +142,7 @@ module _ (old : InodesValue) (directories : DirectoryMap) (m : Dropping) (may : 
     some-listed = let all = times-left m.fileid in let one : one_if (m.fileid == m.fileid) ≡ 1 = ap one_if (itself m.fileid) in omega (arith, all, one)
 
     -- it isn't the root, since it has a name
-    pub no-root : (m.fileid == root) ≡ false
+    no-root : (m.fileid == root) ≡ false
     no-root = by (m.fileid == root) refl
       where
         by : (b : Bool) → (m.fileid == root) ≡ b → b ≡ false

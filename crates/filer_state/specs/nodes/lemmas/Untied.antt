@@ -111,7 +111,7 @@ module _ (old : InodesValue) (directories : DirectoryMap) (m : Naming) (stands :
         omega (arith, set, left)
 
     -- a node that has a name isn't the root
-    pub no-root : (m.fileid == root) ≡ false
+    no-root : (m.fileid == root) ≡ false
     no-root = by (m.fileid == root) refl
       where
         by : (b : Bool) → (m.fileid == root) ≡ b → b ≡ false

@@ -28,7 +28,7 @@ counts-are (p ∷ ps) well =
     let others = counts-are ps (λ v q there. well (suc v) q there) in
     λ j. record (count_held p) { used = used j } ∷ others j
 
-pub census-told : (c : FilerContents) (hands : List Hand) (made : ℕ) → AreSound c hands made → census_answer c ≡ census (server_of c)
+census-told : (c : FilerContents) (hands : List Hand) (made : ℕ) → AreSound c hands made → census_answer c ≡ census (server_of c)
 census-told c hands made sound = ap CensusDone (counts-are c.volumes (λ v p there. (sound v p there).1.well_formed))
 
 -- what is sound stays so through an entry that changes nothing

@@ -31,7 +31,7 @@ told-stays volume fileid (Some node) = refl
 
 module _ (p : VolumeContents) (well : WellFormed p) where
   -- the model's space is that of the volume's own counts
-  pub space-is : space_held (volume_lens.of p) ≡ space (volume_of p)
+  space-is : space_held (volume_lens.of p) ≡ space (volume_of p)
   space-is =
       let used = sym (used-is p well) in
       let inodes = sym (len-map_values (node_of p.stripes p.logical.directories) nat_cmp_total nat_cmp-IsAntisymmetric p.logical.inodes.inodes) in

@@ -67,7 +67,7 @@ module _ (p : VolumeContents) (hands : List Hand) (made : ℕ) (sound : IsSound 
   long : length after.ranges ≡ most_ranges
   long = first-length (used + more) p.ranges ∙ sound.well_formed.sixteen
 
-  pub now-used : ranges_used after.ranges ≡ used + more
+  now-used : ranges_used after.ranges ≡ used + more
   now-used =
       let l = long in
       let count = used-count blocks (used + more) 0 after.ranges (omega arith) (omega arith) after-fit in

@@ -243,7 +243,7 @@ module _ (a v more : ℕ) (credential : Credential) (moment : Moment) (c : Filer
           sound-all,
         )
 
-  pub grow-done : IsDone (grow_aggregate v more held)
+  grow-done : IsDone (grow_aggregate v more held)
   grow-done = subst IsDone (sym (ap (λ o. grow_there v more o held) (set-there a c.volumes v p there on))) (by (grow_refusal used spare more) refl)
     where
       by : (r : Option Status) → grow_refusal used spare more ≡ r → IsDone (grow_checked v more (volume_lens.of p) r held)

@@ -36,7 +36,7 @@ module _ {P S : Type 0} (layout : Layout) (node : Affinity) (lens : Lens FilerCo
       (r.0.0.0, refl)
 
   -- where a handler's promise is kept by a set, the run is right by its parcels
-  pub runs-all-by : (outcome : Outcome) → RunsOnAll layout lens (task_under node asked moment) old outcome new
+  runs-all-by : (outcome : Outcome) → RunsOnAll layout lens (task_under node asked moment) old outcome new
       → UnlessReplied outcome ((k : ℕ) → after k ≡ before k) → Runs layout node asked moment before outcome after
   runs-all-by (Replied reply) right same = λ connection number xid.
       step (Serve (finished_at node asked moment connection number xid false)) (jobs.Replied reply)

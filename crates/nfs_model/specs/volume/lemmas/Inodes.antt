@@ -67,7 +67,7 @@ next-absent v i = by (inode_of v v.next) refl
     by None h = refl
     by (Some x) h = let l = i.fileids v.next x h in absurd (omega (arith, l))
 
-pub inode-created : (v : InodesValue) (inode : Inode) (q : ℕ) → inode_of (inode_created inode v) q ≡ (if q == v.next then Some inode else inode_of v q)
+inode-created : (v : InodesValue) (inode : Inode) (q : ℕ) → inode_of (inode_created inode v) q ≡ (if q == v.next then Some inode else inode_of v q)
 inode-created v inode q = get-insert_at v.inodes v.next inode q
 
 pub inode-created-there : (v : InodesValue) (inode : Inode) → inode_of (inode_created inode v) v.next ≡ Some inode
@@ -76,7 +76,7 @@ inode-created-there v inode = inode-created v inode v.next ∙ ap (λ b. if b th
 pub inode-created-other : (v : InodesValue) (inode : Inode) (q : ℕ) → (q == v.next) ≡ false → inode_of (inode_created inode v) q ≡ inode_of v q
 inode-created-other v inode q o = inode-created v inode q ∙ ap (λ b. if b then Some inode else inode_of v q) o
 
-pub inode-set : (v : InodesValue) (fileid : ℕ) (inode : Inode) (q : ℕ)
+inode-set : (v : InodesValue) (fileid : ℕ) (inode : Inode) (q : ℕ)
     → inode_of (inode_set fileid inode v) q ≡ (if (q == fileid) && is_some (inode_of v fileid) then Some inode else inode_of v q)
 inode-set v fileid inode q = by (get v.inodes fileid)
   where
@@ -102,7 +102,7 @@ inode-set-absent v fileid inode h = ap (λ o. inode_replaced o fileid inode v) h
 pub inode-set-other : (v : InodesValue) (fileid : ℕ) (inode : Inode) (q : ℕ) → (q == fileid) ≡ false → inode_of (inode_set fileid inode v) q ≡ inode_of v q
 inode-set-other v fileid inode q o = inode-set v fileid inode q ∙ ap (λ b. if b && is_some (inode_of v fileid) then Some inode else inode_of v q) o
 
-pub inode-dropped : (v : InodesValue) (fileid q : ℕ) → inode_of (inode_dropped fileid v) q ≡ (if q == fileid then None else inode_of v q)
+inode-dropped : (v : InodesValue) (fileid q : ℕ) → inode_of (inode_dropped fileid v) q ≡ (if q == fileid then None else inode_of v q)
 inode-dropped v fileid q = get-remove_at v.inodes fileid q
 
 pub inode-dropped-there : (v : InodesValue) (fileid : ℕ) → inode_of (inode_dropped fileid v) fileid ≡ None

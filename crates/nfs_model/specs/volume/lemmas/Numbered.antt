@@ -23,7 +23,7 @@ module _ {X : Type 0} where
   same-answers m n h = same_map nat_cmp_total nat_cmp-IsAntisymmetric m n h
 
   -- a key that has what it is given answers as before
-  pub as-before : (m : FinMap nat_cmp X) (k q : ℕ) (o : Option X) → get m k ≡ o → (if q == k then o else get m q) ≡ get m q
+  as-before : (m : FinMap nat_cmp X) (k q : ℕ) (o : Option X) → get m k ≡ o → (if q == k then o else get m q) ≡ get m q
   as-before m k q o h = by (q == k) refl
     where
       by : (b : Bool) → b ≡ (q == k) → (if b then o else get m q) ≡ get m q

@@ -1,4 +1,4 @@
-use Rattle.std.proofs.Common.{◌+◌, ◌<◌, ◌^◌, min, arith}
+use Rattle.std.proofs.Common.{◌+◌, ◌<◌, ◌^◌, arith}
 use Rattle.statistics.proofs.histogram.bucket_of.Goals as goal
 
 pub returns-clause-within : goal.returns-clause-within
