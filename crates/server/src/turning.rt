@@ -123,7 +123,8 @@ fn goes_on<R>(
     }
 }
 
-/// Makes turns until no message waits, or 64. Answers whether the last found none.
+/// Makes turns until no message waits, or 64, and tends between them where a stock fell short.
+/// Answers whether the last turn found none.
 pub(crate) fn run_calls<R: Wait>(
     lane: &mut Lane<Socket, R>,
     pace: &mut Pace,
