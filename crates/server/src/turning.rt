@@ -39,17 +39,16 @@ fn tell_left<R>(lane: &Lane<Socket, R>, pace: &mut Pace, common: &Common) {
 #[derive(Clone, Copy)]
 struct Ran {
     chained: Chained,
-    /// Whether the stock of a volume had too few numbers for one of the calls.
-    fell_short: bool,
+    /// The kind of the node, where a call had its reply there.
+    ran_on: Option<Kind>,
 }
 
-/// Whether the stock of a volume had too few numbers for one of some calls under one grant, of
-/// which the last that was finished, if one was, ran on a node of this kind: they ran under Volume,
-/// or the one after them moved there from Volume Logical.
-fn fell_short(chained: &Chained, ran_on: Option<Kind>) -> bool {
-    match ran_on {
-        Some(Kind::Volume) => true,
-        Some(Kind::VolumeLogical) => matches!(chained, Chained::Moved),
+/// Whether the stock of a volume had too few numbers for one of the calls: they ran under Volume,
+/// where it isn't their home, or the last one moved there from Volume Logical.
+fn fell_short(pace: &mut Pace, ran: &Ran) -> bool {
+    match ran.ran_on {
+        Some(Kind::Volume) => pace.take_move(),
+        Some(Kind::VolumeLogical) => matches!(ran.chained, Chained::Moved),
         _ => false,
     }
 }
@@ -77,10 +76,9 @@ fn run_some<R: Wait>(
         }
         None => lane.turns(&Unwatched, &word, moment, most),
     };
-    let fell_short = fell_short(&chained, word.ran_on.get());
     Ran {
         chained,
-        fell_short,
+        ran_on: word.ran_on.get(),
     }
 }
 
@@ -146,7 +144,7 @@ pub(crate) fn run_calls<R: Wait>(
             pace.finish();
             tell_left(lane, pace, common);
         }
-        if ran.fell_short {
+        if fell_short(pace, &ran) {
             restock(lane, pace, common, moment);
         }
         if !goes_on(lane, pace, common, &ran.chained) {
