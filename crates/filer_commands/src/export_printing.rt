@@ -2,15 +2,13 @@
 
 ghost use Rattle.std.specs.Prelude.{◌+◌, ◌*◌, ◌≤◌};
 
+use nfs_values::BLOCK_BYTES;
 use server::{Options, VolumePlan};
 use std::io::Write;
 use std::net::SocketAddr;
 
 /// The bytes of a mebibyte.
 const MEBIBYTE: u64 = 1_048_576;
-
-/// The bytes of a block.
-const BLOCK: u64 = 4_096;
 
 /// The bytes of a block's number.
 const NUMBER: u64 = 4;
@@ -45,7 +43,7 @@ fn marks_of(blocks: u32) -> u64
 /// its 16 ranges, whether it is free and whether it is of a file that is gone; and the numbers that
 /// come into the stock soon after the start: of all blocks in use, or 1,048,576.
 fn kibibytes_at_start(plan: &VolumePlan) -> u64 {
-    let numbers = NUMBER * (plan.bytes() / BLOCK).min(STOCKED);
+    let numbers = NUMBER * (plan.bytes() / BLOCK_BYTES).min(STOCKED);
     (2 * 16 * marks_of(plan.range_blocks) + numbers).div_ceil(1_024)
 }
 

@@ -1,6 +1,7 @@
 //! When a lane leaves word that it wants what another has.
 
-use affinity::Affinity;
+use affinity::{Affinity, Kind};
+use std::cell::Cell;
 use turns::{Hint, Wanted};
 use workers::Patience;
 
@@ -11,6 +12,8 @@ use workers::Patience;
 pub(crate) struct LateWord<'a> {
     pub(crate) wanted: &'a Wanted,
     pub(crate) patience: Patience,
+    /// On a node of which kind a call was finished last, if one was.
+    pub(crate) ran_on: Cell<Option<Kind>>,
 }
 
 impl Hint for LateWord<'_> {
@@ -20,7 +23,9 @@ impl Hint for LateWord<'_> {
         }
     }
 
+    // It is asked after each call that has its reply, before the next one is picked.
     fn is_asked(&self, node: Affinity) -> bool {
+        self.ran_on.set(Some(node.kind()));
         self.wanted.is_asked(node)
     }
 }

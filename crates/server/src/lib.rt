@@ -39,6 +39,7 @@ mod socket;
 mod station;
 mod task;
 mod tends;
+mod turning;
 mod untended;
 mod usage;
 mod visits;

@@ -15,6 +15,8 @@ pub(crate) struct Pace {
     pub(crate) patience: Patience,
     /// How many turns in a row came to a move.
     moves: u32,
+    /// Whether one did since calls were last finished under Volume.
+    has_moved: bool,
     /// How many calls that may leave blocks were admitted when no message waited last.
     pub(crate) left: u64,
     /// When the round began.
@@ -29,6 +31,7 @@ impl Drop for Pace {
             tending: _,
             patience: _,
             moves: _,
+            has_moved: _,
             left: _,
             last: _,
         } = self;
@@ -42,6 +45,7 @@ impl Pace {
             tending: Tending::new(),
             patience: Patience::new(),
             moves: 0,
+            has_moved: false,
             left: 0,
             last: Moment::START,
         }
@@ -68,10 +72,19 @@ impl Pace {
 
     /// A call has to run elsewhere: whether to try at once there.
     pub(crate) fn move_on(&mut self) -> bool {
+        self.has_moved = true;
         if self.moves < MOST_MOVES {
             self.moves += 1;
             return true;
         }
         self.patience.pause()
+    }
+
+    /// Calls were finished under Volume. Answers whether one moved since that was so last: else
+    /// they were at home there.
+    pub(crate) fn take_move(&mut self) -> bool {
+        let has_moved = self.has_moved;
+        self.has_moved = false;
+        has_moved
     }
 }

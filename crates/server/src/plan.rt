@@ -3,29 +3,14 @@
 ghost use Rattle.std.specs.Prelude.{◌≡◌, ◌≤◌, ◌<◌, ◌*◌, ◌⊎◌};
 ghost use Rattle.nfs_model.specs.volume.Ranges.{IsRangeSize};
 
-/// The bytes of a block.
-const BLOCK: u64 = 4_096;
+use affinity::{INODES, MIB, MOST_INODES, MOST_RANGES, RANGE_BLOCKS};
+use nfs_values::BLOCK_BYTES;
 
 /// The bytes of a mebibyte.
 const MEBIBYTE: u64 = 1_048_576;
 
 /// The bytes of a volume for each of its inodes.
 const BYTES_AN_INODE: u64 = 16_384;
-
-/// The most ranges of a volume.
-const MOST_RANGES: u32 = 16;
-
-/// The fewest blocks of a range.
-const RANGE_BLOCKS: u32 = 1_024;
-
-/// The fewest mebibytes of a volume's largest files.
-const MIB: u64 = 16;
-
-/// The fewest inodes that a volume may have.
-const INODES: u32 = 65_536;
-
-/// The most inodes that a volume may have.
-const MOST_INODES: u32 = 67_108_864;
 
 /// The fewest bytes of a volume: a range of 1,024 blocks.
 const LEAST_VOLUME: u64 = 4_194_304;
@@ -123,11 +108,11 @@ impl VolumePlan {
         if bytes < LEAST_VOLUME || bytes > MOST_BYTES {
             return None;
         }
-        let blocks = (bytes / BLOCK) as u32;
+        let blocks = (bytes / BLOCK_BYTES) as u32;
         let range_blocks = range_blocks_for(blocks);
         let ranges = blocks / range_blocks;
-        let held = u64::from(ranges) * (BLOCK * u64::from(range_blocks));
-        let mebibytes = (held / MEBIBYTE).max(MIB);
+        let held = u64::from(ranges) * (BLOCK_BYTES * u64::from(range_blocks));
+        let mebibytes = (held / MEBIBYTE).max(u64::from(MIB));
         let inodes = (held / BYTES_AN_INODE).max(u64::from(INODES));
         Some(VolumePlan {
             ranges,
@@ -171,6 +156,6 @@ impl VolumePlan {
     pub fn bytes(&self) -> u64
         ensures { result ≡ bytes_of self.now }
     {
-        u64::from(self.ranges) * (BLOCK * u64::from(self.range_blocks))
+        u64::from(self.ranges) * (BLOCK_BYTES * u64::from(self.range_blocks))
     }
 }

@@ -4,27 +4,18 @@ ghost use Rattle.std.specs.Prelude.{IfNone};
 ghost use Rattle.server.specs.Lanes.{IsAtRest, Stays};
 
 use crate::closing::{close_ended, close_idle};
-use crate::common::Common;
 use crate::counting::count_round;
 use crate::hearing::hear;
-use crate::late_word::LateWord;
-use crate::pace::Pace;
 use crate::socket::Socket;
 use crate::station::Station;
-use crate::tends::{may_rest, put_down, tend};
+use crate::tends::{begin_anew, may_rest, put_down, tend};
+use crate::turning::run_calls;
 use crate::visits::{any_is_due, open, read_all, write_all};
 use lanes::Lane;
 use nfs_values::Moment;
 use std::rt::Clock;
 use std::sync::Wait;
 use std::time::Duration;
-use turns::{Chained, Unwatched};
-
-/// The most turns of a round.
-const MOST_TURNS: usize = 64;
-
-/// The most of them under one grant.
-const MOST_CHAINED: usize = 32;
 
 /// How long a lane waits until it tends again where calls were finished, in milliseconds.
 const UNTENDED: u64 = 1;
@@ -87,82 +78,6 @@ fn take_mail<R: Wait>(lane: &mut Lane<Socket, R>, station: &mut Station, rt: &R,
     }
 }
 
-/// Tells all lanes that calls may have left blocks, where some that may were admitted since no
-/// message waited last.
-fn tell_left<R>(lane: &Lane<Socket, R>, pace: &mut Pace, common: &Common) {
-    let leaving = lane.leaving_calls();
-    if leaving != pace.left {
-        common.untended.leave();
-    }
-    if lane.waiting() == 0 {
-        pace.left = leaving;
-    }
-}
-
-/// Makes turns under one grant, at most so many.
-fn run_some<R: Wait>(
-    lane: &mut Lane<Socket, R>,
-    pace: &Pace,
-    common: &Common,
-    moment: Moment,
-    most: usize,
-) -> Chained
-    ensures { Stays lane.old lane.new }
-{
-    let word = LateWord {
-        wanted: &common.wanted,
-        patience: pace.patience,
-    };
-    match common.counter(lane.index()) {
-        Some(counter) => {
-            let chained = lane.turns(&counter, &word, moment, most);
-            counter.see(&chained);
-            chained
-        }
-        None => lane.turns(&Unwatched, &word, moment, most),
-    }
-}
-
-/// Makes turns until no message waits, or 64. Answers whether the last found none.
-fn run_calls<R: Wait>(
-    lane: &mut Lane<Socket, R>,
-    pace: &mut Pace,
-    common: &Common,
-    moment: Moment,
-) -> bool
-    ensures { Stays lane.old lane.new }
-{
-    let mut left = MOST_TURNS;
-    for _ in 0..MOST_TURNS {
-        let before = lane.waiting();
-        if left == 0 || before == 0 && may_rest(lane, pace) {
-            return false;
-        }
-        let chained = run_some(lane, pace, common, moment, left.min(MOST_CHAINED));
-        let finished = before.saturating_sub(lane.waiting());
-        left = left.saturating_sub(finished.max(1));
-        if finished > 0 {
-            pace.finish();
-            tell_left(lane, pace, common);
-        }
-        let goes_on = match chained {
-            Chained::Done => true,
-            Chained::Moved => {
-                common.untended.leave();
-                put_down(lane, pace);
-                pace.move_on()
-            }
-            Chained::Busy { node: _, word: _ } => pace.refuse(),
-            Chained::Worn => pace.refuse(),
-            Chained::Idle => return true,
-        };
-        if !goes_on {
-            return false;
-        }
-    }
-    false
-}
-
 /// Takes what was left and reads each listed connection once. Answers how many messages wait then.
 fn read_round<R: Wait>(
     lane: &mut Lane<Socket, R>,
@@ -211,8 +126,8 @@ pub(crate) fn round<R: Wait + Clock>(rt: &R, lane: &mut Lane<Socket, R>, station
     station.pace.patience.give_way(rt);
     let moment = station.pace.time(rt);
     let waiting = read_round(lane, station, rt, moment);
-    if station.common.untended.take(moment) {
-        station.pace.tending.begin_anew();
+    if waiting == 0 {
+        begin_anew(&mut station.pace, &station.common, moment);
     }
     let is_idle = run_calls(lane, &mut station.pace, &station.common, moment);
     station.is_writing = write_all(lane, &station.keys, &mut station.buffers);
@@ -220,6 +135,7 @@ pub(crate) fn round<R: Wait + Clock>(rt: &R, lane: &mut Lane<Socket, R>, station
     close_ended(lane, station, rt);
     close_idle(lane, station, rt, moment.seconds);
     if is_idle {
+        begin_anew(&mut station.pace, &station.common, moment);
         tend(lane, &mut station.pace);
     } else {
         put_down(lane, &mut station.pace);

@@ -7,9 +7,11 @@ ghost use Rattle.workers.specs.declared.tending.Found as found;
 ghost use Rattle.workers.specs.Rests.{may_sleep, HasTended};
 ghost use Rattle.turns.specs.Words.{layout_in};
 
+use crate::common::Common;
 use crate::pace::Pace;
 use crate::socket::Socket;
 use lanes::Lane;
+use nfs_values::Moment;
 use workers::{Found, found_by};
 
 /// Makes the next tend of a lane, and counts it.
@@ -22,6 +24,14 @@ pub(crate) fn tend<R>(lane: &mut Lane<Socket, R>, pace: &mut Pace)
     let next = lane.worker().next_tend(lane.filer(), pace.tending.made);
     let found = found_by(lane.tend(next));
     pace.tending.count(empty, found);
+}
+
+/// Begins to tend anew, where calls may have left blocks to tend and no lane has begun in the
+/// millisecond of this moment.
+pub(crate) fn begin_anew(pace: &mut Pace, common: &Common, moment: Moment) {
+    if common.untended.take(moment) {
+        pace.tending.begin_anew();
+    }
 }
 
 /// Puts down what is in the lane's hand, if anything is.

@@ -1,7 +1,7 @@
 use Rattle.std.proofs.Common.{◌≡◌}
 use Rattle.lanes.specs.Words.{filer_in, identity_in}
 use Rattle.server.specs.Lanes.{seats_of}
-use Rattle.server.proofs.round.run_calls.Given as goal
+use Rattle.server.proofs.turning.run_calls.Given as goal
 
 abbrev pub invariant-loop : goal.invariant-loop
 invariant-loop g l = record {
