@@ -110,9 +110,9 @@ fn give_up<R: Threads + Drop>(
     ServerFault::Thread
 }
 
-/// Opens a filer with the volumes of the options' plan and as many lanes as they have workers, which
-/// read by what they offer, and starts their threads. Where one can't be started those that run are
-/// stopped.
+/// Opens a filer with the volumes of the options' plan and as many lanes as they have workers,
+/// which read by what they offer, and starts their threads. Where one can't be started those that
+/// run are stopped.
 fn start<R>(
     rt: R,
     alloc: Global,

@@ -227,8 +227,8 @@ impl Worker {
     }
 
     /// This worker with one of its seats less, and a second one with that seat and a pass of a
-    /// queue of its own. The second has done nothing, carries nothing, keeps nothing and knows of no
-    /// stock; what is known of one stays with the first.
+    /// queue of its own. The second has done nothing, carries nothing, keeps nothing and knows of
+    /// no stock; what is known of one stays with the first.
     pub fn split_with(
         self,
         filer: &Filer,
