@@ -2,7 +2,7 @@
 
 ghost use Rattle.std.specs.Prelude.{◌≡◌, ◌^◌, ◌-◌, min, sum_by};
 
-use nfs_values::VolumeCount;
+use nfs_values::answer::VolumeCount;
 
 /// What CENSUS tells of the volumes (our profile): of each its number, its blocks, of 4,096 bytes,
 /// and how many of them are in files.

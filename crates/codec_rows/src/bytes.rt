@@ -4,7 +4,8 @@ ghost use Rattle.std.specs.Prelude.{◌≤◌, length};
 ghost use Rattle.nfs_types.specs.Results.{answer_bytes};
 ghost use Rattle.nfs_values.specs.Answer.{answer_of};
 
-use nfs_values::{Answer, BytesRead, ReadResults, room_to_read};
+use nfs_values::answer::ReadResults;
+use nfs_values::{Answer, BytesRead, room_to_read};
 use std::process::Abort;
 
 /// Looks whether this is so.

@@ -6,11 +6,13 @@ ghost use Rattle.nfs_types.specs.Results.{answer_bytes};
 
 use crate::bytes::{bytes_of, joined, read_answer, same};
 use nfs_types::encode_result;
+use nfs_values::answer::{
+    AccessResults, DirectoryEntry, DirectoryEntryPlus, FilesystemInfoResults,
+    PathConfigurationResults, ReadDirectoryPlusResults, ReadDirectoryResults, RenameResults,
+};
 use nfs_values::{
-    AccessResults, Answer, Attributes, Change, Cookie, DirectoryEntry, DirectoryEntryPlus,
-    FileHandle, FileKind, Fileid, FilesystemInfoResults, Moment, Name, PathConfigurationResults,
-    PriorAttributes, ReadDirectoryPlusResults, ReadDirectoryResults, RenameResults, Status,
-    UnsupportedProcedure,
+    Answer, Attributes, Change, Cookie, FileHandle, FileKind, Fileid, Moment, Name, PriorAttributes,
+    Status, UnsupportedProcedure,
 };
 use std::mem;
 use std::process::Abort;

@@ -40,7 +40,8 @@ use crate::page::Page;
 use crate::search::find_position;
 use crate::sequences::Sequence;
 use crate::spot::Spot;
-use nfs_values::{Cookie, DirectoryEntry, Fileid, Name};
+use nfs_values::answer::DirectoryEntry;
+use nfs_values::{Cookie, Fileid, Name};
 use std::alloc::{AllocError, Global};
 use std::marker::Model;
 

@@ -37,7 +37,8 @@ ghost use Rattle.directories.specs.Slots.{in_slot, in_order, IsOrdered};
 
 use crate::sequences::Sequence;
 use crate::slot::{Slot, entry_in, holds, put, vacate};
-use nfs_values::{Cookie, DirectoryEntry, Fileid, Name};
+use nfs_values::answer::DirectoryEntry;
+use nfs_values::{Cookie, Fileid, Name};
 use std::alloc::{AllocError, Global};
 use std::marker::Model;
 

@@ -1,6 +1,6 @@
 //! Pages of a directory.
 
-use nfs_values::DirectoryEntry;
+use nfs_values::answer::DirectoryEntry;
 
 /// Entries that follow one another in a directory (RFC 1813 section 3.3.16).
 #[derive(Drop)]

@@ -2,7 +2,8 @@
 
 use crate::replay::ProgramFault;
 use admin_client::{AdminFault, BlockTotals, CallRefusal, Census, Growth};
-use nfs_values::{VolumeCount, VolumeNumber};
+use nfs_values::answer::VolumeCount;
+use nfs_values::VolumeNumber;
 use std::io::{self, Write};
 
 /// A write that failed.

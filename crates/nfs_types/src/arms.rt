@@ -12,11 +12,11 @@ ghost use Rattle.nfs_types.specs.Results.{renamed_shape, renamed_value};
 ghost use Rattle.nfs_types.specs.Results.{fsstat_shape, fsstat_value, commit_shape, commit_value};
 
 use crate::encode::{Encode, size_of_present, write_absent, write_present};
-use nfs_values::{
-    AccessResults, BLOCK_BYTES, COUNT_LIMIT, CommitResults, FilesystemInfoResults,
-    FilesystemStatusResults, LookupResults, MakeResults, PathConfigurationResults, ReadResults,
-    RenameResults, WriteResults,
+use nfs_values::answer::{
+    AccessResults, CommitResults, FilesystemInfoResults, FilesystemStatusResults, LookupResults,
+    MakeResults, PathConfigurationResults, ReadResults, RenameResults, WriteResults,
 };
+use nfs_values::{BLOCK_BYTES, COUNT_LIMIT};
 
 /// FILE_SYNC (RFC 1813 section 3.3.7).
 const FILE_SYNC: u32 = 2;

@@ -10,7 +10,8 @@ ghost use Rattle.nfs_types.specs.Results.{entry_shape, entry_value, readdir_shap
 ghost use Rattle.nfs_types.specs.Results.{count_shape, count_value, census_shape};
 
 use crate::encode::{Encode, append, size_of_present, write_present};
-use nfs_values::{DirectoryEntry, Fileid, ReadDirectoryResults, Verifier, VolumeCount};
+use nfs_values::answer::{DirectoryEntry, ReadDirectoryResults, VolumeCount};
+use nfs_values::{Fileid, Verifier};
 
 impl Encode for DirectoryEntry {
     ghost shape = { entry_shape };

@@ -9,7 +9,8 @@ ghost use Rattle.nfs_types.specs.Results.{readdirplus_shape, readdirplus_value};
 
 use crate::encode::{Encode, size_of_present, write_present};
 use crate::lists::{size_of_chain, write_chain};
-use nfs_values::{DirectoryEntryPlus, ReadDirectoryPlusResults, Verifier};
+use nfs_values::Verifier;
+use nfs_values::answer::{DirectoryEntryPlus, ReadDirectoryPlusResults};
 
 impl Encode for DirectoryEntryPlus {
     ghost shape = { entry_plus_shape };

@@ -1,7 +1,7 @@
 //! Values of NFS version 3 (RFC 1813) and RPC (RFC 5531): what calls ask and what replies tell.
 #![tactic(auto)]
 
-mod answer;
+pub mod answer;
 mod attributes;
 mod bytes;
 mod call;
@@ -23,12 +23,7 @@ mod target;
 mod unsupported;
 mod verifier;
 
-pub use answer::{
-    AccessResults, Answer, CommitResults, DirectoryEntry, DirectoryEntryPlus,
-    FilesystemInfoResults, FilesystemStatusResults, LookupResults, MakeResults,
-    PathConfigurationResults, ReadDirectoryPlusResults, ReadDirectoryResults, ReadResults,
-    RenameResults, VolumeCount, WriteResults,
-};
+pub use answer::Answer;
 pub use attributes::{Attributes, Change, FileKind, PriorAttributes};
 pub use bytes::{BytesRead, BytesToWrite, room_to_read};
 pub use call::Call;

@@ -1,4 +1,4 @@
--- How many bytes the results of each procedure take.
+-- How many bytes results take that have bytes, lists or handles of any number.
 use Rattle.std.proofs.Common.{◌≡◌, ◌^◌, ℕ, zero, suc, min, take, Option, Some, None, ◌+◌, ◌-◌, ◌*◌, ◌≤◌, Bool, true, false, cond, List, [], ◌∷◌, ◌++◌, length, map, replicate, refl, sym, subst, ap, ◌∙◌, arith}
 use Rattle.std.specs.Prelude.{nat_le}
 use Rattle.std.specs.List.{flat_map, range_with_len}
@@ -7,7 +7,6 @@ use Rattle.std.proofs.lemmas.Bool.{leb-true}
 use Rattle.std.proofs.lemmas.List.{length-append, length-replicate, length-take}
 use Rattle.xdr.specs.Shape.{Array, Word, Chain, Optional, Boolean, word, hyper, flag, padding, padded, linked, spelling}
 use Rattle.nfs_model.specs.Types as model
-use Rattle.nfs_model.specs.Server.{handle_bytes}
 use Rattle.nfs_model.specs.Serial.Readdir.{entry_size, fitting}
 use Rattle.nfs_model.specs.Serial.Readdirplus.{entry_plus_size, fitting_plus}
 use Rattle.nfs_types.specs.Shapes.{◌&◌, handle_shape, after_shape, attributes_value, change_shape, change_value}
@@ -17,7 +16,7 @@ use Rattle.nfs_types.specs.lemmas.Absent.{length-absent_parts}
 use Rattle.rpc_msg.specs.HandleForm.{told_in_run, verifier_of}
 use Rattle.rpc_msg.specs.Handles.{answer_with, listed_with}
 use Rattle.rpc_msg.specs.Replies.{reply_record}
-use Rattle.rpc_msg.specs.Room.{padded_size, lookup_room, made_room, change_room}
+use Rattle.rpc_msg.specs.Room.{padded_size}
 
 -- ---- bytes with their padding
 
@@ -33,7 +32,7 @@ length-padded bytes =
     ∙ ap (λ (k : ℕ). length bytes + k) (length-replicate (padding (length bytes)) 0)
     ∙ padded_is (length bytes)
 
--- ---- answers of one size
+-- ---- results with their handles
 
 -- how many bytes more they take where their handles are told in a run
 abbrev pub more_of : model.Answer → ℕ
@@ -47,38 +46,7 @@ more_of answer = 0
 pub record Takes (n : ℕ) (answer : model.Answer) : Type 0 where
   pub bytes : more_of answer + length (answer_bytes answer) ≤ n
 
-pub getattr_size : (a : model.Shown) → Takes 88 (model.GetattrDone a)
-getattr_size a = record { bytes = omega arith }
-
-pub setattr_size : (w : model.Wcc) → Takes (4 + change_room) (model.SetattrDone w)
-setattr_size w = record { bytes = omega arith }
-
-pub lookup_size : (volume fileid : ℕ) (a b : model.Shown) → Takes lookup_room (model.LookupDone (handle_bytes volume fileid) a b)
-lookup_size volume fileid a b = record { bytes = omega arith }
-
-pub made_size : (volume fileid : ℕ) (a : model.Shown) (w : model.Wcc) → Takes made_room (model.MadeDone (handle_bytes volume fileid) a w)
-made_size volume fileid a w = record { bytes = omega arith }
-
-pub gone_size : (w : model.Wcc) → Takes (4 + change_room) (model.GoneDone w)
-gone_size w = record { bytes = omega arith }
-
-pub rename_size : (v w : model.Wcc) → Takes (4 + change_room + change_room) (model.RenameDone v w)
-rename_size v w = record { bytes = omega arith }
-
-pub fsstat_size : (a : model.Shown) (s : model.Space) → Takes 144 (model.FsstatDone a s)
-fsstat_size a s = record { bytes = omega arith }
-
-pub access_size : (a : model.Shown) (given : ℕ) → Takes 96 (model.AccessDone a given)
-access_size a given = record { bytes = omega arith }
-
-pub fsinfo_size : (a : model.Shown) (largest : ℕ) → Takes 140 (model.FsinfoDone a largest)
-fsinfo_size a largest = record { bytes = omega arith }
-
-pub pathconf_size : (a : model.Shown) → Takes 116 (model.PathconfDone a)
-pathconf_size a = record { bytes = omega arith }
-
-pub grow_size : (total : ℕ) → Takes 12 (model.GrowDone total)
-grow_size total = record { bytes = omega arith }
+-- ---- what MOUNT answers
 
 length-exports : (first count : ℕ)
     → length (spelling exports_shape (map export_value (map volume_path (range_with_len first count)))) ≡ 20 * count + 4
@@ -105,17 +73,6 @@ mount_size volumes model.Unmount = record { bytes = omega arith }
 
 pub failed_size : (status : model.Status) (absent : ℕ) → length (answer_bytes (model.Failed status absent)) ≡ 4 + 4 * absent
 failed_size status absent = omega (arith, length-absent_parts absent)
-
--- ---- with a verifier of 8 bytes
-
-eight : (verifier : List ℕ) → length verifier ≡ 8 → length (padded verifier) ≡ 8
-eight verifier e = length-padded verifier ∙ ap padded_size e
-
-pub write_size : (count : ℕ) (verifier : List ℕ) → length verifier ≡ 8 → Takes 28 (model.WriteDone count verifier)
-write_size count verifier e = record { bytes = omega (arith, eight verifier e) }
-
-pub commit_size : (w : model.Wcc) (verifier : List ℕ) → length verifier ≡ 8 → Takes (4 + change_room + 8) (model.CommitDone w verifier)
-commit_size w verifier e = record { bytes = omega (arith, eight verifier e) }
 
 -- ---- bytes that were read
 

@@ -5,6 +5,7 @@ use Rattle.std.specs.Prelude.{min, max, not, ◌==◌, nat_le, nat_lt, slice_get
 use Rattle.std.specs.FinMap.{get}
 use Rattle.std.proofs.lemmas.Bool.{ltb-false}
 use Rattle.std.proofs.lemmas.List.{length-map, length-set, length-take}
+use Rattle.xdr.specs.Shape.{padded}
 use Rattle.nfs_model.specs.Types as model
 use Rattle.nfs_model.specs.Server.{opening_volume, opening_volumes, opening, FileNode, DirectoryNode, Node, File, Directory, VolumeState, Server, Named}
 use Rattle.nfs_model.specs.Server.{handle_bytes, handle_of, most_bytes}
@@ -36,16 +37,59 @@ use Rattle.nfs_model.specs.Serial.Step.{Step, stay, placed, on, on_two, serve, s
 use Rattle.nfs_model.specs.Serial.Absent.{absent_in, absent_parts}
 use Rattle.nfs_model.specs.Serial.AtOnce.{answer_of_two, answer_without_home}
 use Rattle.rpc_msg.specs.Replies.{reply_record}
-use Rattle.rpc_msg.specs.Room.{lookup_room, read_room, readdir_room, change_room, made_room, results_room, reply_room, IsRoomy}
+use Rattle.rpc_msg.specs.Room.{padded_size, lookup_room, read_room, readdir_room, change_room, made_room, results_room, reply_room, IsRoomy}
 use Rattle.rpc_msg.specs.declared.handle_form.HandleForm.{HandleForm}
 use Rattle.rpc_msg.specs.declared.handle_form.HandleForm.TheVariants.{Plain, OfRun}
 use Rattle.rpc_msg.specs.HandleForm.{told_in_run}
 use Rattle.rpc_msg.specs.Handles.{answer_with, reply_told}
 use Rattle.rpc_msg.proofs.AnswerSizes.{told_size}
-use Rattle.rpc_msg.proofs.AnswerSizes.{Takes, getattr_size, setattr_size, lookup_size, access_size, made_size, gone_size, rename_size, fsstat_size, fsinfo_size, pathconf_size}
-use Rattle.rpc_msg.proofs.AnswerSizes.{grow_size, mount_size, failed_size}
-use Rattle.rpc_msg.proofs.AnswerSizes.{write_size, commit_size, read_size, entries_size, readdir_size, fitting_fits, census_size, success_size}
+use Rattle.rpc_msg.proofs.AnswerSizes.{Takes, length-padded, mount_size, failed_size, read_size, entries_size, readdir_size, fitting_fits, census_size, success_size}
 use Rattle.rpc_msg.proofs.AnswerSizes.{IsShort, entry_is_short, entries_plus_size, readdirplus_size, fitting_plus_fits}
+
+-- ---- results of one size
+
+getattr_size : (a : model.Shown) → Takes 88 (model.GetattrDone a)
+getattr_size a = record { bytes = omega arith }
+
+setattr_size : (w : model.Wcc) → Takes (4 + change_room) (model.SetattrDone w)
+setattr_size w = record { bytes = omega arith }
+
+lookup_size : (volume fileid : ℕ) (a b : model.Shown) → Takes lookup_room (model.LookupDone (handle_bytes volume fileid) a b)
+lookup_size volume fileid a b = record { bytes = omega arith }
+
+made_size : (volume fileid : ℕ) (a : model.Shown) (w : model.Wcc) → Takes made_room (model.MadeDone (handle_bytes volume fileid) a w)
+made_size volume fileid a w = record { bytes = omega arith }
+
+gone_size : (w : model.Wcc) → Takes (4 + change_room) (model.GoneDone w)
+gone_size w = record { bytes = omega arith }
+
+rename_size : (v w : model.Wcc) → Takes (4 + change_room + change_room) (model.RenameDone v w)
+rename_size v w = record { bytes = omega arith }
+
+fsstat_size : (a : model.Shown) (s : model.Space) → Takes 144 (model.FsstatDone a s)
+fsstat_size a s = record { bytes = omega arith }
+
+access_size : (a : model.Shown) (given : ℕ) → Takes 96 (model.AccessDone a given)
+access_size a given = record { bytes = omega arith }
+
+fsinfo_size : (a : model.Shown) (largest : ℕ) → Takes 140 (model.FsinfoDone a largest)
+fsinfo_size a largest = record { bytes = omega arith }
+
+pathconf_size : (a : model.Shown) → Takes 116 (model.PathconfDone a)
+pathconf_size a = record { bytes = omega arith }
+
+grow_size : (total : ℕ) → Takes 12 (model.GrowDone total)
+grow_size total = record { bytes = omega arith }
+
+-- with a verifier of 8 bytes
+eight : (verifier : List ℕ) → length verifier ≡ 8 → length (padded verifier) ≡ 8
+eight verifier e = length-padded verifier ∙ ap padded_size e
+
+write_size : (count : ℕ) (verifier : List ℕ) → length verifier ≡ 8 → Takes 28 (model.WriteDone count verifier)
+write_size count verifier e = record { bytes = omega (arith, eight verifier e) }
+
+commit_size : (w : model.Wcc) (verifier : List ℕ) → length verifier ≡ 8 → Takes (4 + change_room + 8) (model.CommitDone w verifier)
+commit_size w verifier e = record { bytes = omega (arith, eight verifier e) }
 
 -- ---- what a call on a volume comes to
 

@@ -9,7 +9,8 @@ ghost use Rattle.rpc_msg.specs.Handles.{answer_with, call_heard, listed_with};
 ghost use Rattle.rpc_msg.specs.Handles.{reply_told};
 
 use crate::handle_form::{HandleForm, heard_in_run, told_in_run};
-use nfs_values::{Answer, Call, DirectoryEntryPlus, FileHandle, HandleMap, Reply};
+use nfs_values::answer::DirectoryEntryPlus;
+use nfs_values::{Answer, Call, FileHandle, HandleMap, Reply};
 
 /// Tells a handle in the run of this number.
 fn tell_handle(handle: &mut FileHandle, run: u64)

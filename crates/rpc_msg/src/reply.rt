@@ -12,7 +12,8 @@ ghost use Rattle.rpc_msg.specs.Replies.{reply_bytes, reply_record};
 ghost use Rattle.rpc_msg.specs.Given.{read_done};
 
 use nfs_types::{encode_result, size_of_result};
-use nfs_values::{Answer, ReadResults, Refusal, Reply};
+use nfs_values::answer::ReadResults;
+use nfs_values::{Answer, Refusal, Reply};
 use rpc_record::put_header;
 use std::alloc::AllocError;
 use xdr::put_u32;

@@ -42,17 +42,20 @@ use crate::task::Run;
 use affinity::homes::named_by;
 use affinity::{Affinity, Layout};
 use filer_state::Files;
-use nfs_values::{
-    Answer, Call, FileHandle, MakeResults, Named, ReadDirectoryPlusResults, ReadDirectoryResults,
-    RenameResults, Reply, Status, Target, VolumeNumber,
+use nfs_values::answer::{
+    MakeResults, ReadDirectoryPlusResults, ReadDirectoryResults, RenameResults,
 };
+use nfs_values::{Answer, Call, FileHandle, Named, Reply, Status, Target, VolumeNumber};
 use parcels::LogicalHeld;
 use service_data::{read_in_logical, write_in_logical};
-use service_names::{
-    PageAsked, PagePlusAsked, check_access, commit, create, filesystem_info, lookup,
-    make_directory, path_configuration, read_directory, read_directory_plus, remove,
-    remove_directory, set_attributes,
-};
+use service_names::committing::commit;
+use service_names::creating::{create, make_directory};
+use service_names::listing::{PageAsked, read_directory};
+use service_names::listing_plus::{PagePlusAsked, read_directory_plus};
+use service_names::looking::lookup;
+use service_names::removing::{remove, remove_directory};
+use service_names::setting::set_attributes;
+use service_names::telling::{check_access, filesystem_info, path_configuration};
 use std::alloc::AllocError;
 
 /// Runs a call on the parcels under Volume Logical of its volume: its home, or where a WRITE moved.

@@ -8,7 +8,8 @@ ghost use Rattle.service.specs.totals.Growing.{growing_outcome};
 ghost use Rattle.service.specs.Running.{outcome_of};
 
 use affinity::Affinity;
-use nfs_values::{Answer, ReadResults, Reply, Status, VolumeCount, VolumeNumber, WriteResults};
+use nfs_values::answer::{ReadResults, VolumeCount, WriteResults};
+use nfs_values::{Answer, Reply, Status, VolumeNumber};
 use std::alloc::AllocError;
 
 /// What a run of a call comes to. But for a reply nothing has changed.

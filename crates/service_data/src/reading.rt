@@ -19,7 +19,8 @@ ghost use Rattle.service_data.specs.Promises.{
 use crate::spans::read_spans;
 use filer_state::Files;
 use inodes::{Inode, InodeKind};
-use nfs_values::{BytesRead, COUNT_LIMIT, Fileid, ReadResults, Status, room_to_read};
+use nfs_values::answer::ReadResults;
+use nfs_values::{BytesRead, COUNT_LIMIT, Fileid, Status, room_to_read};
 use parcels::{LogicalHeld, StripeHeld};
 use std::alloc::{AllocError, Global};
 use stripe_cards::Card;

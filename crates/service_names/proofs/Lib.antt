@@ -9,7 +9,6 @@ mod Removed
 mod Changed
 mod Laws
 mod Named
-mod Commits
 mod Lists
 mod Fitted
 mod Told

@@ -9,7 +9,8 @@ ghost use Rattle.service_names.specs.Promises.{Commits};
 use crate::showing::{prior, shown_now};
 use filer_state::Files;
 use inodes::InodeKind;
-use nfs_values::{Change, CommitResults, Fileid, Status, VolumeNumber};
+use nfs_values::answer::CommitResults;
+use nfs_values::{Change, Fileid, Status, VolumeNumber};
 use parcels::LogicalHeld;
 
 /// COMMIT (RFC 1813 section 3.3.21), on the parcels of a volume's names and attributes: STALE, or

@@ -22,9 +22,8 @@ use crate::making_new::{create_new, make_new};
 use crate::parent::Parent;
 use filer_state::Files;
 use filer_state::changes::making_calls_are_right;
-use nfs_values::{
-    CreateMode, Credential, Fileid, MakeResults, Moment, SetAttributes, Status, VolumeNumber,
-};
+use nfs_values::answer::MakeResults;
+use nfs_values::{CreateMode, Credential, Fileid, Moment, SetAttributes, Status, VolumeNumber};
 use parcels::LogicalHeld;
 use std::alloc::{AllocError, Global};
 

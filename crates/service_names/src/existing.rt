@@ -31,9 +31,8 @@ use crate::showing::shown;
 use crate::touches::latest_touch;
 use filer_state::Files;
 use inodes::InodeKind;
-use nfs_values::{
-    CreateMode, FileHandle, MakeResults, Moment, Named, SetAttributes, Status, Verifier,
-};
+use nfs_values::answer::MakeResults;
+use nfs_values::{CreateMode, FileHandle, Moment, Named, SetAttributes, Status, Verifier};
 use parcels::LogicalHeld;
 
 /// CREATE where the name is there: EXIST if it is guarded, or for a directory; an exclusive one

@@ -28,10 +28,8 @@ use crate::naming::is_same_name;
 use crate::showing::shown;
 use directories::Page;
 use filer_state::Files;
-use nfs_values::{
-    COUNT_LIMIT, Cookie, DirectoryEntry, Fileid, Name, ReadDirectoryResults, Status, Verifier,
-    VolumeNumber,
-};
+use nfs_values::answer::{DirectoryEntry, ReadDirectoryResults};
+use nfs_values::{COUNT_LIMIT, Cookie, Fileid, Name, Status, Verifier, VolumeNumber};
 use parcels::LogicalHeld;
 use std::alloc::{AllocError, Global};
 

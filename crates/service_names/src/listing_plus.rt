@@ -24,10 +24,8 @@ use crate::listing::{PAGE_SIZE, is_bad_cookie, page_at};
 use crate::showing::shown;
 use crate::telling::object_at;
 use filer_state::Files;
-use nfs_values::{
-    COUNT_LIMIT, Cookie, DirectoryEntry, DirectoryEntryPlus, FileHandle, Fileid, Named,
-    ReadDirectoryPlusResults, Status, Verifier, VolumeNumber,
-};
+use nfs_values::answer::{DirectoryEntry, DirectoryEntryPlus, ReadDirectoryPlusResults};
+use nfs_values::{COUNT_LIMIT, Cookie, FileHandle, Fileid, Named, Status, Verifier, VolumeNumber};
 use parcels::LogicalHeld;
 use std::alloc::{AllocError, Global};
 

@@ -10,7 +10,8 @@ use crate::as_directory::directory_at;
 use crate::naming::{fileid_named, name_fault};
 use crate::showing::{shown, shown_now};
 use filer_state::Files;
-use nfs_values::{FileHandle, Fileid, LookupResults, Named, Status, VolumeNumber};
+use nfs_values::answer::LookupResults;
+use nfs_values::{FileHandle, Fileid, Named, Status, VolumeNumber};
 use parcels::LogicalHeld;
 
 /// LOOKUP (RFC 1813 section 3.3.3), on the parcels of a volume's names and attributes: STALE,

@@ -53,7 +53,8 @@ use crate::showing::shown;
 use directories::Directory;
 use filer_state::Files;
 use inodes::{Created, Inode, InodeKind, StoredAttributes};
-use nfs_values::{FileHandle, Fileid, MakeResults, Name, Named};
+use nfs_values::answer::MakeResults;
+use nfs_values::{FileHandle, Fileid, Name, Named};
 use parcels::LogicalHeld;
 use std::alloc::{AllocError, Global};
 

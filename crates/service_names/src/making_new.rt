@@ -23,7 +23,8 @@ use crate::making::make_told;
 use crate::new_inodes::{asked_attributes, file_inode, made_directory_inode};
 use crate::parent::Parent;
 use filer_state::Files;
-use nfs_values::{CreateMode, Credential, MakeResults, SetAttributes, Status};
+use nfs_values::answer::MakeResults;
+use nfs_values::{CreateMode, Credential, SetAttributes, Status};
 use parcels::LogicalHeld;
 use std::alloc::{AllocError, Global};
 

@@ -12,10 +12,8 @@ ghost use Rattle.service_names.specs.Shown.{IsObject};
 use crate::access::access_given;
 use crate::showing::shown_now;
 use filer_state::Files;
-use nfs_values::{
-    AccessResults, Attributes, Credential, Fileid, FilesystemInfoResults, PathConfigurationResults,
-    Status, VolumeNumber,
-};
+use nfs_values::answer::{AccessResults, FilesystemInfoResults, PathConfigurationResults};
+use nfs_values::{Attributes, Credential, Fileid, Status, VolumeNumber};
 use parcels::LogicalHeld;
 
 /// The attributes of the node of a fileid, or STALE where there is none.

@@ -2,7 +2,8 @@
 
 use crate::same::same;
 use directories::Directory;
-use nfs_values::{Cookie, DirectoryEntry, Fileid, Name};
+use nfs_values::answer::DirectoryEntry;
+use nfs_values::{Cookie, Fileid, Name};
 use std::mem;
 use std::process::Abort;
 

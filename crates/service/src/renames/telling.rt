@@ -11,7 +11,7 @@ ghost use Rattle.service.specs.renames.Renaming.{AllWithin, IsWithin, renaming_i
 use crate::renames::as_directory::directory_now;
 use crate::renames::between::Between;
 use filer_state::Files;
-use nfs_values::RenameResults;
+use nfs_values::answer::RenameResults;
 use parcels::LogicalHeld;
 use service_names::directory_change;
 

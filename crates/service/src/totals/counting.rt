@@ -17,7 +17,8 @@ ghost use Rattle.service.specs.totals.Census.{TakesCensus};
 
 use affinity::Layout;
 use filer_state::{Files, ranges_used};
-use nfs_values::{VolumeCount, VolumeNumber};
+use nfs_values::VolumeNumber;
+use nfs_values::answer::VolumeCount;
 use parcels::{AggrHeld, SerialHeld, VolumeHeld};
 use std::alloc::{AllocError, Global};
 

@@ -8,7 +8,8 @@ ghost use Rattle.service.specs.totals.FilesystemStatus.{TellsFilesystemStatus};
 
 use crate::totals::counting::volume_count;
 use filer_state::Files;
-use nfs_values::{BLOCK_BYTES, Fileid, FilesystemStatusResults, Status, VolumeNumber};
+use nfs_values::answer::FilesystemStatusResults;
+use nfs_values::{BLOCK_BYTES, Fileid, Status, VolumeNumber};
 use parcels::VolumeHeld;
 use service_names::shown_now;
 

@@ -1,14 +1,50 @@
-use Rattle.std.proofs.Common.{sym, ap, ◌∙◌, Ok, Err}
-use Rattle.nfs_model.specs.Types.{CommitDone}
+use Rattle.std.proofs.Common.{◌≡◌, ℕ, [], Option, Some, Result, Ok, Err, sym, ap, ◌∙◌, subst, false, List}
+use Rattle.std.specs.FinMap.{get}
+use Rattle.nfs_model.specs.Types.{Answer, Success, CommitDone, Failed, Invalid}
+use Rattle.nfs_model.specs.Tree.{Logical}
 use Rattle.nfs_model.specs.Shown.{before_of}
-use Rattle.nfs_values.specs.declared.status.Status.TheVariants.{Stale, Invalid}
-use Rattle.nfs_model.specs.volume.Inodes.{inode_of}
+use Rattle.nfs_model.specs.volume.Inodes.{Inode, RegularFile, DirectoryKind, inode_of}
 use Rattle.nfs_model.specs.volume.Logical.{LogicalValue}
+use Rattle.nfs_values.specs.Answer.{answer_of}
+use Rattle.nfs_values.specs.declared.answer.Answer.TheVariants.{Commit}
+use Rattle.nfs_values.specs.declared.answer.CommitResults.{CommitResults}
+use Rattle.nfs_values.specs.declared.status.Status.{Status}
+use Rattle.nfs_values.specs.declared.status.Status.TheVariants as statuses
 use Rattle.inodes.specs.Inode.{inode_value, kind_value}
+use Rattle.filer_state.specs.state.Tree.{file_touch}
+use Rattle.filer_state.specs.state.Lenses.{LogicalSet, logical_lens}
 use Rattle.filer_state.specs.state.Sets.{logical_before}
-use Rattle.filer_state.specs.changes.NameAnswers.{inode_committed}
-use Rattle.service_names.proofs.Commits.{commits, directory-kind-told, file-told}
+use Rattle.filer_state.specs.state.Promises.{RightOnVolume}
+use Rattle.filer_state.specs.state.Jobs.{Replied}
+use Rattle.filer_state.specs.state.Calls.{ServesOn}
+use Rattle.filer_state.specs.state.Changes.{shown_inode}
+use Rattle.filer_state.specs.changes.NameAnswers.{file_committed, inode_committed, commit_answer}
+use Rattle.filer_state.specs.changes.NameLaws.{commit_call}
+use Rattle.filer_state.specs.changes.ListingLemmas.{commit-right}
+use Rattle.service_names.specs.Promises.{Commits}
 use Rattle.service_names.proofs.committing.commit.Goals as goal
+
+module _ (v fileid : ℕ) (set : LogicalSet) where
+  -- a result is right where it tells what the inode and the touch do
+  commits : (told : Result CommitResults Status) → answer_of (Commit told) ≡ commit_answer v fileid set → Commits v fileid set told
+  commits told is handle =
+      subst (λ (a : Answer). RightOnVolume v logical_lens (ServesOn (commit_call handle (Logical v) fileid) false) [] [] set (Replied (Success a)) set)
+      (sym is) (commit-right v fileid handle (Logical v) set)
+
+  module _ (inode : Inode) (there : get set.own.inodes.inodes fileid ≡ Some inode) where
+    directory-kind-told : (parent subs : ℕ) → inode.kind ≡ DirectoryKind parent subs → commit_answer v fileid set ≡ Failed Invalid 2
+    directory-kind-told parent subs is =
+        ap (inode_committed v fileid set) there
+        ∙ ap (file_committed (shown_inode v fileid inode (file_touch set.stripes fileid)) set.own.verifier) is
+
+    file-told : (size filled : ℕ) (verifier : Option (List ℕ)) → inode.kind ≡ RegularFile size filled verifier
+        → commit_answer v fileid set ≡ CommitDone (record {
+          before = before_of (shown_inode v fileid inode (file_touch set.stripes fileid));
+          after = shown_inode v fileid inode (file_touch set.stripes fileid);
+        }) set.own.verifier
+    file-told size filled verifier is =
+        ap (inode_committed v fileid set) there
+        ∙ ap (file_committed (shown_inode v fileid inode (file_touch set.stripes fileid)) set.own.verifier) is
 
 pub returns-in-None : goal.returns-in-None
 returns-in-None c =
@@ -16,7 +52,7 @@ returns-in-None c =
     let fileid = c.args.fileid.0 in
     let set = logical_before c.args.held.now in
     record {
-      right = commits v fileid set (Err Stale)
+      right = commits v fileid set (Err statuses.Stale)
           (ap (inode_committed v fileid set) (c.in-None.ensures ∙ ap (λ (l : LogicalValue). inode_of l.inodes fileid) c.get.ensures));
     }
 
@@ -27,7 +63,7 @@ returns-in-Directory c =
     let set = logical_before c.args.held.now in
     let there = sym (c.in-Some.ensures ∙ ap (λ (l : LogicalValue). inode_of l.inodes fileid) c.get.ensures) in
     record {
-      right = commits v fileid set (Err Invalid)
+      right = commits v fileid set (Err statuses.Invalid)
           (sym (directory-kind-told v fileid set (inode_value c.in-Some.inode) there c.in-Directory.parent.0 c.in-Directory.subdirectories
           (ap kind_value c.in-Directory.is)));
     }
