@@ -32,13 +32,13 @@ FoundAgain = (offer : Offer) (bytes : List ℕ) (xid : ℕ) (procedure : Procedu
 census_offered : (offer : Offer) → offers offer procedures.Census ≡ true → version_by offer 536870913 ≡ Some 1
 census_offered offer e =
     let test : Procedure → Bool = λ p. offers offer p && eqb (numbers_of p).0 536870913 in
-    let one : offers_program offer 536870913 ≡ true = list_any_at test all_procedures 23 procedures.Census (omega arith) (rw e refl) in
+    let one : offers_program offer 536870913 ≡ true = list_any_at test all_procedures 29 procedures.Census (omega arith) (rw e refl) in
     rw one refl
 
 grow_offered : (offer : Offer) → offers offer procedures.Grow ≡ true → version_by offer 536870913 ≡ Some 1
 grow_offered offer e =
     let test : Procedure → Bool = λ p. offers offer p && eqb (numbers_of p).0 536870913 in
-    let one : offers_program offer 536870913 ≡ true = list_any_at test all_procedures 24 procedures.Grow (omega arith) (rw e refl) in
+    let one : offers_program offer 536870913 ≡ true = list_any_at test all_procedures 30 procedures.Grow (omega arith) (rw e refl) in
     rw one refl
 
 verifier_fits : Fits auth_shape no_verifier

@@ -9,8 +9,8 @@ use Rattle.nfs_values.specs.declared.procedure.Procedure.TheVariants.{Census, Gr
 abbrev pub all_procedures : List Procedure
 all_procedures =
     Null ∷ GetAttributes ∷ SetAttributes ∷ Lookup ∷ CheckAccess ∷ ReadLink ∷ Read ∷ Write ∷ Create ∷ MakeDirectory ∷ MakeSymbolicLink ∷ MakeDevice ∷
-    Remove ∷ RemoveDirectory ∷ Rename ∷ MakeLink ∷ ReadDirectory ∷ ReadDirectoryPlus ∷ FilesystemStatus ∷ FilesystemInfo ∷ PathConfiguration ∷ Commit ∷ AdminNull ∷
-    Census ∷ Grow ∷ MountNull ∷ Mount ∷ ListMounts ∷ Unmount ∷ UnmountAll ∷ ListExports ∷ []
+    Remove ∷ RemoveDirectory ∷ Rename ∷ MakeLink ∷ ReadDirectory ∷ ReadDirectoryPlus ∷ FilesystemStatus ∷ FilesystemInfo ∷ PathConfiguration ∷ Commit ∷ MountNull ∷
+    Mount ∷ ListMounts ∷ Unmount ∷ UnmountAll ∷ ListExports ∷ AdminNull ∷ Census ∷ Grow ∷ []
 
 -- program and procedure of NFS (RFC 1813 section 3), of MOUNT (appendix I, section 5) and of the admin program (our profile)
 abbrev pub numbers_of : Procedure → ℕ × ℕ
@@ -36,15 +36,15 @@ numbers_of FilesystemStatus = (100003, 18)
 numbers_of FilesystemInfo = (100003, 19)
 numbers_of PathConfiguration = (100003, 20)
 numbers_of Commit = (100003, 21)
-numbers_of AdminNull = (0x20000001, 0)
-numbers_of Census = (0x20000001, 1)
-numbers_of Grow = (0x20000001, 2)
 numbers_of MountNull = (100005, 0)
 numbers_of Mount = (100005, 1)
 numbers_of ListMounts = (100005, 2)
 numbers_of Unmount = (100005, 3)
 numbers_of UnmountAll = (100005, 4)
 numbers_of ListExports = (100005, 5)
+numbers_of AdminNull = (0x20000001, 0)
+numbers_of Census = (0x20000001, 1)
+numbers_of Grow = (0x20000001, 2)
 
 -- its place among all
 abbrev pub place_of : Procedure → ℕ
@@ -70,12 +70,12 @@ place_of FilesystemStatus = 18
 place_of FilesystemInfo = 19
 place_of PathConfiguration = 20
 place_of Commit = 21
-place_of AdminNull = 22
-place_of Census = 23
-place_of Grow = 24
-place_of MountNull = 25
-place_of Mount = 26
-place_of ListMounts = 27
-place_of Unmount = 28
-place_of UnmountAll = 29
-place_of ListExports = 30
+place_of MountNull = 22
+place_of Mount = 23
+place_of ListMounts = 24
+place_of Unmount = 25
+place_of UnmountAll = 26
+place_of ListExports = 27
+place_of AdminNull = 28
+place_of Census = 29
+place_of Grow = 30

@@ -61,12 +61,6 @@ pub enum Procedure {
     PathConfiguration,
     /// COMMIT (RFC 1813 section 3.3.21).
     Commit,
-    /// NULL of the admin program.
-    AdminNull,
-    /// CENSUS of the admin program: the blocks of every volume.
-    Census,
-    /// GROW of the admin program: more ranges for a volume.
-    Grow,
     /// NULL of MOUNT (RFC 1813 appendix I, section 5.2.0).
     MountNull,
     /// MNT of MOUNT (section 5.2.1).
@@ -79,6 +73,12 @@ pub enum Procedure {
     UnmountAll,
     /// EXPORT of MOUNT (section 5.2.5).
     ListExports,
+    /// NULL of the admin program.
+    AdminNull,
+    /// CENSUS of the admin program: the blocks of every volume.
+    Census,
+    /// GROW of the admin program: more ranges for a volume.
+    Grow,
 }
 
 impl Procedure {
@@ -113,15 +113,15 @@ impl Procedure {
             (NFS_PROGRAM, 19) => Some(Procedure::FilesystemInfo),
             (NFS_PROGRAM, 20) => Some(Procedure::PathConfiguration),
             (NFS_PROGRAM, 21) => Some(Procedure::Commit),
-            (ADMIN_PROGRAM, 0) => Some(Procedure::AdminNull),
-            (ADMIN_PROGRAM, 1) => Some(Procedure::Census),
-            (ADMIN_PROGRAM, 2) => Some(Procedure::Grow),
             (MOUNT_PROGRAM, 0) => Some(Procedure::MountNull),
             (MOUNT_PROGRAM, 1) => Some(Procedure::Mount),
             (MOUNT_PROGRAM, 2) => Some(Procedure::ListMounts),
             (MOUNT_PROGRAM, 3) => Some(Procedure::Unmount),
             (MOUNT_PROGRAM, 4) => Some(Procedure::UnmountAll),
             (MOUNT_PROGRAM, 5) => Some(Procedure::ListExports),
+            (ADMIN_PROGRAM, 0) => Some(Procedure::AdminNull),
+            (ADMIN_PROGRAM, 1) => Some(Procedure::Census),
+            (ADMIN_PROGRAM, 2) => Some(Procedure::Grow),
             _ => None,
         }
     }
@@ -150,15 +150,15 @@ impl Procedure {
         Procedure::FilesystemInfo,
         Procedure::PathConfiguration,
         Procedure::Commit,
-        Procedure::AdminNull,
-        Procedure::Census,
-        Procedure::Grow,
         Procedure::MountNull,
         Procedure::Mount,
         Procedure::ListMounts,
         Procedure::Unmount,
         Procedure::UnmountAll,
         Procedure::ListExports,
+        Procedure::AdminNull,
+        Procedure::Census,
+        Procedure::Grow,
     ];
 
     /// The number of its program.
@@ -166,13 +166,13 @@ impl Procedure {
         ensures { result ≡ (numbers_of self).0 }
     {
         match self {
-            Procedure::AdminNull | Procedure::Census | Procedure::Grow => ADMIN_PROGRAM,
             Procedure::MountNull
             | Procedure::Mount
             | Procedure::ListMounts
             | Procedure::Unmount
             | Procedure::UnmountAll
             | Procedure::ListExports => MOUNT_PROGRAM,
+            Procedure::AdminNull | Procedure::Census | Procedure::Grow => ADMIN_PROGRAM,
             _ => NFS_PROGRAM,
         }
     }
@@ -210,15 +210,15 @@ impl Procedure {
             Procedure::FilesystemInfo => "FSINFO",
             Procedure::PathConfiguration => "PATHCONF",
             Procedure::Commit => "COMMIT",
-            Procedure::AdminNull => "NULL",
-            Procedure::Census => "CENSUS",
-            Procedure::Grow => "GROW",
             Procedure::MountNull => "NULL",
             Procedure::Mount => "MNT",
             Procedure::ListMounts => "DUMP",
             Procedure::Unmount => "UMNT",
             Procedure::UnmountAll => "UMNTALL",
             Procedure::ListExports => "EXPORT",
+            Procedure::AdminNull => "NULL",
+            Procedure::Census => "CENSUS",
+            Procedure::Grow => "GROW",
         }
     }
 }

@@ -49,15 +49,15 @@ impl ProcedureSet {
                 false, // FilesystemInfo
                 false, // PathConfiguration
                 true, // Commit
-                true, // AdminNull
-                true, // Census
-                true, // Grow
                 false, // MountNull
                 false, // Mount
                 false, // ListMounts
                 false, // Unmount
                 false, // UnmountAll
                 false, // ListExports
+                true, // AdminNull
+                true, // Census
+                true, // Grow
             ],
         }
     }

@@ -208,6 +208,7 @@ fn two_lanes_make_one_line(rt: HostRuntime) -> Result<(), AllocError> {
         earlier.add(tally);
     }
     assert_eq!(rt; earlier.calls(), 2_406);
+    tallies[0].count(&Reply::Success(Answer::Grow(Err(Status::NoSpace))));
     tallies[1].count(&Reply::Success(Answer::ListMounts));
     tallies[0].count(&Reply::Refused(Refusal::GarbageArguments));
     tallies[0].took(7, 1);
@@ -218,7 +219,8 @@ fn two_lanes_make_one_line(rt: HostRuntime) -> Result<(), AllocError> {
     let line = now.since(&earlier).to_string(rt.alloc())?;
     assert_eq!(rt;
         line.as_str(),
-        "calls 1: DUMP 1; p50 7 us, p99 7 us; refused: GARBAGE_ARGS 1; busy 0, starved 0"
+        "calls 2: DUMP 1, GROW 1; p50 7 us, p99 7 us; refused: GARBAGE_ARGS 1; \
+         busy 0, starved 0"
     );
     Ok(())
 }
