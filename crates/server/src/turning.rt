@@ -82,7 +82,8 @@ fn run_some<R: Wait>(
     }
 }
 
-/// Tends though calls may wait, since a stock had too few numbers for one of them.
+/// Tends though calls may wait, since a stock had too few numbers for one of them. What so many
+/// tends leave is for the next lane without a message.
 fn restock<R>(lane: &mut Lane<Socket, R>, pace: &mut Pace, common: &Common, moment: Moment)
     ensures { Stays lane.old lane.new }
 {
@@ -97,6 +98,7 @@ fn restock<R>(lane: &mut Lane<Socket, R>, pace: &mut Pace, common: &Common, mome
         tend(lane, pace);
     }
     put_down(lane, pace);
+    common.untended.leave();
 }
 
 /// Whether a lane goes on with its turns after what came of the last ones.
