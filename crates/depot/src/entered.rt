@@ -1,8 +1,7 @@
-//! What a call and its reply are entered as.
+//! What a call is entered as.
 
-/// What stands for a call, or for a reply, where an entry of the history is made: that has
-/// `entered` of it. So who has a part of a call's type, or a value that is more than one, hands on
-/// a reference to what it has.
+/// What stands for a call where an entry of the history is made, which then has the call that is
+/// entered of it. So who has one case of a machine's calls hands on a reference to that.
 pub trait Entered<T> {
     ghost entered: { Self → T };
 }

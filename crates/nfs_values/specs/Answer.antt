@@ -151,7 +151,8 @@ answer_of (Mount result) = result_of volume_mounted 0 result
 answer_of ListMounts = model.DumpDone
 answer_of (ListExports exports) = volumes_exported exports
 
--- the procedure whose results these are (RFC 1813 section 3.3 and appendix I)
+-- the procedure whose results these are (RFC 1813 section 3.3, appendix I section 5.2, and our profile): NULL of NFS for a
+-- reply without results, as of UMNT
 abbrev pub procedure_of : Answer → Procedure
 procedure_of Null = procedures.Null
 procedure_of (GetAttributes results) = procedures.GetAttributes

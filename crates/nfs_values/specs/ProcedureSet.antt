@@ -1,5 +1,5 @@
 -- Which procedures are offered.
-use Rattle.std.specs.Prelude.{ℕ, Bool, true, false, List, [], ◌∷◌, ◌++◌, get_or, map, replicate, ◌==◌, ◌&&◌}
+use Rattle.std.specs.Prelude.{ℕ, Bool, true, false, List, [], ◌∷◌, ◌++◌, get_or, length, map, replicate, ◌==◌, ◌&&◌}
 use Rattle.std.specs.List.{list_any}
 use Rattle.nfs_values.specs.declared.procedure_set.ProcedureSet.{ProcedureSet}
 use Rattle.nfs_values.specs.declared.procedure.Procedure.{Procedure}
@@ -39,7 +39,7 @@ basic = record { has = map is_basic all_procedures }
 
 -- the offer of a server that clients mount: every procedure
 abbrev pub export : ProcedureSet
-export = record { has = replicate 31 true }
+export = record { has = replicate (length all_procedures) true }
 
 -- ---- what the two have, in the standard's terms: by program, and by number in it
 

@@ -227,7 +227,7 @@ impl Answer {
     ghost use Rattle.nfs_values.specs.Answer.{procedure_of};
     ghost use Rattle.std.specs.Prelude.{◌≡◌};
 
-    /// The procedure whose results these are; NULL of NFS where there are none.
+    /// The procedure whose results these are; NULL of NFS for a reply that has none.
     pub fn procedure(&self) -> Procedure
         ensures { result ≡ procedure_of self.now }
     {

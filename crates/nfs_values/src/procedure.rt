@@ -185,7 +185,7 @@ impl Procedure {
         self as usize
     }
 
-    /// Its name, as in the standards.
+    /// Its name, as the standards spell it; those of the admin program are ours.
     pub fn name(self) -> &'static str {
         match self {
             Procedure::Null => "NULL",

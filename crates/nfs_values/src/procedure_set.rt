@@ -2,14 +2,14 @@
 
 ghost use Rattle.std.specs.Prelude.{◌≡◌, ◌≢◌, true, false, IfSome, None};
 
-use crate::procedure::Procedure;
+use crate::procedure::{PROCEDURES, Procedure};
 
 /// Which procedures are offered: a set of them. A call of another is refused, as one of a number
 /// that no procedure has (PROC_UNAVAIL, RFC 5531 section 9).
 #[derive(Clone, Copy)]
 pub struct ProcedureSet {
     /// Of each procedure, at its place, whether it is offered.
-    has: [bool; 31],
+    has: [bool; PROCEDURES],
 }
 
 impl ProcedureSet {
@@ -68,7 +68,7 @@ impl ProcedureSet {
         ensures listed { (p : Known)
             → offers result p ≡ is_among export_numbers (numbers_of p) }
     {
-        ProcedureSet { has: [true; 31] }
+        ProcedureSet { has: [true; PROCEDURES] }
     }
 
     /// The offer with this procedure too.

@@ -62,7 +62,7 @@ fn microseconds_of(moment: Moment) -> u64 {
 /// How many replies refuse.
 fn refusals_among(counts: &ReplyCounts) -> u64 {
     let mut refusals = counts.of(ReplyKind::STARVED);
-    for kind in &RefusalKind::TOLD {
+    for kind in &RefusalKind::BUT_STARVED {
         refusals = refusals.wrapping_add(counts.of(ReplyKind::Refused(*kind)));
     }
     refusals

@@ -7,12 +7,13 @@ use workers::Patience;
 
 /// The word that a lane leaves where it was refused a node: only once it no longer waits its
 /// refusals out on the processor. Until then who has the node goes on with its own calls, and finds
-/// what they change in its processor's cache.
+/// what they change in its processor's cache. It also notes on which kind of node calls had their
+/// replies.
 #[derive(Drop)]
 pub(crate) struct LateWord<'a> {
     pub(crate) wanted: &'a Wanted,
     pub(crate) patience: Patience,
-    /// On a node of which kind a call was finished last, if one was.
+    /// The kind of the node on which a call last had its reply, if another was to be picked then.
     pub(crate) ran_on: Cell<Option<Kind>>,
 }
 
@@ -23,7 +24,8 @@ impl Hint for LateWord<'_> {
         }
     }
 
-    // It is asked after each call that has its reply, before the next one is picked.
+    // It is asked of each call that has its reply but the last of the most: before the next is
+    // picked, and before the entry of the call.
     fn is_asked(&self, node: Affinity) -> bool {
         self.ran_on.set(Some(node.kind()));
         self.wanted.is_asked(node)

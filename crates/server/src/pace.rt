@@ -15,7 +15,7 @@ pub(crate) struct Pace {
     pub(crate) patience: Patience,
     /// How many turns in a row came to a move.
     moves: u32,
-    /// Whether one did since calls were last finished under Volume.
+    /// Whether a call moved since calls were last finished under Volume.
     has_moved: bool,
     /// How many calls that may leave blocks were admitted when no message waited last.
     pub(crate) left: u64,
@@ -80,8 +80,8 @@ impl Pace {
         self.patience.pause()
     }
 
-    /// Calls were finished under Volume. Answers whether one moved since that was so last: else
-    /// they were at home there.
+    /// Calls were finished under Volume. Answers whether a call moved since that was so last: if
+    /// none did they were at home there.
     pub(crate) fn take_move(&mut self) -> bool {
         let has_moved = self.has_moved;
         self.has_moved = false;

@@ -117,8 +117,9 @@ fn count<R: Clock>(
 }
 
 /// A round: what the sockets tell and what was left is taken, each listed connection is read once,
-/// calls are run, the replies of each listed connection are written once, and then the lane tends
-/// once if no message waits. Where others wait for a place, idle connections are closed.
+/// calls are run, with tends between them where a stock fell short, the replies of each listed
+/// connection are written once, and then the lane tends once if no message waits. Where others wait
+/// for a place, idle connections are closed.
 pub(crate) fn round<R: Wait + Clock>(rt: &R, lane: &mut Lane<Socket, R>, station: &mut Station)
     ensures { Stays lane.old lane.new }
 {

@@ -1,4 +1,4 @@
-//! What a lane does without a message.
+//! The tends of a lane.
 
 ghost use Rattle.std.specs.Prelude.{◌≡◌};
 ghost use Rattle.lanes.specs.Words.{filer_in, worker_in};

@@ -20,11 +20,12 @@ const MOST_TURNS: usize = 64;
 /// The most of them under one grant.
 const MOST_CHAINED: usize = 32;
 
-/// The most tends in a row while calls may wait.
+/// The most tends after turns that fell short, while calls may wait; one more may put down what is
+/// in the hand.
 const MOST_TENDS: usize = 256;
 
-/// Tells all lanes that calls may have left blocks, where some that may were admitted since no
-/// message waited last.
+/// Tells all lanes that calls may have left blocks, where some that may were admitted since this
+/// lane last had no message.
 fn tell_left<R>(lane: &Lane<Socket, R>, pace: &mut Pace, common: &Common) {
     let leaving = lane.leaving_calls();
     if leaving != pace.left {
@@ -39,12 +40,13 @@ fn tell_left<R>(lane: &Lane<Socket, R>, pace: &mut Pace, common: &Common) {
 #[derive(Clone, Copy)]
 struct Ran {
     chained: Chained,
-    /// The kind of the node, where a call had its reply there.
+    /// The kind of the node, where a call had its reply there and another was to be picked.
     ran_on: Option<Kind>,
 }
 
-/// Whether the stock of a volume had too few numbers for one of the calls: they ran under Volume,
-/// where it isn't their home, or the last one moved there from Volume Logical.
+/// Whether the stock of a volume may have had too few numbers for one of the calls: calls ran under
+/// Volume since one moved (which may have moved to Volume Logical alone, so that a call at home
+/// under Volume is taken for it), or the last one moved from Volume Logical.
 fn fell_short(pace: &mut Pace, ran: &Ran) -> bool {
     match ran.ran_on {
         Some(Kind::Volume) => pace.take_move(),

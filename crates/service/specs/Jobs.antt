@@ -23,7 +23,7 @@ use Rattle.service.specs.declared.job.Job.TheVariants.{Serve, Inner}
 use Rattle.service.specs.declared.job.JobReply.{JobReply}
 use Rattle.service.specs.declared.job.JobReply.TheVariants.{Replied, Took, Gave, Surveyed}
 
--- what it asked
+-- what it asks
 abbrev pub asked_in : ServedCall → types.Asked
 asked_in c = types.Ask (call_of c.call) (credential_of c.credential)
 

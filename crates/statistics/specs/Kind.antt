@@ -27,7 +27,7 @@ abbrev pub kind_of : Reply → ReplyKind
 kind_of (replies.Success answer) = Answered (procedure_of answer)
 kind_of (replies.Refused refusal) = Refused (refusal_kind refusal)
 
--- the place of a refusal: that memory ran out is the last
+-- the place of a refusal among them; that memory ran out is the last
 abbrev pub refusal_place : RefusalKind → ℕ
 refusal_place ProgramUnavailable = 0
 refusal_place ProgramMismatch = 1

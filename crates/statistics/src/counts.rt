@@ -59,7 +59,7 @@ impl ReplyCounts {
     pub fn refused(&self) -> u64
         ensures { result ≡ sum (take 6 (kinds_in self.now)) % 2 ^ 64 }
     {
-        sum_of(&self.counts[..RefusalKind::TOLD.len()])
+        sum_of(&self.counts[..RefusalKind::BUT_STARVED.len()])
     }
 
     /// How many gave results.

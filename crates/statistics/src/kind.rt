@@ -51,7 +51,7 @@ fn kind_of_refusal(refusal: Refusal) -> RefusalKind
 
 impl RefusalKind {
     /// All but the one that tells that memory ran out.
-    pub const TOLD: [RefusalKind; 6] = [
+    pub const BUT_STARVED: [RefusalKind; 6] = [
         RefusalKind::ProgramUnavailable,
         RefusalKind::ProgramMismatch,
         RefusalKind::ProcedureUnavailable,
@@ -107,7 +107,8 @@ impl ReplyKind {
         }
     }
 
-    /// The name of its procedure, or of its refusal, as in the standards.
+    /// The name of its procedure or of its refusal, as the standards spell it; those of the admin
+    /// program are ours.
     pub fn name(self) -> &'static str {
         match self {
             ReplyKind::Refused(kind) => kind.name(),

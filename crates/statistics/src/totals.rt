@@ -146,7 +146,7 @@ fn write_kind<W: fmt::Write>(
 impl fmt::Display for Refusals<'_> {
     fn fmt<W: fmt::Write>(&self, f: &mut fmt::Formatter<W>) -> fmt::Result {
         let mut before = "refused: ";
-        for kind in &RefusalKind::TOLD {
+        for kind in &RefusalKind::BUT_STARVED {
             if write_kind(f, self.replies, ReplyKind::Refused(*kind), before)? {
                 before = ", ";
             }

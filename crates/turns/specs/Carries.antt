@@ -83,7 +83,7 @@ pub record Carries (layout : Layout) (v : FilerView) (call : InnerCall) (hand : 
       (filer_contents layout (put_in v.tree entry (left_by v between)))
 
 -- Why there was none: the depot refused it; or the range that it would fetch from isn't in use, as a history left it that
--- begins with all that the seat has seen; or there was no memory, or no room in the stock, where either may lack.
+-- begins with all that the seat has seen; or there was no memory, or no room in the stock, where either may be lacking.
 abbrev pub IsRefusedFor : Layout → FilerView → InnerCall → TendRefusal → FilerView → Type 0
 IsRefusedFor layout v call (Busy at word) w = IsRefused layout v (node_tried call) (refusals.Busy at word) w
 IsRefusedFor layout v call Worn w = IsRefused layout v (node_tried call) refusals.Worn w

@@ -81,7 +81,7 @@ served_of_message m moment starved = record {
   starved = starved;
 }
 
--- the entry of it
+-- and as the filer's history has it
 abbrev pub job_of_message : Message → Moment → Bool → Job
 job_of_message m moment starved = Serve (served_of_message m moment starved)
 

@@ -1,4 +1,4 @@
-//! What a worker does without a message, on the batch of block numbers in its hand.
+//! What a worker does for no message, on the batch of block numbers in its hand.
 
 ghost use Rattle.std.specs.Prelude.{◌≡◌};
 

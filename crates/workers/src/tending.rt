@@ -1,4 +1,4 @@
-//! What a worker does without a message, and when its thread may sleep.
+//! What a worker does for no message, and when its thread may sleep.
 
 ghost use Rattle.std.specs.Prelude.{◌≡◌};
 ghost use Rattle.workers.specs.Heirs.{IsHeir};
@@ -30,7 +30,7 @@ pub struct Tending {
     /// How many were made with an empty hand, wrapping at 2^64.
     pub made: u64,
     /// How many in a row, up to now, moved no block. It stops at the last value. Who has a node
-    /// that a tend found taken looks there itself when its call is finished.
+    /// that a tend found taken tends itself once it has no message.
     pub unchanged: usize,
     /// Whether the last lacked memory.
     pub starved: bool,
