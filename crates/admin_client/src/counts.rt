@@ -5,8 +5,8 @@ ghost use Rattle.nfs_types.specs.Results.{census_shape, count_shape};
 ghost use Rattle.admin_client.specs.Telling.{GivesCounts, counted_value};
 
 use crate::fault::AdminFault;
-use nfs_values::answer::VolumeCount;
 use nfs_values::VolumeNumber;
+use nfs_values::answer::VolumeCount;
 use std::alloc::Global;
 use xdr::{Cursor, Fault};
 

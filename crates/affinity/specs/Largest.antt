@@ -7,9 +7,13 @@ abbrev pub mebibytes_in : Option VolumeLayout → ℕ
 mebibytes_in None = 16
 mebibytes_in (Some v) = v.mebibytes
 
+-- the bytes of a mebibyte
+abbrev pub mebibyte : ℕ
+mebibyte = 1048576
+
 -- the largest size, in bytes, of the files of a volume by its number
 abbrev pub largest_of : Layout → ℕ → ℕ
-largest_of layout volume = 1048576 * mebibytes_in (slice_get layout.volumes volume)
+largest_of layout volume = mebibyte * mebibytes_in (slice_get layout.volumes volume)
 
 -- the most inodes of a volume, if there is one
 abbrev pub inodes_in : Option VolumeLayout → ℕ

@@ -8,12 +8,9 @@ use crate::fault::LayoutFault;
 use crate::rules::check;
 use crate::sizes::{check_all, with_sizes};
 use crate::specification::{
-    AggregateSpec, INODES, MIB, RANGE_BLOCKS, STRIPES, SizedVolumeSpec, VolumeSpec,
+    AggregateSpec, INODES, MEBIBYTE, MIB, RANGE_BLOCKS, STRIPES, SizedVolumeSpec, VolumeSpec,
 };
 use std::alloc::{AllocError, Global};
-
-/// The bytes of a mebibyte.
-const MEBIBYTE: u64 = 1_048_576;
 
 /// The aggregates and volumes of a run, fixed for as long as it lasts.
 #[derive(Debug)]

@@ -20,6 +20,6 @@ pub use fault::LayoutFault;
 pub use layout::Layout;
 pub use rules::{MOST_AGGREGATES, MOST_RANGES, MOST_SPARE, MOST_VOLUMES};
 pub use specification::{
-    AggregateSpec, INODES, MIB, MOST_INODES, MOST_MIB, MOST_SIZED_MIB, MOST_STRIPES, RANGE_BLOCKS,
-    STRIPES, SizedVolumeSpec, VolumeSpec,
+    AggregateSpec, INODES, MEBIBYTE, MIB, MOST_INODES, MOST_MIB, MOST_SIZED_MIB, MOST_STRIPES,
+    RANGE_BLOCKS, STRIPES, SizedVolumeSpec, VolumeSpec,
 };

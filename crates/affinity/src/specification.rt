@@ -9,6 +9,9 @@ pub const STRIPES: u32 = 8;
 /// The most stripes of a volume.
 pub const MOST_STRIPES: u32 = 16;
 
+/// The bytes of a mebibyte.
+pub const MEBIBYTE: u64 = 1_048_576;
+
 /// The mebibytes of the largest file of an ordinary volume.
 pub const MIB: u32 = 16;
 

@@ -1,8 +1,7 @@
 //! The clock by which lines are kept apart.
 
+use nfs_values::MILLISECONDS_OF_A_SECOND;
 use std::rt::Clock;
-
-const MILLISECONDS_OF_A_SECOND: u64 = 1_000;
 
 /// The milliseconds since an arbitrary start, or 0 where the clock can't be read.
 pub(crate) fn milliseconds<R: Clock>(rt: &R) -> u64 {

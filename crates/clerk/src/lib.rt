@@ -14,7 +14,7 @@ mod writing;
 
 pub use event::{Event, Reason};
 pub use journal::Journal;
-pub use period::Period;
+pub use period::{MOST_MINUTES, Period};
 pub use quota::Quota;
 pub use report::{Inquiry, Report, Used};
 pub use times::{Span, Times};

@@ -3,7 +3,7 @@
 ghost use Rattle.std.specs.Prelude.{◌≤◌, ◌<◌};
 
 /// The most minutes: a day.
-const MOST_MINUTES: u32 = 1_440;
+pub const MOST_MINUTES: u32 = 1_440;
 
 const MILLISECONDS_OF_A_MINUTE: u64 = 60_000;
 

@@ -11,8 +11,8 @@ use nfs_values::answer::{
     PathConfigurationResults, ReadDirectoryPlusResults, ReadDirectoryResults, RenameResults,
 };
 use nfs_values::{
-    Answer, Attributes, Change, Cookie, FileHandle, FileKind, Fileid, Moment, Name, PriorAttributes,
-    Status, UnsupportedProcedure,
+    Answer, Attributes, Change, Cookie, FileHandle, FileKind, Fileid, Moment, Name,
+    PriorAttributes, Status, UnsupportedProcedure,
 };
 use std::mem;
 use std::process::Abort;

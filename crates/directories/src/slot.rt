@@ -14,8 +14,8 @@ ghost use Rattle.std.specs.Prelude.{
 ghost use Rattle.nfs_values.specs.Answer.{entry_of};
 ghost use Rattle.directories.specs.Slots.{in_slot, has_cookie, Becomes, PutInto};
 
-use nfs_values::answer::DirectoryEntry;
 use nfs_values::Cookie;
+use nfs_values::answer::DirectoryEntry;
 use std::alloc::AllocError;
 
 /// A position for an entry.

@@ -10,13 +10,13 @@ ghost use Rattle.engine_feed.specs.Words.{FeedsSome, FeedsAll, MayTakeMore, Stay
 
 use crate::admitting::{admit, starve};
 use crate::arrival::take_bytes;
-use crate::state::{Arrival, CallsState, ConnectionState, PLACES, REPLY_LIMIT};
+use crate::state::{Arrival, CallsState, ConnectionState, REPLY_LIMIT};
 use crate::stop::Stop;
 use nfs_laws::laws::feeds_are_walks;
 use nfs_values::ConnectionNumber;
 use rpc_msg::Offer;
 use rpc_record::Look;
-use scheduler::Origin;
+use scheduler::{MOST_WAITING, Origin};
 use std::alloc::AllocError;
 
 /// Room for one more reply beside those that are owed.
@@ -169,7 +169,7 @@ fn take_some(
     ensures goes_on { MayTakeMore bytes.now result.0 result.1 connection.new }
     ensures stays { StaysSound calls.old connection.old number.0 calls.new connection.new }
 {
-    if calls.pending() < PLACES {
+    if calls.pending() < MOST_WAITING {
         take_and_admit(connection, calls, offer, number, bytes)
     } else {
         take_when_full(connection, calls, offer, number, bytes)
@@ -210,7 +210,7 @@ fn is_stopped(connection: &ConnectionState, calls: &CallsState, bytes: &[u8]) ->
         → (pending calls.now ≡ 1024) × IsFree connection.now.reassembler bytes.now 0 }
     ensures goes_on { result ≡ false → MayGoOn calls.now connection.now bytes.now }
 {
-    if calls.pending() < PLACES {
+    if calls.pending() < MOST_WAITING {
         return false;
     }
     free_bytes(connection, bytes) == 0

@@ -11,9 +11,6 @@ use rpc_record::Reassembler;
 use scheduler::Waiting;
 use std::alloc::Global;
 
-/// How many messages may wait or run.
-pub(crate) const PLACES: usize = 1_024;
-
 /// The most bytes of the reply record of a call, or of a record that is refused.
 pub(crate) const REPLY_LIMIT: usize = 65_584;
 

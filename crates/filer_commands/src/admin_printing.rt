@@ -2,8 +2,8 @@
 
 use crate::replay::ProgramFault;
 use admin_client::{AdminFault, BlockTotals, CallRefusal, Census, Growth};
-use nfs_values::answer::VolumeCount;
 use nfs_values::VolumeNumber;
+use nfs_values::answer::VolumeCount;
 use std::io::{self, Write};
 
 /// A write that failed.

@@ -2,19 +2,17 @@
 
 ghost use Rattle.std.specs.Prelude.{◌+◌, ◌*◌, ◌≤◌};
 
+use affinity::MEBIBYTE;
 use nfs_values::BLOCK_BYTES;
-use server::{Options, VolumePlan};
+use server::{ENOUGH_STOCKED, Options, VolumePlan};
 use std::io::Write;
 use std::net::SocketAddr;
-
-/// The bytes of a mebibyte.
-const MEBIBYTE: u64 = 1_048_576;
 
 /// The bytes of a block's number.
 const NUMBER: u64 = 4;
 
 /// So many numbers come into a volume's stock before it has enough.
-const STOCKED: u64 = 1_048_576;
+const STOCKED: u64 = ENOUGH_STOCKED as u64;
 
 /// The bytes of the words that have so many bits.
 fn words_for(bits: u64) -> u64

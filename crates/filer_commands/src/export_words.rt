@@ -2,13 +2,14 @@
 
 use crate::byte_size::bytes_in;
 use crate::limits::{
-    FEWEST_INODES, LEAST_VOLUME, MOST_BYTES, MOST_CONNECTIONS, MOST_IDLE, MOST_INODES,
-    MOST_MINUTES, MOST_RANGES, MOST_VOLUMES, MOST_WORKERS, USUAL_WORKERS,
+    FEWEST_INODES, MOST_CONNECTIONS, MOST_IDLE, MOST_INODES, MOST_MINUTES, MOST_RANGES,
+    MOST_VOLUMES, MOST_WORKERS, USUAL_WORKERS,
 };
 use crate::machine::Machine;
 use clap::{Arg, ArgAction, ArgMatches, value_parser};
 use server::{
-    Admission, IdleTime, MOST_NETWORKS, Network, Options, Peers, Period, VolumePlan, WhenFull,
+    Admission, IdleTime, LEAST_VOLUME, MOST_BYTES, MOST_NETWORKS, Network, Options, Peers, Period,
+    VolumePlan, WhenFull,
 };
 use std::alloc::{AllocError, Global};
 use std::net::SocketAddr;

@@ -1,34 +1,28 @@
 //! The largest numbers that a command line may name.
 
 /// The most volumes of a server.
-pub(crate) const MOST_VOLUMES: i64 = 8;
+pub(crate) const MOST_VOLUMES: i64 = affinity::MOST_VOLUMES as i64;
 
 /// The most workers of a server.
-pub(crate) const MOST_WORKERS: i64 = 64;
+pub(crate) const MOST_WORKERS: i64 = server::MOST_WORKERS as i64;
 
 /// The most workers of `export` where no number is named.
 pub(crate) const USUAL_WORKERS: usize = 4;
 
 /// The most ranges of a volume.
-pub(crate) const MOST_RANGES: i64 = 16;
-
-/// The fewest bytes of a volume.
-pub(crate) const LEAST_VOLUME: u64 = 4_194_304;
-
-/// The most bytes of a volume.
-pub(crate) const MOST_BYTES: u64 = 1_099_511_627_776;
+pub(crate) const MOST_RANGES: i64 = affinity::MOST_RANGES as i64;
 
 /// The fewest inodes that a volume may have.
-pub(crate) const FEWEST_INODES: i64 = 65_536;
+pub(crate) const FEWEST_INODES: i64 = affinity::INODES as i64;
 
 /// The most inodes that a volume may have.
-pub(crate) const MOST_INODES: i64 = 67_108_864;
+pub(crate) const MOST_INODES: i64 = affinity::MOST_INODES as i64;
 
 /// The most connections after which a server ends.
 pub(crate) const MOST_CONNECTIONS: i64 = 1_000_000;
 
 /// The most seconds after which a connection may be taken for idle.
-pub(crate) const MOST_IDLE: i64 = 86_400;
+pub(crate) const MOST_IDLE: i64 = server::MOST_IDLE_SECONDS as i64;
 
 /// The most minutes between two lines of statistics.
-pub(crate) const MOST_MINUTES: i64 = 1_440;
+pub(crate) const MOST_MINUTES: i64 = server::MOST_MINUTES as i64;

@@ -34,9 +34,6 @@ use nfs_values::{Fileid, Moment};
 use std::alloc::{AllocError, Global};
 use std::marker::Model;
 
-/// The most inodes of a volume, the root with them, in any layout (our profile).
-pub const MOST_INODES: usize = 67_108_864;
-
 /// The inodes of a volume by fileid, the next fileid, and how many blocks are filled in all files.
 pub struct Inodes {
     by_fileid: Table,

@@ -10,4 +10,4 @@ mod table;
 
 pub use created::Created;
 pub use inode::{Inode, InodeKind, StoredAttributes};
-pub use inodes::{Inodes, MOST_INODES};
+pub use inodes::Inodes;

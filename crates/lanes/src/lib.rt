@@ -27,4 +27,4 @@ pub use reading::Came;
 pub use tcp_front::Stopped;
 pub use told::Told;
 pub use watched::Watched;
-pub use writing::Sent;
+pub use writing::{BUFFER_BYTES, Sent};

@@ -105,8 +105,8 @@ fn write_buffer<D: Device>(
     sent
 }
 
-/// The bytes for which a buffer is made.
-const JOINED: usize = 262_144;
+/// The bytes of a buffer that replies are joined in.
+pub const BUFFER_BYTES: usize = 262_144;
 
 /// Empties a buffer, and makes room in one that has none, as where it was given away for want of
 /// memory. Where there is none still, records go out one by one.
@@ -115,7 +115,7 @@ fn make_ready(buffer: &mut Vec<u8>)
 {
     buffer.clear();
     if buffer.capacity() == 0 {
-        let _made = buffer.try_reserve_exact(JOINED);
+        let _made = buffer.try_reserve_exact(BUFFER_BYTES);
     }
 }
 

@@ -29,7 +29,10 @@ pub use bytes::{BytesRead, BytesToWrite, room_to_read};
 pub use call::Call;
 pub use credential::{Credential, GroupList};
 pub use handle::{FileHandle, HandleMap, Named};
-pub use limits::{BLOCK_BYTES, COUNT_LIMIT, NANOSECONDS_OF_A_SECOND, SPAN_BYTES};
+pub use limits::{
+    BLOCK_BYTES, COUNT_LIMIT, MILLISECONDS_OF_A_SECOND, NANOSECONDS_OF_A_MILLISECOND,
+    NANOSECONDS_OF_A_SECOND, SPAN_BLOCKS, SPAN_BYTES,
+};
 pub use moment::Moment;
 pub use mount::{Exports, MountCall, MountResults, export_path};
 pub use name::Name;

@@ -68,7 +68,9 @@ impl ProcedureSet {
         ensures listed { (p : Known)
             → offers result p ≡ is_among export_numbers (numbers_of p) }
     {
-        ProcedureSet { has: [true; PROCEDURES] }
+        ProcedureSet {
+            has: [true; PROCEDURES],
+        }
     }
 
     /// The offer with this procedure too.

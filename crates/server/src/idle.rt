@@ -3,7 +3,7 @@
 ghost use Rattle.std.specs.Prelude.{◌↔◌, ◌≤◌, ◌<◌, ◌+◌, IsTrue};
 
 /// The most seconds after which a connection may be taken for idle: a day.
-const MOST_SECONDS: u32 = 86_400;
+pub const MOST_IDLE_SECONDS: u32 = 86_400;
 
 /// After how many seconds without a word of its peer a connection is idle.
 #[derive(Clone, Copy)]
@@ -23,7 +23,7 @@ impl IdleTime {
         ensures in_range { IfSome result (λ time. AreIdleSeconds seconds) }
         ensures refused { IfNone result (AreIdleSeconds seconds → ⊥) }
     {
-        if seconds == 0 || seconds > MOST_SECONDS {
+        if seconds == 0 || seconds > MOST_IDLE_SECONDS {
             return None;
         }
         Some(IdleTime { seconds })

@@ -12,9 +12,8 @@ ghost use Rattle.server.specs.Planned.{IsLaidOut};
 ghost use Rattle.server.specs.Queues.{IsNewQueue, IsReadyLane};
 
 use crate::fault::ServerFault;
-use crate::options::MOST_VOLUMES;
 use crate::plan::VolumePlan;
-use affinity::{AggregateSpec, Layout, SizedVolumeSpec, VolumeSpec};
+use affinity::{AggregateSpec, Layout, MOST_VOLUMES, SizedVolumeSpec, VolumeSpec};
 use lanes::{Device, Lane};
 use rpc_msg::{HandleForm, Offer};
 use std::alloc::{AllocError, Global};

@@ -6,15 +6,11 @@ use crate::admission::{Admission, MOST_OPEN, WhenFull};
 use crate::idle::IdleTime;
 use crate::peers::Peers;
 use crate::plan::VolumePlan;
+use affinity::MOST_VOLUMES;
 use clerk::Period;
 use rpc_msg::Offer;
 use std::net::SocketAddr;
-
-/// The most volumes.
-pub(crate) const MOST_VOLUMES: usize = 8;
-
-/// The most workers.
-pub(crate) const MOST_WORKERS: usize = 64;
+use workers::MOST_WORKERS;
 
 /// Where a server listens, how many volumes (1 to 8) and workers (1 to 64) it has, after how many
 /// connections it ends, if after any, how many may be open, what it offers and to whom, what its

@@ -3,23 +3,20 @@
 ghost use Rattle.std.specs.Prelude.{◌≡◌, ◌≤◌, ◌<◌, ◌*◌, ◌⊎◌};
 ghost use Rattle.nfs_model.specs.volume.Ranges.{IsRangeSize};
 
-use affinity::{INODES, MIB, MOST_INODES, MOST_RANGES, RANGE_BLOCKS};
+use affinity::{INODES, MEBIBYTE, MIB, MOST_INODES, MOST_RANGES, RANGE_BLOCKS};
 use nfs_values::BLOCK_BYTES;
-
-/// The bytes of a mebibyte.
-const MEBIBYTE: u64 = 1_048_576;
 
 /// The bytes of a volume for each of its inodes.
 const BYTES_AN_INODE: u64 = 16_384;
 
 /// The fewest bytes of a volume: a range of 1,024 blocks.
-const LEAST_VOLUME: u64 = 4_194_304;
+pub const LEAST_VOLUME: u64 = 4_194_304;
 
 /// The fewest bytes of a volume's largest files.
 const LEAST_FILE: u64 = 16_777_216;
 
 /// The most bytes of a volume, and of a file.
-const MOST_BYTES: u64 = 1_099_511_627_776;
+pub const MOST_BYTES: u64 = 1_099_511_627_776;
 
 /// What each volume has at the start, and what all of them may grow by.
 #[derive(Clone, Copy)]

@@ -2,11 +2,9 @@
 
 ghost use Rattle.std.specs.Prelude.{◌≡◌, ◌≤◌, ◌*◌, [], IfOk, vec_capacity};
 
+use scheduler::MOST_WAITING;
 use std::alloc::{AllocError, Global};
 use turns::{BatchInHand, Envelope};
-
-/// The most messages that wait in a lane's queue.
-const MOST_WAITING: usize = 1024;
 
 /// Room for all that so many lanes can leave: a batch and a message of each, and the messages that
 /// wait. Who has it puts the lanes together without memory.

@@ -8,19 +8,17 @@ use crate::guests::Guests;
 use crate::keys::Keys;
 use crate::mailbox::{Arrival, Mailbox};
 use crate::pace::Pace;
+use lanes::BUFFER_BYTES;
 use mio::{Events, Poll};
 use std::alloc::{AllocError, Global};
 use std::net::Net;
 use std::sync::Arc;
 use workers::StartRefusal;
 
-/// The most bytes of one read, and of one write of replies that are joined.
-const BLOCK: usize = 262_144;
-
 /// The most events that one poll gives.
 const EVENTS: usize = 128;
 
-/// What a lane reads into, and what it joins replies in.
+/// What a lane reads into, as large as what it joins replies in.
 #[derive(Drop)]
 pub(crate) struct Buffers {
     pub(crate) block: Vec<u8>,
@@ -32,8 +30,8 @@ impl Buffers {
     /// 256 KiB of each.
     fn new(alloc: Global) -> Result<Buffers, AllocError> {
         Ok(Buffers {
-            block: vec![in alloc; 0; BLOCK]?,
-            buffer: Vec::with_capacity(alloc, BLOCK)?,
+            block: vec![in alloc; 0; BUFFER_BYTES]?,
+            buffer: Vec::with_capacity(alloc, BUFFER_BYTES)?,
         })
     }
 }

@@ -1,11 +1,7 @@
 //! When lanes tend anew: what all of them know of it.
 
-use nfs_values::Moment;
+use nfs_values::{MILLISECONDS_OF_A_SECOND, Moment, NANOSECONDS_OF_A_MILLISECOND};
 use std::sync::atomic::{AtomicBool, AtomicU64, Ordering};
-
-const NANOSECONDS_OF_A_MILLISECOND: u32 = 1_000_000;
-
-const MILLISECONDS_OF_A_SECOND: u64 = 1_000;
 
 /// Whether calls may have left blocks to tend, and when a lane last began to. One lane tends for
 /// all: so that a volume's names aren't taken from who serves them more often than is of use.

@@ -5,20 +5,21 @@ ghost use Rattle.filer_state.specs.state.Sets.{range_value, vbn_set};
 ghost use Rattle.service_batches.specs.Batches.{SurveysHere};
 ghost use Rattle.service_batches.specs.Counts.{count_shown, with_count};
 
+use affinity::MOST_RANGES;
 use filer_state::Files;
 use parcels::{RangeHeld, VbnHeld};
 use std::alloc::{AllocError, Global};
 
-/// The ranges of a volume at most.
-const MOST_RANGES: usize = 16;
+/// The places of ranges of a volume.
+const PLACES: usize = MOST_RANGES as usize;
 
 /// Survey (our profile), on the parcels of a volume's block numbers: how many blocks are free in
 /// each range in use, in the order of the ranges.
 pub fn survey(alloc: Global, held: &VbnHeld<Files>) -> Result<Vec<u32>, AllocError>
     ensures { IfOk result (λ counts. SurveysHere (vbn_set held.now) counts.items) }
 {
-    let mut counts = Vec::with_capacity(alloc, MOST_RANGES)?;
-    for range in 0..MOST_RANGES {
+    let mut counts = Vec::with_capacity(alloc, PLACES)?;
+    for range in 0..PLACES {
         add_count(&mut counts, &held.ranges.at[range])?;
     }
     Ok(counts)

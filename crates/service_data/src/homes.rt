@@ -35,14 +35,11 @@ ghost use Rattle.service_data.specs.Places.{
 };
 
 use filer_state::Files;
-use nfs_values::{BLOCK_BYTES, BlockNumber, Fileid, Moment};
+use nfs_values::{BLOCK_BYTES, BlockNumber, Fileid, Moment, SPAN_BLOCKS};
 use parcels::{LogicalHeld, StripeHeld};
 use std::alloc::AllocError;
 use stripe_cards::Card;
 use stripes::Stripe;
-
-/// The blocks of a span, which lie in one stripe.
-const SPAN_BLOCKS: u64 = 64;
 
 /// The place of the stripe in which a block of a file lies.
 fn home(held: &LogicalHeld<Files>, fileid: Fileid, block: u64) -> usize

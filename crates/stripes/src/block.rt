@@ -10,11 +10,14 @@ use nfs_values::{BLOCK_BYTES, BlockNumber};
 use std::alloc::{AllocError, Global};
 use std::marker::Model;
 
+/// The bytes of a block, as the length of an array.
+const BLOCK_SIZE: usize = BLOCK_BYTES as usize;
+
 /// A block: its number in the volume, and its bytes.
 #[derive(Drop)]
 pub struct Block {
     number: BlockNumber,
-    bytes: Box<[u8; 4096]>,
+    bytes: Box<[u8; BLOCK_SIZE]>,
 }
 
 impl Model for Block {
@@ -37,7 +40,7 @@ impl Block {
     pub fn zero(alloc: Global, number: BlockNumber) -> Result<Block, AllocError>
         ensures { IfOk result (λ b. b ≡ zero_block number.0) }
     {
-        let bytes = Box::new(alloc, [0; 4096])?;
+        let bytes = Box::new(alloc, [0; BLOCK_SIZE])?;
         Ok(Block { number, bytes })
     }
 

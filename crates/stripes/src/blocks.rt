@@ -35,12 +35,12 @@ ghost use Rattle.stripes.specs.Spans.{
 
 use crate::block::Block;
 use crate::freed_blocks::{FreedBlocks, GiveBack};
-use crate::span::{SPAN_BLOCKS, Span, put_zeros};
+use crate::span::{Span, put_zeros};
 use crate::spans::{
     SpanMap, give_back, insert_in, number_block, overwrite_in, take_from, take_in, write_in,
     zero_tail,
 };
-use nfs_values::{BLOCK_BYTES, BlockNumber, SPAN_BYTES};
+use nfs_values::{BLOCK_BYTES, BlockNumber, SPAN_BLOCKS, SPAN_BYTES};
 use std::alloc::{AllocError, Global};
 use std::collections::BTreeMap;
 use std::marker::Model;

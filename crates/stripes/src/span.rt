@@ -56,13 +56,10 @@ ghost use Rattle.stripes.specs.Spans.{
 
 use crate::block::Block;
 use crate::freed_blocks::FreedBlocks;
-use nfs_values::{BLOCK_BYTES, BlockNumber};
+use nfs_values::{BLOCK_BYTES, BlockNumber, SPAN_BLOCKS};
 use std::alloc::{AllocError, Global};
 use std::array;
 use std::marker::Model;
-
-/// The blocks of a span.
-pub const SPAN_BLOCKS: u64 = 64;
 
 /// The blocks of a span, each at its number modulo 64.
 #[derive(Drop)]

@@ -59,8 +59,8 @@ ghost use Rattle.stripes.specs.Spans.{
 
 use crate::block::Block;
 use crate::freed_blocks::{FreedBlocks, GiveBack};
-use crate::span::{SPAN_BLOCKS, Span};
-use nfs_values::{BlockNumber, SPAN_BYTES};
+use crate::span::Span;
+use nfs_values::{BlockNumber, SPAN_BLOCKS, SPAN_BYTES};
 use std::alloc::{AllocError, Global};
 use std::collections::BTreeMap;
 

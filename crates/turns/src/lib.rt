@@ -40,6 +40,7 @@ pub use parts::WorkerParts;
 pub use service::{BatchInHand, JobReply, Service};
 pub use shared::Filer;
 pub use shared_outboxes::{OutboxesPass, SharedOutboxes};
+pub use stock::ENOUGH_STOCKED;
 pub use tend::{Tend, TendRefusal, Tended};
 pub use turned::{Gate, Place, Stage, Turn, Unwatched};
 pub use worked::Worked;

@@ -11,7 +11,7 @@ use parcels::{
 };
 
 /// So many numbers of a stock are enough: 4 GiB of blocks.
-const ENOUGH_STOCKED: usize = 1_048_576;
+pub const ENOUGH_STOCKED: usize = 1_048_576;
 
 /// Whether the stock of a volume has enough numbers.
 fn has_enough(held: &LogicalHeld<Files>) -> bool

@@ -5,7 +5,6 @@ mod batch;
 mod dead;
 mod fault;
 mod levels;
-mod limits;
 mod looks;
 mod marks;
 mod range;

@@ -38,6 +38,6 @@ pub use outboxes::Outboxes;
 pub use patience::Patience;
 pub use pool::Pool;
 pub use refusal::StartRefusal;
-pub use room::Room;
+pub use room::{MOST_WORKERS, Room};
 pub use tending::{Found, Tending, found_by};
 pub use turns::{Answer, Filer, Gate, Place, Turn, Unwatched, Worker};

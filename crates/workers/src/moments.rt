@@ -2,10 +2,8 @@
 
 ghost use Rattle.std.specs.Prelude.{◌<◌};
 
-use nfs_values::Moment;
+use nfs_values::{Moment, NANOSECONDS_OF_A_MILLISECOND};
 use std::rt::Clock;
-
-const NANOSECONDS_OF_A_MILLISECOND: u32 = 1_000_000;
 
 /// The time now, or the last one that was told, where the clock can't be read.
 pub fn time_now<R: Clock>(rt: &R, last: Moment) -> Moment

@@ -2,14 +2,12 @@
 
 ghost use Rattle.std.specs.Prelude.{◌≡◌, ◌≤◌, [], vec_capacity};
 
+use scheduler::MOST_WAITING;
 use std::alloc::{AllocError, Global};
 use turns::{BatchInHand, Envelope};
 
 /// The most workers of a filer.
-const MOST_WORKERS: usize = 64;
-
-/// The most messages that wait.
-const MOST_WAITING: usize = 1024;
+pub const MOST_WORKERS: usize = 64;
 
 /// Room for all that workers can leave: a batch and a message of each, and the messages that
 /// wait. Who has it gathers without memory.

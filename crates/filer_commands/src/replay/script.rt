@@ -22,7 +22,7 @@ use std::alloc::Global;
 const LINE_FEED: u8 = b'\n';
 
 /// The most workers of an engine.
-const MOST_WORKERS: u32 = 64;
+const MOST_WORKERS: u32 = server::MOST_WORKERS as u32;
 
 /// The most lines of a layout, the one that starts its engine with them.
 const LAYOUT_LINES: usize = MOST_AGGREGATES + MOST_VOLUMES + 1;

@@ -5,6 +5,7 @@ use Rattle.std.specs.FinMap.{get, len}
 use Rattle.std.specs.FinSet as sets
 use Rattle.nfs_model.specs.Server.{block_size}
 use Rattle.nfs_model.specs.Parts.{most_ranges}
+use Rattle.affinity.specs.Largest.{mebibyte}
 use Rattle.depot_rule.specs.Sums.{total}
 use Rattle.nfs_model.specs.volume.Inodes.{Inode, filled_blocks, inodes_of_a_volume}
 use Rattle.nfs_model.specs.volume.Stripes.{Card, OfFile, OfDirectory, Block, StripeValue, IsStripe, stripe_of, byte_of}
@@ -61,7 +62,7 @@ IsStriped n = (n ≡ 8) ⊎ (n ≡ 16)
 -- 16 to 1,048,576 MiB
 pub record IsLargest (n : ℕ) : Type 0 where
   pub mebibytes : ℕ
-  pub is : n ≡ 1048576 * mebibytes
+  pub is : n ≡ mebibyte * mebibytes
   pub least : 16 ≤ mebibytes
   pub most : mebibytes ≤ 1048576
 

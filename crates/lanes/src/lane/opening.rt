@@ -8,6 +8,7 @@ use crate::lane::Lane;
 use affinity::Layout;
 use outboxes::Outboxes;
 use rpc_msg::Offer;
+use scheduler::MOST_WAITING;
 use slab::Slab;
 use statistics::ReplyCounts;
 use std::alloc::Global;
@@ -15,9 +16,6 @@ use std::snapshot::Snapshot;
 use std::sync::Arc;
 use turns::shared_waiting::{Pass, SharedWaiting};
 use turns::{Envelope, Filer, Worker};
-
-/// How many messages all lanes hold together.
-const PLACES: usize = 1024;
 
 impl<D: Device, R> Lane<D, R> {
     ghost use Rattle.std.specs.Prelude.{◌≡◌, ◌<◌, ◌≤◌, [], None, Some, IfOk, MatchResult};
@@ -74,7 +72,7 @@ impl<D: Device, R> Lane<D, R> {
                 worker,
                 outboxes: Outboxes::with_room_for(alloc, most_open, lane, lanes),
                 waiting: 0,
-                most: PLACES / lanes,
+                most: MOST_WAITING / lanes,
                 owed: Due::nothing(),
                 handles: offer.handles(),
                 leaving: 0,

@@ -14,13 +14,11 @@ ghost use Rattle.service.specs.totals.Growing.{
 ghost use Rattle.service.specs.totals.Ranges.{HasRanges};
 
 use crate::totals::ranges::put_in_use;
+use affinity::MOST_RANGES;
 use filer_state::totals::growing_calls_are_right;
 use filer_state::{Files, ranges_used};
 use nfs_values::{Status, VolumeNumber};
 use parcels::{AggrHeld, VolumeHeld};
-
-/// The ranges of a volume at most.
-const MOST_RANGES: u32 = 16;
 
 /// GROW of the admin program (our profile), on the parcels under the Aggregate of the volume: INVAL
 /// where no range is asked for, FBIG where the volume would have more than 16, NOSPC where more are

@@ -6,9 +6,6 @@ ghost use Rattle.crossbeam_queue.specs.Passes.{view, ruled_capacity};
 use crate::shared_waiting::view::{Fair, Fitting, View};
 use crossbeam_queue::RuledArrayQueue;
 
-/// How many messages a queue holds.
-pub(crate) const PLACES: usize = 1024;
-
 /// The right to use a queue. It knows what was put and picked by it.
 pub struct Pass<T, K> {
     pub(crate) seat: crossbeam_queue::Pass<T, View<T, K>>,

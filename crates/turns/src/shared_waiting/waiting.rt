@@ -9,9 +9,10 @@ ghost use Rattle.turns.specs.shared_waiting.Passes.{known, IsOf};
 
 use crate::shared_waiting::beside::{admit_by, count_by, pick_by};
 use crate::shared_waiting::naming::name_as;
-use crate::shared_waiting::pass::{PLACES, Pass, SharedWaiting};
+use crate::shared_waiting::pass::{Pass, SharedWaiting};
 use crate::shared_waiting::view::{Cut, Fitting, Glue, Picks, Puts};
 use crossbeam_queue::RuledArrayQueue;
+use scheduler::MOST_WAITING;
 use std::alloc::{AllocError, Global};
 use std::marker::Brand;
 use std::sync::Wait;
@@ -22,7 +23,7 @@ impl<T: Fitting<K> + Drop, K: Drop> SharedWaiting<T, K> {
         ensures { IfOk result
             (λ q. IsOf q.0 q.1 × (known q.1 ≡ keyed (Some key.now) opening)) }
     {
-        let (queue, mut seat) = RuledArrayQueue::ruled(alloc, PLACES)?;
+        let (queue, mut seat) = RuledArrayQueue::ruled(alloc, MOST_WAITING)?;
         name_as::<T, K, Brand>(&queue, &mut seat, key);
         Ok((SharedWaiting { queue }, Pass { seat }))
     }

@@ -18,7 +18,7 @@ use Rattle.nfs_model.specs.volume.Ranges.{RangeValue, IsRangeSize, range_numbers
 use Rattle.filer_state.specs.state.Contents.{filer_contents, each}
 use Rattle.filer_state.specs.state.Tree.{ranges_used}
 use Rattle.affinity.specs.Fault.{fault_of, is_sized}
-use Rattle.affinity.specs.Largest.{largest_of, mebibytes_in, inodes_in, inodes_of}
+use Rattle.affinity.specs.Largest.{mebibyte, largest_of, mebibytes_in, inodes_in, inodes_of}
 use Rattle.affinity.specs.lemmas.Lawful.{keeps_rules, stripes_either, mebibytes_between, inodes_between, range_blocks_size}
 use Rattle.nfs_model.specs.Types.{Listed}
 use Rattle.nfs_model.specs.Tree as trees
@@ -369,7 +369,7 @@ volume-opens layout verifier v x lawful there =
     let used = in-use layout lawful verifier v (get-there layout.volumes v x there) in
     let total : range_blocks_of layout v * ranges_used (opening_contents layout verifier v).ranges ≡ x.range_blocks * x.ranges =
     λ j. range_blocks_in (there j) * (used ∙ ap ranges_in there) j in
-    let largest : largest_of layout v ≡ 1048576 * x.mebibytes = ap (λ o. 1048576 * mebibytes_in o) there in
+    let largest : largest_of layout v ≡ mebibyte * x.mebibytes = ap (λ o. mebibyte * mebibytes_in o) there in
     λ j. record {
       number = v;
       aggregate = aggregate_in (there j);
