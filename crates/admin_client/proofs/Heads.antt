@@ -1,5 +1,6 @@
 -- Replies as they are read.
-use Rattle.std.proofs.Common.{◌≡◌, ℕ, ◌^◌, ◌<◌, Bool, true, false, cond, eqb, List, [], ◌++◌, Option, Some, None, Result, Ok, Err, refl, ap, ◌∙◌, arith, inl, inr, map}
+use Rattle.std.proofs.Common.{◌≡◌, ℕ, ◌^◌, ◌<◌, Bool, true, false, cond, eqb, List, [], ◌++◌, Option, Some}
+use Rattle.std.proofs.Common.{None, Result, Ok, Err, refl, ap, ◌∙◌, arith, inl, inr, map}
 use Rattle.std.proofs.lemmas.Bool.{eqb-true, eq-eqb}
 use Rattle.xdr.specs.declared.fault.Fault.{Fault}
 use Rattle.xdr.specs.Shape.{Shape, Case, NoCase, Value, Fits, spelling}
@@ -15,8 +16,8 @@ use Rattle.admin_client.specs.declared.growth.Growth.{Growth}
 use Rattle.admin_client.specs.declared.growth.Growth.TheVariants.{Grown, NoVolume, NoRange, TooManyRanges, TooFewSpare}
 use Rattle.admin_client.specs.declared.refusal.CallRefusal.{CallRefusal}
 use Rattle.admin_client.specs.declared.refusal.CallRefusal.TheVariants as refusals
-use Rattle.admin_client.specs.Telling.{accepted_shape, body_shape, head_shape, accepted_refusal, refusal_of, body_in, growth_shape, growth_value, formed, refused_where}
-use Rattle.admin_client.specs.Telling.{behind, results_behind, results_at, told_behind, told_by, success, answer_of, refused_by, RefusalFits}
+use Rattle.admin_client.specs.Telling.{accepted_shape, body_shape, head_shape, accepted_refusal, refusal_of, body_in, growth_shape, growth_value, formed}
+use Rattle.admin_client.specs.Telling.{refused_where, behind, results_behind, results_at, told_behind, told_by, success, answer_of, refused_by, RefusalFits}
 
 -- ---- a head that is spelled is read
 
@@ -129,7 +130,8 @@ body_done (inl (inr (inl v))) e = absurd cc
 body_done (inl (inr (inr v))) e = absurd v
 body_done (inr v) e = absurd v
 
-not_refused : (results : Shape) (refusal : CallRefusal) (r : Result (Unit {0}) Fault) (v : Value results) → told_behind results (refused_where refusal r) ≡ Ok v → ⊥
+not_refused : (results : Shape) (refusal : CallRefusal) (r : Result (Unit {0}) Fault) (v : Value results)
+    → told_behind results (refused_where refusal r) ≡ Ok v → ⊥
 not_refused results refusal (Ok u) v e = cc
 not_refused results refusal (Err fault) v e = cc
 
@@ -165,5 +167,6 @@ told_read results xid bytes v (Ok h) fits e told =
     (b.0, f.0.parts ∙ ap (λ (w : Value head_shape). spelling head_shape w ++ h.1) same ∙ ap (λ (l : List ℕ). spelling head_shape (success xid b.0) ++ l) s.1)
 told_read results xid bytes v (Err fault) fits e told = absurd cc
 
-pub told_spelled : (results : Shape) (xid : ℕ) (bytes : List ℕ) (v : Value results) → IsBytes bytes → told_by results xid bytes ≡ Ok v → Told results xid bytes v
+pub told_spelled : (results : Shape) (xid : ℕ) (bytes : List ℕ) (v : Value results)
+    → IsBytes bytes → told_by results xid bytes ≡ Ok v → Told results xid bytes v
 told_spelled results xid bytes v fits told = told_read results xid bytes v (read head_shape bytes) fits refl told

@@ -37,7 +37,8 @@ pub found-some : (d : DirectoryValue) (index : List Cookie) (position : ℕ) (na
 found-some d index position name x n = by (under (read_at index position).0 d.list) refl
   where
     by : (o : Option Listed) → o ≡ under (read_at index position).0 d.list → is_some (found d name) ≡ true
-    by None p = let k = known-here d.list index position (read_at index position) x.index (name-position d.list index position name n) in absurd (grind (arith, p, k))
+    by None p = let k = known-here d.list index position (read_at index position) x.index (name-position d.list index position name n) in
+        absurd (grind (arith, p, k))
     by (Some e) p = ap (λ (o : Option Listed). is_some o)
         (found-there d index position (read_at index position) e name x n (name-position d.list index position name n) (sym p))
 

@@ -98,7 +98,8 @@ pub name-added : (d : DirectoryValue) (index : List Cookie) (c : Cookie) (name :
     → name_under (added name fileid d).list c ≡ name
 name-added d index c name fileid x is =
     ap (λ (o : Option Listed). name_in o)
-    (under-pushed d.list (entry_added name fileid d) c.0 (subst (λ k. has d.list k ≡ false) (sym is) (none-at-next 3 d.list d.next x.directory.cookies)) (sym is))
+    (under-pushed d.list (entry_added name fileid d) c.0
+    (subst (λ k. has d.list k ≡ false) (sym is) (none-at-next 3 d.list d.next x.directory.cookies)) (sym is))
 
 index-added : (d : DirectoryValue) (index : List Cookie) (position : ℕ) (c : Cookie) (name : List ℕ) (fileid : ℕ) → IsIndexed d index
     → IsPosition d index name position

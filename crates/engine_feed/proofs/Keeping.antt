@@ -61,7 +61,8 @@ in-step-answered c c' e s =
 pub written-answered : (c c' : ConnectionState) (bytes : List ℕ) → IsWrittenTo c c' bytes → IsAnswered c c'
 written-answered c c' bytes w = w.same ∙ ap (λ (k : ℕ). record c { output = c'.output; owed = k }) (sym (ap owed_by w.same))
 
-pub written-sound : (c c' : ConnectionState) (bytes : List ℕ) → IsWrittenTo c c' bytes → length bytes ≤ reply_limit → HasRoomToReply c → IsSoundConnection c → IsSoundConnection c'
+pub written-sound : (c c' : ConnectionState) (bytes : List ℕ) → IsWrittenTo c c' bytes
+    → length bytes ≤ reply_limit → HasRoomToReply c → IsSoundConnection c → IsSoundConnection c'
 written-sound c c' bytes w short room s =
     let owed = ap owed_by w.same in
     let size = ap (λ (bs : List ℕ). length bs) w.items in

@@ -12,8 +12,8 @@ use Rattle.lanes.specs.Words.{connections_in, offer_in, worker_in}
 use Rattle.turns.specs.Words.{entries_in}
 
 -- Under this key of a lane a connection was open, over this device. The bytes that the device took since then are a beginning of the records
--- of the replies to that connection, as what is offered tells them, in order and each once, among what had ended: the calls that the lane's worker had finished, and what
--- was answered at once.
+-- of the replies to that connection, as what is offered tells them, in order and each once, among what had ended: the calls that the lane's
+-- worker had finished, and what was answered at once.
 pub record WasWritten {D R : Type 0} {G : devices.Ghosts D} (written : D → Option (List ℕ)) (lane : Lane D R G) (key : ℕ) (device : D) : Type 0 where
   pub connection : Connection D
   pub stood : get (connections_in lane) key ≡ Some connection

@@ -184,7 +184,8 @@ keeps_fetch setup w i v size range k p there empty at h =
     }) h
 
 -- dead blocks come into an empty hand
-keeps_cull : (setup : Setup) (w : World) (i v size : ℕ) (k : Worker) (p : Parts) → slice_get w.workers i ≡ Some k → k.hand ≡ Empty → slice_get w.parts v ≡ Some p
+keeps_cull : (setup : Setup) (w : World) (i v size : ℕ) (k : Worker) (p : Parts)
+    → slice_get w.workers i ≡ Some k → k.hand ≡ Empty → slice_get w.parts v ≡ Some p
     → Kept setup w
     → Kept setup (in_hand w i v (dead_hand v (lowest_batch size p.dead)) (without_dead (lowest_batch size p.dead)))
 keeps_cull setup w i v size k p there empty at h =

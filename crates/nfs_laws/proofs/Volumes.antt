@@ -57,7 +57,8 @@ module _ (server : Server) where
   grow_counts : (i : ℕ) (o : Option VolumeState) (ranges : ℕ) → volumes_in (grow_volume server i o ranges).server ≡ volumes_in server
   grow_counts i None ranges = refl
   grow_counts i (Some v) ranges =
-      grow_if (ranges == 0) (nat_lt (v.range_blocks * most_ranges) (v.total + v.range_blocks * ranges)) (nat_lt (slice_index_or server.spare v.aggregate 0) ranges) (Failed Invalid 0)
+      grow_if (ranges == 0) (nat_lt (v.range_blocks * most_ranges) (v.total + v.range_blocks * ranges))
+      (nat_lt (slice_index_or server.spare v.aggregate 0) ranges) (Failed Invalid 0)
       (Failed TooBig 0) (Failed NoSpace 0)
       (record { answer = GrowDone (v.total + v.range_blocks * ranges); server = grown server i v ranges })
       (length-set server.volumes i (record v { total = v.total + v.range_blocks * ranges }))

@@ -18,14 +18,15 @@ use Rattle.nfs_values.specs.declared.answer.FilesystemInfoResults.{FilesystemInf
 use Rattle.nfs_values.specs.declared.answer.PathConfigurationResults.{PathConfigurationResults}
 use Rattle.nfs_values.specs.declared.answer.CommitResults.{CommitResults}
 use Rattle.nfs_values.specs.declared.mount.MountResults.{MountResults}
-use Rattle.nfs_values.specs.Answer.{entry_of, entry_plus_of, entries_listed_plus, space_of, attributes_shown, attributes_set, looked_up, access_told, bytes_read, bytes_written, node_made, name_gone}
-use Rattle.nfs_values.specs.Answer.{name_moved, entries_listed, filesystem_status_told, info_told, path_told, file_committed, volume_grown, volume_mounted, result_of}
+use Rattle.nfs_values.specs.Answer.{entry_of, entry_plus_of, entries_listed_plus, space_of, attributes_shown, attributes_set, looked_up}
+use Rattle.nfs_values.specs.Answer.{access_told, bytes_read, bytes_written, node_made, name_gone, name_moved, entries_listed}
+use Rattle.nfs_values.specs.Answer.{filesystem_status_told, info_told, path_told, file_committed, volume_grown, volume_mounted, result_of}
 use Rattle.nfs_values.specs.Attributes.{shown_of, change_of}
 use Rattle.nfs_types.specs.Shapes.{attributes_shape, attributes_value, change_shape, change_value}
-use Rattle.nfs_types.specs.Results.{lookup_shape, lookup_value, access_results_shape, access_value, read_shape, read_value, write_shape, write_value}
-use Rattle.nfs_types.specs.Results.{made_shape, made_value}
-use Rattle.nfs_types.specs.Results.{renamed_shape, renamed_value, readdir_shape, readdir_value, readdirplus_shape, readdirplus_value}
-use Rattle.nfs_types.specs.Results.{fsstat_shape, fsstat_value, fsinfo_shape, fsinfo_value, pathconf_shape, pathconf_value, commit_shape, commit_value, mounted_shape, mounted_value, answer_bytes, done, result_bytes}
+use Rattle.nfs_types.specs.Results.{lookup_shape, lookup_value, access_results_shape, access_value, read_shape, read_value, write_shape}
+use Rattle.nfs_types.specs.Results.{write_value, made_shape, made_value, renamed_shape, renamed_value, readdir_shape, readdir_value}
+use Rattle.nfs_types.specs.Results.{readdirplus_shape, readdirplus_value, fsstat_shape, fsstat_value, fsinfo_shape, fsinfo_value, pathconf_shape}
+use Rattle.nfs_types.specs.Results.{pathconf_value, commit_shape, commit_value, mounted_shape, mounted_value, answer_bytes, done, result_bytes}
 
 arm : {R : Type 0} (shape : Shape) (value : R → Value shape) (told : R → model.Answer) (absent : ℕ)
     → ((r : R) → answer_bytes (told r) ≡ done shape (value r)) → (result : Result R Status)
@@ -77,7 +78,8 @@ listed_bytes = arm readdir_shape (λ r. readdir_value (shown_of r.directory) (ma
 pub listed_plus_bytes : (result : Result ReadDirectoryPlusResults Status)
     → answer_bytes (result_of entries_listed_plus 1 result) ≡ result_bytes readdirplus_shape
     (λ r. readdirplus_value (shown_of r.directory) (map entry_plus_of r.entries.items) r.eof) 1 result
-listed_plus_bytes = arm readdirplus_shape (λ r. readdirplus_value (shown_of r.directory) (map entry_plus_of r.entries.items) r.eof) entries_listed_plus 1 (λ r. refl)
+listed_plus_bytes =
+    arm readdirplus_shape (λ r. readdirplus_value (shown_of r.directory) (map entry_plus_of r.entries.items) r.eof) entries_listed_plus 1 (λ r. refl)
 
 pub space_bytes : (result : Result FilesystemStatusResults Status)
     → answer_bytes (result_of filesystem_status_told 1 result) ≡ result_bytes fsstat_shape (λ r. fsstat_value (shown_of r.root) (space_of r)) 1 result

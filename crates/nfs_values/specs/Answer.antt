@@ -28,8 +28,9 @@ use Rattle.nfs_values.specs.declared.procedure.Procedure.{Procedure}
 use Rattle.nfs_values.specs.declared.procedure.Procedure.TheVariants as procedures
 use Rattle.nfs_values.specs.declared.mount.MountResults.{MountResults}
 use Rattle.nfs_values.specs.declared.answer.Answer.TheVariants.{Null, GetAttributes, SetAttributes, Lookup, CheckAccess, Read, Write, Create}
-use Rattle.nfs_values.specs.declared.answer.Answer.TheVariants.{MakeDirectory, Remove, RemoveDirectory, Rename, ReadDirectory, ReadDirectoryPlus, FilesystemStatus}
-use Rattle.nfs_values.specs.declared.answer.Answer.TheVariants.{FilesystemInfo, PathConfiguration, Commit, Unsupported, Census, Grow, Mount, ListMounts, ListExports}
+use Rattle.nfs_values.specs.declared.answer.Answer.TheVariants.{MakeDirectory, Remove, RemoveDirectory, Rename, ReadDirectory}
+use Rattle.nfs_values.specs.declared.answer.Answer.TheVariants.{ReadDirectoryPlus, FilesystemStatus, FilesystemInfo, PathConfiguration}
+use Rattle.nfs_values.specs.declared.answer.Answer.TheVariants.{Commit, Unsupported, Census, Grow, Mount, ListMounts, ListExports}
 use Rattle.nfs_values.specs.Attributes.{shown_of, change_of}
 use Rattle.nfs_values.specs.Status.{status_of}
 use Rattle.nfs_values.specs.Unsupported.{unsupported_of, unsupported_procedure}

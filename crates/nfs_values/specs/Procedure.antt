@@ -1,16 +1,17 @@
 use Rattle.std.specs.Prelude.{ℕ, List, [], ◌∷◌}
 use Rattle.nfs_values.specs.declared.procedure.Procedure.{Procedure}
-use Rattle.nfs_values.specs.declared.procedure.Procedure.TheVariants.{Null, GetAttributes, SetAttributes, Lookup, CheckAccess, ReadLink, Read, Write, Create}
-use Rattle.nfs_values.specs.declared.procedure.Procedure.TheVariants.{MakeDirectory, MakeSymbolicLink, MakeDevice, Remove, RemoveDirectory, Rename, MakeLink}
-use Rattle.nfs_values.specs.declared.procedure.Procedure.TheVariants.{ReadDirectory, ReadDirectoryPlus, FilesystemStatus, FilesystemInfo, PathConfiguration, Commit, AdminNull}
-use Rattle.nfs_values.specs.declared.procedure.Procedure.TheVariants.{Census, Grow, MountNull, Mount, ListMounts, Unmount, UnmountAll, ListExports}
+use Rattle.nfs_values.specs.declared.procedure.Procedure.TheVariants.{Null, GetAttributes, SetAttributes, Lookup, CheckAccess, ReadLink, Read, Write}
+use Rattle.nfs_values.specs.declared.procedure.Procedure.TheVariants.{Create, MakeDirectory, MakeSymbolicLink, MakeDevice, Remove, RemoveDirectory}
+use Rattle.nfs_values.specs.declared.procedure.Procedure.TheVariants.{Rename, MakeLink, ReadDirectory, ReadDirectoryPlus, FilesystemStatus}
+use Rattle.nfs_values.specs.declared.procedure.Procedure.TheVariants.{FilesystemInfo, PathConfiguration, Commit, AdminNull, Census, Grow, MountNull}
+use Rattle.nfs_values.specs.declared.procedure.Procedure.TheVariants.{Mount, ListMounts, Unmount, UnmountAll, ListExports}
 
 -- all of them
 abbrev pub all_procedures : List Procedure
 all_procedures =
     Null ∷ GetAttributes ∷ SetAttributes ∷ Lookup ∷ CheckAccess ∷ ReadLink ∷ Read ∷ Write ∷ Create ∷ MakeDirectory ∷ MakeSymbolicLink ∷ MakeDevice ∷
-    Remove ∷ RemoveDirectory ∷ Rename ∷ MakeLink ∷ ReadDirectory ∷ ReadDirectoryPlus ∷ FilesystemStatus ∷ FilesystemInfo ∷ PathConfiguration ∷ Commit ∷ MountNull ∷
-    Mount ∷ ListMounts ∷ Unmount ∷ UnmountAll ∷ ListExports ∷ AdminNull ∷ Census ∷ Grow ∷ []
+    Remove ∷ RemoveDirectory ∷ Rename ∷ MakeLink ∷ ReadDirectory ∷ ReadDirectoryPlus ∷ FilesystemStatus ∷ FilesystemInfo ∷ PathConfiguration ∷ Commit ∷
+    MountNull ∷ Mount ∷ ListMounts ∷ Unmount ∷ UnmountAll ∷ ListExports ∷ AdminNull ∷ Census ∷ Grow ∷ []
 
 -- program and procedure of NFS (RFC 1813 section 3), of MOUNT (appendix I, section 5) and of the admin program (our profile)
 abbrev pub numbers_of : Procedure → ℕ × ℕ

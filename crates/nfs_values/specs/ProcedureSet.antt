@@ -3,8 +3,9 @@ use Rattle.std.specs.Prelude.{ℕ, Bool, true, false, List, [], ◌∷◌, ◌++
 use Rattle.std.specs.List.{list_any}
 use Rattle.nfs_values.specs.declared.procedure_set.ProcedureSet.{ProcedureSet}
 use Rattle.nfs_values.specs.declared.procedure.Procedure.{Procedure}
-use Rattle.nfs_values.specs.declared.procedure.Procedure.TheVariants.{CheckAccess, ReadLink, MakeSymbolicLink, MakeDevice, MakeLink, ReadDirectoryPlus, FilesystemInfo}
-use Rattle.nfs_values.specs.declared.procedure.Procedure.TheVariants.{PathConfiguration, MountNull, Mount, ListMounts, Unmount, UnmountAll, ListExports}
+use Rattle.nfs_values.specs.declared.procedure.Procedure.TheVariants.{CheckAccess, ReadLink, MakeSymbolicLink, MakeDevice, MakeLink}
+use Rattle.nfs_values.specs.declared.procedure.Procedure.TheVariants.{ReadDirectoryPlus, FilesystemInfo, PathConfiguration, MountNull}
+use Rattle.nfs_values.specs.declared.procedure.Procedure.TheVariants.{Mount, ListMounts, Unmount, UnmountAll, ListExports}
 use Rattle.nfs_values.specs.Procedure.{all_procedures, numbers_of, place_of}
 
 -- whether an offer has a procedure

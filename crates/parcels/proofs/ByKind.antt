@@ -135,7 +135,8 @@ module _ {P R B S L V A X : Type 0} (layout : Layout) where
     logical-taken-at (Logical v) kind node own others = logical-taken layout v node held f m g own others
     logical-taken-at _ kind node own others = cc
 
-    pub logical-gathered-at : (a : Affinity) → kind_of a ≡ kinds.VolumeLogical → IsNode layout a → AllMoved f (alone (number_of layout a) (parcels.Logical held.own)) m
+    pub logical-gathered-at : (a : Affinity) → kind_of a ≡ kinds.VolumeLogical
+        → IsNode layout a → AllMoved f (alone (number_of layout a) (parcels.Logical held.own)) m
         → AllMoved m (children_parcels stripe_parcels layout a held.stripes.at) g
         → EachChild layout a (λ node. Under layout node (IsVacant layout g)) → Under layout a (HasParcel layout f)
         → HasExactly kind_in layout a (logical_parcels layout a held)
@@ -171,7 +172,8 @@ module _ {P R B S L V A X : Type 0} (layout : Layout) where
     aggregate-taken-at (Aggregate n) kind node own others = aggregate-taken layout n node held f m g own others
     aggregate-taken-at _ kind node own others = cc
 
-    pub aggregate-gathered-at : (a : Affinity) → kind_of a ≡ kinds.Aggregate → IsNode layout a → AllMoved f (alone (number_of layout a) (parcels.Aggregate held.own)) m
+    pub aggregate-gathered-at : (a : Affinity) → kind_of a ≡ kinds.Aggregate → IsNode layout a
+        → AllMoved f (alone (number_of layout a) (parcels.Aggregate held.own)) m
         → AllMoved m (children_parcels volume_parcels layout a held.volumes.at) g
         → EachChild layout a (λ node. Under layout node (IsVacant layout g)) → Under layout a (HasParcel layout f)
         → HasExactly kind_in layout a (aggregate_parcels layout a held)
@@ -207,7 +209,9 @@ module _ {P R B S L V A X : Type 0} (layout : Layout) where
     serial-taken-at Serial kind node own others = serial-taken layout held f m g own others
     serial-taken-at _ kind node own others = cc
 
-    pub serial-gathered-at : (a : Affinity) → kind_of a ≡ kinds.Serial → IsNode layout a → ((v : ℕ) → v < length layout.volumes → aggregate_of layout v < length layout.spare) → AllMoved f (alone (number_of layout a) (parcels.Serial held.own)) m
+    pub serial-gathered-at : (a : Affinity) → kind_of a ≡ kinds.Serial → IsNode layout a
+        → ((v : ℕ) → v < length layout.volumes → aggregate_of layout v < length layout.spare)
+        → AllMoved f (alone (number_of layout a) (parcels.Serial held.own)) m
         → AllMoved m (children_parcels aggregate_parcels layout a held.aggregates.at) g
         → EachChild layout a (λ node. Under layout node (IsVacant layout g)) → Under layout a (HasParcel layout f)
         → HasExactly kind_in layout a (serial_parcels layout a held)

@@ -1,5 +1,6 @@
 -- How many bytes results take that have bytes, lists or handles of any number.
-use Rattle.std.proofs.Common.{◌≡◌, ◌^◌, ℕ, zero, suc, min, take, Option, Some, None, ◌+◌, ◌-◌, ◌*◌, ◌≤◌, Bool, true, false, cond, List, [], ◌∷◌, ◌++◌, length, map, replicate, refl, sym, subst, ap, ◌∙◌, arith}
+use Rattle.std.proofs.Common.{◌≡◌, ◌^◌, ℕ, zero, suc, min, take, Option, Some, None, ◌+◌, ◌-◌, ◌*◌, ◌≤◌, Bool, true, false}
+use Rattle.std.proofs.Common.{cond, List, [], ◌∷◌, ◌++◌, length, map, replicate, refl, sym, subst, ap, ◌∙◌, arith}
 use Rattle.std.specs.Prelude.{nat_le}
 use Rattle.std.specs.List.{flat_map, range_with_len}
 use Rattle.std.specs.Option.{option_map}
@@ -11,7 +12,8 @@ use Rattle.nfs_model.specs.Serial.Readdir.{entry_size, fitting}
 use Rattle.nfs_model.specs.Serial.Readdirplus.{entry_plus_size, fitting_plus}
 use Rattle.nfs_types.specs.Shapes.{◌&◌, handle_shape, after_shape, attributes_value, change_shape, change_value}
 use Rattle.nfs_model.specs.Serial.Mount.{volume_path, root_of, mounted, mount}
-use Rattle.nfs_types.specs.Results.{entry_shape, entry_value, entry_plus_shape, entry_plus_value, count_shape, count_value, export_value, exports_shape, answer_bytes}
+use Rattle.nfs_types.specs.Results.{entry_shape, entry_value, entry_plus_shape, entry_plus_value}
+use Rattle.nfs_types.specs.Results.{count_shape, count_value, export_value, exports_shape, answer_bytes}
 use Rattle.nfs_types.specs.lemmas.Absent.{length-absent_parts}
 use Rattle.rpc_msg.specs.HandleForm.{told_in_run, verifier_of}
 use Rattle.rpc_msg.specs.Handles.{answer_with, listed_with}

@@ -42,9 +42,8 @@ use Rattle.rpc_msg.specs.declared.handle_form.HandleForm.{HandleForm}
 use Rattle.rpc_msg.specs.declared.handle_form.HandleForm.TheVariants.{Plain, OfRun}
 use Rattle.rpc_msg.specs.HandleForm.{told_in_run}
 use Rattle.rpc_msg.specs.Handles.{answer_with, reply_told}
-use Rattle.rpc_msg.proofs.AnswerSizes.{told_size}
-use Rattle.rpc_msg.proofs.AnswerSizes.{Takes, length-padded, mount_size, failed_size, read_size, entries_size, readdir_size, fitting_fits, census_size, success_size}
-use Rattle.rpc_msg.proofs.AnswerSizes.{IsShort, entry_is_short, entries_plus_size, readdirplus_size, fitting_plus_fits}
+use Rattle.rpc_msg.proofs.AnswerSizes.{told_size, Takes, length-padded, mount_size, failed_size, read_size, entries_size, readdir_size, fitting_fits}
+use Rattle.rpc_msg.proofs.AnswerSizes.{census_size, success_size, IsShort, entry_is_short, entries_plus_size, readdirplus_size, fitting_plus_fits}
 
 -- ---- results of one size
 
@@ -528,7 +527,8 @@ serial_fits : (volumes : ℕ) (server : Server) (call : model.Call) (who : model
 serial_fits volumes server call who moment true r = record { reply = starved_fits (results_room volumes call); server = r }
 serial_fits volumes server call who moment false r = serve_fits volumes server call who moment r
 
-pub reply_fits : (form : HandleForm) (volumes : ℕ) (server : Server) (call : model.Call) (who : model.Credential) (moment : model.Moment) (starved : Bool) (xid : ℕ)
+pub reply_fits : (form : HandleForm) (volumes : ℕ) (server : Server) (call : model.Call)
+    (who : model.Credential) (moment : model.Moment) (starved : Bool) (xid : ℕ)
     → IsRoomy volumes server
     → length (reply_record xid (reply_told form (serial server (model.Ask call who) moment starved).reply)) ≤ reply_room volumes call
 reply_fits form volumes server call who moment starved xid r = (serial_fits volumes server call who moment starved r).reply form xid

@@ -54,7 +54,8 @@ module _ (offer : Offer) where
 
   at_kind : (bytes : List ℕ) (xid kind : ℕ) (rest : List ℕ) → Begins (Word & Word) (xid, kind) bytes rest
       → heard_by offer bytes ≡ heard_from (form_of offer) (head_from offer (cond (eqb kind 0) (Ok (xid, rest)) (Err 13)))
-  at_kind bytes xid kind rest b = ap (λ (r : Reads (ℕ × ℕ)). heard_from (form_of offer) (head_from offer (xid_of r))) (read_again (Word & Word) (xid, kind) bytes rest b)
+  at_kind bytes xid kind rest b =
+      ap (λ (r : Reads (ℕ × ℕ)). heard_from (form_of offer) (head_from offer (xid_of r))) (read_again (Word & Word) (xid, kind) bytes rest b)
 
   at_call : (bytes : List ℕ) (xid : ℕ) (rest : List ℕ) → Begins (Word & Word) (xid, 0) bytes rest → heard_by offer bytes ≡ told xid (body_by offer rest)
   at_call bytes xid rest b = at_kind bytes xid 0 rest b
@@ -168,7 +169,8 @@ module _ (offer : Offer) where
   -- ---- faults
 
   incomplete_again : (bytes : List ℕ) → IsBytes bytes → IsIncomplete bytes → heard_by offer bytes ≡ Err 12
-  incomplete_again bytes fits (NoMessage none) = ap (λ (r : Reads (ℕ × ℕ)). heard_from (form_of offer) (head_from offer (xid_of r))) (fault_of (Word & Word) bytes fits none).1
+  incomplete_again bytes fits (NoMessage none) =
+      ap (λ (r : Reads (ℕ × ℕ)). heard_from (form_of offer) (head_from offer (xid_of r))) (fault_of (Word & Word) bytes fits none).1
   incomplete_again bytes fits (NoVersion xid rest b none) =
       at_call bytes xid rest b ∙ ap (λ (r : Reads ℕ). told xid (by_version r)) (fault_of Word rest (rest_bytes (Word & Word) (xid, 0) bytes rest fits b) none).1
   incomplete_again bytes fits (NoNumbers xid rest b none) =

@@ -12,7 +12,8 @@ use Rattle.nfs_model.specs.Serial.Write.{blocks_met}
 use Rattle.nfs_model.specs.volume.Maps.{changed_at}
 use Rattle.nfs_model.specs.volume.lemmas.Maps.{get-changed_at}
 use Rattle.nfs_model.specs.volume.lemmas.Entries.{place_total, place_same}
-use Rattle.nfs_model.specs.volume.Stripes.{Block, FileBlock, file_block_cmp, StripeValue, stripe_of, is_filled, zero_block, block_inserted, block_taken, block_numbered}
+use Rattle.nfs_model.specs.volume.Stripes.{Block, FileBlock, file_block_cmp, StripeValue, stripe_of, is_filled}
+use Rattle.nfs_model.specs.volume.Stripes.{zero_block, block_inserted, block_taken, block_numbered}
 use Rattle.filer_state.specs.state.Parcels.{no_stripe}
 use Rattle.filer_state.specs.state.Tree.{home_stripe}
 use Rattle.filer_state.specs.bytes.Extending.{holes, home_changed, filled_with}
@@ -100,7 +101,8 @@ module _ (fileid b : ℕ) where
   other-numbered : (n c m : ℕ) → (b ≡ c → ⊥) → (s : StripeValue)
       → block_numbered fileid b n (block_inserted fileid c m s) ≡ block_inserted fileid c m (block_numbered fileid b n s)
   other-numbered n c m apart s = λ j. record s {
-    blocks = changed-past s.blocks (λ (x : Block). record x { number = n }) (fileid, b) (fileid, c) (zero_block m) (λ e. apart (ap (λ (p : FileBlock). p.1) e)) j;
+    blocks =
+        changed-past s.blocks (λ (x : Block). record x { number = n }) (fileid, b) (fileid, c) (zero_block m) (λ e. apart (ap (λ (p : FileBlock). p.1) e)) j;
   }
 
   other-filled : (n c : ℕ) → (c ≡ b → ⊥) → (s : StripeValue) → is_filled (block_inserted fileid b n s) fileid c ≡ is_filled s fileid c

@@ -74,7 +74,8 @@ module _ (layout : Layout) (v w : FilerView) (call : InnerCall) (hand : Hand) wh
   pub moved-batch : (carried : Carried) → MovesBatch call → HasCarried layout v call hand carried w → HasMovedBatch carried
   moved-batch (Done reply stock) batch did =
       let d = did.0.did in
-      names-batch d.before.logical.dead.range_blocks call (ranges_used d.before.ranges) (parts_of d.before) (parts_of d.after) (job_reply_of reply) batch d.moves
+      names-batch d.before.logical.dead.range_blocks call (ranges_used d.before.ranges)
+      (parts_of d.before) (parts_of d.after) (job_reply_of reply) batch d.moves
   moved-batch (Refused back refusal) batch did = tt
 
   -- ---- the worker after it

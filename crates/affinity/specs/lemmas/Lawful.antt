@@ -91,6 +91,9 @@ pub few_volumes : (layout : Layout) → fault_of layout ≡ None → length layo
 few_volumes layout h =
     leb-true (length layout.volumes) 8 (and_parts (nat_le 1 (length layout.volumes)) (nat_le (length layout.volumes) 8) (keeps_rules layout h).volumes).1
 
+-- both
+pub ruleset few_of_each = (few_aggregates, few_volumes)
+
 -- ---- stripes and sizes
 
 -- one of two numbers

@@ -83,7 +83,7 @@ fn count_if_on(
 }
 
 /// The counts of a volume that there is.
-#[tactic(auto, using(affinity::specs::lemmas::Lawful::few_aggregates, affinity::specs::lemmas::Lawful::few_volumes))]
+#[tactic(auto, using(affinity::specs::lemmas::Lawful::few_of_each))]
 fn count_in_whole(layout: &Layout, held: &SerialHeld<Files>, volume: u32) -> VolumeCounts
     requires there { volume < length (layout_of layout.now).volumes }
     ensures { let L = layout_of layout.now in

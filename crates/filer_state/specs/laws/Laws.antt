@@ -42,7 +42,8 @@ PartsPartition = (p : VolumeContents) (hands : List Hand) (made : ℕ) (in_hands
 
 -- no more blocks are used than there are
 abbrev pub UsedFits : Type 0
-UsedFits = (p : VolumeContents) (hands : List Hand) (made : ℕ) → IsSound p hands made → p.logical.inodes.used ≤ p.logical.dead.range_blocks * ranges_used p.ranges
+UsedFits = (p : VolumeContents) (hands : List Hand) (made : ℕ) → IsSound p hands made
+    → p.logical.inodes.used ≤ p.logical.dead.range_blocks * ranges_used p.ranges
 
 -- no directory has more entries than there are inodes
 abbrev pub EntriesFit : Type 0

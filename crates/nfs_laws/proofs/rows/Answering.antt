@@ -149,7 +149,20 @@ crowded_engine_takes_no_last_byte = (
 
 abbrev root_shown : Shown
 root_shown =
-    record { kind = DirectoryKind; mode = 493; links = 2; uid = 0; gid = 0; size = 4096; used = 0; fsid = 0; fileid = 1; atime = at 0; mtime = at 0; ctime = at 0 }
+    record {
+      kind = DirectoryKind;
+      mode = 493;
+      links = 2;
+      uid = 0;
+      gid = 0;
+      size = 4096;
+      used = 0;
+      fsid = 0;
+      fileid = 1;
+      atime = at 0;
+      mtime = at 0;
+      ctime = at 0;
+    }
 
 abbrev worked : World
 worked =
@@ -174,7 +187,10 @@ getattr_is_worked = (
     record { running = Some (record { message = getattr_message; moment = at 1; outcome = None }); hand = Empty },
     record { message = getattr_message; moment = at 1; outcome = None },
     Replied (Success (GetattrDone root_shown)),
-    record { server = opening layout (replicate 8 1); parts = opening_parts (record { aggregate = 0; ranges = 1; stripes = 8; mebibytes = 16; range_blocks = 1024; inodes = 65536 }) ∷ [] },
+    record {
+      server = opening layout (replicate 8 1);
+      parts = opening_parts (record { aggregate = 0; ranges = 1; stripes = 8; mebibytes = 16; range_blocks = 1024; inodes = 65536 }) ∷ [];
+    },
     refl,
     refl,
     (

@@ -4,8 +4,8 @@ use Rattle.std.specs.Ordering.{nat_cmp}
 use Rattle.std.specs.FinMap.{from_sorted}
 use Rattle.std.specs.FinSet.{FinSet}
 use Rattle.std.specs.FinSet as sets
-use Rattle.nfs_model.specs.Types.{Moment, Credential, Call, Create, Mkdir, Write, Unchecked, Reply, Success, Failed, Status, Shown, Regular, DirectoryKind, Before}
-use Rattle.nfs_model.specs.Types.{Wcc, Listed, SetAttributes}
+use Rattle.nfs_model.specs.Types.{Moment, Credential, Call, Create, Mkdir, Write, Unchecked, Reply, Success, Failed}
+use Rattle.nfs_model.specs.Types.{Status, Shown, Regular, DirectoryKind, Before, Wcc, Listed, SetAttributes}
 use Rattle.nfs_model.specs.Tree.{Layout, VolumeLayout}
 use Rattle.nfs_model.specs.Server.{Attributes, Node, File, Directory, VolumeState, Server, opening, opening_volume, handle_bytes}
 use Rattle.nfs_model.specs.Serial.Create.{no_attributes}

@@ -1,8 +1,8 @@
 -- The home of a call, exclusion, and which calls may lack memory (our profile).
 use Rattle.std.proofs.Common.{◌≡◌, true, false, [], ◌∷◌, replicate, Some, None, refl}
-use Rattle.nfs_model.specs.Types.{Unchecked, Guarded, Exclusive, Null, Getattr, Setattr, Lookup, Read, Write, Create, Mkdir, Remove, Rmdir, Rename, Readdir, Readdirplus}
-use Rattle.nfs_model.specs.Types.{Readlink, Symlink, Mknod, Link, CheckAccess, Fsstat, Fsinfo, Pathconf, Commit, Unsupported, Census, Grow, Ask, Refused}
-use Rattle.nfs_model.specs.Types.{SystemError, GarbageArguments}
+use Rattle.nfs_model.specs.Types.{Unchecked, Guarded, Exclusive, Null, Getattr, Setattr, Lookup, Read, Write, Create, Mkdir, Remove}
+use Rattle.nfs_model.specs.Types.{Rmdir, Rename, Readdir, Readdirplus, Readlink, Symlink, Mknod, Link, CheckAccess, Fsstat, Fsinfo}
+use Rattle.nfs_model.specs.Types.{Pathconf, Commit, Unsupported, Census, Grow, Ask, Refused, SystemError, GarbageArguments}
 use Rattle.nfs_model.specs.Tree.{Serial, Aggregate, Volume, Logical, Stripe, Vbn, Range, excludes}
 use Rattle.nfs_model.specs.Home.{home, home_of_asked}
 use Rattle.nfs_model.specs.Serial.Step.{serial}

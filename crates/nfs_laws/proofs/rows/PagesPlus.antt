@@ -25,7 +25,8 @@ readdirplus_of_a_bad_handle = refl
 readdirplus_of_an_absent_node : (serial start (Ask (Readdirplus (h 2) 5 (replicate 8 1) 0 0) nobody) (at 1) false).reply ≡ fails Stale 1
 readdirplus_of_an_absent_node = simp evaluate refl
 
-readdirplus_of_a_file : (serial (with_file (file [] no_blocks)) (Ask (Readdirplus (h 2) 5 (replicate 8 1) 0 0) nobody) (at 1) false).reply ≡ fails NotDirectory 1
+readdirplus_of_a_file : (serial (with_file (file [] no_blocks)) (Ask (Readdirplus (h 2) 5 (replicate 8 1) 0 0) nobody) (at 1) false).reply
+    ≡ fails NotDirectory 1
 readdirplus_of_a_file = simp evaluate refl
 
 cookie_with_another_verifier : (serial start (Ask (Readdirplus root 1 (replicate 8 1) 0 0) nobody) (at 1) false).reply ≡ fails BadCookie 1
@@ -73,12 +74,14 @@ end_of_a_list_needs_room : (serial start (Ask (Readdirplus root 2 (replicate 8 0
 end_of_a_list_needs_room = simp evaluate refl
 
 name_of_five_bytes_takes_eight :
-    (serial (holding 3 ((1, root_with 4 (entry 3 (replicate 5 97) 2 ∷ [])) ∷ ((2, file [] no_blocks) ∷ []))) (Ask (Readdirplus root 2 (replicate 8 0) 32 252) nobody) (at 1) false).reply
+    (serial (holding 3 ((1, root_with 4 (entry 3 (replicate 5 97) 2 ∷ [])) ∷ ((2, file [] no_blocks) ∷ [])))
+    (Ask (Readdirplus root 2 (replicate 8 0) 32 252) nobody) (at 1) false).reply
     ≡ Success (ReaddirplusDone (root_shown 2 1) (plus (entry 3 (replicate 5 97) 2) (file_shown 2 0 0 1 1) (h 2) ∷ []) true)
 name_of_five_bytes_takes_eight = simp evaluate refl
 
 name_of_five_bytes_takes_no_less :
-    (serial (holding 3 ((1, root_with 4 (entry 3 (replicate 5 97) 2 ∷ [])) ∷ ((2, file [] no_blocks) ∷ []))) (Ask (Readdirplus root 2 (replicate 8 0) 32 251) nobody) (at 1) false).reply
+    (serial (holding 3 ((1, root_with 4 (entry 3 (replicate 5 97) 2 ∷ [])) ∷ ((2, file [] no_blocks) ∷ [])))
+    (Ask (Readdirplus root 2 (replicate 8 0) 32 251) nobody) (at 1) false).reply
     ≡ fails TooSmall 1
 name_of_five_bytes_takes_no_less = simp evaluate refl
 

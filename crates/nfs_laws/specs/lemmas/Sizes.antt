@@ -213,7 +213,8 @@ paged_plus_stays count told volume directory (e ∷ es) (x ∷ xs) = tells _ _
 readdirplus_stays : (cookie : ℕ) (verifier : List ℕ) (names_count count : ℕ) (volume : VolumeState) (fileid : ℕ)
     → Stays volume (readdirplus cookie verifier names_count count volume fileid)
 readdirplus_stays cookie verifier names_count count volume fileid =
-    directory_stays volume (get volume.nodes fileid) _ (λ d. if_stays volume _ _ _ (fails _ _) (paged_plus_stays (min count most_bytes) (listed_plus volume) volume _ _ _))
+    directory_stays volume (get volume.nodes fileid) _
+    (λ d. if_stays volume _ _ _ (fails _ _) (paged_plus_stays (min count most_bytes) (listed_plus volume) volume _ _ _))
 
 fsstat_stays : (volume : VolumeState) (fileid : ℕ) → Stays volume (fsstat volume fileid)
 fsstat_stays volume fileid = node_stays volume (get volume.nodes fileid) _ (λ node. tells _ _)

@@ -120,7 +120,8 @@ heard_refuses form (Faulty number) h s e = absurd cc
 
 pub refusal_refuses : (offer : Offer) (bytes : List ℕ) (h : Heard) (reply : model.Reply) → heard_by offer bytes ≡ Ok h
     → h.asked ≡ model.Refused reply → IsRefusal reply
-refusal_refuses offer bytes h reply e r = subst AskedRefuses r (heard_refuses (form_of offer) (head_by offer bytes) h (head_sound offer (read (Word & Word) bytes)) e)
+refusal_refuses offer bytes h reply e r =
+    subst AskedRefuses r (heard_refuses (form_of offer) (head_by offer bytes) h (head_sound offer (read (Word & Word) bytes)) e)
 
 pub refusal_fits : (reply : model.Reply) (xid : ℕ) → IsRefusal reply → length (reply_record xid reply) ≤ refusal_room
 refusal_fits (model.Success answer) xid r = absurd r

@@ -28,10 +28,12 @@ sized-left size fewer (RegularFile old filled verifier) fileid directories = ref
 sized-left size fewer (DirectoryKind parent subs) fileid directories = refl
 
 -- a file without bytes is dropped
-pub emptied-then-gone : {P : Type 0} (old mid new : FilerLogical P) (v directory : ℕ) (as_directory : Inode) (name : List ℕ) (moment : Moment) (child : HeldNode)
+pub emptied-then-gone : {P : Type 0} (old mid new : FilerLogical P) (v directory : ℕ)
+    (as_directory : Inode) (name : List ℕ) (moment : Moment) (child : HeldNode)
     (emptied : Inode) → emptied ≡ (child_emptied child (logical_before old)).inode
     → logical_after old mid ≡ file_sized (emptying_of child) (logical_before old)
-    → logical_after mid new ≡ node_gone (naming_in v directory as_directory name moment (logical_before mid)) (record { fileid = child.fileid; inode = emptied })
+    → logical_after mid new ≡ node_gone (naming_in v directory as_directory name moment (logical_before mid))
+    (record { fileid = child.fileid; inode = emptied })
     (logical_before mid)
     → logical_after old new ≡ emptied_gone (naming_in v directory as_directory name moment (logical_before old)) child (logical_before old)
 emptied-then-gone old mid new v directory as_directory name moment child emptied is sized gone =

@@ -41,7 +41,7 @@ pub fn census(
 }
 
 /// The blocks of a volume that there is.
-#[tactic(auto, using(affinity::specs::lemmas::Lawful::few_aggregates, affinity::specs::lemmas::Lawful::few_volumes))]
+#[tactic(auto, using(affinity::specs::lemmas::Lawful::few_of_each))]
 fn count_at(layout: &Layout, held: &SerialHeld<Files>, volume: u32) -> VolumeCount
     requires there { volume < length (layout_of layout.now).volumes }
     ensures { let L = layout_of layout.now in count_of result ≡ count_in volume

@@ -12,7 +12,8 @@ returns-in-Err c =
     let l = c.loop-volume in
     ap formed
     (sym l.invariant
-    ∙ item_missing (λ rest. read count_shape rest) (map counted_value l.counts.items) c.args.count l._volume l.from c.in-Err.fault (omega arith) c.in-Err.ensures)
+    ∙ item_missing (λ rest. read count_shape rest)
+    (map counted_value l.counts.items) c.args.count l._volume l.from c.in-Err.fault (omega arith) c.in-Err.ensures)
 
 pub loop-volume-preserved : goal.loop-volume-preserved
 loop-volume-preserved c =

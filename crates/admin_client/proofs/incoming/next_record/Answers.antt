@@ -22,7 +22,8 @@ returns-in-Some-clause-next g c =
     let remaining = g.R.Read.remaining in
     let piece = take c.in-Ok.size c.read.new.buf in
     let gone = consumed_more (remaining c.args.stream.now) (remaining c.loop-turn.stream) (remaining c.read.new.self) i.0 piece i.2 c.in-Ok.ensures.bytes.0 in
-    taken_known (λ (made : Vec ℕ Global). made.items) (remaining c.args.stream.now) (remaining c.read.new.self) i.0 piece c.in-Some.ended c.take.new.records gone
+    taken_known (λ (made : Vec ℕ Global). made.items) (remaining c.args.stream.now)
+    (remaining c.read.new.self) i.0 piece c.in-Some.ended c.take.new.records gone
     (c.in-Some.ensures i.0 i.1)
 
 pub returns-in-Some-clause-faults : goal.returns-in-Some-clause-faults

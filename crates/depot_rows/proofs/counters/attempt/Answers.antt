@@ -12,7 +12,8 @@ finish-requires-clause-step g c =
     let a = affinity_of (node_of c.in-Ok.grant) in (
       _,
       begun-with (view c.args.seat.now) (view c.begin.new.seat) _ _ c.in-Ok.ensures.granted,
-      subst (λ h. AddsOne L a (g.N.Node.parcels L a h) c.add_one-sum.result (g.N.Node.parcels L a c.add_one-sum.new.held)) c.held.ensures.value (c.add_one-sum.ensures.added L a),
+      subst (λ h. AddsOne L a (g.N.Node.parcels L a h) c.add_one-sum.result (g.N.Node.parcels L a c.add_one-sum.new.held)) c.held.ensures.value
+          (c.add_one-sum.ensures.added L a),
     )
 
 pub finish-requires-clause-exact : goal.finish-requires-clause-exact

@@ -8,5 +8,6 @@ returns-then-holds c =
 
 pub returns : goal.returns
 returns c =
-    slot-under c.args.slots.now c.args.order.now c.args.cookie.0 c.position_of.result c.at.result (_, c.requires.ordered.1.rising) c.position_of.ensures.position
+    slot-under c.args.slots.now c.args.order.now c.args.cookie.0 c.position_of.result c.at.result
+    (_, c.requires.ordered.1.rising) c.position_of.ensures.position
     c.position_of.ensures.within (read-there c.args.order.now c.position_of.result c.at.result c.at.ensures)

@@ -33,7 +33,8 @@ compare-requires-clause-there c =
     let part = c.narrowed-part.ensures c.args.index.now c.loop-low.invariant.part in
     let spot = read-there c.args.index.now c.loop-low.low c.loop-low.high _ _ middle c.at.result part (omega arith)
     (omega (arith, c.loop-low-test.true)) c.at.ensures in
-    known-here c.args.entries.now.list (cookies c.args.index.now) middle c.at.result.cookie c.requires.index (cookie-at c.args.index.now middle c.at.result spot)
+    known-here c.args.entries.now.list (cookies c.args.index.now) middle c.at.result.cookie c.requires.index
+    (cookie-at c.args.index.now middle c.at.result spot)
 
 pub compare-requires-clause-hashed : goal.compare-requires-clause-hashed
 compare-requires-clause-hashed c =

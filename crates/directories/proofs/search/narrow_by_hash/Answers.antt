@@ -29,7 +29,8 @@ loop-preserved c =
           }
       | else-found-hash+then-found-hash-2 w ↦ rw (w.low-is, w.high-is)
           record {
-            around = around-below c.args.index.now c.args.hash c.loop.low c.loop.high c.clamp-at.result c.at-found.result c.loop.invariant.around above below spot
+            around =
+                around-below c.args.index.now c.args.hash c.loop.low c.loop.high c.clamp-at.result c.at-found.result c.loop.invariant.around above below spot
                 w.if-found-hash-2.true;
             part = has-fewer c.args.index.now c.loop.low c.loop.high _ _ c.loop.low c.clamp-at.result part (omega arith) (omega (arith, below));
           }

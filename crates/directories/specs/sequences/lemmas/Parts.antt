@@ -14,6 +14,7 @@ has-fewer all low high first items lower higher h a b = record {
 }
 
 -- what is read at a position of it is in the sequence
-pub read-there : {T : Type 0} (all : List T) (low high first : ℕ) (items : List T) (position : ℕ) (x : T) → HasPositions all low high first items → low ≤ position
+pub read-there : {T : Type 0} (all : List T) (low high first : ℕ) (items : List T) (position : ℕ) (x : T)
+    → HasPositions all low high first items → low ≤ position
     → position < high → slice_get items (position - first) ≡ Some x → slice_get all position ≡ Some x
 read-there all low high first items position x h a b g = sym (h.same position a b) ∙ g

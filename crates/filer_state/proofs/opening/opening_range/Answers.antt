@@ -16,7 +16,8 @@ pub returns : goal.returns
 returns c =
     let is : c.if-number-used.range ≡ opening_range c.args.range_blocks c.args.used c.args.number = elim c.if-number-used.branch [
       | then-number-used w ↦
-          w.range-is ∙ (w.put_in_use.ensures ∙ (ap put_in_use c.in_ok-range.ensures ∙ in-use c.args.range_blocks c.args.used c.args.number w.if-number-used.true))
+          w.range-is
+          ∙ (w.put_in_use.ensures ∙ (ap put_in_use c.in_ok-range.ensures ∙ in-use c.args.range_blocks c.args.used c.args.number w.if-number-used.true))
       | else-number-used w ↦ w.range-is ∙ (c.in_ok-range.ensures ∙ not-used c.args.range_blocks c.args.used c.args.number w.if-number-used.false)
     ] in
     subst (λ range. IfOk c.new-2.result (λ parcel. parcel ≡ range)) is c.new-2.ensures

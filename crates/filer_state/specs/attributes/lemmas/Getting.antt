@@ -59,7 +59,8 @@ module _ (p : VolumeContents) where
     links : (fileid : ℕ) (inode : Inode) (parent subs : ℕ) → get p.logical.inodes.inodes fileid ≡ Some inode → inode.kind ≡ DirectoryKind parent subs
         → subdirectories (volume_of p).nodes (directory_or_empty (get p.logical.directories fileid)).list ≡ subs
     links fileid inode parent subs there is =
-        let as_directory : is_directory (get p.logical.inodes.inodes fileid) ≡ true = ap is_directory there ∙ ap (λ k. is_directory (Some (record inode { kind = k }))) is in
+        let as_directory : is_directory (get p.logical.inodes.inodes fileid) ≡ true =
+        ap is_directory there ∙ ap (λ k. is_directory (Some (record inode { kind = k }))) is in
         by (get p.logical.directories fileid) refl (well.logical.named.as_directories fileid ∙ as_directory)
       where
         by : (o : Option DirectoryValue) → get p.logical.directories fileid ≡ o → is_some (get p.logical.directories fileid) ≡ true

@@ -107,7 +107,8 @@ module _ (p : VolumeContents) (numbers : List ℕ) (left : VolumeSet) (moved : H
         let dead = moved.from_dead m in
         let all = moved.times m in
         let hand = fresh-times p.number m numbers in
-        let below : one_if (nat_lt m (p.logical.dead.range_blocks * ranges_used left.ranges)) ≡ one_if (nat_lt m (p.logical.dead.range_blocks * ranges_used p.ranges)) =
+        let below : one_if (nat_lt m (p.logical.dead.range_blocks * ranges_used left.ranges))
+        ≡ one_if (nat_lt m (p.logical.dead.range_blocks * ranges_used p.ranges)) =
         ap (λ (u : ℕ). one_if (nat_lt m (p.logical.dead.range_blocks * u))) moved.used in
         omega (arith, once, stock, free, dead, all, hand, below);
   }

@@ -129,7 +129,8 @@ module _ (p : VolumeContents) (f : ℕ) (handle : List ℕ) (w : Writing) (hands
           λ m. (let c = counts m in let i = in-set m in omega (arith, c, i)) in
           let comes : (m : ℕ) → one_if (contains (files_in final.stripes) m) ≡ one_if (contains (files_in p.stripes) m)
           + one_if (contains (from_list {R = nat_cmp} r.numbers) m) =
-          λ m. (let c = files-then p f handle w (Logical p.number) bytes hands made sound r.stock p.logical.dead.blocks p.ranges refl r.numbers r.as_many left m in
+          λ m. (let c =
+          files-then p f handle w (Logical p.number) bytes hands made sound r.stock p.logical.dead.blocks p.ranges refl r.numbers r.as_many left m in
           let i = in-set m in omega (arith, c, i)) in
           record {
             stock = record {

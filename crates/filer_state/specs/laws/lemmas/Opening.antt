@@ -303,7 +303,8 @@ module _ (layout : Layout) (lawful : fault_of layout ≡ None) (verifier : List 
     as_many = each-length (λ i. first) 0 n;
     stripes = λ i less.
         let long = each-length (λ k. first) 0 n in
-        subst (StripeFits p.logical i) (sym (each-index (λ k. first) no_stripe n i (omega arith))) (opening-fits verifier n (largest_of layout v) (inodes_of layout v) blocks i);
+        subst (StripeFits p.logical i) (sym (each-index (λ k. first) no_stripe n i (omega arith)))
+        (opening-fits verifier n (largest_of layout v) (inodes_of layout v) blocks i);
     used = sym (total-none (λ s. maps.len s.blocks) (λ i. first) 0 n (λ i. maps.len-empty file_block_cmp Block));
     filled = λ q inode e.
         let is = single-is root_inode inode q e in

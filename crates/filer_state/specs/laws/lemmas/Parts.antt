@@ -34,7 +34,8 @@ used-put [] r x e = refl
 used-put (y ∷ ranges) zero x e = ap (λ (b : Bool). (if b then 1 else 0) + ranges_used ranges) e
 used-put (y ∷ ranges) (suc r) x e = ap (λ (n : ℕ). (if y.is_used then 1 else 0) + n) (used-put ranges r x e)
 
-module _ (p : VolumeContents) (r : ℕ) (x : RangeValue) (on : r < length p.ranges) (fits : RangeFits p.logical.dead.range_blocks (ranges_used p.ranges) r x) where
+module _ (p : VolumeContents) (r : ℕ) (x : RangeValue) (on : r < length p.ranges)
+    (fits : RangeFits p.logical.dead.range_blocks (ranges_used p.ranges) r x) where
   -- where what comes into the range leaves hands, and the other way round
   pub range-sound : (hands hands' : List Hand) (made : ℕ) → IsSound p hands made
       → ((n : ℕ) → one_if (contains x.free n) + total (times_in_hand p.number n) hands'
@@ -62,7 +63,8 @@ module _ (p : VolumeContents) (r : ℕ) (x : RangeValue) (on : r < length p.rang
               subst (λ (u : ℕ). RangeFits p.logical.dead.range_blocks u i (range_at (slice_set p.ranges r x) i)) (sym used) (⊎_elim
               (λ (e : i ≡ r). subst (λ (k : ℕ). RangeFits p.logical.dead.range_blocks (ranges_used p.ranges) k (range_at (slice_set p.ranges r x) k)) (sym e)
               (subst (RangeFits p.logical.dead.range_blocks (ranges_used p.ranges) r) (sym (get_or-set_same p.ranges r x no_range on)) fits))
-              (λ (ne : i ≢ r). subst (RangeFits p.logical.dead.range_blocks (ranges_used p.ranges) i) (sym (get_or-set_other p.ranges r i x no_range ne)) (well.ranges i (omega arith)))
+              (λ (ne : i ≢ r). subst (RangeFits p.logical.dead.range_blocks (ranges_used p.ranges) i)
+              (sym (get_or-set_other p.ranges r i x no_range ne)) (well.ranges i (omega arith)))
               (cases_eq i r));
         };
         young = record {
@@ -73,7 +75,8 @@ module _ (p : VolumeContents) (r : ℕ) (x : RangeValue) (on : r < length p.rang
             let once = sound.partition n in
             let put = total-put (λ (y : RangeValue). one_if (contains y.free n)) p.ranges r no_range x on in
             let moved = moves n in
-            let below : one_if (nat_lt n (p.logical.dead.range_blocks * ranges_used (slice_set p.ranges r x))) ≡ one_if (nat_lt n (p.logical.dead.range_blocks * ranges_used p.ranges)) =
+            let below : one_if (nat_lt n (p.logical.dead.range_blocks * ranges_used (slice_set p.ranges r x)))
+            ≡ one_if (nat_lt n (p.logical.dead.range_blocks * ranges_used p.ranges)) =
             ap (λ (u : ℕ). one_if (nat_lt n (p.logical.dead.range_blocks * u))) used in
             omega (arith, once, put, moved, below);
       }

@@ -11,9 +11,8 @@ use Rattle.nfs_model.specs.volume.Directories.{DirectoryValue, added, entry_adde
 use Rattle.nfs_model.specs.volume.Inodes.{InodeKind, RegularFile, DirectoryKind, Inode, InodesValue, inode_of, inode_set}
 use Rattle.nfs_model.specs.volume.lemmas.Inodes.{inode-set-there, inode-set-other}
 use Rattle.nfs_model.specs.volume.lemmas.Numbered.{get-insert_at, itself}
-use Rattle.filer_state.specs.state.Names.{root, DirectoryMap, parent_in, parent_directory, subdirectories_in, subdirectories_of}
-use Rattle.filer_state.specs.state.Names.{is_directory, parent_or, times_in_list, times_named, is_named, directories_listed, directory_above, DirectoryFits}
-use Rattle.filer_state.specs.state.Names.{ReachesRoot, AreNamed}
+use Rattle.filer_state.specs.state.Names.{root, DirectoryMap, parent_in, parent_directory, subdirectories_in, subdirectories_of, is_directory, parent_or}
+use Rattle.filer_state.specs.state.Names.{times_in_list, times_named, is_named, directories_listed, directory_above, DirectoryFits, ReachesRoot, AreNamed}
 use Rattle.filer_state.specs.laws.lemmas.Mapped.{entry-at-least}
 use Rattle.filer_state.specs.nodes.Making.{directories_in, with_subdirectories}
 use Rattle.filer_state.specs.nodes.Moving.{Naming, dated_inode, with_parent, node_hung, inodes_hung, entries_hung}
@@ -181,7 +180,8 @@ module _ (old : InodesValue) (directories : DirectoryMap) (m : Naming) (touch : 
     fits-directory =
         let was = named.fits m.directory m.entries may.entered in
         let none = none-listed m.directory m.entries may.entered in
-        let old_links : subdirectories_in m.inode.kind ≡ Some (directories_listed old.inodes m.entries.list) = sym (ap subdirectories_of may.there) ∙ was.links in
+        let old_links : subdirectories_in m.inode.kind ≡ Some (directories_listed old.inodes m.entries.list) =
+        sym (ap subdirectories_of may.there) ∙ was.links in
         record {
           list = added-is m.entries m.name m.fileid may.absent was.list;
           children = all-more (IsChildOf new.inodes m.directory) m.entries.list last
@@ -190,7 +190,8 @@ module _ (old : InodesValue) (directories : DirectoryMap) (m : Naming) (touch : 
               let more = counted-more (directories_in m.node.kind) (directories_listed old.inodes m.entries.list) m.inode.kind old_links in
               let one : one_if (is_directory (inode_of new m.fileid)) ≡ directories_in m.node.kind =
               ap one_if (directory-same m.fileid) ∙ ap (λ o. one_if (is_directory o)) may.node ∙ kind-directory m.node.kind in
-              let sum : directories_listed new.inodes (added m.name m.fileid m.entries).list ≡ directories_listed old.inodes m.entries.list + directories_in m.node.kind =
+              let sum : directories_listed new.inodes (added m.name m.fileid m.entries).list
+              ≡ directories_listed old.inodes m.entries.list + directories_in m.node.kind =
               count-more (λ (e : Listed). is_directory (get new.inodes e.fileid)) m.entries.list last
               ∙ (let same = directories-same m.entries.list in omega (arith, same, one)) in
               ap subdirectories_of hung-directory ∙ more ∙ ap Some (sym sum);

@@ -12,8 +12,8 @@ use Rattle.nfs_model.specs.volume.Directories.{DirectoryValue, empty_directory, 
 use Rattle.nfs_model.specs.volume.Inodes.{InodeKind, RegularFile, DirectoryKind, InodesValue, IsInodes, inode_of, inode_created}
 use Rattle.nfs_model.specs.volume.lemmas.Inodes.{next-absent, inode-created-there, inode-created-other, inode-set-there, inode-set-other}
 use Rattle.nfs_model.specs.volume.lemmas.Numbered.{get-insert_at, itself}
-use Rattle.filer_state.specs.state.Names.{root, DirectoryMap, size_in, size_of, parent_in, parent_directory, subdirectories_in, subdirectories_of}
-use Rattle.filer_state.specs.state.Names.{is_directory, parent_or, times_in_list, times_named, is_named, directories_listed, directory_above, DirectoryFits, AreNamed}
+use Rattle.filer_state.specs.state.Names.{root, DirectoryMap, size_in, size_of, parent_in, parent_directory, subdirectories_in, subdirectories_of, is_directory}
+use Rattle.filer_state.specs.state.Names.{parent_or, times_in_list, times_named, is_named, directories_listed, directory_above, DirectoryFits, AreNamed}
 use Rattle.filer_state.specs.laws.lemmas.Mapped.{entry-at-least}
 use Rattle.filer_state.specs.nodes.Making.{Making, directories_in, with_subdirectories, directory_inode, inodes_made, directories_made, entries_made}
 use Rattle.filer_state.specs.nodes.Laws.{IsNewIn}

@@ -377,6 +377,7 @@ module _ (p : VolumeContents) (m : Sizing) (well : WellFormed p) (there : get p.
         let listed = listed-times n freed (omega (arith, o, most, left)) in
         let dead = or-counts (contains p.logical.dead.blocks n) (contains (from_list {R = nat_cmp} freed) n) (omega (arith, o, most, left, listed)) in
         let now : one_if (contains after.logical.dead.blocks n) ≡ one_if (contains p.logical.dead.blocks n) + times_listed n freed =
-        ap one_if (contains-union nat_cmp_total p.logical.dead.blocks (from_list freed) n) ∙ dead ∙ ap (λ (k : ℕ). one_if (contains p.logical.dead.blocks n) + k) listed in
+        ap one_if (contains-union nat_cmp_total p.logical.dead.blocks (from_list freed) n)
+        ∙ dead ∙ ap (λ (k : ℕ). one_if (contains p.logical.dead.blocks n) + k) listed in
         omega (arith, e, o, left, now);
   }

@@ -14,8 +14,8 @@ use Rattle.nfs_model.specs.volume.Directories.{DirectoryValue, removed, found}
 use Rattle.nfs_model.specs.volume.Inodes.{InodeKind, RegularFile, DirectoryKind, Inode, InodesValue, inode_of, inode_dropped}
 use Rattle.nfs_model.specs.volume.lemmas.Inodes.{inode-dropped-there, inode-dropped-other, inode-set-there, inode-set-other}
 use Rattle.nfs_model.specs.volume.lemmas.Numbered.{get-insert_at, get-remove_at, itself}
-use Rattle.filer_state.specs.state.Names.{root, DirectoryMap, size_in, size_of, parent_in, parent_directory, subdirectories_in, subdirectories_of}
-use Rattle.filer_state.specs.state.Names.{is_directory, parent_or, times_in_list, times_named, is_named, directories_listed, directory_above, DirectoryFits, AreNamed}
+use Rattle.filer_state.specs.state.Names.{root, DirectoryMap, size_in, size_of, parent_in, parent_directory, subdirectories_in, subdirectories_of, is_directory}
+use Rattle.filer_state.specs.state.Names.{parent_or, times_in_list, times_named, is_named, directories_listed, directory_above, DirectoryFits, AreNamed}
 use Rattle.filer_state.specs.laws.lemmas.Mapped.{entry-at-least, total-entries}
 use Rattle.filer_state.specs.nodes.Making.{directories_in}
 use Rattle.filer_state.specs.nodes.Dropping.{Dropping, without_subdirectories, directory_left, inodes_left, directories_left, entries_left}
@@ -217,7 +217,8 @@ module _ (old : InodesValue) (directories : DirectoryMap) (m : Dropping) (may : 
 
     directories-are : (q : ℕ) → is_some (get directories_after q) ≡ is_directory (inode_of new q)
     directories-are = by-fileid (λ q. is_some (get directories_after q) ≡ is_directory (inode_of new q))
-        (ap (λ o. is_some o) directory-entries ∙ sym (ap is_directory at-directory ∙ ap (λ o. is_some o) (parent-kept (directories_in m.dropped.kind) m.inode.kind)
+        (ap (λ o. is_some o) directory-entries
+        ∙ sym (ap is_directory at-directory ∙ ap (λ o. is_some o) (parent-kept (directories_in m.dropped.kind) m.inode.kind)
         ∙ sym (ap is_directory may.there) ∙ sym (named.as_directories m.directory) ∙ ap (λ o. is_some o) may.entered))
         (ap (λ o. is_some o) dropped-entries ∙ sym (ap is_directory at-dropped))
         (λ q ne left. ap (λ o. is_some o) (other-entries q ne left) ∙ named.as_directories q ∙ sym (ap is_directory (at-other q ne left)))
@@ -233,7 +234,8 @@ module _ (old : InodesValue) (directories : DirectoryMap) (m : Dropping) (may : 
     fits-directory : DirectoryFits new.inodes m.directory (removed m.name m.entries)
     fits-directory =
         let was = named.fits m.directory m.entries may.entered in
-        let old_links : subdirectories_in m.inode.kind ≡ Some (directories_listed old.inodes m.entries.list) = sym (ap subdirectories_of may.there) ∙ was.links in
+        let old_links : subdirectories_in m.inode.kind ≡ Some (directories_listed old.inodes m.entries.list) =
+        sym (ap subdirectories_of may.there) ∙ was.links in
         record {
           list = removed-is m.entries m.name was.list;
           children = children-same m.directory list_left none-left (all-without (IsChildOf old.inodes m.directory) m.name m.entries.list was.children);

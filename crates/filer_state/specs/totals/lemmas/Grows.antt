@@ -39,9 +39,11 @@ first_failed none big short = if none then Some Invalid else if big then Some To
 
 serial-by : (server : Server) (v : ℕ) (volume : VolumeState) (more : ℕ)
     → grow_volume server v (Some volume) more ≡ serial_checked server v volume more
-    (first_failed (more == 0) (nat_lt (volume.range_blocks * most_ranges) (volume.total + volume.range_blocks * more)) (nat_lt (slice_index_or server.spare volume.aggregate 0) more))
+    (first_failed (more == 0) (nat_lt (volume.range_blocks * most_ranges) (volume.total + volume.range_blocks * more))
+    (nat_lt (slice_index_or server.spare volume.aggregate 0) more))
 serial-by server v volume more =
-    by (more == 0) (nat_lt (volume.range_blocks * most_ranges) (volume.total + volume.range_blocks * more)) (nat_lt (slice_index_or server.spare volume.aggregate 0) more)
+    by (more == 0) (nat_lt (volume.range_blocks * most_ranges) (volume.total + volume.range_blocks * more))
+    (nat_lt (slice_index_or server.spare volume.aggregate 0) more)
   where
     by : (none big short : Bool)
         → (if none then record { answer = Failed Invalid 0; server = server }

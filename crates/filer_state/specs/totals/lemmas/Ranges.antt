@@ -81,7 +81,8 @@ used-count size u k (r ∷ ranges) low high fit = ⊎_elim
 put-fits : (size u w k : ℕ) (r : RangeValue) → k < w → RangeFits size u k r → RangeFits size w k (put_in_use r)
 put-fits size u w k r less fit = by r.is_used refl
   where
-    by : (b : Bool) → r.is_used ≡ b → RangeFits size w k (if b then r else record r { is_used = true; free = from_list (range_numbers r.range_blocks r.number) })
+    by : (b : Bool) → r.is_used ≡ b
+        → RangeFits size w k (if b then r else record r { is_used = true; free = from_list (range_numbers r.range_blocks r.number) })
     by true e = record { blocks = fit.blocks; number = fit.number; in_use = e ∙ sym (lt-ltb k w less); free = fit.free }
     by false e = record {
       blocks = fit.blocks;

@@ -46,7 +46,8 @@ returns-clause-seats g c =
 
 pub returns-clause-each : goal.returns-clause-each
 returns-clause-each g c weigh =
-    let none = ap (total (identity_with weigh)) (none-left c.loop-thread.threads.items (let z = c.in_default.ensures.cases.0 in let o = c.loop-thread.threads.ok.0 in
+    let none =
+    ap (total (identity_with weigh)) (none-left c.loop-thread.threads.items (let z = c.in_default.ensures.cases.0 in let o = c.loop-thread.threads.ok.0 in
     omega (arith, z, o))) in
     let s = c.loop-thread.invariant.each weigh in
     omega (arith, none, s)

@@ -33,18 +33,21 @@ loop-lane-preserved g c =
 
 pub returns-clause-seats : goal.returns-clause-seats
 returns-clause-seats g c =
-    let none = ap (total seats_of) (none-left c.loop-lane.lanes.items (let z = c.in_default.ensures.cases.0 in let o = c.loop-lane.lanes.ok.0 in omega (arith, z, o))) in
+    let none = ap (total seats_of)
+    (none-left c.loop-lane.lanes.items (let z = c.in_default.ensures.cases.0 in let o = c.loop-lane.lanes.ok.0 in omega (arith, z, o))) in
     let s = c.loop-lane.invariant.seats in
     omega (arith, none, s)
 
 pub returns-clause-calls : goal.returns-clause-calls
 returns-clause-calls g c weight =
-    let none = ap (total (admitted_by weight)) (none-left c.loop-lane.lanes.items (let z = c.in_default.ensures.cases.0 in let o = c.loop-lane.lanes.ok.0 in omega (arith, z, o))) in
+    let none = ap (total (admitted_by weight))
+    (none-left c.loop-lane.lanes.items (let z = c.in_default.ensures.cases.0 in let o = c.loop-lane.lanes.ok.0 in omega (arith, z, o))) in
     let s = c.loop-lane.invariant.calls weight in
     omega (arith, none, s)
 
 pub returns-clause-entries : goal.returns-clause-entries
 returns-clause-entries g c weight =
-    let none = ap (total (finished_by weight)) (none-left c.loop-lane.lanes.items (let z = c.in_default.ensures.cases.0 in let o = c.loop-lane.lanes.ok.0 in omega (arith, z, o))) in
+    let none = ap (total (finished_by weight))
+    (none-left c.loop-lane.lanes.items (let z = c.in_default.ensures.cases.0 in let o = c.loop-lane.lanes.ok.0 in omega (arith, z, o))) in
     let s = c.loop-lane.invariant.entries weight in
     omega (arith, none, s)

@@ -52,12 +52,14 @@ returns-clause-of g c filer lanes tasks = (c.loop-lane.invariant.of filer lanes 
 
 pub returns-clause-seats : goal.returns-clause-seats
 returns-clause-seats g c =
-    let none = ap (total seats_of) (none-left c.loop-lane.lanes.items (let z = c.in_default.ensures.cases.0 in let o = c.loop-lane.lanes.ok.0 in omega (arith, z, o))) in
+    let none = ap (total seats_of)
+    (none-left c.loop-lane.lanes.items (let z = c.in_default.ensures.cases.0 in let o = c.loop-lane.lanes.ok.0 in omega (arith, z, o))) in
     let s = c.loop-lane.invariant.seats in
     omega (arith, none, s)
 
 pub returns-clause-each : goal.returns-clause-each
 returns-clause-each g c weigh =
-    let none = ap (total (by_identity weigh)) (none-left c.loop-lane.lanes.items (let z = c.in_default.ensures.cases.0 in let o = c.loop-lane.lanes.ok.0 in omega (arith, z, o))) in
+    let none = ap (total (by_identity weigh))
+    (none-left c.loop-lane.lanes.items (let z = c.in_default.ensures.cases.0 in let o = c.loop-lane.lanes.ok.0 in omega (arith, z, o))) in
     let s = c.loop-lane.invariant.each weigh in
     omega (arith, none, s)

@@ -49,7 +49,8 @@ returns-in-FilesystemStatus-clause-runs c =
     let held = volume_before c.args.held.now in
     runs-here L v volume_lens (Volume v) f (call_of call) credential moment held held (Replied (Success (answer_of (FilesystemStatus told))))
     c.fileid_here-fileid.ensures
-    (filesystem-status-runs L v f call c.in-FilesystemStatus.handle credential moment held told (ap call_of c.in-FilesystemStatus.is) c.filesystem_status-told.ensures.right)
+    (filesystem-status-runs L v f call c.in-FilesystemStatus.handle credential moment held told
+    (ap call_of c.in-FilesystemStatus.is) c.filesystem_status-told.ensures.right)
 
 pub unreachable-requires : goal.unreachable-requires
 unreachable-requires c =

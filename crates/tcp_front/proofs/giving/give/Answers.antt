@@ -39,6 +39,7 @@ pub returns-in-Undecoded-clause-ok : goal.returns-in-Undecoded-clause-ok
 returns-in-Undecoded-clause-ok g c =
     let layout = layout_of c.args.layout.now in
     let to = c.answer_now-in-Undecoded in
-    subst (λ (r : Request). OnOk to.result (g.S.RecordSink.came c.args.sink.now (given_of layout c.args.origin (asked_of r)) to.new.sink)) (sym c.in-Undecoded.is)
+    subst (λ (r : Request). OnOk to.result (g.S.RecordSink.came c.args.sink.now (given_of layout c.args.origin (asked_of r)) to.new.sink))
+    (sym c.in-Undecoded.is)
     (subst (λ (xs : List Arrival). OnOk to.result (g.S.RecordSink.came c.args.sink.now xs to.new.sink))
     (answered-is layout c.args.origin (asked_of Undecoded) refl) to.ensures.ok)

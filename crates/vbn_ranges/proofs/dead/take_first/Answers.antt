@@ -5,13 +5,15 @@ use Rattle.vbn_ranges.proofs.dead.take_first.Goals as goal
 
 pub returns-then-not-is_empty-clause-batch : goal.returns-then-not-is_empty-clause-batch
 returns-then-not-is_empty-clause-batch c =
-    (taken-here c.requires.numbered.0 c.args.most c.loop-i.i c.loop-i.ranges c.args.ranges.now _ c.take_counted-batch.new.self _ c.loop-i.invariant.same c.requires.numbered.1
+    (taken-here c.requires.numbered.0 c.args.most c.loop-i.i c.loop-i.ranges c.args.ranges.now
+    _ c.take_counted-batch.new.self _ c.loop-i.invariant.same c.requires.numbered.1
     c.loop-i.invariant.empty (omega arith) c.take_counted-batch.ensures.batch c.take_counted-batch.ensures.left
     (sym c.is_empty.ensures ∙ c.if-not-is_empty.true)).batch
 
 pub returns-then-not-is_empty-clause-left : goal.returns-then-not-is_empty-clause-left
 returns-then-not-is_empty-clause-left c =
-    (taken-here c.requires.numbered.0 c.args.most c.loop-i.i c.loop-i.ranges c.args.ranges.now _ c.take_counted-batch.new.self _ c.loop-i.invariant.same c.requires.numbered.1
+    (taken-here c.requires.numbered.0 c.args.most c.loop-i.i c.loop-i.ranges c.args.ranges.now
+    _ c.take_counted-batch.new.self _ c.loop-i.invariant.same c.requires.numbered.1
     c.loop-i.invariant.empty (omega arith) c.take_counted-batch.ensures.batch c.take_counted-batch.ensures.left
     (sym c.is_empty.ensures ∙ c.if-not-is_empty.true)).left
 

@@ -9,4 +9,5 @@ add_at-requires-clause-position c =
     let absent : found c.self.inside.entries c.args.name ≡ None = rw (← c.self.view_is) at c.requires.absent in
     let there = rw c.as_bytes.ensures at c.find_position-search.ensures.there in
     let nowhere = rw c.as_bytes.ensures at c.find_position-search.ensures.absent in
-    position-of-absent c.self.inside.entries (cookies c.self.inside.by_name) c.find_position-search.result.position c.args.name _ c.self.invariant.0 absent there nowhere
+    position-of-absent c.self.inside.entries
+    (cookies c.self.inside.by_name) c.find_position-search.result.position c.args.name _ c.self.invariant.0 absent there nowhere

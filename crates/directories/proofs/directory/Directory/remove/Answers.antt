@@ -9,13 +9,15 @@ use Rattle.directories.proofs.directory.Directory.remove.Goals as goal
 pub returns-then-not-search-clause-there : goal.returns-then-not-search-clause-there
 returns-then-not-search-clause-there c =
     let position = c.find_position-search.ensures.absent (is-false _ c.if-not-search.true) in
-    rw (← c.self.view_is) (found-none c.self.inside.entries (cookies c.self.inside.by_name) c.find_position-search.result.position c.args.name.now c.self.invariant.0
+    rw (← c.self.view_is)
+    (found-none c.self.inside.entries (cookies c.self.inside.by_name) c.find_position-search.result.position c.args.name.now c.self.invariant.0
     position)
 
 pub returns-then-not-search-clause-left : goal.returns-then-not-search-clause-left
 returns-then-not-search-clause-left c =
     let position = c.find_position-search.ensures.absent (is-false _ c.if-not-search.true) in
-    rw (← c.self.view_is) (removed-none c.self.inside.entries (cookies c.self.inside.by_name) c.find_position-search.result.position c.args.name.now c.self.invariant.0
+    rw (← c.self.view_is)
+    (removed-none c.self.inside.entries (cookies c.self.inside.by_name) c.find_position-search.result.position c.args.name.now c.self.invariant.0
     position)
 
 pub remove-spot-requires : goal.remove-spot-requires

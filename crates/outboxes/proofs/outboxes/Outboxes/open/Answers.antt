@@ -7,15 +7,18 @@ use Rattle.outboxes.proofs.outboxes.Outboxes.open.Goals as goal
 pub returns-then-len-self-clause-full : goal.returns-then-len-self-clause-full
 returns-then-len-self-clause-full c =
     rw (← c.self.view_is) (
-      (λ _. full-by-count c.self.inside.most c.self.inside.next c.self.inside.step c.self.inside.by_number.entries c.len.result c.len.ensures.len c.len.ensures.ordered c.if-len-self.true),
+      (λ _. full-by-count c.self.inside.most c.self.inside.next c.self.inside.step c.self.inside.by_number.entries
+          c.len.result c.len.ensures.len c.len.ensures.ordered c.if-len-self.true),
       λ _. refl,
     )
 
 pub returns-in-Err-clause-full : goal.returns-in-Err-clause-full
 returns-in-Err-clause-full c =
     rw (← c.self.view_is)
-    (neither-refused (boxes_of c.self.inside.most c.self.inside.next c.self.inside.step c.self.inside.by_number.entries) c.in-Err.refusal c.in-Err.ensures.memory
-    (not-full c.self.inside.most c.self.inside.next c.self.inside.step c.self.inside.by_number.entries c.len.result c.len.ensures.len c.len.ensures.ordered c.if-len-self.false
+    (neither-refused (boxes_of c.self.inside.most c.self.inside.next c.self.inside.step c.self.inside.by_number.entries)
+    c.in-Err.refusal c.in-Err.ensures.memory
+    (not-full c.self.inside.most c.self.inside.next c.self.inside.step c.self.inside.by_number.entries
+    c.len.result c.len.ensures.len c.len.ensures.ordered c.if-len-self.false
     c.if-number-ge-MOST_NUMBERS.false))
 
 pub returns-in-Ok-clause-ok : goal.returns-in-Ok-clause-ok
@@ -27,7 +30,8 @@ pub returns-in-Ok-clause-full : goal.returns-in-Ok-clause-full
 returns-in-Ok-clause-full c =
     rw (← c.self.view_is)
     (neither-opened (boxes_of c.self.inside.most c.self.inside.next c.self.inside.step c.self.inside.by_number.entries) _
-    (not-full c.self.inside.most c.self.inside.next c.self.inside.step c.self.inside.by_number.entries c.len.result c.len.ensures.len c.len.ensures.ordered c.if-len-self.false
+    (not-full c.self.inside.most c.self.inside.next c.self.inside.step c.self.inside.by_number.entries
+    c.len.result c.len.ensures.len c.len.ensures.ordered c.if-len-self.false
     c.if-number-ge-MOST_NUMBERS.false))
 
 pub returns-then-len-self-clause-fresh : goal.returns-then-len-self-clause-fresh

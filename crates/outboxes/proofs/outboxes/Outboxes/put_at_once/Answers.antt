@@ -7,5 +7,6 @@ use Rattle.outboxes.proofs.outboxes.Outboxes.put_at_once.Goals as goal
 pub returns-clause-ok : goal.returns-clause-ok
 returns-clause-ok c =
     rw (← c.self.view_is)
-    (puts-addressed c.self.inside.most c.self.inside.next c.self.inside.step c.self.inside.by_number.entries c.put_into.new.outboxes.entries c.args.connection.0 _ _
+    (puts-addressed c.self.inside.most c.self.inside.next c.self.inside.step
+    c.self.inside.by_number.entries c.put_into.new.outboxes.entries c.args.connection.0 _ _
     (ap (λ (numbered : ReplyMessage). addressed c.args.connection.0 numbered) c.in_ok-write.ensures.ok.0) c.put_into.ensures)

@@ -10,4 +10,5 @@ returns-clause-record c =
 pub returns-clause-rest : goal.returns-clause-rest
 returns-clause-rest c =
     rw (← c.self.view_is)
-    (takes c.self.inside.most c.self.inside.next c.self.inside.step c.self.inside.by_number.entries c.take_from.new.outboxes.entries c.args.connection.0 c.take_from.ensures.rest)
+    (takes c.self.inside.most c.self.inside.next c.self.inside.step c.self.inside.by_number.entries
+    c.take_from.new.outboxes.entries c.args.connection.0 c.take_from.ensures.rest)

@@ -17,7 +17,8 @@ take_parcel-requires-clause-node g c =
 
 pub take_parcel-requires-clause-there : goal.take_parcel-requires-clause-there
 take_parcel-requires-clause-there g c =
-    own-under (layout_of c.args.layout.now) (HasParcel (layout_of c.args.layout.now) (g.S.Shelf.at c.args.shelf.now)) (affinity_of c.args.affinity) c.requires.node
+    own-under (layout_of c.args.layout.now) (HasParcel (layout_of c.args.layout.now) (g.S.Shelf.at c.args.shelf.now))
+    (affinity_of c.args.affinity) c.requires.node
     c.requires.there
 
 pub returns-clause-exact : goal.returns-clause-exact

@@ -12,7 +12,8 @@ put_parcel-requires-clause-node g c =
 
 pub put_parcel-requires-clause-vacant : goal.put_parcel-requires-clause-vacant
 put_parcel-requires-clause-vacant g c =
-    own-under (layout_of c.args.layout.now) (IsVacant (layout_of c.args.layout.now) (g.S.Shelf.at c.args.shelf.now)) (affinity_of c.args.affinity) c.requires.node
+    own-under (layout_of c.args.layout.now) (IsVacant (layout_of c.args.layout.now) (g.S.Shelf.at c.args.shelf.now))
+    (affinity_of c.args.affinity) c.requires.node
     c.requires.vacant
 
 pub put_parcel-requires-clause-allowed : goal.put_parcel-requires-clause-allowed
@@ -21,5 +22,6 @@ put_parcel-requires-clause-allowed g c =
 
 pub returns-clause-moved : goal.returns-clause-moved
 returns-clause-moved g c =
-    range-scattered (layout_of c.args.layout.now) (affinity_of c.args.affinity) c.args.self (g.S.Shelf.at c.args.shelf.now) (g.S.Shelf.at c.put_parcel.new.shelf)
+    range-scattered (layout_of c.args.layout.now) (affinity_of c.args.affinity) c.args.self
+    (g.S.Shelf.at c.args.shelf.now) (g.S.Shelf.at c.put_parcel.new.shelf)
     c.put_parcel.ensures.moved

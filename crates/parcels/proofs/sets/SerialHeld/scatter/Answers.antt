@@ -20,7 +20,8 @@ put_parcel-requires-clause-node g c =
 
 pub put_parcel-requires-clause-vacant : goal.put_parcel-requires-clause-vacant
 put_parcel-requires-clause-vacant g c =
-    own-under (layout_of c.args.layout.now) (IsVacant (layout_of c.args.layout.now) (g.S.Shelf.at c.args.shelf.now)) (affinity_of c.args.affinity) c.requires.node
+    own-under (layout_of c.args.layout.now) (IsVacant (layout_of c.args.layout.now) (g.S.Shelf.at c.args.shelf.now))
+    (affinity_of c.args.affinity) c.requires.node
     c.requires.vacant
 
 pub put_parcel-requires-clause-allowed : goal.put_parcel-requires-clause-allowed
@@ -50,7 +51,8 @@ scatter_children-requires-clause-vacant g c =
 pub scatter_children-requires-clause-allowed : goal.scatter_children-requires-clause-allowed
 scatter_children-requires-clause-allowed g c =
     λ i l used. allowed-over
-    (λ k. in_slot (λ set. aggregate_parcels (layout_of c.args.layout.now) (child (affinity_of c.args.affinity) i) set k) (slice_get c.args.self.aggregates.at i))
+    (λ k. in_slot (λ set. aggregate_parcels (layout_of c.args.layout.now) (child (affinity_of c.args.affinity) i) set k)
+    (slice_get c.args.self.aggregates.at i))
     (g.S.Shelf.allows c.args.shelf.now) (g.S.Shelf.allows c.put_parcel.new.shelf)
     (λ k x. g.met.S.Shelf.keeps_allowing c.args.shelf.now c.put_parcel.new.shelf k x c.put_parcel.ensures.kept)
     (aggregates_allowed-at (layout_of c.args.layout.now) (g.S.Shelf.allows c.args.shelf.now) c.args.self (affinity_of c.args.affinity) c.requires.kind

@@ -20,7 +20,8 @@ put_parcel-requires-clause-node g c =
 
 pub put_parcel-requires-clause-vacant : goal.put_parcel-requires-clause-vacant
 put_parcel-requires-clause-vacant g c =
-    own-under (layout_of c.args.layout.now) (IsVacant (layout_of c.args.layout.now) (g.S.Shelf.at c.args.shelf.now)) (affinity_of c.args.affinity) c.requires.node
+    own-under (layout_of c.args.layout.now) (IsVacant (layout_of c.args.layout.now) (g.S.Shelf.at c.args.shelf.now))
+    (affinity_of c.args.affinity) c.requires.node
     c.requires.vacant
 
 pub put_parcel-requires-clause-allowed : goal.put_parcel-requires-clause-allowed

@@ -10,7 +10,8 @@ overflow_sub-self c =
     let size = c.self.inside.range_blocks in
     let taken : TakenFrom size c.args.most old c.take_first-batch.new.ranges c.take_first-batch.result.0 =
     taken-from size c.args.most _ old _ _ c.deref_mut.ensures.value c.take_first-batch.ensures.batch c.take_first-batch.ensures.left
-    (c.take_first-batch.ensures.numbered c.self.inside.range_blocks (subst (AreNumbered c.self.inside.range_blocks 0) (sym c.deref_mut.ensures.value) c.self.invariant.numbered))
+    (c.take_first-batch.ensures.numbered c.self.inside.range_blocks
+    (subst (AreNumbered c.self.inside.range_blocks 0) (sym c.deref_mut.ensures.value) c.self.invariant.numbered))
     c.take_first-batch.ensures.length in
     subst (λ (n : ℕ). n ≤ c.self.inside.count) (sym c.len.ensures.value) (fits-count _ _ _ _ _ _ c.self.invariant taken)
 
@@ -21,10 +22,12 @@ invariant_of-self c =
     let size : vec_len c.self.inside.ranges ≡ length old = search rules in
     let taken : TakenFrom c.self.inside.range_blocks c.args.most old new c.take_first-batch.result.0 =
     taken-from c.self.inside.range_blocks c.args.most _ old _ _ c.deref_mut.ensures.value c.take_first-batch.ensures.batch c.take_first-batch.ensures.left
-    (c.take_first-batch.ensures.numbered c.self.inside.range_blocks (subst (AreNumbered c.self.inside.range_blocks 0) (sym c.deref_mut.ensures.value) c.self.invariant.numbered))
+    (c.take_first-batch.ensures.numbered c.self.inside.range_blocks
+    (subst (AreNumbered c.self.inside.range_blocks 0) (sym c.deref_mut.ensures.value) c.self.invariant.numbered))
     c.take_first-batch.ensures.length in
     subst (λ (k : ℕ). AreDead c.self.inside.range_blocks (take k (new ++ drop (length new) old)) (c.self.inside.count - c.len.result)) (sym size)
-    (subst (λ (k : ℕ). AreDead c.self.inside.range_blocks (take (length old) (new ++ drop (length new) old)) (c.self.inside.count - k)) (sym c.len.ensures.value)
+    (subst (λ (k : ℕ). AreDead c.self.inside.range_blocks (take (length old) (new ++ drop (length new) old)) (c.self.inside.count - k))
+    (sym c.len.ensures.value)
     (still-dead _ _ _ _ _ _ c.self.invariant taken))
 
 pub returns-clause-batch : goal.returns-clause-batch
@@ -33,7 +36,8 @@ returns-clause-batch c =
     let size = c.self.inside.range_blocks in
     let taken : TakenFrom size c.args.most old c.take_first-batch.new.ranges c.take_first-batch.result.0 =
     taken-from size c.args.most _ old _ _ c.deref_mut.ensures.value c.take_first-batch.ensures.batch c.take_first-batch.ensures.left
-    (c.take_first-batch.ensures.numbered c.self.inside.range_blocks (subst (AreNumbered c.self.inside.range_blocks 0) (sym c.deref_mut.ensures.value) c.self.invariant.numbered))
+    (c.take_first-batch.ensures.numbered c.self.inside.range_blocks
+    (subst (AreNumbered c.self.inside.range_blocks 0) (sym c.deref_mut.ensures.value) c.self.invariant.numbered))
     c.take_first-batch.ensures.length in
     lowest-taken-is _ _ _ _ _ _ c.self.invariant taken ∙ ap (λ (d : DeadValue). lowest_of d.range_blocks c.args.most d.blocks) c.self.view_is
 
@@ -44,7 +48,8 @@ returns-clause-left c =
     let size : vec_len c.self.inside.ranges ≡ length old = search rules in
     let taken : TakenFrom c.self.inside.range_blocks c.args.most old new c.take_first-batch.result.0 =
     taken-from c.self.inside.range_blocks c.args.most _ old _ _ c.deref_mut.ensures.value c.take_first-batch.ensures.batch c.take_first-batch.ensures.left
-    (c.take_first-batch.ensures.numbered c.self.inside.range_blocks (subst (AreNumbered c.self.inside.range_blocks 0) (sym c.deref_mut.ensures.value) c.self.invariant.numbered))
+    (c.take_first-batch.ensures.numbered c.self.inside.range_blocks
+    (subst (AreNumbered c.self.inside.range_blocks 0) (sym c.deref_mut.ensures.value) c.self.invariant.numbered))
     c.take_first-batch.ensures.length in
     ap (λ (k : ℕ). dead_of c.self.inside.range_blocks (take k (new ++ drop (length new) old))) size
     ∙ lowest-left _ _ _ _ _ _ c.self.invariant taken
