@@ -1,15 +1,9 @@
--- How many bytes exports take.
-use Rattle.std.proofs.Common.{◌≡◌, ℕ, zero, suc, ◌+◌, ◌-◌, ◌*◌, ◌<◌, ◌++◌, length, map, refl, ap, arith}
+-- Exports, one after the other.
+use Rattle.std.proofs.Common.{◌≡◌, ℕ, zero, suc, ◌+◌, ◌-◌, ◌<◌, ◌++◌, map, ap, arith}
 use Rattle.std.specs.List.{range_with_len}
 use Rattle.xdr.specs.Shape.{spelling, word}
 use Rattle.nfs_model.specs.Serial.Mount.{volume_path}
 use Rattle.nfs_types.specs.Results.{export_shape, export_value, exports_shape}
-
--- an export takes twenty bytes with the TRUE before it
-pub length-exports : (first count : ℕ)
-    → length (spelling exports_shape (map export_value (map volume_path (range_with_len first count)))) ≡ 20 * count + 4
-length-exports first zero = refl
-length-exports first (suc count) = omega (arith, length-exports (first + 1) count)
 
 -- the first of the exports stands before the others
 pub exports_more : (first count : ℕ) → 0 < count

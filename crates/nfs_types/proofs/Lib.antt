@@ -1,7 +1,6 @@
 pub mod Memory
 pub mod Outcomes
 pub mod Rest
-pub mod Numbered
 pub mod InPlace
 pub mod Entry
 mod Exported

@@ -1,12 +1,13 @@
 -- What is still to be written of a list.
-use Rattle.std.proofs.Common.{◌≡◌, ℕ, ◌+◌, ◌*◌, ◌<◌, List, [], ◌∷◌, ◌++◌, length, map, drop, get_or, refl, sym, ap, ◌∙◌, append_assoc, arith}
+use Rattle.std.proofs.Common.{◌≡◌, ℕ, ◌+◌, ◌*◌, ◌<◌, List, ◌∷◌, ◌++◌, length, map, drop, get_or, sym, ap, ◌∙◌, append_assoc}
 use Rattle.std.specs.List.{flat_map}
-use Rattle.std.proofs.lemmas.List.{length-append, at_drop_more}
+use Rattle.std.proofs.lemmas.List.{length-map, at_drop_more}
 use Rattle.std.proofs.lemmas.Simd.{map-map}
 use Rattle.xdr.specs.Shape.{Shape, Chain, Value, word, spelling}
 use Rattle.nfs_values.specs.declared.answer.VolumeCount.{VolumeCount}
 use Rattle.nfs_values.specs.Answer.{count_of}
 use Rattle.nfs_types.specs.Results.{count_shape, count_value}
+use Rattle.nfs_types.specs.lemmas.Lists as lists
 
 -- the items of a list
 abbrev pub chain_spelled : {T : Type 0} (shape : Shape) → (T → Value shape) → List T → List ℕ
@@ -39,6 +40,4 @@ item_more out new item rest old all e h n = rw n (append_assoc out item rest ∙
 
 -- a count takes twenty bytes
 pub length-counts : (volumes : List VolumeCount) → length (counts_spelled volumes) ≡ 20 * length volumes
-length-counts [] = refl
-length-counts (v ∷ vs) =
-    omega (arith, length-counts vs, length-append (count_spelled v) (counts_spelled vs))
+length-counts volumes = lists.length-counts (map count_of volumes) ∙ ap (λ (n : ℕ). 20 * n) (length-map volumes count_of)

@@ -2,3 +2,5 @@
 pub mod Exact
 pub mod Absent
 pub mod Bytes
+pub mod Lists
+pub mod Numbered

@@ -1,8 +1,7 @@
 -- How many bytes results take that have bytes, lists or handles of any number.
-use Rattle.std.proofs.Common.{◌≡◌, ◌^◌, ℕ, zero, suc, min, take, Option, Some, None, ◌+◌, ◌-◌, ◌*◌, ◌≤◌, Bool, true, false}
+use Rattle.std.proofs.Common.{◌≡◌, ◌^◌, ℕ, min, take, Option, Some, None, ◌+◌, ◌-◌, ◌*◌, ◌≤◌, Bool, true, false}
 use Rattle.std.proofs.Common.{cond, List, [], ◌∷◌, ◌++◌, length, map, replicate, refl, sym, subst, ap, ◌∙◌, arith}
 use Rattle.std.specs.Prelude.{nat_le}
-use Rattle.std.specs.List.{flat_map, range_with_len}
 use Rattle.std.specs.Option.{option_map}
 use Rattle.std.proofs.lemmas.Bool.{leb-true}
 use Rattle.std.proofs.lemmas.List.{length-append, length-replicate, length-take}
@@ -11,10 +10,10 @@ use Rattle.nfs_model.specs.Types as model
 use Rattle.nfs_model.specs.Serial.Readdir.{entry_size, fitting}
 use Rattle.nfs_model.specs.Serial.Readdirplus.{entry_plus_size, fitting_plus}
 use Rattle.nfs_types.specs.Shapes.{◌&◌, handle_shape, after_shape, attributes_value, change_shape, change_value}
-use Rattle.nfs_model.specs.Serial.Mount.{volume_path, root_of, mounted, mount}
-use Rattle.nfs_types.specs.Results.{entry_shape, entry_value, entry_plus_shape, entry_plus_value}
-use Rattle.nfs_types.specs.Results.{count_shape, count_value, export_value, exports_shape, answer_bytes}
+use Rattle.nfs_model.specs.Serial.Mount.{root_of, mounted, mount}
+use Rattle.nfs_types.specs.Results.{entry_shape, entry_value, entry_plus_shape, entry_plus_value, answer_bytes}
 use Rattle.nfs_types.specs.lemmas.Absent.{length-absent_parts}
+use Rattle.nfs_types.specs.lemmas.Lists.{length-counts, length-exports}
 use Rattle.rpc_msg.specs.HandleForm.{told_in_run, verifier_of}
 use Rattle.rpc_msg.specs.Handles.{answer_with, listed_with}
 use Rattle.rpc_msg.specs.Replies.{reply_record}
@@ -49,11 +48,6 @@ pub record Takes (n : ℕ) (answer : model.Answer) : Type 0 where
   pub bytes : more_of answer + length (answer_bytes answer) ≤ n
 
 -- ---- what MOUNT answers
-
-length-exports : (first count : ℕ)
-    → length (spelling exports_shape (map export_value (map volume_path (range_with_len first count)))) ≡ 20 * count + 4
-length-exports first zero = refl
-length-exports first (suc count) = omega (arith, length-exports (first + 1) count)
 
 pub mounted_size : (volume : Option ℕ) → Takes 204 (root_of volume)
 mounted_size None = record { bytes = omega arith }
@@ -210,11 +204,6 @@ fitting_plus_fits (e ∷ es) room =
     (fitting_plus_fits es (room - entry_plus_size e))
 
 -- ---- counts of volumes
-
-pub length-counts : (volumes : List model.VolumeCount) → length (flat_map (λ v. spelling count_shape v) (map count_value volumes)) ≡ 20 * length volumes
-length-counts [] = refl
-length-counts (v ∷ vs) =
-    omega (arith, length-counts vs, length-append (spelling count_shape (count_value v)) (flat_map (λ v. spelling count_shape v) (map count_value vs)))
 
 pub census_size : (volumes : List model.VolumeCount) → length (answer_bytes (model.CensusDone volumes)) ≡ 4 + 20 * length volumes
 census_size volumes = omega (arith, length-counts volumes)

@@ -1,12 +1,12 @@
 -- The procedures that are offered, by their numbers.
-use Rattle.std.proofs.Common.{◌≡◌, ◌≢◌, ℕ, Bool, true, false, cond, ◌&&◌, eqb, List, [], ◌∷◌, Option, Some, None, find, refl, sym, ap, subst, ◌∙◌}
+use Rattle.std.proofs.Common.{◌≡◌, ◌≢◌, ℕ, Bool, true, false, cond, ◌&&◌, eqb, List, [], ◌∷◌, Option, Some, None, find, refl, subst}
 use Rattle.std.specs.List.{filter}
 use Rattle.std.proofs.lemmas.Bool.{eqb-true}
 use Rattle.rpc_msg.specs.declared.offer.Offer.{Offer}
 use Rattle.nfs_values.specs.declared.procedure.Procedure.{Procedure}
-use Rattle.nfs_values.specs.declared.procedure.Procedure.TheVariants.{Null}
 use Rattle.rpc_msg.specs.Offer.{offers}
 use Rattle.nfs_values.specs.Procedure.{all_procedures, numbers_of}
+use Rattle.nfs_types.specs.lemmas.Numbered.{found_again, one_numbered}
 use Rattle.rpc_msg.specs.Heads.{is_numbered, procedures_by}
 
 -- ---- what is found among those that are kept
@@ -58,27 +58,15 @@ none_numbered offer program number h =
     unequal (eqb (numbers_of p).0 program) (eqb (numbers_of p).1 number)
     (λ e d. h p s (same_pair (numbers_of p) program number (eqb-true _ _ e) (eqb-true _ _ d))))
 
--- the first procedure with these numbers
-abbrev numbered : ℕ × ℕ → Option Procedure
-numbered n = find (is_numbered n.0 n.1) all_procedures
-
-found_again : (p : Procedure) → numbered (numbers_of p) ≡ Some p
-found_again Null = refl
-found_again p = refl
-
-same_some : (p q : Procedure) → Some p ≡ Some q → p ≡ q
-same_some p q h = cc
-
 pub both_true : (a b : Bool) → (a && b) ≡ true → (a ≡ true) × (b ≡ true)
 both_true true b e = (refl, e)
 both_true false b e = absurd cc
 
--- two procedures of the same numbers are one
-one_numbered : (p q : Procedure) → is_numbered (numbers_of p).0 (numbers_of p).1 q ≡ true → q ≡ p
-one_numbered p q e =
+-- who has the numbers of a procedure is it
+itself : (p q : Procedure) → is_numbered (numbers_of p).0 (numbers_of p).1 q ≡ true → q ≡ p
+itself p q e =
     let t = both_true (eqb (numbers_of q).0 (numbers_of p).0) (eqb (numbers_of q).1 (numbers_of p).1) e in
-    let same = same_pair (numbers_of q) (numbers_of p).0 (numbers_of p).1 (eqb-true _ _ t.0) (eqb-true _ _ t.1) in
-    same_some q p (sym (found_again q) ∙ ap numbered same ∙ found_again p)
+    one_numbered q p (numbers_of p) (same_pair (numbers_of q) (numbers_of p).0 (numbers_of p).1 (eqb-true _ _ t.0) (eqb-true _ _ t.1)) refl
 
 -- ---- what is found and kept
 
@@ -100,7 +88,7 @@ module _ (keep test : Procedure → Bool) (p : Procedure) (kept : keep p ≡ tru
 
 -- one that is offered is found by its numbers
 pub find_again : (offer : Offer) (p : Procedure) → offers offer p ≡ true → find (is_numbered (numbers_of p).0 (numbers_of p).1) (procedures_by offer) ≡ Some p
-find_again offer p s = found_kept (offers offer) (is_numbered (numbers_of p).0 (numbers_of p).1) p s (one_numbered p) all_procedures (found_again p)
+find_again offer p s = found_kept (offers offer) (is_numbered (numbers_of p).0 (numbers_of p).1) p s (itself p) all_procedures (found_again p)
 
 pub some_numbered : (offer : Offer) (program number : ℕ) (p : Procedure) → numbers_of p ≡ (program, number) → offers offer p ≡ true
     → find (is_numbered program number) (procedures_by offer) ≡ Some p

@@ -1,7 +1,7 @@
 use Rattle.std.proofs.Common.{refl, subst}
 use Rattle.nfs_values.specs.Call.{call_of}
 use Rattle.nfs_types.specs.Arguments.{Makes, asked, takes_memory}
-use Rattle.nfs_types.proofs.Numbered.{one_numbered}
+use Rattle.nfs_types.specs.lemmas.Numbered.{one_numbered}
 use Rattle.nfs_types.proofs.arguments.decode_args.Goals as goal
 
 pub returns-in-Some-clause-known : goal.returns-in-Some-clause-known

@@ -1,5 +1,5 @@
 use Rattle.std.proofs.Common.{sym}
-use Rattle.nfs_types.proofs.Exported.{length-exports}
+use Rattle.nfs_types.specs.lemmas.Lists.{length-exports}
 use Rattle.nfs_types.proofs.mounting.ExportsEncode.size.Goals as goal
 
 pub returns : goal.returns

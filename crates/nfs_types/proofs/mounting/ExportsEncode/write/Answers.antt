@@ -1,5 +1,5 @@
 use Rattle.std.proofs.Common.{arith}
-use Rattle.nfs_types.proofs.Exported.{length-exports}
+use Rattle.nfs_types.specs.lemmas.Lists.{length-exports}
 use Rattle.nfs_types.proofs.mounting.ExportsEncode.write.Goals as goal
 
 pub write_exports-requires-clause-room : goal.write_exports-requires-clause-room
