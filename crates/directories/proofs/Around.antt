@@ -1,5 +1,5 @@
 -- A search by hashes, on plain values.
-use Rattle.std.proofs.Common.{◌≡◌, ℕ, ◌+◌, ◌<◌, ◌≤◌, List, [], ◌∷◌, length, drop, Some, arith}
+use Rattle.std.proofs.Common.{◌≡◌, sym, subst, ℕ, ◌+◌, ◌/◌, ◌<◌, ◌≤◌, List, [], ◌∷◌, length, drop, Some, arith}
 use Rattle.std.specs.List.{AllByRecursion, slice_get}
 use Rattle.std.specs.declared.cmp.Ordering.TheVariants.{Less, Greater}
 use Rattle.std.proofs.lemmas.Bool.Decides.{nat_tests}
@@ -7,7 +7,7 @@ use Rattle.nfs_model.specs.Types.{Listed}
 use Rattle.nfs_values.specs.declared.number.Cookie.{Cookie}
 use Rattle.directories.specs.declared.spot.Spot.{Spot}
 use Rattle.directories.specs.Hash.{name_hash}
-use Rattle.directories.specs.Index.{cookies, name_cmp, name_under, AreHashed, IsAround}
+use Rattle.directories.specs.Index.{cookies, name_cmp, name_under, AreHashed, IsAround, IsHalf}
 use Rattle.directories.proofs.Orders.{all-at}
 use Rattle.directories.proofs.Spots.{cookie-at}
 use Rattle.directories.proofs.Middle.{less-middle, greater-middle}
@@ -54,4 +54,24 @@ around-below spots hash low high i s a b l g more = record {
   after = λ es name r h e.
       let is = hash-at es spots i s h g in
       greater-middle es (cookies spots) name i s.cookie r (cookie-at spots i s g) (higher-hash (name_under es s.cookie) name (omega (arith, is, e, more)));
+}
+
+-- ---- the half that a hash in the middle leaves
+
+pub half-above : (spots : List Spot) (hash size : ℕ) (s : Spot) → size ≡ length spots → size / 2 < size → slice_get spots (size / 2) ≡ Some s → s.hash < hash
+    → IsHalf spots hash (size / 2 + 1) size
+half-above spots hash size s is some g less =
+    let around = around-above spots hash 0 (length spots) (size / 2) s (around-all spots hash) (omega (arith, is, some)) g less in
+    record {
+      around = subst (λ k. IsAround spots hash (size / 2 + 1) k) (sym is) around;
+      half = omega (arith, is);
+      some = omega (arith, is, some);
+    }
+
+pub half-below : (spots : List Spot) (hash size : ℕ) (s : Spot) → size ≡ length spots → size / 2 < size → slice_get spots (size / 2) ≡ Some s → hash < s.hash
+    → IsHalf spots hash 0 (size / 2)
+half-below spots hash size s is some g more = record {
+  around = around-below spots hash 0 (length spots) (size / 2) s (around-all spots hash) (omega arith) (omega (arith, is, some)) g more;
+  half = omega (arith, is);
+  some = omega (arith, is, some);
 }

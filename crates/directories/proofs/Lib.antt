@@ -13,3 +13,4 @@ pub mod Replaced
 pub mod Hashed
 pub mod Around
 pub mod Pages
+pub mod Guessed

@@ -1,5 +1,5 @@
 -- The index of a directory: the cookies of its entries in the order of their names' hashes.
-use Rattle.std.specs.Prelude.{◌≡◌, ℕ, ◌≤◌, Bool, List, [], ◌==◌, Option, Some, None, map, take, drop, length}
+use Rattle.std.specs.Prelude.{◌≡◌, ℕ, ◌-◌, ◌/◌, ◌<◌, ◌≤◌, Bool, List, [], ◌==◌, Option, Some, None, map, take, drop, length}
 use Rattle.std.specs.List.{AllByRecursion, list_any, slice_get}
 use Rattle.std.specs.Option.{option_map}
 use Rattle.std.specs.List.Sorted.{IsStrictlySortedBy}
@@ -83,3 +83,9 @@ pub record IsAround (spots : List Spot) (hash : ℕ) (low : ℕ) (high : ℕ) : 
       → AllCompare es name Less (take low (cookies spots))
   pub after : (es : List Listed) (name : List ℕ) → NamesRise es (cookies spots) → AreHashed es spots → name_hash name ≡ hash
       → AllCompare es name Greater (drop high (cookies spots))
+
+-- Names of a hash are in one half of an index, between these positions.
+pub record IsHalf (spots : List Spot) (hash : ℕ) (low : ℕ) (high : ℕ) : Type 0 where
+  pub around : IsAround spots hash low high
+  pub half : high - low ≤ length spots / 2
+  pub some : 0 < length spots

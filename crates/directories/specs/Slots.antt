@@ -23,6 +23,11 @@ abbrev pub has_cookie : Option Listed → ℕ → Bool
 has_cookie None cookie = false
 has_cookie (Some e) cookie = e.cookie == cookie
 
+-- a slot has an entry of this name and fileid
+abbrev pub IsNamed : Option Listed → List ℕ → ℕ → Type 0
+IsNamed None name fileid = ⊥
+IsNamed (Some e) name fileid = (e.name ≡ name) × (e.fileid ≡ fileid)
+
 -- a slot as an entry; the cookie of a vacant one is below all others
 abbrev pub entry_or_none : Option Listed → Listed
 entry_or_none None = record { cookie = 0; name = []; fileid = 0 }

@@ -3,6 +3,7 @@
 ghost use Rattle.std.specs.Prelude.{
   ◌≡◌,
   ◌==◌,
+  ◌-◌,
   ◌<◌,
   ◌≤◌,
   ◌^◌,
@@ -32,12 +33,13 @@ ghost use Rattle.directories.specs.Entries.{
   page_behind,
 };
 ghost use Rattle.directories.specs.Index.{IsAt, IsIndexed, IsPosition, AreHashed, cookies};
-ghost use Rattle.directories.specs.Index.{fileid_number};
+ghost use Rattle.directories.specs.Index.{IsAround, fileid_number};
 ghost use Rattle.directories.specs.Hash.{name_hash};
 
 use crate::entries::Entries;
+use crate::guesses::Guesses;
 use crate::page::Page;
-use crate::search::find_position;
+use crate::search::{Around, find_between, find_position, half_of, hash_of, whole};
 use crate::sequences::Sequence;
 use crate::spot::Spot;
 use nfs_values::answer::DirectoryEntry;
@@ -51,6 +53,8 @@ pub struct Directory {
     entries: Entries,
     /// The entries in the order of the names' hashes, and of their bytes where these are the same.
     by_name: Sequence<Spot>,
+    /// The slots that entries are guessed in.
+    guesses: Guesses,
 }
 
 // By hand, so that crates above have no proof of the drop of each of its parts.
@@ -59,6 +63,7 @@ impl Drop for Directory {
         let Directory {
             entries: _,
             by_name: _,
+            guesses: _,
         } = self;
     }
 }
@@ -86,6 +91,7 @@ impl Directory {
         Directory {
             entries: Entries::new(alloc),
             by_name: Sequence::new(alloc),
+            guesses: Guesses::new(alloc),
         }
     }
 
@@ -124,13 +130,14 @@ impl Directory {
         ensures answer { fileid_number result.0 ≡ fileid_found self.now name.now }
         ensures compared { result.1 ≤ binary_digits (length self.now.list) }
     {
-        let search = find_position(&self.entries, &self.by_name, name);
-        if !search.is_there {
-            return (None, search.compared);
+        let hash = hash_of(name);
+        match self.guesses.slot(hash) {
+            Some(slot) => find_guessed(&self.entries, &self.by_name, name, hash, slot),
+            None => {
+                let around = whole(&self.by_name);
+                find_fileid(&self.entries, &self.by_name, name, hash, around)
+            }
         }
-        let spot = self.by_name.at(search.position);
-        let entry = self.entries.at(spot.cookie, spot.slot);
-        (Some(entry.fileid), search.compared)
     }
 
     /// Adds an entry, which takes the next cookie. Where there is no memory for it nothing
@@ -145,6 +152,7 @@ impl Directory {
         add_at(
             &mut self.entries,
             &mut self.by_name,
+            &mut self.guesses,
             search.position,
             search.hash,
             name,
@@ -166,6 +174,7 @@ impl Directory {
             add_at(
                 &mut self.entries,
                 &mut self.by_name,
+                &mut self.guesses,
                 search.position,
                 search.hash,
                 name,
@@ -176,6 +185,7 @@ impl Directory {
         let was = replace_at(
             &mut self.entries,
             &mut self.by_name,
+            &mut self.guesses,
             search.position,
             name,
             fileid,
@@ -194,6 +204,7 @@ impl Directory {
         }
         let spot = self.by_name.remove(search.position);
         self.entries.remove(spot.cookie);
+        self.guesses.take(spot.hash, spot.slot);
         true
     }
 
@@ -229,11 +240,63 @@ impl Directory {
     }
 }
 
+/// The fileid of the entry with a name of a hash, which is between some positions of the index, and
+/// how many names were compared.
+fn find_fileid(
+    entries: &Entries,
+    by_name: &Sequence<Spot>,
+    name: &[u8],
+    hash: u32,
+    bounds: Around,
+) -> (Option<Fileid>, usize)
+    requires indexed { IsIndexed entries.now (cookies by_name.now) }
+    requires hashed { AreHashed entries.now.list by_name.now }
+    requires around { IsAround by_name.now hash bounds.low bounds.high }
+    requires hash { hash ≡ name_hash name.now }
+    ensures answer { fileid_number result.0 ≡ fileid_found entries.now name.now }
+    ensures compared { result.1 ≤ binary_digits (bounds.high - bounds.low) }
+{
+    let search = find_between(entries, by_name, name, hash, bounds);
+    if !search.is_there {
+        return (None, search.compared);
+    }
+    let spot = by_name.at(search.position);
+    let entry = entries.at(spot.cookie, spot.slot);
+    (Some(entry.fileid), search.compared)
+}
+
+/// The fileid of the entry with a name of a hash, which is guessed in a slot, and how many names
+/// were compared. A guess is compared only where its hash leaves half of the index, so that it
+/// takes the place of one step by halving.
+fn find_guessed(
+    entries: &Entries,
+    by_name: &Sequence<Spot>,
+    name: &[u8],
+    hash: u32,
+    slot: u32,
+) -> (Option<Fileid>, usize)
+    requires indexed { IsIndexed entries.now (cookies by_name.now) }
+    requires hashed { AreHashed entries.now.list by_name.now }
+    requires hash { hash ≡ name_hash name.now }
+    ensures answer { fileid_number result.0 ≡ fileid_found entries.now name.now }
+    ensures compared { result.1 ≤ binary_digits (length by_name.now) }
+{
+    let Some(half) = half_of(by_name, hash) else {
+        return find_fileid(entries, by_name, name, hash, whole(by_name));
+    };
+    if let Some(fileid) = entries.guessed(slot, name) {
+        return (Some(fileid), 1);
+    }
+    let (fileid, compared) = find_fileid(entries, by_name, name, hash, half);
+    (fileid, compared + 1)
+}
+
 /// Adds an entry with a name of a hash, which belongs at a position of the index. Where there is no
 /// memory for it nothing changes.
 fn add_at(
     entries: &mut Entries,
     by_name: &mut Sequence<Spot>,
+    guesses: &mut Guesses,
     position: usize,
     hash: u32,
     name: Name,
@@ -253,6 +316,8 @@ fn add_at(
     let room = by_name.room()?;
     let (cookie, slot) = entries.add(name, fileid)?;
     by_name.insert(room, position, Spot { cookie, slot, hash });
+    guesses.put(hash, slot);
+    guesses.fit(by_name);
     Ok(())
 }
 
@@ -261,6 +326,7 @@ fn add_at(
 fn replace_at(
     entries: &mut Entries,
     by_name: &mut Sequence<Spot>,
+    guesses: &mut Guesses,
     position: usize,
     name: Name,
     fileid: Fileid,
@@ -281,5 +347,7 @@ fn replace_at(
     entries.remove(old.cookie);
     let hash = old.hash;
     by_name.set(position, Spot { cookie, slot, hash });
+    guesses.take(hash, old.slot);
+    guesses.put(hash, slot);
     Ok(was)
 }

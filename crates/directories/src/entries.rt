@@ -14,6 +14,7 @@ ghost use Rattle.std.specs.Prelude.{
   true,
   is_some,
   Some,
+  IfSome,
   IfOk,
   OnOk,
   OnErr,
@@ -22,7 +23,13 @@ ghost use Rattle.std.specs.List.{AllByRecursion, slice_get};
 ghost use Rattle.nfs_model.specs.Types.{Listed};
 ghost use Rattle.nfs_model.specs.Serial.Readdir.{above_cookie, entry_size, fitting};
 ghost use Rattle.nfs_values.specs.Answer.{entry_of};
-ghost use Rattle.nfs_model.specs.volume.Directories.{empty_directory, added, page};
+ghost use Rattle.nfs_model.specs.volume.Directories.{
+  NamesDiffer,
+  empty_directory,
+  fileid_found,
+  added,
+  page,
+};
 ghost use Rattle.directories.specs.Entries.{
   listed,
   IsRising,
@@ -36,7 +43,7 @@ ghost use Rattle.directories.specs.Entries.{
 ghost use Rattle.directories.specs.Slots.{in_slot, in_order, IsOrdered};
 
 use crate::sequences::Sequence;
-use crate::slot::{Slot, entry_in, holds, put, vacate};
+use crate::slot::{Slot, entry_in, fileid_in, holds, put, vacate};
 use nfs_values::answer::DirectoryEntry;
 use nfs_values::{Cookie, Fileid, Name};
 use std::alloc::{AllocError, Global};
@@ -103,6 +110,14 @@ impl Entries {
             &self.slots,
             slot_of(&self.slots, &self.order, cookie, guess),
         )
+    }
+
+    /// The fileid of the entry with a name, if it is in the slot guessed.
+    pub fn guessed(&self, slot: u32, name: &[u8]) -> Option<Fileid>
+        requires { NamesDiffer self.now.list }
+        ensures { IfSome result (λ f. Some f.0 ≡ fileid_found self.now name.now) }
+    {
+        fileid_in(&self.slots, slot, name)
     }
 
     /// Adds an entry under the next cookie, which is the result, with its slot. Where there is no

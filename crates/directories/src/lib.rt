@@ -3,6 +3,7 @@
 
 mod directory;
 mod entries;
+mod guesses;
 mod page;
 mod search;
 pub mod sequences;

@@ -1,10 +1,21 @@
 //! Search by name.
 
-ghost use Rattle.std.specs.Prelude.{◌≡◌, ◌<◌, ◌≤◌, ◌^◌, length, true, false};
+ghost use Rattle.std.specs.Prelude.{
+  ◌≡◌,
+  ◌-◌,
+  ◌<◌,
+  ◌≤◌,
+  ◌^◌,
+  ℕ,
+  length,
+  true,
+  false,
+  IfSome,
+};
 ghost use Rattle.directories.specs.Entries.{has};
 ghost use Rattle.directories.specs.Digits.{binary_digits};
 ghost use Rattle.directories.specs.Index.{IsIndex, IsAt, IsPosition, cookies, name_cmp};
-ghost use Rattle.directories.specs.Index.{name_under, AreHashed, IsAround};
+ghost use Rattle.directories.specs.Index.{name_under, AreHashed, IsAround, IsHalf};
 ghost use Rattle.directories.specs.Hash.{name_hash};
 
 use crate::entries::Entries;
@@ -23,9 +34,9 @@ const FEW: usize = 16;
 
 /// Positions of an index before and behind which a name isn't.
 #[derive(Clone, Copy)]
-struct Around {
-    low: usize,
-    high: usize,
+pub struct Around {
+    pub low: usize,
+    pub high: usize,
 }
 
 /// What a search for a name has found.
@@ -40,16 +51,52 @@ pub struct Search {
     pub hash: u32,
 }
 
-/// Positions between which the names of a hash are, as near to one another as a few guesses bring
-/// them. Hashes are spread evenly, so each guess is wrong by little, and the next goes so far that
-/// it passes the hash. Nothing rests on that but the time.
-fn narrow_by_hash(index: &Sequence<Spot>, hash: u32) -> Around
-    ensures around { IsAround index.now hash result.low result.high }
+/// All positions of an index.
+pub fn whole(index: &Sequence<Spot>) -> Around
+    ensures around { (hash : ℕ) → IsAround index.now hash result.low result.high }
+    ensures size { result.high - result.low ≡ length index.now }
+{
+    let size = index.len();
+    Around { low: 0, high: size }
+}
+
+/// The half of an index that the names of a hash are in, if the hash in its middle tells which.
+pub fn half_of(index: &Sequence<Spot>, hash: u32) -> Option<Around>
+    ensures half { IfSome result (λ a. IsHalf index.now hash a.low a.high) }
     ensures room { length index.now < 2 ^ 64 }
 {
     let size = index.len();
-    let mut low = 0;
-    let mut high = size;
+    if size == 0 {
+        return None;
+    }
+    let middle = size / 2;
+    let in_middle = index.at(middle).hash;
+    if in_middle < hash {
+        return Some(Around {
+            low: middle + 1,
+            high: size,
+        });
+    }
+    if in_middle > hash {
+        return Some(Around {
+            low: 0,
+            high: middle,
+        });
+    }
+    None
+}
+
+/// Positions between which the names of a hash are, as near to one another as a few guesses bring
+/// them, within some. Hashes are spread evenly, so each guess is wrong by little, and the next goes
+/// so far that it passes the hash. Nothing rests on that but the time.
+fn narrow_by_hash(index: &Sequence<Spot>, hash: u32, bounds: Around) -> Around
+    requires { IsAround index.now hash bounds.low bounds.high }
+    ensures around { IsAround index.now hash result.low result.high }
+    ensures inside { result.high - result.low ≤ bounds.high - bounds.low }
+    ensures room { length index.now < 2 ^ 64 }
+{
+    let size = index.len();
+    let Around { mut low, mut high } = bounds;
     let mut part = index.part();
     let mut guess = share(hash, size);
     for _ in 0..GUESSES {
@@ -85,7 +132,7 @@ fn beyond(gap: u32, size: usize) -> usize {
     far + far / 4 + 8
 }
 
-/// Searches an index for a name by halving, between positions that its hash leaves.
+/// Searches an index for a name.
 pub fn find_position(entries: &Entries, index: &Sequence<Spot>, name: &[u8]) -> Search
     requires index { IsIndex entries.now.list (cookies index.now) }
     requires hashed { AreHashed entries.now.list index.now }
@@ -95,10 +142,33 @@ pub fn find_position(entries: &Entries, index: &Sequence<Spot>, name: &[u8]) -> 
         → IsAt entries.now (cookies index.now) name.now result.position }
     ensures absent { result.is_there ≡ false
         → IsPosition entries.now (cookies index.now) name.now result.position }
-    ensures compared { result.compared ≤ binary_digits (length index.now) }
 {
     let hash = hash_of(name);
-    let Around { mut low, mut high } = narrow_by_hash(index, hash);
+    find_between(entries, index, name, hash, whole(index))
+}
+
+/// Searches an index for a name of a hash by halving, between positions that the hash leaves of
+/// some.
+pub fn find_between(
+    entries: &Entries,
+    index: &Sequence<Spot>,
+    name: &[u8],
+    hash: u32,
+    bounds: Around,
+) -> Search
+    requires index { IsIndex entries.now.list (cookies index.now) }
+    requires hashed { AreHashed entries.now.list index.now }
+    requires around { IsAround index.now hash bounds.low bounds.high }
+    requires hash { hash ≡ name_hash name.now }
+    ensures hash { result.hash ≡ name_hash name.now }
+    ensures within { result.position ≤ length index.now }
+    ensures there { result.is_there ≡ true
+        → IsAt entries.now (cookies index.now) name.now result.position }
+    ensures absent { result.is_there ≡ false
+        → IsPosition entries.now (cookies index.now) name.now result.position }
+    ensures compared { result.compared ≤ binary_digits (bounds.high - bounds.low) }
+{
+    let Around { mut low, mut high } = narrow_by_hash(index, hash, bounds);
     let mut compared = 0;
     let mut part = index.part();
     while low < high {
@@ -141,7 +211,7 @@ fn compare(entries: &Entries, spot: Spot, name: &[u8], hash: u32) -> Ordering
 }
 
 /// The hash of a name.
-fn hash_of(name: &[u8]) -> u32
+pub fn hash_of(name: &[u8]) -> u32
     ensures { result ≡ name_hash name.now }
 {
     let mut hash: u32 = 0;

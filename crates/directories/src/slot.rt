@@ -8,14 +8,15 @@ ghost use Rattle.std.specs.Prelude.{
   None,
   Some,
   is_some,
+  IfSome,
   IfOk,
   OnErr,
 };
 ghost use Rattle.nfs_values.specs.Answer.{entry_of};
-ghost use Rattle.directories.specs.Slots.{in_slot, has_cookie, Becomes, PutInto};
+ghost use Rattle.directories.specs.Slots.{in_slot, has_cookie, IsNamed, Becomes, PutInto};
 
-use nfs_values::Cookie;
 use nfs_values::answer::DirectoryEntry;
+use nfs_values::{Cookie, Fileid};
 use std::alloc::AllocError;
 
 /// A position for an entry.
@@ -47,6 +48,27 @@ pub fn holds(slots: &[Slot], slot: u32, cookie: Cookie) -> bool
         Some(Slot::Vacant(_)) => false,
         None => false,
     }
+}
+
+/// The fileid of the entry in a slot, if it has just this name.
+pub fn fileid_in(slots: &[Slot], slot: u32, name: &[u8]) -> Option<Fileid>
+    ensures { IfSome result (λ f. IsNamed (in_slot slots.now slot) name.now f.0) }
+{
+    match slots.get(slot as usize) {
+        Some(Slot::Filled(entry)) => fileid_of(entry, name),
+        Some(Slot::Vacant(_)) => None,
+        None => None,
+    }
+}
+
+/// The fileid of an entry, if it has just this name.
+fn fileid_of(entry: &DirectoryEntry, name: &[u8]) -> Option<Fileid>
+    ensures { IfSome result (λ f. IsNamed (Some (entry_of entry.now)) name.now f.0) }
+{
+    if entry.name.as_bytes() == name {
+        return Some(entry.fileid);
+    }
+    None
 }
 
 /// Puts an entry into a vacant slot, the one with a number if it is vacant. The result is the slot,

@@ -162,6 +162,62 @@ fn names_of_one_hash(rt: HostRuntime) {
     mem::forget(directory);
 }
 
+/// The fileid that a name has in the end, by its number: of each three one is removed, and one is
+/// replaced.
+fn left(number: u64) -> Option<Fileid> {
+    match number % 3 {
+        0 => None,
+        1 => Some(Fileid(number.saturating_add(10_000))),
+        _ => Some(Fileid(number)),
+    }
+}
+
+/// How many of three thousand names lead to what is left of them, and how many names are compared
+/// at most.
+fn found_left(directory: &Directory) -> (u64, usize) {
+    let mut right = 0_u64;
+    let mut most = 0;
+    for number in 0..3000 {
+        let (fileid, compared) = directory.find_counted(&digits(number));
+        right = right.wrapping_add(u64::from(fileid == left(number)));
+        most = most.max(compared);
+    }
+    (right, most)
+}
+
+#[test]
+fn guessed_names(rt: HostRuntime) {
+    let mut directory = Directory::new(rt.alloc());
+    for number in 0..3000 {
+        add(&rt, &mut directory, &digits(number), number);
+    }
+    for number in 0..1000 {
+        directory.remove(&digits(3 * number));
+        replace(
+            &rt,
+            &mut directory,
+            &digits(3 * number + 1),
+            3 * number + 10_001,
+        );
+    }
+    let (right, most) = found_left(&directory);
+    same(
+        &rt,
+        &(right, most <= 11, directory.len()),
+        &(3000, true, 2000),
+    );
+    for number in 3000..4000 {
+        add(&rt, &mut directory, &digits(number), number);
+    }
+    let (right, most) = found_left(&directory);
+    same(
+        &rt,
+        &(right, most <= 12, directory.len()),
+        &(3000, true, 3000),
+    );
+    mem::forget(directory);
+}
+
 /// Cookies, room for entries, and what the page after them has.
 const PAGES: [(u64, usize, Listed); 3] = [
     (3, 56, (2, 4, 5, true)),

@@ -7,6 +7,7 @@ use Rattle.directories.specs.contracts.entries.Entries as Entries
 use Rattle.directories.specs.contracts.entries.Entries.TheInside as EntriesInside
 use Rattle.directories.specs.contracts.directory.Directory as Directory
 use Rattle.directories.specs.contracts.directory.Directory.TheInside as DirectoryInside
+use Rattle.directories.proofs.guesses.Guesses.TheSendSync as guesses
 use Rattle.directories.proofs.slot.Slot.TheSendSync as slot
 use Rattle.directories.proofs.spot.Spot.TheSendSync as spot
 use Rattle.nfs_values.proofs.number.Cookie.TheSendSync as cookie
@@ -23,7 +24,7 @@ pub entries-send : IsSend Entries.the_row
 entries-send = view_send EntriesInside.the_row _ _ _ _ entries-inside-send
 
 directory-inside-send : IsSend DirectoryInside.the_row
-directory-inside-send = struct-send DirectoryInside.the_type (entries-send, (sequence-send _ spot.the_send, tt))
+directory-inside-send = struct-send DirectoryInside.the_type (entries-send, (sequence-send _ spot.the_send, (guesses.the_send, tt)))
 
 pub directory-send : IsSend Directory.the_row
 directory-send = view_send DirectoryInside.the_row _ _ _ _ directory-inside-send

@@ -3,7 +3,7 @@ use Rattle.std.specs.declared.cmp.Ordering.TheVariants.{Less, Greater}
 use Rattle.directories.specs.Digits.{binary_digits}
 use Rattle.directories.specs.Index.{AllCompare, cookies}
 use Rattle.directories.specs.sequences.Values.{HasPositions}
-use Rattle.directories.proofs.search.find_position.Given as goal
+use Rattle.directories.proofs.search.find_between.Given as goal
 
 abbrev pub invariant-loop-low : goal.invariant-loop-low
 invariant-loop-low l = record {
@@ -13,7 +13,7 @@ invariant-loop-low l = record {
   before : AllCompare l.entries.list l.name Less (take l.low (cookies l.index));
   after : AllCompare l.entries.list l.name Greater (drop l.high (cookies l.index));
   room : length l.index < 2 ^ 64;
-  counted : l.compared + binary_digits (l.high - l.low) ≤ binary_digits (length l.index);
+  counted : l.compared + binary_digits (l.high - l.low) ≤ binary_digits (l.fn.bounds.high - l.fn.bounds.low);
 }
 
 abbrev pub decreases-loop-low : goal.decreases-loop-low
