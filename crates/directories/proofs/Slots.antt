@@ -280,6 +280,18 @@ slot-guessed slots order next cookie s h c = by (in_slot slots s) refl c
         let one = h.known s (ap (λ (o : Option Listed). is_some o) (sym p)) in
         subst (λ k. Some e ≡ under k (in_order slots order)) same (sym (under-slot 3 slots order next s e h.rising one (sym p)))
 
+-- the position of a slot that has the entry of a cookie
+pub position-guessed : (slots : List Slot) (order : List ℕ) (next cookie i s : ℕ) → IsOrdered slots order next
+    → has_cookie (in_slot slots s) cookie ≡ true → i < length order → s ≡ get_or order i 0
+    → under cookie (in_order slots order) ≡ slice_get (in_order slots order) i
+position-guessed slots order next cookie i s h c l is = by (in_slot slots s) refl c
+  where
+    by : (o : Option Listed) → o ≡ in_slot slots s → has_cookie o cookie ≡ true
+        → under cookie (in_order slots order) ≡ slice_get (in_order slots order) i
+    by None p t = absurd (grind (arith, t))
+    by (Some e) p t =
+        sym (slot-guessed slots order next cookie s h c) ∙ (sym p ∙ sym (element-at slots order i s e l is (sym p)))
+
 -- a position of an entry is in the order
 pub position-inside : (slots : List Slot) (order : List ℕ) (cookie i : ℕ) → has (in_order slots order) cookie ≡ true
     → under cookie (in_order slots order) ≡ slice_get (in_order slots order) i → i < length order

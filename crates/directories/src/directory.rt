@@ -39,7 +39,7 @@ ghost use Rattle.directories.specs.Hash.{name_hash};
 use crate::entries::Entries;
 use crate::guesses::Guesses;
 use crate::page::Page;
-use crate::search::{Around, find_between, find_position, half_of, hash_of, whole};
+use crate::search::{Around, find_between, find_position, guess_place, half_of, hash_of, whole};
 use crate::sequences::Sequence;
 use crate::spot::Spot;
 use nfs_values::answer::DirectoryEntry;
@@ -132,10 +132,14 @@ impl Directory {
     {
         let hash = hash_of(name);
         match self.guesses.slot(hash) {
-            Some(slot) => find_guessed(&self.entries, &self.by_name, name, hash, slot),
+            Some(slot) => {
+                let guesses = &self.guesses;
+                find_guessed(&self.entries, &self.by_name, guesses, name, hash, slot)
+            }
             None => {
                 let around = whole(&self.by_name);
-                find_fileid(&self.entries, &self.by_name, name, hash, around)
+                let guesses = &self.guesses;
+                find_fileid(&self.entries, &self.by_name, guesses, name, hash, around)
             }
         }
     }
@@ -148,7 +152,8 @@ impl Directory {
         ensures ok { OnOk result (self.new ≡ added name fileid.0 self.old) }
         ensures err { OnErr result (self.new ≡ self.old) }
     {
-        let search = find_position(&self.entries, &self.by_name, name.as_bytes());
+        let guesses = &self.guesses;
+        let search = find_position(&self.entries, &self.by_name, guesses, name.as_bytes());
         add_at(
             &mut self.entries,
             &mut self.by_name,
@@ -169,7 +174,8 @@ impl Directory {
         ensures was { IfOk result (λ was. fileid_number was ≡ fileid_found self.old name) }
         ensures err { OnErr result (self.new ≡ self.old) }
     {
-        let search = find_position(&self.entries, &self.by_name, name.as_bytes());
+        let guesses = &self.guesses;
+        let search = find_position(&self.entries, &self.by_name, guesses, name.as_bytes());
         if !search.is_there {
             add_at(
                 &mut self.entries,
@@ -198,7 +204,7 @@ impl Directory {
         ensures there { result ≡ is_some (found self.old name.now) }
         ensures left { self.new ≡ removed name.now self.old }
     {
-        let search = find_position(&self.entries, &self.by_name, name);
+        let search = find_position(&self.entries, &self.by_name, &self.guesses, name);
         if !search.is_there {
             return false;
         }
@@ -241,10 +247,11 @@ impl Directory {
 }
 
 /// The fileid of the entry with a name of a hash, which is between some positions of the index, and
-/// how many names were compared.
+/// how many names were compared. It is noted where the search ended.
 fn find_fileid(
     entries: &Entries,
     by_name: &Sequence<Spot>,
+    guesses: &Guesses,
     name: &[u8],
     hash: u32,
     bounds: Around,
@@ -256,7 +263,9 @@ fn find_fileid(
     ensures answer { fileid_number result.0 ≡ fileid_found entries.now name.now }
     ensures compared { result.1 ≤ binary_digits (bounds.high - bounds.low) }
 {
-    let search = find_between(entries, by_name, name, hash, bounds);
+    let place = guess_place(by_name, hash);
+    let search = find_between(entries, by_name, name, hash, bounds, place);
+    guesses.note(hash, search.position);
     if !search.is_there {
         return (None, search.compared);
     }
@@ -271,6 +280,7 @@ fn find_fileid(
 fn find_guessed(
     entries: &Entries,
     by_name: &Sequence<Spot>,
+    guesses: &Guesses,
     name: &[u8],
     hash: u32,
     slot: u32,
@@ -282,12 +292,12 @@ fn find_guessed(
     ensures compared { result.1 ≤ binary_digits (length by_name.now) }
 {
     let Some(half) = half_of(by_name, hash) else {
-        return find_fileid(entries, by_name, name, hash, whole(by_name));
+        return find_fileid(entries, by_name, guesses, name, hash, whole(by_name));
     };
     if let Some(fileid) = entries.guessed(slot, name) {
         return (Some(fileid), 1);
     }
-    let (fileid, compared) = find_fileid(entries, by_name, name, hash, half);
+    let (fileid, compared) = find_fileid(entries, by_name, guesses, name, hash, half);
     (fileid, compared + 1)
 }
 

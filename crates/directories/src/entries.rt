@@ -147,7 +147,7 @@ impl Entries {
         requires { has self.old.list cookie.0 ≡ true }
         ensures { self.new ≡ dropped cookie.0 self.old }
     {
-        let position = position_of(&self.slots, &self.order, cookie);
+        let position = position_from_end(&self.slots, &self.order, self.next, cookie);
         let slot = self.order.remove(position);
         vacate(&mut self.slots, slot, self.vacant);
         self.vacant = slot;
@@ -184,6 +184,26 @@ fn slot_of(slots: &[Slot], order: &Sequence<u32>, cookie: Cookie, guess: u32) ->
         return guess;
     }
     order.at(position_of(slots, order, cookie))
+}
+
+/// The position in the order of the entry under a cookie that has one. If all that came after it
+/// are there, it is as far from the end as its cookie is from the next one; else there is a search.
+fn position_from_end(slots: &[Slot], order: &Sequence<u32>, next: Cookie, cookie: Cookie) -> usize
+    requires ordered { IsOrdered slots.now order.now next.0 }
+    requires there { has (in_order slots.now order.now) cookie.0 ≡ true }
+    ensures within { result < length order.now }
+    ensures position { let entries = in_order slots.now order.now in
+        under cookie.0 entries ≡ slice_get entries result }
+{
+    let behind = next.0.saturating_sub(cookie.0) as usize;
+    let guess = order.len().saturating_sub(behind);
+    if guess < order.len() {
+        let slot = order.at(guess);
+        if holds(slots, slot, cookie) {
+            return guess;
+        }
+    }
+    position_of(slots, order, cookie)
 }
 
 /// The position in the order of the entry under a cookie that has one.

@@ -5,12 +5,20 @@ ghost use Rattle.std.specs.Prelude.{◌<◌, ◌^◌};
 use crate::sequences::Sequence;
 use crate::spot::Spot;
 use std::alloc::{AllocError, Global};
+use std::cell::Cell;
 
 /// How many words the names of a hash share: as many as a line of a cache holds.
 const LINE: usize = 16;
 
 /// Among fewer names none is guessed: what a search reads of their index is in a cache.
 const FEW: usize = 1024;
+
+/// Where a search for a name of a hash ended.
+#[derive(Clone, Copy)]
+struct Ended {
+    hash: u32,
+    position: usize,
+}
 
 /// For the hashes of names, slots that their entries are guessed in. Nothing rests on a guess but
 /// the time of a search: a name may have none, or one of a slot that has another entry by now.
@@ -24,6 +32,9 @@ pub struct Guesses {
     mask: u32,
     /// How far the index has been gone through since there are so many words, or the most if whole.
     seen: usize,
+    /// Where in the index the last search ended: a call that adds or removes a name looks it up
+    /// first.
+    last: Cell<Ended>,
 }
 
 impl Guesses {
@@ -34,7 +45,25 @@ impl Guesses {
             words: Vec::new(alloc),
             mask: 0,
             seen: usize::MAX,
+            last: Cell::new(Ended {
+                hash: 0,
+                position: 0,
+            }),
         }
+    }
+
+    /// Notes where in the index a search for a name of a hash has ended.
+    pub fn note(&self, hash: u32, position: usize) {
+        self.last.set(Ended { hash, position });
+    }
+
+    /// Where in the index the last search ended, if it was for a name of a hash.
+    pub fn position(&self, hash: u32) -> Option<usize> {
+        let ended = self.last.get();
+        if ended.hash == hash {
+            return Some(ended.position);
+        }
+        None
     }
 
     /// A slot that the entry with a name of a hash is guessed in.

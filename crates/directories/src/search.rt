@@ -19,6 +19,7 @@ ghost use Rattle.directories.specs.Index.{name_under, AreHashed, IsAround, IsHal
 ghost use Rattle.directories.specs.Hash.{name_hash};
 
 use crate::entries::Entries;
+use crate::guesses::Guesses;
 use crate::sequences::Sequence;
 use crate::spot::Spot;
 use std::cmp::Ordering;
@@ -26,11 +27,8 @@ use std::cmp::Ordering;
 /// What the hash of a name is multiplied by for each byte.
 const FACTOR: u32 = 1_540_483_477;
 
-/// How many guesses are made before a search by halving.
+/// How many chunks are looked at before a search by halving.
 const GUESSES: usize = 4;
-
-/// Among how many names no more guesses are made.
-const FEW: usize = 16;
 
 /// Positions of an index before and behind which a name isn't.
 #[derive(Clone, Copy)]
@@ -86,37 +84,79 @@ pub fn half_of(index: &Sequence<Spot>, hash: u32) -> Option<Around>
     None
 }
 
-/// Positions between which the names of a hash are, as near to one another as a few guesses bring
-/// them, within some. Hashes are spread evenly, so each guess is wrong by little, and the next goes
-/// so far that it passes the hash. Nothing rests on that but the time.
-fn narrow_by_hash(index: &Sequence<Spot>, hash: u32, bounds: Around) -> Around
+/// Some positions without those on one side of a position among them, if its hash tells that names
+/// of a hash aren't there.
+fn narrow_at(index: &Sequence<Spot>, hash: u32, bounds: Around, position: usize) -> Around
     requires { IsAround index.now hash bounds.low bounds.high }
     ensures around { IsAround index.now hash result.low result.high }
     ensures inside { result.high - result.low ≤ bounds.high - bounds.low }
-    ensures room { length index.now < 2 ^ 64 }
 {
+    let Around { low, high } = bounds;
+    if position < low {
+        return bounds;
+    }
+    if position >= high {
+        return bounds;
+    }
+    let here = index.at(position).hash;
+    if here < hash {
+        return Around {
+            low: position + 1,
+            high,
+        };
+    }
+    if here > hash {
+        return Around {
+            low,
+            high: position,
+        };
+    }
+    bounds
+}
+
+/// Where in an index the names of a hash are guessed to begin. Hashes are spread evenly and chunks are
+/// in their order, so few chunks are looked at. Nothing rests on that but the time.
+pub fn guess_place(index: &Sequence<Spot>, hash: u32) -> usize {
     let size = index.len();
-    let Around { mut low, mut high } = bounds;
-    let mut part = index.part();
+    let mut low = 0;
+    let mut high = size;
     let mut guess = share(hash, size);
     for _ in 0..GUESSES {
-        if high - low <= FEW {
+        if low >= high {
             break;
         }
-        part = part.narrowed(low, high);
         let at = guess.clamp(low, high - 1);
-        let found = part.at(at).hash;
-        if found < hash {
-            low = at + 1;
-            guess = at.saturating_add(beyond(hash - found, size));
-        } else if found > hash {
-            high = at;
-            guess = at.saturating_sub(beyond(found - hash, size));
+        let (chunk, here) = index.chunk_at(at);
+        let first = at - here;
+        let lowest = chunk[0].hash;
+        let highest = chunk[chunk.len() - 1].hash;
+        if highest < hash {
+            low = first.saturating_add(chunk.len());
+            guess = low.saturating_add(share(hash - highest, size));
+        } else if lowest > hash {
+            high = first;
+            guess = first.saturating_sub(share(lowest - hash, size) + 1);
         } else {
-            guess = at + 1;
+            let place = share_of(hash - lowest, highest - lowest, chunk.len());
+            return first.saturating_add(lower_in(chunk, hash, place));
         }
     }
-    Around { low, high }
+    low
+}
+
+/// How many of some spots have lower hashes than one, if they are in the order of these: at first so
+/// many are guessed.
+fn lower_in(spots: &[Spot], hash: u32, guess: usize) -> usize {
+    let guess = guess.min(spots.len());
+    match spots[guess..].iter().position(|spot| spot.hash >= hash) {
+        Some(0) => {}
+        Some(more) => return guess.saturating_add(more),
+        None => return spots.len(),
+    }
+    match spots[..guess].iter().rposition(|spot| spot.hash < hash) {
+        Some(last) => last.saturating_add(1),
+        None => 0,
+    }
 }
 
 /// How many of so many hashes are below one, if they are spread evenly.
@@ -126,14 +166,18 @@ fn share(hash: u32, size: usize) -> usize
     (hash as usize).wrapping_mul(size) / (1 << 32)
 }
 
-/// A little more than how many of so many hashes are in a gap, if they are spread evenly.
-fn beyond(gap: u32, size: usize) -> usize {
-    let far = share(gap, size);
-    far + far / 4 + 8
+/// How many of so many hashes are in the front of a gap, if they are spread evenly in it.
+fn share_of(front: u32, gap: u32, size: usize) -> usize {
+    (front as usize).wrapping_mul(size) / (gap as usize + 1)
 }
 
-/// Searches an index for a name.
-pub fn find_position(entries: &Entries, index: &Sequence<Spot>, name: &[u8]) -> Search
+/// Searches an index for a name, first where the last search ended, if that was for its hash.
+pub fn find_position(
+    entries: &Entries,
+    index: &Sequence<Spot>,
+    guesses: &Guesses,
+    name: &[u8],
+) -> Search
     requires index { IsIndex entries.now.list (cookies index.now) }
     requires hashed { AreHashed entries.now.list index.now }
     ensures hash { result.hash ≡ name_hash name.now }
@@ -144,17 +188,22 @@ pub fn find_position(entries: &Entries, index: &Sequence<Spot>, name: &[u8]) -> 
         → IsPosition entries.now (cookies index.now) name.now result.position }
 {
     let hash = hash_of(name);
-    find_between(entries, index, name, hash, whole(index))
+    let place = match guesses.position(hash) {
+        Some(position) => position,
+        None => guess_place(index, hash),
+    };
+    find_between(entries, index, name, hash, whole(index), place)
 }
 
-/// Searches an index for a name of a hash by halving, between positions that the hash leaves of
-/// some.
+/// Searches an index for a name of a hash by halving between some positions, of which the hashes
+/// next to a place leave few if the name is there or belongs there.
 pub fn find_between(
     entries: &Entries,
     index: &Sequence<Spot>,
     name: &[u8],
     hash: u32,
     bounds: Around,
+    place: usize,
 ) -> Search
     requires index { IsIndex entries.now.list (cookies index.now) }
     requires hashed { AreHashed entries.now.list index.now }
@@ -168,7 +217,10 @@ pub fn find_between(
         → IsPosition entries.now (cookies index.now) name.now result.position }
     ensures compared { result.compared ≤ binary_digits (bounds.high - bounds.low) }
 {
-    let Around { mut low, mut high } = narrow_by_hash(index, hash, bounds);
+    let around = narrow_at(index, hash, bounds, place.saturating_sub(1));
+    let around = narrow_at(index, hash, around, place);
+    let around = narrow_at(index, hash, around, place.saturating_add(1));
+    let Around { mut low, mut high } = around;
     let mut compared = 0;
     let mut part = index.part();
     while low < high {

@@ -2,7 +2,7 @@
 use Rattle.std.proofs.Common.{◌≡◌, refl, sym, ◌∙◌, ap, ℕ, zero, suc, ◌+◌, ◌-◌, ◌<◌, ◌≤◌, List, [], ◌∷◌, ◌++◌, length, take, drop, Some}
 use Rattle.std.proofs.Common.{slice_set, arith, append_assoc, length-append}
 use Rattle.std.specs.List.{slice_get, insert, remove}
-use Rattle.std.proofs.lemmas.List.{drop-append-le, take-append-drop, length-take-le, take_min, length-take, set-append_left, set-append_right}
+use Rattle.std.proofs.lemmas.List.{drop-append-le, drop-drop, take-append-drop, take_all, length-take-le, set-append_left, set-append_right}
 use Rattle.directories.specs.sequences.Values.{HasPositions}
 use Rattle.std.proofs.lemmas.List.Edits.{length-insert, insert-append_left, insert-append_right, remove-append_left, remove-append_right}
 
@@ -34,9 +34,29 @@ past [] m i h = let e : i ≡ i - 0 = omega arith in ap (λ k. drop k m) e
 past (x ∷ l) m zero h = absurd (omega (arith, h))
 past (x ∷ l) m (suc i) h = let e : i - length l ≡ suc i - suc (length l) = omega arith in past l m i (omega (arith, h)) ∙ ap (λ k. drop k m) e
 
--- the start of a list is a run of it
-pub run-taken : {T : Type 0} (d : List T) (n : ℕ) → take (length (take n d)) d ≡ take n d
-run-taken d n = ap (λ k. take k d) (length-take n d) ∙ take_min n d
+-- a run from one of its items on
+run-rest : {T : Type 0} (n : ℕ) (run d : List T) → take (length run) d ≡ run → take (length (drop n run)) (drop n d) ≡ drop n run
+run-rest zero run d e = e
+run-rest (suc n) [] d e = refl
+run-rest (suc n) (x ∷ run) [] e = absurd (grind (arith, e))
+run-rest (suc n) (x ∷ run) (y ∷ d) e = let rest : take (length run) d ≡ run = cc in run-rest n run d rest
+
+pub run-from : {T : Type 0} (all run : List T) (i n : ℕ) → n ≤ i → take (length run) (drop (i - n) all) ≡ run
+    → take (length (drop n run)) (drop i all) ≡ drop n run
+run-from all run i n h e =
+    let whole : i - n + n ≡ i = omega (arith, h) in
+    let from : drop i all ≡ drop n (drop (i - n) all) = ap (λ k. drop k all) (sym whole) ∙ sym (drop-drop n (i - n) all) in
+    ap (λ d. take (length (drop n run)) d) from ∙ run-rest n run (drop (i - n) all) e
+
+-- the first items of a run
+pub run-shorter : {T : Type 0} (n : ℕ) (run d : List T) → take (length run) d ≡ run → take (length (take n run)) d ≡ take n run
+run-shorter zero run d e = refl
+run-shorter (suc n) [] d e = refl
+run-shorter (suc n) (x ∷ run) [] e = absurd (grind (arith, e))
+run-shorter (suc n) (x ∷ run) (y ∷ d) e =
+    let head : y ≡ x = cc in
+    let rest : take (length run) d ≡ run = cc in
+    ap (λ z. z ∷ take (length (take n run)) d) head ∙ ap (λ l. x ∷ l) (run-shorter n run d rest)
 
 emptied : {T : Type 0} (c : List T) (i : ℕ) → i < length c → length c ≡ 1 → remove c i ≡ []
 emptied [] i h one = absurd (omega (arith, h))
@@ -48,17 +68,26 @@ emptied (x ∷ y ∷ c) i h one = absurd (omega (arith, one))
 -- b is the number of items on the left, and m the chunk as code has it
 
 module _ {T : Type 0} (l c r : List T) (i b : ℕ) (left : b ≡ length l) where
-  past-left : b ≤ i → drop i (l ++ (c ++ r)) ≡ drop (i - b) (c ++ r)
-  past-left h = past l (c ++ r) i (omega (arith, h, left)) ∙ ap (λ k. drop (i - k) (c ++ r)) (sym left)
+  -- a run that has the place i, of which n items stand before it
+  pub chunk-left : (run : List T) (n : ℕ) → i < b → take (length run) (drop (i - n) l) ≡ run → take (length run) (drop (i - n) (l ++ (c ++ r))) ≡ run
+  chunk-left run n h e =
+      ap (λ d. take (length run) d) (drop-append-le (i - n) l (c ++ r) (omega (arith, h, left))) ∙ run-front run (drop (i - n) l) (c ++ r) e
 
-  pub run-middle : (run : List T) → b ≤ i → i - b < length c → take (length run) (drop (i - b) c) ≡ run
-      → take (length run) (drop i (l ++ (c ++ r))) ≡ run
-  run-middle run h k e =
-      ap (λ d. take (length run) d) (past-left h ∙ drop-append-le (i - b) c r (omega (arith, k))) ∙ run-front run (drop (i - b) c) r e
+  pub chunk-middle : b ≤ i → take (length c) (drop (i - (i - b)) (l ++ (c ++ r))) ≡ c
+  chunk-middle h =
+      let from : i - (i - b) ≡ length l = omega (arith, h, left) in
+      let none : length l - length l ≡ 0 = omega arith in
+      ap (λ d. take (length c) d)
+      (ap (λ k. drop k (l ++ (c ++ r))) from ∙ (past l (c ++ r) (length l) (omega arith) ∙ ap (λ k. drop k (c ++ r)) none))
+      ∙ run-front c c r (take_all (length c) c (omega arith))
 
-  pub run-right : (run : List T) → b ≤ i → length c ≤ i - b → take (length run) (drop (i - b - length c) r) ≡ run
-      → take (length run) (drop i (l ++ (c ++ r))) ≡ run
-  run-right run h k e = ap (λ d. take (length run) d) (past-left h ∙ past c r (i - b) k) ∙ e
+  pub chunk-right : (run : List T) (n : ℕ) → b ≤ i → length c ≤ i - b → n ≤ i - b - length c → take (length run) (drop (i - b - length c - n) r) ≡ run
+      → take (length run) (drop (i - n) (l ++ (c ++ r))) ≡ run
+  chunk-right run n h k w e =
+      let far : length l ≤ i - n = omega (arith, h, k, w, left) in
+      let farther : length c ≤ i - n - length l = omega (arith, h, k, w, left) in
+      let from : i - n - length l - length c ≡ i - b - length c - n = omega (arith, h, k, w, left) in
+      ap (λ d. take (length run) d) (past l (c ++ r) (i - n) far ∙ (past c r (i - n - length l) farther ∙ ap (λ m. drop m r) from)) ∙ e
 
   pub get-middle : (x : T) → b ≤ i → slice_get c (i - b) ≡ Some x → slice_get (l ++ (c ++ r)) i ≡ Some x
   get-middle x h g =

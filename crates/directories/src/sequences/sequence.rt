@@ -2,6 +2,7 @@
 
 ghost use Rattle.std.specs.Prelude.{
   ◌≡◌,
+  ◌-◌,
   ◌<◌,
   ◌≤◌,
   ◌^◌,
@@ -91,6 +92,17 @@ impl<T: Copy> Sequence<T> {
         ensures { HasPositions self.now 0 (length self.now) result.first result.items }
     {
         Part::whole(&self.tree)
+    }
+
+    /// The items that stand together in memory with the one at a position, and which of them that is.
+    pub fn chunk_at(&self, position: usize) -> (&[T], usize)
+        requires { position < length self.now }
+        ensures chunk { take (length result.0.now) (drop (position - result.1) self.now)
+            ≡ result.0.now }
+        ensures begins { result.1 ≤ position }
+        ensures ends { result.1 < length result.0.now }
+    {
+        self.tree.chunk_at(position)
     }
 
     /// The items that stand together in memory from a position on: some, and not always all.

@@ -3,6 +3,7 @@
 ghost use Rattle.std.specs.Prelude.{
   ◌≡◌,
   ◌+◌,
+  ◌-◌,
   ◌<◌,
   ◌≤◌,
   ◌^◌,
@@ -126,26 +127,38 @@ impl<T: Copy> Tree<T> {
         }
     }
 
-    /// The items that stand together in memory from a position on: some, and not always all.
-    pub(crate) fn run_at(&self, position: usize) -> &[T]
+    /// The items that stand together in memory with the one at a position, and which of them that is.
+    pub(crate) fn chunk_at(&self, position: usize) -> (&[T], usize)
         requires { position < length self.now.items }
-        ensures run { take (length result.now) (drop position self.now.items) ≡ result.now }
-        ensures some { 0 < length result.now }
+        ensures chunk { take (length result.0.now) (drop (position - result.1) self.now.items)
+            ≡ result.0.now }
+        ensures begins { result.1 ≤ position }
+        ensures ends { result.1 < length result.0.now }
     {
         match &self.root {
             Root::Empty => unreachable!(),
             Root::Fork(node) => {
                 let node: &Node<T> = node;
                 if position < node.before {
-                    return node.left.run_at(position);
+                    return node.left.chunk_at(position);
                 }
                 let here = position - node.before;
                 if here < node.items.len() {
-                    return &node.items[here..];
+                    return (&node.items[..], here);
                 }
-                node.right.run_at(here - node.items.len())
+                node.right.chunk_at(here - node.items.len())
             }
         }
+    }
+
+    /// The items that stand together in memory from a position on: some, and not always all.
+    pub(crate) fn run_at(&self, position: usize) -> &[T]
+        requires { position < length self.now.items }
+        ensures run { take (length result.now) (drop position self.now.items) ≡ result.now }
+        ensures some { 0 < length result.now }
+    {
+        let (chunk, here) = self.chunk_at(position);
+        &chunk[here..]
     }
 
     /// The lowest subtree that has the items between two positions, and the position that it begins

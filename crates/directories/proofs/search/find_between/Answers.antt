@@ -1,4 +1,4 @@
-use Rattle.std.proofs.Common.{◌≡◌, sym, ◌∙◌, ◌+◌, ◌-◌, ◌/◌, length, arith}
+use Rattle.std.proofs.Common.{◌≡◌, sym, ◌∙◌, ◌+◌, ◌-◌, ◌/◌, ◌≤◌, length, arith}
 use Rattle.directories.specs.sequences.lemmas.Parts.{has-fewer, read-there}
 use Rattle.directories.proofs.Halved.{digit-less, few-digits, fewer-digits}
 use Rattle.directories.proofs.Middle.{less-middle, greater-middle, equal-middle, one-more}
@@ -11,22 +11,20 @@ use Rattle.directories.proofs.search.find_between.Goals as goal
 
 pub loop-low-init : goal.loop-low-init
 loop-low-init c =
-    let around = c.narrow_by_hash-low.ensures.around in
+    let around = c.narrow_at-around-3.ensures.around in
     let ordered = around.ordered in
     let within = around.within in
+    let low = c.narrow_at-around-3.result.low in
+    let high = c.narrow_at-around-3.result.high in
+    let inside : high - low ≤ c.args.bounds.high - c.args.bounds.low =
+    omega (arith, c.narrow_at-around.ensures.inside, c.narrow_at-around-2.ensures.inside, c.narrow_at-around-3.ensures.inside) in
     record {
       ordered = ordered;
-      part = has-fewer c.args.index.now 0 (length c.args.index.now) _ _ c.narrow_by_hash-low.result.low c.narrow_by_hash-low.result.high c.part-part.ensures
-          (omega arith) within;
+      part = has-fewer c.args.index.now 0 (length c.args.index.now) _ _ low high c.part-part.ensures (omega arith) within;
       within = within;
       before = around.before c.args.entries.now.list c.args.name.now c.requires.index.sorted c.requires.hashed (sym c.requires.hash);
       after = around.after c.args.entries.now.list c.args.name.now c.requires.index.sorted c.requires.hashed (sym c.requires.hash);
-      room = c.narrow_by_hash-low.ensures.room;
-      counted =
-          let fewer =
-          fewer-digits (c.narrow_by_hash-low.result.high - c.narrow_by_hash-low.result.low) (c.args.bounds.high - c.args.bounds.low)
-          c.narrow_by_hash-low.ensures.inside in
-          omega (arith, fewer);
+      counted = let fewer = fewer-digits (high - low) (c.args.bounds.high - c.args.bounds.low) inside in omega (arith, fewer);
     }
 
 pub compare-requires-clause-there : goal.compare-requires-clause-there
@@ -78,7 +76,6 @@ loop-low-preserved-in-Less c =
           less-middle c.args.entries.now.list (cookies c.args.index.now) c.args.name.now middle c.at.result.cookie c.requires.index.sorted there
           (sym c.compare.ensures ∙ c.in-Less.is);
       after = c.loop-low.invariant.after;
-      room = c.loop-low.invariant.room;
       counted =
           one-more c.loop-low.compared (c.loop-low.high - c.loop-low.low) _ _ (omega (arith, c.loop-low-test.true))
           (omega (arith, c.loop-low-test.true)) c.loop-low.invariant.counted;
@@ -98,7 +95,6 @@ loop-low-preserved c =
       before = c.loop-low.invariant.before;
       after = greater-middle c.args.entries.now.list (cookies c.args.index.now) c.args.name.now middle c.at.result.cookie c.requires.index.sorted there
           (sym c.compare.ensures ∙ c.in-Greater.is);
-      room = c.loop-low.invariant.room;
       counted =
           one-more c.loop-low.compared (c.loop-low.high - c.loop-low.low) _ _ (omega (arith, c.loop-low-test.true))
           (omega (arith, c.loop-low-test.true)) c.loop-low.invariant.counted;

@@ -1,4 +1,4 @@
-use Rattle.std.proofs.Common.{◌-◌, ◌<◌, ◌^◌, ◌≤◌, ◌+◌, length, drop, take}
+use Rattle.std.proofs.Common.{◌-◌, ◌≤◌, ◌+◌, length, drop, take}
 use Rattle.std.specs.declared.cmp.Ordering.TheVariants.{Less, Greater}
 use Rattle.directories.specs.Digits.{binary_digits}
 use Rattle.directories.specs.Index.{AllCompare, cookies}
@@ -12,7 +12,6 @@ invariant-loop-low l = record {
   within : l.high ≤ length l.index;
   before : AllCompare l.entries.list l.name Less (take l.low (cookies l.index));
   after : AllCompare l.entries.list l.name Greater (drop l.high (cookies l.index));
-  room : length l.index < 2 ^ 64;
   counted : l.compared + binary_digits (l.high - l.low) ≤ binary_digits (l.fn.bounds.high - l.fn.bounds.low);
 }
 
