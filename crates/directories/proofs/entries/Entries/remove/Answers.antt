@@ -19,7 +19,8 @@ invariant_of-self c =
     let position = rw c.deref.ensures.value at c.position_from_end-position.ensures.position in
     let inside = c.position_from_end-position.ensures.within in
     rw c.remove-slot.ensures.left
-    (ordered-less slots c.vacate.new.slots.items order c.self.inside.next.0 c.args.cookie.0 c.position_from_end-position.result c.remove-slot.result c.self.invariant
+    (ordered-less slots c.vacate.new.slots.items order c.self.inside.next.0 c.args.cookie.0 c.position_from_end-position.result
+    c.remove-slot.result c.self.invariant
     there position inside (read-there order c.position_from_end-position.result c.remove-slot.result c.remove-slot.ensures.item) c.vacate.ensures)
 
 pub returns : goal.returns
@@ -30,5 +31,6 @@ returns c =
     let position = rw c.deref.ensures.value at c.position_from_end-position.ensures.position in
     let inside = c.position_from_end-position.ensures.within in
     rw (c.remove-slot.ensures.left, ← c.self.view_is)
-    (entries-less slots c.vacate.new.slots.items order c.self.inside.next.0 c.args.cookie.0 c.position_from_end-position.result c.remove-slot.result c.self.invariant
+    (entries-less slots c.vacate.new.slots.items order c.self.inside.next.0 c.args.cookie.0 c.position_from_end-position.result
+    c.remove-slot.result c.self.invariant
     there position inside (read-there order c.position_from_end-position.result c.remove-slot.result c.remove-slot.ensures.item) c.vacate.ensures)
