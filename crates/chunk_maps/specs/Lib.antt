@@ -1,3 +1,4 @@
 pub mod Chunks
-pub mod ChunkLaws
+pub mod Maps
+pub mod MapLaws
 pub mod SlotLaws

@@ -30,7 +30,7 @@ pub fn slot(fileid: u64) -> usize
 /// What is kept of 32 fileids that follow one another, each at its fileid modulo 32.
 pub trait Chunk: Drop {
     /// What is kept of a fileid.
-    type Item;
+    type Item: Copy;
 
     // An item's value.
     ghost Kept: { Type 0 };

@@ -2,7 +2,8 @@
 #![tactic(auto)]
 
 mod chunk;
-mod chunks;
+mod chunk_map;
+mod page;
 
-pub use chunk::{CHUNK_SIZE, Chunk, slot};
-pub use chunks::{put, remove_at, value_in};
+pub use chunk::{Chunk, slot};
+pub use chunk_map::ChunkMap;

@@ -1,15 +1,11 @@
 //! Chunks of inodes.
 
 ghost use Rattle.std.specs.Prelude.{◌≡◌, is_some};
-ghost use Rattle.std.specs.Option.{option_map};
-ghost use Rattle.inodes.specs.Inode.{inode_value, stored};
-ghost use Rattle.chunk_maps.specs.Chunks.{slot_of, one_if, ChangesSlot};
-ghost use Rattle.nfs_model.specs.volume.Inodes.{settled_inode};
-ghost use Rattle.nfs_values.specs.Moment.{moment_of};
+ghost use Rattle.inodes.specs.Inode.{stored};
+ghost use Rattle.chunk_maps.specs.Chunks.{one_if};
 
 use crate::inode::Inode;
 use chunk_maps::{Chunk, slot};
-use nfs_values::Moment;
 use std::alloc::{AllocError, Global};
 use std::marker::Model;
 
@@ -89,27 +85,5 @@ impl Chunk for InodeChunk {
         self.inodes[slot] = None;
         self.used -= count(former);
         former
-    }
-}
-
-impl InodeChunk {
-    /// Replaces the inode of a fileid, if it is there, and tells the old one.
-    pub fn replace(&mut self, fileid: u64, inode: Inode) -> Option<Inode>
-        ensures old { option_map inode_value result ≡ slot_of self.old fileid }
-        ensures replaced { ChangesSlot (λ _. inode_value inode) fileid self.old self.new }
-    {
-        let old = self.get(fileid)?;
-        self.put(fileid, inode);
-        Some(old)
-    }
-
-    /// Settles the inode of a fileid, if it is there.
-    pub fn settle(&mut self, fileid: u64, touch: Option<Moment>)
-        ensures { ChangesSlot (settled_inode (option_map moment_of touch)) fileid
-            self.old self.new }
-    {
-        if let Some(inode) = self.get(fileid) {
-            self.put(fileid, inode.settled(touch));
-        }
     }
 }

@@ -2,7 +2,6 @@
 #![tactic(auto)]
 
 mod chunk;
-mod chunks;
 mod created;
 mod inode;
 mod inodes;

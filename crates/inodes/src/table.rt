@@ -9,20 +9,16 @@ ghost use Rattle.nfs_model.specs.volume.Inodes.{settled_inode};
 ghost use Rattle.nfs_model.specs.volume.Maps.{changed_at};
 ghost use Rattle.inodes.specs.Inode.{inode_value};
 
-use crate::chunks::{Chunks, replace_at, settle_at};
+use crate::chunk::InodeChunk;
 use crate::inode::Inode;
-use chunk_maps::{put, remove_at, value_in};
+use chunk_maps::ChunkMap;
 use nfs_values::{Fileid, Moment};
 use std::alloc::{AllocError, Global};
-use std::collections::BTreeMap;
 use std::marker::Model;
 
 /// A map from fileids to inodes, in chunks, so that a search reads few keys.
 pub struct Table {
-    alloc: Global,
-    chunks: Chunks,
-    /// The number of the chunk that is kept though it may be empty.
-    kept: u64,
+    chunks: ChunkMap<InodeChunk>,
     /// How many inodes there are.
     count: usize,
 }
@@ -31,9 +27,7 @@ pub struct Table {
 impl Drop for Table {
     fn drop(self) {
         let Table {
-            alloc: _,
             chunks: _,
-            kept: _,
             count: _,
         } = self;
     }
@@ -47,15 +41,15 @@ impl Model for Table {
     ghost use Rattle.std.specs.Ordering.{nat_cmp};
     ghost use Rattle.nfs_model.specs.volume.Inodes as values;
     ghost use Rattle.nfs_model.specs.volume.Codes.{coded_inode};
-    ghost use Rattle.chunk_maps.specs.Chunks.{values_of};
+    ghost use Rattle.chunk_maps.specs.Maps.{values_of};
 
     ghost Value = { FinMap nat_cmp values.Inode };
 
     ghost coded = { maps.code coded_ℕ coded_inode };
 
-    ghost view = { λ t. values_of t.chunks.entries };
+    ghost view = { λ t. values_of t.chunks };
 
-    ghost invariant = { λ t. t.count ≡ len (values_of t.chunks.entries) };
+    ghost invariant = { λ t. t.count ≡ len (values_of t.chunks) };
 }
 
 impl Table {
@@ -64,9 +58,7 @@ impl Table {
         ensures { result ≡ empty }
     {
         Table {
-            alloc,
-            chunks: BTreeMap::new(alloc),
-            kept: 0,
+            chunks: ChunkMap::new(alloc),
             count: 0,
         }
     }
@@ -75,7 +67,7 @@ impl Table {
     pub fn get(&self, fileid: Fileid) -> Option<Inode>
         ensures { option_map inode_value result ≡ get self.now fileid.0 }
     {
-        value_in(&self.chunks, fileid.0)
+        self.chunks.get(fileid.0)
     }
 
     /// How many inodes there are.
@@ -92,7 +84,7 @@ impl Table {
         ensures ok { OnOk result (self.new ≡ insert self.old fileid.0 (inode_value inode)) }
         ensures err { OnErr result (self.new ≡ self.old) }
     {
-        put(&mut self.chunks, self.alloc, fileid.0, inode)?;
+        self.chunks.put(fileid.0, inode)?;
         self.count += 1;
         Ok(())
     }
@@ -103,7 +95,7 @@ impl Table {
         ensures old { option_map inode_value result ≡ get self.old fileid.0 }
         ensures replaced { self.new ≡ changed_at (λ _. inode_value inode) fileid.0 self.old }
     {
-        replace_at(&mut self.chunks, fileid.0, inode)
+        self.chunks.change(fileid.0, |_| inode)
     }
 
     /// A touch, if there is one, becomes the stored mtime and ctime of the inode of a fileid.
@@ -112,7 +104,7 @@ impl Table {
         ensures { self.new
             ≡ changed_at (settled_inode (option_map moment_of touch)) fileid.0 self.old }
     {
-        settle_at(&mut self.chunks, fileid.0, touch);
+        self.chunks.change(fileid.0, |inode| inode.settled(touch));
     }
 
     /// Removes the inode of a fileid, if there is one, and tells it. It takes no memory.
@@ -120,7 +112,7 @@ impl Table {
         ensures inode { option_map inode_value result ≡ get self.old fileid.0 }
         ensures gone { self.new ≡ remove self.old fileid.0 }
     {
-        let inode = remove_at(&mut self.chunks, &mut self.kept, fileid.0)?;
+        let inode = self.chunks.remove(fileid.0)?;
         self.count -= 1;
         Some(inode)
     }

@@ -1,6 +1,6 @@
 //! One card.
 
-ghost use Rattle.std.specs.Prelude.{◌≡◌, Some, is_some};
+ghost use Rattle.std.specs.Prelude.{◌≡◌, is_some};
 ghost use Rattle.std.specs.Option.{option_map};
 ghost use Rattle.nfs_values.specs.Moment.{moment_of};
 ghost use Rattle.nfs_model.specs.Shown.{touched as later_moment};
@@ -83,13 +83,14 @@ pub(crate) fn is_touched(card: Option<Card>) -> bool
     touch_on(card).is_some()
 }
 
-/// Whether a card is of a file without a touch.
-pub(crate) fn is_untouched(card: Card) -> bool
-    ensures { result ≡ is_untouched (Some (card_of card)) }
+/// Whether a card is there, of a file without a touch.
+pub(crate) fn is_untouched(card: Option<Card>) -> bool
+    ensures { result ≡ is_untouched (option_map card_of card) }
 {
     match card {
-        Card::File { touch, .. } => touch.is_none(),
-        Card::Directory => false,
+        Some(Card::File { touch, .. }) => touch.is_none(),
+        Some(Card::Directory) => false,
+        None => false,
     }
 }
 

@@ -14,21 +14,17 @@ ghost use Rattle.nfs_model.specs.volume.Stripes.{
 };
 ghost use Rattle.stripe_cards.specs.Cards.{card_of};
 
-use crate::card::{Card, is_touched, touch_on};
-use crate::chunks::{Chunks, resize_at, take_touch_at, touch_at};
+use crate::card::{Card, is_touched, is_untouched, resized, settled, touch_on, touched};
+use crate::chunk::CardChunk;
 use crate::counts::{TouchCounts, class_of, count_down, count_up, no_touches};
-use chunk_maps::{put, remove_at, value_in};
+use chunk_maps::ChunkMap;
 use nfs_values::{Fileid, Moment};
 use std::alloc::{AllocError, Global};
-use std::collections::BTreeMap;
 use std::marker::Model;
 
 /// A map from fileids to cards.
 pub struct Cards {
-    alloc: Global,
-    chunks: Chunks,
-    /// The number of the chunk that is kept though it may be empty.
-    kept: u64,
+    chunks: ChunkMap<CardChunk>,
     /// How many cards have a touch, so that where there is none the map isn't asked for it.
     touches: TouchCounts,
 }
@@ -37,9 +33,7 @@ pub struct Cards {
 impl Drop for Cards {
     fn drop(self) {
         let Cards {
-            alloc: _,
             chunks: _,
-            kept: _,
             touches: _,
         } = self;
     }
@@ -52,16 +46,16 @@ impl Model for Cards {
     ghost use Rattle.std.specs.Ordering.{nat_cmp};
     ghost use Rattle.nfs_model.specs.volume.Stripes as values;
     ghost use Rattle.nfs_model.specs.volume.Codes.{coded_card};
-    ghost use Rattle.chunk_maps.specs.Chunks.{values_of};
+    ghost use Rattle.chunk_maps.specs.Maps.{values_of};
     ghost use Rattle.stripe_cards.specs.Counts.{AreCounted};
 
     ghost Value = { FinMap nat_cmp values.Card };
 
     ghost coded = { maps.code coded_ℕ coded_card };
 
-    ghost view = { λ c. values_of c.chunks.entries };
+    ghost view = { λ c. values_of c.chunks };
 
-    ghost invariant = { λ c. AreCounted c.touches (values_of c.chunks.entries) };
+    ghost invariant = { λ c. AreCounted c.touches (values_of c.chunks) };
 }
 
 impl Cards {
@@ -70,9 +64,7 @@ impl Cards {
         ensures { result ≡ empty }
     {
         Cards {
-            alloc,
-            chunks: BTreeMap::new(alloc),
-            kept: 0,
+            chunks: ChunkMap::new(alloc),
             touches: no_touches(),
         }
     }
@@ -81,7 +73,7 @@ impl Cards {
     pub fn get(&self, fileid: Fileid) -> Option<Card>
         ensures { option_map card_of result ≡ get self.now fileid.0 }
     {
-        value_in(&self.chunks, fileid.0)
+        self.chunks.get(fileid.0)
     }
 
     /// The touch of a file.
@@ -103,12 +95,7 @@ impl Cards {
         ensures succeeds { IsSome (get self.old fileid.0) → IsOk result }
     {
         let touch = self.touch_of(fileid);
-        put(
-            &mut self.chunks,
-            self.alloc,
-            fileid.0,
-            Card::File { size, touch },
-        )
+        self.chunks.put(fileid.0, Card::File { size, touch })
     }
 
     /// Sets the card of a directory. Memory is needed only for a card that isn't there, and where
@@ -118,7 +105,7 @@ impl Cards {
         ensures err { OnErr result (self.new ≡ self.old) }
         ensures succeeds { IsSome (get self.old fileid.0) → IsOk result }
     {
-        put(&mut self.chunks, self.alloc, fileid.0, Card::Directory)
+        self.chunks.put(fileid.0, Card::Directory)
     }
 
     /// Sets the size of a file whose card is there; the touch stays. It takes no memory.
@@ -127,14 +114,15 @@ impl Cards {
         ensures { self.new
             ≡ insert self.old fileid.0 (OfFile size (touch_of (get self.old fileid.0))) }
     {
-        resize_at(&mut self.chunks, fileid.0, size);
+        self.chunks.change(fileid.0, |card| resized(card, size));
     }
 
     /// Sets the touch of a file to the later of it and a moment. It takes no memory.
     pub fn touch(&mut self, fileid: Fileid, moment: Moment)
         ensures { self.new ≡ changed_at (card_touched (moment_of moment)) fileid.0 self.old }
     {
-        if touch_at(&mut self.chunks, fileid.0, moment) {
+        let card = self.chunks.change(fileid.0, |card| touched(card, moment));
+        if is_untouched(card) {
             count_up(&mut self.touches, class_of(fileid.0));
         }
     }
@@ -148,7 +136,7 @@ impl Cards {
         if self.touches[class] == 0 {
             return None;
         }
-        let touch = take_touch_at(&mut self.chunks, fileid.0);
+        let touch = touch_on(self.chunks.change(fileid.0, settled));
         if touch.is_some() {
             count_down(&mut self.touches, class);
         }
@@ -159,7 +147,7 @@ impl Cards {
     pub fn remove(&mut self, fileid: Fileid)
         ensures { self.new ≡ remove self.old fileid.0 }
     {
-        let card = remove_at(&mut self.chunks, &mut self.kept, fileid.0);
+        let card = self.chunks.remove(fileid.0);
         if is_touched(card) {
             count_down(&mut self.touches, class_of(fileid.0));
         }

@@ -1,18 +1,12 @@
 //! Chunks of cards.
 
 ghost use Rattle.std.specs.Prelude.{◌≡◌, is_some};
-ghost use Rattle.std.specs.Option.{option_map};
-ghost use Rattle.nfs_values.specs.Moment.{moment_of};
-ghost use Rattle.nfs_model.specs.volume.Stripes.{touch_of, card_touched, card_settled};
-ghost use Rattle.stripe_cards.specs.Cards.{card_of, card_resized, packed_card};
-ghost use Rattle.chunk_maps.specs.Chunks.{slot_of, ChangesSlot};
+ghost use Rattle.stripe_cards.specs.Cards.{packed_card};
 ghost use Rattle.chunk_maps.specs.Chunks.{one_if};
-ghost use Rattle.stripe_cards.specs.Counts.{is_untouched};
 
-use crate::card::{Card, is_untouched, resized, settled, touch_on, touched};
+use crate::card::Card;
 use crate::packed::{Packed, pack, unpack};
 use chunk_maps::{Chunk, slot};
-use nfs_values::Moment;
 use std::alloc::{AllocError, Global};
 use std::marker::Model;
 
@@ -94,40 +88,5 @@ impl Chunk for CardChunk {
         self.cards[slot] = Packed::Absent;
         self.used -= count(former);
         unpack(former)
-    }
-}
-
-impl CardChunk {
-    /// Sets the size on a card, if it is there.
-    pub fn resize(&mut self, fileid: u64, size: u64)
-        ensures { ChangesSlot (card_resized size) fileid self.old self.new }
-    {
-        if let Some(card) = self.get(fileid) {
-            self.put(fileid, resized(card, size));
-        }
-    }
-
-    /// Touches a card, if it is there, and tells whether it is the first touch of a file.
-    pub fn touch(&mut self, fileid: u64, moment: Moment) -> bool
-        ensures touched { ChangesSlot (card_touched (moment_of moment)) fileid self.old self.new }
-        ensures first { result ≡ is_untouched (slot_of self.old fileid) }
-    {
-        match self.get(fileid) {
-            Some(card) => {
-                self.put(fileid, touched(card, moment));
-                is_untouched(card)
-            }
-            None => false,
-        }
-    }
-
-    /// Takes the touch of a card, if it is there.
-    pub fn take_touch(&mut self, fileid: u64) -> Option<Moment>
-        ensures touch { option_map moment_of result ≡ touch_of (slot_of self.old fileid) }
-        ensures taken { ChangesSlot card_settled fileid self.old self.new }
-    {
-        let card = self.get(fileid)?;
-        self.put(fileid, settled(card));
-        touch_on(Some(card))
     }
 }

@@ -4,7 +4,6 @@
 mod card;
 mod cards;
 mod chunk;
-mod chunks;
 mod counts;
 mod packed;
 
