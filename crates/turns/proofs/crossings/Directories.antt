@@ -24,7 +24,7 @@ pub entries-send : IsSend Entries.the_row
 entries-send = view_send EntriesInside.the_row _ _ _ _ entries-inside-send
 
 directory-inside-send : IsSend DirectoryInside.the_row
-directory-inside-send = struct-send DirectoryInside.the_type (entries-send, (sequence-send _ spot.the_send, (guesses.the_send, tt)))
+directory-inside-send = struct-send DirectoryInside.the_type (entries-send, (sequence-send _ spot.the_send, (guesses.the_field_send, tt)))
 
 pub directory-send : IsSend Directory.the_row
 directory-send = view_send DirectoryInside.the_row _ _ _ _ directory-inside-send
