@@ -11,11 +11,11 @@ handle_with_zeros bytes h =
     let zeros = replicate (64 - length bytes) 0 in
     (omega (arith, length-append bytes zeros, length-replicate {A = ℕ} (64 - length bytes) 0), take_at bytes zeros (length bytes) refl)
 
-pub drop_short_zeros : (n : ℕ) → n ≤ 23 → drop {A = ℕ} n (replicate 24 0) ≡ replicate (24 - n) 0
-drop_short_zeros n h = drop-replicate n 24 0
+pub drop_short_zeros : (n : ℕ) → n ≤ 32 → drop {A = ℕ} n (replicate 32 0) ≡ replicate (32 - n) 0
+drop_short_zeros n h = drop-replicate n 32 0
 
-pub short_with_zeros : (bytes : List ℕ) → length bytes ≤ 23
-    → (length (bytes ++ replicate (24 - length bytes) 0) ≡ 24) × (take (length bytes) (bytes ++ replicate (24 - length bytes) 0) ≡ bytes)
+pub short_with_zeros : (bytes : List ℕ) → length bytes ≤ 32
+    → (length (bytes ++ replicate (32 - length bytes) 0) ≡ 32) × (take (length bytes) (bytes ++ replicate (32 - length bytes) 0) ≡ bytes)
 short_with_zeros bytes h =
-    let zeros = replicate (24 - length bytes) 0 in
-    (omega (arith, length-append bytes zeros, length-replicate {A = ℕ} (24 - length bytes) 0), take_at bytes zeros (length bytes) refl)
+    let zeros = replicate (32 - length bytes) 0 in
+    (omega (arith, length-append bytes zeros, length-replicate {A = ℕ} (32 - length bytes) 0), take_at bytes zeros (length bytes) refl)

@@ -1,4 +1,4 @@
--- The bytes of a short name, in 24 with zeros behind them.
+-- The bytes of a short name, in 32 with zeros behind them.
 use Rattle.std.specs.Prelude.{◌≡◌, ℕ, ◌-◌, ◌≤◌, List, ◌++◌, length, take, replicate}
 use Rattle.nfs_values.specs.declared.short_name.ShortName.TheInside.{Inside}
 
@@ -6,4 +6,4 @@ abbrev pub short_bytes : Inside → List ℕ
 short_bytes s = take s.size s.bytes
 
 abbrev pub IsShort : Inside → Type 0
-IsShort s = (s.size ≤ 23) × (length s.bytes ≡ 24) × (s.bytes ≡ take s.size s.bytes ++ replicate (24 - s.size) 0)
+IsShort s = (s.size ≤ 32) × (length s.bytes ≡ 32) × (s.bytes ≡ take s.size s.bytes ++ replicate (32 - s.size) 0)

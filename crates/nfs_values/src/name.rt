@@ -13,7 +13,7 @@ enum NameBytes {
     Long(Vec<u8>),
 }
 
-/// A name in a directory, of any bytes (filename3, RFC 1813 section 2.5). One of at most 23 bytes
+/// A name in a directory, of any bytes (filename3, RFC 1813 section 2.5). One of at most 32 bytes
 /// is kept in place.
 pub struct Name {
     bytes: NameBytes,
@@ -51,10 +51,10 @@ impl Name {
         }
     }
 
-    /// The name of these bytes, copied. One of at most 23 bytes takes no memory.
+    /// The name of these bytes, copied. One of at most 32 bytes takes no memory.
     pub fn copied(alloc: Global, bytes: &[u8]) -> Result<Name, AllocError>
         ensures name { IfOk result (λ name. name ≡ bytes.now) }
-        ensures short { length bytes.now ≤ 23 → IsOk result }
+        ensures short { length bytes.now ≤ 32 → IsOk result }
     {
         if bytes.len() > MOST_SHORT {
             let bytes = NameBytes::Long(Vec::from_slice(alloc, bytes)?);
@@ -64,10 +64,10 @@ impl Name {
         Ok(Name { bytes })
     }
 
-    /// A copy. One of at most 23 bytes takes no memory.
+    /// A copy. One of at most 32 bytes takes no memory.
     pub fn try_clone(&self, alloc: Global) -> Result<Name, AllocError>
         ensures name { IfOk result (λ name. name ≡ self.now) }
-        ensures short { length self.now ≤ 23 → IsOk result }
+        ensures short { length self.now ≤ 32 → IsOk result }
     {
         match &self.bytes {
             NameBytes::Short(short) => {

@@ -5,10 +5,10 @@ ghost use Rattle.std.specs.Prelude.{◌≡◌, ◌-◌, ◌≤◌, ◌++◌, len
 use std::marker::Model;
 
 /// The most bytes of a name that is kept in place.
-pub(crate) const MOST_SHORT: usize = 23;
+pub(crate) const MOST_SHORT: usize = 32;
 
 /// The bytes of its place.
-const PLACE_SIZE: usize = 24;
+const PLACE_SIZE: usize = 32;
 
 /// The bytes of a short name, kept in place. Its parts are whole words, since others are moved by
 /// stores that overlap.
@@ -32,8 +32,8 @@ impl Model for ShortName {
 /// These bytes, and zeros behind them.
 #[tactic(auto, using(crate::proofs::Zeros::drop_short_zeros))]
 fn with_zeros(bytes: &[u8]) -> [u8; PLACE_SIZE]
-    requires { length bytes.now ≤ 23 }
-    ensures { result ≡ bytes.now ++ replicate (24 - length bytes.now) 0 }
+    requires { length bytes.now ≤ 32 }
+    ensures { result ≡ bytes.now ++ replicate (32 - length bytes.now) 0 }
 {
     let mut all = [0; PLACE_SIZE];
     all[..bytes.len()].copy_from_slice(bytes);
@@ -44,7 +44,7 @@ impl ShortName {
     /// These bytes.
     #[tactic(auto, using(crate::proofs::Zeros::short_with_zeros))]
     pub(crate) fn new(bytes: &[u8]) -> ShortName
-        requires { length bytes.now ≤ 23 }
+        requires { length bytes.now ≤ 32 }
         ensures { result ≡ bytes.now }
     {
         ShortName {

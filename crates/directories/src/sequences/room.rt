@@ -32,12 +32,20 @@ impl<T> Model for Room<T> {
 }
 
 impl<T: Copy> Room<T> {
-    /// Memory for so many items.
-    pub(crate) fn new(alloc: Global, size: usize) -> Result<Room<T>, AllocError>
+    /// Memory for so many items, in a node that is there or a new one.
+    pub(crate) fn new(
+        alloc: Global,
+        size: usize,
+        node: Option<Box<Node<T>>>,
+    ) -> Result<Room<T>, AllocError>
         requires { 0 < size }
     {
         let items = Vec::with_capacity(alloc, size)?;
-        let chunk = Box::new(alloc, Node::new(items))?;
+        let Some(mut chunk) = node else {
+            let chunk = Box::new(alloc, Node::new(items))?;
+            return Ok(Room { chunk });
+        };
+        chunk.items = items;
         Ok(Room { chunk })
     }
 

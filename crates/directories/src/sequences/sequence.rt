@@ -22,7 +22,7 @@ ghost use Rattle.directories.specs.sequences.Values.{HasPositions};
 use crate::sequences::change::{inserted, removed};
 use crate::sequences::part::Part;
 use crate::sequences::room::Room;
-use crate::sequences::tree::Tree;
+use crate::sequences::tree::{Node, Tree};
 use std::alloc::{AllocError, Global};
 use std::marker::Model;
 use std::mem;
@@ -33,12 +33,20 @@ const LEAST: usize = 4;
 /// How many items a chunk has room for at most.
 const MOST: usize = 256;
 
+/// From how many items on nodes are taken together.
+const MANY: usize = 4096;
+
+/// How many nodes are taken together, so that few pages have those of a large tree.
+const NODES: usize = 50;
+
 /// Items by position. An item is found, comes in or goes in time logarithmic in their number.
 pub struct Sequence<T> {
     alloc: Global,
     tree: Tree<T>,
     /// Memory for the next chunk, if it is taken.
     spare: Option<Room<T>>,
+    /// Nodes for the chunks after it.
+    nodes: Vec<Box<Node<T>>>,
 }
 
 // By hand, so that crates above have no proof of the drop of each of its parts.
@@ -48,6 +56,7 @@ impl<T: Drop> Drop for Sequence<T> {
             alloc: _,
             tree: _,
             spare: _,
+            nodes: _,
         } = self;
     }
 }
@@ -69,6 +78,7 @@ impl<T: Copy> Sequence<T> {
             alloc,
             tree: Tree::new(),
             spare: None,
+            nodes: Vec::new(alloc),
         }
     }
 
@@ -126,7 +136,13 @@ impl<T: Copy> Sequence<T> {
         }
         match self.spare.take() {
             Some(room) => Ok(room),
-            None => Room::new(self.alloc, size.clamp(LEAST, MOST)),
+            None => {
+                if self.nodes.is_empty() && size >= MANY {
+                    take_nodes(self.alloc, &mut self.nodes);
+                }
+                let node = self.nodes.pop();
+                Room::new(self.alloc, size.clamp(LEAST, MOST), node)
+            }
         }
     }
 
@@ -137,6 +153,9 @@ impl<T: Copy> Sequence<T> {
         ensures { self.new ≡ insert self.old position item }
     {
         self.spare = Some(room);
+        if self.tree.put(position, item) {
+            return;
+        }
         let tree = mem::replace(&mut self.tree, Tree::new());
         self.tree = inserted(tree, &mut self.spare, position, item);
     }
@@ -164,9 +183,25 @@ impl<T: Copy> Sequence<T> {
         ensures item { slice_get self.old position ≡ Some result }
         ensures left { self.new ≡ remove self.old position }
     {
+        match self.tree.take(position) {
+            None => {}
+            Some(item) => return item,
+        }
         let tree = mem::replace(&mut self.tree, Tree::new());
         let (tree, item) = removed(tree, position);
         self.tree = tree;
         item
+    }
+}
+
+/// Takes some nodes without items, as far as there is memory.
+fn take_nodes<T: Copy>(alloc: Global, nodes: &mut Vec<Box<Node<T>>>) {
+    for _ in 0..NODES {
+        let Ok(node) = Box::new(alloc, Node::new(Vec::new(alloc))) else {
+            return;
+        };
+        if nodes.push(node).is_err() {
+            return;
+        }
     }
 }

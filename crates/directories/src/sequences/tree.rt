@@ -13,9 +13,17 @@ ghost use Rattle.std.specs.Prelude.{
   take,
   drop,
   slice_set,
+  true,
+  false,
+  Some,
+  IfSome,
+  OnSome,
+  IfNone,
 };
+ghost use Rattle.std.specs.List.{slice_get, insert, remove};
 ghost use Rattle.directories.specs.sequences.Values.{no_items, DifferByAtMost, HasPositions};
 
+use crate::sequences::chunk;
 use std::marker::Model;
 use std::mem;
 
@@ -208,6 +216,87 @@ impl<T: Copy> Tree<T> {
                     return;
                 }
                 node.right.set(here - size, item);
+            }
+        }
+    }
+
+    /// Puts an item in at a position whose chunk has room, and tells whether it did. Where it
+    /// didn't nothing changes.
+    pub(crate) fn put(&mut self, position: usize, item: T) -> bool
+        requires within { position ≤ length self.old.items }
+        requires fits { length self.old.items + 1 < 2 ^ 64 }
+        ensures items { result ≡ true → self.new.items ≡ insert self.old.items position item }
+        ensures same { result ≡ false → self.new.items ≡ self.old.items }
+        ensures height { self.new.height ≡ self.old.height }
+    {
+        match &mut self.root {
+            Root::Empty => return false,
+            Root::Fork(node) => {
+                let node: &mut Node<T> = node;
+                if position < node.before {
+                    if node.left.put(position, item) {
+                        node.before += 1;
+                        node.count += 1;
+                        return true;
+                    }
+                    return false;
+                }
+                let here = position - node.before;
+                let size = node.items.len();
+                if here <= size && size < node.items.capacity() {
+                    chunk::put(&mut node.items, here, item);
+                    node.count += 1;
+                    return true;
+                }
+                if here < size {
+                    return false;
+                }
+                if node.right.put(here - size, item) {
+                    node.count += 1;
+                    return true;
+                }
+                false
+            }
+        }
+    }
+
+    /// Takes out the item at a position whose chunk has others. Where it has none nothing changes.
+    pub(crate) fn take(&mut self, position: usize) -> Option<T>
+        requires { position < length self.old.items }
+        ensures item { IfSome result (λ item. slice_get self.old.items position ≡ Some item) }
+        ensures left { OnSome result (self.new.items ≡ remove self.old.items position) }
+        ensures same { IfNone result (self.new.items ≡ self.old.items) }
+        ensures height { self.new.height ≡ self.old.height }
+        ensures low { self.new.height ≤ length self.new.items }
+    {
+        match &mut self.root {
+            Root::Empty => unreachable!(),
+            Root::Fork(node) => {
+                let node: &mut Node<T> = node;
+                if position < node.before {
+                    let item = match node.left.take(position) {
+                        Some(item) => item,
+                        None => return None,
+                    };
+                    node.before -= 1;
+                    node.count -= 1;
+                    return Some(item);
+                }
+                let here = position - node.before;
+                let size = node.items.len();
+                if here < size {
+                    if size == 1 {
+                        return None;
+                    }
+                    node.count -= 1;
+                    return Some(node.items.remove(here));
+                }
+                let item = match node.right.take(here - size) {
+                    Some(item) => item,
+                    None => return None,
+                };
+                node.count -= 1;
+                Some(item)
             }
         }
     }

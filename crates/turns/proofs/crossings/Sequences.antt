@@ -33,7 +33,10 @@ module _ (T : RattleType) (s : IsSend T) where
   room-send = view_send (RoomInside.the_row T) _ _ _ _ room-inside-send
 
   sequence-inside-send : IsSend (SequenceInside.the_row T)
-  sequence-inside-send = struct-send (SequenceInside.the_type T) (search (crosses, sendable), (tree-send, (search (room-send, crosses, sendable) depth 20, tt)))
+  sequence-inside-send = struct-send (SequenceInside.the_type T) (
+    search (crosses, sendable),
+    (tree-send, (search (room-send, crosses, sendable) depth 20, (search (Box-send (Node.the_row T) node-send, crosses, sendable) depth 20, tt))),
+  )
 
   pub sequence-send : IsSend (Sequence.the_row T)
   sequence-send = view_send (SequenceInside.the_row T) _ _ _ _ sequence-inside-send
