@@ -9,6 +9,7 @@ import os
 import random
 import time
 from collections import namedtuple
+from statistics import median
 
 import wire
 from peers import Differs, Server, connect, hold, write_arguments
@@ -38,11 +39,11 @@ FEW = 1_000
 # lanes may fetch before they rest, and what part of a processor they take then.
 MOST_AT_REST, REST_SECONDS, MOST_BUSY = 256, 20, 0.1
 
-# How large: names in one directory, calls by which a call's cost is found, bytes of a volume that
-# is filled by one file, and whether speeds are judged and not only told.
-Scale = namedtuple("Scale", "names calls bytes judged")
-LARGE = Scale(1_000_000, 200_000, 4 << 30, True)
-SMALL = Scale(50_000, 20_000, 256 << 20, False)
+# How large: names in one directory, the rounds by which a call's cost is found, the calls of each,
+# bytes of a volume that is filled by one file, and whether speeds are judged and not only told.
+Scale = namedtuple("Scale", "names rounds calls bytes judged")
+LARGE = Scale(1_000_000, 5, 100_000, 4 << 30, True)
+SMALL = Scale(50_000, 1, 20_000, 256 << 20, False)
 
 
 class Peer:
@@ -275,13 +276,14 @@ def many_names(filer, scale, tell):
     inodes = max(2 * scale.names, 65_536)
     with Client(filer, "--size", "64M", "--inodes", str(inodes)) as client:
         few = Names(client, "few", FEW)
-        costs = few.costs(scale.calls)
         before, begun = client.memory(), time.monotonic()
         many = Names(client, "many", scale.names)
         took, for_each = time.monotonic() - begun, (client.memory() - before) / scale.names
         tell(f"{scale.names} files made in {took:.1f} s, {for_each:.0f} bytes each")
         hold(for_each <= MOST_FOR_A_FILE, f"an empty file takes {for_each:.0f} bytes")
-        for what, one, other in zip(("LOOKUP", "CREATE or REMOVE"), costs, many.costs(scale.calls)):
+        rounds = [(few.costs(scale.calls), many.costs(scale.calls)) for _ in range(scale.rounds)]
+        for place, what in enumerate(("LOOKUP", "CREATE or REMOVE")):
+            one, other = (median(costs[place] for costs in by) for by in zip(*rounds))
             tell(f"{what}: {one:.2f} us among {FEW} names, {other:.2f} among {scale.names}")
             hold(
                 not scale.judged or other <= MOST_COST * one,
