@@ -114,8 +114,8 @@ fn narrow_at(index: &Sequence<Spot>, hash: u32, bounds: Around, position: usize)
     bounds
 }
 
-/// Where in an index the names of a hash are guessed to begin. Hashes are spread evenly and chunks are
-/// in their order, so few chunks are looked at. Nothing rests on that but the time.
+/// Where in an index the names of a hash are guessed to begin. Hashes are spread evenly and chunks
+/// are in their order, so few chunks are looked at. Nothing rests on that but the time.
 pub fn guess_place(index: &Sequence<Spot>, hash: u32) -> usize {
     let size = index.len();
     let mut low = 0;
@@ -144,8 +144,8 @@ pub fn guess_place(index: &Sequence<Spot>, hash: u32) -> usize {
     low
 }
 
-/// How many of some spots have lower hashes than one, if they are in the order of these: at first so
-/// many are guessed.
+/// How many of some spots have lower hashes than one, if they are in the order of these: at first
+/// so many are guessed.
 fn lower_in(spots: &[Spot], hash: u32, guess: usize) -> usize {
     let guess = guess.min(spots.len());
     match spots[guess..].iter().position(|spot| spot.hash >= hash) {

@@ -104,7 +104,8 @@ impl<T: Copy> Sequence<T> {
         Part::whole(&self.tree)
     }
 
-    /// The items that stand together in memory with the one at a position, and which of them that is.
+    /// The items that stand together in memory with the one at a position, and which of them that
+    /// is.
     pub fn chunk_at(&self, position: usize) -> (&[T], usize)
         requires { position < length self.now }
         ensures chunk { take (length result.0.now) (drop (position - result.1) self.now)

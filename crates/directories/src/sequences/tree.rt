@@ -135,7 +135,8 @@ impl<T: Copy> Tree<T> {
         }
     }
 
-    /// The items that stand together in memory with the one at a position, and which of them that is.
+    /// The items that stand together in memory with the one at a position, and which of them that
+    /// is.
     pub(crate) fn chunk_at(&self, position: usize) -> (&[T], usize)
         requires { position < length self.now.items }
         ensures chunk { take (length result.0.now) (drop (position - result.1) self.now.items)
