@@ -4,6 +4,8 @@ use Rattle.std.specs.Fmt.{decimal}
 use Rattle.nfs_model.specs.Tree as trees
 use Rattle.affinity.specs.declared.affinity.Affinity.{Affinity}
 use Rattle.affinity.specs.declared.affinity.Affinity.TheVariants.{Serial, Aggregate, Volume, VolumeLogical, Stripe, VolumeVbn, Range}
+use Rattle.affinity.specs.declared.affinity.Home.{Home}
+use Rattle.affinity.specs.declared.affinity.Home.TheVariants as homes
 use Rattle.affinity.specs.declared.affinity.Kind.{Kind}
 use Rattle.affinity.specs.declared.affinity.Kind.TheVariants as kinds
 
@@ -16,6 +18,18 @@ affinity_of (VolumeLogical volume) = trees.Logical volume
 affinity_of (Stripe volume stripe) = trees.Stripe volume stripe
 affinity_of (VolumeVbn volume) = trees.Vbn volume
 affinity_of (Range volume range) = trees.Range volume range
+
+-- a node at which calls run, among all nodes
+abbrev pub home_affinity : Home → Affinity
+home_affinity (homes.Stripe volume stripe) = Stripe volume stripe
+home_affinity (homes.Logical volume) = VolumeLogical volume
+home_affinity (homes.Volume volume) = Volume volume
+home_affinity (homes.Aggregate aggregate) = Aggregate aggregate
+home_affinity homes.Serial = Serial
+
+-- the same, as the model has it
+abbrev pub home_node : Home → trees.Affinity
+home_node home = affinity_of (home_affinity home)
 
 -- the kind of an affinity
 abbrev pub kind_of : trees.Affinity → Kind

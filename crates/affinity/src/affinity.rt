@@ -21,6 +21,19 @@ pub enum Affinity {
     Range { volume: u32, range: u32 },
 }
 
+/// A node at which calls run: all but block numbers of a volume, on which only inner calls run.
+#[derive(Clone, Copy, Debug, PartialEq, Eq)]
+pub enum Home {
+    /// A part of the files' bytes.
+    Stripe { volume: u32, stripe: u32 },
+    /// The names and attributes of a volume.
+    Logical(u32),
+    Volume(u32),
+    Aggregate(u32),
+    /// The root of the tree.
+    Serial,
+}
+
 /// What an affinity is one of.
 #[derive(Clone, Copy, PartialEq, Eq)]
 pub enum Kind {

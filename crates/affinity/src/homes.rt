@@ -1,4 +1,4 @@
-//! The home of a call: the affinity that it tries first, by what its handle names.
+//! The home of a call: the node that it tries first, by what its handle names.
 
 mod home;
 

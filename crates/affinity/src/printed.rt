@@ -1,9 +1,9 @@
 //! Names of affinities.
 
 ghost use Rattle.std.specs.Prelude.{Some};
-ghost use Rattle.affinity.specs.Affinity.{affinity_text};
+ghost use Rattle.affinity.specs.Affinity.{affinity_text, home_affinity};
 
-use crate::affinity::Affinity;
+use crate::affinity::{Affinity, Home};
 use std::fmt;
 
 impl fmt::Display for Affinity {
@@ -18,6 +18,20 @@ impl fmt::Display for Affinity {
             Affinity::Stripe { volume, stripe } => write!(f, "stripe {volume} {stripe}"),
             Affinity::VolumeVbn(volume) => write!(f, "vbn {volume}"),
             Affinity::Range { volume, range } => write!(f, "range {volume} {range}"),
+        }
+    }
+}
+
+impl fmt::Display for Home {
+    ghost output = { λ h. Some (affinity_text (home_affinity h)) };
+
+    fn fmt<W: fmt::Write>(&self, f: &mut fmt::Formatter<W>) -> fmt::Result {
+        match *self {
+            Home::Stripe { volume, stripe } => write!(f, "stripe {volume} {stripe}"),
+            Home::Logical(volume) => write!(f, "logical {volume}"),
+            Home::Volume(volume) => write!(f, "volume {volume}"),
+            Home::Aggregate(aggregate) => write!(f, "aggregate {aggregate}"),
+            Home::Serial => write!(f, "serial"),
         }
     }
 }

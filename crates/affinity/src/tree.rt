@@ -3,14 +3,29 @@
 ghost use Rattle.std.specs.Prelude.{◌≡◌, ◌↔◌, option_map, IsTrue, IsNone, IfSome};
 ghost use Rattle.nfs_model.specs.Tree as trees;
 ghost use Rattle.nfs_model.specs.Tree.{excludes};
-ghost use Rattle.affinity.specs.Affinity.{affinity_of, kind_of};
+ghost use Rattle.affinity.specs.Affinity.{affinity_of, home_affinity, kind_of};
 ghost use Rattle.affinity.specs.Layout.{layout_of};
 ghost use Rattle.affinity.specs.Tree.{IsNode, IsParent};
 ghost use Rattle.affinity.specs.Tree.{covers, is_above, parent_of, volume_in};
 ghost use Rattle.affinity.specs.Under.{ShareParcel};
 
-use crate::affinity::{Affinity, Kind};
+use crate::affinity::{Affinity, Home, Kind};
 use crate::layout::Layout;
+
+impl Home {
+    /// The node, among all nodes.
+    pub fn node(self) -> Affinity
+        ensures { result ≡ home_affinity self }
+    {
+        match self {
+            Home::Stripe { volume, stripe } => Affinity::Stripe { volume, stripe },
+            Home::Logical(volume) => Affinity::VolumeLogical(volume),
+            Home::Volume(volume) => Affinity::Volume(volume),
+            Home::Aggregate(aggregate) => Affinity::Aggregate(aggregate),
+            Home::Serial => Affinity::Serial,
+        }
+    }
+}
 
 impl Affinity {
     /// What it is one of.

@@ -104,32 +104,33 @@ impl<M: Machine> Depot<M> {
 
     /// Ends a call: it takes effect by one step, with its parcels as they are then, and after that
     /// its parcels are given home.
-    pub fn finish<N: Node<M::Parcel>, C: Entered<M::Call>>(
+    pub fn finish<N: Node<M::Parcel>, C: Entered<M::Call>, A: Entered<M::Reply>>(
         &self,
         seat: &mut Seat<M>,
         grant: Grant<M::Parcel, N>,
         call: &C,
-        reply: &M::Reply,
+        reply: &A,
     )
         requires seat { IsSeatHere self.now seat.old }
         requires node { IsNode (layout_in self.now) (affinity_of (node_of grant)) }
         requires step { let L = layout_in self.now in
             IsStep (machine_of seat.old)
-            (view seat.old) (number_in L grant) (C.entered call.now) reply.now
+            (view seat.old) (number_in L grant) (C.entered call.now) (A.entered reply.now)
             (parcels_in N.parcels L grant) }
         requires hand { HasInHand (machine_of seat.old) (view seat.old)
-            (C.entered call.now) reply.now }
+            (C.entered call.now) (A.entered reply.now) }
         requires exact { IsWhole M.Parcel.kind N.parcels (layout_in self.now) grant }
         ensures seat { IsSeatHere self.now seat.new }
         ensures splits { splits_left seat.new ≡ splits_left seat.old }
         ensures finished { let L = layout_in self.now in
             IsFinished (machine_of seat.old)
             (view seat.old) (number_in L grant)
-            (entry_with N.parcels L grant (C.entered call.now) reply.now) (view seat.new) }
+            (entry_with N.parcels L grant (C.entered call.now) (A.entered reply.now))
+            (view seat.new) }
     {
         let board = &self.table.shared;
         let mut place: Place<M> = mem::replace(&mut seat.badge, Badge::blank()).into_seat();
-        stamp_call::<M, N, C, Brand>(board, &mut place, &self.layout, &grant, call, reply);
+        stamp_call::<M, N, C, A, Brand>(board, &mut place, &self.layout, &grant, call, reply);
         let place = give_home(board, place, &self.layout, &self.parents, grant);
         seat.badge = place.into_badge();
     }
@@ -138,27 +139,28 @@ impl<M: Machine> Depot<M> {
     /// which has them: the grant stays. It takes no memory, waits for nobody, and moves no parcel.
     /// Where the ticket is worn, or this entry would wear it, the call is as it was, to be
     /// finished.
-    pub fn go_on<N: Node<M::Parcel>, C: Entered<M::Call>>(
+    pub fn go_on<N: Node<M::Parcel>, C: Entered<M::Call>, A: Entered<M::Reply>>(
         &self,
         seat: &mut Seat<M>,
         grant: &Grant<M::Parcel, N>,
         call: &C,
-        reply: &M::Reply,
+        reply: &A,
     ) -> Result<(), Refusal>
         requires seat { IsSeatHere self.now seat.old }
         requires node { IsNode (layout_in self.now) (affinity_of (node_of grant.now)) }
         requires step { let L = layout_in self.now in
             IsStep (machine_of seat.old) (view seat.old) (number_in L grant.now)
-            (C.entered call.now) reply.now (parcels_in N.parcels L grant.now) }
+            (C.entered call.now) (A.entered reply.now) (parcels_in N.parcels L grant.now) }
         requires hand { HasInHand (machine_of seat.old) (view seat.old)
-            (C.entered call.now) reply.now }
+            (C.entered call.now) (A.entered reply.now) }
         requires exact { IsWhole M.Parcel.kind N.parcels (layout_in self.now) grant.now }
         ensures seat { IsSeatHere self.now seat.new }
         ensures splits { splits_left seat.new ≡ splits_left seat.old }
         ensures gone_on { let L = layout_in self.now in OnOk result
             (HasGoneOn (machine_of seat.old)
             (view seat.old) (number_in L grant.now) (parcels_in N.parcels L grant.now)
-            (entry_with N.parcels L grant.now (C.entered call.now) reply.now) (view seat.new)) }
+            (entry_with N.parcels L grant.now (C.entered call.now) (A.entered reply.now))
+            (view seat.new)) }
         ensures refused { IfErr result (λ refusal.
             (refusal ≡ Worn) × IsLast (view seat.old) (view seat.new)) }
     {
@@ -169,7 +171,7 @@ impl<M: Machine> Depot<M> {
             seat.badge = place.into_badge();
             return Err(Refusal::Worn);
         }
-        stamp_call::<M, N, C, Brand>(board, &mut place, &self.layout, grant, call, reply);
+        stamp_call::<M, N, C, A, Brand>(board, &mut place, &self.layout, grant, call, reply);
         renew(board, &mut place);
         seat.badge = place.into_badge();
         Ok(())

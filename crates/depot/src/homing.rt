@@ -23,35 +23,42 @@ use parcels::Node;
 
 /// Stamps the entry of a call, with the parcels of its grant as they are. What the entry says is
 /// told to the proof alone.
-pub fn stamp_call<M: Machine, N: Node<M::Parcel>, C: Entered<M::Call>, J: Said<EntryOf<M>>>(
+pub fn stamp_call<
+    M: Machine,
+    N: Node<M::Parcel>,
+    C: Entered<M::Call>,
+    A: Entered<M::Reply>,
+    J: Said<EntryOf<M>>,
+>(
     board: &Board<M>,
     place: &mut Place<M>,
     layout: &Layout,
     grant: &Grant<M::Parcel, N>,
     call: &C,
-    reply: &M::Reply,
+    reply: &A,
 )
     requires table { (place.old.table_id ≡ board.now.table_id) × (0 < board.now.table_id.words) }
     requires one { (length place.old.me.0 ≡ 1) × ((view_of place.old.me.0).stamped ≡ 0) }
     requires said { let L = layout_of layout.now in
-        J.item ≡ Some (entry_with N.parcels L grant.now (C.entered call.now) reply.now) }
+        J.item
+        ≡ Some (entry_with N.parcels L grant.now (C.entered call.now) (A.entered reply.now)) }
     requires tree { (view_of place.old.me.0).tree ≡ numbers.parents (layout_of layout.now) }
     requires step { let L = layout_of layout.now in
         IsStep (behaviour M.steps M.takes M.gives M.invariant) (view_of place.old.me.0)
-        (number_in L grant.now) (C.entered call.now) reply.now
+        (number_in L grant.now) (C.entered call.now) (A.entered reply.now)
         (parcels_in N.parcels L grant.now) }
     requires hand { HasInHand (behaviour M.steps M.takes M.gives M.invariant)
-        (view_of place.old.me.0) (C.entered call.now) reply.now }
+        (view_of place.old.me.0) (C.entered call.now) (A.entered reply.now) }
     requires taken { AreOut (tree_of board.now.key)
         (number_in (layout_of layout.now) grant.now) (view_of place.old.me.0) }
     requires fits { let L = layout_of layout.now in
         Fits M.Parcel.kind (tree_of board.now.key) (number_in L grant.now)
-        (entry_with N.parcels L grant.now (C.entered call.now) reply.now).left
+        (entry_with N.parcels L grant.now (C.entered call.now) (A.entered reply.now)).left
         (view_of place.old.me.0) }
     ensures seat { IsStill place.old place.new }
     ensures stamped { let L = layout_of layout.now in (ticket : ℕ)
         × IsStamped (behaviour M.steps M.takes M.gives M.invariant) (view_of place.old.me.0)
-        (entry_with N.parcels L grant.now (C.entered call.now) reply.now)
+        (entry_with N.parcels L grant.now (C.entered call.now) (A.entered reply.now))
         ticket place.new.me.0 }
 {
     stamp_as::<M, J>(board, place);

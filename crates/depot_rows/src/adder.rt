@@ -4,9 +4,7 @@ ghost use Rattle.depot_rows.specs.Adder.{Adds};
 
 use affinity::{Affinity, Layout};
 use desk::{ParcelKinds, Task};
-use parcels::{
-    AggrHeld, LogicalHeld, Numbers, Parcel, RangeHeld, SerialHeld, StripeHeld, VbnHeld, VolumeHeld,
-};
+use parcels::{AggrHeld, LogicalHeld, Numbers, Parcel, SerialHeld, StripeHeld, VolumeHeld};
 
 /// Adds to the number of a stripe, and gives the sum. Of other nodes it changes nothing.
 #[derive(Clone, Copy)]
@@ -20,14 +18,6 @@ impl Task<Parcel<Numbers>, ParcelKinds> for Adder {
     ghost asks = { λ adder layout affinity f. Unit {0} };
 
     ghost does = { λ adder. Adds adder.number };
-
-    fn on_range(self, _: &Layout, _: Affinity, _: &mut RangeHeld<Numbers>) -> Option<u64> {
-        None
-    }
-
-    fn on_vbn(self, _: &Layout, _: Affinity, _: &mut VbnHeld<Numbers>) -> Option<u64> {
-        None
-    }
 
     fn on_stripe(
         self,

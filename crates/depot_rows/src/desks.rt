@@ -1,41 +1,29 @@
 //! Calls on nodes of each kind, and what other calls find in their midst.
 
 use crate::turns::{Turn, close, open, take_turn};
-use affinity::Affinity;
+use affinity::{Affinity, Home};
 use parcels::{Numbers, SerialHeld};
 use std::mem;
 
-const STRIPE: Affinity = Affinity::Stripe {
+const STRIPE: Home = Home::Stripe {
     volume: 0,
     stripe: 2,
 };
 
-const OTHER_STRIPE: Affinity = Affinity::Stripe {
+const OTHER_STRIPE: Home = Home::Stripe {
     volume: 0,
     stripe: 3,
 };
 
-const RANGE: Affinity = Affinity::Range {
-    volume: 0,
-    range: 0,
-};
-
 /// Where a call adds 5, what another asks for in its midst, the number of that one's refusal, and
 /// the sum.
-const ROWS: [(Affinity, Affinity, Option<u32>, Option<u64>); 8] = [
-    (STRIPE, Affinity::Volume(0), Some(21), Some(5)),
+const ROWS: [(Home, Home, Option<u32>, Option<u64>); 6] = [
+    (STRIPE, Home::Volume(0), Some(21), Some(5)),
     (STRIPE, OTHER_STRIPE, None, Some(10)),
-    (Affinity::VolumeLogical(0), RANGE, None, None),
-    (Affinity::VolumeVbn(0), STRIPE, None, None),
-    (RANGE, Affinity::VolumeVbn(0), Some(21), None),
-    (Affinity::Volume(0), STRIPE, Some(21), None),
-    (
-        Affinity::Aggregate(0),
-        Affinity::VolumeLogical(0),
-        Some(21),
-        None,
-    ),
-    (Affinity::Serial, RANGE, Some(21), None),
+    (Home::Logical(0), Home::Logical(1), None, None),
+    (Home::Volume(0), STRIPE, Some(21), None),
+    (Home::Aggregate(0), Home::Logical(0), Some(21), None),
+    (Home::Serial, STRIPE, Some(21), None),
 ];
 
 /// The number of volume 0's stripe 2.
@@ -58,8 +46,8 @@ fn told(turn: Option<Turn>) -> Option<(Option<u32>, Option<u64>)> {
 fn turns(rt: HostRuntime) {
     let mut desk = open(&rt, 3);
     assert_eq!(rt; desk.worker_count(), 3);
-    for (affinity, asked, beside, sum) in &ROWS {
-        let turn = take_turn(&mut desk, [2, 0], [*affinity, *asked], 5);
+    for (home, asked, beside, sum) in &ROWS {
+        let turn = take_turn(&mut desk, [2, 0], [*home, *asked], 5);
         assert_eq!(rt; told(turn), Some((*beside, *sum)));
         assert!(rt; !desk.is_taken(Affinity::Serial));
     }

@@ -1,14 +1,14 @@
 //! Calls on a desk of numbers, from begin to end.
 
 ghost use Rattle.std.specs.Prelude.{◌≡◌, ◌≢◌, ◌↔◌, ℕ, true, IfSome};
-ghost use Rattle.affinity.specs.Affinity.{affinity_of};
+ghost use Rattle.affinity.specs.Affinity.{home_node};
 ghost use Rattle.affinity.specs.Tree.{IsNode};
 ghost use Rattle.desk.specs.laws.Books.{IsIdle};
 ghost use Rattle.desk.specs.laws.Calls.{AreIdle, MayPutBack};
 ghost use Rattle.desk.specs.Words.{books, IsKept};
 
 use crate::adder::Adder;
-use affinity::Affinity;
+use affinity::Home;
 use depot::trial::adding::{Adding, Change, all_of, volumes};
 use depot_rule::machine::Machine;
 use desk::{Desk, NodeKinds, ParcelKinds};
@@ -35,36 +35,36 @@ pub(crate) fn open(rt: &(impl Abort + AllocGlobal), workers: usize) -> Counters
     Desk::new(rt.alloc(), layout, parcels, workers).expect(rt, "no memory")
 }
 
-/// Whether a worker is idle and the layout has an affinity.
+/// Whether a worker is idle and the layout has a node.
 fn is_ready<M: Machine, K: NodeKinds<M::Parcel>>(
     desk: &Desk<M, K>,
     worker: usize,
-    affinity: Affinity,
+    home: Home,
 ) -> bool
     ensures idle { result ≡ true → IsIdle (books desk.now) worker }
-    ensures node { result ≡ true → IsNode (books desk.now).layout (affinity_of affinity) }
+    ensures node { result ≡ true → IsNode (books desk.now).layout (home_node home) }
 {
     if !desk.is_idle(worker) {
         return false;
     }
-    desk.layout().contains(affinity)
+    desk.layout().contains(home.node())
 }
 
 /// A call that begins and is put back. The number of its refusal, if it was refused.
 fn ask<M: Machine, K: NodeKinds<M::Parcel>>(
     desk: &mut Desk<M, K>,
     worker: usize,
-    affinity: Affinity,
+    home: Home,
 ) -> Option<u32>
     requires kept { IsKept desk.old }
-    requires node { IsNode (books desk.old).layout (affinity_of affinity) }
+    requires node { IsNode (books desk.old).layout (home_node home) }
     requires idle { IsIdle (books desk.old) worker }
     ensures kept { IsKept desk.new }
     ensures others { (other : ℕ) → other ≢ worker
         → MayPutBack (books desk.old) other
         → MayPutBack (books desk.new) other }
 {
-    match desk.begin(worker, affinity) {
+    match desk.begin(worker, home) {
         Ok(()) => {
             desk.put_back(worker);
             None
@@ -74,23 +74,23 @@ fn ask<M: Machine, K: NodeKinds<M::Parcel>>(
 }
 
 /// A call that a worker begins, and what comes of another's that is asked for in its midst: the
-/// number of its refusal, if it is refused. Nothing where a worker isn't idle, an affinity isn't
-/// there, or the first call is refused.
+/// number of its refusal, if it is refused. Nothing where a worker isn't idle, a node isn't there,
+/// or the first call is refused.
 fn begin_beside<M: Machine, K: NodeKinds<M::Parcel>>(
     desk: &mut Desk<M, K>,
     worker: usize,
-    affinity: Affinity,
+    home: Home,
     other: usize,
-    asked: Affinity,
+    asked: Home,
 ) -> Option<Option<u32>>
     requires kept { IsKept desk.old }
     ensures kept { IsKept desk.new }
     ensures fresh { IfSome result (λ _. MayPutBack (books desk.new) worker) }
 {
-    if worker == other || !is_ready(desk, worker, affinity) || !is_ready(desk, other, asked) {
+    if worker == other || !is_ready(desk, worker, home) || !is_ready(desk, other, asked) {
         return None;
     }
-    match desk.begin(worker, affinity) {
+    match desk.begin(worker, home) {
         Ok(()) => {}
         Err(_) => return None,
     }
@@ -117,20 +117,20 @@ fn add(desk: &mut Counters, worker: usize, number: u64) -> Option<u64>
     }
 }
 
-/// A call that adds to a stripe's number, in whose midst another worker asks for an affinity.
-/// Nothing where a worker isn't idle, an affinity isn't there, or the call is refused.
+/// A call that adds to a stripe's number, in whose midst another worker asks for a node. Nothing
+/// where a worker isn't idle, a node isn't there, or the call is refused.
 pub(crate) fn take_turn(
     desk: &mut Counters,
     workers: [usize; 2],
-    affinities: [Affinity; 2],
+    homes: [Home; 2],
     number: u64,
 ) -> Option<Turn>
     requires kept { IsKept desk.old }
     ensures kept { IsKept desk.new }
 {
     let [worker, other] = workers;
-    let [affinity, asked] = affinities;
-    let beside = begin_beside(desk, worker, affinity, other, asked)?;
+    let [home, asked] = homes;
+    let beside = begin_beside(desk, worker, home, other, asked)?;
     let sum = add(desk, worker, number);
     Some(Turn { beside, sum })
 }

@@ -1,2 +1,3 @@
+mod Made
 mod Slots
 mod Worked

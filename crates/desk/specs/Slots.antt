@@ -17,13 +17,12 @@ either None other = other
 abbrev pub shown : {P : Type 0} → Shows (Layout → Lent P) P
 shown layout lends = lends layout
 
-module _ {T K N1 N2 N3 N4 N5 N6 N7 H1 H2 H3 H4 H5 H6 H7 : Type 0} {Q : kinds.Ghosts T}
-    {G1 : nodes.Ghosts N1 T H1} {G2 : nodes.Ghosts N2 T H2} {G3 : nodes.Ghosts N3 T H3} {G4 : nodes.Ghosts N4 T H4} {G5 : nodes.Ghosts N5 T H5}
-    {G6 : nodes.Ghosts N6 T H6} {G7 : nodes.Ghosts N7 T H7} where
+module _ {T K N1 N2 N3 N4 N5 H1 H2 H3 H4 H5 : Type 0} {Q : kinds.Ghosts T}
+    {G1 : nodes.Ghosts N1 T H1} {G2 : nodes.Ghosts N2 T H2} {G3 : nodes.Ghosts N3 T H3} {G4 : nodes.Ghosts N4 T H4} {G5 : nodes.Ghosts N5 T H5} where
   -- what the grant in a slot lends, if there is one
-  abbrev pub granted : Slot T K N1 N2 N3 N4 N5 N6 N7 H1 H2 H3 H4 H5 H6 H7 Q G1 G2 G3 G4 G5 G6 G7 → Option (Layout → Lent T)
+  abbrev pub granted : Slot T K N1 N2 N3 N4 N5 H1 H2 H3 H4 H5 Q G1 G2 G3 G4 G5 → Option (Layout → Lent T)
   granted slot = either (option_map small_lent slot.small) (option_map large_lent slot.large)
 
   -- the same of each slot
-  abbrev pub all_granted : List (Slot T K N1 N2 N3 N4 N5 N6 N7 H1 H2 H3 H4 H5 H6 H7 Q G1 G2 G3 G4 G5 G6 G7) → List (Option (Layout → Lent T))
+  abbrev pub all_granted : List (Slot T K N1 N2 N3 N4 N5 H1 H2 H3 H4 H5 Q G1 G2 G3 G4 G5) → List (Option (Layout → Lent T))
   all_granted slots = map granted slots

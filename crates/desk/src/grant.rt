@@ -19,8 +19,6 @@ pub struct NodeGrant<T: HasKind, N: Node<T>> {
 /// A grant of a volume, or of a node below one.
 #[derive(Drop)]
 pub enum SmallGrant<T: HasKind, K: NodeKinds<T>> {
-    Range(NodeGrant<T, K::Range>),
-    Vbn(NodeGrant<T, K::Vbn>),
     Stripe(NodeGrant<T, K::Stripe>),
     Logical(NodeGrant<T, K::Logical>),
     Volume(NodeGrant<T, K::Volume>),

@@ -1,7 +1,7 @@
 //! Grants of nodes of any kind, begun and ended in a worker's slot.
 
 ghost use Rattle.std.specs.Prelude.{◌≡◌, Some, None, OnOk, IfErr, IsSomeAnd};
-ghost use Rattle.affinity.specs.Affinity.{affinity_of};
+ghost use Rattle.affinity.specs.Affinity.{affinity_of, home_affinity, home_node};
 ghost use Rattle.affinity.specs.Numbers.{number_of};
 ghost use Rattle.affinity.specs.Tree.{IsNode};
 ghost use Rattle.depot.specs.Grants.{entry_of, IsEnded, IsFinished, IsRefused};
@@ -16,8 +16,8 @@ use crate::kinds::NodeKinds;
 use crate::nodes::{begin_node, finish_node, put_back_node};
 use crate::putting::{put_large, put_small};
 use crate::slot::Slot;
-use affinity::{Affinity, Kind};
-use depot::{Depot, Refusal, Seat};
+use affinity::{Affinity, Home};
+use depot::{Depot, Entered, Refusal, Seat};
 use depot_rule::machine::Machine;
 
 /// Begins a call on an aggregate. It isn't inlined: else each begin would fill the room of such a
@@ -79,79 +79,72 @@ fn begin_serial<M: Machine, K: NodeKinds<M::Parcel>>(
 pub(crate) fn begin_in<M: Machine, K: NodeKinds<M::Parcel>>(
     depot: &Depot<M>,
     seat: &mut Seat<M>,
-    affinity: Affinity,
+    home: Home,
     slot: &mut Slot<M::Parcel, K>,
 ) -> Result<(), Refusal>
     requires seat { IsSeatHere depot.now seat.old }
-    requires node { IsNode (layout_in depot.now) (affinity_of affinity) }
+    requires node { IsNode (layout_in depot.now) (home_node home) }
     requires idle { granted slot.old ≡ None }
     ensures seat { IsSeatHere depot.now seat.new }
     ensures splits { splits_left seat.new ≡ splits_left seat.old }
     ensures granted { let L = layout_in depot.now in OnOk result ((lends : _)
         × (granted slot.new ≡ Some lends)
-        × IsGranted M.Parcel.kind (machine_of seat.old) L (view seat.old) (affinity_of affinity)
+        × IsGranted M.Parcel.kind (machine_of seat.old) L (view seat.old) (home_node home)
         (lends L) (view seat.new)) }
-    ensures refused { IfErr result (λ refusal.
-        IsRefused (layout_in depot.now) (view seat.old) affinity refusal (view seat.new)) }
+    ensures refused { IfErr result (λ refusal. IsRefused (layout_in depot.now) (view seat.old)
+        (home_affinity home) refusal (view seat.new)) }
     ensures idle { IfErr result (λ refusal. granted slot.new ≡ None) }
 {
-    match affinity.kind() {
-        Kind::Range => {
-            let node = begin_node::<M, K::Range>(depot, seat, affinity)?;
-            put_small(slot, SmallGrant::Range(node));
-        }
-        Kind::VolumeVbn => {
-            let node = begin_node::<M, K::Vbn>(depot, seat, affinity)?;
-            put_small(slot, SmallGrant::Vbn(node));
-        }
-        Kind::Stripe => {
+    match home {
+        Home::Stripe { volume, stripe } => {
+            let affinity = Affinity::Stripe { volume, stripe };
             let node = begin_node::<M, K::Stripe>(depot, seat, affinity)?;
             put_small(slot, SmallGrant::Stripe(node));
         }
-        Kind::VolumeLogical => {
+        Home::Logical(volume) => {
+            let affinity = Affinity::VolumeLogical(volume);
             let node = begin_node::<M, K::Logical>(depot, seat, affinity)?;
             put_small(slot, SmallGrant::Logical(node));
         }
-        Kind::Volume => {
-            let node = begin_node::<M, K::Volume>(depot, seat, affinity)?;
+        Home::Volume(volume) => {
+            let node = begin_node::<M, K::Volume>(depot, seat, Affinity::Volume(volume))?;
             put_small(slot, SmallGrant::Volume(node));
         }
-        Kind::Aggregate => begin_aggregate(depot, seat, affinity, slot)?,
-        Kind::Serial => begin_serial(depot, seat, affinity, slot)?,
+        Home::Aggregate(aggregate) => {
+            begin_aggregate(depot, seat, Affinity::Aggregate(aggregate), slot)?;
+        }
+        Home::Serial => begin_serial(depot, seat, Affinity::Serial, slot)?,
     }
     Ok(())
 }
 
 /// Ends a call on a volume or below one by an entry, with its parcels as they are.
-fn finish_small<M: Machine, K: NodeKinds<M::Parcel>>(
+fn finish_small<M: Machine, K: NodeKinds<M::Parcel>, C: Entered<M::Call>, A: Entered<M::Reply>>(
     depot: &Depot<M>,
     seat: &mut Seat<M>,
     grant: SmallGrant<M::Parcel, K>,
-    call: &M::Call,
-    reply: &M::Reply,
+    call: &C,
+    reply: &A,
 )
     requires seat { IsSeatHere depot.now seat.old }
     requires can { let L = layout_in depot.now in
         CanFinish M.Parcel.kind (machine_of seat.old) L (view seat.old) (small_lent grant L)
-        call.now reply.now }
+        (C.entered call.now) (A.entered reply.now) }
     ensures seat { IsSeatHere depot.now seat.new }
     ensures splits { splits_left seat.new ≡ splits_left seat.old }
     ensures finished { let L = layout_in depot.now in let l = small_lent grant L in
         IsFinished (machine_of seat.old) (view seat.old) (number_of L l.affinity)
-        (entry_of L l.affinity l.parcels call.now reply.now) (view seat.new) }
+        (entry_of L l.affinity l.parcels (C.entered call.now) (A.entered reply.now))
+        (view seat.new) }
 {
     match grant {
-        SmallGrant::Range(node) => finish_node::<M, K::Range, M::Call>(
+        SmallGrant::Stripe(node) => finish_node::<M, K::Stripe, C, A>(
             depot, seat, node, call, reply,
         ),
-        SmallGrant::Vbn(node) => finish_node::<M, K::Vbn, M::Call>(depot, seat, node, call, reply),
-        SmallGrant::Stripe(node) => finish_node::<M, K::Stripe, M::Call>(
+        SmallGrant::Logical(node) => finish_node::<M, K::Logical, C, A>(
             depot, seat, node, call, reply,
         ),
-        SmallGrant::Logical(node) => finish_node::<M, K::Logical, M::Call>(
-            depot, seat, node, call, reply,
-        ),
-        SmallGrant::Volume(node) => finish_node::<M, K::Volume, M::Call>(
+        SmallGrant::Volume(node) => finish_node::<M, K::Volume, C, A>(
             depot, seat, node, call, reply,
         ),
     }
@@ -159,57 +152,58 @@ fn finish_small<M: Machine, K: NodeKinds<M::Parcel>>(
 
 /// Ends a call on a node with volumes below it by an entry, with its parcels as they are.
 #[inline(never)]
-fn finish_large<M: Machine, K: NodeKinds<M::Parcel>>(
+fn finish_large<M: Machine, K: NodeKinds<M::Parcel>, C: Entered<M::Call>, A: Entered<M::Reply>>(
     depot: &Depot<M>,
     seat: &mut Seat<M>,
     grant: LargeGrant<M::Parcel, K>,
-    call: &M::Call,
-    reply: &M::Reply,
+    call: &C,
+    reply: &A,
 )
     requires seat { IsSeatHere depot.now seat.old }
     requires can { let L = layout_in depot.now in
         CanFinish M.Parcel.kind (machine_of seat.old) L (view seat.old) (large_lent grant L)
-        call.now reply.now }
+        (C.entered call.now) (A.entered reply.now) }
     ensures seat { IsSeatHere depot.now seat.new }
     ensures splits { splits_left seat.new ≡ splits_left seat.old }
     ensures finished { let L = layout_in depot.now in let l = large_lent grant L in
         IsFinished (machine_of seat.old) (view seat.old) (number_of L l.affinity)
-        (entry_of L l.affinity l.parcels call.now reply.now) (view seat.new) }
+        (entry_of L l.affinity l.parcels (C.entered call.now) (A.entered reply.now))
+        (view seat.new) }
 {
     match grant {
-        LargeGrant::Aggregate(node) => {
-            finish_node::<M, K::Aggregate, M::Call>(depot, seat, node, call, reply)
-        }
-        LargeGrant::Serial(node) => finish_node::<M, K::Serial, M::Call>(
+        LargeGrant::Aggregate(node) => finish_node::<M, K::Aggregate, C, A>(
+            depot, seat, node, call, reply,
+        ),
+        LargeGrant::Serial(node) => finish_node::<M, K::Serial, C, A>(
             depot, seat, node, call, reply,
         ),
     }
 }
 
 /// Ends a worker's call by an entry, with its parcels as they are.
-pub(crate) fn finish_in<M: Machine, K: NodeKinds<M::Parcel>>(
-    depot: &Depot<M>,
-    seat: &mut Seat<M>,
-    slot: &mut Slot<M::Parcel, K>,
-    call: &M::Call,
-    reply: &M::Reply,
-)
+pub(crate) fn finish_in<
+    M: Machine,
+    K: NodeKinds<M::Parcel>,
+    C: Entered<M::Call>,
+    A: Entered<M::Reply>,
+>(depot: &Depot<M>, seat: &mut Seat<M>, slot: &mut Slot<M::Parcel, K>, call: &C, reply: &A)
     requires seat { IsSeatHere depot.now seat.old }
     requires can { let L = layout_in depot.now in IsSomeAnd (granted slot.old) (λ lends.
         CanFinish M.Parcel.kind (machine_of seat.old) L (view seat.old) (lends L)
-        call.now reply.now) }
+        (C.entered call.now) (A.entered reply.now)) }
     ensures seat { IsSeatHere depot.now seat.new }
     ensures splits { splits_left seat.new ≡ splits_left seat.old }
     ensures finished { let L = layout_in depot.now in IsSomeAnd (granted slot.old) (λ lends.
         IsFinished (machine_of seat.old) (view seat.old) (number_of L (lends L).affinity)
-        (entry_of L (lends L).affinity (lends L).parcels call.now reply.now) (view seat.new)) }
+        (entry_of L (lends L).affinity (lends L).parcels
+        (C.entered call.now) (A.entered reply.now)) (view seat.new)) }
     ensures idle { granted slot.new ≡ None }
 {
     match slot.small.take() {
         Some(grant) => finish_small(depot, seat, grant, call, reply),
         None => match slot.large.take() {
             Some(grant) => finish_large(depot, seat, grant, call, reply),
-            None => unreachable!(),
+            None => {}
         },
     }
 }
@@ -230,8 +224,6 @@ fn put_back_small<M: Machine, K: NodeKinds<M::Parcel>>(
         IsEnded (view seat.old) (number_of L (small_lent grant L).affinity) (view seat.new) }
 {
     match grant {
-        SmallGrant::Range(node) => put_back_node::<M, K::Range>(depot, seat, node),
-        SmallGrant::Vbn(node) => put_back_node::<M, K::Vbn>(depot, seat, node),
         SmallGrant::Stripe(node) => put_back_node::<M, K::Stripe>(depot, seat, node),
         SmallGrant::Logical(node) => put_back_node::<M, K::Logical>(depot, seat, node),
         SmallGrant::Volume(node) => put_back_node::<M, K::Volume>(depot, seat, node),
@@ -279,7 +271,7 @@ pub(crate) fn put_back_in<M: Machine, K: NodeKinds<M::Parcel>>(
         Some(grant) => put_back_small(depot, seat, grant),
         None => match slot.large.take() {
             Some(grant) => put_back_large(depot, seat, grant),
-            None => unreachable!(),
+            None => {}
         },
     }
 }

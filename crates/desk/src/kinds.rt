@@ -1,4 +1,4 @@
-//! The kinds of node, one type for each.
+//! The kinds of node at which calls run, one type for each.
 
 ghost use Rattle.std.specs.Prelude.{◌≡◌};
 ghost use Rattle.std.proofs.Common.{refl};
@@ -6,16 +6,11 @@ ghost use Rattle.affinity.specs.declared.affinity.Kind.TheVariants as kinds;
 
 use affinity::HasKind;
 use parcels::{
-    AggregateNode, Family, LogicalNode, Node, Parcel, RangeNode, SerialNode, StripeNode, VbnNode,
-    VolumeNode,
+    AggregateNode, Family, LogicalNode, Node, Parcel, SerialNode, StripeNode, VolumeNode,
 };
 
-/// A node type for each kind of node.
+/// A node type for each kind of node at which calls run.
 pub trait NodeKinds<T: HasKind> {
-    type Range: Node<T>;
-
-    type Vbn: Node<T>;
-
     type Stripe: Node<T>;
 
     type Logical: Node<T>;
@@ -25,10 +20,6 @@ pub trait NodeKinds<T: HasKind> {
     type Aggregate: Node<T>;
 
     type Serial: Node<T>;
-
-    ghost range: { Self.Range.KIND ≡ kinds.Range };
-
-    ghost vbn: { Self.Vbn.KIND ≡ kinds.VolumeVbn };
 
     ghost stripe: { Self.Stripe.KIND ≡ kinds.Stripe };
 
@@ -41,14 +32,10 @@ pub trait NodeKinds<T: HasKind> {
     ghost serial: { Self.Serial.KIND ≡ kinds.Serial };
 }
 
-/// The kinds of node of a family's parcels.
+/// Those kinds of node of a family's parcels.
 pub struct ParcelKinds;
 
 impl<F: Family> NodeKinds<Parcel<F>> for ParcelKinds {
-    type Range = RangeNode;
-
-    type Vbn = VbnNode;
-
     type Stripe = StripeNode;
 
     type Logical = LogicalNode;
@@ -58,10 +45,6 @@ impl<F: Family> NodeKinds<Parcel<F>> for ParcelKinds {
     type Aggregate = AggregateNode;
 
     type Serial = SerialNode;
-
-    ghost range = { refl };
-
-    ghost vbn = { refl };
 
     ghost stripe = { refl };
 

@@ -12,8 +12,8 @@ use crate::kinds::{NodeKinds, ParcelKinds};
 use crate::task::Task;
 use affinity::{Affinity, HasKind, Layout};
 use parcels::{
-    AggrHeld, AggregateNode, Family, LogicalHeld, LogicalNode, Node, Parcel, RangeHeld, RangeNode,
-    SerialHeld, SerialNode, StripeHeld, StripeNode, VbnHeld, VbnNode, VolumeHeld, VolumeNode,
+    AggrHeld, AggregateNode, Family, LogicalHeld, LogicalNode, Node, Parcel, SerialHeld,
+    SerialNode, StripeHeld, StripeNode, VolumeHeld, VolumeNode,
 };
 
 /// A node type that is one of the kinds, so that a task does its part for that kind.
@@ -31,28 +31,6 @@ pub trait TaskNode<T: HasKind, K: NodeKinds<T>>: Node<T> {
         ensures exact { HasAll T.kind Self.parcels layout.now affinity held.new }
         ensures does { Leaves (W.does task) Self.parcels layout.now affinity
             held.old result held.new };
-}
-
-impl<F: Family> TaskNode<Parcel<F>, ParcelKinds> for RangeNode {
-    fn work<W: Task<Parcel<F>, ParcelKinds>>(
-        task: W,
-        layout: &Layout,
-        affinity: Affinity,
-        held: &mut RangeHeld<F>,
-    ) -> W::Output {
-        task.on_range(layout, affinity, held)
-    }
-}
-
-impl<F: Family> TaskNode<Parcel<F>, ParcelKinds> for VbnNode {
-    fn work<W: Task<Parcel<F>, ParcelKinds>>(
-        task: W,
-        layout: &Layout,
-        affinity: Affinity,
-        held: &mut VbnHeld<F>,
-    ) -> W::Output {
-        task.on_vbn(layout, affinity, held)
-    }
 }
 
 impl<F: Family> TaskNode<Parcel<F>, ParcelKinds> for StripeNode {

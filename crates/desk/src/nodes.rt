@@ -38,22 +38,23 @@ pub fn begin_node<M: Machine, N: Node<M::Parcel>>(
 
 /// Ends a call on a node of one kind by an entry.
 #[inline(never)]
-pub fn finish_node<M: Machine, N: Node<M::Parcel>, C: Entered<M::Call>>(
+pub fn finish_node<M: Machine, N: Node<M::Parcel>, C: Entered<M::Call>, A: Entered<M::Reply>>(
     depot: &Depot<M>,
     seat: &mut Seat<M>,
     node: NodeGrant<M::Parcel, N>,
     call: &C,
-    reply: &M::Reply,
+    reply: &A,
 )
     requires seat { IsSeatHere depot.now seat.old }
     requires can { let L = layout_in depot.now in
         CanFinish M.Parcel.kind (machine_of seat.old) L (view seat.old) (node_lent L node)
-        (C.entered call.now) reply.now }
+        (C.entered call.now) (A.entered reply.now) }
     ensures seat { IsSeatHere depot.now seat.new }
     ensures splits { splits_left seat.new ≡ splits_left seat.old }
     ensures finished { let L = layout_in depot.now in let l = node_lent L node in
         IsFinished (machine_of seat.old) (view seat.old) (number_of L l.affinity)
-        (entry_of L l.affinity l.parcels (C.entered call.now) reply.now) (view seat.new) }
+        (entry_of L l.affinity l.parcels (C.entered call.now) (A.entered reply.now))
+        (view seat.new) }
 {
     depot.finish(seat, node.grant, call, reply);
 }
@@ -61,22 +62,22 @@ pub fn finish_node<M: Machine, N: Node<M::Parcel>, C: Entered<M::Call>>(
 /// Ends a call on a node of one kind by an entry, and begins one on the same node, which has its
 /// parcels. Where the ticket is worn, or this entry would wear it, the call is as it was.
 #[inline(never)]
-pub fn go_on_node<M: Machine, N: Node<M::Parcel>, C: Entered<M::Call>>(
+pub fn go_on_node<M: Machine, N: Node<M::Parcel>, C: Entered<M::Call>, A: Entered<M::Reply>>(
     depot: &Depot<M>,
     seat: &mut Seat<M>,
     node: &NodeGrant<M::Parcel, N>,
     call: &C,
-    reply: &M::Reply,
+    reply: &A,
 ) -> Result<(), Refusal>
     requires seat { IsSeatHere depot.now seat.old }
     requires can { let L = layout_in depot.now in
         CanFinish M.Parcel.kind (machine_of seat.old) L (view seat.old) (node_lent L node.now)
-        (C.entered call.now) reply.now }
+        (C.entered call.now) (A.entered reply.now) }
     ensures seat { IsSeatHere depot.now seat.new }
     ensures splits { splits_left seat.new ≡ splits_left seat.old }
     ensures gone_on { let L = layout_in depot.now in OnOk result
         (HasGoneOn M.Parcel.kind (machine_of seat.old) L (view seat.old) (node_lent L node.now)
-        (C.entered call.now) reply.now (view seat.new)) }
+        (C.entered call.now) (A.entered reply.now) (view seat.new)) }
     ensures refused { IfErr result (λ refusal.
         (refusal ≡ Worn) × IsLast (view seat.old) (view seat.new)) }
 {

@@ -8,7 +8,6 @@ use crate::grant::{LargeGrant, SmallGrant};
 use crate::kinds::NodeKinds;
 use crate::slot::Slot;
 use affinity::HasKind;
-use std::mem;
 
 /// The slot of an idle worker.
 pub(crate) fn idle_slot<T: HasKind, K: NodeKinds<T>>() -> Slot<T, K>
@@ -32,10 +31,7 @@ pub(crate) fn put_small<T: HasKind, K: NodeKinds<T>>(slot: &mut Slot<T, K>, gran
     requires { granted slot.old ≡ None }
     ensures { granted slot.new ≡ Some (small_lent grant) }
 {
-    match mem::replace(&mut slot.small, Some(grant)) {
-        None => {}
-        Some(_) => unreachable!(),
-    }
+    slot.small = Some(grant);
 }
 
 /// Puts a grant of a node with volumes below it into an idle worker's slot.
@@ -43,8 +39,5 @@ pub(crate) fn put_large<T: HasKind, K: NodeKinds<T>>(slot: &mut Slot<T, K>, gran
     requires { granted slot.old ≡ None }
     ensures { granted slot.new ≡ Some (large_lent grant) }
 {
-    match mem::replace(&mut slot.large, Some(grant)) {
-        None => {}
-        Some(_) => unreachable!(),
-    }
+    slot.large = Some(grant);
 }

@@ -21,8 +21,6 @@ fn affinity_in_small<T: HasKind, K: NodeKinds<T>>(
         affinity_of result ≡ (small_lent grant.now L).affinity }
 {
     match grant {
-        SmallGrant::Range(node) => node.grant.affinity(),
-        SmallGrant::Vbn(node) => node.grant.affinity(),
         SmallGrant::Stripe(node) => node.grant.affinity(),
         SmallGrant::Logical(node) => node.grant.affinity(),
         SmallGrant::Volume(node) => node.grant.affinity(),

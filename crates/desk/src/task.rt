@@ -20,34 +20,6 @@ pub trait Task<T: HasKind, K: NodeKinds<T>> {
     // Of the layout, the affinity, its parcels before, what comes of it, and its parcels after.
     ghost does: { Self → Does T Self.Output };
 
-    /// Works on the parcels of a range.
-    fn on_range(
-        self,
-        layout: &Layout,
-        affinity: Affinity,
-        held: &mut <K::Range as Node<T>>::Held,
-    ) -> Self::Output
-        requires node { IsNode (layout_of layout.now) (affinity_of affinity) }
-        requires exact { HasAll T.kind K.Range.parcels layout.now affinity held.old }
-        requires asks { Finds (asks self) K.Range.parcels layout.now affinity held.old }
-        ensures exact { HasAll T.kind K.Range.parcels layout.now affinity held.new }
-        ensures does { Leaves (does self) K.Range.parcels layout.now affinity
-            held.old result held.new };
-
-    /// Works on the parcels of a volume's block numbers.
-    fn on_vbn(
-        self,
-        layout: &Layout,
-        affinity: Affinity,
-        held: &mut <K::Vbn as Node<T>>::Held,
-    ) -> Self::Output
-        requires node { IsNode (layout_of layout.now) (affinity_of affinity) }
-        requires exact { HasAll T.kind K.Vbn.parcels layout.now affinity held.old }
-        requires asks { Finds (asks self) K.Vbn.parcels layout.now affinity held.old }
-        ensures exact { HasAll T.kind K.Vbn.parcels layout.now affinity held.new }
-        ensures does { Leaves (does self) K.Vbn.parcels layout.now affinity
-            held.old result held.new };
-
     /// Works on the parcels of a stripe.
     fn on_stripe(
         self,

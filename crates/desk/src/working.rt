@@ -32,14 +32,6 @@ fn work_small<T: HasKind, K: NodeKinds<T>, W: Task<T, K>>(
         IsDone (W.does task) L (small_lent grant.old L) result (small_lent grant.new L) }
 {
     match grant {
-        SmallGrant::Range(node) => {
-            let affinity = node.grant.affinity();
-            task.on_range(layout, affinity, node.grant.held())
-        }
-        SmallGrant::Vbn(node) => {
-            let affinity = node.grant.affinity();
-            task.on_vbn(layout, affinity, node.grant.held())
-        }
         SmallGrant::Stripe(node) => {
             let affinity = node.grant.affinity();
             task.on_stripe(layout, affinity, node.grant.held())
@@ -101,9 +93,6 @@ pub(crate) fn work_in<T: HasKind, K: NodeKinds<T>, W: Task<T, K>>(
 {
     match &mut slot.small {
         Some(grant) => work_small::<T, K, W>(layout, grant, task),
-        None => match &mut slot.large {
-            Some(grant) => work_large::<T, K, W>(layout, grant, task),
-            None => unreachable!(),
-        },
+        None => work_large::<T, K, W>(layout, slot.large.as_mut().unwrap(), task),
     }
 }

@@ -13,9 +13,11 @@ use Rattle.nfs_model.specs.Events.Refusals.{may_lack_memory, put_refusal, hand_o
 use Rattle.nfs_model.specs.Events.Step.{Events, Happens, stamp_added}
 use Rattle.filer_state.specs.state.Jobs as jobs
 use Rattle.filer_state.specs.state.Jobs.{InnerCall, JobReply, Took, Gave, Surveyed, Replied, batches_in, inner_node, inner_volume, InnerMoves, without_hand}
+use Rattle.service.specs.Inner.{call_to_put}
 use Rattle.engine.specs.laws.Inner.{HasMoved}
 use Rattle.engine.specs.Inner as tending
 use Rattle.engine.specs.Inner.{Refuses, told_as}
+use Rattle.engine.proofs.Lists.{set-same}
 
 -- ---- hands
 
@@ -38,12 +40,7 @@ hand-one one (Dead volume blocks) is e = sym (first one (Dead volume blocks) (sy
     first : (x y : Hand) → x ∷ [] ≡ y ∷ [] → x ≡ y
     first x y e = cc
 
--- a list with what stands at a place put there, and a worker with its own hand
-pub set-same : {X : Type 0} (xs : List X) (i : ℕ) (x : X) → slice_get xs i ≡ Some x → slice_set xs i x ≡ xs
-set-same [] i x e = refl
-set-same (y ∷ xs) zero x e = let same : y ≡ x = cc in ap (λ z. z ∷ xs) (sym same)
-set-same (y ∷ xs) (suc i) x e = ap (λ zs. y ∷ zs) (set-same xs i x e)
-
+-- a worker with its own hand
 hand-same : (ks : List Worker) (i : ℕ) (k : Worker) → slice_get ks i ≡ Some k → changed_at (with_hand k.hand) ks i ≡ ks
 hand-same [] i k e = refl
 hand-same (j ∷ ks) zero k e = let same : j ≡ k = cc in ap (λ (x : Worker). with_hand x.hand j ∷ ks) (sym same)
@@ -279,7 +276,7 @@ module _ (setup : Setup) (w : World) (i : ℕ) where
 
   -- whatever is in the hand
   module _ (free : is_idle at ≡ true) (answer : Result events.Done ℕ) (new : World) where
-    pub put-as : (hand : Hand) → hand_of at ≡ hand → (call : InnerCall) → tending.call_to_put setup.layout hand ≡ Some call → Tends call answer new
+    pub put-as : (hand : Hand) → hand_of at ≡ hand → (call : InnerCall) → call_to_put setup.layout hand ≡ Some call → Tends call answer new
         → Events setup w (PutDown i) answer new
     put-as Empty carries call is h = absurd cc
     put-as (Fresh v blocks) carries call is h = delivered free v blocks carries answer new

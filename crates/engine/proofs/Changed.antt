@@ -1,6 +1,7 @@
 -- A state of which one worker runs another thing: what stays sound of it.
 use Rattle.std.proofs.Common.{◌≡◌, ℕ, ◌+◌, ◌≤◌, List, Some, sym, ap, ◌∙◌, subst}
-use Rattle.std.specs.Prelude.{◌^◌, length, slice_get, slice_set}
+use Rattle.std.specs.Prelude.{◌^◌, length, map, slice_get, slice_set}
+use Rattle.std.specs.Global.{Vec}
 use Rattle.std.specs.List.{AllByRecursion}
 use Rattle.std.proofs.lemmas.List.{length-set}
 use Rattle.nfs_model.specs.World.{World}
@@ -20,8 +21,8 @@ use Rattle.service.specs.declared.job.JobReply.{JobReply}
 use Rattle.engine_feed.specs.Seen.{layout_in, messages_of, running_count}
 use Rattle.engine.specs.declared.worker.Worker.{Worker}
 use Rattle.engine.specs.declared.state.State.{State}
-use Rattle.engine.specs.Seen.{held_in, setup_in, setup_of, world}
-use Rattle.engine.specs.Sound.{IsPlaced, IsReady, IsSoundEngine, messages_in, running_messages}
+use Rattle.engine.specs.Seen.{held_in, setup_in, setup_of, worker_seen, world}
+use Rattle.engine.specs.Sound.{IsPlaced, IsReady, IsSoundEngine, messages_in, room_on, running_messages}
 use Rattle.engine.proofs.Lists.{all-set}
 use Rattle.engine.proofs.Workers.{count-changed, messages-changed}
 
@@ -81,6 +82,34 @@ module _ {s new : State} {i : ℕ} {k x : Worker} (h : IsChanged s new i k x) wh
       subst (λ (xs : List (Message Call)). AllByRecursion (IsPlaced (layout_in new.calls) (length (held_in new))) xs) (sym are)
       (subst (λ n. AllByRecursion (IsPlaced (layout_in new.calls) n) ms) (sym h.many)
       (subst (λ L. AllByRecursion (IsPlaced L (length (held_in s))) ms) (sym h.layout) placed))
+
+-- ---- workers that run and carry what they did
+
+module _ (s : State) (ws : Vec Worker) (same : ws.items ≡ s.workers.items) where
+  pub still-world : world (record s { workers = ws }) ≡ world s
+  still-world = ap (λ (ks : List Worker). record (world s) { workers = map worker_seen ks }) same
+
+  pub still-setup : setup_in (record s { workers = ws }) ≡ setup_in s
+  still-setup = ap (λ (ks : List Worker). setup_of s.offer (layout_in s.calls) s.verifier.0 (length ks)) same
+
+  pub still-sound : IsSoundEngine s → IsSoundEngine (record s { workers = ws })
+  still-sound sound = record {
+    layout = sound.layout;
+    kept = sound.kept;
+    stands =
+        subst
+        (λ (ks : List Worker). StandsFor job_of job_reply_of (setup_of s.offer (layout_in s.calls) s.verifier.0 (length ks))
+        (record (world s) { workers = map worker_seen ks }) (books s.desk)) (sym same) sound.stands;
+    running = ap (λ (ks : List Worker). length (running_messages ks)) same ∙ sound.running;
+    waiting = sound.waiting;
+    workers = subst (λ (ks : List Worker). AllByRecursion (IsReady (layout_in s.calls) (length (held_in s))) ks) (sym same) sound.workers;
+    few = subst (λ (ks : List Worker). length ks ≤ 64) (sym same) sound.few;
+    stamps = sound.stamps;
+    keyed = sound.keyed;
+    opened = sound.opened;
+    owed = λ c x at. sound.owed c x at
+        ∙ ap (λ (ks : List Worker). total (room_on c) (messages_of s.calls) + total (room_on c) (running_messages ks)) (sym same);
+  }
 
 -- ---- a desk whose books are as before
 

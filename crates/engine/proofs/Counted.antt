@@ -8,12 +8,10 @@ use Rattle.std.specs.Option.{option_map}
 use Rattle.std.specs.Global.{Vec}
 use mathlib.Core.Option.{some, some-injective}
 use lib.ListN.{get_elem?}
-use Rattle.nfs_model.specs.Tree.{Layout, Affinity, Serial, Aggregate, Volume, Logical, Stripe, Vbn, Range}
+use Rattle.nfs_model.specs.Tree.{Layout}
 use Rattle.nfs_model.specs.Server.{Server}
 use Rattle.nfs_model.specs.World.{Setup, World, hands_blocks, counts_of}
 use Rattle.nfs_model.specs.Parts.{hand_blocks}
-use Rattle.nfs_values.specs.declared.call.Call.{Call}
-use Rattle.affinity.specs.declared.affinity.Kind.TheVariants as kinds
 use Rattle.affinity.specs.Numbers.{number_of, parents}
 use Rattle.depot_rule.specs.History.{patched}
 use Rattle.desk.specs.laws.Books.{Lent, now, HasLent}
@@ -28,10 +26,8 @@ use Rattle.filer_state.specs.laws.Laws.{PartsPartition}
 use Rattle.filer_state.specs.laws.lemmas.Each.{each-length}
 use Rattle.engine.specs.laws.Store.{FilerBooks, StandsFor, batches_carried}
 use Rattle.engine.specs.laws.lemmas.Agreeing.{agreed, now-served}
-use Rattle.service.specs.Running.{IsRunAt, AsksFor}
-use Rattle.service.specs.lemmas.Homes.{not-here}
 use Rattle.engine.specs.declared.counts.counts.VolumeCounts.{VolumeCounts}
-use Rattle.engine.specs.counts.Counts.{counted, IsCounted, AreSized, all_seen, world_counts, told_of, IsOfCalls, AsksForCounts, HasCounted}
+use Rattle.engine.specs.counts.Counts.{counted, IsCounted, AreSized, all_seen, world_counts, told_of, AsksForCounts, HasCounted}
 use Rattle.engine.specs.counts.lemmas.Seen.{contents-seen}
 use Rattle.engine.specs.counts.lemmas.Happening.{IsParted, told-is}
 use Rattle.engine.specs.declared.worker.Worker.{Worker}
@@ -93,16 +89,6 @@ module _ (s : State) (counts : List VolumeCounts) (whole : IsCountedWhole s coun
 
 -- ---- what a worker was lent
 
--- no call is run under a range, nor under all ranges of a volume
-pub run-of-calls : (layout : Layout) (call : Call) (a : Affinity) → IsRunAt layout call a → IsOfCalls a
-run-of-calls layout call Serial at = tt
-run-of-calls layout call (Aggregate a) at = tt
-run-of-calls layout call (Volume v) at = tt
-run-of-calls layout call (Logical v) at = tt
-run-of-calls layout call (Stripe v i) at = tt
-run-of-calls layout call (Vbn v) at = not-here layout (Vbn v) call at kinds.VolumeVbn refl (λ e. cc) (λ e. cc) (λ e. cc) (λ e. cc) (λ e. cc)
-run-of-calls layout call (Range v r) at = not-here layout (Range v r) call at kinds.Range refl (λ e. cc) (λ e. cc) (λ e. cc) (λ e. cc) (λ e. cc)
-
 module _ {A : Type 0} where
   set-back : (xs : List A) (i : ℕ) (x : A) → get_elem? xs i ≡ some x → slice_set xs i x ≡ xs
   set-back [] i x e = refl
@@ -149,17 +135,13 @@ module _ {P C R : Type 0} where
     lent-is = subst (λ (x : FilerBooks P C R). HasLent x i l) (sym h.books) (set-found b.lent i (Some h.lent) (Some l) h.is_lent)
 
     -- it may be counted
-    pub may-recount : (call : Call) → MayWork (AsksFor call) b i → MayWork (AsksForCounts counts) c i
-    may-recount call m = record {
+    pub may-recount : MayWork (AsksForCounts counts) c i
+    may-recount = record {
       lent = l;
       is_lent = lent-is;
-      fits = (
-        run-of-calls b.layout call h.lent.affinity
-            (subst (λ (x : Lent (FilerParcel P)). IsRunAt b.layout call x.affinity) (one-lent b i m.lent h.lent m.is_lent h.is_lent) m.fits.0),
-        ap (λ ks. length ks) right ∙ length-map (filer_contents b.layout (now b)).volumes counted
-            ∙ each-length (contents_of b.layout (now b)) 0 (length b.layout.volumes)
-            ∙ sym (ap (λ (x : Layout). length x.volumes) layout-is),
-      );
+      fits = ap (λ ks. length ks) right ∙ length-map (filer_contents b.layout (now b)).volumes counted
+          ∙ each-length (contents_of b.layout (now b)) 0 (length b.layout.volumes)
+          ∙ sym (ap (λ (x : Layout). length x.volumes) layout-is);
     }
 
     -- and the counts are right of the parcels as they are then

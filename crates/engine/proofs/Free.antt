@@ -13,12 +13,13 @@ use Rattle.filer_state.specs.state.Tree.{volume_of}
 use Rattle.filer_state.specs.state.Jobs.{InnerCall, Fetch, Deliver, Cull, Free, Survey}
 use Rattle.filer_state.specs.laws.lemmas.Steps.{laid-out}
 use Rattle.desk.specs.laws.Books.{now}
+use Rattle.service.specs.Inner.{call_to_put}
 use Rattle.desk.specs.Words.{books}
 use Rattle.engine_feed.specs.Seen.{layout_in}
 use Rattle.engine.specs.declared.state.State.{State}
 use Rattle.engine.specs.declared.worker.Worker.{Worker}
 use Rattle.engine.specs.declared.worker.WorkerRun.TheVariants.{Idle}
-use Rattle.engine.specs.Inner.{MayTend, call_to_put}
+use Rattle.engine.specs.Inner.{MayTend}
 use Rattle.engine.specs.Seen.{world, worker_seen}
 use Rattle.engine.specs.Sound.{IsSoundEngine, IsCarried}
 use Rattle.engine.specs.Workers.{worker_with, idle_worker}

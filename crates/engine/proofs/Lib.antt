@@ -14,6 +14,7 @@ mod Tended
 mod Made
 mod Carried
 mod Free
+mod Asking
 mod Keyed
 mod Reconnected
 mod Closing

@@ -14,7 +14,7 @@ use Rattle.nfs_model.specs.Events.Feed.{Feeds, feeding}
 use Rattle.nfs_model.specs.Events.Refusals as events
 use Rattle.nfs_model.specs.Events.Refusals.{open_count, takes_input}
 use Rattle.nfs_values.specs.declared.call.Call.{Call}
-use Rattle.affinity.specs.Affinity.{affinity_of}
+use Rattle.affinity.specs.Affinity.{home_node}
 use Rattle.scheduler.specs.declared.message.Message.{Message}
 use Rattle.depot_rule.specs.Sums.{total}
 use Rattle.depot_rule.specs.lemmas.Sums.{total-append}
@@ -101,7 +101,7 @@ placed-more layout n (m ∷ ms) admitted known at_home = (
   record {
     admitted = admitted.0;
     known = known.0;
-    run = at-home layout m.call (affinity_of m.affinity) at_home.0;
+    run = at-home layout m.call (home_node m.affinity) at_home.0;
   },
   placed-more layout n ms admitted.1 known.1 at_home.1,
 )

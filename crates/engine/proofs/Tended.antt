@@ -4,7 +4,7 @@ use Rattle.std.specs.Prelude.{◌^◌, slice_get, slice_set}
 use Rattle.std.specs.Global.{Vec}
 use Rattle.std.specs.List.{AllByRecursion}
 use Rattle.nfs_model.specs.Tree.{Layout, range_blocks_of}
-use Rattle.nfs_model.specs.Parts.{Parts, Hand, Empty}
+use Rattle.nfs_model.specs.Parts.{Hand, Empty}
 use Rattle.nfs_model.specs.World.{Setup, World}
 use Rattle.nfs_values.specs.declared.call.Call.{Call}
 use Rattle.affinity.specs.Tree.{IsNode}
@@ -13,8 +13,7 @@ use Rattle.depot_rule.specs.Sums.{total}
 use Rattle.filer_state.specs.state.Contents.{filer_contents}
 use Rattle.filer_state.specs.state.Tree.{server_of}
 use Rattle.filer_state.specs.state.Partition.{all_parts}
-use Rattle.filer_state.specs.state.Jobs as jobs
-use Rattle.filer_state.specs.state.Jobs.{InnerCall, Fetch, Deliver, Cull, Free, Survey, Took, Gave, Surveyed, Replied, inner_node, inner_volume, InnerMoves}
+use Rattle.filer_state.specs.state.Jobs.{InnerCall, inner_node, inner_volume}
 use Rattle.filer_state.specs.declared.files.Files.{Files}
 use Rattle.desk.specs.laws.Books.{now, stamps}
 use Rattle.desk.specs.Words.{books, IsKept}
@@ -36,13 +35,13 @@ use Rattle.engine.specs.declared.event.Refusal.TheVariants as refusals
 use Rattle.engine.specs.declared.state.State.{State}
 use Rattle.engine.specs.declared.worker.Worker.{Worker}
 use Rattle.engine.specs.declared.worker.WorkerRun.TheVariants.{Idle}
-use Rattle.engine.specs.Inner.{MayMake, IsMade, IsRefusedFor, MayTend, Tends, Refuses, IsOfHand, told_as}
+use Rattle.engine.specs.Inner.{MayMake, IsMade, IsRefusedFor, MayTend, Tends, Refuses, told_as}
 use Rattle.engine.specs.Numbers.{refusal_number}
 use Rattle.engine.specs.Seen.{held_in, setup_in, world, worker_seen, done_of}
 use Rattle.engine.specs.Sound.{IsReady, IsSoundEngine, running_messages, room_on}
 use Rattle.engine.specs.Workers.{worker_with, HandSet, HandTaken}
 use Rattle.engine.proofs.Workers.{seen-at, seen-carried, one-worker, carries-then}
-use Rattle.engine.proofs.Carried.{set-same}
+use Rattle.engine.proofs.Lists.{set-same}
 use Rattle.engine.proofs.Worked.{few-stamps, running-set}
 use Rattle.engine.proofs.Batches.{OfOneRange, carried-after}
 use Rattle.engine.proofs.Begins.{idle-lent, few-run}
@@ -56,35 +55,24 @@ held s = books s.desk
 abbrev pub with_tended : State → State → State
 with_tended s t = record s { workers = t.workers; desk = t.desk }
 
--- an inner call has a reply of its own
-not-replied : (size : ℕ) (call : InnerCall) (used : ℕ) (before after : Parts) (reply : jobs.JobReply) → InnerMoves size call used before reply after
-    → IsOfHand reply
-not-replied size call used before after (Took hand) moves = tt
-not-replied size call used before after (Gave hand) moves = tt
-not-replied size call used before after (Surveyed counts) moves = tt
-not-replied size (Fetch v r) used before after (Replied reply) moves = moves
-not-replied size (Deliver v) used before after (Replied reply) moves = moves
-not-replied size (Cull v) used before after (Replied reply) moves = moves
-not-replied size (Free v r) used before after (Replied reply) moves = moves
-not-replied size (Survey v) used before after (Replied reply) moves = moves
-
 -- the hand that was taken out of a worker's place is what it carried, and another is put there
-module _ (s : State) (i : ℕ) (call : InnerCall) (may : MayTend s i call) (hand : Hand) (taken : Vec Worker) (takes : HandTaken s.workers i hand taken) where
-  pub same_hand : hand ≡ may.hand
-  same_hand = (one-worker (slice_get s.workers.items i) takes.0 Idle hand may.hand takes.1 may.there).1
+module _ (s : State) (i : ℕ) (carried : Hand) (there : slice_get s.workers.items i ≡ Some (worker_with Idle carried)) (hand : Hand) (taken : Vec Worker)
+    (takes : HandTaken s.workers i hand taken) where
+  pub same_hand : hand ≡ carried
+  same_hand = (one-worker (slice_get s.workers.items i) takes.0 Idle hand carried takes.1 there).1
 
   abbrev same_run : takes.0 ≡ Idle
-  same_run = (one-worker (slice_get s.workers.items i) takes.0 Idle hand may.hand takes.1 may.there).0
+  same_run = (one-worker (slice_get s.workers.items i) takes.0 Idle hand carried takes.1 there).0
 
   module _ (other : Hand) (new : Vec Worker) (sets : HandSet taken i other new) where
     pub put_in : new.items ≡ slice_set s.workers.items i (worker_with Idle other)
-    put_in = carries-then s.workers.items taken.items new.items i Idle sets.0 may.hand other sets.1 may.there
+    put_in = carries-then s.workers.items taken.items new.items i Idle sets.0 carried other sets.1 there
         (ap (λ (v : Vec Worker). v.items) takes.2 ∙ ap (λ r. slice_set s.workers.items i (worker_with r Empty)) same_run)
         sets.2 (ap (λ (v : Vec Worker). v.items) sets.3)
 
     pub put_again : other ≡ hand → new.items ≡ s.workers.items
     put_again is = put_in ∙ ap (λ h. slice_set s.workers.items i (worker_with Idle h)) (is ∙ same_hand)
-        ∙ set-same s.workers.items i (worker_with Idle may.hand) may.there
+        ∙ set-same s.workers.items i (worker_with Idle carried) there
 
 module _ (s : State) (sound : IsSoundEngine s) (i : ℕ) (call : InnerCall) (may : MayTend s i call) where
   abbrev place : Worker
@@ -148,18 +136,14 @@ module _ (s : State) (sound : IsSoundEngine s) (i : ℕ) (call : InnerCall) (may
         (book-apart _ (held t) _ kept)
 
     stands : StandsFor job_of job_reply_of (setup_in s) then (held t)
-    stands = made-stands job_of job_reply_of (setup_in s) (world s) (held s) sound.stands i (worker_seen place) seen call node reply (held t) made
-        (book-apart _ (held t) _ kept)
+    stands = made-stands job_of job_reply_of (setup_in s) (world s) (held s) sound.stands i (worker_seen place) seen call node reply
+        (held t) made (book-apart _ (held t) _ kept)
 
     moved : HasMoved (setup_in s).layout (world s) i call (job_reply_of reply) then
     moved =
         subst (λ (l : Layout). HasMoved l (world s) i call (job_reply_of reply) then) sound.stands.layout
         (has-moved job_of job_reply_of (setup_in s) (world s) (held s) sound.stands i (worker_seen place) seen call node reply (held t) made
         (book-apart _ (held t) _ kept))
-
-    -- its reply is of a hand
-    pub of_hand : IsOfHand (job_reply_of reply)
-    of_hand = not-replied _ call _ moved.before moved.after (job_reply_of reply) moved.moves
 
     module _ (set : t.workers.items ≡ slice_set s.workers.items i (worker_with Idle hand)) where
       changed : IsChanged s new i place (worker_with Idle hand)

@@ -21,7 +21,7 @@ use Rattle.nfs_values.specs.declared.call.Call.{Call}
 use Rattle.nfs_values.specs.Call.{call_of}
 use Rattle.nfs_values.specs.Credential.{credential_of}
 use Rattle.nfs_values.specs.Reply.{reply_of}
-use Rattle.affinity.specs.Affinity.{affinity_of}
+use Rattle.affinity.specs.Affinity.{home_node}
 use Rattle.scheduler.specs.declared.message.Message.{Message}
 use Rattle.depot_rule.specs.Shares.{too_many}
 use Rattle.filer_state.specs.state.Parcels.{FilerParcel}
@@ -55,7 +55,7 @@ use Rattle.engine.specs.Workers.{worker_with}
 use Rattle.rpc_msg.specs.declared.handle_form.HandleForm.{HandleForm}
 use Rattle.rpc_msg.specs.Handles.{reply_told}
 use Rattle.engine.specs.Sound.{messages_in, running_messages, MayEnd}
-use Rattle.engine.proofs.Workers.{seen-ran, one-worker}
+use Rattle.engine.proofs.Workers.{seen-ran}
 
 -- ---- the reply fits its room
 
@@ -98,7 +98,7 @@ roomy-now begins stays setup w eight is =
 -- what a message came to may be told
 pub may-end : RepliesFit → (layout : Layout) (m : Message Call) → IsAdmitted layout m → (moment : Moment) (store after : Store)
     → IsRoomy (length layout.volumes) store.server → (o : Outcome)
-    → Works (record { asked = Ask (call_of m.call) (credential_of m.credential); affinity = affinity_of m.affinity; moment = moment }) store (outcome_of o)
+    → Works (record { asked = Ask (call_of m.call) (credential_of m.credential); affinity = home_node m.affinity; moment = moment }) store (outcome_of o)
     after
     → MovesOn layout m.call (outcome_of o) → MayEnd layout m o
 may-end fit layout m admitted moment store after roomy (Replied reply) works moves = λ form.
@@ -246,9 +246,3 @@ worked-world w c ks ls i r o hand seen there are same = λ j. record w {
   parts = all_parts (filer_contents c.layout (now c));
   stamps = same j;
 }
-
--- one place holds one message
-pub same-begun : (ks : List Worker) (i : ℕ) (q r : Running) (hand other : Hand) → slice_get ks i ≡ Some (worker_with (Begun r) hand)
-    → slice_get ks i ≡ Some (worker_with (Begun q) other) → q ≡ r
-same-begun ks i q r hand other there again =
-    let both = (one-worker (slice_get ks i) (Begun r) (Begun q) hand other there again).0 in cc

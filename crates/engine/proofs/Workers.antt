@@ -19,8 +19,8 @@ use Rattle.engine.specs.declared.worker.WorkerRun.{WorkerRun}
 use Rattle.engine.specs.declared.worker.WorkerRun.TheVariants.{Idle, Begun, Worked}
 use Rattle.engine.specs.Seen.{running_seen, worker_seen}
 use Rattle.engine.specs.Sound.{messages_in, running_messages}
-use Rattle.engine.specs.Workers.{worker_with}
-use Rattle.engine.proofs.Lists.{inner, none-some, set-here, set-twice}
+use Rattle.engine.specs.Workers.{worker_with, RunSet, RunTaken}
+use Rattle.engine.proofs.Lists.{inner, none-some, set-here, set-twice, set-same}
 
 -- what an index of a vector found
 pub index-found : (v : Vec Worker) (i : ℕ) (k : Worker) → i < vec_len v → k ≡ slice_index_or v.items i k → slice_get v.items i ≡ Some k
@@ -46,49 +46,33 @@ seen-carried (k ∷ ks) zero run was hand there =
     ap (λ (x : Worker). worker_seen (worker_with x.run hand) ∷ map worker_seen ks) (sym (inner k (worker_with run was) there))
 seen-carried (k ∷ ks) (suc i) run was hand there = ap (λ ws. worker_seen k ∷ ws) (seen-carried ks i run was hand there)
 
--- a worker by what it runs
-pub ran-at : (o : Option Worker) (run : WorkerRun) → Some run ≡ option_map (λ (k : Worker). k.run) o → (hand : Hand) × (o ≡ Some (worker_with run hand))
-ran-at None run e = absurd (none-some run (sym e))
-ran-at (Some k) run e = (k.hand, ap (λ r. Some (worker_with r k.hand)) (sym (inner run k.run e)))
+-- why a worker's message isn't worked or finished
+module _ (ks : List Worker) (i : ℕ) (setup : Setup) (w : World) (seen : w.workers ≡ map worker_seen ks) where
+  stands : slice_get w.workers i ≡ option_map worker_seen (slice_get ks i)
+  stands = ap (λ zs. slice_get zs i) seen ∙ slice_get-map worker_seen ks i
 
--- what was looked at is so of a vector's list: a worker by what it runs, and where there is none
-module _ (ks xs : List Worker) (i : ℕ) (o : Option WorkerRun) (are : xs ≡ ks) (told : o ≡ option_map (λ (k : Worker). k.run) (slice_get xs i)) where
-  here : o ≡ option_map (λ (k : Worker). k.run) (slice_get ks i)
-  here = told ∙ ap (λ zs. option_map (λ (k : Worker). k.run) (slice_get zs i)) are
+  -- nothing was begun
+  module _ (none : slice_get ks i ≡ None) where
+    pub work-nobody : refusal setup w (Work i) ≡ Some 34
+    work-nobody = rw (stands, none) refl
 
-  pub ran-here : (run : WorkerRun) → o ≡ Some run → (hand : Hand) × (slice_get ks i ≡ Some (worker_with run hand))
-  ran-here run is = ran-at (slice_get ks i) run (sym is ∙ here)
+    pub finish-nobody : refusal setup w (Finish i) ≡ Some 34
+    finish-nobody = rw (stands, none) refl
 
-  pub none-here : o ≡ None → slice_get ks i ≡ None
-  none-here is = by (slice_get ks i) (sym is ∙ here)
-    where
-      by : (x : Option Worker) → None ≡ option_map (λ (k : Worker). k.run) x → x ≡ None
-      by None e = refl
-      by (Some k) e = absurd (none-some k.run e)
+  module _ (hand : Hand) (there : slice_get ks i ≡ Some (worker_with Idle hand)) where
+    pub work-idle : refusal setup w (Work i) ≡ Some 34
+    work-idle = rw (stands, there) refl
 
-  module _ (setup : Setup) (w : World) (seen : w.workers ≡ map worker_seen ks) where
-    at : slice_get w.workers i ≡ option_map worker_seen (slice_get ks i)
-    at = ap (λ zs. slice_get zs i) seen ∙ slice_get-map worker_seen ks i
+    pub finish-idle : refusal setup w (Finish i) ≡ Some 34
+    finish-idle = rw (stands, there) refl
 
-    -- nothing was begun
-    pub work-nobody : o ≡ None → refusal setup w (Work i) ≡ Some 34
-    work-nobody is = rw (at, none-here is) refl
+  -- it was worked already, or wasn't
+  pub work-again : (r : Running) (outcome : Outcome) (hand : Hand) → slice_get ks i ≡ Some (worker_with (Worked r outcome) hand)
+      → refusal setup w (Work i) ≡ Some 34
+  work-again r outcome hand there = rw (stands, there) refl
 
-    pub finish-nobody : o ≡ None → refusal setup w (Finish i) ≡ Some 34
-    finish-nobody is = rw (at, none-here is) refl
-
-    pub work-idle : o ≡ Some Idle → refusal setup w (Work i) ≡ Some 34
-    work-idle is = rw (at, (ran-here Idle is).1) refl
-
-    pub finish-idle : o ≡ Some Idle → refusal setup w (Finish i) ≡ Some 34
-    finish-idle is = rw (at, (ran-here Idle is).1) refl
-
-    -- it was worked already, or wasn't
-    pub work-again : (r : Running) (outcome : Outcome) → o ≡ Some (Worked r outcome) → refusal setup w (Work i) ≡ Some 34
-    work-again r outcome is = rw (at, (ran-here (Worked r outcome) is).1) refl
-
-    pub finish-early : (r : Running) → o ≡ Some (Begun r) → refusal setup w (Finish i) ≡ Some 35
-    finish-early r is = rw (at, (ran-here (Begun r) is).1) refl
+  pub finish-early : (r : Running) (hand : Hand) → slice_get ks i ≡ Some (worker_with (Begun r) hand) → refusal setup w (Finish i) ≡ Some 35
+  finish-early r hand there = rw (stands, there) refl
 
 -- a place in a vector, and in one that was changed there
 pub in-vector : (v : Vec Worker) (i : ℕ) (k : Worker) → slice_get v.items i ≡ Some k → i < vec_len v
@@ -148,6 +132,23 @@ runs-then ks taken new i was run mid hand other there are at put =
     let same = one-worker (slice_get taken i) mid Idle other hand at (ap (λ xs. slice_get xs i) are ∙ here) in
     put ∙ ap (λ xs. slice_set xs i (worker_with run other)) are ∙ set-twice ks i (worker_with Idle hand) (worker_with run other)
     ∙ ap (λ h. slice_set ks i (worker_with run h)) same.1
+
+-- a worker of whom a run was taken out runs that again, or ran nothing
+module _ (old mid : Vec Worker) (i : ℕ) (run : WorkerRun) (taken : RunTaken old i run mid) where
+  pub taken-there : (was : WorkerRun) → run ≡ was → slice_get old.items i ≡ Some (worker_with was taken.0)
+  taken-there was is = taken.1 ∙ ap (λ (x : WorkerRun). Some (worker_with x taken.0)) is
+
+  taken-items : mid.items ≡ slice_set old.items i (worker_with Idle taken.0)
+  taken-items = ap (λ (v : Vec Worker). v.items) taken.2
+
+  pub idle-same : run ≡ Idle → mid.items ≡ old.items
+  idle-same is = taken-items ∙ set-same old.items i (worker_with Idle taken.0) (taken-there Idle is)
+
+  pub runs-again : (was : WorkerRun) (new : Vec Worker) → run ≡ was → RunSet mid i was new → new.items ≡ old.items
+  runs-again was new is put =
+      runs-then old.items mid.items new.items i was was put.0 taken.0 put.1 (taken-there was is) taken-items put.2
+      (ap (λ (v : Vec Worker). v.items) put.3)
+      ∙ set-same old.items i (worker_with was taken.0) (taken-there was is)
 
 -- a worker whose hand was taken out carries another thing
 pub carries-then : (ks taken new : List Worker) (i : ℕ) (run other : WorkerRun) (was hand mid : Hand) → slice_get ks i ≡ Some (worker_with run was)

@@ -7,7 +7,7 @@ use Rattle.nfs_values.specs.declared.call.Call.{Call}
 use Rattle.nfs_values.specs.declared.reply.Reply.{Reply}
 use Rattle.nfs_values.specs.declared.moment.Moment.{Moment}
 use Rattle.nfs_values.specs.Moment.{moment_of}
-use Rattle.affinity.specs.declared.affinity.Affinity.{Affinity}
+use Rattle.affinity.specs.declared.affinity.Home.{Home}
 use Rattle.scheduler.specs.declared.message.Origin.{Origin}
 use Rattle.scheduler.specs.declared.message.Message.{Message}
 use Rattle.service.specs.declared.job.Job.{Job}
@@ -30,7 +30,7 @@ use Rattle.engine.specs.Seen.{connection_seen}
 
 -- ---- the entry
 
-abbrev pub served_made : Origin → Call → Credential → Affinity → Moment → Bool → ServedCall
+abbrev pub served_made : Origin → Call → Credential → Home → Moment → Bool → ServedCall
 served_made origin call credential affinity moment starved = record {
   connection = origin.connection;
   number = origin.number;

@@ -1,7 +1,7 @@
 -- Inner calls of workers: what one needs, what it comes to, and what is told of it.
-use Rattle.std.specs.Prelude.{◌≡◌, ◌⊎◌, ℕ, ◌<◌, false, List, [], ◌∷◌, ◌++◌, length, Option, Some, None, Result, Ok, Err, slice_get}
+use Rattle.std.specs.Prelude.{◌≡◌, ◌⊎◌, ℕ, ◌<◌, false, List, ◌++◌, length, Option, Some, None, Result, Ok, Err, slice_get}
 use Rattle.nfs_model.specs.Tree.{Layout, range_blocks_of}
-use Rattle.nfs_model.specs.Parts.{Hand, Empty, Fresh, Dead, batch_in, range_of}
+use Rattle.nfs_model.specs.Parts.{Hand, Empty, batch_in}
 use Rattle.nfs_model.specs.World.{Setup, World}
 use Rattle.nfs_laws.specs.Sizes.{HaveSizes}
 use Rattle.nfs_model.specs.Events.Refusals as events
@@ -11,8 +11,10 @@ use Rattle.affinity.specs.Tree.{IsNode}
 use Rattle.depot_rule.specs.Shares.{too_many}
 use Rattle.desk.specs.laws.Books.{settled, stamps, IsIdle, IsTaken, HasHands, IsSettled}
 use Rattle.desk.specs.laws.Calls.{IsWorn}
+use Rattle.desk.specs.declared.refusal.Refusal as desks
+use Rattle.desk.specs.declared.refusal.Refusal.TheVariants as refused
 use Rattle.filer_state.specs.state.Jobs as jobs
-use Rattle.filer_state.specs.state.Jobs.{InnerCall, Fetch, Deliver, Cull, Free, Survey, batches_in, inner_node, inner_volume}
+use Rattle.filer_state.specs.state.Jobs.{InnerCall, Fetch, Cull, batches_in, inner_node, inner_volume}
 use Rattle.filer_state.specs.state.Running.{IsRefusedIn}
 use Rattle.filer_state.specs.state.Tree.{tree}
 use Rattle.engine.specs.laws.Store.{FilerBooks, filer}
@@ -21,10 +23,12 @@ use Rattle.engine.specs.laws.Inner.{IsFree, HasMade, HasMoved}
 use Rattle.service.specs.declared.job.Job.{Job}
 use Rattle.service.specs.declared.job.JobReply.{JobReply}
 use Rattle.service.specs.Jobs.{job_of, job_reply_of}
-use Rattle.service.specs.Inner.{IsHandFor, MayLackMemory}
+use Rattle.service.specs.Inner.{IsHandFor, MayLackMemory, call_to_put}
 use Rattle.engine.specs.declared.event.Done.{Done}
 use Rattle.engine.specs.declared.event.Refusal.{Refusal}
-use Rattle.engine.specs.declared.event.Refusal.TheVariants.{Busy, Worn, NoSuchRange, NoMemory}
+use Rattle.engine.specs.declared.event.Refusal.TheVariants.{Busy, Worn, NoSuchRange, NoMemory, NoWork}
+use Rattle.engine.specs.declared.inner.Asked.{Asked}
+use Rattle.engine.specs.declared.inner.Asked.TheVariants as asks
 use Rattle.engine.specs.declared.state.State.{State}
 use Rattle.engine.specs.declared.worker.WorkerRun.TheVariants.{Idle}
 use Rattle.engine.specs.Workers.{worker_with}
@@ -59,11 +63,6 @@ module _ {P : Type 0} where
 
 -- ---- what is told
 
--- the reply of an inner call
-abbrev pub IsOfHand : jobs.JobReply → Type 0
-IsOfHand (jobs.Replied reply) = ⊥
-IsOfHand other = Unit {0}
-
 abbrev pub hand_after : jobs.JobReply → Hand
 hand_after reply = laws.hand_after reply
 
@@ -73,12 +72,24 @@ told_as (jobs.Gave hand) = events.HasPut (length (batch_in hand))
 told_as (jobs.Surveyed counts) = events.Surveyed counts
 told_as (jobs.Replied reply) = events.HasReply
 
--- the call that puts down what is in a hand
-abbrev pub call_to_put : Layout → Hand → Option InnerCall
-call_to_put layout Empty = None
-call_to_put layout (Fresh volume blocks) = Some (Deliver volume)
-call_to_put layout (Dead volume []) = None
-call_to_put layout (Dead volume (b ∷ blocks)) = Some (Free volume (range_of (range_blocks_of layout volume) (b ∷ blocks)))
+-- why an inner call is refused that a desk refused
+abbrev pub refusal_by : desks.Refusal → Refusal
+refusal_by refused.Taken = Busy
+refusal_by refused.Worn = Worn
+
+-- ---- what is asked
+
+-- the inner call that is asked of a worker with this in its hand, if there is one
+abbrev pub call_asked : Layout → Asked → Hand → Option InnerCall
+call_asked layout (asks.Fetch volume range) hand = Some (Fetch volume.0 range)
+call_asked layout (asks.Cull volume) hand = Some (Cull volume.0)
+call_asked layout asks.PutDown hand = call_to_put layout hand
+
+-- its hand is empty, unless it is to be put down
+abbrev pub FitsAsked : Asked → Hand → Type 0
+FitsAsked (asks.Fetch volume range) hand = hand ≡ Empty
+FitsAsked (asks.Cull volume) hand = hand ≡ Empty
+FitsAsked asks.PutDown hand = Unit {0}
 
 -- ---- in the engine
 
@@ -109,3 +120,17 @@ Happens setup w worker call (Err number) new = Refuses setup w call number × (n
 
 abbrev pub Tends : State → ℕ → InnerCall → Result Done Refusal → State → Type 0
 Tends s worker call answer new = Happens (setup_in s) (world s) worker call (answer_of answer) (world new)
+
+-- ---- what is asked of a worker in the engine
+
+-- an idle worker may be asked this
+pub record MayAsk (s : State) (worker : ℕ) (asked : Asked) : Type 0 where
+  pub hand : Hand
+  pub there : slice_get s.workers.items worker ≡ Some (worker_with Idle hand)
+  pub fits : FitsAsked asked hand
+  pub may : (call : InnerCall) → call_asked (setup_in s).layout asked hand ≡ Some call → MayTend s worker call
+
+-- the inner call that was asked was made or refused; where there was none, it was refused, and all is as it was
+abbrev pub HasAsked : State → ℕ → Option InnerCall → Result Done Refusal → State → Type 0
+HasAsked s worker (Some call) answer new = Tends s worker call answer new
+HasAsked s worker None answer new = (answer ≡ Err NoWork) × (world new ≡ world s)

@@ -6,7 +6,7 @@ use Rattle.nfs_model.specs.World as worlds
 use Rattle.nfs_model.specs.Events.Refusals as events
 use Rattle.rpc_msg.specs.declared.offer.Offer.{Offer}
 use Rattle.nfs_values.specs.Moment.{moment_of}
-use Rattle.affinity.specs.Affinity.{affinity_of}
+use Rattle.affinity.specs.Affinity.{home_node}
 use Rattle.desk.specs.laws.Books.{now, stamps}
 use Rattle.desk.specs.Words.{books}
 use Rattle.filer_state.specs.state.Contents.{filer_contents}
@@ -95,10 +95,10 @@ abbrev pub done_of : Done → events.Done
 done_of (dones.Opened connection) = events.Opened connection.0
 done_of (dones.Fed taken stop) = events.Fed taken (stop_number stop)
 done_of dones.Closed = events.IsClosed
-done_of (dones.Granted affinity) = events.Granted (affinity_of affinity)
+done_of (dones.Granted affinity) = events.Granted (home_node affinity)
 done_of dones.Replied = events.HasReply
 done_of dones.Starved = events.IsStarved
-done_of (dones.Moved affinity) = events.HasMove (affinity_of affinity)
+done_of (dones.Moved affinity) = events.HasMove (home_node affinity)
 done_of (dones.Written connection count) = events.Written connection.0 count
 done_of dones.PutBack = events.IsBack
 done_of (dones.InHand count) = events.HandHas count

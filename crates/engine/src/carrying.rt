@@ -1,24 +1,18 @@
 //! What workers carry between the parts of a volume.
 
-ghost use Rattle.std.specs.Prelude.{◌≡◌, ◌&&◌, length, map, nat_lt, option_map, slice_get};
+ghost use Rattle.std.specs.Prelude.{◌≡◌, ◌&&◌, length, map, nat_lt, slice_get};
 ghost use Rattle.nfs_model.specs.Events.Refusals as event;
-ghost use Rattle.affinity.specs.Layout.{layout_of};
-ghost use Rattle.service.specs.Jobs.{inner_of};
 ghost use Rattle.engine_feed.specs.Seen.{layout_in};
-ghost use Rattle.engine.specs.Inner.{call_to_put};
 ghost use Rattle.engine.specs.Seen.{worker_seen};
 ghost use Rattle.engine.specs.Sound.{IsSoundEngine};
 ghost use Rattle.engine.specs.Words.{Does, HasItsSetup};
 
 use crate::event::{Done, Refusal};
-use crate::inner::tend;
+use crate::inner::{Asked, count_free, tend};
 use crate::state::{RANGES, State};
 use crate::worker::{Worker, has_empty_hand, is_idle};
-use affinity::Layout;
 use engine_feed::Calls;
 use nfs_values::VolumeNumber;
-use parcels::Hand;
-use service::{BatchInHand, InnerCall};
 
 /// Whether a worker is there, runs nothing and carries nothing.
 fn is_free(workers: &[Worker], worker: usize) -> bool
@@ -57,7 +51,7 @@ pub(crate) fn fetch(
     if range >= RANGES {
         return Err(Refusal::NoSuchRange);
     }
-    tend(state, worker, InnerCall::Fetch { volume, range })
+    tend(state, worker, Asked::Fetch { volume, range })
 }
 
 /// Blocks that files have left, up to 64 of one range, come into the empty hand of an idle worker.
@@ -73,26 +67,7 @@ pub(crate) fn cull(state: &mut State, worker: usize, volume: VolumeNumber) -> Re
     if !has_volume(&state.calls, volume) {
         return Err(Refusal::NoSuchRange);
     }
-    tend(state, worker, InnerCall::Cull { volume })
-}
-
-/// The call that puts down what is in a hand; none where it is empty.
-fn call_of(layout: &Layout, hand: &BatchInHand) -> Option<InnerCall>
-    ensures { option_map inner_of result ≡ call_to_put (layout_of layout.now) hand.now }
-{
-    match hand.hand() {
-        Hand::Empty => None,
-        Hand::Fresh { volume, batch: _ } => Some(InnerCall::Deliver {
-            volume: VolumeNumber(*volume),
-        }),
-        Hand::Dead { volume, batch } => {
-            let range = batch.range(layout.range_blocks_of(*volume))?;
-            Some(InnerCall::Free {
-                volume: VolumeNumber(*volume),
-                range,
-            })
-        }
-    }
+    tend(state, worker, Asked::Cull { volume })
 }
 
 /// What an idle worker carries is put down: free blocks come into the stock of their volume, dead
@@ -106,10 +81,7 @@ pub(crate) fn put_down(state: &mut State, worker: usize) -> Result<Done, Refusal
     if !is_idle(&state.workers, worker) {
         return Err(Refusal::WorkerBusy);
     }
-    match call_of(state.calls.layout(), &state.workers[worker].hand) {
-        Some(call) => tend(state, worker, call),
-        None => Err(Refusal::NoWork),
-    }
+    tend(state, worker, Asked::PutDown)
 }
 
 /// Tells how many blocks of each range in use are free, to an idle worker with an empty hand.
@@ -129,5 +101,5 @@ pub(crate) fn survey(
     if !has_volume(&state.calls, volume) {
         return Err(Refusal::NoSuchRange);
     }
-    tend(state, worker, InnerCall::Survey { volume })
+    count_free(state, worker, volume)
 }

@@ -67,11 +67,7 @@ pub(crate) fn close_connection(state: &mut State, connection: usize) -> Result<D
         Some(key) => key,
         None => return Err(Refusal::Closed),
     };
-    let removed = match state.slab.try_remove(key) {
-        Some(removed) => removed,
-        None => unreachable!(),
-    };
-    let (stream, output) = removed.into_parts();
+    let (stream, output) = state.slab.remove(key).into_parts();
     let closed = ClosedConnection {
         stream,
         output,

@@ -2,7 +2,7 @@
 
 ghost use Rattle.std.specs.Prelude.{◌≡◌};
 
-use affinity::Affinity;
+use affinity::Home;
 use engine_feed::Stop;
 use nfs_values::{ConnectionNumber, Moment, VolumeNumber, WorkerNumber};
 
@@ -72,7 +72,7 @@ pub enum Done {
     Closed,
     /// The message has this affinity's parcels.
     Granted {
-        affinity: Affinity,
+        affinity: Home,
     },
     /// The call has its reply.
     Replied,
@@ -80,7 +80,7 @@ pub enum Done {
     Starved,
     /// The message has to run on this affinity's parcels.
     Moved {
-        affinity: Affinity,
+        affinity: Home,
     },
     /// The reply has so many bytes on this connection: none where it is closed.
     Written {

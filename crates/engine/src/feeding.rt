@@ -30,10 +30,7 @@ fn receive(
     ensures { ReceivesUnder offer calls.old slab.old key number.0 bytes.now result
         calls.new slab.new }
 {
-    let on = match slab.get_mut(key) {
-        Some(on) => on,
-        None => unreachable!(),
-    };
+    let on = &mut slab[key];
     if !on.takes_input() {
         return None;
     }

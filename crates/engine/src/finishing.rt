@@ -21,14 +21,14 @@ use crate::connection::Connection;
 use crate::event::{Done, Refusal};
 use crate::lending::{enter, take_back};
 use crate::state::State;
-use crate::worker::{Running, WorkerRun, run_at, take_run};
-use affinity::Affinity;
+use crate::worker::{Running, WorkerRun, set_run, take_run};
+use affinity::Home;
 use desk::{Desk, ParcelKinds};
 use engine_feed::{Calls, OpenConnection};
 use nfs_values::{Call, Credential, Moment, Reply};
 use rpc_msg::tell;
 use scheduler::{Message, Origin};
-use service::{Job, JobReply, Outcome, ServedCall, Service};
+use service::{Outcome, ServedCall, Service};
 use slab::Slab;
 
 /// The entry of a call that ran.
@@ -36,7 +36,7 @@ fn served(
     origin: Origin,
     call: Call,
     credential: Credential,
-    affinity: Affinity,
+    affinity: Home,
     moment: Moment,
     starved: bool,
 ) -> ServedCall
@@ -59,23 +59,21 @@ fn served(
     }
 }
 
-/// Ends a worker's call on the desk by an entry of the history, and gives back its message and its
-/// reply.
+/// Ends a worker's call on the desk by an entry of the history, and gives back its message.
 fn end_on(
     desk: &mut Desk<Service, ParcelKinds>,
     worker: usize,
     running: Running,
-    reply: Reply,
+    reply: &Reply,
     starved: bool,
-) -> (Running, Reply)
+) -> Running
     requires kept { IsKept desk.old }
     requires may { MayFinish (machine_in desk.old) (books desk.old) worker
-        (job_made running starved) (answer_made reply) }
+        (job_made running starved) (answer_made reply.now) }
     ensures kept { IsKept desk.new }
     ensures finished { HasFinished (machine_in desk.old) (books desk.old) worker
-        (job_made running starved) (answer_made reply) (books desk.new) }
-    ensures running { result.0 ≡ running }
-    ensures reply { result.1 ≡ reply }
+        (job_made running starved) (answer_made reply.now) (books desk.new) }
+    ensures running { result ≡ running }
 {
     let Running { message, moment } = running;
     let Message {
@@ -85,13 +83,9 @@ fn end_on(
         affinity,
         room,
     } = message;
-    let job = Job::Serve(served(origin, call, credential, affinity, moment, starved));
-    let answer = JobReply::Replied(reply);
-    enter(desk, worker, &job, &answer);
-    let (call, reply) = match (job, answer) {
-        (Job::Serve(ServedCall { call, .. }), JobReply::Replied(reply)) => (call, reply),
-        _ => unreachable!(),
-    };
+    let served = served(origin, call, credential, affinity, moment, starved);
+    enter(desk, worker, &served, reply);
+    let ServedCall { call, .. } = served;
     let message = Message {
         origin,
         call,
@@ -99,7 +93,7 @@ fn end_on(
         affinity,
         room,
     };
-    (Running { message, moment }, reply)
+    Running { message, moment }
 }
 
 /// Finishes a message that ran: its reply, as it is told, is written where its connection is open.
@@ -134,11 +128,7 @@ fn end_in(
             return 0;
         }
     };
-    let on = match slab.get_mut(key) {
-        Some(on) => on,
-        None => unreachable!(),
-    };
-    calls.finish(message, moment, on, reply, starved)
+    calls.finish(message, moment, &mut slab[key], reply, starved)
 }
 
 /// Finishes the message that a worker has worked.
@@ -148,18 +138,19 @@ pub(crate) fn finish(state: &mut State, worker: usize) -> Result<Done, Refusal>
     ensures setup { HasItsSetup state.old state.new }
     ensures sound { IsSoundEngine state.new }
 {
-    match run_at(&state.workers, worker) {
-        Some(WorkerRun::Worked(..)) => {}
-        Some(WorkerRun::Begun(_)) => return Err(Refusal::NotWorked),
-        Some(WorkerRun::Idle) => return Err(Refusal::NoWork),
-        None => return Err(Refusal::NoWork),
+    if worker >= state.workers.len() {
+        return Err(Refusal::NoWork);
     }
     let (running, outcome) = match take_run(&mut state.workers, worker) {
         WorkerRun::Worked(running, outcome) => (running, outcome),
-        _ => unreachable!(),
+        WorkerRun::Begun(running) => {
+            set_run(&mut state.workers, worker, WorkerRun::Begun(running));
+            return Err(Refusal::NotWorked);
+        }
+        WorkerRun::Idle => return Err(Refusal::NoWork),
     };
     let connection = running.message.origin.connection;
-    let (reply, starved) = match outcome {
+    let (mut reply, starved) = match outcome {
         Outcome::Replied(reply) => (reply, false),
         Outcome::Starved => (Reply::Refused(nfs_values::Refusal::SystemError), true),
         Outcome::Moved(affinity) => {
@@ -171,7 +162,7 @@ pub(crate) fn finish(state: &mut State, worker: usize) -> Result<Done, Refusal>
             return Ok(Done::PutBack);
         }
     };
-    let (running, mut reply) = end_on(&mut state.desk, worker, running, reply, starved);
+    let running = end_on(&mut state.desk, worker, running, &reply, starved);
     tell(&mut reply, state.offer.handles());
     let count = end_in(
         &mut state.calls,

@@ -1,47 +1,49 @@
 //! The desk's calls at the engine's own types: what is asked of those types is proved here once.
 
 ghost use Rattle.std.specs.Prelude.{◌≡◌, OnOk, IfErr};
-ghost use Rattle.affinity.specs.Affinity.{affinity_of};
+ghost use Rattle.affinity.specs.Affinity.{home_node};
 ghost use Rattle.affinity.specs.Tree.{IsNode};
 ghost use Rattle.desk.specs.laws.Books.{IsIdle};
 ghost use Rattle.desk.specs.laws.Calls.{HasBegun, MayFinish, HasFinished, MayPutBack, HasPutBack};
 ghost use Rattle.desk.specs.Refusal.{IsRefused};
 ghost use Rattle.desk.specs.Words.{books, machine_in, IsKept};
 
-use affinity::Affinity;
+use affinity::Home;
+use depot::Entered;
 use desk::{Desk, ParcelKinds, Refusal};
 use service::{Job, JobReply, Service};
 
-/// Lends the parcels under an affinity to an idle worker.
+/// Lends the parcels under a node to an idle worker.
 pub(crate) fn lend(
     desk: &mut Desk<Service, ParcelKinds>,
     worker: usize,
-    affinity: Affinity,
+    home: Home,
 ) -> Result<(), Refusal>
     requires kept { IsKept desk.old }
-    requires node { IsNode (books desk.old).layout (affinity_of affinity) }
+    requires node { IsNode (books desk.old).layout (home_node home) }
     requires idle { IsIdle (books desk.old) worker }
     ensures kept { IsKept desk.new }
     ensures begun { OnOk result
-        (HasBegun (books desk.old) worker (affinity_of affinity) (books desk.new)) }
-    ensures refused { IfErr result (IsRefused (books desk.old) (affinity_of affinity)) }
+        (HasBegun (books desk.old) worker (home_node home) (books desk.new)) }
+    ensures refused { IfErr result (IsRefused (books desk.old) (home_node home)) }
     ensures same { IfErr result (λ refusal. books desk.new ≡ books desk.old) }
 {
-    desk.begin(worker, affinity)
+    desk.begin(worker, home)
 }
 
 /// Ends a worker's call by an entry of the history.
-pub(crate) fn enter(
+pub(crate) fn enter<C: Entered<Job>, A: Entered<JobReply>>(
     desk: &mut Desk<Service, ParcelKinds>,
     worker: usize,
-    call: &Job,
-    reply: &JobReply,
+    call: &C,
+    reply: &A,
 )
     requires kept { IsKept desk.old }
-    requires may { MayFinish (machine_in desk.old) (books desk.old) worker call.now reply.now }
+    requires may { MayFinish (machine_in desk.old) (books desk.old) worker
+        (C.entered call.now) (A.entered reply.now) }
     ensures kept { IsKept desk.new }
-    ensures finished { HasFinished (machine_in desk.old) (books desk.old) worker call.now reply.now
-        (books desk.new) }
+    ensures finished { HasFinished (machine_in desk.old) (books desk.old) worker
+        (C.entered call.now) (A.entered reply.now) (books desk.new) }
 {
     desk.finish(worker, call, reply);
 }

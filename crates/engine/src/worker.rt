@@ -1,8 +1,7 @@
 //! What workers run and carry.
 
-ghost use Rattle.std.specs.Prelude.{◌≡◌, ◌<◌, map, option_map, vec_len};
+ghost use Rattle.std.specs.Prelude.{◌≡◌, ◌<◌, map, vec_len};
 ghost use Rattle.std.specs.List.{slice_get};
-ghost use Rattle.std.specs.Option.{option_copied};
 ghost use Rattle.nfs_model.specs.Events.Refusals.{is_idle, has_empty_hand};
 ghost use Rattle.engine.specs.Seen.{worker_seen};
 ghost use Rattle.engine.specs.Workers.{RunSet, RunTaken, HandSet, HandTaken};
@@ -60,16 +59,6 @@ pub(crate) fn has_empty_hand(workers: &[Worker], worker: usize) -> bool
     match workers.get(worker) {
         Some(found) => matches!(found.hand.hand(), Hand::Empty),
         None => false,
-    }
-}
-
-/// What a worker runs.
-pub(crate) fn run_at(workers: &[Worker], worker: usize) -> Option<&WorkerRun>
-    ensures { option_copied result ≡ option_map (λ k. k.run) (slice_get workers.now worker) }
-{
-    match workers.get(worker) {
-        Some(found) => Some(&found.run),
-        None => None,
     }
 }
 

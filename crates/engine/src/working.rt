@@ -16,7 +16,7 @@ use crate::counting::recount;
 use crate::counts::VolumeCounts;
 use crate::event::{Done, Refusal};
 use crate::state::State;
-use crate::worker::{Running, WorkerRun, run_at, set_run, take_run};
+use crate::worker::{Running, WorkerRun, set_run, take_run};
 use desk::{Desk, ParcelKinds};
 use rpc_msg::{replies_fit, servers_are_roomy};
 use service::{Outcome, Run, Service};
@@ -86,18 +86,23 @@ pub(crate) fn work(
     replies_fit();
     servers_are_roomy();
     has_eight(state.verifier.0);
-    let running = match run_at(&state.workers, worker) {
-        Some(WorkerRun::Begun(running)) => running,
-        Some(WorkerRun::Worked(..)) => return Err(Refusal::NoWork),
-        Some(WorkerRun::Idle) => return Err(Refusal::NoWork),
-        None => return Err(Refusal::NoWork),
-    };
-    let outcome = run_on(state.alloc, &mut state.desk, counts, worker, running);
-    let done = done_of(&outcome);
+    if worker >= state.workers.len() {
+        return Err(Refusal::NoWork);
+    }
     let running = match take_run(&mut state.workers, worker) {
         WorkerRun::Begun(running) => running,
-        _ => unreachable!(),
+        WorkerRun::Worked(running, outcome) => {
+            set_run(
+                &mut state.workers,
+                worker,
+                WorkerRun::Worked(running, outcome),
+            );
+            return Err(Refusal::NoWork);
+        }
+        WorkerRun::Idle => return Err(Refusal::NoWork),
     };
+    let outcome = run_on(state.alloc, &mut state.desk, counts, worker, &running);
+    let done = done_of(&outcome);
     set_run(
         &mut state.workers,
         worker,

@@ -9,7 +9,7 @@ use Rattle.nfs_values.specs.declared.call.Call.{Call}
 use Rattle.rpc_msg.specs.declared.offer.Offer.{Offer}
 use Rattle.nfs_values.specs.Call.{call_of}
 use Rattle.rpc_msg.specs.Room.{reply_room}
-use Rattle.affinity.specs.Affinity.{affinity_of}
+use Rattle.affinity.specs.Affinity.{home_node}
 use Rattle.affinity.specs.Tree.{IsNode}
 use Rattle.rpc_record.specs.Machine.{State, Outcome, More, Made, Fault, outcome}
 use Rattle.rpc_record.specs.Stream.{read_stream}
@@ -43,7 +43,7 @@ pub record IsSoundConnection (c : ConnectionState) : Type 0 where
 
 -- A message tries a node of the layout, and it keeps the room of its reply.
 pub record IsAdmitted (layout : Layout) (m : Message Call) : Type 0 where
-  pub node : IsNode layout (affinity_of m.affinity)
+  pub node : IsNode layout (home_node m.affinity)
   pub room : m.room ≡ reply_room (length layout.volumes) (call_of m.call)
 
 pub record AreSound (calls : CallsState) : Type 0 where

@@ -9,7 +9,7 @@ use crate::texts::{
     BADHANDLE_REPLY, GETATTR, GETATTR_ASTRAY, NO_CALL, NO_PROGRAM, NO_PROGRAM_REPLY, NULL,
     NULL_IN_TWO, NULL_REPLY, SHORT, TOO_LONG,
 };
-use affinity::{Affinity, AggregateSpec, Layout, VolumeSpec};
+use affinity::{AggregateSpec, Home, Layout, VolumeSpec};
 use nfs_values::ConnectionNumber;
 use rpc_msg::Offer;
 use std::mem;
@@ -148,7 +148,7 @@ fn are_calls(rt: &impl Abort, sink: &Gathered, calls: &[(usize, u32)]) {
         assert!(rt; message.origin.connection.0 == 0);
         assert!(rt; message.origin.number == *number);
         assert!(rt; message.origin.xid == *xid);
-        assert!(rt; message.affinity == Affinity::VolumeLogical(0));
+        assert!(rt; message.affinity == Home::Logical(0));
     }
 }
 

@@ -1,12 +1,8 @@
 -- A node told in two ways.
-use Rattle.std.proofs.Common.{◌≡◌, ℕ, Option, sym, subst, refl}
+use Rattle.std.proofs.Common.{◌≡◌, ℕ, Option, sym, subst}
 use Rattle.std.specs.Prelude.{IfSome}
 use Rattle.nfs_model.specs.Tree.{Layout, Affinity}
 use Rattle.affinity.specs.declared.affinity.Kind.{Kind}
-use Rattle.affinity.specs.declared.affinity.Kind.TheVariants as kinds
-use Rattle.affinity.specs.declared.affinity.Affinity.TheVariants as affinities
-use Rattle.affinity.specs.declared.affinity.Affinity as declared
-use Rattle.affinity.specs.Affinity.{kind_of, affinity_of}
 use Rattle.affinity.specs.Tree.{IsNode}
 use Rattle.parcels.specs.Exact.{Under, HasExactly}
 use Rattle.parcels.specs.Moved.{Moved}
@@ -27,8 +23,3 @@ module _ (layout : Layout) (a b : Affinity) (e : a ≡ b) where
 
     pub at-exact : (kind : T → Kind) → HasExactly kind layout b (p layout b held) → HasExactly kind layout a (p layout a held)
     at-exact kind = subst (λ n. HasExactly kind layout n (p layout n held)) (sym e)
-
--- an affinity of the kind Volume is no other variant
-pub of_volume : (x : declared.Affinity) → kind_of (affinity_of x) ≡ kinds.Volume → ((v : ℕ) → x ≡ affinities.Volume v → ⊥) → ⊥
-of_volume (affinities.Volume v) e n = n v refl
-of_volume _ e n = cc

@@ -1,6 +1,7 @@
 pub mod Slots
 pub mod Moved
 pub mod Sets
+pub mod Around
 pub mod Children
 pub mod Exact
 pub mod Filled

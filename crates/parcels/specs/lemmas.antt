@@ -5,3 +5,4 @@ pub mod At
 pub mod Within
 pub mod Sorts
 pub mod Exactly
+pub mod Around

@@ -7,32 +7,51 @@ ghost use Rattle.affinity.specs.Tree.{IsNode};
 ghost use Rattle.affinity.specs.Layout.{layout_of};
 ghost use Rattle.parcels.specs.Children.{EachChild, child, has_child, most_children};
 ghost use Rattle.parcels.specs.Children.{child_parcels, children_parcels};
-ghost use Rattle.parcels.specs.Exact.{AllPlaced, AllVacant, HasParcel, kind_in};
+ghost use Rattle.parcels.specs.Exact.{AllPlaced, AllVacant, IsPlaced};
 ghost use Rattle.parcels.specs.Moved.{AllMoved};
 ghost use Rattle.parcels.specs.Slots.{alone};
 
 use crate::children::{child, child_count, has_child};
-use crate::family::{Family, Parcel};
 use crate::node::Node;
+use crate::own::OwnParcel;
 use crate::shelf::Shelf;
 use crate::slots::Slots;
 use affinity::{Affinity, HasKind, Layout};
 
 /// Takes the parcel of a node.
-pub(crate) fn take_parcel<P: Family, S: Shelf<Parcel<P>>>(
-    shelf: &mut S,
-    layout: &Layout,
-    affinity: Affinity,
-) -> Parcel<P>
+fn take_parcel<T: HasKind, S: Shelf<T>>(shelf: &mut S, layout: &Layout, affinity: Affinity) -> T
     requires node { IsNode (layout_of layout.now) (affinity_of affinity) }
-    requires there { HasParcel (layout_of layout.now) (S.at shelf.old) (affinity_of affinity) }
-    ensures kind { kind_in result ≡ kind_of (affinity_of affinity) }
+    requires there { IsPlaced T.kind (layout_of layout.now) (S.at shelf.old)
+        (affinity_of affinity) }
+    ensures kind { T.kind result ≡ kind_of (affinity_of affinity) }
     ensures moved { AllMoved (S.at shelf.old)
         (alone (number_of (layout_of layout.now) (affinity_of affinity)) result)
         (S.at shelf.new) }
     ensures kept { S.keeps shelf.old shelf.new }
 {
     shelf.take(layout.number_of(affinity))
+}
+
+/// Takes what a node's parcel has in it.
+pub(crate) fn take_own<T: HasKind, K: OwnParcel<T>, S: Shelf<T>>(
+    shelf: &mut S,
+    layout: &Layout,
+    affinity: Affinity,
+) -> K::Own
+    requires node { IsNode (layout_of layout.now) (affinity_of affinity) }
+    requires kind { kind_of (affinity_of affinity) ≡ K.KIND }
+    requires there { IsPlaced T.kind (layout_of layout.now) (S.at shelf.old)
+        (affinity_of affinity) }
+    ensures moved { AllMoved (S.at shelf.old)
+        (alone (number_of (layout_of layout.now) (affinity_of affinity)) (K.as_parcel result))
+        (S.at shelf.new) }
+    ensures kept { S.keeps shelf.old shelf.new }
+{
+    // A shelf has parcels of every kind.
+    match K::own_of(take_parcel(shelf, layout, affinity)) {
+        Ok(own) => own,
+        Err(_) => unreachable!(),
+    }
 }
 
 /// Takes the set of a node.

@@ -2,6 +2,7 @@
 //! nodes below it. A set is put together from a shelf of parcels and taken apart without memory.
 #![tactic(auto)]
 
+mod around;
 mod children;
 mod family;
 mod gather;
@@ -9,12 +10,14 @@ mod hand;
 mod node;
 mod nodes;
 mod numbers;
+mod own;
 mod scatter;
 mod sets;
 mod shelf;
 mod slots;
 mod vec_shelf;
 
+pub use around::{aggregate_number, stripe_number, volume_number};
 pub use family::{Family, Parcel};
 pub use hand::Hand;
 pub use node::Node;

@@ -15,8 +15,9 @@ ghost use Rattle.parcels.specs.lemmas.Within.{range-within, vbn-within, stripe-w
 ghost use Rattle.parcels.specs.lemmas.Within.{logical-within, volume-within};
 ghost use Rattle.parcels.specs.lemmas.Within.{aggregate-within, serial-within};
 
+use crate::around::volume_number;
 use crate::family::{Family, Parcel};
-use crate::gather::{gather_at, gather_children, take_parcel};
+use crate::gather::{gather_at, gather_children, take_own};
 use crate::node::Node;
 use crate::sets::{AggrHeld, LogicalHeld, RangeHeld, SerialHeld, StripeHeld, VbnHeld, VolumeHeld};
 use crate::shelf::Shelf;
@@ -42,9 +43,7 @@ impl<P: Family> Node<Parcel<P>> for SerialNode {
         layout: &Layout,
         affinity: Affinity,
     ) -> SerialHeld<P> {
-        let Parcel::Serial(own) = take_parcel(shelf, layout, affinity) else {
-            unreachable!()
-        };
+        let own = take_own::<Parcel<P>, SerialNode, S>(shelf, layout, affinity);
         let mut aggregates = two_slots();
         gather_children::<Parcel<P>, AggregateNode, SlotArray<AggrHeld<P>, 2>, S>(
             shelf,
@@ -90,9 +89,7 @@ impl<P: Family> Node<Parcel<P>> for AggregateNode {
         layout: &Layout,
         affinity: Affinity,
     ) -> AggrHeld<P> {
-        let Parcel::Aggregate(own) = take_parcel(shelf, layout, affinity) else {
-            unreachable!()
-        };
+        let own = take_own::<Parcel<P>, AggregateNode, S>(shelf, layout, affinity);
         let mut volumes = eight_slots();
         gather_children::<Parcel<P>, VolumeNode, SlotArray<VolumeHeld<P>, 8>, S>(
             shelf,
@@ -138,12 +135,8 @@ impl<P: Family> Node<Parcel<P>> for VolumeNode {
         layout: &Layout,
         affinity: Affinity,
     ) -> VolumeHeld<P> {
-        let Affinity::Volume(volume) = affinity else {
-            unreachable!()
-        };
-        let Parcel::Volume(own) = take_parcel(shelf, layout, Affinity::Volume(volume)) else {
-            unreachable!()
-        };
+        let volume = volume_number(affinity);
+        let own = take_own::<Parcel<P>, VolumeNode, S>(shelf, layout, Affinity::Volume(volume));
         let logical = gather_at::<Parcel<P>, LogicalNode, S>(
             shelf,
             layout,
@@ -188,9 +181,7 @@ impl<P: Family> Node<Parcel<P>> for LogicalNode {
         layout: &Layout,
         affinity: Affinity,
     ) -> LogicalHeld<P> {
-        let Parcel::Logical(own) = take_parcel(shelf, layout, affinity) else {
-            unreachable!()
-        };
+        let own = take_own::<Parcel<P>, LogicalNode, S>(shelf, layout, affinity);
         let mut stripes = sixteen_slots();
         gather_children::<Parcel<P>, StripeNode, SlotArray<StripeHeld<P>, 16>, S>(
             shelf,
@@ -236,9 +227,7 @@ impl<P: Family> Node<Parcel<P>> for StripeNode {
         layout: &Layout,
         affinity: Affinity,
     ) -> StripeHeld<P> {
-        let Parcel::Stripe(own) = take_parcel(shelf, layout, affinity) else {
-            unreachable!()
-        };
+        let own = take_own::<Parcel<P>, StripeNode, S>(shelf, layout, affinity);
         StripeHeld { own }
     }
 
@@ -277,9 +266,7 @@ impl<P: Family> Node<Parcel<P>> for VbnNode {
         layout: &Layout,
         affinity: Affinity,
     ) -> VbnHeld<P> {
-        let Parcel::Vbn(own) = take_parcel(shelf, layout, affinity) else {
-            unreachable!()
-        };
+        let own = take_own::<Parcel<P>, VbnNode, S>(shelf, layout, affinity);
         let mut ranges = sixteen_slots();
         gather_children::<Parcel<P>, RangeNode, SlotArray<RangeHeld<P>, 16>, S>(
             shelf,
@@ -325,9 +312,7 @@ impl<P: Family> Node<Parcel<P>> for RangeNode {
         layout: &Layout,
         affinity: Affinity,
     ) -> RangeHeld<P> {
-        let Parcel::Range(own) = take_parcel(shelf, layout, affinity) else {
-            unreachable!()
-        };
+        let own = take_own::<Parcel<P>, RangeNode, S>(shelf, layout, affinity);
         RangeHeld { own }
     }
 

@@ -8,6 +8,7 @@ ghost use Rattle.parcels.specs.Sets.{range_parcels, vbn_parcels, stripe_parcels}
 ghost use Rattle.parcels.specs.Sets.{logical_parcels, volume_parcels};
 ghost use Rattle.parcels.specs.Sets.{aggregate_parcels, serial_parcels};
 
+use crate::around::volume_number;
 use crate::family::{Family, Parcel};
 use crate::nodes::{AggregateNode, LogicalNode, RangeNode, StripeNode, VbnNode, VolumeNode};
 use crate::scatter::{put_parcel, scatter_at, scatter_children};
@@ -185,9 +186,7 @@ impl<P: Family> VolumeHeld<P> {
             (volume_parcels (layout_of layout.now) (affinity_of affinity) self) (S.at shelf.old) }
         ensures kept { S.keeps shelf.old shelf.new }
     {
-        let Affinity::Volume(volume) = affinity else {
-            unreachable!()
-        };
+        let volume = volume_number(affinity);
         let VolumeHeld { own, logical, vbn } = self;
         put_parcel(shelf, layout, Affinity::Volume(volume), Parcel::Volume(own));
         scatter_at::<Parcel<P>, LogicalNode, S>(

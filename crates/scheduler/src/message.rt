@@ -1,6 +1,6 @@
 //! Calls on their way.
 
-use affinity::Affinity;
+use affinity::Home;
 use nfs_values::{ConnectionNumber, Credential};
 
 /// The record that a call came in.
@@ -19,8 +19,8 @@ pub struct Message<C> {
     pub origin: Origin,
     pub call: C,
     pub credential: Credential,
-    /// What it tries: first the affinity that its call is at home in, then where it moved.
-    pub affinity: Affinity,
+    /// What it tries: first the node that its call is at home in, then where it moved.
+    pub affinity: Home,
     /// How many bytes its reply may take of the room that its connection has.
     pub room: usize,
 }

@@ -1,10 +1,10 @@
-//! The queue of an affinity, by number.
+//! The queue of a node at which calls run, by number.
 
 ghost use Rattle.std.specs.Prelude.{◌≡◌, ◌+◌, ◌*◌, ◌<◌};
-ghost use Rattle.affinity.specs.Affinity.{affinity_of};
+ghost use Rattle.affinity.specs.Affinity.{home_node};
 ghost use Rattle.scheduler.specs.QueueNumber.{queue_of, HasQueue};
 
-use affinity::Affinity;
+use affinity::Home;
 
 /// As many queues as the largest layout has nodes: 8 volumes of 35 in 2 aggregates.
 pub(crate) const QUEUES: usize = 283;
@@ -20,19 +20,17 @@ fn volume_queue(volume: u32) -> usize
     3 + VOLUME_QUEUES * volume as usize
 }
 
-/// The number of the queue of an affinity, in constant time.
-pub(crate) fn queue_of(affinity: Affinity) -> usize
-    requires { HasQueue (affinity_of affinity) }
-    ensures number { result ≡ queue_of (affinity_of affinity) }
+/// The number of the queue of a node, in constant time.
+pub(crate) fn queue_of(affinity: Home) -> usize
+    requires { HasQueue (home_node affinity) }
+    ensures number { result ≡ queue_of (home_node affinity) }
     ensures within { result < 283 }
 {
     match affinity {
-        Affinity::Serial => 0,
-        Affinity::Aggregate(aggregate) => 1 + aggregate as usize,
-        Affinity::Volume(volume) => volume_queue(volume),
-        Affinity::VolumeLogical(volume) => volume_queue(volume) + 1,
-        Affinity::VolumeVbn(volume) => volume_queue(volume) + 2,
-        Affinity::Stripe { volume, stripe } => volume_queue(volume) + 3 + stripe as usize,
-        Affinity::Range { volume, range } => volume_queue(volume) + 19 + range as usize,
+        Home::Serial => 0,
+        Home::Aggregate(aggregate) => 1 + aggregate as usize,
+        Home::Volume(volume) => volume_queue(volume),
+        Home::Logical(volume) => volume_queue(volume) + 1,
+        Home::Stripe { volume, stripe } => volume_queue(volume) + 3 + stripe as usize,
     }
 }

@@ -4,7 +4,6 @@ use crate::socket::Socket;
 use clerk::{Journal, Times};
 use lanes::Lane;
 use nfs_values::{Moment, Reply};
-use service::JobReply;
 use statistics::{RefusalKind, ReplyCounts, ReplyKind, Tally};
 use std::alloc::{AllocError, Global};
 use turns::{Chained, Gate, Place};
@@ -26,9 +25,9 @@ pub(crate) struct Counter<'a> {
 impl Gate for Counter<'_> {
     fn pass(&self, _place: Place) {}
 
-    fn finish(&self, told: &JobReply) {
+    fn finish(&self, told: &Reply) {
         self.tally.finish(told);
-        if let JobReply::Replied(Reply::Refused(_)) = told {
+        if let Reply::Refused(_) = told {
             self.journal.refuse(1);
         }
     }

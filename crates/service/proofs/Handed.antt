@@ -1,15 +1,11 @@
 -- From the run of an inner call on the part of a volume that it holds to its run by parcels.
-use Rattle.std.proofs.Common.{◌≡◌, ◌≢◌, ℕ, ◌<◌, length, Option, Some, None, refl, sym, ap, ◌∙◌, subst, arith}
-use Rattle.nfs_model.specs.Parts.{Hand, Empty}
+use Rattle.std.proofs.Common.{◌≡◌, ℕ, ◌<◌, length, Option, Some, None, Ok, Err, refl, sym, ap, ◌∙◌, subst, arith}
+use Rattle.nfs_model.specs.Parts.{Hand}
 use Rattle.nfs_model.specs.Tree.{Layout, Affinity, Logical, Vbn, Range, stripes_of, range_blocks_of}
-use Rattle.affinity.specs.Affinity.{kind_of}
 use Rattle.affinity.specs.Fault.{fault_of}
 use Rattle.affinity.specs.Numbers.{number_of, parents}
 use Rattle.affinity.specs.Tree.{IsNode}
-use Rattle.affinity.specs.declared.affinity.Kind.{Kind}
-use Rattle.affinity.specs.declared.affinity.Kind.TheVariants as kinds
 use Rattle.parcels.specs.Sets.{range_parcels, vbn_parcels, logical_parcels}
-use Rattle.nfs_values.specs.declared.number.VolumeNumber.{VolumeNumber}
 use Rattle.nfs_model.specs.volume.Ranges.{RangeValue}
 use Rattle.filer_state.specs.state.Contents.{VolumeContents}
 use Rattle.filer_state.specs.state.Deeds.{FilerSteps}
@@ -25,38 +21,37 @@ use Rattle.filer_state.specs.laws.lemmas.Kinds.{range-step, vbn-step, logical-st
 use Rattle.filer_state.specs.laws.lemmas.LayoutSizes.{range-sized, logical-sized}
 use Rattle.filer_state.specs.laws.lemmas.Running.{inner-runs-by}
 use Rattle.filer_state.specs.laws.lemmas.SeenSets.{range-seen, vbn-seen, logical-seen}
-use Rattle.service.specs.Inner.{InnerHasRun, IsHandFor}
+use Rattle.service.specs.Inner.{InnerHasRun, InnerOutcome, IsHandFor}
 use Rattle.service.specs.InnerOn.{HasRunOn, MayRunOn, UnlessDone}
-use Rattle.service.specs.Jobs.{inner_of, job_reply_of}
-use Rattle.service.specs.declared.job.InnerCall as calls
-use Rattle.service.specs.declared.job.InnerCall.TheVariants as asked
-use Rattle.service.specs.declared.inner.InnerOutcome.{InnerOutcome}
-use Rattle.service.specs.declared.inner.InnerOutcome.TheVariants.{Done, Refused, NoMemory}
+use Rattle.service.specs.Jobs.{batch_reply_of, counts_reply_of}
+use Rattle.service.specs.declared.job.BatchReply.{BatchReply}
+use Rattle.service.specs.declared.job.FreeCounts.{FreeCounts}
+use Rattle.service.specs.declared.inner.Undone.TheVariants.{NoSuchRange, NoMemory}
 use Rattle.service.proofs.InHand.{hand-of}
 
 -- ---- of any part
 
-module _ {P S : Type 0} (layout : Layout) (call : InnerCall) (on : inner_volume call < length layout.volumes) (lens : Lens VolumeContents S)
+module _ {P S A : Type 0} (told : A → JobReply) (layout : Layout) (call : InnerCall) (on : inner_volume call < length layout.volumes)
+    (lens : Lens VolumeContents S)
     (numbered : (s : S) (p : VolumeContents) → (lens.put s p).number ≡ p.number) (before after : ℕ → Option (FilerParcel P)) (old new : S)
     (was : IsSeenBy layout (inner_node call) (in_volume (inner_volume call) lens) before old)
     (step : (reply : JobReply) → IsRight layout (inner_node call) (in_volume (inner_volume call) lens) (Inner call) old reply new
     → FilerSteps (parents layout) (number_of layout (inner_node call)) (Inner call) before reply after)
     (size : ℕ) (hand : Hand) (is : IsHandFor size call hand) where
-  pub has-run : (outcome : InnerOutcome) → UnlessDone outcome ((k : ℕ) → after k ≡ before k) → HasRunOn (inner_volume call) lens call hand old outcome new
-      → InnerHasRun call hand layout (inner_node call) before outcome after
-  has-run (Done reply) same right = (
-    inner-runs-by layout call on lens numbered before after old new was step (Some (job_reply_of reply)) right.0 right.1
+  pub has-run : (outcome : InnerOutcome A) → UnlessDone outcome ((k : ℕ) → after k ≡ before k)
+      → HasRunOn told (inner_volume call) lens call hand old outcome new → InnerHasRun told call hand layout (inner_node call) before outcome after
+  has-run (Ok reply) same right = (
+    inner-runs-by layout call on lens numbered before after old new was step (Some (told reply)) right.0 right.1
         (subst (AreOf (inner_volume call)) (sym right.2) (hand-of size call hand is)) (λ e. let never : ⊥ = cc in absurd never),
     right.2,
   )
-  has-run Refused same right =
+  has-run (Err NoSuchRange) same right =
       inner-runs-by layout call on lens numbered before after old new was step None right (λ u other n. refl) (λ u other n. refl) (λ e. same)
-  has-run (NoMemory back) same right = (right.0, right.1, same)
+  has-run (Err (NoMemory back)) same right = (right.0, right.1, same)
 
-unless-mapped : (outcome : InnerOutcome) (A B : Type 0) → (A → B) → UnlessDone outcome A → UnlessDone outcome B
-unless-mapped (Done reply) A B f a = tt
-unless-mapped Refused A B f a = f a
-unless-mapped (NoMemory back) A B f a = f a
+unless-mapped : {R : Type 0} (outcome : InnerOutcome R) (A B : Type 0) → (A → B) → UnlessDone outcome A → UnlessDone outcome B
+unless-mapped (Ok reply) A B f a = tt
+unless-mapped (Err undone) A B f a = f a
 
 -- a range that a sound volume has is of its own number
 of-number : (v r : ℕ) → r < 16 → (hands : _) (x : RangeValue) → HasVolume v (range_lens r) hands x → x.number ≡ r
@@ -88,40 +83,42 @@ module _ {P : Type 0} (layout : Layout) (lawful : fault_of layout ≡ None) wher
     may-free : IsHandFor size (Free v r) hand → MayRunOn old.own.range_blocks v (range_lens old.own.number) (Free v old.own.number) hand old.own
     may-free is = subst (λ (n : ℕ). MayRunOn old.own.range_blocks v (range_lens n) (Free v n) hand old.own) (sym numbered) (own-hand is, range-whole)
 
-    module _ (new : FilerRange P) (outcome : InnerOutcome) (same : UnlessDone outcome (new ≡ old)) where
+    module _ (new : FilerRange P) (outcome : InnerOutcome BatchReply) (same : UnlessDone outcome (new ≡ old)) where
       same-range : UnlessDone outcome ((k : ℕ) → range_parcels layout (Range v r) new k ≡ range_parcels layout (Range v r) old k)
       same-range =
           unless-mapped outcome (new ≡ old) ((k : ℕ) → range_parcels layout (Range v r) new k ≡ range_parcels layout (Range v r) old k)
           (λ e k. ap (λ (h : FilerRange P). range_parcels layout (Range v r) h k) e) same
 
       fetch-ran : IsHandFor size (Fetch v r) hand
-          → HasRunOn v (range_lens old.own.number) (Fetch v old.own.number) hand old.own outcome new.own
-          → InnerHasRun (Fetch v r) hand layout (Range v r) (range_parcels layout (Range v r) old) outcome (range_parcels layout (Range v r) new)
+          → HasRunOn batch_reply_of v (range_lens old.own.number) (Fetch v old.own.number) hand old.own outcome new.own
+          → InnerHasRun batch_reply_of (Fetch v r) hand layout (Range v r) (range_parcels layout (Range v r) old) outcome (range_parcels layout (Range v r) new)
       fetch-ran is ran =
-          has-run layout (Fetch v r) there.0 (range_lens r) (λ s p. refl) (range_parcels layout (Range v r) old) (range_parcels layout (Range v r) new)
+          has-run batch_reply_of layout (Fetch v r) there.0 (range_lens r) (λ s p. refl) (range_parcels layout (Range v r) old)
+          (range_parcels layout (Range v r) new)
           old.own new.own (range-seen layout lawful v there.0 r there.1 old)
           (λ reply step. range-step layout lawful (Inner (Fetch v r)) reply v there.0 r there.1 old new step) size hand is outcome same-range
-          (subst (λ (n : ℕ). HasRunOn v (range_lens n) (Fetch v n) hand old.own outcome new.own) numbered ran)
+          (subst (λ (n : ℕ). HasRunOn batch_reply_of v (range_lens n) (Fetch v n) hand old.own outcome new.own) numbered ran)
 
       free-ran : IsHandFor size (Free v r) hand
           → (IsHandFor old.own.range_blocks (Free v old.own.number) hand
-          → HasRunOn v (range_lens old.own.number) (Free v old.own.number) hand old.own outcome new.own)
-          → InnerHasRun (Free v r) hand layout (Range v r) (range_parcels layout (Range v r) old) outcome (range_parcels layout (Range v r) new)
+          → HasRunOn batch_reply_of v (range_lens old.own.number) (Free v old.own.number) hand old.own outcome new.own)
+          → InnerHasRun batch_reply_of (Free v r) hand layout (Range v r) (range_parcels layout (Range v r) old) outcome (range_parcels layout (Range v r) new)
       free-ran is ran =
-          has-run layout (Free v r) there.0 (range_lens r) (λ s p. refl) (range_parcels layout (Range v r) old) (range_parcels layout (Range v r) new)
+          has-run batch_reply_of layout (Free v r) there.0 (range_lens r) (λ s p. refl) (range_parcels layout (Range v r) old)
+          (range_parcels layout (Range v r) new)
           old.own new.own (range-seen layout lawful v there.0 r there.1 old)
           (λ reply step. range-step layout lawful (Inner (Free v r)) reply v there.0 r there.1 old new step) size hand is outcome same-range
-          (subst (λ (n : ℕ). IsHandFor old.own.range_blocks (Free v n) hand → HasRunOn v (range_lens n) (Free v n) hand old.own outcome new.own)
+          (subst (λ (n : ℕ). IsHandFor old.own.range_blocks (Free v n) hand → HasRunOn batch_reply_of v (range_lens n) (Free v n) hand old.own outcome new.own)
           numbered ran (own-hand is))
 
   pub fetch-runs : (v r : ℕ) (a : Affinity) → a ≡ Range v r → IsNode layout a → (hand : Hand) → IsHandFor (range_blocks_of layout v) (Fetch v r) hand
       → (old new : FilerRange P)
-      → HasSizedFiler layout a (batches_in hand) (range_parcels layout a old) → (outcome : InnerOutcome) → UnlessDone outcome (new ≡ old)
-      → HasRunOn v (range_lens old.own.number) (Fetch v old.own.number) hand old.own outcome new.own
-      → InnerHasRun (Fetch v r) hand layout a (range_parcels layout a old) outcome (range_parcels layout a new)
+      → HasSizedFiler layout a (batches_in hand) (range_parcels layout a old) → (outcome : InnerOutcome BatchReply) → UnlessDone outcome (new ≡ old)
+      → HasRunOn batch_reply_of v (range_lens old.own.number) (Fetch v old.own.number) hand old.own outcome new.own
+      → InnerHasRun batch_reply_of (Fetch v r) hand layout a (range_parcels layout a old) outcome (range_parcels layout a new)
   fetch-runs v r a at there hand is old new filer outcome same ran =
       subst (λ (b : Affinity). IsNode layout b → HasSizedFiler layout b (batches_in hand) (range_parcels layout b old)
-      → InnerHasRun (Fetch v r) hand layout b (range_parcels layout b old) outcome (range_parcels layout b new)) (sym at)
+      → InnerHasRun batch_reply_of (Fetch v r) hand layout b (range_parcels layout b old) outcome (range_parcels layout b new)) (sym at)
       (λ node has. fetch-ran v r node hand old has new outcome same is ran) there filer
 
   pub free-asks : (v r : ℕ) (a : Affinity) → a ≡ Range v r → IsNode layout a → (hand : Hand) → IsHandFor (range_blocks_of layout v) (Free v r) hand
@@ -135,36 +132,36 @@ module _ {P : Type 0} (layout : Layout) (lawful : fault_of layout ≡ None) wher
 
   pub free-runs : (v r : ℕ) (a : Affinity) → a ≡ Range v r → IsNode layout a → (hand : Hand) → IsHandFor (range_blocks_of layout v) (Free v r) hand
       → (old new : FilerRange P)
-      → HasSizedFiler layout a (batches_in hand) (range_parcels layout a old) → (outcome : InnerOutcome) → UnlessDone outcome (new ≡ old)
+      → HasSizedFiler layout a (batches_in hand) (range_parcels layout a old) → (outcome : InnerOutcome BatchReply) → UnlessDone outcome (new ≡ old)
       → (IsHandFor old.own.range_blocks (Free v old.own.number) hand
-      → HasRunOn v (range_lens old.own.number) (Free v old.own.number) hand old.own outcome new.own)
-      → InnerHasRun (Free v r) hand layout a (range_parcels layout a old) outcome (range_parcels layout a new)
+      → HasRunOn batch_reply_of v (range_lens old.own.number) (Free v old.own.number) hand old.own outcome new.own)
+      → InnerHasRun batch_reply_of (Free v r) hand layout a (range_parcels layout a old) outcome (range_parcels layout a new)
   free-runs v r a at there hand is old new filer outcome same ran =
       subst (λ (b : Affinity). IsNode layout b → HasSizedFiler layout b (batches_in hand) (range_parcels layout b old)
-      → InnerHasRun (Free v r) hand layout b (range_parcels layout b old) outcome (range_parcels layout b new)) (sym at)
+      → InnerHasRun batch_reply_of (Free v r) hand layout b (range_parcels layout b old) outcome (range_parcels layout b new)) (sym at)
       (λ node has. free-ran v r node hand old has new outcome same is ran) there filer
 
   -- a survey changes nothing
   pub survey-runs : (v : ℕ) (a : Affinity) → a ≡ Vbn v → IsNode layout a → (hand : Hand) → IsHandFor (range_blocks_of layout v) (Survey v) hand
       → (held : FilerVbn P)
-      → (outcome : InnerOutcome) → HasRunOn v vbn_lens (Survey v) hand (vbn_set held) outcome (vbn_set held)
-      → InnerHasRun (Survey v) hand layout a (vbn_parcels layout a held) outcome (vbn_parcels layout a held)
+      → (outcome : InnerOutcome FreeCounts) → HasRunOn counts_reply_of v vbn_lens (Survey v) hand (vbn_set held) outcome (vbn_set held)
+      → InnerHasRun counts_reply_of (Survey v) hand layout a (vbn_parcels layout a held) outcome (vbn_parcels layout a held)
   survey-runs v a at there hand is held outcome ran =
-      subst (λ (b : Affinity). IsNode layout b → InnerHasRun (Survey v) hand layout b (vbn_parcels layout b held) outcome (vbn_parcels layout b held)) (sym at)
+      subst (λ (b : Affinity). IsNode layout b → InnerHasRun counts_reply_of (Survey v) hand layout b (vbn_parcels layout b held) outcome
+      (vbn_parcels layout b held)) (sym at)
       (λ node.
-      has-run layout (Survey v) node vbn_lens (λ s p. refl) (vbn_parcels layout (Vbn v) held) (vbn_parcels layout (Vbn v) held)
+      has-run counts_reply_of layout (Survey v) node vbn_lens (λ s p. refl) (vbn_parcels layout (Vbn v) held) (vbn_parcels layout (Vbn v) held)
       (vbn_set held) (vbn_set held) (vbn-seen layout lawful v node held)
       (λ reply step. vbn-step layout lawful (Inner (Survey v)) reply v node held held step) (range_blocks_of layout v) hand is outcome
       (unchanged outcome) ran) there
     where
-      unchanged : (o : InnerOutcome) → UnlessDone o ((k : ℕ) → vbn_parcels layout (Vbn v) held k ≡ vbn_parcels layout (Vbn v) held k)
-      unchanged (Done reply) = tt
-      unchanged Refused = λ k. refl
-      unchanged (NoMemory back) = λ k. refl
+      unchanged : (o : InnerOutcome FreeCounts) → UnlessDone o ((k : ℕ) → vbn_parcels layout (Vbn v) held k ≡ vbn_parcels layout (Vbn v) held k)
+      unchanged (Ok reply) = tt
+      unchanged (Err undone) = λ k. refl
 
   -- on Logical
   module _ (v : ℕ) (there : IsNode layout (Logical v)) (hand : Hand) (old new : FilerLogical P)
-      (filer : HasSizedFiler layout (Logical v) (batches_in hand) (logical_parcels layout (Logical v) old)) (outcome : InnerOutcome)
+      (filer : HasSizedFiler layout (Logical v) (batches_in hand) (logical_parcels layout (Logical v) old)) (outcome : InnerOutcome BatchReply)
       (same : UnlessDone outcome (new ≡ old)) where
     striped : old.own.stripes ≡ stripes_of layout v
     striped = (logical-has layout lawful (batches_in hand) v there old filer.0).0
@@ -175,21 +172,25 @@ module _ {P : Type 0} (layout : Layout) (lawful : fault_of layout ≡ None) wher
         (λ e k. ap (λ (h : FilerLogical P). logical_parcels layout (Logical v) h k) e) same
 
     deliver-ran : IsHandFor (range_blocks_of layout v) (Deliver v) hand
-        → HasRunOn v logical_lens (Deliver v) hand (logical_before old) outcome (logical_after old new)
-        → InnerHasRun (Deliver v) hand layout (Logical v) (logical_parcels layout (Logical v) old) outcome (logical_parcels layout (Logical v) new)
+        → HasRunOn batch_reply_of v logical_lens (Deliver v) hand (logical_before old) outcome (logical_after old new)
+        → InnerHasRun batch_reply_of (Deliver v) hand layout (Logical v) (logical_parcels layout (Logical v) old) outcome
+        (logical_parcels layout (Logical v) new)
     deliver-ran is ran =
-        has-run layout (Deliver v) there logical_lens (λ s p. refl) (logical_parcels layout (Logical v) old) (logical_parcels layout (Logical v) new)
+        has-run batch_reply_of layout (Deliver v) there logical_lens (λ s p. refl) (logical_parcels layout (Logical v) old)
+        (logical_parcels layout (Logical v) new)
         (logical_set (stripes_of layout v) old) (logical_set (stripes_of layout v) new) (logical-seen layout lawful v there old)
         (λ reply step. logical-step layout lawful (Inner (Deliver v)) reply v there old new step) (range_blocks_of layout v) hand is outcome same-logical
-        (subst (λ (n : ℕ). HasRunOn v logical_lens (Deliver v) hand (logical_set n old) outcome (logical_set n new)) striped ran)
+        (subst (λ (n : ℕ). HasRunOn batch_reply_of v logical_lens (Deliver v) hand (logical_set n old) outcome (logical_set n new)) striped ran)
 
-    cull-ran : IsHandFor (range_blocks_of layout v) (Cull v) hand → HasRunOn v logical_lens (Cull v) hand (logical_before old) outcome (logical_after old new)
-        → InnerHasRun (Cull v) hand layout (Logical v) (logical_parcels layout (Logical v) old) outcome (logical_parcels layout (Logical v) new)
+    cull-ran : IsHandFor (range_blocks_of layout v) (Cull v) hand
+        → HasRunOn batch_reply_of v logical_lens (Cull v) hand (logical_before old) outcome (logical_after old new)
+        → InnerHasRun batch_reply_of (Cull v) hand layout (Logical v) (logical_parcels layout (Logical v) old) outcome (logical_parcels layout (Logical v) new)
     cull-ran is ran =
-        has-run layout (Cull v) there logical_lens (λ s p. refl) (logical_parcels layout (Logical v) old) (logical_parcels layout (Logical v) new)
+        has-run batch_reply_of layout (Cull v) there logical_lens (λ s p. refl) (logical_parcels layout (Logical v) old)
+        (logical_parcels layout (Logical v) new)
         (logical_set (stripes_of layout v) old) (logical_set (stripes_of layout v) new) (logical-seen layout lawful v there old)
         (λ reply step. logical-step layout lawful (Inner (Cull v)) reply v there old new step) (range_blocks_of layout v) hand is outcome same-logical
-        (subst (λ (n : ℕ). HasRunOn v logical_lens (Cull v) hand (logical_set n old) outcome (logical_set n new)) striped ran)
+        (subst (λ (n : ℕ). HasRunOn batch_reply_of v logical_lens (Cull v) hand (logical_set n old) outcome (logical_set n new)) striped ran)
 
   pub deliver-asks : (v : ℕ) (a : Affinity) → a ≡ Logical v → IsNode layout a → (hand : Hand) → IsHandFor (range_blocks_of layout v) (Deliver v) hand
       → (old : FilerLogical P)
@@ -205,74 +206,20 @@ module _ {P : Type 0} (layout : Layout) (lawful : fault_of layout ≡ None) wher
 
   pub deliver-runs : (v : ℕ) (a : Affinity) → a ≡ Logical v → IsNode layout a → (hand : Hand) → IsHandFor (range_blocks_of layout v) (Deliver v) hand
       → (old new : FilerLogical P)
-      → HasSizedFiler layout a (batches_in hand) (logical_parcels layout a old) → (outcome : InnerOutcome) → UnlessDone outcome (new ≡ old)
-      → HasRunOn v logical_lens (Deliver v) hand (logical_before old) outcome (logical_after old new)
-      → InnerHasRun (Deliver v) hand layout a (logical_parcels layout a old) outcome (logical_parcels layout a new)
+      → HasSizedFiler layout a (batches_in hand) (logical_parcels layout a old) → (outcome : InnerOutcome BatchReply) → UnlessDone outcome (new ≡ old)
+      → HasRunOn batch_reply_of v logical_lens (Deliver v) hand (logical_before old) outcome (logical_after old new)
+      → InnerHasRun batch_reply_of (Deliver v) hand layout a (logical_parcels layout a old) outcome (logical_parcels layout a new)
   deliver-runs v a at there hand is old new filer outcome same ran =
       subst (λ (b : Affinity). IsNode layout b → HasSizedFiler layout b (batches_in hand) (logical_parcels layout b old)
-      → InnerHasRun (Deliver v) hand layout b (logical_parcels layout b old) outcome (logical_parcels layout b new)) (sym at)
+      → InnerHasRun batch_reply_of (Deliver v) hand layout b (logical_parcels layout b old) outcome (logical_parcels layout b new)) (sym at)
       (λ node has. deliver-ran v node hand old new has outcome same is ran) there filer
 
   pub cull-runs : (v : ℕ) (a : Affinity) → a ≡ Logical v → IsNode layout a → (hand : Hand) → IsHandFor (range_blocks_of layout v) (Cull v) hand
       → (old new : FilerLogical P)
-      → HasSizedFiler layout a (batches_in hand) (logical_parcels layout a old) → (outcome : InnerOutcome) → UnlessDone outcome (new ≡ old)
-      → HasRunOn v logical_lens (Cull v) hand (logical_before old) outcome (logical_after old new)
-      → InnerHasRun (Cull v) hand layout a (logical_parcels layout a old) outcome (logical_parcels layout a new)
+      → HasSizedFiler layout a (batches_in hand) (logical_parcels layout a old) → (outcome : InnerOutcome BatchReply) → UnlessDone outcome (new ≡ old)
+      → HasRunOn batch_reply_of v logical_lens (Cull v) hand (logical_before old) outcome (logical_after old new)
+      → InnerHasRun batch_reply_of (Cull v) hand layout a (logical_parcels layout a old) outcome (logical_parcels layout a new)
   cull-runs v a at there hand is old new filer outcome same ran =
       subst (λ (b : Affinity). IsNode layout b → HasSizedFiler layout b (batches_in hand) (logical_parcels layout b old)
-      → InnerHasRun (Cull v) hand layout b (logical_parcels layout b old) outcome (logical_parcels layout b new)) (sym at)
+      → InnerHasRun batch_reply_of (Cull v) hand layout b (logical_parcels layout b old) outcome (logical_parcels layout b new)) (sym at)
       (λ node has. cull-ran v node hand old new has outcome same is ran) there filer
-
--- ---- where no inner call is run
-
--- on Vbn only a survey
-pub survey-hand : (size : ℕ) (call : InnerCall) (a : Affinity) → a ≡ inner_node call → kind_of a ≡ kinds.VolumeVbn → (hand : Hand) → IsHandFor size call hand
-    → hand ≡ Empty
-survey-hand size (Survey v) a at kind hand is = is
-survey-hand size (Fetch v r) a at kind hand is = absurd (let other : kinds.Range ≡ kinds.VolumeVbn = sym (ap kind_of at) ∙ kind in cc)
-survey-hand size (Free v r) a at kind hand is = absurd (let other : kinds.Range ≡ kinds.VolumeVbn = sym (ap kind_of at) ∙ kind in cc)
-survey-hand size (Deliver v) a at kind hand is = absurd (let other : kinds.VolumeLogical ≡ kinds.VolumeVbn = sym (ap kind_of at) ∙ kind in cc)
-survey-hand size (Cull v) a at kind hand is = absurd (let other : kinds.VolumeLogical ≡ kinds.VolumeVbn = sym (ap kind_of at) ∙ kind in cc)
-
-pub vbn-runs : {P : Type 0} (layout : Layout) (lawful : fault_of layout ≡ None) (call : InnerCall) (a : Affinity) → a ≡ inner_node call
-    → kind_of a ≡ kinds.VolumeVbn → IsNode layout a → (hand : Hand) → IsHandFor (range_blocks_of layout (inner_volume call)) call hand
-    → (held : FilerVbn P) (outcome : InnerOutcome)
-    → ((v : ℕ) → HasRunOn v vbn_lens (Survey v) hand (vbn_set held) outcome (vbn_set held))
-    → InnerHasRun call hand layout a (vbn_parcels layout a held) outcome (vbn_parcels layout a held)
-vbn-runs layout lawful (Survey v) a at kind there hand is held outcome ran = survey-runs layout lawful v a at there hand is held outcome (ran v)
-vbn-runs layout lawful (Fetch v r) a at kind there hand is held outcome ran =
-    absurd (let other : kinds.Range ≡ kinds.VolumeVbn = sym (ap kind_of at) ∙ kind in cc)
-vbn-runs layout lawful (Free v r) a at kind there hand is held outcome ran =
-    absurd (let other : kinds.Range ≡ kinds.VolumeVbn = sym (ap kind_of at) ∙ kind in cc)
-vbn-runs layout lawful (Deliver v) a at kind there hand is held outcome ran =
-    absurd (let other : kinds.VolumeLogical ≡ kinds.VolumeVbn = sym (ap kind_of at) ∙ kind in cc)
-vbn-runs layout lawful (Cull v) a at kind there hand is held outcome ran =
-    absurd (let other : kinds.VolumeLogical ≡ kinds.VolumeVbn = sym (ap kind_of at) ∙ kind in cc)
-
--- on a range only a fetch and what frees
-pub only-ranges : (call : calls.InnerCall) (a : Affinity) → a ≡ inner_node (inner_of call) → kind_of a ≡ kinds.Range
-    → ((volume : VolumeNumber) (range : ℕ) → call ≡ asked.Fetch volume range → ⊥) → ((volume : VolumeNumber) (range : ℕ) → call ≡ asked.Free volume range → ⊥)
-    → ⊥
-only-ranges (asked.Fetch volume range) a at kind fetch free = fetch volume range refl
-only-ranges (asked.Free volume range) a at kind fetch free = free volume range refl
-only-ranges (asked.Deliver volume) a at kind fetch free = let other : kinds.VolumeLogical ≡ kinds.Range = sym (ap kind_of at) ∙ kind in cc
-only-ranges (asked.Cull volume) a at kind fetch free = let other : kinds.VolumeLogical ≡ kinds.Range = sym (ap kind_of at) ∙ kind in cc
-only-ranges (asked.Survey volume) a at kind fetch free = let other : kinds.VolumeVbn ≡ kinds.Range = sym (ap kind_of at) ∙ kind in cc
-
--- on Logical only a delivery and a cull
-pub only-logical : (call : calls.InnerCall) (a : Affinity) → a ≡ inner_node (inner_of call) → kind_of a ≡ kinds.VolumeLogical
-    → ((volume : VolumeNumber) → call ≡ asked.Deliver volume → ⊥) → ((volume : VolumeNumber) → call ≡ asked.Cull volume → ⊥) → ⊥
-only-logical (asked.Deliver volume) a at kind deliver cull = deliver volume refl
-only-logical (asked.Cull volume) a at kind deliver cull = cull volume refl
-only-logical (asked.Fetch volume range) a at kind deliver cull = let other : kinds.Range ≡ kinds.VolumeLogical = sym (ap kind_of at) ∙ kind in cc
-only-logical (asked.Free volume range) a at kind deliver cull = let other : kinds.Range ≡ kinds.VolumeLogical = sym (ap kind_of at) ∙ kind in cc
-only-logical (asked.Survey volume) a at kind deliver cull = let other : kinds.VolumeVbn ≡ kinds.VolumeLogical = sym (ap kind_of at) ∙ kind in cc
-
--- an inner call is run on no node of another kind
-pub no-inner : (call : InnerCall) (a : Affinity) → a ≡ inner_node call → (kind : Kind) → kind_of a ≡ kind
-    → kind ≢ kinds.Range → kind ≢ kinds.VolumeVbn → kind ≢ kinds.VolumeLogical → ⊥
-no-inner (Fetch v r) a at kind of range vbn logical = range (sym of ∙ ap kind_of at)
-no-inner (Deliver v) a at kind of range vbn logical = logical (sym of ∙ ap kind_of at)
-no-inner (Cull v) a at kind of range vbn logical = logical (sym of ∙ ap kind_of at)
-no-inner (Free v r) a at kind of range vbn logical = range (sym of ∙ ap kind_of at)
-no-inner (Survey v) a at kind of range vbn logical = vbn (sym of ∙ ap kind_of at)

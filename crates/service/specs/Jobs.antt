@@ -3,7 +3,7 @@ use Rattle.std.specs.Prelude.{ℕ, List, Option, Some}
 use Rattle.nfs_model.specs.Types as types
 use Rattle.nfs_model.specs.Parts.{Hand}
 use Rattle.nfs_model.specs.Replay as replay
-use Rattle.affinity.specs.Affinity.{affinity_of}
+use Rattle.affinity.specs.Affinity.{home_node}
 use Rattle.nfs_values.specs.Call.{call_of}
 use Rattle.nfs_values.specs.Credential.{credential_of}
 use Rattle.nfs_values.specs.Moment.{moment_of}
@@ -18,10 +18,13 @@ use Rattle.filer_state.specs.laws.lemmas.Lawful.{steps-local, steps-keep}
 use Rattle.service.specs.declared.job.ServedCall.{ServedCall}
 use Rattle.service.specs.declared.job.InnerCall.{InnerCall}
 use Rattle.service.specs.declared.job.InnerCall.TheVariants.{Fetch, Deliver, Cull, Free, Survey}
+use Rattle.service.specs.declared.job.BatchReply.{BatchReply}
+use Rattle.service.specs.declared.job.BatchReply.TheVariants.{Took, Gave}
+use Rattle.service.specs.declared.job.FreeCounts.{FreeCounts}
 use Rattle.service.specs.declared.job.Job.{Job}
 use Rattle.service.specs.declared.job.Job.TheVariants.{Serve, Inner}
 use Rattle.service.specs.declared.job.JobReply.{JobReply}
-use Rattle.service.specs.declared.job.JobReply.TheVariants.{Replied, Took, Gave, Surveyed}
+use Rattle.service.specs.declared.job.JobReply.TheVariants as replies
 
 -- what it asks
 abbrev pub asked_in : ServedCall → types.Asked
@@ -33,7 +36,7 @@ finished_of c = record {
   number = c.number;
   xid = c.xid;
   asked = asked_in c;
-  affinity = Some (affinity_of c.affinity);
+  affinity = Some (home_node c.affinity);
   moment = moment_of c.moment;
   starved = c.starved;
 }
@@ -49,11 +52,17 @@ abbrev pub job_of : Job → jobs.Job
 job_of (Serve call) = jobs.Serve (finished_of call)
 job_of (Inner call) = jobs.Inner (inner_of call)
 
+abbrev pub batch_reply_of : BatchReply → jobs.JobReply
+batch_reply_of (Took batch) = jobs.Took batch
+batch_reply_of (Gave batch) = jobs.Gave batch
+
+abbrev pub counts_reply_of : FreeCounts → jobs.JobReply
+counts_reply_of told = jobs.Surveyed told.counts.items
+
 abbrev pub job_reply_of : JobReply → jobs.JobReply
-job_reply_of (Replied reply) = jobs.Replied (reply_of reply)
-job_reply_of (Took batch) = jobs.Took batch
-job_reply_of (Gave batch) = jobs.Gave batch
-job_reply_of (Surveyed counts) = jobs.Surveyed counts.items
+job_reply_of (replies.Replied reply) = jobs.Replied (reply_of reply)
+job_reply_of (replies.Moved reply) = batch_reply_of reply
+job_reply_of (replies.Surveyed counts) = counts_reply_of counts
 
 -- ---- the machine
 

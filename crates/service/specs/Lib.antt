@@ -5,6 +5,7 @@ pub mod Getattr
 pub mod Running
 pub mod Inner
 pub mod InnerOn
+pub mod Works
 pub mod lemmas
 pub mod renames
 pub mod totals

@@ -3,3 +3,4 @@ pub mod Homes
 pub mod Serving
 pub mod Aggregates
 pub mod OnAll
+pub mod Inner

@@ -1,7 +1,7 @@
 //! Calls run on the parcels under Volume Logical.
 
 ghost use Rattle.std.specs.Prelude.{◌≡◌, false, Some, is_some, IfSome, []};
-ghost use Rattle.nfs_model.specs.Home.{home, named_by, rename_home};
+ghost use Rattle.nfs_model.specs.Home.{home};
 ghost use Rattle.nfs_model.specs.Tree as trees;
 ghost use Rattle.nfs_model.specs.Types as types;
 ghost use Rattle.affinity.specs.Layout.{layout_of};
@@ -35,17 +35,16 @@ ghost use Rattle.service.specs.Running.{
 };
 
 use crate::attributes::get_attributes;
-use crate::named::fileid_here;
+use crate::named::{fileid_here, fileid_of};
 use crate::outcome::{Outcome, outcome_read, outcome_written};
 use crate::renames::{EntryName, rename};
 use crate::task::Run;
-use affinity::homes::named_by;
-use affinity::{Affinity, Layout};
+use affinity::Layout;
 use filer_state::Files;
 use nfs_values::answer::{
     MakeResults, ReadDirectoryPlusResults, ReadDirectoryResults, RenameResults,
 };
-use nfs_values::{Answer, Call, FileHandle, Named, Reply, Status, Target, VolumeNumber};
+use nfs_values::{Answer, Call, Named, Reply, Status, Target, VolumeNumber};
 use parcels::LogicalHeld;
 use service_data::{read_in_logical, write_in_logical};
 use service_names::committing::commit;
@@ -76,7 +75,7 @@ pub fn run_on_logical(
     ensures moved { UnlessReplied (outcome_of result) (held.new ≡ held.old) }
     ensures alike { logical_alike held.old held.new }
 {
-    let fileid = fileid_here(layout, Affinity::VolumeLogical(volume.0), run.call);
+    let fileid = fileid_here(layout, run.call);
     let named = Named { volume, fileid };
     match tell(run, held, named) {
         Some(outcome) => outcome,
@@ -268,13 +267,13 @@ fn rename_here(
     ensures alike { logical_alike held.old held.new }
 {
     let Named { volume, fileid } = named;
-    let other = other_here(layout, volume, &from.directory, &to.directory);
+    let other = fileid_of(&to.directory, layout);
     let from = EntryName {
         directory: fileid,
         name: from.name.as_bytes(),
     };
     let to = EntryName {
-        directory: other.fileid,
+        directory: other,
         name: to.name.as_bytes(),
     };
     outcome_renamed(rename(run.alloc, held, volume, from, to, run.moment))
@@ -329,18 +328,5 @@ fn outcome_renamed(renamed: Result<Result<RenameResults, Status>, AllocError>) -
     match renamed {
         Ok(told) => Outcome::Replied(Reply::Success(Answer::Rename(told))),
         Err(AllocError) => Outcome::Starved,
-    }
-}
-
-/// What the second handle of a RENAME names, where its home is Volume Logical of a volume.
-fn other_here(layout: &Layout, volume: VolumeNumber, from: &FileHandle, to: &FileHandle) -> Named
-    requires home { rename_home (named_by (layout_of layout.now) from.now)
-        (named_by (layout_of layout.now) to.now) ≡ Some (trees.Logical volume.0) }
-    ensures named { named_by (layout_of layout.now) to.now ≡ Some (named_of result) }
-    ensures volume { result.volume.0 ≡ volume.0 }
-{
-    match named_by(to, layout) {
-        Some(named) => named,
-        None => unreachable!(),
     }
 }

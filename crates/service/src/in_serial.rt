@@ -17,10 +17,9 @@ use crate::task::Run;
 use crate::totals::census;
 use affinity::Layout;
 use filer_state::Files;
-use nfs_values::Call;
 use parcels::SerialHeld;
 
-/// Runs a call on all that is stored: CENSUS, which changes nothing.
+/// Runs a call on all that is stored: CENSUS, which changes nothing. No other call runs there.
 pub fn run_on_serial(run: Run, layout: &Layout, held: &SerialHeld<Files>) -> Outcome
     requires at { IsRunAt (layout_of layout.now) run.call.now trees.Serial }
     ensures runs { RunsOnAll (layout_of layout.now) serial_lens
@@ -29,8 +28,5 @@ pub fn run_on_serial(run: Run, layout: &Layout, held: &SerialHeld<Files>) -> Out
         (serial_set (layout_of layout.now) held.now) (outcome_of result)
         (serial_set (layout_of layout.now) held.now) }
 {
-    match run.call {
-        Call::Census => outcome_counted(census(run.alloc, layout, held)),
-        _ => unreachable!(),
-    }
+    outcome_counted(census(run.alloc, layout, held))
 }

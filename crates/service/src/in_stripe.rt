@@ -20,7 +20,7 @@ ghost use Rattle.service.specs.Running.{
 use crate::named::fileid_here;
 use crate::outcome::{Outcome, outcome_read, outcome_written_in_stripe};
 use crate::task::Run;
-use affinity::{Affinity, Layout};
+use affinity::Layout;
 use filer_state::Files;
 use nfs_values::{Call, Fileid, VolumeNumber};
 use parcels::StripeHeld;
@@ -44,11 +44,7 @@ pub fn run_on_stripe(
         held.old.own (outcome_of result) held.new.own }
     ensures moved { UnlessReplied (outcome_of result) (held.new ≡ held.old) }
 {
-    let node = Affinity::Stripe {
-        volume: volume.0,
-        stripe,
-    };
-    let fileid = fileid_here(layout, node, run.call);
+    let fileid = fileid_here(layout, run.call);
     run_on_bytes(run, volume, stripe, held, fileid)
 }
 

@@ -17,15 +17,15 @@ use crate::named::fileid_here;
 use crate::outcome::{Outcome, outcome_written};
 use crate::task::Run;
 use crate::totals::filesystem_status;
-use affinity::{Affinity, Layout};
+use affinity::Layout;
 use filer_state::Files;
 use nfs_values::{Answer, Call, Reply, VolumeNumber};
 use parcels::VolumeHeld;
 use service_data::write_in_volume;
 
-/// Runs a call on the parcels under Volume of its volume: FSSTAT, whose home it is, or a WRITE that
-/// moved there. Where a WRITE has space, but too few blocks are outside of workers' hands, it has
-/// to run there again.
+/// Runs a call on the parcels under Volume of its volume: a WRITE that moved there, or else FSSTAT,
+/// whose home it is. Where a WRITE has space, but too few blocks are outside of workers' hands, it
+/// has to run there again.
 pub fn run_on_volume(
     run: Run,
     layout: &Layout,
@@ -41,7 +41,7 @@ pub fn run_on_volume(
     ensures moved { UnlessReplied (outcome_of result) (held.new ≡ held.old) }
     ensures alike { volume_alike held.old held.new }
 {
-    let fileid = fileid_here(layout, Affinity::Volume(volume.0), run.call);
+    let fileid = fileid_here(layout, run.call);
     match run.call {
         Call::Write {
             handle: _,
@@ -53,10 +53,9 @@ pub fn run_on_volume(
             let told = write_in_volume(held, fileid, *offset, *count, written, run.moment);
             outcome_written(volume, told)
         }
-        Call::FilesystemStatus { .. } => {
+        _ => {
             let told = filesystem_status(held, volume, fileid);
             Outcome::Replied(Reply::Success(Answer::FilesystemStatus(told)))
         }
-        _ => unreachable!(),
     }
 }

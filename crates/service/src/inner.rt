@@ -1,181 +1,159 @@
-//! An inner call run on what a worker was lent.
+//! Workers' calls with their hands, run on what the workers were lent.
 
-ghost use Rattle.std.specs.Prelude.{◌≡◌, ℕ, List};
+ghost use Rattle.std.specs.Prelude.{◌≡◌, ℕ};
 ghost use Rattle.parcels.specs.Filled.{logical_alike};
 ghost use Rattle.nfs_model.specs.Parts as parts;
 ghost use Rattle.nfs_model.specs.Moves.{dead_hand, fresh_hand};
 ghost use Rattle.filer_state.specs.state.Jobs as jobs;
 ghost use Rattle.filer_state.specs.state.Lenses.{range_lens, vbn_lens, logical_lens};
 ghost use Rattle.filer_state.specs.state.Sets.{vbn_set, logical_before, logical_after};
-ghost use Rattle.service.specs.Inner.{IsHandFor};
+ghost use Rattle.service.specs.Inner.{AsksForInner, InnerHasRun};
 ghost use Rattle.service.specs.InnerOn.{HasRunOn, MayRunOn, UnlessDone};
+ghost use Rattle.service.specs.Jobs.{batch_reply_of, counts_reply_of};
 
 use crate::batch::BatchInHand;
-use crate::job::{InnerCall, JobReply};
+use crate::job::{BatchReply, FreeCounts};
+use crate::works::{LogicalWork, RangeWork, SurveyWork};
 use affinity::{Affinity, Layout};
-use desk::{ParcelKinds, Task};
+use desk::WorkOn;
 use filer_state::Files;
 use nfs_values::VolumeNumber;
-use parcels::{
-    AggrHeld, Hand, LogicalHeld, Parcel, RangeHeld, SerialHeld, StripeHeld, VbnHeld, VolumeHeld,
-};
+use parcels::{Hand, LogicalHeld, LogicalNode, Parcel, RangeHeld, RangeNode, VbnHeld, VbnNode};
 use service_batches::{cull, deliver, fetch, free, survey};
 use std::alloc::Global;
 use vbn_ranges::Batch;
 
-/// What an inner call came to.
+/// Why a worker's call with its hand was not done. It changed nothing.
 #[derive(Drop)]
-pub enum InnerOutcome {
-    /// It is done: what its entry replies.
-    Done(JobReply),
+pub enum Undone {
     /// The range that it would fetch from isn't in use.
-    Refused,
-    /// Memory ran out, or the stock has no room for more, so that it changed nothing: the hand is
-    /// as it was.
+    NoSuchRange,
+    /// Memory ran out, or the stock has no room for more: the hand is as it was.
     NoMemory(BatchInHand),
 }
 
-/// An inner call to be run under its node, with what is in the worker's hand, as a task on the
-/// parcels of the node.
-pub struct RunInner {
-    /// Where what a survey tells takes memory.
-    pub alloc: Global,
-    pub call: InnerCall,
-    pub hand: BatchInHand,
+/// What a call that moves a batch came to: what its entry replies, or why there is none.
+pub type BatchOutcome = Result<BatchReply, Undone>;
+
+/// What a survey came to.
+pub type SurveyOutcome = Result<FreeCounts, Undone>;
+
+impl WorkOn<Parcel<Files>, RangeNode, BatchReply, Undone> for RangeWork {
+    ghost use Rattle.service.specs.Works.{range_call_of, range_hand_of};
+
+    ghost asks = { λ work. AsksForInner (range_call_of work) (range_hand_of work) };
+
+    ghost does = { λ work. InnerHasRun batch_reply_of
+        (range_call_of work) (range_hand_of work) };
+
+    fn work_on(self, _: &Layout, _: Affinity, held: &mut RangeHeld<Files>) -> BatchOutcome {
+        match self {
+            RangeWork::Fetch { volume, range: _ } => fetch_into(volume, held),
+            RangeWork::Free {
+                volume,
+                range: _,
+                batch,
+            } => free_from(volume, batch, held),
+        }
+    }
 }
 
-impl Task<Parcel<Files>, ParcelKinds> for RunInner {
-    ghost use Rattle.service.specs.Inner.{AsksForInner, InnerHasRun};
-    ghost use Rattle.service.specs.Jobs.{inner_of};
+impl WorkOn<Parcel<Files>, LogicalNode, BatchReply, Undone> for LogicalWork {
+    ghost use Rattle.service.specs.Works.{logical_call_of, logical_hand_of};
 
-    type Output = InnerOutcome;
+    ghost asks = { λ work. AsksForInner (logical_call_of work) (logical_hand_of work) };
 
-    ghost asks = { λ run. AsksForInner (inner_of run.call) run.hand };
+    ghost does = { λ work. InnerHasRun batch_reply_of
+        (logical_call_of work) (logical_hand_of work) };
 
-    ghost does = { λ run. InnerHasRun (inner_of run.call) run.hand };
-
-    fn on_range(self, _: &Layout, _: Affinity, held: &mut RangeHeld<Files>) -> InnerOutcome {
-        let RunInner {
-            alloc: _,
-            call,
-            hand,
-        } = self;
-        match call {
-            InnerCall::Fetch { volume, range: _ } => fetch_into(hand, volume, held),
-            InnerCall::Free { .. } => free_from(hand, held),
-            _ => unreachable!(),
+    fn work_on(self, _: &Layout, _: Affinity, held: &mut LogicalHeld<Files>) -> BatchOutcome {
+        match self {
+            LogicalWork::Deliver { volume, batch } => deliver_from(volume, batch, held),
+            LogicalWork::Cull { volume } => cull_into(volume, held),
         }
     }
+}
 
-    fn on_vbn(self, _: &Layout, _: Affinity, held: &mut VbnHeld<Files>) -> InnerOutcome {
-        let RunInner {
-            alloc,
-            call: _,
-            hand,
-        } = self;
-        survey_with(alloc, hand, held)
-    }
+impl WorkOn<Parcel<Files>, VbnNode, FreeCounts, Undone> for SurveyWork {
+    ghost use Rattle.service.specs.Works.{survey_call_of};
 
-    fn on_stripe(self, _: &Layout, _: Affinity, _: &mut StripeHeld<Files>) -> InnerOutcome {
-        unreachable!()
-    }
+    ghost asks = { λ work. AsksForInner (survey_call_of work) parts.Empty };
 
-    fn on_logical(self, _: &Layout, _: Affinity, held: &mut LogicalHeld<Files>) -> InnerOutcome {
-        let RunInner {
-            alloc: _,
-            call,
-            hand,
-        } = self;
-        match call {
-            InnerCall::Deliver { .. } => deliver_from(hand, held),
-            InnerCall::Cull { volume } => cull_into(hand, volume, held),
-            _ => unreachable!(),
-        }
-    }
+    ghost does = { λ work. InnerHasRun counts_reply_of (survey_call_of work) parts.Empty };
 
-    fn on_volume(self, _: &Layout, _: Affinity, _: &mut VolumeHeld<Files>) -> InnerOutcome {
-        unreachable!()
-    }
-
-    fn on_aggregate(self, _: &Layout, _: Affinity, _: &mut AggrHeld<Files>) -> InnerOutcome {
-        unreachable!()
-    }
-
-    fn on_serial(self, _: &Layout, _: Affinity, _: &mut SerialHeld<Files>) -> InnerOutcome {
-        unreachable!()
+    fn work_on(self, _: &Layout, _: Affinity, held: &mut VbnHeld<Files>) -> SurveyOutcome {
+        let SurveyWork { alloc, volume: _ } = self;
+        survey_with(alloc, held)
     }
 }
 
 /// Fetches free blocks of a range into an empty hand.
-fn fetch_into(hand: BatchInHand, volume: VolumeNumber, held: &mut RangeHeld<Files>) -> InnerOutcome
-    requires { hand ≡ parts.Empty }
-    ensures runs { let r = held.old.own.number in HasRunOn volume.0 (range_lens r)
-        (jobs.Fetch volume.0 r) hand held.old.own result held.new.own }
+fn fetch_into(volume: VolumeNumber, held: &mut RangeHeld<Files>) -> BatchOutcome
+    ensures runs { let r = held.old.own.number in HasRunOn batch_reply_of volume.0 (range_lens r)
+        (jobs.Fetch volume.0 r) parts.Empty held.old.own result held.new.own }
     ensures unless { UnlessDone result (held.new ≡ held.old) }
 {
-    drop(hand);
     match fetch(held) {
-        Some(batch) => InnerOutcome::Done(JobReply::Took(fresh_hand(volume, batch))),
-        None => InnerOutcome::Refused,
+        Some(batch) => Ok(BatchReply::Took(fresh_hand(volume, batch))),
+        None => Err(Undone::NoSuchRange),
     }
 }
 
-/// Gives the dead blocks that are in a hand back to their range.
-fn free_from(hand: BatchInHand, held: &mut RangeHeld<Files>) -> InnerOutcome
+/// Gives dead blocks that were in a hand back to their range.
+fn free_from(volume: VolumeNumber, batch: Batch, held: &mut RangeHeld<Files>) -> BatchOutcome
     requires { let r = held.old.own.number in let size = held.old.own.range_blocks in
-        (v : ℕ) × MayRunOn size v (range_lens r) (jobs.Free v r) hand held.old.own }
-    ensures runs { let r = held.old.own.number in let size = held.old.own.range_blocks in
-        (v : ℕ) → IsHandFor size (jobs.Free v r) hand
-        → HasRunOn v (range_lens r) (jobs.Free v r) hand held.old.own result held.new.own }
+        MayRunOn size volume.0 (range_lens r)
+        (jobs.Free volume.0 r) (parts.Dead volume.0 batch) held.old.own }
+    ensures runs { let r = held.old.own.number in HasRunOn batch_reply_of volume.0 (range_lens r)
+        (jobs.Free volume.0 r) (parts.Dead volume.0 batch) held.old.own result held.new.own }
     ensures unless { UnlessDone result (held.new ≡ held.old) }
 {
-    let (volume, batch) = dead_batch(hand);
     free(held, &batch);
-    InnerOutcome::Done(JobReply::Gave(BatchInHand::new(Hand::Dead { volume, batch })))
+    let volume = volume.0;
+    Ok(BatchReply::Gave(BatchInHand::new(Hand::Dead { volume, batch })))
 }
 
 /// Tells how many blocks are free, with an empty hand.
-fn survey_with(alloc: Global, hand: BatchInHand, held: &VbnHeld<Files>) -> InnerOutcome
-    requires { hand ≡ parts.Empty }
-    ensures { (v : ℕ) → HasRunOn v vbn_lens
-        (jobs.Survey v) hand (vbn_set held.now) result (vbn_set held.now) }
+fn survey_with(alloc: Global, held: &VbnHeld<Files>) -> SurveyOutcome
+    ensures { (v : ℕ) → HasRunOn counts_reply_of v vbn_lens
+        (jobs.Survey v) parts.Empty (vbn_set held.now) result (vbn_set held.now) }
 {
     match survey(alloc, held) {
-        Ok(counts) => InnerOutcome::Done(JobReply::Surveyed(counts)),
-        Err(_) => InnerOutcome::NoMemory(hand),
+        Ok(counts) => Ok(FreeCounts { counts }),
+        Err(_) => Err(Undone::NoMemory(BatchInHand::new(Hand::Empty))),
     }
 }
 
-/// Delivers the fresh blocks that are in a hand to the stock.
-fn deliver_from(hand: BatchInHand, held: &mut LogicalHeld<Files>) -> InnerOutcome
-    requires { let size = (logical_before held.old).own.dead.range_blocks in (v : ℕ)
-        × MayRunOn size v logical_lens (jobs.Deliver v) hand (logical_before held.old) }
-    ensures runs { let size = (logical_before held.old).own.dead.range_blocks in
-        (v : ℕ) → IsHandFor size (jobs.Deliver v) hand → HasRunOn v logical_lens
-        (jobs.Deliver v) hand (logical_before held.old) result (logical_after held.old held.new) }
-    ensures unless { UnlessDone result (held.new ≡ held.old) }
-    ensures alike { logical_alike held.old held.new }
-{
-    let (volume, batch) = fresh_batch(hand);
-    let delivered = deliver(held, &batch);
-    let hand = BatchInHand::new(Hand::Fresh { volume, batch });
-    match delivered {
-        Ok(()) => InnerOutcome::Done(JobReply::Gave(hand)),
-        Err(_) => InnerOutcome::NoMemory(hand),
-    }
-}
-
-/// Culls dead blocks into an empty hand.
-fn cull_into(hand: BatchInHand, volume: VolumeNumber, held: &mut LogicalHeld<Files>) -> InnerOutcome
-    requires { hand ≡ parts.Empty }
-    ensures runs { HasRunOn volume.0 logical_lens (jobs.Cull volume.0) hand
+/// Delivers free blocks that were in a hand to the stock.
+fn deliver_from(volume: VolumeNumber, batch: Batch, held: &mut LogicalHeld<Files>) -> BatchOutcome
+    requires { let size = (logical_before held.old).own.dead.range_blocks in
+        MayRunOn size volume.0 logical_lens
+        (jobs.Deliver volume.0) (parts.Fresh volume.0 batch) (logical_before held.old) }
+    ensures runs { HasRunOn batch_reply_of volume.0 logical_lens
+        (jobs.Deliver volume.0) (parts.Fresh volume.0 batch)
         (logical_before held.old) result (logical_after held.old held.new) }
     ensures unless { UnlessDone result (held.new ≡ held.old) }
     ensures alike { logical_alike held.old held.new }
 {
-    drop(hand);
+    let delivered = deliver(held, &batch);
+    let volume = volume.0;
+    let hand = BatchInHand::new(Hand::Fresh { volume, batch });
+    match delivered {
+        Ok(()) => Ok(BatchReply::Gave(hand)),
+        Err(_) => Err(Undone::NoMemory(hand)),
+    }
+}
+
+/// Culls dead blocks into an empty hand.
+fn cull_into(volume: VolumeNumber, held: &mut LogicalHeld<Files>) -> BatchOutcome
+    ensures runs { HasRunOn batch_reply_of volume.0 logical_lens
+        (jobs.Cull volume.0) parts.Empty
+        (logical_before held.old) result (logical_after held.old held.new) }
+    ensures unless { UnlessDone result (held.new ≡ held.old) }
+    ensures alike { logical_alike held.old held.new }
+{
     let batch = cull(held);
-    InnerOutcome::Done(JobReply::Took(dead_hand(volume, batch)))
+    Ok(BatchReply::Took(dead_hand(volume, batch)))
 }
 
 /// A hand with free blocks of a volume; without a block it is empty.
@@ -202,28 +180,4 @@ fn dead_hand(volume: VolumeNumber, batch: Batch) -> BatchInHand
         volume: volume.0,
         batch,
     })
-}
-
-/// The volume and the blocks of a hand with free blocks.
-fn fresh_batch(hand: BatchInHand) -> (u32, Batch)
-    requires { (v : ℕ) × (blocks : List ℕ) × (hand ≡ parts.Fresh v blocks) }
-    ensures { parts.Fresh result.0 result.1 ≡ hand }
-{
-    match hand.into_hand() {
-        Hand::Fresh { volume, batch } => (volume, batch),
-        Hand::Dead { .. } => unreachable!(),
-        Hand::Empty => unreachable!(),
-    }
-}
-
-/// The volume and the blocks of a hand with dead blocks.
-fn dead_batch(hand: BatchInHand) -> (u32, Batch)
-    requires { (v : ℕ) × (blocks : List ℕ) × (hand ≡ parts.Dead v blocks) }
-    ensures { parts.Dead result.0 result.1 ≡ hand }
-{
-    match hand.into_hand() {
-        Hand::Dead { volume, batch } => (volume, batch),
-        Hand::Fresh { .. } => unreachable!(),
-        Hand::Empty => unreachable!(),
-    }
 }

@@ -1,7 +1,7 @@
 //! What a depot of a filer's parcels runs.
 
 use crate::batch::BatchInHand;
-use affinity::Affinity;
+use affinity::Home;
 use nfs_values::{Call, ConnectionNumber, Credential, Moment, Reply, VolumeNumber};
 
 /// A call that a record asked for, as it is finished.
@@ -15,7 +15,7 @@ pub struct ServedCall {
     /// Whom it acts for.
     pub credential: Credential,
     /// The node that it ran on.
-    pub affinity: Affinity,
+    pub affinity: Home,
     pub moment: Moment,
     /// Whether memory ran out, so that it changed nothing and was answered so.
     pub starved: bool,
@@ -36,6 +36,22 @@ pub enum InnerCall {
     Survey { volume: VolumeNumber },
 }
 
+/// What came of a worker's call that moves a batch.
+#[derive(Drop)]
+pub enum BatchReply {
+    /// The batch that came into the hand.
+    Took(BatchInHand),
+    /// The batch that left it.
+    Gave(BatchInHand),
+}
+
+/// What came of a survey.
+#[derive(Drop)]
+pub struct FreeCounts {
+    /// The free blocks of each range in use.
+    pub counts: Vec<u32>,
+}
+
 /// An entry of the history.
 #[derive(Drop)]
 pub enum Job {
@@ -47,10 +63,6 @@ pub enum Job {
 #[derive(Drop)]
 pub enum JobReply {
     Replied(Reply),
-    /// The batch that came into the hand.
-    Took(BatchInHand),
-    /// The batch that left it.
-    Gave(BatchInHand),
-    /// The free blocks of each range in use.
-    Surveyed(Vec<u32>),
+    Moved(BatchReply),
+    Surveyed(FreeCounts),
 }

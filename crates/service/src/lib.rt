@@ -5,6 +5,7 @@
 mod at_node;
 mod attributes;
 mod batch;
+mod hand_work;
 mod in_aggregate;
 mod in_logical;
 mod in_serial;
@@ -19,12 +20,15 @@ mod outcome;
 mod renames;
 mod task;
 mod totals;
+mod works;
 
 pub use at_node::run;
 pub use attributes::get_attributes;
 pub use batch::BatchInHand;
-pub use inner::{InnerOutcome, RunInner};
-pub use job::{InnerCall, Job, JobReply, ServedCall};
+pub use hand_work::HandWork;
+pub use inner::{BatchOutcome, SurveyOutcome, Undone};
+pub use job::{BatchReply, FreeCounts, InnerCall, Job, JobReply, ServedCall};
 pub use machine::Service;
 pub use outcome::Outcome;
 pub use task::Run;
+pub use works::{BatchWork, LogicalWork, RangeWork, SurveyWork, put_down};

@@ -1,10 +1,11 @@
 //! The machine.
 
 use crate::batch::BatchInHand;
-use crate::job::{InnerCall, Job, JobReply, ServedCall};
+use crate::job::{BatchReply, FreeCounts, InnerCall, Job, JobReply, ServedCall};
 use depot::Entered;
 use depot_rule::machine::Machine;
 use filer_state::Files;
+use nfs_values::Reply;
 use parcels::Parcel;
 
 /// Calls on the parcels of a filer: whatever the other parcels are, each does what the serial
@@ -46,4 +47,22 @@ impl Entered<Job> for InnerCall {
     ghost use Rattle.service.specs.declared.job.Job.TheVariants.{Inner};
 
     ghost entered = { λ call. Inner call };
+}
+
+impl Entered<JobReply> for Reply {
+    ghost use Rattle.service.specs.declared.job.JobReply.TheVariants as replies;
+
+    ghost entered = { λ reply. replies.Replied reply };
+}
+
+impl Entered<JobReply> for BatchReply {
+    ghost use Rattle.service.specs.declared.job.JobReply.TheVariants as replies;
+
+    ghost entered = { λ reply. replies.Moved reply };
+}
+
+impl Entered<JobReply> for FreeCounts {
+    ghost use Rattle.service.specs.declared.job.JobReply.TheVariants as replies;
+
+    ghost entered = { λ counts. replies.Surveyed counts };
 }

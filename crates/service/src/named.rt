@@ -3,29 +3,41 @@
 ghost use Rattle.std.specs.Prelude.{◌≡◌, option_map};
 ghost use Rattle.nfs_model.specs.Home.{named_by};
 ghost use Rattle.nfs_model.specs.Route.{handle_on};
-ghost use Rattle.affinity.specs.Affinity.{affinity_of};
 ghost use Rattle.affinity.specs.Layout.{layout_of};
 ghost use Rattle.nfs_values.specs.Call.{call_of};
 ghost use Rattle.nfs_values.specs.Handle.{named_of};
 ghost use Rattle.nfs_values.specs.Route.{route_of};
 ghost use Rattle.filer_state.specs.state.Calls.{handle_in};
-ghost use Rattle.service.specs.Running.{fileid_in, IsRunIn};
+ghost use Rattle.service.specs.Running.{fileid_in};
 
+use affinity::Layout;
 use affinity::homes::named_by;
-use affinity::{Affinity, Layout};
-use nfs_values::{Call, Fileid, Named, Route};
+use nfs_values::{Call, FileHandle, Fileid, Named, Route};
 
-/// The fileid that the handle of a call on a volume names, the first of RENAME's, where the call is
-/// run at this node.
-pub(crate) fn fileid_here(layout: &Layout, affinity: Affinity, call: &Call) -> Fileid
-    requires { IsRunIn (layout_of layout.now) call.now (affinity_of affinity) }
+/// The fileid of what is named; 0, which no file has, where nothing is.
+fn fileid_in(named: Option<Named>) -> Fileid
+    ensures { result.0 ≡ fileid_in (option_map named_of named) }
+{
+    match named {
+        Some(named) => named.fileid,
+        None => Fileid(0),
+    }
+}
+
+/// The fileid that a handle names; 0 where it is bad.
+pub(crate) fn fileid_of(handle: &FileHandle, layout: &Layout) -> Fileid
+    ensures { result.0 ≡ fileid_in (named_by (layout_of layout.now) handle.now) }
+{
+    fileid_in(named_by(handle, layout))
+}
+
+/// The fileid that the handle of a call names, the first of RENAME's; 0 where it is bad, or there
+/// is none.
+pub(crate) fn fileid_here(layout: &Layout, call: &Call) -> Fileid
     ensures { result.0
         ≡ fileid_in (named_by (layout_of layout.now) (handle_in (call_of call.now))) }
 {
-    match named_on(call.route(), layout) {
-        Some(named) => named.fileid,
-        None => unreachable!(),
-    }
+    fileid_in(named_on(call.route(), layout))
 }
 
 /// What the handle of a route names, the first of two; nothing where it is bad, or there is none.

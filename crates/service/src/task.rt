@@ -1,10 +1,5 @@
 //! A call run on what a worker was lent.
 
-ghost use Rattle.std.specs.Prelude.{◌≡◌};
-ghost use Rattle.nfs_model.specs.Tree as trees;
-ghost use Rattle.affinity.specs.Affinity.{affinity_of, kind_of};
-ghost use Rattle.affinity.specs.declared.affinity.Kind.TheVariants as kinds;
-
 use crate::in_aggregate::run_on_aggregate;
 use crate::in_logical::run_on_logical;
 use crate::in_serial::run_on_serial;
@@ -16,7 +11,8 @@ use desk::{ParcelKinds, Task};
 use filer_state::Files;
 use nfs_values::{Call, Credential, Moment, VolumeNumber};
 use parcels::{
-    AggrHeld, LogicalHeld, Parcel, RangeHeld, SerialHeld, StripeHeld, VbnHeld, VolumeHeld,
+    AggrHeld, LogicalHeld, Parcel, SerialHeld, StripeHeld, VolumeHeld, aggregate_number,
+    stripe_number, volume_number,
 };
 use std::alloc::Global;
 
@@ -43,22 +39,19 @@ impl<'a> Task<Parcel<Files>, ParcelKinds> for Run<'a> {
     ghost does = { λ run. HasRun run.call.now
         (credential_of run.credential) (moment_of run.moment) };
 
-    fn on_range(self, _: &Layout, _: Affinity, _: &mut RangeHeld<Files>) -> Outcome {
-        unreachable!()
-    }
-
-    fn on_vbn(self, _: &Layout, _: Affinity, _: &mut VbnHeld<Files>) -> Outcome {
-        unreachable!()
-    }
-
     fn on_stripe(
         self,
         layout: &Layout,
         affinity: Affinity,
         held: &mut StripeHeld<Files>,
     ) -> Outcome {
-        let (volume, stripe) = stripe_at(affinity);
-        run_on_stripe(self, layout, volume, stripe, held)
+        run_on_stripe(
+            self,
+            layout,
+            VolumeNumber(volume_number(affinity)),
+            stripe_number(affinity),
+            held,
+        )
     }
 
     fn on_logical(
@@ -67,7 +60,7 @@ impl<'a> Task<Parcel<Files>, ParcelKinds> for Run<'a> {
         affinity: Affinity,
         held: &mut LogicalHeld<Files>,
     ) -> Outcome {
-        run_on_logical(self, layout, volume_of_logical(affinity), held)
+        run_on_logical(self, layout, VolumeNumber(volume_number(affinity)), held)
     }
 
     fn on_volume(
@@ -76,8 +69,7 @@ impl<'a> Task<Parcel<Files>, ParcelKinds> for Run<'a> {
         affinity: Affinity,
         held: &mut VolumeHeld<Files>,
     ) -> Outcome {
-        let volume = volume_around(affinity);
-        run_on_volume(self, layout, volume, held)
+        run_on_volume(self, layout, VolumeNumber(volume_number(affinity)), held)
     }
 
     fn on_aggregate(
@@ -86,54 +78,10 @@ impl<'a> Task<Parcel<Files>, ParcelKinds> for Run<'a> {
         affinity: Affinity,
         held: &mut AggrHeld<Files>,
     ) -> Outcome {
-        run_on_aggregate(self, layout, aggregate_of(affinity), held)
+        run_on_aggregate(self, layout, aggregate_number(affinity), held)
     }
 
     fn on_serial(self, layout: &Layout, _: Affinity, held: &mut SerialHeld<Files>) -> Outcome {
         run_on_serial(self, layout, held)
-    }
-}
-
-/// The volume of a node that is Volume Logical.
-fn volume_of_logical(affinity: Affinity) -> VolumeNumber
-    requires { kind_of (affinity_of affinity) ≡ kinds.VolumeLogical }
-    ensures { affinity_of affinity ≡ trees.Logical result.0 }
-{
-    match affinity {
-        Affinity::VolumeLogical(volume) => VolumeNumber(volume),
-        _ => unreachable!(),
-    }
-}
-
-/// The number of a node that is an Aggregate.
-fn aggregate_of(affinity: Affinity) -> u32
-    requires { kind_of (affinity_of affinity) ≡ kinds.Aggregate }
-    ensures { affinity_of affinity ≡ trees.Aggregate result }
-{
-    match affinity {
-        Affinity::Aggregate(aggregate) => aggregate,
-        _ => unreachable!(),
-    }
-}
-
-/// The volume of a node that is Volume.
-fn volume_around(affinity: Affinity) -> VolumeNumber
-    requires { kind_of (affinity_of affinity) ≡ kinds.Volume }
-    ensures { affinity_of affinity ≡ trees.Volume result.0 }
-{
-    match affinity {
-        Affinity::Volume(volume) => VolumeNumber(volume),
-        _ => unreachable!(),
-    }
-}
-
-/// The volume and the number of a node that is a stripe.
-fn stripe_at(affinity: Affinity) -> (VolumeNumber, u32)
-    requires { kind_of (affinity_of affinity) ≡ kinds.Stripe }
-    ensures { affinity_of affinity ≡ trees.Stripe result.0.0 result.1 }
-{
-    match affinity {
-        Affinity::Stripe { volume, stripe } => (VolumeNumber(volume), stripe),
-        _ => unreachable!(),
     }
 }

@@ -1,14 +1,15 @@
 -- Bytes over the spans in which they lie.
-use Rattle.std.proofs.Common.{◌≡◌, ℕ, zero, suc, ◌+◌, ◌-◌, ◌/◌, ◌%◌, ◌<◌, ◌≤◌, true, List, [], ◌∷◌, ◌++◌, map, length, Option, Some, None}
+use Rattle.std.proofs.Common.{◌≡◌, ℕ, zero, suc, ◌+◌, ◌-◌, ◌/◌, ◌%◌, ◌<◌, ◌≤◌, true, false, List, [], ◌∷◌, ◌++◌, map, length, Option, Some, None}
 use Rattle.std.proofs.Common.{vec_len, vec_capacity, Vec, length-append, refl, sym, ap, ◌∙◌, arith, inl, inr, ⊎_elim, append_assoc}
 use Rattle.std.proofs.lemmas.Bool.{cases_eq}
 use Rattle.std.proofs.Math.Nat.{add-mod}
 use Rattle.std.proofs.lemmas.List.FromFn.{length-map-range_with_len}
 use Rattle.std.specs.Prelude.{slice_get, slice_index_or, is_some}
 use Rattle.std.specs.List.{range_with_len}
+use Rattle.std.specs.FinMap.{get-empty}
 use Rattle.nfs_model.specs.Server.{block_size}
 use Rattle.nfs_model.specs.Home.{span_bytes}
-use Rattle.nfs_model.specs.volume.Stripes.{StripeValue, stripe_of, bytes_read}
+use Rattle.nfs_model.specs.volume.Stripes.{StripeValue, Block, file_block_cmp, stripe_of, bytes_read, is_filled}
 use Rattle.filer_state.specs.state.Contents.{VolumeContents}
 use Rattle.filer_state.specs.state.Tree.{stripe_at, file_byte}
 use Rattle.filer_state.specs.state.Parcels.{no_stripe}
@@ -20,6 +21,17 @@ use Rattle.filer_state.specs.bytes.Reading.{bytes_under}
 use Rattle.filer_state.specs.bytes.lemmas.Spans.{bytes-here}
 use Rattle.service_data.specs.Promises.{IsHeld}
 use Rattle.service_data.specs.Stripes.{HasStripes}
+
+-- ---- an empty place
+
+-- no block is filled there
+pub vacant-block : {P : Type 0} (o : Option (FilerStripe P)) (fileid block : ℕ) → o ≡ None → false ≡ is_filled (stripe_value o) fileid block
+vacant-block None fileid block e = ap is_some (sym (get-empty {X = Block} file_block_cmp (fileid, block)))
+vacant-block (Some s) fileid block e = absurd cc
+
+pub vacant-place : {H : Type 0} (o : Option H) → o ≡ None → is_some o ≡ true → ⊥
+vacant-place None e some = absurd cc
+vacant-place (Some s) e some = absurd cc
 
 -- ---- two spans
 
@@ -69,6 +81,16 @@ module _ {P : Type 0} (held : FilerLogical P) (stripes : HasStripes held) where
   in-place : (i : ℕ) (place : Option (FilerStripe P)) → i < length held.stripes.at
       → placed held.stripes.at i ≡ slice_index_or held.stripes.at i place
   in-place i place less = ap in_one (place-found held.stripes.at i place less)
+
+  -- there is a stripe in the place of a span
+  pub span-there : (fileid offset k : ℕ) (place : Option (FilerStripe P)) → length held.stripes.at ≡ 16
+      → k ≡ (fileid % held.own.stripes + offset / span_bytes % held.own.stripes) % held.own.stripes
+      → is_some (slice_index_or held.stripes.at k place) ≡ true
+  span-there fileid offset k place long is =
+      let some = stripes.some in
+      let few = stripes.few in
+      let below : k < held.own.stripes = omega (arith, some, is) in
+      ap is_some (sym (in-place k place (omega (arith, few, below, long)))) ∙ stripes.there k below
 
   -- the stripe of n bytes of one span
   pub span-read : (fileid offset n k : ℕ) (place : Option (FilerStripe P)) → length held.stripes.at ≡ 16

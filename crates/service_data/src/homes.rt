@@ -6,8 +6,6 @@ ghost use Rattle.std.specs.Prelude.{
   ◌<◌,
   ◌≤◌,
   ◌%◌,
-  true,
-  is_some,
   length,
   map,
   OnOk,
@@ -62,14 +60,13 @@ pub(crate) fn is_filled(held: &LogicalHeld<Files>, fileid: Fileid, block: u64) -
     filled_in(&held.stripes.at[place], fileid, block)
 }
 
-/// Whether a block of a file is filled in the stripe in a place.
+/// Whether a block of a file is filled in the stripe in a place; none is where there is no stripe.
 fn filled_in(place: &Option<StripeHeld<Files>>, fileid: Fileid, block: u64) -> bool
-    requires { is_some place.now ≡ true }
     ensures { result ≡ is_filled (stripe_value place.now) fileid.0 block }
 {
     match place {
         Some(stripe) => stripe.own.get().is_filled(fileid, block),
-        None => unreachable!(),
+        None => false,
     }
 }
 

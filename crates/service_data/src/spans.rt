@@ -52,7 +52,7 @@ fn read_span(held: &LogicalHeld<Files>, fileid: Fileid, offset: u64, n: usize, i
     read_place(&held.stripes.at[stripe as usize], fileid, offset, n, into);
 }
 
-/// Appends n bytes of a file, which lie in one span, from the stripe in a place.
+/// Appends n bytes of a file, which lie in one span, from the stripe in a place, if there is one.
 fn read_place(
     place: &Option<StripeHeld<Files>>,
     fileid: Fileid,
@@ -60,15 +60,14 @@ fn read_place(
     n: usize,
     into: &mut Vec<u8>,
 )
-    requires there { is_some place.now ≡ true }
     requires span { offset % span_bytes + n ≤ span_bytes }
     requires room { vec_len into.old + n ≤ vec_capacity into.old }
-    ensures bytes { into.new.items ≡ into.old.items
+    ensures bytes { is_some place.now ≡ true → into.new.items ≡ into.old.items
         ++ bytes_read (stripe_value place.now) fileid.0 offset n }
     ensures capacity { vec_capacity into.old ≤ vec_capacity into.new }
 {
     match place {
         Some(stripe) => stripe.own.get().read(fileid, offset, n, into),
-        None => unreachable!(),
+        None => {}
     }
 }

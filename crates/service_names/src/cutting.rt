@@ -60,7 +60,7 @@ pub(crate) fn size_stripes(
     rest
 }
 
-/// Sets a file to a size in the stripe in a place.
+/// Sets a file to a size in the stripe in a place; no block leaves it where there is no stripe.
 fn size_place(
     place: &mut Option<StripeHeld<Files>>,
     own: &mut LogicalParcel,
@@ -94,7 +94,7 @@ fn size_place(
                 freed,
             )
         }
-        None => unreachable!(),
+        None => filled,
     }
 }
 

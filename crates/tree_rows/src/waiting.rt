@@ -1,30 +1,30 @@
 //! Messages found by affinity, and a thousand of them.
 
-ghost use Rattle.affinity.specs.Affinity.{affinity_of};
+ghost use Rattle.affinity.specs.Affinity.{home_node};
 ghost use Rattle.scheduler.specs.QueueNumber.{HasQueue};
 
 use crate::holds::holds;
-use affinity::Affinity;
+use affinity::Home;
 use nfs_values::{ConnectionNumber, Credential};
 use scheduler::{Message, NoSuchCall, Origin, Waiting};
 use std::mem;
 use std::process::Abort;
 
-const LOGICAL: Affinity = Affinity::VolumeLogical(0);
+const LOGICAL: Home = Home::Logical(0);
 
-const STRIPE: Affinity = Affinity::Stripe {
+const STRIPE: Home = Home::Stripe {
     volume: 0,
     stripe: 2,
 };
 
-const OTHER_STRIPE: Affinity = Affinity::Stripe {
+const OTHER_STRIPE: Home = Home::Stripe {
     volume: 0,
     stripe: 3,
 };
 
 /// Lets a message of the first connection wait. The number of one that found no place.
-fn refused(waiting: &mut Waiting<u32>, number: usize, affinity: Affinity) -> Option<usize>
-    requires { HasQueue (affinity_of affinity) }
+fn refused(waiting: &mut Waiting<u32>, number: usize, affinity: Home) -> Option<usize>
+    requires { HasQueue (home_node affinity) }
 {
     let message = Message {
         origin: Origin {

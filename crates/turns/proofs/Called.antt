@@ -1,5 +1,5 @@
 -- The inner call of a tend fits the hand that it is made with.
-use Rattle.std.proofs.Common.{◌≡◌, Bool, true, false, ◌&&◌, nat_lt, length, Ok, Err, Result, refl, sym, subst}
+use Rattle.std.proofs.Common.{◌≡◌, Bool, true, false, ◌&&◌, nat_lt, [], ◌∷◌, length, Ok, Err, Result, refl, sym, subst}
 use Rattle.std.specs.Prelude.{if◌then◌else◌}
 use Rattle.std.proofs.lemmas.Bool.{and_parts, ltb-true}
 use Rattle.nfs_model.specs.Tree.{Layout, range_blocks_of}
@@ -26,7 +26,7 @@ fits-hand layout (Fetch v r) Empty call inside e = by (nat_lt v.0 (length layout
         let both = and_parts (nat_lt v.0 (length layout.volumes)) (nat_lt r most_ranges) is in
         let same : jobs.Fetch v.0 r ≡ call = cc in
         subst (λ (x : InnerCall). FitsHand layout x Empty) same
-        (record { node = (ltb-true v.0 (length layout.volumes) both.0, ltb-true r 16 both.1); moves = tt; fits = refl })
+        (record { node = (ltb-true v.0 (length layout.volumes) both.0, ltb-true r 16 both.1); fits = refl })
     by false is e = absurd (let no : ⊥ = cc in no)
 fits-hand layout (Cull v) Empty call inside e = by (nat_lt v.0 (length layout.volumes)) refl e
   where
@@ -35,15 +35,16 @@ fits-hand layout (Cull v) Empty call inside e = by (nat_lt v.0 (length layout.vo
     by true is e =
         let same : jobs.Cull v.0 ≡ call = cc in
         subst (λ (x : InnerCall). FitsHand layout x Empty) same
-        (record { node = ltb-true v.0 (length layout.volumes) is; moves = tt; fits = refl })
+        (record { node = ltb-true v.0 (length layout.volumes) is; fits = refl })
     by false is e = absurd (let no : ⊥ = cc in no)
 fits-hand layout PutDown Empty call inside e = absurd (let no : ⊥ = cc in no)
 fits-hand layout PutDown (Fresh v blocks) call inside e =
     let same : jobs.Deliver v ≡ call = cc in
-    subst (λ (x : InnerCall). FitsHand layout x (Fresh v blocks)) same (record { node = inside.0; moves = tt; fits = (blocks, refl, inside.1, inside.2) })
-fits-hand layout PutDown (Dead v blocks) call inside e =
-    let same : jobs.Free v (range_of (range_blocks_of layout v) blocks) ≡ call = cc in
-    subst (λ (x : InnerCall). FitsHand layout x (Dead v blocks)) same (record { node = inside.0; moves = tt; fits = (blocks, refl, inside.1, inside.2) })
+    subst (λ (x : InnerCall). FitsHand layout x (Fresh v blocks)) same (record { node = inside.0; fits = (blocks, refl, inside.1, inside.2) })
+fits-hand layout PutDown (Dead v []) call inside e = absurd (let no : ⊥ = cc in no)
+fits-hand layout PutDown (Dead v (b ∷ bs)) call inside e =
+    let same : jobs.Free v (range_of (range_blocks_of layout v) (b ∷ bs)) ≡ call = cc in
+    subst (λ (x : InnerCall). FitsHand layout x (Dead v (b ∷ bs))) same (record { node = inside.0; fits = (b ∷ bs, refl, inside.1, inside.2) })
 fits-hand layout (Fetch v r) (Fresh u blocks) call inside e = absurd (let no : ⊥ = cc in no)
 fits-hand layout (Fetch v r) (Dead u blocks) call inside e = absurd (let no : ⊥ = cc in no)
 fits-hand layout (Cull v) (Fresh u blocks) call inside e = absurd (let no : ⊥ = cc in no)

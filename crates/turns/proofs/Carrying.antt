@@ -2,7 +2,7 @@
 use Rattle.std.proofs.Common.{◌≡◌, ℕ, Bool, None, List, [], ◌∷◌, Option, refl, sym, ap, ◌∙◌, subst, arith}
 use Rattle.std.specs.Prelude.{Result, Ok}
 use Rattle.nfs_model.specs.Tree.{Layout}
-use Rattle.nfs_model.specs.Parts.{Parts, Hand}
+use Rattle.nfs_model.specs.Parts.{Hand}
 use Rattle.affinity.specs.Fault.{fault_of}
 use Rattle.affinity.specs.Numbers.{parents}
 use Rattle.affinity.specs.Tree.{IsNode}
@@ -16,7 +16,7 @@ use Rattle.filer_state.specs.state.Partition.{parts_of}
 use Rattle.filer_state.specs.state.Jobs as jobs
 use Rattle.filer_state.specs.state.Jobs.{InnerCall, JobReply, takes, gives, batches_in, inner_node, inner_volume, InnerMoves}
 use Rattle.filer_state.specs.laws.lemmas.LayoutSizes.{contents-sized}
-use Rattle.service.specs.Jobs.{job_of, job_reply_of, job_takes, job_gives}
+use Rattle.service.specs.Jobs.{job_of, batch_reply_of, job_takes, job_gives}
 use Rattle.service.specs.declared.job.Job.{Job}
 use Rattle.service.specs.declared.job.Job.TheVariants.{Serve, Inner}
 use Rattle.turns.specs.Messages.{Message}
@@ -26,7 +26,7 @@ use Rattle.turns.specs.declared.tend.TendRefusal.{TendRefusal}
 use Rattle.turns.specs.declared.tend.Tended.{Tended}
 use Rattle.turns.specs.declared.worker.Worker.{Worker}
 use Rattle.turns.specs.Balance.{Passed, FilerView, FilerEntry, Weight, by_job, by_entry, IsEven}
-use Rattle.turns.specs.Carries.{MovesBatch, NamesBatch, HasMovedBatch, HasCarried, IsToldOf, hand_after, left_by, stock_by}
+use Rattle.turns.specs.Carries.{HasCarried, IsToldOf, hand_after, left_by, stock_by}
 use Rattle.turns.specs.Stocks.{stocked_after}
 use Rattle.turns.specs.Tends.{stocked_in, Answers}
 use Rattle.turns.specs.Words.{seat_view, HasOpened, IsHandIn}
@@ -53,31 +53,7 @@ gives-same i j (jobs.Gave hand) = refl
 gives-same i j (jobs.Surveyed told) = refl
 gives-same i j (jobs.Replied reply) = refl
 
--- the reply of a call that moves a batch names one
-names-batch : (size : ℕ) (call : InnerCall) (used : ℕ) (before after : Parts) (reply : JobReply) → MovesBatch call
-    → InnerMoves size call used before reply after → NamesBatch reply
-names-batch size call used before after (jobs.Took hand) batch moves = tt
-names-batch size call used before after (jobs.Gave hand) batch moves = tt
-names-batch size (jobs.Fetch v r) used before after (jobs.Surveyed told) batch moves = moves
-names-batch size (jobs.Deliver v) used before after (jobs.Surveyed told) batch moves = moves
-names-batch size (jobs.Cull v) used before after (jobs.Surveyed told) batch moves = moves
-names-batch size (jobs.Free v r) used before after (jobs.Surveyed told) batch moves = moves
-names-batch size (jobs.Survey v) used before after (jobs.Surveyed told) batch moves = batch
-names-batch size (jobs.Fetch v r) used before after (jobs.Replied reply) batch moves = moves
-names-batch size (jobs.Deliver v) used before after (jobs.Replied reply) batch moves = moves
-names-batch size (jobs.Cull v) used before after (jobs.Replied reply) batch moves = moves
-names-batch size (jobs.Free v r) used before after (jobs.Replied reply) batch moves = moves
-names-batch size (jobs.Survey v) used before after (jobs.Replied reply) batch moves = moves
-
 module _ (layout : Layout) (v w : FilerView) (call : InnerCall) (hand : Hand) where
-  -- what came of it names a batch, where it is done
-  pub moved-batch : (carried : Carried) → MovesBatch call → HasCarried layout v call hand carried w → HasMovedBatch carried
-  moved-batch (Done reply stock) batch did =
-      let d = did.0.did in
-      names-batch d.before.logical.dead.range_blocks call (ranges_used d.before.ranges)
-      (parts_of d.before) (parts_of d.after) (job_reply_of reply) batch d.moves
-  moved-batch (Refused back refusal) batch did = tt
-
   -- ---- the worker after it
 
   pub still-even : (carried : Carried) (pass : Passed) (kept : Option Message) → HasCarried layout v call hand carried w → IsEven pass (entries_of v) kept
@@ -98,10 +74,10 @@ module _ (layout : Layout) (v w : FilerView) (call : InnerCall) (hand : Hand) wh
       let e = did.0.entry in
       let es : List FilerEntry = entries_of v in
       let took : job_takes e.call e.reply ≡ batches_in next =
-      ap (λ (r : JobReply). takes (job_of e.call) r) did.0.is_reply ∙ takes-after (job_of e.call) (job_reply_of reply)
+      ap (λ (r : JobReply). takes (job_of e.call) r) did.0.is_reply ∙ takes-after (job_of e.call) (batch_reply_of reply)
       ∙ ap batches_in (sym told.0) in
       let gave : job_gives e.call e.reply ≡ batches_in hand =
-      ap (λ (r : JobReply). gives (job_of e.call) r) did.0.is_reply ∙ gives-same (job_of e.call) (jobs.Inner call) (job_reply_of reply) ∙ did.0.gave in
+      ap (λ (r : JobReply). gives (job_of e.call) r) did.0.is_reply ∙ gives-same (job_of e.call) (jobs.Inner call) (batch_reply_of reply) ∙ did.0.gave in
       subst (λ (ds : List FilerEntry). AreHands job_takes job_gives ds (batches_in next)) (sym did.0.entries) (λ weigh.
       let t = moved-snoc job_takes weigh es e in
       let g = moved-snoc job_gives weigh es e in
@@ -123,8 +99,8 @@ module _ (layout : Layout) (v w : FilerView) (call : InnerCall) (hand : Hand) wh
       contents-sized layout (filer_contents layout (left_by v c.between)) (before-sized layout lawful verifier v of opened c.between c.entry c.added)
       (inner_volume call) d.before d.volume_before in
       subst (λ h. IsHandIn layout h) (sym told.0)
-      (hand-in one layout call (ranges_used d.before.ranges) (parts_of d.before) (parts_of d.after) (job_reply_of reply) node
-      (subst (λ (m : ℕ). InnerMoves m call (ranges_used d.before.ranges) (parts_of d.before) (job_reply_of reply) (parts_of d.after)) size d.moves))
+      (hand-in one layout call (ranges_used d.before.ranges) (parts_of d.before) (parts_of d.after) (batch_reply_of reply) node
+      (subst (λ (m : ℕ). InnerMoves m call (ranges_used d.before.ranges) (parts_of d.before) (batch_reply_of reply) (parts_of d.after)) size d.moves))
   hand-inside lawful verifier of opened one (Refused back refusal) next answer did told node inside =
       subst (λ h. IsHandIn layout h) (sym (told.0 ∙ did.0)) inside
 
@@ -136,7 +112,7 @@ pub answers-it : (layout : Layout) (before after : Worker) (call : InnerCall) (c
 answers-it layout before after call (Done reply stock) answer did told known =
     subst (λ (x : Result Tended TendRefusal). Answers layout before (Ok call) x after) (sym told.2)
     (record {
-      reply = job_reply_of reply;
+      reply = batch_reply_of reply;
       carries = did.0;
       hand = told.0;
       told = told.3;

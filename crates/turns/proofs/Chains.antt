@@ -7,7 +7,8 @@ use Rattle.nfs_model.specs.Parts.{Hand}
 use Rattle.nfs_model.specs.Tree.{Layout}
 use Rattle.nfs_values.specs.Reply.{reply_of}
 use Rattle.nfs_values.specs.declared.moment.Moment.{Moment}
-use Rattle.affinity.specs.Affinity.{affinity_of}
+use Rattle.nfs_values.specs.declared.reply.Reply.{Reply}
+use Rattle.affinity.specs.Affinity.{home_affinity, home_node}
 use Rattle.affinity.specs.Fault.{fault_of}
 use Rattle.affinity.specs.Numbers.{number_of, parents}
 use Rattle.parcels.specs.Exact.{kind_in}
@@ -21,7 +22,7 @@ use Rattle.outboxes.specs.Messages as replies
 use Rattle.filer_state.specs.state.Jobs as jobs
 use Rattle.filer_state.specs.state.Jobs.{takes, gives}
 use Rattle.service.specs.Jobs.{job_of, job_takes, job_gives}
-use Rattle.service.specs.declared.job.JobReply.{JobReply}
+use Rattle.service.specs.declared.job.JobReply.TheVariants.{Replied}
 use Rattle.service.specs.declared.outcome.Outcome.TheVariants as outcomes
 use Rattle.turns.specs.declared.chained.Chained.{Chained}
 use Rattle.turns.specs.declared.chained.Chained.TheVariants as chains
@@ -136,7 +137,7 @@ module _ {S : Type 0} (took : S → List Addressed → S → Type 0)
     (layout : Layout) (verifier : List ℕ) (s : Standing) (moment : Moment) where
   module _ (sink sink1 sink2 : S) (m : Message) (pass pass' : Passed) (l l' : FilerLent) (w w' : FilerView)
       (gone : HasGoneSo took layout verifier s moment sink m pass l w sink1) where
-    pub goes-on : (next : Message) (said : JobReply)
+    pub goes-on : (next : Message) (said : Reply)
         → HasLinked took layout verifier gone.between m moment pass l w sink1 (links.On next) said pass' l' w' sink2
         → HasGoneSo took layout verifier s moment sink next pass' l' w' sink2
     goes-on next said h = record {
@@ -147,7 +148,7 @@ module _ {S : Type 0} (took : S → List Addressed → S → Type 0)
       stands = h.4;
     }
 
-    pub stops : (tried : Tried) (said : JobReply)
+    pub stops : (tried : Tried) (said : Reply)
         → HasLinked took layout verifier gone.between m moment pass l w sink1 (links.Over tried) said pass' l' w' sink2
         → HasChained took layout verifier s moment sink tried said pass' l' w' sink2
     stops tried said h = record {
@@ -160,7 +161,7 @@ module _ {S : Type 0} (took : S → List Addressed → S → Type 0)
 
   -- the last one is run
   pub lasts : (sink sink1 : S) (m : Message) (placed : IsPlaced layout m) (pass : Passed) (l l' : FilerLent) (w : FilerView)
-      (gone : HasGoneSo took layout verifier s moment sink m pass l w sink1) (tried : Tried) (said : JobReply)
+      (gone : HasGoneSo took layout verifier s moment sink m pass l w sink1) (tried : Tried) (said : Reply)
       → HasRunSo layout m moment l tried said l' → HasChained took layout verifier s moment sink tried said pass l' w sink1
   lasts sink sink1 m placed pass l l' w gone (tries.Moved back to) said ran = record {
     answers = gone.answers;
@@ -197,14 +198,14 @@ module _ {S : Type 0} (took : S → List Addressed → S → Type 0)
     };
   }
 
-  pub last-placed : (m : Message) (l l' : FilerLent) (tried : Tried) (said : JobReply) → HasRunSo layout m moment l tried said l'
+  pub last-placed : (m : Message) (l l' : FilerLent) (tried : Tried) (said : Reply) → HasRunSo layout m moment l tried said l'
       → IfSome (kept_of tried) (IsPlaced layout)
   last-placed m l l' (tries.Moved back to) said ran = tt
   last-placed m l l' (tries.Entered e next) said ran = subst (λ (k : Option Message). IfSome k (IsPlaced layout)) (sym ran.0) tt
 
   -- ---- the end of the grant
 
-  module _ (lawful : fault_of layout ≡ None) (sink sink1 sink2 : S) (said : JobReply) (pass' : Passed) (l' : FilerLent)
+  module _ (lawful : fault_of layout ≡ None) (sink sink1 sink2 : S) (said : Reply) (pass' : Passed) (l' : FilerLent)
       (w' : FilerView) where
     pub can-end : (tried : Tried) → length verifier ≡ 8 → RoomyBegins → RoomyStays → RepliesFit
         → HasChained took layout verifier s moment sink tried said pass' l' w' sink1 → CanEnd layout w' l' tried said
@@ -216,7 +217,7 @@ module _ {S : Type 0} (took : S → List Addressed → S → Type 0)
         (may-go-back layout lawful o.message o.placed moment h.between.view o.holding o.stands.tree tree (outcomes.Moved to) l' run to refl)
     can-end (tries.Entered e next) eight begins stays fit h =
         let o = h.over in (
-          can-read layout o.holding w' l' (job_in e) said o.stayed
+          can-read layout o.holding w' l' (job_in e) (Replied said) o.stayed
               (may-enter layout lawful verifier h.between o.message o.placed moment o.pass o.before o.holding o.stands e said l' o.ran),
           has-room layout lawful verifier h.between o.message o.placed moment o.pass o.before o.holding o.stands e said l' o.ran eight begins stays fit,
         )
@@ -234,7 +235,7 @@ module _ {S : Type 0} (took : S → List Addressed → S → Type 0)
           let o = h.over in
           let ready = is-ready layout lawful verifier h.between o.message o.placed moment o.pass o.before o.holding o.stands e said l' o.ran
           (record u { looked = o.holding.looked }) (unread o.holding w' u (number_of layout l'.affinity)
-          (entry_of layout l'.affinity l'.parcels (job_in e) said) o.stayed ended.0) in
+          (entry_of layout l'.affinity l'.parcels (job_in e) (Replied said)) o.stayed ended.0) in
           record { opened = ready.opened; none_open = ready.none_open }
 
       pub end-placed : (tried : Tried) → HasChained took layout verifier s moment sink tried said pass' l' w' sink1
@@ -276,10 +277,10 @@ module _ {S : Type 0} (took : S → List Addressed → S → Type 0)
           }
       end-served (tries.Entered e next) h ended =
           let o = h.over in
-          let a = addressed e.origin.connection.0 (replies.message e.origin.xid (reply_of o.ran.reply)) in
+          let a = addressed e.origin.connection.0 (replies.message e.origin.xid (reply_of said)) in
           let u0 : FilerView = record u { looked = o.holding.looked } in
           let done = is-done layout lawful verifier h.between o.message o.placed moment o.pass o.before o.holding o.stands e said l' o.ran u0
-          (unread o.holding w' u (number_of layout l'.affinity) (entry_of layout l'.affinity l'.parcels (job_in e) said) o.stayed ended.0) a refl in
+          (unread o.holding w' u (number_of layout l'.affinity) (entry_of layout l'.affinity l'.parcels (job_in e) (Replied said)) o.stayed ended.0) a refl in
           let did : HasDoneFrom h.between moment a (left_standing u o.pass None) = record {
             message = done.message;
             next = done.next;
@@ -300,7 +301,7 @@ module _ {S : Type 0} (took : S → List Addressed → S → Type 0)
             answers = h.answers ++ a ∷ [];
             between = left_standing u o.pass None;
             did = did-snoc moment s h.between (left_standing u o.pass None) h.answers a h.did did;
-            told = took_more sink sink1 sink2 h.answers (a ∷ []) h.told (ended.2 o.ran.reply o.ran.told);
+            told = took_more sink sink1 sink2 h.answers (a ∷ []) h.told ended.2;
             left = (refl, refl, subst (λ (k : Option Message). IsAhead o.pass pass' k) (sym ended.1) o.ahead);
             suits = some-answer h.answers a;
           }
@@ -316,18 +317,18 @@ begins took took_none layout verifier s moment sink m pass l w stands =
 
 module _ (layout : Layout) (verifier : List ℕ) (s : Standing) (m : Message) (v : FilerView) (pass : Passed) (picked : IsPicked s v pass m)
     (ready : IsReady layout verifier v) where
-  pub stands-first : (l : FilerLent) (w : FilerView) → v.tree ≡ parents layout → IsGranted kind_in filer_behaviour layout v (affinity_of m.affinity) l w
+  pub stands-first : (l : FilerLent) (w : FilerView) → v.tree ≡ parents layout → IsGranted kind_in filer_behaviour layout v (home_node m.affinity) l w
       → Stands layout verifier s m pass l w
   stands-first l w tree granted = record {
     ready = subst (λ (x : FilerView). IsReady layout verifier x) picked.view ready;
     tree = sym (ap (λ (x : FilerView). x.tree) picked.view) ∙ tree;
-    granted = subst (λ (x : FilerView). IsGranted kind_in filer_behaviour layout x (affinity_of m.affinity) l w) picked.view granted;
+    granted = subst (λ (x : FilerView). IsGranted kind_in filer_behaviour layout x (home_node m.affinity) l w) picked.view granted;
     picked = record { view = refl; next = picked.next; put = picked.put };
   }
 
   -- it was refused
   pub refused-served : {S : Type 0} (took : S → List Addressed → S → Type 0) (took_none : (x : S) → took x [] x) (moment : Moment) (sink : S)
-      (w : FilerView) (refusal : Refusal) → IsRefused layout v m.affinity refusal w
+      (w : FilerView) (refusal : Refusal) → IsRefused layout v (home_affinity m.affinity) refusal w
       → HasServedOn took layout s moment sink (chained_by refusal) sink (left_standing w pass (Some m))
   refused-served took took_none moment sink w (refusals.Busy at word) refused = record {
     answers = [];
@@ -338,8 +339,8 @@ module _ (layout : Layout) (verifier : List ℕ) (s : Standing) (m : Message) (v
       m,
       record { view = refl; next = picked.next; put = picked.put },
       refl,
-      subst (λ (x : FilerView). IsRefused layout x m.affinity (refusals.Busy at word) w) picked.view refused,
-      refused-entries layout v w m.affinity (refusals.Busy at word) refused ∙ ap (λ (x : FilerView). entries_of x) picked.view,
+      subst (λ (x : FilerView). IsRefused layout x (home_affinity m.affinity) (refusals.Busy at word) w) picked.view refused,
+      refused-entries layout v w (home_affinity m.affinity) (refusals.Busy at word) refused ∙ ap (λ (x : FilerView). entries_of x) picked.view,
     );
     suits = (refl, refl);
   }
@@ -352,8 +353,8 @@ module _ (layout : Layout) (verifier : List ℕ) (s : Standing) (m : Message) (v
       m,
       record { view = refl; next = picked.next; put = picked.put },
       refl,
-      subst (λ (x : FilerView). IsRefused layout x m.affinity refusals.Worn w) picked.view refused,
-      refused-entries layout v w m.affinity refusals.Worn refused ∙ ap (λ (x : FilerView). entries_of x) picked.view,
+      subst (λ (x : FilerView). IsRefused layout x (home_affinity m.affinity) refusals.Worn w) picked.view refused,
+      refused-entries layout v w (home_affinity m.affinity) refusals.Worn refused ∙ ap (λ (x : FilerView). entries_of x) picked.view,
     );
     suits = (refl, refl);
   }
@@ -436,7 +437,7 @@ module _ {S : Type 0} (took : S → List Addressed → S → Type 0) (took_none 
           ends = (
             x.0,
             returned h.between x.0 x.0 x.1 x.2 x.4,
-            subst (λ (v : FilerView). IsRefused layout h.between.view x.0.affinity (refusals.Busy at word) v) (sym last) x.3,
+            subst (λ (v : FilerView). IsRefused layout h.between.view (home_affinity x.0.affinity) (refusals.Busy at word) v) (sym last) x.3,
           );
         }
     not-all chains.Worn is did =
@@ -451,7 +452,7 @@ module _ {S : Type 0} (took : S → List Addressed → S → Type 0) (took_none 
           ends = (
             x.0,
             returned h.between x.0 x.0 x.1 x.2 x.4,
-            subst (λ (v : FilerView). IsRefused layout h.between.view x.0.affinity refusals.Worn v) (sym last) x.3,
+            subst (λ (v : FilerView). IsRefused layout h.between.view (home_affinity x.0.affinity) refusals.Worn v) (sym last) x.3,
           );
         }
     not-all chains.Idle is did =

@@ -2,7 +2,8 @@
 use Rattle.std.proofs.Common.{◌≡◌, ◌≤◌, ◌+◌, ℕ, List, [], ◌∷◌, ◌++◌, length, length-append, Option, ap, arith}
 use Rattle.nfs_model.specs.Tree.{Layout, Affinity}
 use Rattle.nfs_values.specs.declared.moment.Moment.{Moment}
-use Rattle.affinity.specs.Affinity.{affinity_of}
+use Rattle.nfs_values.specs.declared.reply.Reply.{Reply}
+use Rattle.affinity.specs.Affinity.{home_node}
 use Rattle.affinity.specs.Numbers.{number_of}
 use Rattle.parcels.specs.Exact.{kind_in}
 use Rattle.depot_rule.specs.History.{entries_of}
@@ -10,7 +11,7 @@ use Rattle.depot.specs.lemmas.Seats.{begun-entries, ended-entries, finished-entr
 use Rattle.depot.specs.Grants.{entry_of}
 use Rattle.desk.specs.laws.Backing.{IsGranted}
 use Rattle.outboxes.specs.Boxes.{Addressed}
-use Rattle.service.specs.declared.job.JobReply.{JobReply}
+use Rattle.service.specs.declared.job.JobReply.TheVariants.{Replied}
 use Rattle.turns.specs.Messages.{Message}
 use Rattle.turns.specs.declared.linking.Tried.{Tried}
 use Rattle.turns.specs.declared.linking.Tried.TheVariants as tries
@@ -39,14 +40,14 @@ stayed-size (tries.Entered e next) w w' stayed = ap (λ (v : FilerView). length 
 -- ---- a link
 
 module _ {S : Type 0} (took : S → List Addressed → S → Type 0) (layout : Layout) (verifier : List ℕ) (b : Standing) (m : Message) (moment : Moment)
-    (pass pass' : Passed) (l l' : FilerLent) (w w' : FilerView) (sink sink' : S) (said : JobReply) (stands : Stands layout verifier b m pass l w) where
+    (pass pass' : Passed) (l l' : FilerLent) (w w' : FilerView) (sink sink' : S) (said : Reply) (stands : Stands layout verifier b m pass l w) where
   -- one call more is finished
   pub on-size : (next : Message) → HasLinked took layout verifier b m moment pass l w sink (links.On next) said pass' l' w' sink'
       → length (entries_of w') ≡ length (entries_of w) + 1
   on-size next h =
-      let here = granted-size layout b.view w (affinity_of m.affinity) l stands.granted in
+      let here = granted-size layout b.view w (home_node m.affinity) l stands.granted in
       let one = one-more (entries_of b.view) (entries_of h.1.view) h.2.finished.entry h.2.finished.entries in
-      let there = granted-size layout h.1.view w' (affinity_of next.affinity) l' h.4.granted in
+      let there = granted-size layout h.1.view w' (home_node next.affinity) l' h.4.granted in
       omega (arith, here, one, there)
 
   -- or none
@@ -54,19 +55,19 @@ module _ {S : Type 0} (took : S → List Addressed → S → Type 0) (layout : L
       → length (entries_of w') ≡ length (entries_of w)
   over-size tried h =
       let o = h.1 in
-      let here = granted-size layout b.view w (affinity_of m.affinity) l stands.granted in
-      let there = granted-size layout b.view o.holding (affinity_of o.message.affinity) o.before o.stands.granted in
+      let here = granted-size layout b.view w (home_node m.affinity) l stands.granted in
+      let there = granted-size layout b.view o.holding (home_node o.message.affinity) o.before o.stands.granted in
       let same = stayed-size tried o.holding w' o.stayed in
       omega (arith, here, there, same)
 
 -- ---- the end
 
 pub ended-size : {S : Type 0} (took : S → List Addressed → S → Type 0) (layout : Layout) (w u : FilerView) (l : FilerLent) (kept : Option Message)
-    (sink sink' : S) (tried : Tried) (said : JobReply) → HasEnded took layout w l tried said sink u kept sink'
+    (sink sink' : S) (tried : Tried) (said : Reply) → HasEnded took layout w l tried said sink u kept sink'
     → length (entries_of u) ≤ length (entries_of w) + 1
 ended-size took layout w u l kept sink sink' (tries.Moved m to) said ended =
     let same = as-many (entries_of w) (entries_of u) (ended-entries w u (number_of layout l.affinity) ended.0) in omega (arith, same)
 ended-size took layout w u l kept sink sink' (tries.Entered e next) said ended =
-    let entry : FilerEntry = entry_of layout l.affinity l.parcels (job_in e) said in
+    let entry : FilerEntry = entry_of layout l.affinity l.parcels (job_in e) (Replied said) in
     let one = one-more (entries_of w) (entries_of u) entry (finished-entries filer_behaviour w u (number_of layout l.affinity) entry ended.0) in
     omega (arith, one)

@@ -5,8 +5,8 @@ use Rattle.nfs_model.specs.Tree.{Layout}
 use Rattle.nfs_values.specs.Reply.{reply_of}
 use Rattle.nfs_values.specs.declared.moment.Moment.{Moment}
 use Rattle.nfs_values.specs.declared.reply.Reply.{Reply}
-use Rattle.affinity.specs.declared.affinity.Affinity as codes
-use Rattle.affinity.specs.Affinity.{affinity_of}
+use Rattle.affinity.specs.declared.affinity.Home.{Home}
+use Rattle.affinity.specs.Affinity.{home_node}
 use Rattle.affinity.specs.Fault.{fault_of}
 use Rattle.affinity.specs.Numbers.{number_of, parents}
 use Rattle.parcels.specs.Exact.{kind_in}
@@ -36,7 +36,6 @@ use Rattle.turns.specs.Turns.{filer_behaviour, job_of_message, HasFinished, Stan
 use Rattle.turns.specs.Words.{IsReady}
 use Rattle.turns.proofs.Entered.{entry-answer, entry-can, entry-finished, entry-room}
 use Rattle.turns.proofs.Replayed.{RoomyBegins, RoomyStays, RepliesFit}
-use Rattle.turns.proofs.Runs.{can-as, finished-as}
 use Rattle.turns.proofs.Served.{may-finish, may-starve, entered, entered-ready, fits, starved-room}
 
 -- ---- reads
@@ -80,50 +79,46 @@ module _ (layout : Layout) (lawful : fault_of layout ≡ None) (verifier : List 
   pub ran-on : (outcome : Outcome) (l' : FilerLent) → HasRunFrom layout m moment l outcome l' → HasRunOn layout b.view m moment outcome l' w
   ran-on outcome l' ran = record { before = l; granted = stands.granted; done = ran.done; whole = ran.whole }
 
-  module _ (e : Entry) (told : JobReply) (l' : FilerLent) (enters : IsToEnter layout m moment l e told l') where
+  module _ (e : Entry) (told : Reply) (l' : FilerLent) (enters : IsToEnter layout m moment l e told l') where
     run : HasRunOn layout b.view m moment enters.outcome l' w
     run = ran-on enters.outcome l' enters.ran
 
-    pub may-enter : CanFinish kind_in filer_behaviour layout w l' (job_in e) told
-    may-enter =
-        entry-can m moment enters.starved e enters.entry told layout w l'
-        (can-as layout w l' (job_of_message m moment enters.starved) told (Replied enters.reply) enters.told (by enters.starved enters.is))
+    pub may-enter : CanFinish kind_in filer_behaviour layout w l' (job_in e) (Replied told)
+    may-enter = entry-can m moment enters.starved e enters.entry told layout w l' (by enters.starved enters.is)
       where
-        by : (starved : Bool) → IsEntered enters.outcome enters.reply starved
-            → CanFinish kind_in filer_behaviour layout w l' (job_of_message m moment starved) (Replied enters.reply)
-        by false is = may-finish layout lawful m placed moment b.view w stands.tree holding-tree enters.outcome l' run enters.reply is
-        by true is = may-starve layout lawful m placed moment b.view w stands.tree holding-tree enters.outcome l' run enters.reply is.1 is.0
+        by : (starved : Bool) → IsEntered enters.outcome told starved
+            → CanFinish kind_in filer_behaviour layout w l' (job_of_message m moment starved) (Replied told)
+        by false is = may-finish layout lawful m placed moment b.view w stands.tree holding-tree enters.outcome l' run told is
+        by true is = may-starve layout lawful m placed moment b.view w stands.tree holding-tree enters.outcome l' run told is.1 is.0
 
     pub has-room : length verifier ≡ 8 → RoomyBegins → RoomyStays → RepliesFit → HasRoom e told
-    has-room eight begins stays fit = entry-room m moment enters.starved e enters.entry told enters.reply enters.told (by enters.starved enters.is)
+    has-room eight begins stays fit = entry-room m moment enters.starved e enters.entry told (by enters.starved enters.is)
       where
-        by : (starved : Bool) → IsEntered enters.outcome enters.reply starved
-            → (form : HandleForm) → length (record_of (replies.message m.origin.xid (reply_told form (reply_of enters.reply)))) ≤ m.room
+        by : (starved : Bool) → IsEntered enters.outcome told starved
+            → (form : HandleForm) → length (record_of (replies.message m.origin.xid (reply_told form (reply_of told)))) ≤ m.room
         by false is = fits layout lawful m placed moment b.view w stands.tree holding-tree enters.outcome l' run verifier eight stands.ready.opened
-            begins stays fit enters.reply is
+            begins stays fit told is
         by true is = starved-room layout lawful m placed moment b.view w stands.tree holding-tree enters.outcome l' run verifier eight stands.ready.opened
-            begins stays fit enters.reply is.1
+            begins stays fit told is.1
 
     -- ---- it was entered
 
     module _ (u : FilerView)
-        (finished : IsFinished filer_behaviour w (number_of layout l'.affinity) (entry_of layout l'.affinity l'.parcels (job_in e) told) u) where
+        (finished : IsFinished filer_behaviour w (number_of layout l'.affinity) (entry_of layout l'.affinity l'.parcels (job_in e) (Replied told)) u) where
       ends : IsFinished filer_behaviour w (number_of layout l'.affinity)
-          (entry_of layout l'.affinity l'.parcels (job_of_message m moment enters.starved) (Replied enters.reply)) u
-      ends =
-          finished-as layout w l' (job_of_message m moment enters.starved) u told (Replied enters.reply) enters.told
-          (entry-finished m moment enters.starved e enters.entry told layout w l' u finished)
+          (entry_of layout l'.affinity l'.parcels (job_of_message m moment enters.starved) (Replied told)) u
+      ends = entry-finished m moment enters.starved e enters.entry told layout w l' u finished
 
       pub is-ready : IsReady layout verifier u
       is-ready =
-          entered-ready layout lawful m placed moment b.view w stands.tree holding-tree enters.outcome l' run u enters.reply enters.starved ends verifier
+          entered-ready layout lawful m placed moment b.view w stands.tree holding-tree enters.outcome l' run u told enters.starved ends verifier
           stands.ready
 
-      module _ (a : Addressed) (is : a ≡ addressed e.origin.connection.0 (replies.message e.origin.xid (reply_of enters.reply))) where
+      module _ (a : Addressed) (is : a ≡ addressed e.origin.connection.0 (replies.message e.origin.xid (reply_of told))) where
         pub is-finished : HasFinished b.view m moment a u
         is-finished =
-            entered layout lawful m placed moment b.view w stands.tree holding-tree enters.outcome l' run u enters.reply enters.starved ends a
-            (entry-answer m moment enters.starved e enters.entry enters.reply a is)
+            entered layout lawful m placed moment b.view w stands.tree holding-tree enters.outcome l' run u told enters.starved ends a
+            (entry-answer m moment enters.starved e enters.entry told a is)
 
         pub is-done : HasDoneFrom b moment a (left_standing u pass None)
         is-done = record { message = m; next = stands.picked.next; put = stands.picked.put; kept = refl; finished = is-finished }
@@ -136,20 +131,20 @@ module _ (layout : Layout) (lawful : fault_of layout ≡ None) (verifier : List 
         ready = is-ready;
         tree = ap (λ (x : FilerView). x.tree) finished.3 ∙ holding-tree;
         granted = subst (λ a. IsGranted kind_in filer_behaviour layout u a l' w')
-            (enters.ran.done.affinity ∙ stands.granted.affinity ∙ ap affinity_of (sym same)) granted;
+            (enters.ran.done.affinity ∙ stands.granted.affinity ∙ ap home_node (sym same)) granted;
         picked = record { view = refl; next = inr (refl, ahead.0); put = ahead.1 };
       }
 
 -- ---- what came of a run
 
-pub entered-so : (layout : Layout) (m : Message) (moment : Moment) (l l' : FilerLent) (tried : Tried) (told : JobReply) (e : Entry)
+pub entered-so : (layout : Layout) (m : Message) (moment : Moment) (l l' : FilerLent) (tried : Tried) (told : Reply) (e : Entry)
     (next : Option Message) → tried ≡ tries.Entered e next → HasRunSo layout m moment l tried told l' → IsToEnter layout m moment l e told l'
 entered-so layout m moment l l' tried told e next is ran = (subst (λ (t : Tried). HasRunSo layout m moment l t told l') is ran).1
 
 module _ (layout : Layout) (lawful : fault_of layout ≡ None) (verifier : List ℕ) (b : Standing) (m : Message) (placed : IsPlaced layout m)
-    (moment : Moment) (pass : Passed) (l : FilerLent) (w : FilerView) (stands : Stands layout verifier b m pass l w) (said : JobReply)
+    (moment : Moment) (pass : Passed) (l : FilerLent) (w : FilerView) (stands : Stands layout verifier b m pass l w) (said : Reply)
     (l' : FilerLent) where
-  pub link-moved : (tried : Tried) (back : Message) (to : codes.Affinity) → tried ≡ tries.Moved back to → HasRunSo layout m moment l tried said l'
+  pub link-moved : (tried : Tried) (back : Message) (to : Home) → tried ≡ tries.Moved back to → HasRunSo layout m moment l tried said l'
       → IsOver layout verifier moment b (tries.Moved back to) said pass l' w
   link-moved tried back to is ran = record {
     message = m;
@@ -178,18 +173,17 @@ module _ (layout : Layout) (lawful : fault_of layout ≡ None) (verifier : List 
       ahead = ahead;
     }
 
-    pub link-on : {S : Type 0} (took : S → List Addressed → S → Type 0) (sink sink' : S) (next : Message) (after : JobReply) → next.affinity ≡ m.affinity
+    pub link-on : {S : Type 0} (took : S → List Addressed → S → Type 0) (sink sink' : S) (next : Message) (after : Reply) → next.affinity ≡ m.affinity
         → IsAhead pass pass' (Some next) → (mid : FilerView)
-        → IsFinished filer_behaviour w (number_of layout l'.affinity) (entry_of layout l'.affinity l'.parcels (job_in e) said) mid
+        → IsFinished filer_behaviour w (number_of layout l'.affinity) (entry_of layout l'.affinity l'.parcels (job_in e) (Replied said)) mid
         → IsGranted kind_in filer_behaviour layout mid l'.affinity l' w'
-        → ((reply : Reply) → said ≡ Replied reply
-        → took sink (addressed e.origin.connection.0 (replies.message e.origin.xid (reply_of reply)) ∷ []) sink')
+        → took sink (addressed e.origin.connection.0 (replies.message e.origin.xid (reply_of said)) ∷ []) sink'
         → HasLinked took layout verifier b m moment pass l w sink (links.On next) after pass' l' w' sink'
     link-on took sink sink' next after same ahead mid finished granted told = (
-      addressed e.origin.connection.0 (replies.message e.origin.xid (reply_of enters.reply)),
+      addressed e.origin.connection.0 (replies.message e.origin.xid (reply_of said)),
       left_standing mid pass None,
       is-done layout lawful verifier b m placed moment pass l w stands e said l' enters mid finished _ refl,
-      told enters.reply enters.told,
+      told,
       stands-on layout lawful verifier b m placed moment pass l w stands e said l' enters mid finished next pass' w' same ahead granted,
     )
 

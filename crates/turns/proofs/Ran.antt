@@ -1,9 +1,10 @@
 -- An inner call on a seat: what it needs, what its run may end in, and what comes of it.
-use Rattle.std.proofs.Common.{◌≡◌, ℕ, ◌<◌, Bool, List, [], ◌∷◌, ◌++◌, length, Option, Some, None, refl, sym, ap, ◌∙◌, subst, arith}
+use Rattle.std.proofs.Common.{◌≡◌, ℕ, ◌<◌, Bool, List, [], ◌∷◌, ◌++◌, length, Option, Some, None, Ok, Err, refl, sym, ap, ◌∙◌, subst, arith}
 use Rattle.nfs_model.specs.Tree.{Layout, Affinity, range_blocks_of}
 use Rattle.nfs_model.specs.Parts.{Hand, Empty}
 use Rattle.nfs_laws.specs.Sizes.{HaveSizes}
 use Rattle.affinity.specs.Affinity.{affinity_of}
+use Rattle.affinity.specs.declared.affinity.Kind.TheVariants as kinds
 use Rattle.affinity.specs.Fault.{fault_of}
 use Rattle.affinity.specs.Numbers.{number_of, parents}
 use Rattle.affinity.specs.Tree.{IsNode}
@@ -15,6 +16,7 @@ use Rattle.depot_rule.specs.Plays.{HasAdded}
 use Rattle.depot.specs.Grants.{entry_of, HasWith, IsBegun, IsAfter, IsStep, IsEnded, IsFinished, IsRefused}
 use Rattle.depot.specs.declared.grants.Refusal.{Refusal}
 use Rattle.depot.specs.declared.grants.Refusal.TheVariants as refusals
+use Rattle.depot.specs.Words.{IsNodeOf}
 use Rattle.depot.specs.lemmas.Seats.{begun-with, begun-entries, ended-entries, ended-none, finished-entries, finished-none}
 use Rattle.desk.specs.laws.Backing.{CanFinish, CanPutBack}
 use Rattle.filer_state.specs.state.Contents.{VolumeContents, volume_at, contents_of, filer_contents}
@@ -29,13 +31,18 @@ use Rattle.filer_state.specs.state.Tree.{tree}
 use Rattle.filer_state.specs.laws.lemmas.Alike.{filer-same}
 use Rattle.filer_state.specs.laws.lemmas.Each.{each-get}
 use Rattle.filer_state.specs.declared.files.Files.{Files}
-use Rattle.service.specs.Inner.{IsHandFor, MayLackMemory, InnerHasRun}
-use Rattle.service.specs.Jobs.{inner_of, job_reply_of, job_steps, job_takes, job_gives}
-use Rattle.service.specs.declared.inner.InnerOutcome.{InnerOutcome}
-use Rattle.service.specs.declared.inner.InnerOutcome.TheVariants.{Done, Refused, NoMemory}
+use Rattle.service.specs.Inner.{IsHandFor, MayLackMemory, InnerHasRun, InnerOutcome}
+use Rattle.service.specs.Jobs.{inner_of, batch_reply_of, job_steps, job_takes, job_gives}
+use Rattle.service.specs.Works.{range_call_of, logical_call_of}
+use Rattle.service.specs.declared.inner.Undone.TheVariants.{NoSuchRange, NoMemory}
 use Rattle.service.specs.declared.job.InnerCall as codes
+use Rattle.service.specs.declared.works.RangeWork.{RangeWork}
+use Rattle.service.specs.declared.works.RangeWork.TheVariants as ranges
+use Rattle.service.specs.declared.works.LogicalWork.{LogicalWork}
+use Rattle.service.specs.declared.works.LogicalWork.TheVariants as logicals
 use Rattle.service.specs.declared.job.Job.TheVariants.{Inner}
-use Rattle.service.specs.declared.job.JobReply.{JobReply}
+use Rattle.service.specs.declared.job.BatchReply.{BatchReply}
+use Rattle.service.specs.declared.job.JobReply.TheVariants as replies
 use Rattle.turns.specs.Balance.{FilerView, FilerEntry}
 use Rattle.turns.specs.Carries.{node_tried, refusal_by, IsRefusedFor, MayCarry, Carries, HasRunInner, stock_left}
 use Rattle.turns.specs.Runs.{FilerLent}
@@ -57,6 +64,17 @@ node-of-call (Deliver v) = refl
 node-of-call (Cull v) = refl
 node-of-call (Free v r) = refl
 node-of-call (Survey v) = refl
+
+-- and it is of the kind of the node type that it is run for
+module _ (layout : Layout) where
+  pub range-node : (work : RangeWork) → IsNode layout (inner_node (range_call_of work)) → IsNodeOf layout kinds.Range (node_tried (range_call_of work))
+  range-node (ranges.Fetch v r) on = (on, refl)
+  range-node (ranges.Free v r batch) on = (on, refl)
+
+  pub logical-node : (work : LogicalWork) → IsNode layout (inner_node (logical_call_of work))
+      → IsNodeOf layout kinds.VolumeLogical (node_tried (logical_call_of work))
+  logical-node (logicals.Deliver v batch) on = (on, refl)
+  logical-node (logicals.Cull v) on = (on, refl)
 
 -- what the depot refused, a tend is refused for
 pub refused-for : (layout : Layout) (v w : FilerView) (call : InnerCall) (refusal : Refusal) → IsRefused layout v (node_tried call) refusal w
@@ -97,7 +115,7 @@ granted-hand layout lawful node there v of opened f given own seen =
 
 module _ (layout : Layout) (lawful : fault_of layout ≡ None) (code : codes.InnerCall) (hand : Hand) (v w : FilerView)
     (may : MayCarry layout v (inner_of code) hand) (of_v : v.tree ≡ parents layout) (of_w : w.tree ≡ parents layout)
-    (outcome : InnerOutcome) (said : Option Bool) (l : FilerLent) (r : HasRunInner layout v (inner_of code) hand outcome said l w) where
+    (outcome : InnerOutcome BatchReply) (said : Option Bool) (l : FilerLent) (r : HasRunInner layout v (inner_of code) hand outcome said l w) where
   abbrev call : InnerCall
   call = inner_of code
 
@@ -107,14 +125,14 @@ module _ (layout : Layout) (lawful : fault_of layout ≡ None) (code : codes.Inn
   abbrev before : Parcels
   before = r.before.parcels
 
-  abbrev Ran : InnerOutcome → Type 0
-  Ran o = InnerHasRun call hand layout node before o l.parcels
+  abbrev Ran : InnerOutcome BatchReply → Type 0
+  Ran o = InnerHasRun batch_reply_of call hand layout node before o l.parcels
 
   here : l.affinity ≡ node
   here = r.done.affinity ∙ r.granted.affinity
 
   told : Ran outcome
-  told = subst (λ a. InnerHasRun call hand layout a before outcome l.parcels) r.granted.affinity r.done.did
+  told = subst (λ a. InnerHasRun batch_reply_of call hand layout a before outcome l.parcels) r.granted.affinity r.done.did
 
   begun : IsBegun v (number_of layout node) before w
   begun = subst (λ a. IsBegun v (number_of layout a) before w) r.granted.affinity r.granted.begun
@@ -131,34 +149,37 @@ module _ (layout : Layout) (lawful : fault_of layout ≡ None) (code : codes.Inn
 
   -- ---- it is done
 
-  module _ (reply : JobReply) (is : outcome ≡ Done reply) where
-    ran : Ran (Done reply)
+  module _ (reply : BatchReply) (is : outcome ≡ Ok reply) where
+    ran : Ran (Ok reply)
     ran = subst Ran is told
 
-    pub may-finish : CanFinish kind_in filer_behaviour layout w l (Inner code) reply
+    pub may-finish : CanFinish kind_in filer_behaviour layout w l (Inner code) (replies.Moved reply)
     may-finish =
-        let step : IsStep filer_behaviour w (number_of layout node) (Inner code) reply l.parcels = (
+        let step : IsStep filer_behaviour w (number_of layout node) (Inner code) (replies.Moved reply) l.parcels = (
           before,
           has,
-          subst (λ ps. FilerSteps ps (number_of layout node) (jobs.Inner call) before (job_reply_of reply) l.parcels) (sym of_w) ran.0,
+          subst (λ ps. FilerSteps ps (number_of layout node) (jobs.Inner call) before (batch_reply_of reply) l.parcels) (sym of_w) ran.0,
         ) in
         record {
           node = subst (λ a. IsNode layout a) (sym here) may.fits.node;
           exact = r.whole.exact;
-          step = subst (λ a. IsStep filer_behaviour w (number_of layout a) (Inner code) reply l.parcels) (sym here) step;
+          step = subst (λ a. IsStep filer_behaviour w (number_of layout a) (Inner code) (replies.Moved reply) l.parcels) (sym here) step;
           hand = (
             batches_in hand,
-            job_takes (Inner code) reply,
+            job_takes (Inner code) (replies.Moved reply),
             own,
-            λ weigh. let g : total weigh (job_gives (Inner code) reply) ≡ total weigh (batches_in hand) = ap (total weigh) ran.1 in omega (arith, g),
+            λ weigh.
+                let g : total weigh (job_gives (Inner code) (replies.Moved reply)) ≡ total weigh (batches_in hand) = ap (total weigh) ran.1 in
+                omega (arith, g),
           );
         }
 
     -- after it, the seat has an entry more, and no grant
-    module _ (u : FilerView) (finished : IsFinished filer_behaviour w (number_of layout l.affinity) (entry_of layout l.affinity l.parcels (Inner code) reply)
-        u) where
+    module _ (u : FilerView)
+        (finished : IsFinished filer_behaviour w (number_of layout l.affinity)
+        (entry_of layout l.affinity l.parcels (Inner code) (replies.Moved reply)) u) where
       abbrev entry : FilerEntry
-      entry = entry_of layout l.affinity l.parcels (Inner code) reply
+      entry = entry_of layout l.affinity l.parcels (Inner code) (replies.Moved reply)
 
       ends : IsFinished filer_behaviour w (number_of layout node) entry u
       ends = subst (λ a. IsFinished filer_behaviour w (number_of layout a) entry u) here finished
@@ -170,7 +191,7 @@ module _ (layout : Layout) (lawful : fault_of layout ≡ None) (code : codes.Inn
         none_open = finished-none filer_behaviour v w u (number_of layout node) before entry ready.none_open begun ends;
       }
 
-      made : Carries layout v call hand (job_reply_of reply) u
+      made : Carries layout v call hand (batch_reply_of reply) u
       made =
           let added : HasAdded filer_behaviour v ends.2 entry = subst (λ (x : FilerView). HasAdded filer_behaviour x ends.2 entry) begun.3 ends.4 in
           record {
@@ -186,7 +207,7 @@ module _ (layout : Layout) (lawful : fault_of layout ≡ None) (code : codes.Inn
           }
 
       -- and what was told of a stock is so of what the entry left
-      pub has-carried : (c : Carries layout v call hand (job_reply_of reply) u) × (said ≡ stock_left layout call c.entry)
+      pub has-carried : (c : Carries layout v call hand (batch_reply_of reply) u) × (said ≡ stock_left layout call c.entry)
       unfolding made
       has-carried = (
         made,
@@ -218,8 +239,8 @@ module _ (layout : Layout) (lawful : fault_of layout ≡ None) (code : codes.Inn
       none_open = ended-none v w u (number_of layout node) before ready.none_open begun ends-so;
     }
 
-  module _ (is : outcome ≡ Refused) where
-    refused : Ran Refused
+  module _ (is : outcome ≡ Err NoSuchRange) where
+    refused : Ran (Err NoSuchRange)
     refused = subst Ran is told
 
     pub unused-goes-back : CanPutBack layout w l
@@ -245,8 +266,8 @@ module _ (layout : Layout) (lawful : fault_of layout ≡ None) (code : codes.Inn
         by f (Deliver n) on fits why = absurd (why (contents_of layout f n) (at f n on))
         by f (Free n i) on fits why = absurd (why (contents_of layout f n) (at f n on.0))
 
-  module _ (back : Hand) (is : outcome ≡ NoMemory back) where
-    starved : Ran (NoMemory back)
+  module _ (back : Hand) (is : outcome ≡ Err (NoMemory back)) where
+    starved : Ran (Err (NoMemory back))
     starved = subst Ran is told
 
     pub starved-goes-back : CanPutBack layout w l

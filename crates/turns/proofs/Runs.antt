@@ -1,5 +1,5 @@
 -- A message's call, run on what a depot granted, and what is told of it.
-use Rattle.std.proofs.Common.{◌≡◌, sym, subst}
+use Rattle.std.proofs.Common.{◌≡◌, subst}
 use Rattle.nfs_model.specs.Tree.{Layout}
 use Rattle.nfs_values.specs.Credential.{credential_of}
 use Rattle.nfs_values.specs.Moment.{moment_of}
@@ -11,22 +11,14 @@ use Rattle.desk.specs.laws.Backing.{IsWhole, IsDone}
 use Rattle.nfs_values.specs.declared.reply.Refusal.TheVariants.{SystemError}
 use Rattle.nfs_values.specs.declared.reply.Reply.{Reply}
 use Rattle.nfs_values.specs.declared.reply.Reply.TheVariants.{Refused}
-use Rattle.affinity.specs.declared.affinity.Affinity.{Affinity}
-use Rattle.affinity.specs.Numbers.{number_of}
-use Rattle.depot.specs.Grants.{entry_of, IsFinished}
-use Rattle.desk.specs.laws.Backing.{CanFinish}
-use Rattle.service.specs.declared.job.Job.{Job}
-use Rattle.service.specs.declared.job.JobReply.{JobReply}
-use Rattle.service.specs.declared.job.JobReply.TheVariants.{Replied}
+use Rattle.affinity.specs.declared.affinity.Home.{Home}
 use Rattle.service.specs.declared.outcome.Outcome.{Outcome}
 use Rattle.service.specs.declared.outcome.Outcome.TheVariants as outcomes
 use Rattle.service.specs.Running.{HasRun}
 use Rattle.turns.specs.Messages.{Message}
 use Rattle.turns.specs.declared.granted.Ended.{Ended}
 use Rattle.turns.specs.declared.granted.Ended.TheVariants as ends
-use Rattle.turns.specs.Balance.{FilerView}
 use Rattle.turns.specs.Runs.{FilerLent, HasRunFrom, HasTold}
-use Rattle.turns.specs.Turns.{filer_behaviour}
 
 -- the call and the credential are the message's, and the layout is the filer's
 pub ran-from : (layout x : Layout) → x ≡ layout → (m : Message) (call : Call) (credential : Credential) → call ≡ m.call → credential ≡ m.credential
@@ -42,23 +34,12 @@ ran-from layout x same m call credential is whom moment outcome before after don
 
 -- ---- what is told
 
-module _ (outcome : Outcome) (ended : Ended) (said : JobReply) (says : HasTold outcome ended said) where
-  pub replied-so : ended ≡ ends.Replied → (reply : Reply) × (outcome ≡ outcomes.Replied reply) × (said ≡ Replied reply)
+module _ (outcome : Outcome) (ended : Ended) (said : Reply) (says : HasTold outcome ended said) where
+  pub replied-so : ended ≡ ends.Replied → outcome ≡ outcomes.Replied said
   replied-so is = subst (λ (x : Ended). HasTold outcome x said) is says
 
-  pub starved-so : ended ≡ ends.Starved → (outcome ≡ outcomes.Starved) × (said ≡ Replied (Refused SystemError))
+  pub starved-so : ended ≡ ends.Starved → (outcome ≡ outcomes.Starved) × (said ≡ Refused SystemError)
   starved-so is = subst (λ (x : Ended). HasTold outcome x said) is says
 
-  pub moved-so : (to : Affinity) → ended ≡ ends.Moved to → outcome ≡ outcomes.Moved to
+  pub moved-so : (to : Home) → ended ≡ ends.Moved to → outcome ≡ outcomes.Moved to
   moved-so to is = subst (λ (x : Ended). HasTold outcome x said) is says
-
--- a call that may end by a reply may end by what is told, where that is the reply; and ended by the reply where it did by what is told
-pub can-as : (layout : Layout) (w : FilerView) (l : FilerLent) (job : Job) (said one : JobReply) → said ≡ one
-    → CanFinish kind_in filer_behaviour layout w l job one → CanFinish kind_in filer_behaviour layout w l job said
-can-as layout w l job said one is can = subst (λ (t : JobReply). CanFinish kind_in filer_behaviour layout w l job t) (sym is) can
-
-pub finished-as : (layout : Layout) (w : FilerView) (l : FilerLent) (job : Job) (u : FilerView) (said one : JobReply) → said ≡ one
-    → IsFinished filer_behaviour w (number_of layout l.affinity) (entry_of layout l.affinity l.parcels job said) u
-    → IsFinished filer_behaviour w (number_of layout l.affinity) (entry_of layout l.affinity l.parcels job one) u
-finished-as layout w l job u said one is finished =
-    subst (λ (t : JobReply). IsFinished filer_behaviour w (number_of layout l.affinity) (entry_of layout l.affinity l.parcels job t) u) is finished

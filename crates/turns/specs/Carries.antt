@@ -20,9 +20,9 @@ use Rattle.filer_state.specs.state.Jobs.{InnerCall, JobReply, Took, Gave, gives,
 use Rattle.filer_state.specs.state.Parcels.{FilerParcel}
 use Rattle.filer_state.specs.state.Running.{IsRefusedIn}
 use Rattle.filer_state.specs.declared.files.Files.{Files}
-use Rattle.service.specs.Inner.{IsHandFor, MayLackMemory, InnerHasRun}
-use Rattle.service.specs.Jobs.{job_of, job_reply_of, job_takes, job_gives}
-use Rattle.service.specs.declared.inner.InnerOutcome.{InnerOutcome}
+use Rattle.service.specs.Inner.{IsHandFor, MayLackMemory, InnerHasRun, InnerOutcome}
+use Rattle.service.specs.Jobs.{job_of, batch_reply_of, job_reply_of, job_takes, job_gives}
+use Rattle.service.specs.declared.job.BatchReply.{BatchReply}
 use Rattle.turns.specs.declared.tend.Carried.{Carried}
 use Rattle.turns.specs.declared.tend.Carried.TheVariants.{Done, Refused}
 use Rattle.turns.specs.declared.tend.TendRefusal.{TendRefusal}
@@ -45,15 +45,9 @@ node_tried (jobs.Survey v) = nodes.VolumeVbn v
 
 -- ---- what it needs
 
--- it moves a batch
-abbrev pub MovesBatch : InnerCall → Type 0
-MovesBatch (jobs.Survey v) = ⊥
-MovesBatch call = Unit {0}
-
 -- its node is of the layout, its batch is in the hand if it gives one, and else the hand is empty
 pub record FitsHand (layout : Layout) (call : InnerCall) (hand : Hand) : Type 0 where
   pub node : IsNode layout (inner_node call)
-  pub moves : MovesBatch call
   pub fits : IsHandFor (range_blocks_of layout (inner_volume call)) call hand
 
 -- and the seat's history began with the parcels of the layout, and what is in the hand is all that the seat's calls took and didn't give
@@ -104,15 +98,15 @@ stock_left layout call e = stock_told layout (inner_node call) (listed e.left)
 -- what came of an inner call on a seat. Where it is done, this is told of the stock as it left it.
 abbrev pub HasCarried : Layout → FilerView → InnerCall → Hand → Carried → FilerView → Type 0
 HasCarried layout v call hand (Done reply told) w =
-    (c : Carries layout v call hand (job_reply_of reply) w) × (told ≡ stock_left layout call c.entry)
+    (c : Carries layout v call hand (batch_reply_of reply) w) × (told ≡ stock_left layout call c.entry)
 HasCarried layout v call hand (Refused back refusal) w = (back ≡ hand) × (entries_of w ≡ entries_of v) × IsRefusedFor layout v call refusal w
 
 -- A depot granted a seat the parcels of an inner call, and its run came to this, and left them so. Then a look at them told this.
-pub record HasRunInner (layout : Layout) (v : FilerView) (call : InnerCall) (hand : Hand) (outcome : InnerOutcome) (told : Option Bool) (l : FilerLent)
-    (w : FilerView) : Type 0 where
+pub record HasRunInner (layout : Layout) (v : FilerView) (call : InnerCall) (hand : Hand) (outcome : InnerOutcome BatchReply) (told : Option Bool)
+    (l : FilerLent) (w : FilerView) : Type 0 where
   pub before : FilerLent
   pub granted : IsGranted kind_in filer_behaviour layout v (inner_node call) before w
-  pub done : IsDone (InnerHasRun call hand) layout before outcome l
+  pub done : IsDone (InnerHasRun batch_reply_of call hand) layout before outcome l
   pub whole : IsWhole kind_in layout l
   pub looked : told ≡ stock_told layout l.affinity l.parcels
 
@@ -129,20 +123,10 @@ IsToldAs (Took hand) tended = tended ≡ tendeds.InHand (length (batch_in hand))
 IsToldAs (Gave hand) tended = tended ≡ tendeds.PutDown (length (batch_in hand))
 IsToldAs reply tended = ⊥
 
--- a reply that names a batch
-abbrev pub NamesBatch : JobReply → Type 0
-NamesBatch (Took hand) = Unit {0}
-NamesBatch (Gave hand) = Unit {0}
-NamesBatch reply = ⊥
-
-abbrev pub HasMovedBatch : Carried → Type 0
-HasMovedBatch (Done reply told) = NamesBatch (job_reply_of reply)
-HasMovedBatch (Refused back refusal) = Unit {0}
-
 -- what is in the hand after it, and what its tend answers
 abbrev pub IsToldOf : Carried → Hand → Result Tended TendRefusal → Type 0
 IsToldOf (Done reply told) hand answer =
-    (hand ≡ hand_after (job_reply_of reply)) × (tended : Tended) × (answer ≡ Ok tended) × IsToldAs (job_reply_of reply) tended
+    (hand ≡ hand_after (batch_reply_of reply)) × (tended : Tended) × (answer ≡ Ok tended) × IsToldAs (batch_reply_of reply) tended
 IsToldOf (Refused back refusal) hand answer = (hand ≡ back) × (answer ≡ Err refusal)
 
 -- what was told of a stock; nothing where it was refused

@@ -7,7 +7,7 @@ use Rattle.nfs_values.specs.declared.moment.Moment.{Moment}
 use Rattle.rpc_msg.specs.declared.handle_form.HandleForm.{HandleForm}
 use Rattle.nfs_values.specs.declared.reply.Reply.{Reply}
 use Rattle.rpc_msg.specs.Handles.{reply_told}
-use Rattle.affinity.specs.Affinity.{affinity_of}
+use Rattle.affinity.specs.Affinity.{home_node}
 use Rattle.affinity.specs.Numbers.{number_of, parents}
 use Rattle.parcels.specs.Exact.{kind_in}
 use Rattle.depot_rule.specs.declared.view.Read.{Read}
@@ -21,7 +21,6 @@ use Rattle.service.specs.declared.job.Job.TheVariants.{Serve}
 use Rattle.service.specs.declared.job.JobReply.TheVariants.{Replied}
 use Rattle.service.specs.declared.outcome.Outcome.{Outcome}
 use Rattle.service.specs.declared.outcome.Outcome.TheVariants as outcomes
-use Rattle.service.specs.declared.job.JobReply.{JobReply}
 use Rattle.turns.specs.declared.entering.Entry.{Entry}
 use Rattle.turns.specs.declared.chained.Chained.{Chained}
 use Rattle.turns.specs.declared.chained.Chained.TheVariants as chains
@@ -48,10 +47,9 @@ pub record IsEntryFor (m : Message) (moment : Moment) (starved : Bool) (e : Entr
   pub origin : e.origin ≡ m.origin
   pub room : e.room ≡ m.room
 
--- what was told of it is a reply, which fits its room, however its handles are told
-abbrev pub HasRoom : Entry → JobReply → Type 0
-HasRoom e told = (reply : Reply) × (told ≡ Replied reply)
-    × ((form : HandleForm) → length (record_of (replies.message e.origin.xid (reply_told form (reply_of reply)))) ≤ e.room)
+-- the reply that was told of it fits its room, however its handles are told
+abbrev pub HasRoom : Entry → Reply → Type 0
+HasRoom e told = (form : HandleForm) → length (record_of (replies.message e.origin.xid (reply_told form (reply_of told)))) ≤ e.room
 
 -- what is entered of a run
 abbrev pub IsEntered : Outcome → Reply → Bool → Type 0
@@ -59,17 +57,15 @@ IsEntered outcome reply false = outcome ≡ outcomes.Replied reply
 IsEntered outcome reply true = (outcome ≡ outcomes.Starved) × (reply_of reply ≡ SystemError)
 
 -- a message's call was run on what is lent, its entry is this, and this was told of it
-pub record IsToEnter (layout : Layout) (m : Message) (moment : Moment) (l : FilerLent) (e : Entry) (said : JobReply) (l' : FilerLent) : Type 0 where
+pub record IsToEnter (layout : Layout) (m : Message) (moment : Moment) (l : FilerLent) (e : Entry) (said : Reply) (l' : FilerLent) : Type 0 where
   pub outcome : Outcome
-  pub reply : Reply
   pub starved : Bool
-  pub is : IsEntered outcome reply starved
+  pub is : IsEntered outcome said starved
   pub ran : HasRunFrom layout m moment l outcome l'
   pub entry : IsEntryFor m moment starved e
-  pub told : said ≡ Replied reply
 
 -- a message's call was run on what is lent, and this came of it
-abbrev pub HasRunSo : Layout → Message → Moment → FilerLent → Tried → JobReply → FilerLent → Type 0
+abbrev pub HasRunSo : Layout → Message → Moment → FilerLent → Tried → Reply → FilerLent → Type 0
 HasRunSo layout m moment l (tries.Moved back to) told l' = (back ≡ m) × HasRunFrom layout m moment l (outcomes.Moved to) l'
 HasRunSo layout m moment l (tries.Entered e next) told l' = (next ≡ None) × IsToEnter layout m moment l e told l'
 
@@ -79,7 +75,7 @@ HasRunSo layout m moment l (tries.Entered e next) told l' = (next ≡ None) × I
 pub record Stands (layout : Layout) (verifier : List ℕ) (b : Standing) (m : Message) (pass : Passed) (l : FilerLent) (w : FilerView) : Type 0 where
   pub ready : IsReady layout verifier b.view
   pub tree : b.view.tree ≡ parents layout
-  pub granted : IsGranted kind_in filer_behaviour layout b.view (affinity_of m.affinity) l w
+  pub granted : IsGranted kind_in filer_behaviour layout b.view (home_node m.affinity) l w
   pub picked : IsPicked b b.view pass m
 
 -- nothing but reads was added
@@ -102,12 +98,12 @@ HasStayed (tries.Moved m to) w w' = w' ≡ w
 HasStayed (tries.Entered e next) w w' = HasOnlyRead w w'
 
 -- so was it run
-abbrev pub RanSo : Layout → Message → Moment → FilerLent → Tried → JobReply → FilerLent → Type 0
+abbrev pub RanSo : Layout → Message → Moment → FilerLent → Tried → Reply → FilerLent → Type 0
 RanSo layout m moment l (tries.Moved back to) told l' = HasRunSo layout m moment l (tries.Moved back to) told l'
 RanSo layout m moment l (tries.Entered e next) told l' = IsToEnter layout m moment l e told l'
 
 -- A message was picked by who stood so and run on a grant of what it tries, which is still open.
-pub record IsOver (layout : Layout) (verifier : List ℕ) (moment : Moment) (b : Standing) (tried : Tried) (told : JobReply)
+pub record IsOver (layout : Layout) (verifier : List ℕ) (moment : Moment) (b : Standing) (tried : Tried) (told : Reply)
     (pass' : Passed) (l' : FilerLent) (w' : FilerView) : Type 0 where
   pub message : Message
   pub placed : IsPlaced layout message
@@ -121,7 +117,7 @@ pub record IsOver (layout : Layout) (verifier : List ℕ) (moment : Moment) (b :
 
 -- one call was finished, and the next has its grant; or the grant is still open
 abbrev pub HasLinked : {S : Type 0} → (S → List Addressed → S → Type 0) → Layout → List ℕ → Standing → Message → Moment → Passed → FilerLent
-    → FilerView → S → Link → JobReply → Passed → FilerLent → FilerView → S → Type 0
+    → FilerView → S → Link → Reply → Passed → FilerLent → FilerView → S → Type 0
 HasLinked took layout verifier b m moment pass l w sink (links.On next) told pass' l' w' sink' =
     (a : Addressed) × (mid : Standing) × HasDoneFrom b moment a mid × took sink (a ∷ []) sink'
     × Stands layout verifier mid next pass' l' w'
@@ -135,7 +131,7 @@ IsNextPlaced layout (links.Over tried) = IfSome (kept_of tried) (IsPlaced layout
 
 -- some calls were finished under one grant, which is still open
 pub record HasChained {S : Type 0} (took : S → List Addressed → S → Type 0) (layout : Layout) (verifier : List ℕ) (s : Standing)
-    (moment : Moment) (sink : S) (tried : Tried) (said : JobReply) (pass' : Passed) (l' : FilerLent) (w' : FilerView) (sink' : S) : Type 0 where
+    (moment : Moment) (sink : S) (tried : Tried) (said : Reply) (pass' : Passed) (l' : FilerLent) (w' : FilerView) (sink' : S) : Type 0 where
   pub answers : List Addressed
   pub between : Standing
   pub did : DidAll moment s answers between
@@ -153,16 +149,15 @@ pub record HasGoneSo {S : Type 0} (took : S → List Addressed → S → Type 0)
 
 -- ---- the end of a grant
 
-abbrev pub CanEnd : Layout → FilerView → FilerLent → Tried → JobReply → Type 0
+abbrev pub CanEnd : Layout → FilerView → FilerLent → Tried → Reply → Type 0
 CanEnd layout w l (tries.Moved m to) told = CanPutBack layout w l
-CanEnd layout w l (tries.Entered e next) told = CanFinish kind_in filer_behaviour layout w l (job_in e) told × HasRoom e told
+CanEnd layout w l (tries.Entered e next) told = CanFinish kind_in filer_behaviour layout w l (job_in e) (Replied told) × HasRoom e told
 
 -- the grant was put back; or the call was finished, and its answer went into the sink
-abbrev pub HasEnded : {S : Type 0} → (S → List Addressed → S → Type 0) → Layout → FilerView → FilerLent → Tried → JobReply → S
+abbrev pub HasEnded : {S : Type 0} → (S → List Addressed → S → Type 0) → Layout → FilerView → FilerLent → Tried → Reply → S
     → FilerView → Option Message → S → Type 0
 HasEnded took layout w l (tries.Moved m to) told sink u kept sink' =
     IsEnded w (number_of layout l.affinity) u × (kept ≡ Some (readdressed to m)) × (sink' ≡ sink)
 HasEnded took layout w l (tries.Entered e next) told sink u kept sink' =
-    IsFinished filer_behaviour w (number_of layout l.affinity) (entry_of layout l.affinity l.parcels (job_in e) told) u × (kept ≡ next)
-    × ((reply : Reply) → told ≡ Replied reply
-    → took sink (addressed e.origin.connection.0 (replies.message e.origin.xid (reply_of reply)) ∷ []) sink')
+    IsFinished filer_behaviour w (number_of layout l.affinity) (entry_of layout l.affinity l.parcels (job_in e) (Replied told)) u × (kept ≡ next)
+    × took sink (addressed e.origin.connection.0 (replies.message e.origin.xid (reply_of told)) ∷ []) sink'

@@ -7,7 +7,7 @@ use Rattle.nfs_values.specs.declared.moment.Moment.{Moment}
 use Rattle.nfs_values.specs.declared.reply.Refusal.TheVariants.{SystemError}
 use Rattle.nfs_values.specs.declared.reply.Reply.{Reply}
 use Rattle.nfs_values.specs.declared.reply.Reply.TheVariants.{Refused}
-use Rattle.affinity.specs.Affinity.{affinity_of}
+use Rattle.affinity.specs.Affinity.{home_node}
 use Rattle.affinity.specs.Numbers.{parents}
 use Rattle.parcels.specs.Exact.{kind_in}
 use Rattle.desk.specs.laws.Books.{Lent}
@@ -16,8 +16,6 @@ use Rattle.filer_state.specs.state.Parcels.{FilerParcel}
 use Rattle.filer_state.specs.declared.files.Files.{Files}
 use Rattle.service.specs.declared.outcome.Outcome.{Outcome}
 use Rattle.service.specs.declared.outcome.Outcome.TheVariants as outcomes
-use Rattle.service.specs.declared.job.JobReply.{JobReply}
-use Rattle.service.specs.declared.job.JobReply.TheVariants as told
 use Rattle.service.specs.Running.{HasRun}
 use Rattle.turns.specs.declared.granted.Ended.{Ended}
 use Rattle.turns.specs.declared.granted.Ended.TheVariants as ends
@@ -31,7 +29,7 @@ FilerLent = Lent (FilerParcel Files)
 -- a depot granted a seat the parcels of what a message tries, and the run of its call came to this, and left them so
 pub record HasRunOn (layout : Layout) (v : FilerView) (m : Message) (moment : Moment) (outcome : Outcome) (l : FilerLent) (w : FilerView) : Type 0 where
   pub before : FilerLent
-  pub granted : IsGranted kind_in filer_behaviour layout v (affinity_of m.affinity) before w
+  pub granted : IsGranted kind_in filer_behaviour layout v (home_node m.affinity) before w
   pub done : IsDone (HasRun m.call (credential_of m.credential) (moment_of moment)) layout before outcome l
   pub whole : IsWhole kind_in layout l
 
@@ -40,7 +38,7 @@ pub record IsLentFor (layout : Layout) (m : Message) (l : FilerLent) : Type 0 wh
   pub before : FilerView
   pub holding : FilerView
   pub tree : before.tree ≡ parents layout
-  pub granted : IsGranted kind_in filer_behaviour layout before (affinity_of m.affinity) l holding
+  pub granted : IsGranted kind_in filer_behaviour layout before (home_node m.affinity) l holding
 
 -- the run of a message's call on what is lent came to this, and left it so
 pub record HasRunFrom (layout : Layout) (m : Message) (moment : Moment) (l : FilerLent) (outcome : Outcome) (l' : FilerLent) : Type 0 where
@@ -50,19 +48,19 @@ pub record HasRunFrom (layout : Layout) (m : Message) (moment : Moment) (l : Fil
 -- ---- what is told of a run
 
 -- how a run ended, and what was told of it where it replied or starved
-abbrev pub HasTold : Outcome → Ended → JobReply → Type 0
-HasTold outcome ends.Replied said = (reply : Reply) × (outcome ≡ outcomes.Replied reply) × (said ≡ told.Replied reply)
-HasTold outcome ends.Starved said = (outcome ≡ outcomes.Starved) × (said ≡ told.Replied (Refused SystemError))
+abbrev pub HasTold : Outcome → Ended → Reply → Type 0
+HasTold outcome ends.Replied said = outcome ≡ outcomes.Replied said
+HasTold outcome ends.Starved said = (outcome ≡ outcomes.Starved) × (said ≡ Refused SystemError)
 HasTold outcome (ends.Moved to) said = outcome ≡ outcomes.Moved to
 
 -- the run of a message's call on what is lent left it so, ended so, and this was told of it
-pub record HasRunTo (layout : Layout) (m : Message) (moment : Moment) (l : FilerLent) (ended : Ended) (said : JobReply) (l' : FilerLent) : Type 0 where
+pub record HasRunTo (layout : Layout) (m : Message) (moment : Moment) (l : FilerLent) (ended : Ended) (said : Reply) (l' : FilerLent) : Type 0 where
   pub outcome : Outcome
   pub says : HasTold outcome ended said
   pub ran : HasRunFrom layout m moment l outcome l'
 
 -- and the depot granted these parcels
-pub record HasRunInto (layout : Layout) (v : FilerView) (m : Message) (moment : Moment) (ended : Ended) (said : JobReply) (l : FilerLent)
+pub record HasRunInto (layout : Layout) (v : FilerView) (m : Message) (moment : Moment) (ended : Ended) (said : Reply) (l : FilerLent)
     (w : FilerView) : Type 0 where
   pub outcome : Outcome
   pub says : HasTold outcome ended said

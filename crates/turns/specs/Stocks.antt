@@ -1,10 +1,13 @@
 -- What a worker knows of the stock of a volume: whether it has enough numbers, so that none is to be fetched for it (our profile).
-use Rattle.std.specs.Prelude.{◌≡◌, ℕ, ◌==◌, nat_le, Bool, false, Option, Some, None, if◌then◌else◌}
+use Rattle.std.specs.Prelude.{◌≡◌, ℕ, ◌==◌, nat_le, Bool, false, Option, Some, None, Result, Ok, Err, if◌then◌else◌}
 use Rattle.std.specs.Ordering.{nat_cmp}
 use Rattle.std.specs.FinSet.{FinSet, len}
 use Rattle.nfs_model.specs.Tree.{Layout, Affinity, Logical}
 use Rattle.filer_state.specs.state.Parcels.{FilerParcel}
 use Rattle.filer_state.specs.state.Contents.{at, logical_in}
+use Rattle.desk.specs.laws.Calls.{Asks, Does}
+use Rattle.turns.specs.declared.stock.Enough.{Enough}
+use Rattle.turns.specs.declared.stock.NoStock.{NoStock}
 
 -- ---- of a stock
 
@@ -26,9 +29,24 @@ stock_told layout node f = None
 abbrev pub AsksForNothing : {P : Type 0} → Layout → Affinity → (ℕ → Option (FilerParcel P)) → Type 0
 AsksForNothing layout node f = Unit {0}
 
+-- what is told by it
+abbrev pub told_by : Result Enough NoStock → Option Bool
+told_by (Ok enough) = Some enough.0
+told_by (Err nothing) = None
+
 -- it changes no parcel, and tells what they tell
 abbrev pub HasLooked : {P : Type 0} → Layout → Affinity → (ℕ → Option (FilerParcel P)) → Option Bool → (ℕ → Option (FilerParcel P)) → Type 0
 HasLooked layout node f told f' = ((k : ℕ) → f' k ≡ f k) × (told ≡ stock_told layout node f)
+
+-- the same of what it answers
+abbrev pub HasTold : {P : Type 0} → Layout → Affinity → (ℕ → Option (FilerParcel P)) → Result Enough NoStock → (ℕ → Option (FilerParcel P)) → Type 0
+HasTold layout node f looked f' = HasLooked layout node f (told_by looked) f'
+
+-- work that is a look: it asks for nothing, and does nothing else
+pub record IsLook {P : Type 0} (asks : Asks (FilerParcel P)) (does : Does (FilerParcel P) (Result Enough NoStock)) : Type 0 where
+  pub finds : (layout : Layout) (node : Affinity) (f : ℕ → Option (FilerParcel P)) → asks layout node f
+  pub leaves : (layout : Layout) (node : Affinity) (f : ℕ → Option (FilerParcel P)) (looked : Result Enough NoStock) (f' : ℕ → Option (FilerParcel P))
+      → does layout node f looked f' → HasTold layout node f looked f'
 
 -- ---- what is known of it
 

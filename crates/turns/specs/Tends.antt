@@ -1,10 +1,11 @@
 -- What a worker does without a message, on the batch of block numbers in its hand (our profile).
-use Rattle.std.specs.Prelude.{◌≡◌, ℕ, ◌*◌, ◌/◌, ◌%◌, ◌==◌, ◌&&◌, ◌||◌, nat_lt, Bool, true, false, length, Option, Result, Ok, Err, if◌then◌else◌}
-use Rattle.nfs_model.specs.Tree.{Layout, range_blocks_of}
-use Rattle.nfs_model.specs.Parts.{Hand, Empty, Fresh, Dead, most_ranges, range_of}
+use Rattle.std.specs.Prelude.{◌≡◌, ℕ, ◌*◌, ◌/◌, ◌%◌, ◌==◌, ◌&&◌, ◌||◌, nat_lt, Bool, true, false, length, Option, Some, None, Result, Ok, Err, if◌then◌else◌}
+use Rattle.nfs_model.specs.Tree.{Layout}
+use Rattle.nfs_model.specs.Parts.{Hand, Empty, most_ranges}
 use Rattle.nfs_model.specs.Events.Refusals.{is_empty_hand}
 use Rattle.filer_state.specs.state.Jobs as jobs
 use Rattle.filer_state.specs.state.Jobs.{InnerCall, JobReply, inner_volume}
+use Rattle.service.specs.Inner as inner
 use Rattle.turns.specs.Messages.{Message}
 use Rattle.turns.specs.declared.tend.Tend.{Tend}
 use Rattle.turns.specs.declared.tend.Tend.TheVariants.{Fetch, Cull, PutDown}
@@ -33,11 +34,14 @@ stocked_in w = w.stocked
 
 -- ---- which inner call it is
 
+-- where there is no call, the hand is empty
+abbrev pub or_empty : Option InnerCall → Result InnerCall TendRefusal
+or_empty None = Err HandEmpty
+or_empty (Some call) = Ok call
+
 -- a fresh batch comes into the stock of its volume, a dead one is free in its range
 abbrev pub call_to_put : Layout → Hand → Result InnerCall TendRefusal
-call_to_put layout Empty = Err HandEmpty
-call_to_put layout (Fresh volume blocks) = Ok (jobs.Deliver volume)
-call_to_put layout (Dead volume blocks) = Ok (jobs.Free volume (range_of (range_blocks_of layout volume) blocks))
+call_to_put layout hand = or_empty (inner.call_to_put layout hand)
 
 -- The inner call of a tend with what is in the hand, or why there is none: a batch comes into an empty hand alone, and from a
 -- volume and a range of the layout.

@@ -1,6 +1,7 @@
 //! Messages one after the other under one grant.
 
 ghost use Rattle.std.specs.Prelude.{◌≡◌, ◌-◌, Some, IfSome};
+ghost use Rattle.affinity.specs.Affinity.{home_affinity};
 ghost use Rattle.depot.specs.Words.{view, splits_left, IsNodeOf, IsSeatHere};
 ghost use Rattle.desk.specs.Any.{node_lent};
 ghost use Rattle.turns.specs.shared_waiting.Passes.{known, IsOf};
@@ -20,16 +21,14 @@ use crate::shared::Filer;
 use crate::shared_waiting::{Pass, SharedWaiting};
 use crate::telling::{forget, starved};
 use crate::turned::Gate;
-use affinity::{Kind, Layout};
+use affinity::{Home, Layout};
 use depot::{Refusal, Seat};
 use desk::{NodeGrant, ParcelKinds, TaskNode};
 use filer_state::Files;
-use nfs_values::Moment;
-use parcels::{
-    AggregateNode, LogicalNode, Parcel, RangeNode, SerialNode, StripeNode, VbnNode, VolumeNode,
-};
+use nfs_values::{Moment, Reply};
+use parcels::{AggregateNode, LogicalNode, Parcel, SerialNode, StripeNode, VolumeNode};
 use rpc_msg::{HandleForm, replies_fit, servers_are_roomy};
-use service::{JobReply, Service};
+use service::Service;
 use std::sync::Wait;
 
 /// What is kept of messages that were tried one after the other, and what came of them.
@@ -62,7 +61,7 @@ fn chain<N: TaskNode<Parcel<Files>, ParcelKinds>, R: Wait, G: Gate, H: Hint, S: 
     gate: &G,
     hint: &H,
     most: usize,
-    told: &mut JobReply,
+    told: &mut Reply,
     handles: HandleForm,
     sink: &mut S,
 ) -> Tried
@@ -135,7 +134,7 @@ fn run_messages_on<
     requires of { IsOf queue.now pass.old }
     requires layout { layout_known (known pass.old) ≡ Some (layout_in filer.now) }
     requires placed { IsPlaced (layout_in filer.now) message }
-    requires kind { IsNodeOf (layout_in filer.now) N.KIND message.affinity }
+    requires kind { IsNodeOf (layout_in filer.now) N.KIND (home_affinity message.affinity) }
     ensures seat { IsSeatHere filer.now.depot seat.new }
     ensures splits { splits_left seat.new ≡ splits_left seat.old }
     ensures ready { IsReady (layout_in filer.now) (verifier_in filer.now) (view seat.new) }
@@ -204,26 +203,20 @@ pub(crate) fn run_messages<R: Wait, G: Gate, H: Hint, S: AnswerSink>(
         → HasServedOn (TookTold handles S.took) (layout_in filer.now) s moment sink.old
         result.chained sink.new (left_standing (view seat.new) (known pass.new) result.kept) }
 {
-    match message.affinity().kind() {
-        Kind::Range => run_messages_on::<RangeNode, R, G, H, S>(
+    match message.affinity() {
+        Home::Stripe { .. } => run_messages_on::<StripeNode, R, G, H, S>(
             filer, seat, queue, rt, pass, message, moment, gate, hint, most, handles, sink,
         ),
-        Kind::VolumeVbn => run_messages_on::<VbnNode, R, G, H, S>(
+        Home::Logical(_) => run_messages_on::<LogicalNode, R, G, H, S>(
             filer, seat, queue, rt, pass, message, moment, gate, hint, most, handles, sink,
         ),
-        Kind::Stripe => run_messages_on::<StripeNode, R, G, H, S>(
+        Home::Volume(_) => run_messages_on::<VolumeNode, R, G, H, S>(
             filer, seat, queue, rt, pass, message, moment, gate, hint, most, handles, sink,
         ),
-        Kind::VolumeLogical => run_messages_on::<LogicalNode, R, G, H, S>(
+        Home::Aggregate(_) => run_messages_on::<AggregateNode, R, G, H, S>(
             filer, seat, queue, rt, pass, message, moment, gate, hint, most, handles, sink,
         ),
-        Kind::Volume => run_messages_on::<VolumeNode, R, G, H, S>(
-            filer, seat, queue, rt, pass, message, moment, gate, hint, most, handles, sink,
-        ),
-        Kind::Aggregate => run_messages_on::<AggregateNode, R, G, H, S>(
-            filer, seat, queue, rt, pass, message, moment, gate, hint, most, handles, sink,
-        ),
-        Kind::Serial => run_messages_on::<SerialNode, R, G, H, S>(
+        Home::Serial => run_messages_on::<SerialNode, R, G, H, S>(
             filer, seat, queue, rt, pass, message, moment, gate, hint, most, handles, sink,
         ),
     }

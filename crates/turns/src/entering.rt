@@ -2,10 +2,8 @@
 
 ghost use Rattle.std.specs.Prelude.{◌≡◌, ℕ};
 ghost use Rattle.nfs_values.specs.Reply.{reply_of};
-ghost use Rattle.nfs_values.specs.declared.reply.Reply.{Reply};
 ghost use Rattle.outboxes.specs.Boxes.{addressed};
 ghost use Rattle.outboxes.specs.Messages as replies;
-ghost use Rattle.service.specs.declared.job.JobReply.TheVariants.{Replied};
 ghost use Rattle.turns.specs.Links.{HasRoom, IsEntryFor};
 ghost use Rattle.turns.specs.Messages.{message_of_call};
 ghost use Rattle.turns.specs.Telling.{answer_told};
@@ -14,11 +12,11 @@ ghost use Rattle.turns.specs.Turns.{served_of_message};
 use crate::answer::Answer;
 use crate::envelope::Envelope;
 use crate::telling::let_go;
-use nfs_values::Moment;
+use nfs_values::{Moment, Reply};
 use outboxes::Room;
 use rpc_msg::{HandleForm, tell};
 use scheduler::Origin;
-use service::{JobReply, ServedCall};
+use service::ServedCall;
 
 /// The call of an entry, and what its answer needs.
 pub(crate) struct Entry {
@@ -50,12 +48,11 @@ pub(crate) fn enter(message: Envelope, moment: Moment, starved: bool) -> Entry
     }
 }
 
-/// The answer of an entry, of which this was told, with its handles in a form.
-pub(crate) fn answered(entry: Entry, told: &mut JobReply, handles: HandleForm) -> Answer
+/// The answer of an entry, of which this reply was told, with its handles in a form.
+pub(crate) fn answered(entry: Entry, told: &mut Reply, handles: HandleForm) -> Answer
     requires { HasRoom entry told.old }
-    ensures { (reply : Reply) → told.old ≡ Replied reply
-        → result ≡ answer_told handles (addressed entry.origin.connection.0
-        (replies.message entry.origin.xid (reply_of reply))) }
+    ensures { result ≡ answer_told handles (addressed entry.origin.connection.0
+        (replies.message entry.origin.xid (reply_of told.old))) }
 {
     let Entry {
         origin,
@@ -63,11 +60,6 @@ pub(crate) fn answered(entry: Entry, told: &mut JobReply, handles: HandleForm) -
         room,
     } = entry;
     let_go(served);
-    match told {
-        JobReply::Replied(reply) => {
-            tell(reply, handles);
-            Answer::new(origin.connection, origin.xid, reply, room)
-        }
-        JobReply::Took(_) | JobReply::Gave(_) | JobReply::Surveyed(_) => unreachable!(),
-    }
+    tell(told, handles);
+    Answer::new(origin.connection, origin.xid, told, room)
 }

@@ -1,11 +1,12 @@
 //! Messages in memory of their own.
 
 ghost use Rattle.std.specs.Prelude.{◌≡◌, ◌≤◌, IfOk};
+ghost use Rattle.affinity.specs.Affinity.{home_affinity};
 ghost use Rattle.outboxes.specs.Boxes.{most_bytes};
 ghost use Rattle.turns.specs.Messages.{readdressed};
 
 use crate::shared_waiting::Fitting;
-use affinity::{Affinity, Layout};
+use affinity::{Affinity, Home, Layout};
 use nfs_values::{Call, Credential, Moment};
 use outboxes::Room;
 use scheduler::{Message, Origin};
@@ -94,10 +95,17 @@ impl Envelope {
     }
 
     /// What it tries.
-    pub(crate) fn affinity(&self) -> Affinity
+    pub(crate) fn affinity(&self) -> Home
         ensures { result ≡ self.now.affinity }
     {
         self.served.affinity
+    }
+
+    /// The node that it tries, among all nodes.
+    pub(crate) fn node(&self) -> Affinity
+        ensures { result ≡ home_affinity self.now.affinity }
+    {
+        self.served.affinity.node()
     }
 
     /// Its call, and whom that acts for.
@@ -110,7 +118,7 @@ impl Envelope {
     }
 
     /// It tries another node.
-    pub(crate) fn readdress(&mut self, to: Affinity)
+    pub(crate) fn readdress(&mut self, to: Home)
         ensures { self.new ≡ readdressed to self.old }
     {
         self.served.affinity = to;

@@ -5,19 +5,25 @@ ghost use Rattle.depot.specs.Grants.{IsRefused};
 ghost use Rattle.depot.specs.Words.{view, splits_left, IsNodeOf, IsSeatHere};
 ghost use Rattle.desk.specs.Any.{node_lent};
 ghost use Rattle.filer_state.specs.state.Jobs.{inner_volume};
-ghost use Rattle.service.specs.Jobs.{inner_of};
+ghost use Rattle.service.specs.Inner.{IsInner};
+ghost use Rattle.service.specs.Jobs.{batch_reply_of, inner_of};
+ghost use Rattle.service.specs.Works.{batch_call_of, batch_hand_of};
 ghost use Rattle.turns.specs.Carries.{node_tried, refusal_by, MayCarry, HasCarried, HasRunInner};
+ghost use Rattle.turns.specs.Stocks.{IsLook};
 ghost use Rattle.turns.specs.Words.{layout_in, verifier_in, IsReady};
 
 use crate::shared::Filer;
-use crate::stock::Look;
+use crate::stock::{Enough, Look, NoStock, told_by};
 use crate::tend::{Carried, TendRefusal};
 use affinity::Affinity;
 use depot::{Refusal, Seat};
-use desk::{NodeGrant, ParcelKinds, TaskNode, begin_node, finish_node, put_back_node, work_node};
+use desk::{NodeGrant, WorkOn, begin_node, finish_node, put_back_node, work_on_node};
 use filer_state::Files;
-use parcels::{Hand, LogicalNode, Parcel, RangeNode, VbnNode};
-use service::{BatchInHand, InnerCall, InnerOutcome, RunInner, Service};
+use parcels::{Hand, LogicalNode, Node, Parcel, RangeNode};
+use service::{
+    BatchInHand, BatchOutcome, BatchReply, BatchWork, HandWork, InnerCall, LogicalWork, RangeWork,
+    Service, Undone,
+};
 
 /// The node under which an inner call runs.
 fn node_of(call: InnerCall) -> Affinity
@@ -64,42 +70,47 @@ fn refused(refusal: Refusal) -> TendRefusal
 /// What was granted, what an inner call that ran on it came to, and what is told of a stock then.
 struct InnerRan<G> {
     grant: G,
-    outcome: InnerOutcome,
+    outcome: BatchOutcome,
     told: Option<bool>,
 }
 
-/// Begins an inner call on its node, which is of this kind, runs it there with what is in the hand,
-/// and looks at what it left.
-fn run_inner<N: TaskNode<Parcel<Files>, ParcelKinds>>(
+/// Begins an inner call on its node, which is of this kind, runs it there with what it carries, and
+/// looks at what it left.
+fn run_inner<
+    N: Node<Parcel<Files>>,
+    W: WorkOn<Parcel<Files>, N, BatchReply, Undone> + HandWork,
+    S: WorkOn<Parcel<Files>, N, Enough, NoStock> + Drop,
+>(
     filer: &Filer,
     seat: &mut Seat<Service>,
     call: InnerCall,
-    hand: BatchInHand,
-) -> Result<InnerRan<NodeGrant<Parcel<Files>, N>>, (BatchInHand, Refusal)>
+    work: W,
+    look: S,
+) -> Result<InnerRan<NodeGrant<Parcel<Files>, N>>, (W, Refusal)>
     requires seat { IsSeatHere filer.now.depot seat.old }
-    requires may { MayCarry (layout_in filer.now) (view seat.old) (inner_of call) hand }
+    requires runs { IsInner batch_reply_of (W.asks work) (W.does work)
+        (inner_of call) (W.carried work) }
+    requires looks { IsLook (S.asks look) (S.does look) }
+    requires may { MayCarry (layout_in filer.now) (view seat.old)
+        (inner_of call) (W.carried work) }
     requires kind { IsNodeOf (layout_in filer.now) N.KIND (node_tried (inner_of call)) }
     ensures seat { IsSeatHere filer.now.depot seat.new }
     ensures splits { splits_left seat.new ≡ splits_left seat.old }
     ensures ran { let L = layout_in filer.now in IfOk result (λ ran.
-        HasRunInner L (view seat.old) (inner_of call) hand ran.outcome ran.told
+        HasRunInner L (view seat.old) (inner_of call) (W.carried work) ran.outcome ran.told
         (node_lent L ran.grant) (view seat.new)) }
     ensures refused { IfErr result (λ back. IsRefused (layout_in filer.now)
         (view seat.old) (node_tried (inner_of call)) back.1 (view seat.new)) }
-    ensures hand { IfErr result (λ back. back.0 ≡ hand) }
+    ensures back { IfErr result (λ back. back.0 ≡ work) }
 {
     let mut grant = match begin_node::<Service, N>(&filer.depot, seat, node_of(call)) {
         Ok(grant) => grant,
-        Err(refusal) => return Err((hand, refusal)),
-    };
-    let run = RunInner {
-        alloc: filer.alloc,
-        call,
-        hand,
+        Err(refusal) => return Err((work, refusal)),
     };
     let layout = filer.depot.layout();
-    let outcome = work_node::<Parcel<Files>, ParcelKinds, N, RunInner>(layout, &mut grant, run);
-    let told = work_node::<Parcel<Files>, ParcelKinds, N, Look>(layout, &mut grant, Look);
+    let outcome = work_on_node::<Parcel<Files>, N, BatchReply, Undone, W>(layout, &mut grant, work);
+    let looked = work_on_node::<Parcel<Files>, N, Enough, NoStock, S>(layout, &mut grant, look);
+    let told = told_by(looked);
     Ok(InnerRan {
         grant,
         outcome,
@@ -107,70 +118,82 @@ fn run_inner<N: TaskNode<Parcel<Files>, ParcelKinds>>(
     })
 }
 
-/// Begins an inner call with what is in the hand on its node, which is of this kind, runs it, and
-/// ends it.
+/// Begins an inner call on its node, which is of this kind, runs it with what it carries, and ends
+/// it.
 #[inline(never)]
-fn carry_on<N: TaskNode<Parcel<Files>, ParcelKinds>>(
-    filer: &Filer,
-    seat: &mut Seat<Service>,
-    call: InnerCall,
-    hand: BatchInHand,
-) -> Carried
+fn carry_on<
+    N: Node<Parcel<Files>>,
+    W: WorkOn<Parcel<Files>, N, BatchReply, Undone> + HandWork,
+    S: WorkOn<Parcel<Files>, N, Enough, NoStock> + Drop,
+>(filer: &Filer, seat: &mut Seat<Service>, call: InnerCall, work: W, look: S) -> Carried
     requires seat { IsSeatHere filer.now.depot seat.old }
     requires ready { IsReady (layout_in filer.now) (verifier_in filer.now) (view seat.old) }
-    requires may { MayCarry (layout_in filer.now) (view seat.old) (inner_of call) hand }
+    requires runs { IsInner batch_reply_of (W.asks work) (W.does work)
+        (inner_of call) (W.carried work) }
+    requires looks { IsLook (S.asks look) (S.does look) }
+    requires may { MayCarry (layout_in filer.now) (view seat.old)
+        (inner_of call) (W.carried work) }
     requires kind { IsNodeOf (layout_in filer.now) N.KIND (node_tried (inner_of call)) }
     ensures seat { IsSeatHere filer.now.depot seat.new }
     ensures splits { splits_left seat.new ≡ splits_left seat.old }
     ensures ready { IsReady (layout_in filer.now) (verifier_in filer.now) (view seat.new) }
     ensures carried { HasCarried (layout_in filer.now)
-        (view seat.old) (inner_of call) hand result (view seat.new) }
+        (view seat.old) (inner_of call) (W.carried work) result (view seat.new) }
 {
     let InnerRan {
         grant,
         outcome,
         told,
-    } = match run_inner::<N>(filer, seat, call, hand) {
+    } = match run_inner::<N, W, S>(filer, seat, call, work, look) {
         Ok(ran) => ran,
-        Err((hand, refusal)) => return Carried::Refused(hand, refused(refusal)),
+        Err((work, refusal)) => return Carried::Refused(work.into_hand(), refused(refusal)),
     };
     match outcome {
-        InnerOutcome::Done(reply) => {
-            finish_node::<Service, N, InnerCall>(&filer.depot, seat, grant, &call, &reply);
+        Ok(reply) => {
+            finish_node::<Service, N, InnerCall, BatchReply>(
+                &filer.depot,
+                seat,
+                grant,
+                &call,
+                &reply,
+            );
             Carried::Done(reply, told)
         }
-        InnerOutcome::Refused => {
+        Err(Undone::NoSuchRange) => {
             put_back_node::<Service, N>(&filer.depot, seat, grant);
             Carried::Refused(BatchInHand::new(Hand::Empty), TendRefusal::NoSuchRange)
         }
-        InnerOutcome::NoMemory(hand) => {
+        Err(Undone::NoMemory(hand)) => {
             put_back_node::<Service, N>(&filer.depot, seat, grant);
             Carried::Refused(hand, TendRefusal::NoMemory)
         }
     }
 }
 
-/// Begins an inner call with what is in the hand, runs it, and ends it.
+/// Begins an inner call with what it carries, runs it, and ends it.
 pub(crate) fn carry(
     filer: &Filer,
     seat: &mut Seat<Service>,
     call: InnerCall,
-    hand: BatchInHand,
+    work: BatchWork,
 ) -> Carried
     requires seat { IsSeatHere filer.now.depot seat.old }
     requires ready { IsReady (layout_in filer.now) (verifier_in filer.now) (view seat.old) }
-    requires may { MayCarry (layout_in filer.now) (view seat.old) (inner_of call) hand }
+    requires call { inner_of call ≡ batch_call_of work }
+    requires may { MayCarry (layout_in filer.now) (view seat.old)
+        (inner_of call) (batch_hand_of work) }
     ensures seat { IsSeatHere filer.now.depot seat.new }
     ensures splits { splits_left seat.new ≡ splits_left seat.old }
     ensures ready { IsReady (layout_in filer.now) (verifier_in filer.now) (view seat.new) }
     ensures carried { HasCarried (layout_in filer.now)
-        (view seat.old) (inner_of call) hand result (view seat.new) }
+        (view seat.old) (inner_of call) (batch_hand_of work) result (view seat.new) }
 {
-    match call {
-        InnerCall::Fetch { .. } => carry_on::<RangeNode>(filer, seat, call, hand),
-        InnerCall::Free { .. } => carry_on::<RangeNode>(filer, seat, call, hand),
-        InnerCall::Deliver { .. } => carry_on::<LogicalNode>(filer, seat, call, hand),
-        InnerCall::Cull { .. } => carry_on::<LogicalNode>(filer, seat, call, hand),
-        InnerCall::Survey { .. } => carry_on::<VbnNode>(filer, seat, call, hand),
+    match work {
+        BatchWork::Range(work) => {
+            carry_on::<RangeNode, RangeWork, Look>(filer, seat, call, work, Look)
+        }
+        BatchWork::Logical(work) => {
+            carry_on::<LogicalNode, LogicalWork, Look>(filer, seat, call, work, Look)
+        }
     }
 }

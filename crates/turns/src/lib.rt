@@ -37,7 +37,7 @@ pub use answer::Answer;
 pub use chained::{AnswerSink, Chained, Hint, Wanted};
 pub use envelope::Envelope;
 pub use parts::WorkerParts;
-pub use service::{BatchInHand, JobReply, Service};
+pub use service::{BatchInHand, Service};
 pub use shared::Filer;
 pub use shared_outboxes::{OutboxesPass, SharedOutboxes};
 pub use stock::ENOUGH_STOCKED;

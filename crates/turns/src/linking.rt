@@ -7,6 +7,7 @@ ghost use Rattle.depot.specs.Grants.{IsLast};
 ghost use Rattle.depot.specs.Words.{view, splits_left, IsSeatHere};
 ghost use Rattle.desk.specs.Any.{node_lent};
 ghost use Rattle.desk.specs.laws.Backing.{CanFinish, HasGoneOn};
+ghost use Rattle.service.specs.declared.job.JobReply.TheVariants.{Replied};
 ghost use Rattle.turns.specs.shared_waiting.Passes.{known, IsOf};
 ghost use Rattle.turns.specs.Chains.{IsAhead};
 ghost use Rattle.turns.specs.Links.{job_in, CanEnd, HasEnded, HasLinked, HasRunSo, IsNextPlaced};
@@ -24,20 +25,20 @@ use crate::granted::{Ended, place_of, run_on};
 use crate::shared::Filer;
 use crate::shared_waiting::{Pass, SharedWaiting};
 use crate::turned::{Gate, Stage};
-use affinity::{Affinity, Layout};
+use affinity::{Affinity, Home, Layout};
 use depot::Seat;
 use desk::{NodeGrant, ParcelKinds, TaskNode, finish_node, go_on_node, put_back_node};
 use filer_state::Files;
-use nfs_values::Moment;
+use nfs_values::{Moment, Reply};
 use parcels::{Node, Parcel};
 use rpc_msg::{HandleForm, replies_fit, servers_are_roomy};
-use service::{JobReply, ServedCall, Service};
+use service::{ServedCall, Service};
 use std::sync::Wait;
 
 /// What came of a message under a grant that is still open.
 pub(crate) enum Tried {
     /// Its call has to run on this node.
-    Moved(Envelope, Affinity),
+    Moved(Envelope, Home),
     /// Its entry is to be made. Another message was picked, or none.
     Entered(Entry, Option<Envelope>),
 }
@@ -57,7 +58,7 @@ pub(crate) fn try_on<N: TaskNode<Parcel<Files>, ParcelKinds>, G: Gate>(
     message: Envelope,
     moment: Moment,
     gate: &G,
-    told: &mut JobReply,
+    told: &mut Reply,
 ) -> Tried
     requires placed { IsPlaced (layout_in filer.now) message }
     requires lent { let L = layout_in filer.now in IsLentFor L message (node_lent L grant.old) }
@@ -100,27 +101,33 @@ fn go_on_by<N: Node<Parcel<Files>>>(
     seat: &mut Seat<Service>,
     grant: &NodeGrant<Parcel<Files>, N>,
     entry: &Entry,
-    told: &JobReply,
+    told: &Reply,
 ) -> bool
     requires seat { IsSeatHere filer.now.depot seat.old }
     requires can { let L = layout_in filer.now in
         CanFinish kind_in filer_behaviour L (view seat.old) (node_lent L grant.now)
-        (job_in entry.now) told.now }
+        (job_in entry.now) (Replied told.now) }
     ensures seat { IsSeatHere filer.now.depot seat.new }
     ensures splits { splits_left seat.new ≡ splits_left seat.old }
     ensures went { result ≡ true → let L = layout_in filer.now in
         HasGoneOn kind_in filer_behaviour L (view seat.old) (node_lent L grant.now)
-        (job_in entry.now) told.now (view seat.new) }
+        (job_in entry.now) (Replied told.now) (view seat.new) }
     ensures stayed { result ≡ false → IsLast (view seat.old) (view seat.new) }
 {
-    match go_on_node::<Service, N, ServedCall>(&filer.depot, seat, grant, &entry.served, told) {
+    match go_on_node::<Service, N, ServedCall, Reply>(
+        &filer.depot,
+        seat,
+        grant,
+        &entry.served,
+        told,
+    ) {
         Ok(()) => true,
         Err(_worn) => false,
     }
 }
 
-/// Whether two affinities are the same.
-fn is_same(one: Affinity, other: Affinity) -> bool
+/// Whether two nodes are the same.
+fn is_same(one: Home, other: Home) -> bool
     ensures { result ≡ true → one ≡ other }
 {
     one == other
@@ -150,7 +157,7 @@ pub(crate) fn link_on<
     moment: Moment,
     gate: &G,
     hint: &H,
-    told: &mut JobReply,
+    told: &mut Reply,
     handles: HandleForm,
     sink: &mut S,
 ) -> Link
@@ -182,7 +189,7 @@ pub(crate) fn link_on<
         Tried::Entered(entry, _none) => entry,
         Tried::Moved(message, affinity) => return Link::Over(Tried::Moved(message, affinity)),
     };
-    let next = match pick_ahead(queue, rt, pass, hint, node) {
+    let next = match pick_ahead(queue, rt, pass, hint, node.node()) {
         Some(next) => next,
         None => return Link::Over(Tried::Entered(entry, None)),
     };
@@ -207,7 +214,7 @@ pub(crate) fn end_on<N: Node<Parcel<Files>>, G: Gate, S: AnswerSink>(
     grant: NodeGrant<Parcel<Files>, N>,
     tried: Tried,
     gate: &G,
-    told: &mut JobReply,
+    told: &mut Reply,
     handles: HandleForm,
     sink: &mut S,
 ) -> Option<Envelope>
@@ -229,7 +236,13 @@ pub(crate) fn end_on<N: Node<Parcel<Files>>, G: Gate, S: AnswerSink>(
             Some(message)
         }
         Tried::Entered(entry, next) => {
-            finish_node::<Service, N, ServedCall>(&filer.depot, seat, grant, &entry.served, told);
+            finish_node::<Service, N, ServedCall, Reply>(
+                &filer.depot,
+                seat,
+                grant,
+                &entry.served,
+                told,
+            );
             gate.finish(told);
             gate.pass(place_of(entry.origin, Stage::Ended));
             sink.take_answer(answered(entry, told, handles));

@@ -1,10 +1,10 @@
 //! A message on a seat, from begin to end.
 
 ghost use Rattle.std.specs.Prelude.{◌≡◌, ◌≤◌, length};
+ghost use Rattle.affinity.specs.Affinity.{home_affinity};
 ghost use Rattle.affinity.specs.Numbers.{number_of};
 ghost use Rattle.nfs_values.specs.Reply.{reply_of};
 ghost use Rattle.rpc_msg.specs.declared.handle_form.HandleForm.{HandleForm as HandleFormSeen};
-ghost use Rattle.nfs_values.specs.declared.reply.Reply.{Reply};
 ghost use Rattle.rpc_msg.specs.Handles.{reply_told};
 ghost use Rattle.parcels.specs.Exact.{kind_in};
 ghost use Rattle.depot.specs.Grants.{entry_of, IsFinished};
@@ -27,17 +27,14 @@ use crate::linking::has_eight;
 use crate::shared::Filer;
 use crate::telling::starved;
 use crate::turned::{Gate, Served, Stage};
-use affinity::Kind;
+use affinity::Home;
 use depot::Seat;
 use desk::{NodeGrant, ParcelKinds, TaskNode, finish_node, put_back_node};
 use filer_state::Files;
-use nfs_values::Moment;
-use parcels::{
-    AggregateNode, LogicalNode, Node, Parcel, RangeNode, SerialNode, StripeNode, VbnNode,
-    VolumeNode,
-};
+use nfs_values::{Moment, Reply};
+use parcels::{AggregateNode, LogicalNode, Node, Parcel, SerialNode, StripeNode, VolumeNode};
 use rpc_msg::{HandleForm, replies_fit, servers_are_roomy};
-use service::{JobReply, ServedCall, Service};
+use service::{ServedCall, Service};
 
 /// Ends a message's call by its entry, and answers it.
 fn answer<N: Node<Parcel<Files>>, G: Gate>(
@@ -47,29 +44,27 @@ fn answer<N: Node<Parcel<Files>>, G: Gate>(
     message: Envelope,
     moment: Moment,
     gate: &G,
-    told: &mut JobReply,
+    told: &mut Reply,
     starved: bool,
 ) -> Answer
     requires seat { IsSeatHere filer.now.depot seat.old }
     requires can { let L = layout_in filer.now in
         CanFinish kind_in filer_behaviour L (view seat.old) (node_lent L grant)
-        (job_of_message message moment starved) told.old }
-    requires room { (reply : Reply) × (told.old ≡ Replied reply)
-        × ((form : HandleFormSeen)
+        (job_of_message message moment starved) (Replied told.old) }
+    requires room { (form : HandleFormSeen)
         → length (record_of (replies.message message.origin.xid
-        (reply_told form (reply_of reply)))) ≤ message.room) }
+        (reply_told form (reply_of told.old)))) ≤ message.room }
     ensures seat { IsSeatHere filer.now.depot seat.new }
     ensures splits { splits_left seat.new ≡ splits_left seat.old }
     ensures finished { let L = layout_in filer.now in let l = node_lent L grant in
         IsFinished filer_behaviour (view seat.old) (number_of L l.affinity)
         (entry_of L l.affinity l.parcels
-        (job_of_message message moment starved) told.old) (view seat.new) }
-    ensures answer { (reply : Reply) → told.old ≡ Replied reply
-        → result ≡ addressed message.origin.connection.0
-        (replies.message message.origin.xid (reply_of reply)) }
+        (job_of_message message moment starved) (Replied told.old)) (view seat.new) }
+    ensures answer { result ≡ addressed message.origin.connection.0
+        (replies.message message.origin.xid (reply_of told.old)) }
 {
     let entry = enter(message, moment, starved);
-    finish_node::<Service, N, ServedCall>(&filer.depot, seat, grant, &entry.served, told);
+    finish_node::<Service, N, ServedCall, Reply>(&filer.depot, seat, grant, &entry.served, told);
     gate.finish(told);
     answered(entry, told, HandleForm::Plain)
 }
@@ -86,7 +81,7 @@ fn run_message_on<N: TaskNode<Parcel<Files>, ParcelKinds>, G: Gate>(
     requires seat { IsSeatHere filer.now.depot seat.old }
     requires ready { IsReady (layout_in filer.now) (verifier_in filer.now) (view seat.old) }
     requires placed { IsPlaced (layout_in filer.now) message }
-    requires kind { IsNodeOf (layout_in filer.now) N.KIND message.affinity }
+    requires kind { IsNodeOf (layout_in filer.now) N.KIND (home_affinity message.affinity) }
     ensures seat { IsSeatHere filer.now.depot seat.new }
     ensures splits { splits_left seat.new ≡ splits_left seat.old }
     ensures ready { IsReady (layout_in filer.now) (verifier_in filer.now) (view seat.new) }
@@ -140,13 +135,13 @@ pub(crate) fn run_message<G: Gate>(
     ensures served { HasServed (layout_in filer.now)
         (view seat.old) message moment result (view seat.new) }
 {
-    match message.affinity().kind() {
-        Kind::Range => run_message_on::<RangeNode, G>(filer, seat, message, moment, gate),
-        Kind::VolumeVbn => run_message_on::<VbnNode, G>(filer, seat, message, moment, gate),
-        Kind::Stripe => run_message_on::<StripeNode, G>(filer, seat, message, moment, gate),
-        Kind::VolumeLogical => run_message_on::<LogicalNode, G>(filer, seat, message, moment, gate),
-        Kind::Volume => run_message_on::<VolumeNode, G>(filer, seat, message, moment, gate),
-        Kind::Aggregate => run_message_on::<AggregateNode, G>(filer, seat, message, moment, gate),
-        Kind::Serial => run_message_on::<SerialNode, G>(filer, seat, message, moment, gate),
+    match message.affinity() {
+        Home::Stripe { .. } => run_message_on::<StripeNode, G>(filer, seat, message, moment, gate),
+        Home::Logical(_) => run_message_on::<LogicalNode, G>(filer, seat, message, moment, gate),
+        Home::Volume(_) => run_message_on::<VolumeNode, G>(filer, seat, message, moment, gate),
+        Home::Aggregate(_) => {
+            run_message_on::<AggregateNode, G>(filer, seat, message, moment, gate)
+        }
+        Home::Serial => run_message_on::<SerialNode, G>(filer, seat, message, moment, gate),
     }
 }

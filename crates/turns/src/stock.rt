@@ -1,14 +1,12 @@
 //! A look at the stock of a volume: whether it has enough numbers.
 
 ghost use Rattle.std.specs.Prelude.{◌≡◌};
-ghost use Rattle.turns.specs.Stocks.{has_enough, is_stocked, stocked_after};
+ghost use Rattle.turns.specs.Stocks.{has_enough, is_stocked, stocked_after, told_by};
 
 use affinity::{Affinity, Layout};
-use desk::{ParcelKinds, Task};
+use desk::WorkOn;
 use filer_state::Files;
-use parcels::{
-    AggrHeld, LogicalHeld, Parcel, RangeHeld, SerialHeld, StripeHeld, VbnHeld, VolumeHeld,
-};
+use parcels::{LogicalHeld, LogicalNode, Parcel, RangeHeld, RangeNode};
 
 /// So many numbers of a stock are enough: 4 GiB of blocks.
 pub const ENOUGH_STOCKED: usize = 1_048_576;
@@ -20,46 +18,55 @@ fn has_enough(held: &LogicalHeld<Files>) -> bool
     held.own.get().stock.len() >= ENOUGH_STOCKED
 }
 
-/// A look at the parcels of a node, which it leaves as they are: under Volume Logical it tells
-/// whether the stock has enough numbers, under another node nothing.
+/// A look at the parcels under which an inner call has moved a batch, which it leaves as they are:
+/// under Volume Logical it tells whether the stock has enough numbers, under a range nothing.
 #[derive(Clone, Copy)]
 pub(crate) struct Look;
 
-impl Task<Parcel<Files>, ParcelKinds> for Look {
-    ghost use Rattle.turns.specs.Stocks.{AsksForNothing, HasLooked};
+/// Whether a stock has enough numbers, as a look tells it.
+#[derive(Clone, Copy)]
+pub(crate) struct Enough(pub(crate) bool);
 
-    type Output = Option<bool>;
+/// Nothing is told of a stock.
+#[derive(Clone, Copy)]
+pub(crate) struct NoStock;
+
+impl WorkOn<Parcel<Files>, RangeNode, Enough, NoStock> for Look {
+    ghost use Rattle.turns.specs.Stocks.{AsksForNothing, HasTold};
 
     ghost asks = { λ look. AsksForNothing };
 
-    ghost does = { λ look. HasLooked };
+    ghost does = { λ look. HasTold };
 
-    fn on_range(self, _: &Layout, _: Affinity, _: &mut RangeHeld<Files>) -> Option<bool> {
-        None
+    fn work_on(self, _: &Layout, _: Affinity, _: &mut RangeHeld<Files>) -> Result<Enough, NoStock> {
+        Err(NoStock)
     }
+}
 
-    fn on_vbn(self, _: &Layout, _: Affinity, _: &mut VbnHeld<Files>) -> Option<bool> {
-        None
+impl WorkOn<Parcel<Files>, LogicalNode, Enough, NoStock> for Look {
+    ghost use Rattle.turns.specs.Stocks.{AsksForNothing, HasTold};
+
+    ghost asks = { λ look. AsksForNothing };
+
+    ghost does = { λ look. HasTold };
+
+    fn work_on(
+        self,
+        _: &Layout,
+        _: Affinity,
+        held: &mut LogicalHeld<Files>,
+    ) -> Result<Enough, NoStock> {
+        Ok(Enough(has_enough(held)))
     }
+}
 
-    fn on_stripe(self, _: &Layout, _: Affinity, _: &mut StripeHeld<Files>) -> Option<bool> {
-        None
-    }
-
-    fn on_logical(self, _: &Layout, _: Affinity, held: &mut LogicalHeld<Files>) -> Option<bool> {
-        Some(has_enough(held))
-    }
-
-    fn on_volume(self, _: &Layout, _: Affinity, _: &mut VolumeHeld<Files>) -> Option<bool> {
-        None
-    }
-
-    fn on_aggregate(self, _: &Layout, _: Affinity, _: &mut AggrHeld<Files>) -> Option<bool> {
-        None
-    }
-
-    fn on_serial(self, _: &Layout, _: Affinity, _: &mut SerialHeld<Files>) -> Option<bool> {
-        None
+/// What is told by a look.
+pub(crate) fn told_by(looked: Result<Enough, NoStock>) -> Option<bool>
+    ensures { result ≡ told_by looked }
+{
+    match looked {
+        Ok(enough) => Some(enough.0),
+        Err(NoStock) => None,
     }
 }
 

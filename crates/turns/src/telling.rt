@@ -4,50 +4,46 @@
 ghost use Rattle.std.specs.Prelude.{◌≡◌};
 ghost use Rattle.nfs_values.specs.declared.reply.Refusal.TheVariants.{SystemError};
 ghost use Rattle.nfs_values.specs.declared.reply.Reply.TheVariants.{Refused};
-ghost use Rattle.service.specs.declared.job.JobReply.TheVariants.{Replied};
 
 use nfs_values::{Refusal, Reply};
-use service::{JobReply, ServedCall};
+use service::ServedCall;
 use std::mem;
 
 /// Whether what is told has memory of its own.
-fn is_large(told: &JobReply) -> bool {
+fn is_large(told: &Reply) -> bool {
     match told {
-        JobReply::Replied(Reply::Success(answer)) => answer.has_memory(),
-        JobReply::Replied(Reply::Refused(_)) => false,
-        JobReply::Took(_) => true,
-        JobReply::Gave(_) => true,
-        JobReply::Surveyed(_) => true,
+        Reply::Success(answer) => answer.has_memory(),
+        Reply::Refused(_) => false,
     }
 }
 
 /// What is told where memory ran out.
-pub(crate) fn starved() -> JobReply
-    ensures { result ≡ Replied (Refused SystemError) }
+pub(crate) fn starved() -> Reply
+    ensures { result ≡ Refused SystemError }
 {
-    JobReply::Replied(Reply::Refused(Refusal::SystemError))
+    Reply::Refused(Refusal::SystemError)
 }
 
 /// Tells a reply in place of what was told before.
-pub(crate) fn tell(told: &mut JobReply, reply: Reply)
-    ensures { told.new ≡ Replied reply }
+pub(crate) fn tell(told: &mut Reply, reply: Reply)
+    ensures { told.new ≡ reply }
 {
     if is_large(told) {
         tell_starved(told);
     }
-    mem::forget(mem::replace(told, JobReply::Replied(reply)));
+    mem::forget(mem::replace(told, reply));
 }
 
 /// Tells that memory ran out, in place of what was told before.
 #[inline(never)]
-pub(crate) fn tell_starved(told: &mut JobReply)
-    ensures { told.new ≡ Replied (Refused SystemError) }
+pub(crate) fn tell_starved(told: &mut Reply)
+    ensures { told.new ≡ Refused SystemError }
 {
     *told = starved();
 }
 
 /// Drops what was told.
-pub(crate) fn forget(told: JobReply) {
+pub(crate) fn forget(told: Reply) {
     if is_large(&told) {
         drop(told);
     } else {

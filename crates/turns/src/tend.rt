@@ -4,7 +4,7 @@ ghost use Rattle.std.specs.Prelude.{◌≡◌};
 
 use affinity::Affinity;
 use nfs_values::VolumeNumber;
-use service::{BatchInHand, JobReply};
+use service::{BatchInHand, BatchReply};
 
 /// What a worker may do with its hand (our profile).
 #[derive(Clone, Copy)]
@@ -81,7 +81,7 @@ impl TendRefusal {
 pub(crate) enum Carried {
     /// It is finished by an entry with this reply, and this was told of a stock: whether it has
     /// enough numbers.
-    Done(JobReply, Option<bool>),
+    Done(BatchReply, Option<bool>),
     /// There is no entry, and the hand is as it was.
     Refused(BatchInHand, TendRefusal),
 }

@@ -1,32 +1,36 @@
 //! What a worker does without a message.
 
-ghost use Rattle.std.specs.Prelude.{◌≡◌, ◌||◌, length, nat_lt, Ok, Err, MatchResult};
+ghost use Rattle.std.specs.Prelude.{◌≡◌, ◌||◌, true, length, nat_lt, Ok, Err, MatchResult};
 ghost use Rattle.affinity.specs.Layout.{layout_of};
 ghost use Rattle.nfs_model.specs.Events.Refusals.{is_empty_hand};
+ghost use Rattle.nfs_model.specs.Parts as parts;
 ghost use Rattle.nfs_model.specs.Parts.{batch_in};
-ghost use Rattle.service.specs.Jobs.{inner_of, job_reply_of};
-ghost use Rattle.turns.specs.Carries.{hand_after, stock_by};
-ghost use Rattle.turns.specs.Carries.{HasMovedBatch, IsToldAs, IsToldOf, NamesBatch};
-ghost use Rattle.turns.specs.Tends.{call_of, call_to_put, is_cull};
-ghost use Rattle.turns.specs.Words.{IsHandIn};
+ghost use Rattle.service.specs.Jobs.{batch_reply_of};
+ghost use Rattle.service.specs.Works.{batch_call_of, batch_hand_of};
+ghost use Rattle.turns.specs.Carries.{hand_after, stock_by, IsToldAs, IsToldOf};
+ghost use Rattle.turns.specs.Tends.{call_of, is_cull};
 
 use crate::envelope::Envelope;
+use crate::inner::{carry, volume_of};
 use crate::shared::Filer;
 use crate::shared_waiting::SharedWaiting;
-use crate::stock::is_stocked;
+use crate::stock::{is_stocked, stocked};
 use crate::tend::{Carried, Tend, TendRefusal, Tended};
 use crate::worker::Worker;
 use affinity::Layout;
+use nfs_laws::laws::batches_are_of_one_range;
 use nfs_values::VolumeNumber;
 use parcels::Hand;
-use service::{BatchInHand, InnerCall, JobReply};
+use service::{BatchInHand, BatchReply, BatchWork, LogicalWork, RangeWork, put_down};
+use std::mem;
 
 /// The ranges of a volume, in use or not.
 const RANGES: u32 = 16;
 
 /// Whether a hand is empty.
 fn is_empty(hand: &BatchInHand) -> bool
-    ensures { result ≡ is_empty_hand hand.now }
+    ensures told { result ≡ is_empty_hand hand.now }
+    ensures empty { result ≡ true → hand.now ≡ parts.Empty }
 {
     match hand.hand() {
         Hand::Empty => true,
@@ -42,58 +46,43 @@ fn has_volume(layout: &Layout, volume: VolumeNumber) -> bool
     (volume.0 as usize) < layout.volume_count()
 }
 
-/// The call that puts down what is in a hand.
-fn put_call(layout: &Layout, hand: &BatchInHand) -> Result<InnerCall, TendRefusal>
-    requires { IsHandIn (layout_of layout.now) hand.now }
-    ensures { let asked = call_to_put (layout_of layout.now) hand.now in MatchResult result
-        (λ call. asked ≡ Ok (inner_of call))
-        (λ refusal. asked ≡ Err refusal) }
-{
-    match hand.hand() {
-        Hand::Empty => Err(TendRefusal::HandEmpty),
-        Hand::Fresh { volume, batch: _ } => Ok(InnerCall::Deliver {
-            volume: VolumeNumber(*volume),
-        }),
-        Hand::Dead { volume, batch } => match batch.range(layout.range_blocks_of(*volume)) {
-            Some(range) => Ok(InnerCall::Free {
-                volume: VolumeNumber(*volume),
-                range,
-            }),
-            None => unreachable!(),
-        },
-    }
-}
-
-/// The inner call of a tend with what is in the hand, or why there is none.
-fn call_of(layout: &Layout, hand: &BatchInHand, tend: Tend) -> Result<InnerCall, TendRefusal>
-    requires { IsHandIn (layout_of layout.now) hand.now }
-    ensures { let asked = call_of (layout_of layout.now) tend hand.now in MatchResult result
-        (λ call. asked ≡ Ok (inner_of call))
-        (λ refusal. asked ≡ Err refusal) }
+/// The inner call of a tend, with what is in the hand; or why there is none, and the hand.
+fn work_of(
+    layout: &Layout,
+    hand: BatchInHand,
+    tend: Tend,
+) -> Result<BatchWork, (BatchInHand, TendRefusal)>
+    ensures call { let asked = call_of (layout_of layout.now) tend hand in MatchResult result
+        (λ work. asked ≡ Ok (batch_call_of work))
+        (λ back. asked ≡ Err back.1) }
+    ensures hand { MatchResult result (λ work. batch_hand_of work ≡ hand) (λ back. back.0 ≡ hand) }
 {
     match tend {
         Tend::Fetch { volume, range } => {
-            if !is_empty(hand) {
-                return Err(TendRefusal::HandFull);
+            if !is_empty(&hand) {
+                return Err((hand, TendRefusal::HandFull));
             }
             if !has_volume(layout, volume) {
-                return Err(TendRefusal::NoSuchRange);
+                return Err((hand, TendRefusal::NoSuchRange));
             }
             if range >= RANGES {
-                return Err(TendRefusal::NoSuchRange);
+                return Err((hand, TendRefusal::NoSuchRange));
             }
-            Ok(InnerCall::Fetch { volume, range })
+            Ok(BatchWork::Range(RangeWork::Fetch { volume, range }))
         }
         Tend::Cull { volume } => {
-            if !is_empty(hand) {
-                return Err(TendRefusal::HandFull);
+            if !is_empty(&hand) {
+                return Err((hand, TendRefusal::HandFull));
             }
             if !has_volume(layout, volume) {
-                return Err(TendRefusal::NoSuchRange);
+                return Err((hand, TendRefusal::NoSuchRange));
             }
-            Ok(InnerCall::Cull { volume })
+            Ok(BatchWork::Logical(LogicalWork::Cull { volume }))
         }
-        Tend::PutDown => put_call(layout, hand),
+        Tend::PutDown => match put_down(layout, hand) {
+            Ok(work) => Ok(work),
+            Err(hand) => Err((hand, TendRefusal::HandEmpty)),
+        },
     }
 }
 
@@ -109,27 +98,24 @@ fn blocks_in(hand: &BatchInHand) -> u32
 }
 
 /// What is in the hand after an inner call with this reply, and what is told of it.
-fn told(reply: JobReply) -> (BatchInHand, Tended)
-    requires { NamesBatch (job_reply_of reply) }
-    ensures hand { result.0 ≡ hand_after (job_reply_of reply) }
-    ensures told { IsToldAs (job_reply_of reply) result.1 }
+fn told(reply: BatchReply) -> (BatchInHand, Tended)
+    ensures hand { result.0 ≡ hand_after (batch_reply_of reply) }
+    ensures told { IsToldAs (batch_reply_of reply) result.1 }
 {
     match reply {
-        JobReply::Took(hand) => {
+        BatchReply::Took(hand) => {
             let count = blocks_in(&hand);
             (hand, Tended::InHand { count })
         }
-        JobReply::Gave(hand) => {
+        BatchReply::Gave(hand) => {
             let count = blocks_in(&hand);
             (BatchInHand::new(Hand::Empty), Tended::PutDown { count })
         }
-        JobReply::Replied(_) | JobReply::Surveyed(_) => unreachable!(),
     }
 }
 
 /// What is in the hand after an inner call, what its tend answers, and what was told of a stock.
 pub(crate) fn answer(carried: Carried) -> (BatchInHand, Result<Tended, TendRefusal>, Option<bool>)
-    requires { HasMovedBatch carried }
     ensures told { IsToldOf carried result.0 result.1 }
     ensures stock { result.2 ≡ stock_by carried }
 {
@@ -219,9 +205,20 @@ impl Worker {
         ensures kept { kept_in self.new ≡ kept_in self.old }
         ensures seats { seats_in self.new ≡ seats_in self.old }
     {
-        match call_of(filer.depot.layout(), &self.hand, tend) {
-            Ok(call) => self.carry(filer, queue, call),
-            Err(refusal) => Err(refusal),
+        batches_are_of_one_range();
+        let held = mem::replace(&mut self.hand, BatchInHand::new(Hand::Empty));
+        match work_of(filer.depot.layout(), held, tend) {
+            Ok(work) => {
+                let call = work.call();
+                let (hand, answer, stock) = answer(carry(filer, &mut self.seat, call, work));
+                self.hand = hand;
+                self.stocked = stocked(volume_of(call), stock, self.stocked);
+                answer
+            }
+            Err((hand, refusal)) => {
+                self.hand = hand;
+                Err(refusal)
+            }
         }
     }
 

@@ -4,8 +4,7 @@ use crate::answer::Answer;
 use crate::envelope::Envelope;
 use affinity::Affinity;
 use depot::Refusal;
-use nfs_values::ConnectionNumber;
-use service::JobReply;
+use nfs_values::{ConnectionNumber, Reply};
 use statistics::Tally;
 
 /// What came of a turn.
@@ -52,8 +51,9 @@ pub trait Gate {
     /// A call came to a place.
     fn pass(&self, place: Place);
 
-    /// A call was finished by its entry, of which this was told. One that moves isn't finished.
-    fn finish(&self, _told: &JobReply) {}
+    /// A call was finished by its entry, of which this reply was told. One that moves isn't
+    /// finished.
+    fn finish(&self, _told: &Reply) {}
 }
 
 /// What lets every call pass.
@@ -68,9 +68,7 @@ impl Gate for Unwatched {
 impl Gate for Tally {
     fn pass(&self, _place: Place) {}
 
-    fn finish(&self, told: &JobReply) {
-        if let JobReply::Replied(reply) = told {
-            self.count(reply);
-        }
+    fn finish(&self, told: &Reply) {
+        self.count(told);
     }
 }

@@ -8,24 +8,17 @@ ghost use Rattle.turns.specs.shared_waiting.Passes.{known};
 ghost use Rattle.turns.specs.Balance.{IsEven};
 
 use crate::envelope::Envelope;
-use crate::inner::{carry, volume_of};
 use crate::one_turn::told;
 use crate::parts::WorkerParts;
 use crate::queueing::{next, next_beside, put_kept};
 use crate::serving::run_message;
 use crate::shared::Filer;
 use crate::shared_waiting::{Pass, SharedWaiting};
-use crate::stock::stocked;
-use crate::tend::{TendRefusal, Tended};
-use crate::tending::answer;
 use crate::turned::{Gate, Turn};
 use affinity::Layout;
 use depot::Seat;
-use nfs_laws::laws::batches_are_of_one_range;
 use nfs_values::Moment;
-use parcels::Hand;
-use service::{BatchInHand, InnerCall, Service};
-use std::mem;
+use service::{BatchInHand, Service};
 use std::sync::Wait;
 
 /// A seat of the depot and a pass of the queue, the batch of block numbers in the worker's hand,
@@ -59,15 +52,13 @@ impl Drop for Worker {
 }
 
 impl Worker {
-    ghost use Rattle.std.specs.Prelude.{◌≡◌, ◌<◌, ◌+◌, [], None, Some, Ok};
+    ghost use Rattle.std.specs.Prelude.{◌≡◌, ◌<◌, ◌+◌, [], None, Some};
     ghost use Rattle.nfs_model.specs.Parts as parts;
-    ghost use Rattle.service.specs.Jobs.{inner_of};
     ghost use Rattle.crossbeam_queue.specs.Fifo.{Held};
     ghost use Rattle.turns.specs.shared_waiting.Balance.{both, left, right, Leaves};
     ghost use Rattle.turns.specs.shared_waiting.Passes.{IsOf};
     ghost use Rattle.turns.specs.Apart.{AreOf, IsSettled};
-    ghost use Rattle.turns.specs.Carries.{FitsHand};
-    ghost use Rattle.turns.specs.Tends.{stocked_in, Answers};
+    ghost use Rattle.turns.specs.Tends.{stocked_in};
     ghost use Rattle.turns.specs.Turns.{HasNext, HasPut, HasShareOf, HasTried};
     ghost use Rattle.turns.specs.Words.{entries_in, layout_in, layout_known, passed, seats_in};
     ghost use Rattle.turns.specs.Words.{IsAt, IsIn};
@@ -161,30 +152,6 @@ impl Worker {
     {
         let kept = self.kept.take();
         self.kept = put_kept(queue, rt, &mut self.pass, kept);
-    }
-
-    /// Makes an inner call with what is in the hand.
-    pub(crate) fn carry(
-        &mut self,
-        filer: &Filer,
-        queue: &SharedWaiting<Envelope, Layout>,
-        call: InnerCall,
-    ) -> Result<Tended, TendRefusal>
-        requires inside { IsAt filer.now queue.now self.old }
-        requires fits { FitsHand (layout_in filer.now) (inner_of call) self.old.hand }
-        ensures inside { IsAt filer.now queue.now self.new }
-        ensures answers { Answers (layout_in filer.now) self.old (Ok (inner_of call))
-            result self.new }
-        ensures pass { self.new.pass ≡ self.old.pass }
-        ensures kept { self.new.kept ≡ self.old.kept }
-        ensures seats { seats_in self.new ≡ seats_in self.old }
-    {
-        batches_are_of_one_range();
-        let held = mem::replace(&mut self.hand, BatchInHand::new(Hand::Empty));
-        let (hand, answer, stock) = answer(carry(filer, &mut self.seat, call, held));
-        self.hand = hand;
-        self.stocked = stocked(volume_of(call), stock, self.stocked);
-        answer
     }
 
     /// This worker, and a second one with one of its seats and half of its share of the right to

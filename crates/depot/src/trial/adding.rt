@@ -177,7 +177,7 @@ pub fn touch<N: Node<Parcel<Numbers>>>(
 {
     match depot.begin::<N>(seat, affinity) {
         Ok(grant) => {
-            depot.finish(seat, grant, &Change::Touch, &0);
+            depot.finish(seat, grant, &Change::Touch, &0_u64);
             true
         }
         Err(_) => false,
@@ -225,7 +225,7 @@ fn touch_again<N: Node<Parcel<Numbers>>>(
         HasWith (view seat.new) (number_in L grant.now) (parcels_in N.parcels L grant.now) }
     ensures hand { HasInHand (machine_of seat.old) (view seat.new) changes.Touch 0 }
 {
-    match depot.go_on::<N, Change>(seat, grant, &Change::Touch, &0) {
+    match depot.go_on::<N, Change, u64>(seat, grant, &Change::Touch, &0) {
         Ok(()) => true,
         Err(_) => false,
     }
@@ -257,6 +257,6 @@ pub fn touch_on<N: Node<Parcel<Numbers>>>(
             refused += 1;
         }
     }
-    depot.finish(seat, grant, &Change::Touch, &0);
+    depot.finish(seat, grant, &Change::Touch, &0_u64);
     count - refused + 1
 }

@@ -1,7 +1,8 @@
 -- What calls do to a desk.
-use Rattle.std.specs.Prelude.{◌≡◌, ◌≢◌, ℕ, ◌+◌, ◌<◌, ◌≤◌, List, [], ◌∷◌, ◌++◌, length, slice_set, Option, Some, None}
-use Rattle.nfs_model.specs.Tree.{Layout, Affinity}
+use Rattle.std.specs.Prelude.{◌≡◌, ◌≢◌, ℕ, ◌+◌, ◌<◌, ◌≤◌, false, List, [], ◌∷◌, ◌++◌, length, slice_set, Option, Some, None, Result, Ok, Err}
+use Rattle.nfs_model.specs.Tree.{Layout, Affinity, excludes}
 use Rattle.affinity.specs.Numbers.{number_of, parents}
+use Rattle.affinity.specs.Tree.{IsNode}
 use Rattle.depot_rule.specs.Sums.{total}
 use Rattle.depot_rule.specs.Shares.{worn}
 use Rattle.depot_rule.specs.History.{Behaviour, patched}
@@ -65,6 +66,11 @@ module _ {P C R : Type 0} where
     pub books : c ≡ with_lent b worker (Some (record { affinity = lent.affinity; parcels = parcels }))
     pub now_is : (k : ℕ) → now c k ≡ patched (parents b.layout) (number_of b.layout lent.affinity) parcels (now b) k
 
+  -- what is lent is under nodes of the layout that don't exclude each other
+  pub record AreApart (b : Books P C R) : Type 0 where
+    pub node : (worker : ℕ) (l : Lent P) → HasLent b worker l → IsNode b.layout l.affinity
+    pub apart : (i j : ℕ) (l k : Lent P) → HasLent b i l → HasLent b j k → i ≢ j → excludes b.layout l.affinity k.affinity ≡ false
+
   module _ {B : Type 0} (m : Behaviour P C R B) where
     -- a worker's call may be finished: it leads to what the worker has, and what it gives is in a hand
     pub record MayFinish (b : Books P C R) (worker : ℕ) (call : C) (reply : R) : Type 0 where
@@ -85,6 +91,31 @@ module _ {P C R : Type 0} where
       -- under what the other workers have, nothing changed for the finished calls
       pub others : (i : ℕ) (l : Lent P) → HasLent b i l → i ≢ worker → UnderLent b l (λ k. settled c k ≡ settled b k)
       pub keeps : IsSettled m c
+
+    module _ {A U : Type 0} (entered : A → R) where
+      -- a worker's call may be ended by what came of its work: finished with what that replies, or else put back
+      abbrev pub MayEnd : Books P C R → ℕ → C → Result A U → Type 0
+      MayEnd b worker call (Ok reply) = MayFinish b worker call (entered reply)
+      MayEnd b worker call (Err undone) = MayPutBack b worker
+
+      abbrev pub HasEnded : Books P C R → ℕ → C → Result A U → Books P C R → Type 0
+      HasEnded b worker call (Ok reply) c = HasFinished b worker call (entered reply) c
+      HasEnded b worker call (Err undone) c = HasPutBack b worker c
+
+      -- a worker's call may be made at once: whatever it is lent, it may run on that, and be ended by what comes of its run
+      abbrev pub MayMake : Asks P → Does P (Result A U) → Books P C R → ℕ → Affinity → C → Type 0
+      MayMake asks does b worker a call = (c : Books P C R) → HasBegun b worker a c → AreApart c
+          → MayWork asks c worker × ((outcome : Result A U) (d : Books P C R) → HasWorked does c worker outcome d → MayEnd d worker call outcome)
+
+      -- it began, ran and was ended
+      pub record HasMade (does : Does P (Result A U)) (b : Books P C R) (worker : ℕ) (a : Affinity) (call : C) (outcome : Result A U)
+          (c : Books P C R) : Type 0 where
+        pub begun : Books P C R
+        pub begins : HasBegun b worker a begun
+        pub apart : AreApart begun
+        pub worked : Books P C R
+        pub works : HasWorked does begun worker outcome worked
+        pub ends : HasEnded worked worker call outcome c
 
   -- no worker was lent anything
   abbrev pub AreIdle : Books P C R → Type 0

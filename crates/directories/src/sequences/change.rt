@@ -11,12 +11,9 @@ ghost use Rattle.std.specs.Prelude.{
   [],
   max,
   length,
-  true,
-  is_some,
   Some,
 };
 ghost use Rattle.std.specs.List.{slice_get, insert, remove};
-ghost use Rattle.std.specs.Vec.{vec_capacity};
 ghost use Rattle.directories.specs.sequences.Values.{DifferByAtMost, IsHeightOver, MayRise};
 ghost use Rattle.directories.specs.sequences.Opened.{IsFirst};
 
@@ -24,18 +21,17 @@ use crate::sequences::chunk::{put, split};
 use crate::sequences::room::Room;
 use crate::sequences::tree::{First, Node, Parts, Tree};
 
-/// A tree with one more item at a position.
+/// A tree with one more item at a position, and the room where it wasn't needed.
 pub(crate) fn inserted<T: Copy>(
     tree: Tree<T>,
-    room: &mut Option<Room<T>>,
+    room: Room<T>,
     position: usize,
     item: T,
-) -> Tree<T>
-    requires ready { is_some room.old ≡ true }
+) -> (Tree<T>, Option<Room<T>>)
     requires within { position ≤ length tree.items }
     requires fits { length tree.items + 1 < 2 ^ 64 }
-    ensures items { result.items ≡ insert tree.items position item }
-    ensures height { MayRise tree.height result.height }
+    ensures items { result.0.items ≡ insert tree.items position item }
+    ensures height { MayRise tree.height result.0.height }
 {
     let Parts {
         left,
@@ -43,47 +39,34 @@ pub(crate) fn inserted<T: Copy>(
         right,
     } = match tree.open() {
         Some(parts) => parts,
-        None => return leaf(room, item),
+        None => return (leaf(room, item), None),
     };
     if position < left.len() {
-        let left = inserted(left, room, position, item);
-        return Parts { left, chunk, right }.balance();
+        let (left, room) = inserted(left, room, position, item);
+        return (Parts { left, chunk, right }.balance(), room);
     }
     let here = position - left.len();
     let size = chunk.items.len();
     if here <= size && size < chunk.items.capacity() {
         put(&mut chunk.items, here, item);
-        return Parts { left, chunk, right }.join();
+        return (Parts { left, chunk, right }.join(), Some(room));
     }
     if here < size {
-        let mut upper = blank(room);
+        let mut upper = room.chunk();
         split(&mut chunk.items, &mut upper.items, here, item);
         let right = with_first(right, upper);
-        return Parts { left, chunk, right }.balance();
+        return (Parts { left, chunk, right }.balance(), None);
     }
-    let right = inserted(right, room, here - size, item);
-    Parts { left, chunk, right }.balance()
-}
-
-/// The chunk of a room that is there.
-fn blank<T: Copy>(room: &mut Option<Room<T>>) -> Box<Node<T>>
-    requires { is_some room.old ≡ true }
-    ensures empty { result.value.items.items ≡ [] }
-    ensures room { 0 < vec_capacity result.value.items }
-{
-    match room.take() {
-        Some(room) => room.chunk(),
-        None => unreachable!(),
-    }
+    let (right, room) = inserted(right, room, here - size, item);
+    (Parts { left, chunk, right }.balance(), room)
 }
 
 /// A tree of one item.
-fn leaf<T: Copy>(room: &mut Option<Room<T>>, item: T) -> Tree<T>
-    requires { is_some room.old ≡ true }
+fn leaf<T: Copy>(room: Room<T>, item: T) -> Tree<T>
     ensures items { result.items ≡ item ∷ [] }
     ensures height { result.height ≡ 1 }
 {
-    let mut chunk = blank(room);
+    let mut chunk = room.chunk();
     put(&mut chunk.items, 0, item);
     Parts {
         left: Tree::new(),

@@ -10,10 +10,7 @@ pub(crate) fn put<T: Copy>(chunk: &mut Vec<T>, here: usize, item: T)
     requires room { vec_len chunk.old < vec_capacity chunk.old }
     ensures { chunk.new.items ≡ insert chunk.old.items here item }
 {
-    match chunk.insert(here, item) {
-        Ok(()) => {}
-        Err(_) => unreachable!(),
-    }
+    chunk.insert(here, item).unwrap();
 }
 
 /// Moves the items of a chunk from a position on into an empty one, which has room for them.

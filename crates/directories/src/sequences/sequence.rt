@@ -153,12 +153,14 @@ impl<T: Copy> Sequence<T> {
         requires fits { length self.old < 2 ^ 32 }
         ensures { self.new ≡ insert self.old position item }
     {
-        self.spare = Some(room);
         if self.tree.put(position, item) {
+            self.spare = Some(room);
             return;
         }
         let tree = mem::replace(&mut self.tree, Tree::new());
-        self.tree = inserted(tree, &mut self.spare, position, item);
+        let (tree, spare) = inserted(tree, room, position, item);
+        self.tree = tree;
+        self.spare = spare;
     }
 
     /// Puts an item in behind all others. It takes no memory but the room.

@@ -27,7 +27,7 @@ use Rattle.filer_state.specs.laws.lemmas.LayoutSizes.{contents-sized}
 use Rattle.filer_state.specs.laws.lemmas.SeenSets.{stripe-seen, logical-seen, volume-seen, aggregate-seen, serial-seen}
 use Rattle.engine.specs.declared.counts.counts.VolumeCounts.{VolumeCounts}
 use Rattle.engine.specs.counts.Counts.{counted, IsCounted, AreSized, counts_of, counts_in, with_logical, with_set, if_on, in_whole, recounted}
-use Rattle.engine.specs.counts.Counts.{IsOfCalls, HasCounted}
+use Rattle.engine.specs.counts.Counts.{HasCounted}
 use Rattle.engine.specs.counts.lemmas.Happening.{set-there}
 use Rattle.engine.proofs.counts.Recounted.{recounted-all}
 
@@ -71,25 +71,6 @@ put-chosen false set p = refl
 -- where there is no volume there are no blocks
 pub no-blocks : (stripes : ℕ) → record { files = 0; stock = 0; dead = 0; total = 0 } ≡ counts_in (volume_value {P = Unit {0}} stripes None)
 no-blocks stripes = λ j. record { files = 0; stock = sym (len-empty nat_cmp) j; dead = sym (len-empty nat_cmp) j; total = 0 }
-
--- a node of another kind has calls
-pub of-range : (a : Affinity) → kind_of a ≡ kinds.Range → IsOfCalls a → ⊥
-of-range Serial is of = cc
-of-range (Aggregate a) is of = cc
-of-range (Volume v) is of = cc
-of-range (Logical v) is of = cc
-of-range (Stripe v i) is of = cc
-of-range (Vbn v) is of = of
-of-range (Range v r) is of = of
-
-pub of-vbn : (a : Affinity) → kind_of a ≡ kinds.VolumeVbn → IsOfCalls a → ⊥
-of-vbn Serial is of = cc
-of-vbn (Aggregate a) is of = cc
-of-vbn (Volume v) is of = cc
-of-vbn (Logical v) is of = cc
-of-vbn (Stripe v i) is of = cc
-of-vbn (Vbn v) is of = of
-of-vbn (Range v r) is of = of
 
 -- ---- nodes
 

@@ -2,7 +2,7 @@
 use Rattle.std.specs.Prelude.{◌≡◌, ℕ, zero, suc, ◌+◌, ◌-◌, ◌*◌, ◌==◌, min, List, [], ◌∷◌, map, length, Option, Some, None, Result, Ok, Err, if◌then◌else◌}
 use Rattle.std.specs.Global.{Vec}
 use Rattle.std.specs.FinSet.{len}
-use Rattle.nfs_model.specs.Tree.{Layout, Affinity, Vbn, Range, aggregate_of}
+use Rattle.nfs_model.specs.Tree.{Layout, Affinity, aggregate_of}
 use Rattle.nfs_model.specs.Server.{VolumeState}
 use Rattle.nfs_model.specs.Parts.{Parts, Hand, Empty, Fresh, Dead, Counts}
 use Rattle.nfs_model.specs.World.{World, changed_at}
@@ -142,14 +142,8 @@ recounted h from (suc n) (c ∷ counts) = h from c ∷ recounted h (from + 1) n 
 
 -- ---- the task
 
--- a node under which parts change by calls alone: those of a range change by what workers carry, which change none of these counts
-abbrev pub IsOfCalls : Affinity → Type 0
-IsOfCalls (Vbn v) = ⊥
-IsOfCalls (Range v r) = ⊥
-IsOfCalls node = Unit {0}
-
 abbrev pub AsksForCounts : {P : Type 0} → List VolumeCounts → Layout → Affinity → (ℕ → Option (FilerParcel P)) → Type 0
-AsksForCounts counts layout node f = IsOfCalls node × (length counts ≡ length layout.volumes)
+AsksForCounts counts layout node f = length counts ≡ length layout.volumes
 
 -- Whatever the other parcels are: where counts were right of them and of those that were under a node, others are right of them and of
 -- these, which are under it now. Volumes have the layout's sizes before and after, since no call changes them.

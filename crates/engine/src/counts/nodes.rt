@@ -6,16 +6,14 @@ ghost use Rattle.affinity.specs.Affinity.{affinity_of, kind_of};
 ghost use Rattle.affinity.specs.declared.affinity.Kind.TheVariants as kinds;
 
 use affinity::Affinity;
+use parcels::{aggregate_number, volume_number};
 
 /// The volume of a node that is Volume Logical.
 pub(crate) fn volume_of_logical(affinity: Affinity) -> u32
     requires { kind_of (affinity_of affinity) ≡ kinds.VolumeLogical }
     ensures { affinity_of affinity ≡ trees.Logical result }
 {
-    match affinity {
-        Affinity::VolumeLogical(volume) => volume,
-        _ => unreachable!(),
-    }
+    volume_number(affinity)
 }
 
 /// The volume of a node that is Volume.
@@ -23,10 +21,7 @@ pub(crate) fn volume_around(affinity: Affinity) -> u32
     requires { kind_of (affinity_of affinity) ≡ kinds.Volume }
     ensures { affinity_of affinity ≡ trees.Volume result }
 {
-    match affinity {
-        Affinity::Volume(volume) => volume,
-        _ => unreachable!(),
-    }
+    volume_number(affinity)
 }
 
 /// The number of a node that is an Aggregate.
@@ -34,8 +29,5 @@ pub(crate) fn aggregate_of(affinity: Affinity) -> u32
     requires { kind_of (affinity_of affinity) ≡ kinds.Aggregate }
     ensures { affinity_of affinity ≡ trees.Aggregate result }
 {
-    match affinity {
-        Affinity::Aggregate(aggregate) => aggregate,
-        _ => unreachable!(),
-    }
+    aggregate_number(affinity)
 }

@@ -8,9 +8,7 @@ use crate::counts::nodes::{aggregate_of, volume_around, volume_of_logical};
 use affinity::{Affinity, Layout};
 use desk::{ParcelKinds, Task};
 use filer_state::Files;
-use parcels::{
-    AggrHeld, LogicalHeld, Parcel, RangeHeld, SerialHeld, StripeHeld, VbnHeld, VolumeHeld,
-};
+use parcels::{AggrHeld, LogicalHeld, Parcel, SerialHeld, StripeHeld, VolumeHeld};
 
 /// The counts of all volumes, to be taken anew of those whose Logical is under a node, as a task on
 /// the parcels of the node, which it leaves as they are. Where they were right before the parcels
@@ -28,14 +26,6 @@ impl Task<Parcel<Files>, ParcelKinds> for Tally {
     ghost asks = { λ tally. AsksForCounts tally.counts.items };
 
     ghost does = { λ tally. HasCounted tally.counts.items };
-
-    fn on_range(self, _: &Layout, _: Affinity, _: &mut RangeHeld<Files>) -> Vec<VolumeCounts> {
-        unreachable!()
-    }
-
-    fn on_vbn(self, _: &Layout, _: Affinity, _: &mut VbnHeld<Files>) -> Vec<VolumeCounts> {
-        unreachable!()
-    }
 
     fn on_stripe(self, _: &Layout, _: Affinity, _: &mut StripeHeld<Files>) -> Vec<VolumeCounts> {
         let Tally { counts } = self;

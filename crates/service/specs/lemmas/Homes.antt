@@ -1,5 +1,5 @@
 -- The nodes at which a call is run: what they are, and what is known of the call there.
-use Rattle.std.proofs.Common.{◌≡◌, ◌≢◌, ℕ, ◌+◌, ◌-◌, ◌/◌, ◌%◌, ◌<◌, Bool, true, false, Option, Some, None, refl, sym, ap, ◌∙◌}
+use Rattle.std.proofs.Common.{◌≡◌, ℕ, ◌+◌, ◌-◌, ◌/◌, ◌%◌, ◌<◌, Bool, true, false, Option, Some, None, refl, sym, ap, ◌∙◌}
 use Rattle.std.proofs.Common.{subst, inl, inr, ◌⊎◌, ⊎_elim, arith}
 use Rattle.std.proofs.lemmas.Bool.{eqb-true}
 use Rattle.std.specs.Prelude.{◌==◌, ◌||◌, min, if◌then◌else◌, zero, suc, List, [], ◌∷◌, length, is_some, slice_get}
@@ -12,12 +12,11 @@ use Rattle.nfs_values.specs.Call.{call_of}
 use Rattle.nfs_values.specs.declared.call.Call.{Call}
 use Rattle.nfs_values.specs.declared.call.Call.TheVariants as calls
 use Rattle.affinity.specs.Affinity.{kind_of}
-use Rattle.affinity.specs.declared.affinity.Kind.{Kind}
 use Rattle.affinity.specs.declared.affinity.Kind.TheVariants as kinds
 use Rattle.parcels.specs.Sets.{volume_around}
 use Rattle.filer_state.specs.state.Calls.{LieIn, handle_in}
 use Rattle.service_data.specs.HomeLemmas.{home-lies}
-use Rattle.service.specs.Running.{IsOnState, IsOnVolume, IsRunAt, IsRunIn, IsRunOnVolume, LeadsTo, RunsAbove, BytesLieIn, HasBytesIn, fileid_in}
+use Rattle.service.specs.Running.{IsOnState, IsOnVolume, IsRunAt, IsRunIn, LeadsTo, RunsAbove, BytesLieIn, HasBytesIn, fileid_in}
 
 -- what its handle names, the first of RENAME's: a fileid of the node's volume; and what the node is
 pub record IsNodeOf (named : Option Named) (a : Affinity) : Type 0 where
@@ -89,10 +88,6 @@ leads-within layout r a on at = absurd on
 pub run-home : (layout : Layout) (call : Call) (a : Affinity) → IsRunIn layout call a → IsNodeOf (named_by layout (handle_in (call_of call))) a
 run-home layout call a at = leads-within layout (route (call_of call)) a at.0 at.1
 
--- its handle is good
-pub run-named : (layout : Layout) (call : Call) (a : Affinity) → IsRunIn layout call a → named_by layout (handle_in (call_of call)) ≡ None → ⊥
-run-named layout call a at none = let e = sym none ∙ (run-home layout call a at).names in cc
-
 -- ---- GROW
 
 -- it is run on an Aggregate
@@ -134,28 +129,6 @@ leads-home layout r a at = (tt, at)
 pub at-home : (layout : Layout) (call : Call) (a : Affinity) → home layout (call_of call) ≡ Some a → IsRunAt layout call a
 at-home layout call a at = leads-home layout (route (call_of call)) a at
 
--- that of an aggregate leads to an Aggregate, that of everything to Serial, each other to a node of a volume
-leads-on : (layout : Layout) (r : Route) (a : Affinity) → LeadsTo layout r a → (kind_of a ≡ kinds.Aggregate) ⊎ ((a ≡ Serial) ⊎ IsOnVolume r)
-leads-on layout AtOnce a at = absurd cc
-leads-on layout (OfAggregate volume) a at = inl (grown-on (slice_get layout.volumes volume) a at).0
-leads-on layout OfEverything a at = inr (inl cc)
-leads-on layout r a at = inr (inr tt)
-
--- a call is run on no node of another kind
-pub not-here : (layout : Layout) (a : Affinity) (call : Call) → IsRunAt layout call a → (kind : Kind) → kind_of a ≡ kind
-    → kind ≢ kinds.VolumeLogical → kind ≢ kinds.Stripe → kind ≢ kinds.Volume → kind ≢ kinds.Aggregate → kind ≢ kinds.Serial → ⊥
-not-here layout a call at kind of logical stripe volume aggregate serial =
-    ⊎_elim (λ (e : kind_of a ≡ kinds.Aggregate). aggregate (sym of ∙ e))
-    (λ (within : (a ≡ Serial) ⊎ IsRunOnVolume call).
-    ⊎_elim (λ (e : a ≡ Serial). serial (sym of ∙ ap kind_of e))
-    (λ (on_volume : IsRunOnVolume call).
-    ⊎_elim (λ (e : kind_of a ≡ kinds.VolumeLogical). logical (sym of ∙ e))
-    (λ (others : (kind_of a ≡ kinds.Stripe) ⊎ (kind_of a ≡ kinds.Volume)).
-    ⊎_elim (λ (e : kind_of a ≡ kinds.Stripe). stripe (sym of ∙ e)) (λ (e : kind_of a ≡ kinds.Volume). volume (sym of ∙ e)) others)
-    (run-home layout call a (on_volume, at.1)).kind)
-    within)
-    (leads-on layout (route (call_of call)) a at.1)
-
 -- on an Aggregate only GROW of a volume that the layout puts there
 pub only-grows : (layout : Layout) (call : Call) (g : ℕ) → IsRunAt layout call (Aggregate g)
     → ((volume : _) (more : ℕ) → call ≡ calls.Grow volume more → ⊥) → ⊥
@@ -182,6 +155,12 @@ only-census layout calls.Census at no_census = no_census refl
 only-census layout (calls.Grow volume more) at no_census =
     let kind : kinds.Serial ≡ kinds.Aggregate = (grown-on (slice_get layout.volumes volume.0) Serial at.1).0 in cc
 only-census layout call at no_census = let above = (run-home layout call Serial at).above in cc
+
+pub is-census : (layout : Layout) (call : Call) → IsRunAt layout call Serial → call ≡ calls.Census
+is-census layout calls.Census at = refl
+is-census layout (calls.Grow volume more) at =
+    let kind : kinds.Serial ≡ kinds.Aggregate = (grown-on (slice_get layout.volumes volume.0) Serial at.1).0 in let no : ⊥ = cc in absurd no
+is-census layout call at = let above = (run-home layout call Serial at).above in let no : ⊥ = cc in absurd no
 
 -- under Logical not FSSTAT
 not-logical : (named : Option Named) (v : ℕ) → volume_home named ≡ Some (Logical v) → ⊥
@@ -216,12 +195,12 @@ leads-volume layout (OfAggregate volume) v at = no-grow layout volume (Volume v)
 leads-volume layout OfEverything v at = let no : ⊥ = cc in no
 leads-volume layout r v at = tt
 
-pub only-writes : (layout : Layout) (call : Call) (v : ℕ) → IsRunAt layout call (Volume v)
+pub is-status : (layout : Layout) (call : Call) (v : ℕ) → IsRunAt layout call (Volume v)
     → ((handle : _) (offset count : ℕ) (bytes : _) → call ≡ calls.Write handle offset count bytes → ⊥)
-    → ((handle : _) → call ≡ calls.FilesystemStatus handle → ⊥) → ⊥
-only-writes layout (calls.Write handle offset count bytes) v at no_write no_space = no_write handle offset count bytes refl
-only-writes layout (calls.FilesystemStatus handle) v at no_write no_space = no_space handle refl
-only-writes layout call v at no_write no_space = leads-volume layout (route (call_of call)) v at.1
+    → (handle : List ℕ) × (call ≡ calls.FilesystemStatus handle)
+is-status layout (calls.Write handle offset count bytes) v at no_write = absurd (no_write handle offset count bytes refl)
+is-status layout (calls.FilesystemStatus handle) v at no_write = (handle, refl)
+is-status layout call v at no_write = let no : ⊥ = leads-volume layout (route (call_of call)) v at.1 in absurd no
 
 -- in a stripe, only one on bytes that lie in it
 not-stripe : (named : Option Named) (v i : ℕ) → logical_home named ≡ Some (Stripe v i) → ⊥

@@ -9,37 +9,14 @@ use Rattle.desk.proofs.grants.put_back_small.Goals as goal
 pub put_back_node-requires-clause-can : goal.put_back_node-requires-clause-can
 put_back_node-requires-clause-can g c =
     let layout = layout_in c.args.depot.now in
-    subst (λ grant. CanPutBack layout (view c.args.seat.now) (small_lent grant layout)) c.in-Range.is c.requires.can
-
-pub returns-in-Range-clause-ended : goal.returns-in-Range-clause-ended
-returns-in-Range-clause-ended g c =
-    let layout = layout_in c.args.depot.now in
-    subst (λ grant. IsEnded (view c.args.seat.now) (number_of layout (small_lent grant layout).affinity) (view c.put_back_node.new.seat)) (sym c.in-Range.is)
-    c.put_back_node.ensures.ended
-
-pub put_back_node-requires-in-Vbn-clause-can : goal.put_back_node-requires-in-Vbn-clause-can
-put_back_node-requires-in-Vbn-clause-can g c =
-    let layout = layout_in c.args.depot.now in
-    subst (λ grant. CanPutBack layout (view c.args.seat.now) (small_lent grant layout)) c.in-Vbn.is c.requires.can
-
-pub returns-in-Vbn-clause-ended : goal.returns-in-Vbn-clause-ended
-returns-in-Vbn-clause-ended g c =
-    let layout = layout_in c.args.depot.now in
-    subst (λ grant. IsEnded (view c.args.seat.now) (number_of layout (small_lent grant layout).affinity) (view c.put_back_node-in-Vbn.new.seat))
-    (sym c.in-Vbn.is)
-    c.put_back_node-in-Vbn.ensures.ended
-
-pub put_back_node-requires-in-Stripe-clause-can : goal.put_back_node-requires-in-Stripe-clause-can
-put_back_node-requires-in-Stripe-clause-can g c =
-    let layout = layout_in c.args.depot.now in
     subst (λ grant. CanPutBack layout (view c.args.seat.now) (small_lent grant layout)) c.in-Stripe.is c.requires.can
 
 pub returns-in-Stripe-clause-ended : goal.returns-in-Stripe-clause-ended
 returns-in-Stripe-clause-ended g c =
     let layout = layout_in c.args.depot.now in
-    subst (λ grant. IsEnded (view c.args.seat.now) (number_of layout (small_lent grant layout).affinity) (view c.put_back_node-in-Stripe.new.seat))
+    subst (λ grant. IsEnded (view c.args.seat.now) (number_of layout (small_lent grant layout).affinity) (view c.put_back_node.new.seat))
     (sym c.in-Stripe.is)
-    c.put_back_node-in-Stripe.ensures.ended
+    c.put_back_node.ensures.ended
 
 pub put_back_node-requires-in-Logical-clause-can : goal.put_back_node-requires-in-Logical-clause-can
 put_back_node-requires-in-Logical-clause-can g c =

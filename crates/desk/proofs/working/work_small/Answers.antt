@@ -6,102 +6,38 @@ use Rattle.desk.specs.Any.{small_lent}
 use Rattle.desk.proofs.Worked.{as-given, as-left, as-done}
 use Rattle.desk.proofs.working.work_small.Goals as goal
 
-pub on_range-requires-clause-node : goal.on_range-requires-clause-node
-on_range-requires-clause-node g c =
-    let L = layout_of c.args.layout.now in
-    as-given L c.in-Range.node c.affinity-affinity.result c.affinity-affinity.ensures (λ a f. IsNode L a)
-    (small_lent c.args.grant.now L) c.held.result.now (ap (λ grant. small_lent grant L) c.in-Range.is) c.held.ensures.value c.requires.node
-
-pub on_range-requires-clause-exact : goal.on_range-requires-clause-exact
-on_range-requires-clause-exact g c =
-    let L = layout_of c.args.layout.now in
-    as-given L c.in-Range.node c.affinity-affinity.result c.affinity-affinity.ensures (λ a f. HasExactly g.T.HasKind.kind L a f)
-    (small_lent c.args.grant.now L) c.held.result.now (ap (λ grant. small_lent grant L) c.in-Range.is) c.held.ensures.value c.requires.whole.exact
-
-pub on_range-requires-clause-asks : goal.on_range-requires-clause-asks
-on_range-requires-clause-asks g c =
-    let L = layout_of c.args.layout.now in
-    as-given L c.in-Range.node c.affinity-affinity.result c.affinity-affinity.ensures (λ a f. g.W.Task.asks c.args.task L a f)
-    (small_lent c.args.grant.now L) c.held.result.now (ap (λ grant. small_lent grant L) c.in-Range.is) c.held.ensures.value c.requires.asks
-
-pub returns-in-Range-clause-whole : goal.returns-in-Range-clause-whole
-returns-in-Range-clause-whole g c =
-    record {
-      exact = as-left (layout_of c.args.layout.now) c.in-Range.node c.affinity-affinity.result c.affinity-affinity.ensures c.on_range.new.held
-          c.on_range.ensures.exact;
-    }
-
-pub returns-in-Range-clause-done : goal.returns-in-Range-clause-done
-returns-in-Range-clause-done g c =
-    let L = layout_of c.args.layout.now in
-    as-done L c.in-Range.node c.affinity-affinity.result c.affinity-affinity.ensures (g.W.Task.does c.args.task)
-    (small_lent c.args.grant.now L) c.held.result.now c.on_range.new.held c.on_range.result
-    (ap (λ grant. small_lent grant L) c.in-Range.is) c.held.ensures.value c.on_range.ensures.does
-
-pub on_vbn-requires-clause-node : goal.on_vbn-requires-clause-node
-on_vbn-requires-clause-node g c =
-    let L = layout_of c.args.layout.now in
-    as-given L c.in-Vbn.node c.affinity-affinity-in-Vbn.result c.affinity-affinity-in-Vbn.ensures (λ a f. IsNode L a)
-    (small_lent c.args.grant.now L) c.held-in-Vbn.result.now (ap (λ grant. small_lent grant L) c.in-Vbn.is) c.held-in-Vbn.ensures.value c.requires.node
-
-pub on_vbn-requires-clause-exact : goal.on_vbn-requires-clause-exact
-on_vbn-requires-clause-exact g c =
-    let L = layout_of c.args.layout.now in
-    as-given L c.in-Vbn.node c.affinity-affinity-in-Vbn.result c.affinity-affinity-in-Vbn.ensures (λ a f. HasExactly g.T.HasKind.kind L a f)
-    (small_lent c.args.grant.now L) c.held-in-Vbn.result.now (ap (λ grant. small_lent grant L) c.in-Vbn.is) c.held-in-Vbn.ensures.value c.requires.whole.exact
-
-pub on_vbn-requires-clause-asks : goal.on_vbn-requires-clause-asks
-on_vbn-requires-clause-asks g c =
-    let L = layout_of c.args.layout.now in
-    as-given L c.in-Vbn.node c.affinity-affinity-in-Vbn.result c.affinity-affinity-in-Vbn.ensures (λ a f. g.W.Task.asks c.args.task L a f)
-    (small_lent c.args.grant.now L) c.held-in-Vbn.result.now (ap (λ grant. small_lent grant L) c.in-Vbn.is) c.held-in-Vbn.ensures.value c.requires.asks
-
-pub returns-in-Vbn-clause-whole : goal.returns-in-Vbn-clause-whole
-returns-in-Vbn-clause-whole g c =
-    record {
-      exact = as-left (layout_of c.args.layout.now) c.in-Vbn.node c.affinity-affinity-in-Vbn.result c.affinity-affinity-in-Vbn.ensures c.on_vbn.new.held
-          c.on_vbn.ensures.exact;
-    }
-
-pub returns-in-Vbn-clause-done : goal.returns-in-Vbn-clause-done
-returns-in-Vbn-clause-done g c =
-    let L = layout_of c.args.layout.now in
-    as-done L c.in-Vbn.node c.affinity-affinity-in-Vbn.result c.affinity-affinity-in-Vbn.ensures (g.W.Task.does c.args.task)
-    (small_lent c.args.grant.now L) c.held-in-Vbn.result.now c.on_vbn.new.held c.on_vbn.result
-    (ap (λ grant. small_lent grant L) c.in-Vbn.is) c.held-in-Vbn.ensures.value c.on_vbn.ensures.does
-
 pub on_stripe-requires-clause-node : goal.on_stripe-requires-clause-node
 on_stripe-requires-clause-node g c =
     let L = layout_of c.args.layout.now in
-    as-given L c.in-Stripe.node c.affinity-affinity-in-Stripe.result c.affinity-affinity-in-Stripe.ensures (λ a f. IsNode L a)
-    (small_lent c.args.grant.now L) c.held-in-Stripe.result.now (ap (λ grant. small_lent grant L) c.in-Stripe.is) c.held-in-Stripe.ensures.value c.requires.node
+    as-given L c.in-Stripe.node c.affinity-affinity.result c.affinity-affinity.ensures (λ a f. IsNode L a)
+    (small_lent c.args.grant.now L) c.held.result.now (ap (λ grant. small_lent grant L) c.in-Stripe.is) c.held.ensures.value c.requires.node
 
 pub on_stripe-requires-clause-exact : goal.on_stripe-requires-clause-exact
 on_stripe-requires-clause-exact g c =
     let L = layout_of c.args.layout.now in
-    as-given L c.in-Stripe.node c.affinity-affinity-in-Stripe.result c.affinity-affinity-in-Stripe.ensures (λ a f. HasExactly g.T.HasKind.kind L a f)
-    (small_lent c.args.grant.now L) c.held-in-Stripe.result.now (ap (λ grant. small_lent grant L) c.in-Stripe.is) c.held-in-Stripe.ensures.value
+    as-given L c.in-Stripe.node c.affinity-affinity.result c.affinity-affinity.ensures (λ a f. HasExactly g.T.HasKind.kind L a f)
+    (small_lent c.args.grant.now L) c.held.result.now (ap (λ grant. small_lent grant L) c.in-Stripe.is) c.held.ensures.value
     c.requires.whole.exact
 
 pub on_stripe-requires-clause-asks : goal.on_stripe-requires-clause-asks
 on_stripe-requires-clause-asks g c =
     let L = layout_of c.args.layout.now in
-    as-given L c.in-Stripe.node c.affinity-affinity-in-Stripe.result c.affinity-affinity-in-Stripe.ensures (λ a f. g.W.Task.asks c.args.task L a f)
-    (small_lent c.args.grant.now L) c.held-in-Stripe.result.now (ap (λ grant. small_lent grant L) c.in-Stripe.is) c.held-in-Stripe.ensures.value c.requires.asks
+    as-given L c.in-Stripe.node c.affinity-affinity.result c.affinity-affinity.ensures (λ a f. g.W.Task.asks c.args.task L a f)
+    (small_lent c.args.grant.now L) c.held.result.now (ap (λ grant. small_lent grant L) c.in-Stripe.is) c.held.ensures.value c.requires.asks
 
 pub returns-in-Stripe-clause-whole : goal.returns-in-Stripe-clause-whole
 returns-in-Stripe-clause-whole g c =
     record {
-      exact = as-left (layout_of c.args.layout.now) c.in-Stripe.node c.affinity-affinity-in-Stripe.result c.affinity-affinity-in-Stripe.ensures
+      exact = as-left (layout_of c.args.layout.now) c.in-Stripe.node c.affinity-affinity.result c.affinity-affinity.ensures
           c.on_stripe.new.held c.on_stripe.ensures.exact;
     }
 
 pub returns-in-Stripe-clause-done : goal.returns-in-Stripe-clause-done
 returns-in-Stripe-clause-done g c =
     let L = layout_of c.args.layout.now in
-    as-done L c.in-Stripe.node c.affinity-affinity-in-Stripe.result c.affinity-affinity-in-Stripe.ensures (g.W.Task.does c.args.task)
-    (small_lent c.args.grant.now L) c.held-in-Stripe.result.now c.on_stripe.new.held c.on_stripe.result
-    (ap (λ grant. small_lent grant L) c.in-Stripe.is) c.held-in-Stripe.ensures.value c.on_stripe.ensures.does
+    as-done L c.in-Stripe.node c.affinity-affinity.result c.affinity-affinity.ensures (g.W.Task.does c.args.task)
+    (small_lent c.args.grant.now L) c.held.result.now c.on_stripe.new.held c.on_stripe.result
+    (ap (λ grant. small_lent grant L) c.in-Stripe.is) c.held.ensures.value c.on_stripe.ensures.does
 
 pub on_logical-requires-clause-node : goal.on_logical-requires-clause-node
 on_logical-requires-clause-node g c =

@@ -1,5 +1,8 @@
 use Rattle.std.proofs.Common.{refl, sym, ◌∙◌, inl}
 use Rattle.engine.specs.Seen.{setup_in, world, answer_of}
+use Rattle.filer_state.specs.state.Jobs.{Cull}
+use Rattle.engine.specs.declared.inner.Asked.TheVariants as asks
+use Rattle.engine.proofs.Asking.{ask_one}
 use Rattle.engine.proofs.Carried.{cull-busy, cull-nowhere, culled}
 use Rattle.engine.proofs.Free.{free-there, volume-asked, may_cull}
 use Rattle.engine.proofs.carrying.cull.Goals as goal
@@ -23,7 +26,8 @@ tend-requires-clause-may c =
     let s = c.args.state.now in
     let free = (free-there s.workers.items c.deref.result.now c.args.worker c.is_free.result c.deref.ensures.value c.is_free.ensures
     ∙ c.if-not-is_free.false) in
-    may_cull s c.requires c.args.worker free c.args.volume.0 (sym c.if-not-has_volume.false ∙ c.has_volume.ensures)
+    let may = may_cull s c.requires c.args.worker free c.args.volume.0 (sym c.if-not-has_volume.false ∙ c.has_volume.ensures) in
+    ask_one s c.args.worker (asks.Cull c.args.volume) (Cull c.args.volume.0) may refl may.fits
 
 pub returns-clause-events : goal.returns-clause-events
 returns-clause-events c =
@@ -31,4 +35,6 @@ returns-clause-events c =
     let free = (free-there s.workers.items c.deref.result.now c.args.worker c.is_free.result c.deref.ensures.value c.is_free.ensures
     ∙ c.if-not-is_free.false) in
     let there = volume-asked s c.requires c.args.volume.0 c.has_volume.result c.has_volume.ensures ∙ c.if-not-has_volume.false in
-    culled (setup_in s) (world s) c.args.worker free c.args.volume.0 there (answer_of c.tend.result) (world c.tend.new.state) c.tend.ensures.tends
+    let may = may_cull s c.requires c.args.worker free c.args.volume.0 (sym c.if-not-has_volume.false ∙ c.has_volume.ensures) in
+    culled (setup_in s) (world s) c.args.worker free c.args.volume.0 there (answer_of c.tend.result) (world c.tend.new.state)
+    (c.tend.ensures.tends may.hand may.there)

@@ -18,8 +18,8 @@ returns-then-not-has_volume-clause-events c =
     let none = volume-asked s c.requires c.args.volume.0 c.has_volume.result c.has_volume.ensures ∙ c.if-not-has_volume.true in
     (inl (survey-nowhere (setup_in s) (world s) c.args.worker free c.args.volume.0 none), refl)
 
-pub tend-requires-clause-may : goal.tend-requires-clause-may
-tend-requires-clause-may c =
+pub count_free-requires-clause-may : goal.count_free-requires-clause-may
+count_free-requires-clause-may c =
     let s = c.args.state.now in
     let free = (free-there s.workers.items c.deref.result.now c.args.worker c.is_free.result c.deref.ensures.value c.is_free.ensures
     ∙ c.if-not-is_free.false) in
@@ -31,4 +31,5 @@ returns-clause-events c =
     let free = (free-there s.workers.items c.deref.result.now c.args.worker c.is_free.result c.deref.ensures.value c.is_free.ensures
     ∙ c.if-not-is_free.false) in
     let there = volume-asked s c.requires c.args.volume.0 c.has_volume.result c.has_volume.ensures ∙ c.if-not-has_volume.false in
-    surveyed (setup_in s) (world s) c.args.worker free c.args.volume.0 there (answer_of c.tend.result) (world c.tend.new.state) c.tend.ensures.tends
+    surveyed (setup_in s) (world s) c.args.worker free c.args.volume.0 there (answer_of c.count_free.result) (world c.count_free.new.state)
+    c.count_free.ensures.tends

@@ -13,8 +13,7 @@ use Rattle.engine.specs.declared.event.Done.TheVariants as dones
 use Rattle.engine.specs.declared.state.State.{State}
 use Rattle.engine.specs.Sound.{IsSoundEngine}
 use Rattle.engine.specs.Words.{Does}
-use Rattle.engine.proofs.Lists.{none-some}
-use Rattle.engine.proofs.Keyed.{found-key, no-key}
+use Rattle.engine.proofs.Keyed.{contains, found-key, no-key}
 use Rattle.engine.proofs.Closing.{shut-events, closes, closes-sound}
 use Rattle.engine.proofs.connecting.close_connection.Goals as goal
 
@@ -23,13 +22,13 @@ returns-in-None-clause-events c =
     shut-events c.args.state.now c.args.connection
     (no-key c.deref.result.now c.args.state.now.connections.items c.args.connection c.key_of.result c.key_of.ensures c.deref.ensures.value c.in-None.is)
 
-pub unreachable-requires : goal.unreachable-requires
-unreachable-requires c =
+pub remove-requires : goal.remove-requires
+remove-requires c =
     let s = c.args.state.now in
     let at = found-key c.deref.result.now s.connections.items c.args.connection c.in-Some.key c.key_of.result c.key_of.ensures c.deref.ensures.value
     c.in-Some.is in
     let kept = c.requires.keyed.kept c.args.connection c.in-Some.key at in
-    none-some kept.0 (sym c.in-None-try_remove.is ∙ c.try_remove.ensures.value ∙ kept.1)
+    contains s.slab c.in-Some.key kept.0 kept.1
 
 pub set_closed-requires : goal.set_closed-requires
 set_closed-requires c =
@@ -50,8 +49,8 @@ module _ (c : goal.After-set_closed) where
   at : slice_get s.connections.items c.args.connection ≡ Some (places.Open c.in-Some.key)
   at = found-key c.deref.result.now s.connections.items c.args.connection c.in-Some.key c.key_of.result c.key_of.ensures c.deref.ensures.value c.in-Some.is
 
-  was : get s.slab c.in-Some.key ≡ Some c.in-Some-try_remove.removed
-  was = sym c.try_remove.ensures.value ∙ c.in-Some-try_remove.is
+  was : get s.slab c.in-Some.key ≡ Some c.remove.result
+  was = c.remove.ensures.value
 
   count : length c.finished.result.now ≡ length (finished_of s.calls)
   count = sym (length-map c.finished.result.now entry_of) ∙ ap length c.finished.ensures
@@ -59,13 +58,13 @@ module _ (c : goal.After-set_closed) where
 pub returns-clause-events : goal.returns-clause-events
 returns-clause-events c =
     subst
-    (λ (v : Vec Connection). Does (s c) (events.Close c.args.connection) (Ok dones.Closed) (record (s c) { connections = v; slab = c.try_remove.new.self }))
+    (λ (v : Vec Connection). Does (s c) (events.Close c.args.connection) (Ok dones.Closed) (record (s c) { connections = v; slab = c.remove.new.self }))
     (sym c.set_closed.ensures)
-    (closes (s c) c.requires c.args.connection c.in-Some.key (at c) c.in-Some-try_remove.removed (was c) c.try_remove.new.self c.try_remove.ensures.updates
-    c.in-Some-try_remove.ensures.len (put c) c.into_parts-stream.ensures.stream c.into_parts-stream.ensures.output (count c))
+    (closes (s c) c.requires c.args.connection c.in-Some.key (at c) c.remove.result (was c) c.remove.new.self c.remove.ensures.updates
+    c.remove.ensures.len (put c) c.into_parts-stream.ensures.stream c.into_parts-stream.ensures.output (count c))
 
 pub returns-clause-sound : goal.returns-clause-sound
 returns-clause-sound c =
-    subst (λ (v : Vec Connection). IsSoundEngine (record (s c) { connections = v; slab = c.try_remove.new.self })) (sym c.set_closed.ensures)
-    (closes-sound (s c) c.requires c.args.connection c.in-Some.key (at c) c.in-Some-try_remove.removed (was c) c.try_remove.new.self
-    c.try_remove.ensures.updates c.in-Some-try_remove.ensures.len (put c))
+    subst (λ (v : Vec Connection). IsSoundEngine (record (s c) { connections = v; slab = c.remove.new.self })) (sym c.set_closed.ensures)
+    (closes-sound (s c) c.requires c.args.connection c.in-Some.key (at c) c.remove.result (was c) c.remove.new.self
+    c.remove.ensures.updates c.remove.ensures.len (put c))

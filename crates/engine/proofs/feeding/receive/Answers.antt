@@ -4,21 +4,21 @@ use Rattle.engine.proofs.feeding.receive.Goals as goal
 
 pub returns-then-not-takes_input : goal.returns-then-not-takes_input
 returns-then-not-takes_input c = record {
-  before = c.in-Some.on.now;
-  after = c.in-Some.on.now;
-  was = sym c.in-Some.ensures.value;
+  before = c.index_mut-on.result.now;
+  after = c.index_mut-on.result.now;
+  was = c.index_mut-on.ensures.value;
   is = refl;
   receives = (sym (c.takes_input.ensures c.args.offer) ∙ c.if-not-takes_input.true, refl, refl);
 }
 
 pub returns : goal.returns
 returns c = record {
-  before = c.in-Some.on.now;
+  before = c.index_mut-on.result.now;
   after = c.feed.new.self;
-  was = sym c.in-Some.ensures.value;
+  was = c.index_mut-on.ensures.value;
   is = refl;
   receives = record {
-    before = c.in-Some.on.now;
+    before = c.index_mut-on.result.now;
     after = c.feed.new.self;
     was = refl;
     is = refl;

@@ -7,7 +7,7 @@ use Rattle.engine.specs.declared.connection.Connection.TheVariants as places
 use Rattle.engine.specs.Connections.{Open, Closed, held_by, key_at}
 use Rattle.engine.proofs.Closing.{set-same}
 use Rattle.engine.proofs.Ends.{same-open, closed-open, closed-ends}
-use Rattle.engine.proofs.Keyed.{open-at, found-open, closed-at, found-closed, written, written-keyed, written-len}
+use Rattle.engine.proofs.Keyed.{contains, open-at, found-open, closed-at, found-closed, written, written-keyed, written-len}
 use Rattle.engine.proofs.finishing.end_in.Goals as goal
 
 pub returns-in-None-clause-ends : goal.returns-in-None-clause-ends
@@ -32,22 +32,30 @@ returns-in-None-clause-ends c =
       opened = refl;
     }
 
+pub index_mut-requires : goal.index_mut-requires
+index_mut-requires c =
+    let cs = c.args.connections.now in
+    let n = c.args.running.message.origin.connection.0 in
+    let at = open-at (slice_get cs n) c.in-Some.key (sym c.key_of.ensures ∙ c.in-Some.is) in
+    let kept = c.requires.keyed.kept n c.in-Some.key at in
+    contains c.args.slab.now c.in-Some.key kept.0 kept.1
+
 pub finish-requires-clause-owed : goal.finish-requires-clause-owed
 finish-requires-clause-owed c =
     let cs = c.args.connections.now in
     let n = c.args.running.message.origin.connection.0 in
     let at = open-at (slice_get cs n) c.in-Some.key (sym c.key_of.ensures ∙ c.in-Some.is) in
-    c.requires.owed c.in-Some-get_mut.on.now
-    (found-open cs c.args.slab.now n c.in-Some.key c.in-Some-get_mut.on.now at (sym c.in-Some-get_mut.ensures.value))
+    c.requires.owed c.index_mut.result.now
+    (found-open cs c.args.slab.now n c.in-Some.key c.index_mut.result.now at c.index_mut.ensures.value)
 
 pub returns-clause-ends : goal.returns-clause-ends
 returns-clause-ends c =
     let cs = c.args.connections.now in
     let n = c.args.running.message.origin.connection.0 in
-    let before = c.in-Some-get_mut.on.now in
+    let before = c.index_mut.result.now in
     let after = c.finish.new.on in
     let at : slice_get cs n ≡ Some (places.Open c.in-Some.key) = open-at (slice_get cs n) c.in-Some.key (sym c.key_of.ensures ∙ c.in-Some.is) in
-    let was : get c.args.slab.now c.in-Some.key ≡ Some before = sym c.in-Some-get_mut.ensures.value in
+    let was : get c.args.slab.now c.in-Some.key ≡ Some before = c.index_mut.ensures.value in
     record {
       place = Open before;
       left = Open after;

@@ -1,8 +1,8 @@
 use Rattle.std.proofs.Common.{◌≡◌, ◌≤◌, ◌<◌, ℕ, Bool, List, Some, refl, sym, ap, ◌∙◌, subst, inl, inr, arith}
 use Rattle.std.specs.Prelude.{length, slice_get}
 use Rattle.std.specs.Global.{Vec}
-use Rattle.std.specs.Option.{option_copied}
 use Rattle.std.proofs.lemmas.List.{length-map, length-set}
+use Rattle.std.proofs.lemmas.Option.{slice_get_past}
 use Rattle.nfs_values.specs.Moment.{moment_of}
 use Rattle.nfs_model.specs.Types as types
 use Rattle.rpc_msg.specs.Offer.{form_of}
@@ -20,15 +20,15 @@ use Rattle.engine.specs.Connections.{Open, held_at, held_by, AreKeyed}
 use Rattle.engine.specs.declared.worker.Running.{Running}
 use Rattle.engine.specs.declared.worker.Worker.{Worker}
 use Rattle.engine.specs.declared.worker.WorkerRun.{WorkerRun}
-use Rattle.engine.specs.declared.worker.WorkerRun.TheVariants.{Idle, Worked}
+use Rattle.engine.specs.declared.worker.WorkerRun.TheVariants.{Idle, Begun, Worked}
 use Rattle.engine.specs.declared.state.State.{State}
 use Rattle.engine.specs.Workers.{worker_with}
 use Rattle.engine.specs.Seen.{held_in, setup_in, world}
 use Rattle.engine.specs.Ending.{EndsAmong}
 use Rattle.engine.specs.Sound.{room_on}
-use Rattle.engine.proofs.Workers.{messages-changed, ran-here, finish-early, finish-idle, finish-nobody, in-vector}
+use Rattle.engine.proofs.Workers.{messages-changed, finish-early, finish-idle, finish-nobody, idle-same, in-room, runs-again, taken-there}
 use Rattle.engine.proofs.Placed.{room-own}
-use Rattle.engine.proofs.Changed.{IsChanged, same_setup}
+use Rattle.engine.proofs.Changed.{IsChanged, same_setup, still-setup, still-sound, still-world}
 use Rattle.engine.proofs.Ends.{ToldAs}
 use Rattle.engine.proofs.Finishes.{ready, some_run, may_go_back, again_admitted, back_events, back_sound, may_be_entered, reply_fits, ended_events}
 use Rattle.engine.proofs.Finishes.{ended_sound}
@@ -37,36 +37,68 @@ use Rattle.engine.proofs.finishing.finish.Goals.{in-Replied, in-Starved}
 
 -- ---- it is refused
 
-pub returns-in-Some-Begun-clause-events : goal.returns-in-Some-Begun-clause-events
-returns-in-Some-Begun-clause-events c =
-    let s = c.args.state.now in (
-      inl (finish-early s.workers.items c.deref.result.now c.args.worker (option_copied c.run_at.result) c.deref.ensures.value c.run_at.ensures (setup_in s)
-          (world s) refl _ (ap option_copied c.in-Some-Begun.is ∙ ap Some c.in-Some-Begun.field-0-is)),
-      refl,
-    )
-
-pub returns-in-Some-Idle-clause-events : goal.returns-in-Some-Idle-clause-events
-returns-in-Some-Idle-clause-events c =
-    let s = c.args.state.now in (
-      inl (finish-idle s.workers.items c.deref.result.now c.args.worker (option_copied c.run_at.result) c.deref.ensures.value c.run_at.ensures (setup_in s)
-          (world s) refl (ap option_copied c.in-Some-Idle.is ∙ ap Some c.in-Some-Idle.field-0-is)),
-      refl,
-    )
-
-pub returns-in-None-clause-events : goal.returns-in-None-clause-events
-returns-in-None-clause-events c =
-    let s = c.args.state.now in (
-      inl (finish-nobody s.workers.items c.deref.result.now c.args.worker (option_copied c.run_at.result) c.deref.ensures.value c.run_at.ensures (setup_in s)
-          (world s) refl (ap option_copied c.in-None.is)),
-      refl,
-    )
+pub returns-then-worker-len-clause-events : goal.returns-then-worker-len-clause-events
+returns-then-worker-len-clause-events c =
+    let s = c.args.state.now in
+    let past = c.if-worker-len.true in
+    let count = c.len.ensures in
+    let size = s.workers.ok.0 in
+    let most : length s.workers.items ≤ c.args.worker = omega (arith, past, count, size) in
+    (inl (finish-nobody s.workers.items c.args.worker (setup_in s) (world s) refl (slice_get_past s.workers.items c.args.worker most)), refl)
 
 pub take_run-requires : goal.take_run-requires
 take_run-requires c =
+    let within = c.if-worker-len.false in
+    let count = c.len.ensures in
+    let size = c.args.state.now.workers.ok.0 in
+    omega (arith, within, count, size)
+
+pub set_run-requires : goal.set_run-requires
+set_run-requires c = in-room c.args.state.now.workers c.take_run.new.workers c.args.worker _ _ c.take_run.ensures.1 c.take_run.ensures.2
+
+pub returns-in-Begun-clause-events : goal.returns-in-Begun-clause-events
+returns-in-Begun-clause-events c =
     let s = c.args.state.now in
-    in-vector s.workers c.args.worker _
-    (ran-here s.workers.items c.deref.result.now c.args.worker (option_copied c.run_at.result) c.deref.ensures.value c.run_at.ensures _
-    (ap option_copied c.in-Some-Worked.is ∙ ap Some c.in-Some-Worked.field-0-is)).1
+    let i = c.args.worker in
+    let r = c.in-Begun.running in
+    let same = runs-again s.workers c.take_run.new.workers i c.take_run.result c.take_run.ensures (Begun r) c.set_run.new.workers c.in-Begun.is
+    c.set_run.ensures in (
+      inl (finish-early s.workers.items i (setup_in s) (world s) refl r c.take_run.ensures.0
+          (taken-there s.workers c.take_run.new.workers i c.take_run.result c.take_run.ensures (Begun r) c.in-Begun.is)),
+      still-world s c.set_run.new.workers same,
+    )
+
+pub returns-in-Begun-clause-setup : goal.returns-in-Begun-clause-setup
+returns-in-Begun-clause-setup c =
+    still-setup c.args.state.now c.set_run.new.workers
+    (runs-again c.args.state.now.workers c.take_run.new.workers c.args.worker c.take_run.result c.take_run.ensures (Begun c.in-Begun.running)
+    c.set_run.new.workers c.in-Begun.is c.set_run.ensures)
+
+pub returns-in-Begun-clause-sound : goal.returns-in-Begun-clause-sound
+returns-in-Begun-clause-sound c =
+    still-sound c.args.state.now c.set_run.new.workers
+    (runs-again c.args.state.now.workers c.take_run.new.workers c.args.worker c.take_run.result c.take_run.ensures (Begun c.in-Begun.running)
+    c.set_run.new.workers c.in-Begun.is c.set_run.ensures) c.requires
+
+pub returns-in-Idle-clause-events : goal.returns-in-Idle-clause-events
+returns-in-Idle-clause-events c =
+    let s = c.args.state.now in
+    let i = c.args.worker in
+    let same = idle-same s.workers c.take_run.new.workers i c.take_run.result c.take_run.ensures c.in-Idle.is in (
+      inl (finish-idle s.workers.items i (setup_in s) (world s) refl c.take_run.ensures.0
+          (taken-there s.workers c.take_run.new.workers i c.take_run.result c.take_run.ensures Idle c.in-Idle.is)),
+      still-world s c.take_run.new.workers same,
+    )
+
+pub returns-in-Idle-clause-setup : goal.returns-in-Idle-clause-setup
+returns-in-Idle-clause-setup c =
+    still-setup c.args.state.now c.take_run.new.workers
+    (idle-same c.args.state.now.workers c.take_run.new.workers c.args.worker c.take_run.result c.take_run.ensures c.in-Idle.is)
+
+pub returns-in-Idle-clause-sound : goal.returns-in-Idle-clause-sound
+returns-in-Idle-clause-sound c =
+    still-sound c.args.state.now c.take_run.new.workers
+    (idle-same c.args.state.now.workers c.take_run.new.workers c.args.worker c.take_run.result c.take_run.ensures c.in-Idle.is) c.requires
 
 -- ---- it moves
 
@@ -134,7 +166,7 @@ end_on-running-requires-clause-may c =
 
 -- ---- it ends in its connection
 
-module _ (c : goal.After-reply-2-1) where
+module _ (c : goal.After-reply-3-1) where
   abbrev s : State
   s = c.args.state.now
 
@@ -147,7 +179,7 @@ module _ (c : goal.After-reply-2-1) where
   was_there : slice_get s.workers.items c.args.worker ≡ Some (worker_with (Worked r o) c.take_run.ensures.0)
   was_there = c.take_run.ensures.1 ∙ ap (λ (x : WorkerRun). Some (worker_with x c.take_run.ensures.0)) c.in-Worked.is
 
-  same : c.end_on-running.result.0 ≡ r
+  same : c.end_on-running.result ≡ r
   same = c.end_on-running.ensures.running
 
 pub end_in-count-requires-clause-runs : goal.end_in-count-requires-clause-runs
@@ -165,31 +197,29 @@ end_in-count-requires-clause-fits c =
       | in-Starved t ↦ inr (t.in-Starved.is, ap (λ (p : Reply × Bool). p.0) t.reply-is, ap (λ (p : Reply × Bool). p.1) t.reply-is)
     ] in
     let form = c.handles.result in
-    subst (λ (x : types.Reply). length (reply_record c.end_on-running.result.0.message.origin.xid x) ≤ c.end_on-running.result.0.message.room)
+    subst (λ (x : types.Reply). length (reply_record c.end_on-running.result.message.origin.xid x) ≤ c.end_on-running.result.message.room)
     (sym c.tell.ensures)
-    (subst (λ (x : Running). length (reply_record x.message.origin.xid (reply_told form (reply_of c.end_on-running.result.1))) ≤ x.message.room)
+    (subst (λ (x : Running). length (reply_record x.message.origin.xid (reply_told form (reply_of c.match-outcome.reply.0))) ≤ x.message.room)
     (sym (same c))
-    (subst (λ (x : Reply). length (reply_record (r c).message.origin.xid (reply_told form (reply_of x))) ≤ (r c).message.room)
-    (sym c.end_on-running.ensures.reply)
-    (reply_fits (s c) c.requires c.args.worker (r c) (o c) c.take_run.ensures.0 (was_there c) c.match-outcome.reply.0 c.match-outcome.reply.1 is form)))
+    (reply_fits (s c) c.requires c.args.worker (r c) (o c) c.take_run.ensures.0 (was_there c) c.match-outcome.reply.0 c.match-outcome.reply.1 is form))
 
 pub end_in-count-requires-clause-known : goal.end_in-count-requires-clause-known
 end_in-count-requires-clause-known c =
     let known = (ready (s c) c.requires c.args.worker (r c) (o c) c.take_run.ensures.0 (was_there c)).0.known in
     let size = length-map (s c).connections.items (held_at (s c).slab) in
     let there : (r c).message.origin.connection.0 < length (s c).connections.items = omega (arith, known, size) in
-    subst (λ (x : Running). x.message.origin.connection.0 < length c.deref-2.result.now) (sym (same c))
-    (subst (λ (cs : List Connection). (r c).message.origin.connection.0 < length cs) (sym c.deref-2.ensures.value) there)
+    subst (λ (x : Running). x.message.origin.connection.0 < length c.deref.result.now) (sym (same c))
+    (subst (λ (cs : List Connection). (r c).message.origin.connection.0 < length cs) (sym c.deref.ensures.value) there)
 
 pub end_in-count-requires-clause-keyed : goal.end_in-count-requires-clause-keyed
-end_in-count-requires-clause-keyed c = subst (λ (cs : List Connection). AreKeyed cs (s c).slab) (sym c.deref-2.ensures.value) c.requires.keyed
+end_in-count-requires-clause-keyed c = subst (λ (cs : List Connection). AreKeyed cs (s c).slab) (sym c.deref.ensures.value) c.requires.keyed
 
 pub end_in-count-requires-clause-owed : goal.end_in-count-requires-clause-owed
 end_in-count-requires-clause-owed c = λ x e.
     let n = (r c).message.origin.connection.0 in
     let at : slice_get (held_in (s c)) n ≡ Some (Open x) =
-    subst (λ (cs : List Connection). slice_get (held_by cs (s c).slab) n ≡ Some (Open x)) c.deref-2.ensures.value
-    (subst (λ (y : Running). slice_get (held_by c.deref-2.result.now (s c).slab) y.message.origin.connection.0 ≡ Some (Open x)) (same c) e) in
+    subst (λ (cs : List Connection). slice_get (held_by cs (s c).slab) n ≡ Some (Open x)) c.deref.ensures.value
+    (subst (λ (y : Running). slice_get (held_by c.deref.result.now (s c).slab) y.message.origin.connection.0 ≡ Some (Open x)) (same c) e) in
     let owed = c.requires.owed n x at in
     let changed = messages-changed (room_on n) (s c).workers.items c.args.worker (worker_with (Worked (r c) (o c)) c.take_run.ensures.0)
     (worker_with Idle c.take_run.ensures.0)
@@ -237,15 +267,13 @@ module _ (c : goal.After-drop) where
   told = reply_of c.tell.new.reply
 
   is_told : told ≡ reply_told (form_of before.offer) (reply_of reply)
-  is_told = c.tell.ensures
-      ∙ ap (λ f. reply_told f (reply_of c.end_on-running.result.1)) c.handles.ensures
-      ∙ ap (λ (x : Reply). reply_told (form_of before.offer) (reply_of x)) c.end_on-running.ensures.reply
+  is_told = c.tell.ensures ∙ ap (λ f. reply_told f (reply_of reply)) c.handles.ensures
 
   among : EndsAmong before.calls before.connections.items before.slab ran told starved c.end_in-count.result c.end_in-count.new.calls
       c.end_in-count.new.slab
   among = subst (λ (cs : List Connection). EndsAmong before.calls cs before.slab ran told starved c.end_in-count.result
-      c.end_in-count.new.calls c.end_in-count.new.slab) c.deref-2.ensures.value
-      (subst (λ (x : Running). EndsAmong before.calls c.deref-2.result.now before.slab x told starved c.end_in-count.result
+      c.end_in-count.new.calls c.end_in-count.new.slab) c.deref.ensures.value
+      (subst (λ (x : Running). EndsAmong before.calls c.deref.result.now before.slab x told starved c.end_in-count.result
       c.end_in-count.new.calls c.end_in-count.new.slab) c.end_on-running.ensures.running
       c.end_in-count.ensures.ends)
 

@@ -1,113 +1,98 @@
-use Rattle.std.proofs.Common.{refl, sym, ◌∙◌, subst}
-use Rattle.nfs_model.specs.Tree.{Affinity}
-use Rattle.affinity.specs.Affinity.{affinity_of}
-use Rattle.affinity.specs.Tree.{IsNode}
-use Rattle.desk.specs.laws.Calls.{HasBegun}
-use Rattle.desk.specs.Refusal.{IsRefused}
-use Rattle.desk.specs.declared.refusal.Refusal.TheVariants.{Taken, Worn}
+use Rattle.std.proofs.Common.{◌≡◌, Result, refl, sym, ap, ◌∙◌, subst}
+use Rattle.std.specs.Prelude.{IfOk, IfErr}
+use Rattle.nfs_model.specs.Parts.{Hand}
+use Rattle.affinity.specs.Affinity.{kind_of}
+use Rattle.affinity.specs.declared.affinity.Kind.TheVariants as kinds
+use Rattle.filer_state.specs.declared.files.Files.{Files}
+use Rattle.filer_state.specs.state.Jobs.{InnerCall, inner_node}
 use Rattle.desk.specs.Words.{books}
-use Rattle.engine.specs.laws.lemmas.Happening.{book-apart}
-use Rattle.service.specs.Jobs.{inner_of}
-use Rattle.service.specs.declared.job.Job.TheVariants.{Inner}
-use Rattle.engine.proofs.Made.{may_run, may_finish, is_made, put_back, may_go_back_refused, is_refused, empty_hand, may_go_back_starved, is_starved, hand_back}
+use Rattle.service.specs.Jobs.{batch_reply_of, inner_of}
+use Rattle.service.specs.Works.{range_call_of, range_hand_of, logical_call_of, logical_hand_of, batch_call_of, batch_hand_of}
+use Rattle.service.specs.lemmas.Inner.{is-inner}
+use Rattle.service.specs.declared.job.BatchReply.{BatchReply}
+use Rattle.service.specs.declared.job.Job.{Job}
+use Rattle.service.specs.declared.job.JobReply.{JobReply}
+use Rattle.service.specs.declared.job.JobReply.TheVariants.{Moved}
+use Rattle.service.specs.declared.works.BatchWork.{BatchWork}
+use Rattle.service.specs.declared.works.RangeWork.{RangeWork}
+use Rattle.service.specs.declared.works.RangeWork.TheVariants as ranges
+use Rattle.service.specs.declared.works.LogicalWork.{LogicalWork}
+use Rattle.service.specs.declared.works.LogicalWork.TheVariants as logicals
+use Rattle.engine.specs.laws.Store.{FilerBooks}
+use Rattle.engine.specs.Inner.{IsMade, IsRefusedFor, MayMake}
 use Rattle.engine.proofs.inner.make.Goals as goal
 
--- ---- it begins
+on-range : (work : RangeWork) → kind_of (inner_node (range_call_of work)) ≡ kinds.Range
+on-range (ranges.Fetch v r) = refl
+on-range (ranges.Free v r batch) = refl
 
-pub work-requires-clause-may : goal.work-requires-clause-may
-work-requires-clause-may c =
-    may_run (books c.args.desk.now) c.args.worker (inner_of c.args.call) c.args.hand c.requires.may (books c.lend.new.desk)
-    (subst (λ (a : Affinity). HasBegun (books c.args.desk.now) c.args.worker a (books c.lend.new.desk)) c.node_of.ensures c.in-Ok.ensures.begun)
-    (book-apart _ (books c.lend.new.desk) _ c.in-Ok.ensures.kept)
+on-logical : (work : LogicalWork) → kind_of (inner_node (logical_call_of work)) ≡ kinds.VolumeLogical
+on-logical (logicals.Deliver v batch) = refl
+on-logical (logicals.Cull v) = refl
 
-pub lend-requires-clause-node : goal.lend-requires-clause-node
-lend-requires-clause-node c = subst (λ (a : Affinity). IsNode (books c.args.desk.now).layout a) (sym c.node_of.ensures) c.requires.may.node
+made-so : {E : Type 0} (b c : FilerBooks Files Job JobReply) (call : InnerCall) (work : BatchWork) → call ≡ batch_call_of work → (hand : Hand)
+    → batch_hand_of work ≡ hand → (result : Result BatchReply E) → IfOk result (λ reply. IsMade b call hand (Moved reply) c)
+    → IfOk result (λ reply. IsMade b (batch_call_of work) (batch_hand_of work) (Moved reply) c)
+made-so b c call work same hand carried result made =
+    subst (λ (k : InnerCall). IfOk result (λ reply. IsMade b k (batch_hand_of work) (Moved reply) c)) same
+    (subst (λ (h : Hand). IfOk result (λ reply. IsMade b call h (Moved reply) c)) (sym carried) made)
 
-pub lend-requires-clause-idle : goal.lend-requires-clause-idle
-lend-requires-clause-idle c = c.requires.may.idle
+-- ---- under a range
 
-pub returns-in-Err-Taken-clause-refused : goal.returns-in-Err-Taken-clause-refused
-returns-in-Err-Taken-clause-refused c =
-    subst (λ (a : Affinity). IsRefused (books c.args.desk.now) a Taken) c.node_of.ensures
-    (subst (λ r. IsRefused (books c.args.desk.now) (affinity_of c.node_of.result) r) c.in-Err-Taken.field-0-is c.in-Err-Taken.ensures.refused)
+pub make_on-requires-clause-runs : goal.make_on-requires-clause-runs
+make_on-requires-clause-runs c =
+    is-inner batch_reply_of (range_call_of c.in-Range.work) (inner_of c.call-call.result) (range_hand_of c.in-Range.work)
+    (sym (c.call-call.ensures ∙ ap batch_call_of c.in-Range.is))
 
-pub returns-in-Err-Worn-clause-refused : goal.returns-in-Err-Worn-clause-refused
-returns-in-Err-Worn-clause-refused c =
-    subst (λ (a : Affinity). IsRefused (books c.args.desk.now) a Worn) c.node_of.ensures
-    (subst (λ r. IsRefused (books c.args.desk.now) (affinity_of c.node_of.result) r) c.in-Err-Worn.field-0-is c.in-Err-Worn.ensures.refused)
+pub make_on-requires-clause-may : goal.make_on-requires-clause-may
+make_on-requires-clause-may c =
+    subst (λ (k : InnerCall). MayMake (books c.args.desk.now) c.args.worker k (range_hand_of c.in-Range.work)) (sym c.call-call.ensures)
+    (subst (λ (w : BatchWork). MayMake (books c.args.desk.now) c.args.worker (batch_call_of c.args.work) (batch_hand_of w)) c.in-Range.is c.requires.may)
 
--- ---- it is done
+pub make_on-requires-clause-kind : goal.make_on-requires-clause-kind
+make_on-requires-clause-kind c =
+    ap (λ (k : InnerCall). kind_of (inner_node k)) (c.call-call.ensures ∙ ap batch_call_of c.in-Range.is) ∙ on-range c.in-Range.work
 
-pub enter-requires-clause-may : goal.enter-requires-clause-may
-enter-requires-clause-may c =
-    may_finish (books c.args.desk.now) c.args.worker (inner_of c.args.call) c.args.hand c.requires.may (books c.lend.new.desk)
-    (subst (λ (a : Affinity). HasBegun (books c.args.desk.now) c.args.worker a (books c.lend.new.desk)) c.node_of.ensures c.in-Ok.ensures.begun)
-    (book-apart _ (books c.lend.new.desk) _ c.in-Ok.ensures.kept)
-    (books c.work.new.self) c.work.result c.work.ensures.worked c.in-Done.reply c.in-Done.is (Inner c.args.call) refl
+pub returns-in-Range-clause-made : goal.returns-in-Range-clause-made
+returns-in-Range-clause-made c =
+    made-so (books c.args.desk.now) (books c.make_on.new.desk) (inner_of c.call-call.result) c.args.work (c.call-call.ensures)
+    (range_hand_of c.in-Range.work) (ap batch_hand_of c.in-Range.is) c.make_on.result c.make_on.ensures.made
 
-pub returns-in-Done-clause-made : goal.returns-in-Done-clause-made
-returns-in-Done-clause-made c =
-    is_made (books c.args.desk.now) c.args.worker (inner_of c.args.call) c.args.hand c.requires.may (books c.lend.new.desk)
-    (subst (λ (a : Affinity). HasBegun (books c.args.desk.now) c.args.worker a (books c.lend.new.desk)) c.node_of.ensures c.in-Ok.ensures.begun)
-    (book-apart _ (books c.lend.new.desk) _ c.in-Ok.ensures.kept)
-    (books c.work.new.self) c.work.result c.work.ensures.worked c.in-Done.reply c.in-Done.is (Inner c.args.call) refl (books c.enter.new.desk)
-    c.enter.ensures.finished
+pub returns-in-Range-clause-refused : goal.returns-in-Range-clause-refused
+returns-in-Range-clause-refused c =
+    subst (λ (k : InnerCall). IfErr c.make_on.result (λ r. IsRefusedFor (books c.args.desk.now) k r.0)) c.call-call.ensures
+    c.make_on.ensures.refused
 
--- ---- it is refused
+pub returns-in-Range-clause-hand : goal.returns-in-Range-clause-hand
+returns-in-Range-clause-hand c =
+    subst (λ (h : Hand). IfErr c.make_on.result (λ r. r.1 ≡ h)) (sym (ap batch_hand_of c.in-Range.is)) c.make_on.ensures.hand
 
-pub take_back-requires-clause-may : goal.take_back-requires-clause-may
-take_back-requires-clause-may c =
-    may_go_back_refused (books c.args.desk.now) c.args.worker (inner_of c.args.call) c.args.hand c.requires.may (books c.lend.new.desk)
-    (subst (λ (a : Affinity). HasBegun (books c.args.desk.now) c.args.worker a (books c.lend.new.desk)) c.node_of.ensures c.in-Ok.ensures.begun)
-    (book-apart _ (books c.lend.new.desk) _ c.in-Ok.ensures.kept)
-    (books c.work.new.self) c.work.result c.work.ensures.worked c.in-Refused.is
+-- ---- under Logical
 
-pub returns-in-Refused-clause-refused : goal.returns-in-Refused-clause-refused
-returns-in-Refused-clause-refused c =
-    is_refused (books c.args.desk.now) c.args.worker (inner_of c.args.call) c.args.hand c.requires.may (books c.lend.new.desk)
-    (subst (λ (a : Affinity). HasBegun (books c.args.desk.now) c.args.worker a (books c.lend.new.desk)) c.node_of.ensures c.in-Ok.ensures.begun)
-    (book-apart _ (books c.lend.new.desk) _ c.in-Ok.ensures.kept)
-    (books c.work.new.self) c.work.result c.work.ensures.worked c.in-Refused.is
+pub make_on-requires-in-Logical-clause-runs : goal.make_on-requires-in-Logical-clause-runs
+make_on-requires-in-Logical-clause-runs c =
+    is-inner batch_reply_of (logical_call_of c.in-Logical.work) (inner_of c.call-call.result) (logical_hand_of c.in-Logical.work)
+    (sym (c.call-call.ensures ∙ ap batch_call_of c.in-Logical.is))
 
-pub returns-in-Refused-clause-hand : goal.returns-in-Refused-clause-hand
-returns-in-Refused-clause-hand c =
-    c.new.ensures ∙ sym (empty_hand (books c.args.desk.now) c.args.worker (inner_of c.args.call) c.args.hand c.requires.may (books c.lend.new.desk)
-    (subst (λ (a : Affinity). HasBegun (books c.args.desk.now) c.args.worker a (books c.lend.new.desk)) c.node_of.ensures c.in-Ok.ensures.begun)
-    (book-apart _ (books c.lend.new.desk) _ c.in-Ok.ensures.kept) (books c.work.new.self) c.work.result c.work.ensures.worked c.in-Refused.is)
+pub make_on-requires-in-Logical-clause-may : goal.make_on-requires-in-Logical-clause-may
+make_on-requires-in-Logical-clause-may c =
+    subst (λ (k : InnerCall). MayMake (books c.args.desk.now) c.args.worker k (logical_hand_of c.in-Logical.work)) (sym c.call-call.ensures)
+    (subst (λ (w : BatchWork). MayMake (books c.args.desk.now) c.args.worker (batch_call_of c.args.work) (batch_hand_of w)) c.in-Logical.is c.requires.may)
 
-pub returns-in-Refused-clause-same : goal.returns-in-Refused-clause-same
-returns-in-Refused-clause-same c =
-    put_back (books c.args.desk.now) c.args.worker (inner_of c.args.call) c.args.hand c.requires.may (books c.lend.new.desk)
-    (subst (λ (a : Affinity). HasBegun (books c.args.desk.now) c.args.worker a (books c.lend.new.desk)) c.node_of.ensures c.in-Ok.ensures.begun)
-    (book-apart _ (books c.lend.new.desk) _ c.in-Ok.ensures.kept)
-    (books c.work.new.self) c.work.result c.work.ensures.worked (books c.take_back.new.desk) c.take_back.ensures.back
+pub make_on-requires-in-Logical-clause-kind : goal.make_on-requires-in-Logical-clause-kind
+make_on-requires-in-Logical-clause-kind c =
+    ap (λ (k : InnerCall). kind_of (inner_node k)) (c.call-call.ensures ∙ ap batch_call_of c.in-Logical.is) ∙ on-logical c.in-Logical.work
 
--- ---- there is no memory
+pub returns-in-Logical-clause-made : goal.returns-in-Logical-clause-made
+returns-in-Logical-clause-made c =
+    made-so (books c.args.desk.now) (books c.make_on-in-Logical.new.desk) (inner_of c.call-call.result) c.args.work (c.call-call.ensures)
+    (logical_hand_of c.in-Logical.work) (ap batch_hand_of c.in-Logical.is) c.make_on-in-Logical.result c.make_on-in-Logical.ensures.made
 
-pub take_back-requires-in-NoMemory-clause-may : goal.take_back-requires-in-NoMemory-clause-may
-take_back-requires-in-NoMemory-clause-may c =
-    may_go_back_starved (books c.args.desk.now) c.args.worker (inner_of c.args.call) c.args.hand c.requires.may (books c.lend.new.desk)
-    (subst (λ (a : Affinity). HasBegun (books c.args.desk.now) c.args.worker a (books c.lend.new.desk)) c.node_of.ensures c.in-Ok.ensures.begun)
-    (book-apart _ (books c.lend.new.desk) _ c.in-Ok.ensures.kept)
-    (books c.work.new.self) c.work.result c.work.ensures.worked c.in-NoMemory.hand c.in-NoMemory.is
+pub returns-in-Logical-clause-refused : goal.returns-in-Logical-clause-refused
+returns-in-Logical-clause-refused c =
+    subst (λ (k : InnerCall). IfErr c.make_on-in-Logical.result (λ r. IsRefusedFor (books c.args.desk.now) k r.0)) c.call-call.ensures
+    c.make_on-in-Logical.ensures.refused
 
-pub returns-in-NoMemory-clause-refused : goal.returns-in-NoMemory-clause-refused
-returns-in-NoMemory-clause-refused c =
-    is_starved (books c.args.desk.now) c.args.worker (inner_of c.args.call) c.args.hand c.requires.may (books c.lend.new.desk)
-    (subst (λ (a : Affinity). HasBegun (books c.args.desk.now) c.args.worker a (books c.lend.new.desk)) c.node_of.ensures c.in-Ok.ensures.begun)
-    (book-apart _ (books c.lend.new.desk) _ c.in-Ok.ensures.kept)
-    (books c.work.new.self) c.work.result c.work.ensures.worked c.in-NoMemory.hand c.in-NoMemory.is
-
-pub returns-in-NoMemory-clause-hand : goal.returns-in-NoMemory-clause-hand
-returns-in-NoMemory-clause-hand c =
-    hand_back (books c.args.desk.now) c.args.worker (inner_of c.args.call) c.args.hand c.requires.may (books c.lend.new.desk)
-    (subst (λ (a : Affinity). HasBegun (books c.args.desk.now) c.args.worker a (books c.lend.new.desk)) c.node_of.ensures c.in-Ok.ensures.begun)
-    (book-apart _ (books c.lend.new.desk) _ c.in-Ok.ensures.kept)
-    (books c.work.new.self) c.work.result c.work.ensures.worked c.in-NoMemory.hand c.in-NoMemory.is
-
-pub returns-in-NoMemory-clause-same : goal.returns-in-NoMemory-clause-same
-returns-in-NoMemory-clause-same c =
-    put_back (books c.args.desk.now) c.args.worker (inner_of c.args.call) c.args.hand c.requires.may (books c.lend.new.desk)
-    (subst (λ (a : Affinity). HasBegun (books c.args.desk.now) c.args.worker a (books c.lend.new.desk)) c.node_of.ensures c.in-Ok.ensures.begun)
-    (book-apart _ (books c.lend.new.desk) _ c.in-Ok.ensures.kept)
-    (books c.work.new.self) c.work.result c.work.ensures.worked (books c.take_back-in-NoMemory.new.desk) c.take_back-in-NoMemory.ensures.back
+pub returns-in-Logical-clause-hand : goal.returns-in-Logical-clause-hand
+returns-in-Logical-clause-hand c =
+    subst (λ (h : Hand). IfErr c.make_on-in-Logical.result (λ r. r.1 ≡ h)) (sym (ap batch_hand_of c.in-Logical.is)) c.make_on-in-Logical.ensures.hand

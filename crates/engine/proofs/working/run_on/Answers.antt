@@ -20,7 +20,7 @@ work-outcome-requires-clause-may c =
 pub recount-requires-clause-may : goal.recount-requires-clause-may
 recount-requires-clause-may c =
     may-recount _ (books c.args.desk.now) (books c.work-outcome.new.self) c.args.worker c.work-outcome.result c.work-outcome.ensures.worked
-    c.args.counts.now.items c.requires.counted c.args.running.now.message.call c.requires.may
+    c.args.counts.now.items c.requires.counted
 
 pub returns-clause-worked : goal.returns-clause-worked
 returns-clause-worked c =

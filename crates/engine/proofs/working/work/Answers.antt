@@ -1,9 +1,9 @@
-use Rattle.std.proofs.Common.{◌≡◌, ℕ, ◌+◌, ◌≤◌, List, ◌∙◌, Some, None, Ok, refl, sym, ap, subst, inl}
+use Rattle.std.proofs.Common.{◌≡◌, ℕ, ◌+◌, ◌≤◌, List, ◌∙◌, Some, None, Ok, refl, sym, ap, subst, inl, arith}
 use Rattle.std.specs.Prelude.{◌^◌, length, slice_get, slice_set}
 use Rattle.std.specs.List.{AllByRecursion}
-use Rattle.std.specs.Option.{option_copied}
 use Rattle.std.specs.Global.{Vec}
 use Rattle.std.proofs.lemmas.List.{length-set}
+use Rattle.std.proofs.lemmas.Option.{slice_get_past}
 use Rattle.nfs_model.specs.Tree.{Layout}
 use Rattle.nfs_model.specs.Parts.{Hand}
 use Rattle.nfs_model.specs.Work.{Store}
@@ -15,7 +15,7 @@ use Rattle.nfs_model.specs.Events.Step as steps
 use Rattle.nfs_values.specs.declared.call.Call.{Call}
 use Rattle.nfs_values.specs.Credential.{credential_of}
 use Rattle.nfs_values.specs.Moment.{moment_of}
-use Rattle.affinity.specs.Affinity.{affinity_of}
+use Rattle.affinity.specs.Affinity.{home_node}
 use Rattle.scheduler.specs.declared.message.Message.{Message}
 use Rattle.depot_rule.specs.Sums.{total}
 use Rattle.filer_state.specs.state.Parcels.{FilerParcel}
@@ -39,30 +39,105 @@ use Rattle.service.specs.declared.outcome.Outcome.{Outcome}
 use Rattle.engine_feed.specs.Seen.{layout_in, messages_of, running_count}
 use Rattle.engine.specs.declared.worker.Running.{Running}
 use Rattle.engine.specs.declared.worker.Worker.{Worker}
-use Rattle.engine.specs.declared.worker.WorkerRun.{WorkerRun}
-use Rattle.engine.specs.declared.worker.WorkerRun.TheVariants.{Begun, Worked}
+use Rattle.engine.specs.declared.worker.WorkerRun.TheVariants.{Idle, Begun, Worked}
+use Rattle.engine.specs.counts.Counts.{world_counts}
 use Rattle.engine.specs.Seen.{held_in, running_as, worker_seen, setup_in, world, done_of}
 use Rattle.engine.specs.Workers.{worker_with}
 use Rattle.engine.specs.Sound.{IsReady, IsPlaced, MayEnd, running_messages, room_on}
 use Rattle.engine.proofs.Counted.{stands-counted}
 use Rattle.engine.proofs.Lists.{all-at, all-set}
-use Rattle.engine.proofs.Workers.{seen-at, ran-here, runs-then, work-again, work-idle, work-nobody, in-vector, in-room}
-use Rattle.engine.proofs.Worked.{running-set, same-begun, few-stamps, may-work, has-worked, worked-world, world_with, told-done, roomy-now, may-end}
+use Rattle.engine.proofs.Workers.{seen-at, runs-then, runs-again, idle-same, taken-there, work-again, work-idle, work-nobody, in-room}
+use Rattle.engine.proofs.Changed.{still-setup, still-sound, still-world}
+use Rattle.engine.proofs.Worked.{running-set, few-stamps, may-work, has-worked, worked-world, world_with, told-done, roomy-now, may-end}
 use Rattle.engine.proofs.working.work.Goals as goal
+
+-- ---- it is refused
+
+pub returns-then-worker-len-clause-events : goal.returns-then-worker-len-clause-events
+returns-then-worker-len-clause-events c =
+    let s = c.args.state.now in
+    let past = c.if-worker-len.true in
+    let count = c.len.ensures in
+    let size = s.workers.ok.0 in
+    let most : length s.workers.items ≤ c.args.worker = omega (arith, past, count, size) in
+    (inl (work-nobody s.workers.items c.args.worker (setup_in s) (world s) refl (slice_get_past s.workers.items c.args.worker most)), refl)
+
+pub take_run-requires : goal.take_run-requires
+take_run-requires c =
+    let within = c.if-worker-len.false in
+    let count = c.len.ensures in
+    let size = c.args.state.now.workers.ok.0 in
+    omega (arith, within, count, size)
+
+pub set_run-requires : goal.set_run-requires
+set_run-requires c = in-room c.args.state.now.workers c.take_run.new.workers c.args.worker _ _ c.take_run.ensures.1 c.take_run.ensures.2
+
+module _ (c : goal.After-set_run) where
+  put_again : c.set_run.new.workers.items ≡ c.args.state.now.workers.items
+  put_again = runs-again c.args.state.now.workers c.take_run.new.workers c.args.worker c.take_run.result c.take_run.ensures
+      (Worked c.in-Worked.running c.in-Worked.outcome) c.set_run.new.workers c.in-Worked.is c.set_run.ensures
+
+pub returns-in-Worked-clause-events : goal.returns-in-Worked-clause-events
+returns-in-Worked-clause-events c =
+    let s = c.args.state.now in
+    let i = c.args.worker in (
+      inl (work-again s.workers.items i (setup_in s) (world s) refl c.in-Worked.running c.in-Worked.outcome c.take_run.ensures.0
+          (taken-there s.workers c.take_run.new.workers i c.take_run.result c.take_run.ensures (Worked c.in-Worked.running c.in-Worked.outcome)
+          c.in-Worked.is)),
+      still-world s c.set_run.new.workers (put_again c),
+    )
+
+pub returns-in-Worked-clause-setup : goal.returns-in-Worked-clause-setup
+returns-in-Worked-clause-setup c = still-setup c.args.state.now c.set_run.new.workers (put_again c)
+
+pub returns-in-Worked-clause-sound : goal.returns-in-Worked-clause-sound
+returns-in-Worked-clause-sound c = still-sound c.args.state.now c.set_run.new.workers (put_again c) c.requires.whole.0
+
+pub returns-in-Worked-clause-counted : goal.returns-in-Worked-clause-counted
+returns-in-Worked-clause-counted c =
+    c.requires.counted ∙ ap (λ (w : World). world_counts w) (sym (still-world c.args.state.now c.set_run.new.workers (put_again c)))
+
+pub returns-in-Idle-clause-events : goal.returns-in-Idle-clause-events
+returns-in-Idle-clause-events c =
+    let s = c.args.state.now in
+    let i = c.args.worker in (
+      inl (work-idle s.workers.items i (setup_in s) (world s) refl c.take_run.ensures.0
+          (taken-there s.workers c.take_run.new.workers i c.take_run.result c.take_run.ensures Idle c.in-Idle.is)),
+      still-world s c.take_run.new.workers
+          (idle-same s.workers c.take_run.new.workers i c.take_run.result c.take_run.ensures c.in-Idle.is),
+    )
+
+pub returns-in-Idle-clause-setup : goal.returns-in-Idle-clause-setup
+returns-in-Idle-clause-setup c =
+    still-setup c.args.state.now c.take_run.new.workers
+    (idle-same c.args.state.now.workers c.take_run.new.workers c.args.worker c.take_run.result c.take_run.ensures c.in-Idle.is)
+
+pub returns-in-Idle-clause-sound : goal.returns-in-Idle-clause-sound
+returns-in-Idle-clause-sound c =
+    still-sound c.args.state.now c.take_run.new.workers
+    (idle-same c.args.state.now.workers c.take_run.new.workers c.args.worker c.take_run.result c.take_run.ensures c.in-Idle.is)
+    c.requires.whole.0
+
+pub returns-in-Idle-clause-counted : goal.returns-in-Idle-clause-counted
+returns-in-Idle-clause-counted c =
+    c.requires.counted
+    ∙ ap (λ (w : World). world_counts w) (sym (still-world c.args.state.now c.take_run.new.workers
+    (idle-same c.args.state.now.workers c.take_run.new.workers c.args.worker c.take_run.result c.take_run.ensures c.in-Idle.is)))
+
+-- ---- it is run
 
 pub run_on-outcome-requires-clause-may : goal.run_on-outcome-requires-clause-may
 run_on-outcome-requires-clause-may c =
     let s = c.args.state.now in
     let i = c.args.worker in
-    let r = c.in-Some-Begun.running in
+    let r = c.in-Begun.running in
     let sound = c.requires.whole.0 in
-    let found = ran-here s.workers.items c.deref.result.now c.args.worker (option_copied c.run_at.result) c.deref.ensures.value c.run_at.ensures (Begun r)
-    (ap option_copied c.in-Some-Begun.is ∙ ap Some c.in-Some-Begun.field-0-is) in
-    let ran : Worker = worker_with (Begun r) found.0 in
-    let placed = (all-at (IsReady (layout_in s.calls) (length (held_in s))) s.workers.items i ran sound.workers found.1).0 in
-    may-work job_of job_reply_of (setup_in s) (world s) (books s.desk) sound.stands i (worker_seen ran) (seen-at s.workers.items i ran found.1)
+    let found = taken-there s.workers c.take_run.new.workers i c.take_run.result c.take_run.ensures (Begun r) c.in-Begun.is in
+    let ran : Worker = worker_with (Begun r) c.take_run.ensures.0 in
+    let placed = (all-at (IsReady (layout_in s.calls) (length (held_in s))) s.workers.items i ran sound.workers found).0 in
+    may-work job_of job_reply_of (setup_in s) (world s) (books s.desk) sound.stands i (worker_seen ran) (seen-at s.workers.items i ran found)
     (running_as r None) refl refl (few-stamps _ (running_count s.calls) sound.stamps) r.message.call
-    (subst (λ (l : Layout). IsRunAt l r.message.call (affinity_of r.message.affinity)) (sym sound.layout) placed.run)
+    (subst (λ (l : Layout). IsRunAt l r.message.call (home_node r.message.affinity)) (sym sound.layout) placed.run)
 
 pub run_on-outcome-requires-clause-counted : goal.run_on-outcome-requires-clause-counted
 run_on-outcome-requires-clause-counted c =
@@ -74,43 +149,12 @@ run_on-outcome-requires-clause-sized c =
     let s = c.args.state.now in
     now-sized job_of job_reply_of (setup_in s) (world s) (books s.desk) c.requires.whole.0.stands
 
-pub returns-in-Some-Worked-clause-events : goal.returns-in-Some-Worked-clause-events
-returns-in-Some-Worked-clause-events c =
-    let s = c.args.state.now in (
-      inl (work-again s.workers.items c.deref.result.now c.args.worker (option_copied c.run_at.result) c.deref.ensures.value c.run_at.ensures (setup_in s)
-          (world s) refl _ _ (ap option_copied c.in-Some-Worked.is ∙ ap Some c.in-Some-Worked.field-0-is)),
-      refl,
-    )
-
-pub returns-in-Some-Idle-clause-events : goal.returns-in-Some-Idle-clause-events
-returns-in-Some-Idle-clause-events c =
-    let s = c.args.state.now in (
-      inl (work-idle s.workers.items c.deref.result.now c.args.worker (option_copied c.run_at.result) c.deref.ensures.value c.run_at.ensures (setup_in s)
-          (world s) refl (ap option_copied c.in-Some-Idle.is ∙ ap Some c.in-Some-Idle.field-0-is)),
-      refl,
-    )
-
-pub returns-in-None-clause-events : goal.returns-in-None-clause-events
-returns-in-None-clause-events c =
-    let s = c.args.state.now in (
-      inl (work-nobody s.workers.items c.deref.result.now c.args.worker (option_copied c.run_at.result) c.deref.ensures.value c.run_at.ensures (setup_in s)
-          (world s) refl (ap option_copied c.in-None.is)),
-      refl,
-    )
-
-pub take_run-requires : goal.take_run-requires
-take_run-requires c =
-    let s = c.args.state.now in
-    in-vector s.workers c.args.worker _
-    (ran-here s.workers.items c.deref.result.now c.args.worker (option_copied c.run_at.result) c.deref.ensures.value c.run_at.ensures
-    (Begun c.in-Some-Begun.running) (ap option_copied c.in-Some-Begun.is ∙ ap Some c.in-Some-Begun.field-0-is)).1
-
-pub set_run-requires : goal.set_run-requires
-set_run-requires c = in-room c.args.state.now.workers c.take_run.new.workers c.args.worker _ _ c.take_run.ensures.1 c.take_run.ensures.2
+pub set_run-requires-2 : goal.set_run-requires-2
+set_run-requires-2 c = in-room c.args.state.now.workers c.take_run.new.workers c.args.worker _ _ c.take_run.ensures.1 c.take_run.ensures.2
 
 -- ---- what was worked
 
-module _ (c : goal.After-set_run) where
+module _ (c : goal.After-set_run-2) where
   abbrev i : ℕ
   i = c.args.worker
 
@@ -127,7 +171,7 @@ module _ (c : goal.After-set_run) where
   ks = c.args.state.now.workers.items
 
   abbrev r : Running
-  r = c.in-Some-Begun.running
+  r = c.in-Begun.running
 
   abbrev o : Outcome
   o = c.run_on-outcome.result
@@ -141,7 +185,7 @@ module _ (c : goal.After-set_run) where
 
   -- the workers after it
   abbrev ks' : List Worker
-  ks' = c.set_run.new.workers.items
+  ks' = c.set_run-2.new.workers.items
 
   abbrev Serves : Call → Does (FilerParcel Files) Outcome
   Serves call layout node before x end =
@@ -157,22 +201,11 @@ module _ (c : goal.After-set_run) where
   abbrev hand : Hand
   hand = c.take_run.ensures.0
 
-  taken : slice_get ks i ≡ Some (worker_with (Begun c.in-Begun.running) hand)
-  taken = c.take_run.ensures.1 ∙ ap (λ (x : WorkerRun). Some (worker_with x hand)) c.in-Begun.is
-
-  looked : (found : Hand) × (slice_get ks i ≡ Some (worker_with (Begun r) found))
-  looked = ran-here ks c.deref.result.now i (option_copied c.run_at.result) c.deref.ensures.value c.run_at.ensures (Begun r)
-      (ap option_copied c.in-Some-Begun.is ∙ ap Some c.in-Some-Begun.field-0-is)
-
-  -- the message that is taken out is the one that was looked at
-  same : c.in-Begun.running ≡ r
-  same = same-begun ks i c.in-Begun.running r looked.0 hand looked.1 taken
-
   abbrev ran : Worker
   ran = worker_with (Begun r) hand
 
   there : slice_get ks i ≡ Some ran
-  there = taken ∙ ap (λ (x : Running). Some (worker_with (Begun x) hand)) same
+  there = taken-there c.args.state.now.workers c.take_run.new.workers i c.take_run.result c.take_run.ensures (Begun r) c.in-Begun.is
 
   seen : slice_get old.workers i ≡ Some (worker_seen ran)
   seen = seen-at ks i ran there
@@ -189,10 +222,9 @@ module _ (c : goal.After-set_run) where
 
   are : ks' ≡ slice_set ks i (worker_with (Worked r o) hand)
   are =
-      let put = c.set_run.ensures in
-      runs-then ks c.take_run.new.workers.items ks' i (Begun r) (Worked c.in-Begun.running o) put.0 hand put.1 there
+      let put = c.set_run-2.ensures in
+      runs-then ks c.take_run.new.workers.items ks' i (Begun r) (Worked r o) put.0 hand put.1 there
       (ap (λ (v : Vec Worker). v.items) c.take_run.ensures.2) put.2 (ap (λ (v : Vec Worker). v.items) put.3)
-      ∙ ap (λ (x : Running). slice_set ks i (worker_with (Worked x o) hand)) same
 
   abbrev new : World
   new = world_with old next ks'
@@ -213,7 +245,7 @@ module _ (c : goal.After-set_run) where
   stands : StandsFor job_of job_reply_of setup_new new next
   stands =
       let apart = book-apart _ next _ c.run_on-outcome.ensures.kept in
-      let tried = run-tried L r.message.call (credential_of r.message.credential) (affinity_of r.message.affinity) placed.run in
+      let tried = run-tried L r.message.call (credential_of r.message.credential) (home_node r.message.affinity) placed.run in
       let then = worked-stands job_of job_reply_of setup old b c.requires.whole.0.stands i (worker_seen ran) seen (running_as r None)
       refl refl (outcome_of o) next served apart tried in
       subst (λ (x : Setup). StandsFor job_of job_reply_of x new next) (sym setup_is)

@@ -13,7 +13,7 @@ use Rattle.filer_state.specs.state.Sets.{serial_set}
 use Rattle.service.specs.totals.CensusLaws.{census_task}
 use Rattle.service.specs.totals.Running.{RunsOnAll}
 use Rattle.service.specs.Running.{outcome_of}
-use Rattle.service.specs.lemmas.Homes.{only-census}
+use Rattle.service.specs.lemmas.Homes.{is-census}
 use Rattle.service.proofs.in_serial.run_on_serial.Goals as goal
 
 pub returns : goal.returns
@@ -24,11 +24,7 @@ returns c =
     let moment = moment_of c.args.run.moment in
     record {
       runs = subst (λ (call : Call). RunsOnAll L serial_lens (task_under Serial (Ask (call_of call) credential) moment) set
-          (outcome_of c.outcome_counted.result) set) (sym c.in-Census.is)
+          (outcome_of c.outcome_counted.result) set) (sym (is-census L c.args.run.call.now c.requires.at))
           (subst (λ (o : Outcome). RunsOnAll L serial_lens (census_task credential moment) set o set) (sym c.outcome_counted.ensures)
           (c.census.ensures.right credential moment));
     }
-
-pub unreachable-requires : goal.unreachable-requires
-unreachable-requires c =
-    only-census (layout_of c.args.layout.now) c.args.run.call.now c.requires.at c.in_default.not-Census

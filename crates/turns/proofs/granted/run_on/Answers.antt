@@ -1,4 +1,4 @@
-use Rattle.std.proofs.Common.{sym, subst}
+use Rattle.std.proofs.Common.{sym, ap, ◌∙◌, subst}
 use Rattle.nfs_model.specs.Tree.{Layout}
 use Rattle.nfs_values.specs.declared.call.Call.{Call}
 use Rattle.affinity.specs.Tree.{IsNode}
@@ -6,6 +6,7 @@ use Rattle.parcels.specs.Exact.{kind_in}
 use Rattle.desk.specs.Any.{node_lent}
 use Rattle.desk.specs.laws.Backing.{IsWhole}
 use Rattle.service.specs.Running.{AsksFor, IsRunAt}
+use Rattle.service.specs.declared.outcome.Outcome.TheVariants.{Replied}
 use Rattle.turns.specs.Words.{layout_in}
 use Rattle.turns.proofs.Grants.{granted}
 use Rattle.turns.proofs.Runs.{ran-from}
@@ -39,7 +40,7 @@ pub returns-in-Replied : goal.returns-in-Replied
 returns-in-Replied g c = record {
   ran = record {
     outcome = c.work_node.result;
-    says = (c.in-Replied.reply, c.in-Replied.is, c.tell.ensures);
+    says = c.in-Replied.is ∙ ap Replied (sym c.tell.ensures);
     ran = ran-from (layout_in c.args.filer.now) _ c.layout-layout.ensures c.args.envelope.now c.asked.result.0.now c.asked.result.1
         c.asked.ensures.call c.asked.ensures.credential c.args.moment c.work_node.result (λ (x : Layout). node_lent x c.args.grant.now)
         (λ (x : Layout). node_lent x c.work_node.new.node) c.work_node.ensures.done c.work_node.ensures.whole;

@@ -1,4 +1,4 @@
-use Rattle.std.proofs.Common.{◌≡◌, sym, ◌∙◌, subst}
+use Rattle.std.proofs.Common.{◌≡◌, Err, sym, ap, ◌∙◌, subst}
 use Rattle.nfs_model.specs.Parts.{Empty}
 use Rattle.depot.specs.Words.{view}
 use Rattle.desk.specs.Any.{node_lent}
@@ -24,7 +24,7 @@ returns-in-Err-clause-carried g c =
     let v = view c.args.seat.now in
     let w = view c.run_inner.new.seat in
     let call = inner_of c.args.call in (
-      c.in-Err.ensures.hand,
+      c.into_hand.ensures ∙ ap (λ x. g.W.HandWork.carried x) c.in-Err.ensures.back,
       refused-entries L v w (node_tried call) c.in-Err.refusal c.in-Err.ensures.refused,
       subst (λ (r : TendRefusal). IsRefusedFor L v call r w) (sym c.refused.ensures) (refused-for L v w call c.in-Err.refusal c.in-Err.ensures.refused),
     )
@@ -37,32 +37,33 @@ finish_node-requires-clause-can g c =
     let v = view c.args.seat.now in
     let w = view c.run_inner.new.seat in
     let call = inner_of c.args.call in
-    may-finish L c.args.filer.now.depot.layout.lawful c.args.call c.args.hand v w c.requires.may
+    may-finish L c.args.filer.now.depot.layout.lawful c.args.call (g.W.HandWork.carried c.args.work) v w c.requires.may
     c.requires.seat.1.0 c.run_inner.ensures.seat.1.0
-    c.in-Ok.ran.outcome c.in-Ok.ran.told (node_lent L c.in-Ok.ran.grant) c.in-Ok.ensures.ran c.in-Done.reply c.in-Done.is
+    c.in-Ok.ran.outcome c.in-Ok.ran.told (node_lent L c.in-Ok.ran.grant) c.in-Ok.ensures.ran c.in-Ok-outcome.reply c.in-Ok-outcome.is
 
-pub returns-in-Done-clause-ready : goal.returns-in-Done-clause-ready
-returns-in-Done-clause-ready g c =
+pub returns-in-Ok-outcome-clause-ready : goal.returns-in-Ok-outcome-clause-ready
+returns-in-Ok-outcome-clause-ready g c =
     let L = layout_in c.args.filer.now in
     let v = view c.args.seat.now in
     let w = view c.run_inner.new.seat in
     let call = inner_of c.args.call in
     let u = view c.finish_node.new.seat in
-    made-ready L c.args.filer.now.depot.layout.lawful c.args.call c.args.hand v w c.requires.may
+    made-ready L c.args.filer.now.depot.layout.lawful c.args.call (g.W.HandWork.carried c.args.work) v w c.requires.may
     c.requires.seat.1.0 c.run_inner.ensures.seat.1.0
-    c.in-Ok.ran.outcome c.in-Ok.ran.told (node_lent L c.in-Ok.ran.grant) c.in-Ok.ensures.ran c.in-Done.reply c.in-Done.is u
+    c.in-Ok.ran.outcome c.in-Ok.ran.told (node_lent L c.in-Ok.ran.grant) c.in-Ok.ensures.ran c.in-Ok-outcome.reply c.in-Ok-outcome.is u
     c.finish_node.ensures.finished (verifier_in c.args.filer.now) c.requires.ready
 
-pub returns-in-Done-clause-carried : goal.returns-in-Done-clause-carried
-returns-in-Done-clause-carried g c =
+pub returns-in-Ok-outcome-clause-carried : goal.returns-in-Ok-outcome-clause-carried
+returns-in-Ok-outcome-clause-carried g c =
     let L = layout_in c.args.filer.now in
     let v = view c.args.seat.now in
     let w = view c.run_inner.new.seat in
     let call = inner_of c.args.call in
     let u = view c.finish_node.new.seat in
-    has-carried L c.args.filer.now.depot.layout.lawful c.args.call c.args.hand v w c.requires.may
+    has-carried L c.args.filer.now.depot.layout.lawful c.args.call (g.W.HandWork.carried c.args.work) v w c.requires.may
     c.requires.seat.1.0 c.run_inner.ensures.seat.1.0
-    c.in-Ok.ran.outcome c.in-Ok.ran.told (node_lent L c.in-Ok.ran.grant) c.in-Ok.ensures.ran c.in-Done.reply c.in-Done.is u c.finish_node.ensures.finished
+    c.in-Ok.ran.outcome c.in-Ok.ran.told (node_lent L c.in-Ok.ran.grant) c.in-Ok.ensures.ran c.in-Ok-outcome.reply c.in-Ok-outcome.is u
+    c.finish_node.ensures.finished
 
 -- ---- it is refused
 
@@ -72,62 +73,66 @@ put_back_node-requires-clause-can g c =
     let v = view c.args.seat.now in
     let w = view c.run_inner.new.seat in
     let call = inner_of c.args.call in
-    unused-goes-back L c.args.filer.now.depot.layout.lawful c.args.call c.args.hand v w c.requires.may
+    unused-goes-back L c.args.filer.now.depot.layout.lawful c.args.call (g.W.HandWork.carried c.args.work) v w c.requires.may
     c.requires.seat.1.0 c.run_inner.ensures.seat.1.0
-    c.in-Ok.ran.outcome c.in-Ok.ran.told (node_lent L c.in-Ok.ran.grant) c.in-Ok.ensures.ran c.in-Refused.is
+    c.in-Ok.ran.outcome c.in-Ok.ran.told (node_lent L c.in-Ok.ran.grant) c.in-Ok.ensures.ran (c.in-Err-NoSuchRange.is ∙ ap Err c.in-Err-NoSuchRange.field-0-is)
 
-pub returns-in-Refused-clause-ready : goal.returns-in-Refused-clause-ready
-returns-in-Refused-clause-ready g c =
+pub returns-in-Err-NoSuchRange-clause-ready : goal.returns-in-Err-NoSuchRange-clause-ready
+returns-in-Err-NoSuchRange-clause-ready g c =
     let L = layout_in c.args.filer.now in
     let v = view c.args.seat.now in
     let w = view c.run_inner.new.seat in
     let call = inner_of c.args.call in
     let u = view c.put_back_node.new.seat in
-    left-ready L c.args.filer.now.depot.layout.lawful c.args.call c.args.hand v w c.requires.may
+    left-ready L c.args.filer.now.depot.layout.lawful c.args.call (g.W.HandWork.carried c.args.work) v w c.requires.may
     c.requires.seat.1.0 c.run_inner.ensures.seat.1.0
     c.in-Ok.ran.outcome c.in-Ok.ran.told (node_lent L c.in-Ok.ran.grant) c.in-Ok.ensures.ran u c.put_back_node.ensures.ended
     (verifier_in c.args.filer.now) c.requires.ready
 
-pub returns-in-Refused-clause-carried : goal.returns-in-Refused-clause-carried
-returns-in-Refused-clause-carried g c =
+pub returns-in-Err-NoSuchRange-clause-carried : goal.returns-in-Err-NoSuchRange-clause-carried
+returns-in-Err-NoSuchRange-clause-carried g c =
     let L = layout_in c.args.filer.now in
     let v = view c.args.seat.now in
     let w = view c.run_inner.new.seat in
     let call = inner_of c.args.call in
     let u = view c.put_back_node.new.seat in
-    let empty : c.args.hand ≡ Empty = empty-hand L c.args.filer.now.depot.layout.lawful c.args.call c.args.hand v w c.requires.may
+    let empty : g.W.HandWork.carried c.args.work ≡ Empty = empty-hand L c.args.filer.now.depot.layout.lawful c.args.call (g.W.HandWork.carried c.args.work) v
+    w c.requires.may
     c.requires.seat.1.0 c.run_inner.ensures.seat.1.0
-    c.in-Ok.ran.outcome c.in-Ok.ran.told (node_lent L c.in-Ok.ran.grant) c.in-Ok.ensures.ran c.in-Refused.is in (
+    c.in-Ok.ran.outcome c.in-Ok.ran.told (node_lent L c.in-Ok.ran.grant) c.in-Ok.ensures.ran
+    (c.in-Err-NoSuchRange.is ∙ ap Err c.in-Err-NoSuchRange.field-0-is) in (
       c.new.ensures ∙ sym empty,
-      left-entries L c.args.filer.now.depot.layout.lawful c.args.call c.args.hand v w c.requires.may
+      left-entries L c.args.filer.now.depot.layout.lawful c.args.call (g.W.HandWork.carried c.args.work) v w c.requires.may
           c.requires.seat.1.0 c.run_inner.ensures.seat.1.0
           c.in-Ok.ran.outcome c.in-Ok.ran.told (node_lent L c.in-Ok.ran.grant) c.in-Ok.ensures.ran u
           c.put_back_node.ensures.ended,
-      is-unused L c.args.filer.now.depot.layout.lawful c.args.call c.args.hand v w c.requires.may
+      is-unused L c.args.filer.now.depot.layout.lawful c.args.call (g.W.HandWork.carried c.args.work) v w c.requires.may
           c.requires.seat.1.0 c.run_inner.ensures.seat.1.0
-          c.in-Ok.ran.outcome c.in-Ok.ran.told (node_lent L c.in-Ok.ran.grant) c.in-Ok.ensures.ran c.in-Refused.is,
+          c.in-Ok.ran.outcome c.in-Ok.ran.told (node_lent L c.in-Ok.ran.grant) c.in-Ok.ensures.ran
+          (c.in-Err-NoSuchRange.is ∙ ap Err c.in-Err-NoSuchRange.field-0-is),
     )
 
 -- ---- there is no memory
 
-pub put_back_node-requires-in-NoMemory-clause-can : goal.put_back_node-requires-in-NoMemory-clause-can
-put_back_node-requires-in-NoMemory-clause-can g c =
+pub put_back_node-requires-in-Err-NoMemory-clause-can : goal.put_back_node-requires-in-Err-NoMemory-clause-can
+put_back_node-requires-in-Err-NoMemory-clause-can g c =
     let L = layout_in c.args.filer.now in
     let v = view c.args.seat.now in
     let w = view c.run_inner.new.seat in
     let call = inner_of c.args.call in
-    starved-goes-back L c.args.filer.now.depot.layout.lawful c.args.call c.args.hand v w c.requires.may
+    starved-goes-back L c.args.filer.now.depot.layout.lawful c.args.call (g.W.HandWork.carried c.args.work) v w c.requires.may
     c.requires.seat.1.0 c.run_inner.ensures.seat.1.0
-    c.in-Ok.ran.outcome c.in-Ok.ran.told (node_lent L c.in-Ok.ran.grant) c.in-Ok.ensures.ran c.in-NoMemory.hand c.in-NoMemory.is
+    c.in-Ok.ran.outcome c.in-Ok.ran.told (node_lent L c.in-Ok.ran.grant) c.in-Ok.ensures.ran
+    c.in-Err-NoMemory.hand (c.in-Err-NoMemory.is ∙ ap Err c.in-Err-NoMemory.field-0-is)
 
-pub returns-in-NoMemory-clause-ready : goal.returns-in-NoMemory-clause-ready
-returns-in-NoMemory-clause-ready g c =
+pub returns-in-Err-NoMemory-clause-ready : goal.returns-in-Err-NoMemory-clause-ready
+returns-in-Err-NoMemory-clause-ready g c =
     let L = layout_in c.args.filer.now in
     let v = view c.args.seat.now in
     let w = view c.run_inner.new.seat in
     let call = inner_of c.args.call in
-    let u = view c.put_back_node-in-NoMemory.new.seat in
-    left-ready L c.args.filer.now.depot.layout.lawful c.args.call c.args.hand v w c.requires.may
+    let u = view c.put_back_node-in-Err-NoMemory.new.seat in
+    left-ready L c.args.filer.now.depot.layout.lawful c.args.call (g.W.HandWork.carried c.args.work) v w c.requires.may
     c.requires.seat.1.0 c.run_inner.ensures.seat.1.0
     c.in-Ok.ran.outcome c.in-Ok.ran.told (node_lent L c.in-Ok.ran.grant) c.in-Ok.ensures.ran u
-    c.put_back_node-in-NoMemory.ensures.ended (verifier_in c.args.filer.now) c.requires.ready
+    c.put_back_node-in-Err-NoMemory.ensures.ended (verifier_in c.args.filer.now) c.requires.ready

@@ -5,6 +5,7 @@ use Rattle.depot.specs.Words.{view}
 use Rattle.desk.specs.Any.{node_lent}
 use Rattle.outboxes.specs.Boxes.{Addressed}
 use Rattle.service.specs.declared.job.Job.TheVariants.{Serve}
+use Rattle.service.specs.declared.job.JobReply.TheVariants.{Replied}
 use Rattle.service.specs.declared.job.ServedCall.{ServedCall}
 use Rattle.turns.specs.Telling.{TookTold}
 use Rattle.turns.specs.declared.linking.Tried.{Tried}
@@ -21,9 +22,8 @@ returns-in-Entered-clause-ended g c =
     let w = view c.args.seat.now in
     let u = view c.finish_node.new.seat in
     subst (λ (t : Tried). HasEnded took L w l t c.args.told.now c.args.sink.now u c.in-Entered.next c.take_answer.new.self) (sym c.in-Entered.is) (
-      subst (λ (s : ServedCall). IsFinished filer_behaviour w (number_of L l.affinity) (entry_of L l.affinity l.parcels (Serve s) c.args.told.now) u)
-          c.deref.ensures c.finish_node.ensures.finished,
+      subst (λ (s : ServedCall). IsFinished filer_behaviour w (number_of L l.affinity)
+          (entry_of L l.affinity l.parcels (Serve s) (Replied c.args.told.now)) u) c.deref.ensures c.finish_node.ensures.finished,
       refl,
-      λ reply is. subst (λ (a : Addressed). g.S.AnswerSink.took c.args.sink.now (a ∷ []) c.take_answer.new.self) (c.answered.ensures reply is)
-          c.take_answer.ensures,
+      subst (λ (a : Addressed). g.S.AnswerSink.took c.args.sink.now (a ∷ []) c.take_answer.new.self) c.answered.ensures c.take_answer.ensures,
     )

@@ -4,6 +4,7 @@ use Rattle.depot.specs.Words.{view}
 use Rattle.desk.specs.Any.{node_lent}
 use Rattle.desk.specs.laws.Backing.{HasGoneOn}
 use Rattle.service.specs.declared.job.Job.TheVariants.{Serve}
+use Rattle.service.specs.declared.job.JobReply.TheVariants.{Replied}
 use Rattle.service.specs.declared.job.ServedCall.{ServedCall}
 use Rattle.turns.specs.Turns.{filer_behaviour}
 use Rattle.turns.specs.Words.{layout_in}
@@ -12,5 +13,5 @@ use Rattle.turns.proofs.linking.go_on_by.Goals as goal
 pub returns-in-Ok-clause-went : goal.returns-in-Ok-clause-went
 returns-in-Ok-clause-went g c went =
     let L = layout_in c.args.filer.now in
-    subst (λ (s : ServedCall). HasGoneOn kind_in filer_behaviour L (view c.args.seat.now) (node_lent L c.args.grant.now) (Serve s) c.args.told.now
-    (view c.go_on_node.new.seat)) c.deref.ensures c.in-Ok.ensures.gone_on
+    subst (λ (s : ServedCall). HasGoneOn kind_in filer_behaviour L (view c.args.seat.now) (node_lent L c.args.grant.now) (Serve s)
+    (Replied c.args.told.now) (view c.go_on_node.new.seat)) c.deref.ensures c.in-Ok.ensures.gone_on

@@ -119,5 +119,4 @@ returns-clause-linked g c b stands =
     c.in-Some.next c.answered.new.told same
     (subst (λ (k : Option Message). IsAhead (known c.args.pass.now) (known c.pick_ahead.new.pass) k) c.in-Some.is c.pick_ahead.ensures.ahead)
     gone.0 gone.1 gone.2
-    (λ reply is. subst (λ (a : Addressed). g.S.AnswerSink.took c.args.sink.now (a ∷ []) c.take_answer.new.self) (c.answered.ensures reply is)
-    c.take_answer.ensures)
+    (subst (λ (a : Addressed). g.S.AnswerSink.took c.args.sink.now (a ∷ []) c.take_answer.new.self) c.answered.ensures c.take_answer.ensures)

@@ -1,6 +1,5 @@
-use Rattle.std.proofs.Common.{true, false, refl, subst}
-use Rattle.nfs_values.specs.declared.reply.Refusal.TheVariants.{SystemError}
-use Rattle.nfs_values.specs.declared.reply.Reply.TheVariants.{Refused}
+use Rattle.std.proofs.Common.{true, false, refl, ap, subst}
+use Rattle.nfs_values.specs.Reply.{reply_of}
 use Rattle.desk.specs.Any.{node_lent}
 use Rattle.service.specs.declared.outcome.Outcome.{Outcome}
 use Rattle.turns.specs.Runs.{HasRunFrom}
@@ -10,18 +9,15 @@ use Rattle.turns.proofs.linking.try_on.Goals as goal
 
 pub returns-in-Replied : goal.returns-in-Replied
 returns-in-Replied g c =
-    let to = c.run_on.ensures.ran in
-    let says = replied-so to.outcome c.run_on.result c.run_on.new.told to.says c.in-Replied.is in record {
+    let to = c.run_on.ensures.ran in record {
       ran = (
         refl,
         record {
           outcome = to.outcome;
-          reply = says.0;
           starved = false;
-          is = says.1;
+          is = replied-so to.outcome c.run_on.result c.run_on.new.told to.says c.in-Replied.is;
           ran = to.ran;
           entry = c.enter.ensures;
-          told = says.2;
         },
       );
     }
@@ -34,12 +30,10 @@ returns-in-Starved g c =
         refl,
         record {
           outcome = to.outcome;
-          reply = Refused SystemError;
           starved = true;
-          is = (says.0, refl);
+          is = (says.0, ap reply_of says.1);
           ran = to.ran;
           entry = c.enter-in-Starved.ensures;
-          told = says.1;
         },
       );
     }

@@ -1,12 +1,10 @@
-use Rattle.std.proofs.Common.{true, false, refl}
-use Rattle.nfs_values.specs.declared.reply.Reply.TheVariants.{Refused}
-use Rattle.nfs_values.specs.declared.reply.Refusal.TheVariants.{SystemError}
+use Rattle.std.proofs.Common.{true, false, refl, ap}
+use Rattle.nfs_values.specs.Reply.{reply_of}
+use Rattle.affinity.specs.Affinity.{home_affinity}
 use Rattle.depot.specs.Words.{view}
 use Rattle.desk.specs.Any.{node_lent}
-use Rattle.service.specs.declared.job.JobReply.TheVariants.{Replied}
-use Rattle.turns.specs.Turns.{job_of_message}
 use Rattle.turns.specs.Words.{layout_in, verifier_in}
-use Rattle.turns.proofs.Runs.{can-as, finished-as, moved-so, replied-so, starved-so}
+use Rattle.turns.proofs.Runs.{moved-so, replied-so, starved-so}
 use Rattle.turns.proofs.Served.{may-finish, may-starve, entered, entered-ready, fits, starved-room, may-go-back, moves-on, back-entries, back-ready}
 use Rattle.turns.proofs.Served.{refused-entries, refused-ready}
 use Rattle.turns.proofs.serving.run_message_on.Goals as goal
@@ -15,13 +13,15 @@ use Rattle.turns.proofs.serving.run_message_on.Goals as goal
 
 pub returns-in-Err-clause-ready : goal.returns-in-Err-clause-ready
 returns-in-Err-clause-ready g c =
-    refused-ready (layout_in c.args.filer.now) (view c.args.seat.now) (view c.run.new.seat) c.args.message.affinity (verifier_in c.args.filer.now)
+    refused-ready (layout_in c.args.filer.now) (view c.args.seat.now) (view c.run.new.seat) (home_affinity c.args.message.affinity)
+    (verifier_in c.args.filer.now)
     c.in-Err.refusal c.in-Err.ensures.refused c.requires.ready
 
 pub returns-in-Err-clause-served : goal.returns-in-Err-clause-served
 returns-in-Err-clause-served g c = (
   refl,
-  refused-entries (layout_in c.args.filer.now) (view c.args.seat.now) (view c.run.new.seat) c.args.message.affinity c.in-Err.refusal c.in-Err.ensures.refused,
+  refused-entries (layout_in c.args.filer.now) (view c.args.seat.now) (view c.run.new.seat) (home_affinity c.args.message.affinity) c.in-Err.refusal
+      c.in-Err.ensures.refused,
   c.in-Err.ensures.refused,
 )
 
@@ -35,10 +35,9 @@ answer-answer-requires-clause-can g c =
     let m = c.args.message in
     let r = c.in-Ok.ensures.ran in
     let says = replied-so r.outcome c.in-Ok.ran.outcome c.run.new.told r.says c.in-Replied.is in
-    can-as L w (node_lent L c.in-Ok.ran.grant) (job_of_message m c.args.moment false) c.run.new.told (Replied says.0) says.2
-    (may-finish L c.args.filer.now.depot.layout.lawful m c.requires.placed c.args.moment v w
+    may-finish L c.args.filer.now.depot.layout.lawful m c.requires.placed c.args.moment v w
     c.requires.seat.1.0 c.run.ensures.seat.1.0 r.outcome
-    (node_lent L c.in-Ok.ran.grant) r.ran says.0 says.1)
+    (node_lent L c.in-Ok.ran.grant) r.ran c.run.new.told says
 
 pub answer-answer-requires-clause-room : goal.answer-answer-requires-clause-room
 answer-answer-requires-clause-room g c =
@@ -47,16 +46,13 @@ answer-answer-requires-clause-room g c =
     let w = view c.run.new.seat in
     let m = c.args.message in
     let r = c.in-Ok.ensures.ran in
-    let says = replied-so r.outcome c.in-Ok.ran.outcome c.run.new.told r.says c.in-Replied.is in (
-      says.0,
-      says.2,
-      fits L c.args.filer.now.depot.layout.lawful m c.requires.placed c.args.moment v w
-          c.requires.seat.1.0 c.run.ensures.seat.1.0 r.outcome
-          (node_lent L c.in-Ok.ran.grant) r.ran
-          (verifier_in c.args.filer.now) c.has_eight.ensures c.requires.ready.opened c.servers_are_roomy.ensures.begins
-          c.servers_are_roomy.ensures.stays c.replies_fit.ensures.offered
-          says.0 says.1,
-    )
+    let says = replied-so r.outcome c.in-Ok.ran.outcome c.run.new.told r.says c.in-Replied.is in
+    fits L c.args.filer.now.depot.layout.lawful m c.requires.placed c.args.moment v w
+    c.requires.seat.1.0 c.run.ensures.seat.1.0 r.outcome
+    (node_lent L c.in-Ok.ran.grant) r.ran
+    (verifier_in c.args.filer.now) c.has_eight.ensures c.requires.ready.opened c.servers_are_roomy.ensures.begins
+    c.servers_are_roomy.ensures.stays c.replies_fit.ensures.offered
+    c.run.new.told says
 
 pub answer-answer-requires-in-Starved-clause-can : goal.answer-answer-requires-in-Starved-clause-can
 answer-answer-requires-in-Starved-clause-can g c =
@@ -66,10 +62,9 @@ answer-answer-requires-in-Starved-clause-can g c =
     let m = c.args.message in
     let r = c.in-Ok.ensures.ran in
     let says = starved-so r.outcome c.in-Ok.ran.outcome c.run.new.told r.says c.in-Starved.is in
-    can-as L w (node_lent L c.in-Ok.ran.grant) (job_of_message m c.args.moment true) c.run.new.told (Replied (Refused SystemError)) says.1
-    (may-starve L c.args.filer.now.depot.layout.lawful m c.requires.placed c.args.moment v w
+    may-starve L c.args.filer.now.depot.layout.lawful m c.requires.placed c.args.moment v w
     c.requires.seat.1.0 c.run.ensures.seat.1.0 r.outcome
-    (node_lent L c.in-Ok.ran.grant) r.ran (Refused SystemError) refl says.0)
+    (node_lent L c.in-Ok.ran.grant) r.ran c.run.new.told (ap reply_of says.1) says.0
 
 pub answer-answer-requires-in-Starved-clause-room : goal.answer-answer-requires-in-Starved-clause-room
 answer-answer-requires-in-Starved-clause-room g c =
@@ -78,16 +73,13 @@ answer-answer-requires-in-Starved-clause-room g c =
     let w = view c.run.new.seat in
     let m = c.args.message in
     let r = c.in-Ok.ensures.ran in
-    let says = starved-so r.outcome c.in-Ok.ran.outcome c.run.new.told r.says c.in-Starved.is in (
-      Refused SystemError,
-      says.1,
-      starved-room L c.args.filer.now.depot.layout.lawful m c.requires.placed c.args.moment v w
-          c.requires.seat.1.0 c.run.ensures.seat.1.0 r.outcome
-          (node_lent L c.in-Ok.ran.grant) r.ran
-          (verifier_in c.args.filer.now) c.has_eight.ensures c.requires.ready.opened c.servers_are_roomy.ensures.begins
-          c.servers_are_roomy.ensures.stays c.replies_fit.ensures.offered
-          (Refused SystemError) refl,
-    )
+    let says = starved-so r.outcome c.in-Ok.ran.outcome c.run.new.told r.says c.in-Starved.is in
+    starved-room L c.args.filer.now.depot.layout.lawful m c.requires.placed c.args.moment v w
+    c.requires.seat.1.0 c.run.ensures.seat.1.0 r.outcome
+    (node_lent L c.in-Ok.ran.grant) r.ran
+    (verifier_in c.args.filer.now) c.has_eight.ensures c.requires.ready.opened c.servers_are_roomy.ensures.begins
+    c.servers_are_roomy.ensures.stays c.replies_fit.ensures.offered
+    c.run.new.told (ap reply_of says.1)
 
 pub put_back_node-requires-clause-can : goal.put_back_node-requires-clause-can
 put_back_node-requires-clause-can g c =
@@ -108,13 +100,10 @@ returns-in-Replied-clause-ready g c =
     let w = view c.run.new.seat in
     let m = c.args.message in
     let r = c.in-Ok.ensures.ran in
-    let says = replied-so r.outcome c.in-Ok.ran.outcome c.run.new.told r.says c.in-Replied.is in
     let u = view c.answer-answer.new.seat in
-    let finished = finished-as L w (node_lent L c.in-Ok.ran.grant) (job_of_message m c.args.moment false) u c.run.new.told (Replied says.0) says.2
-    c.answer-answer.ensures.finished in
     entered-ready L c.args.filer.now.depot.layout.lawful m c.requires.placed c.args.moment v w
     c.requires.seat.1.0 c.run.ensures.seat.1.0 r.outcome
-    (node_lent L c.in-Ok.ran.grant) r.ran u says.0 false finished (verifier_in c.args.filer.now) c.requires.ready
+    (node_lent L c.in-Ok.ran.grant) r.ran u c.run.new.told false c.answer-answer.ensures.finished (verifier_in c.args.filer.now) c.requires.ready
 
 pub returns-in-Replied-clause-served : goal.returns-in-Replied-clause-served
 returns-in-Replied-clause-served g c =
@@ -123,13 +112,10 @@ returns-in-Replied-clause-served g c =
     let w = view c.run.new.seat in
     let m = c.args.message in
     let r = c.in-Ok.ensures.ran in
-    let says = replied-so r.outcome c.in-Ok.ran.outcome c.run.new.told r.says c.in-Replied.is in
     let u = view c.answer-answer.new.seat in
-    let finished = finished-as L w (node_lent L c.in-Ok.ran.grant) (job_of_message m c.args.moment false) u c.run.new.told (Replied says.0) says.2
-    c.answer-answer.ensures.finished in
     entered L c.args.filer.now.depot.layout.lawful m c.requires.placed c.args.moment v w
     c.requires.seat.1.0 c.run.ensures.seat.1.0 r.outcome
-    (node_lent L c.in-Ok.ran.grant) r.ran u says.0 false finished c.answer-answer.result (c.answer-answer.ensures.answer says.0 says.2)
+    (node_lent L c.in-Ok.ran.grant) r.ran u c.run.new.told false c.answer-answer.ensures.finished c.answer-answer.result c.answer-answer.ensures.answer
 
 pub returns-in-Starved-clause-ready : goal.returns-in-Starved-clause-ready
 returns-in-Starved-clause-ready g c =
@@ -138,13 +124,11 @@ returns-in-Starved-clause-ready g c =
     let w = view c.run.new.seat in
     let m = c.args.message in
     let r = c.in-Ok.ensures.ran in
-    let says = starved-so r.outcome c.in-Ok.ran.outcome c.run.new.told r.says c.in-Starved.is in
     let u = view c.answer-answer-in-Starved.new.seat in
-    let finished = finished-as L w (node_lent L c.in-Ok.ran.grant) (job_of_message m c.args.moment true) u c.run.new.told (Replied (Refused SystemError)) says.1
-    c.answer-answer-in-Starved.ensures.finished in
     entered-ready L c.args.filer.now.depot.layout.lawful m c.requires.placed c.args.moment v w
     c.requires.seat.1.0 c.run.ensures.seat.1.0 r.outcome
-    (node_lent L c.in-Ok.ran.grant) r.ran u (Refused SystemError) true finished (verifier_in c.args.filer.now) c.requires.ready
+    (node_lent L c.in-Ok.ran.grant) r.ran u c.run.new.told true c.answer-answer-in-Starved.ensures.finished (verifier_in c.args.filer.now)
+    c.requires.ready
 
 pub returns-in-Starved-clause-served : goal.returns-in-Starved-clause-served
 returns-in-Starved-clause-served g c =
@@ -153,14 +137,11 @@ returns-in-Starved-clause-served g c =
     let w = view c.run.new.seat in
     let m = c.args.message in
     let r = c.in-Ok.ensures.ran in
-    let says = starved-so r.outcome c.in-Ok.ran.outcome c.run.new.told r.says c.in-Starved.is in
     let u = view c.answer-answer-in-Starved.new.seat in
-    let finished = finished-as L w (node_lent L c.in-Ok.ran.grant) (job_of_message m c.args.moment true) u c.run.new.told (Replied (Refused SystemError)) says.1
-    c.answer-answer-in-Starved.ensures.finished in
     entered L c.args.filer.now.depot.layout.lawful m c.requires.placed c.args.moment v w
     c.requires.seat.1.0 c.run.ensures.seat.1.0 r.outcome
-    (node_lent L c.in-Ok.ran.grant) r.ran u (Refused SystemError) true finished c.answer-answer-in-Starved.result
-    (c.answer-answer-in-Starved.ensures.answer (Refused SystemError) says.1)
+    (node_lent L c.in-Ok.ran.grant) r.ran u c.run.new.told true c.answer-answer-in-Starved.ensures.finished c.answer-answer-in-Starved.result
+    c.answer-answer-in-Starved.ensures.answer
 
 pub returns-clause-ready : goal.returns-clause-ready
 returns-clause-ready g c =

@@ -38,18 +38,18 @@ stamped g c o =
     has-stamped (served_by g.M.Machine) g.M.Parcel.HasKind.kind (layout_in c.args.self.now) c.args.self.now.layout.lawful
     (affinity_of (node_of c.args.grant)) c.requires.node
     c.requires.step.0 (parcels_in g.N.Node.parcels (layout_in c.args.self.now) c.args.grant) c.requires.exact
-    (g.C.Entered.entered c.args.call.now) c.args.reply.now c.args.seat.now.badge.views _ _ o
+    (g.C.Entered.entered c.args.call.now) (g.A.Entered.entered c.args.reply.now) c.args.seat.now.badge.views _ _ o
     c.stamp_call.ensures.stamped.0 c.stamp_call.ensures.stamped.1
 
 done : (g : Over) (c : After-into_badge g) → IsFinished (served_by g.M.Machine) (view c.args.seat.now) (number_in (layout_in c.args.self.now) c.args.grant)
-    (entry_with g.N.Node.parcels (layout_in c.args.self.now) c.args.grant (g.C.Entered.entered c.args.call.now) c.args.reply.now)
+    (entry_with g.N.Node.parcels (layout_in c.args.self.now) c.args.grant (g.C.Entered.entered c.args.call.now) (g.A.Entered.entered c.args.reply.now))
     (known c.into_badge.result.views)
 done g c =
     let is : c.args.seat.now.badge.views ≡ c.into_seat-place.result.me.0 ∷ [] = search rules in
     let badge : c.into_badge.result.views ≡ c.give_home-place.result.me.0 ∷ [] = search rules in
     finished-known (served_by g.M.Machine) c.args.seat.now.badge.views c.into_seat-place.result.me.0 c.stamp_call.new.place.me.0
     c.give_home-place.result.me.0 c.into_badge.result.views
-    (entry_with g.N.Node.parcels (layout_in c.args.self.now) c.args.grant (g.C.Entered.entered c.args.call.now) c.args.reply.now)
+    (entry_with g.N.Node.parcels (layout_in c.args.self.now) c.args.grant (g.C.Entered.entered c.args.call.now) (g.A.Entered.entered c.args.reply.now))
     c.stamp_call.ensures.stamped.0 is badge c.stamp_call.ensures.stamped.1 c.give_home-place.ensures.ended.1
 
 -- ---- the answers
@@ -65,13 +65,13 @@ pub stamp_call-requires-clause-step : goal.stamp_call-requires-clause-step
 stamp_call-requires-clause-step g c =
     let L = layout_in c.args.self.now in let grant = c.args.grant in
     let o = start g (goal.at.stamp_call-requires-clause-step g c).After-into_seat-place in
-    subst (λ l. IsStep (served_by g.M.Machine) (known l) (number_in L grant) (g.C.Entered.entered c.args.call.now) c.args.reply.now
+    subst (λ l. IsStep (served_by g.M.Machine) (known l) (number_in L grant) (g.C.Entered.entered c.args.call.now) (g.A.Entered.entered c.args.reply.now)
     (parcels_in g.N.Node.parcels L grant)) o.is c.requires.step
 
 pub stamp_call-requires-clause-hand : goal.stamp_call-requires-clause-hand
 stamp_call-requires-clause-hand g c =
     let o = start g (goal.at.stamp_call-requires-clause-hand g c).After-into_seat-place in
-    subst (λ l. HasInHand (served_by g.M.Machine) (known l) (g.C.Entered.entered c.args.call.now) c.args.reply.now) o.is c.requires.hand
+    subst (λ l. HasInHand (served_by g.M.Machine) (known l) (g.C.Entered.entered c.args.call.now) (g.A.Entered.entered c.args.reply.now)) o.is c.requires.hand
 
 pub stamp_call-requires-clause-taken : goal.stamp_call-requires-clause-taken
 stamp_call-requires-clause-taken g c =
@@ -134,7 +134,7 @@ invariant_of-seat g c =
     let L = layout_in c.args.self.now in let seat = c.args.seat.now in let n = number_in L c.args.grant in
     let s = stamped g at.After-stamp_call (start g at.After-into_seat-place) in
     let badge : c.into_badge.result.views ≡ c.give_home-place.result.me.0 ∷ [] = search rules in
-    let e = entry_with g.N.Node.parcels L c.args.grant (g.C.Entered.entered c.args.call.now) c.args.reply.now in
+    let e = entry_with g.N.Node.parcels L c.args.grant (g.C.Entered.entered c.args.call.now) (g.A.Entered.entered c.args.reply.now) in
     let full = finished-views (served_by g.M.Machine) (view seat) n e c.give_home-place.result.me.0 c.into_badge.result.views badge
     c.give_home-place.ensures.ended.0 (done g at.After-into_badge) in
     let tree : IsTree (view_of c.stamp_call.new.place.me.0).tree = subst IsTree (sym s.tree) (parents-tree L c.args.self.now.layout.lawful) in

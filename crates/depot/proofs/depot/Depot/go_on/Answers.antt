@@ -37,7 +37,7 @@ stop g c =
 gone : (g : Over) (c : After-into_badge-2 g) → HasRenewed (served_by g.M.Machine) (view c.args.seat.now)
     (number_in (layout_in c.args.self.now) c.args.grant.now)
     (parcels_in g.N.Node.parcels (layout_in c.args.self.now) c.args.grant.now)
-    (entry_with g.N.Node.parcels (layout_in c.args.self.now) c.args.grant.now (g.C.Entered.entered c.args.call.now) c.args.reply.now)
+    (entry_with g.N.Node.parcels (layout_in c.args.self.now) c.args.grant.now (g.C.Entered.entered c.args.call.now) (g.A.Entered.entered c.args.reply.now))
     c.into_badge-2.result.views
 gone g c =
     let seat = c.args.seat.now in
@@ -50,7 +50,7 @@ gone g c =
     let badge : c.into_badge-2.result.views ≡ c.renew.new.place.me.0 ∷ [] = search rules in
     goes-on (served_by g.M.Machine) g.M.Parcel.HasKind.kind L c.args.self.now.layout.lawful (affinity_of (node_of c.args.grant.now)) c.requires.node
     (view seat) c.requires.seat.1 c.requires.step.0 (parcels_in g.N.Node.parcels L c.args.grant.now) c.requires.step.1 c.requires.exact
-    (g.C.Entered.entered c.args.call.now) c.args.reply.now seat.idle.3 seat.gathered seat.apart c.load-ticket.result
+    (g.C.Entered.entered c.args.call.now) (g.A.Entered.entered c.args.reply.now) seat.idle.3 seat.gathered seat.apart c.load-ticket.result
     c.stamp_call.ensures.stamped.0 c.renew.result
     c.load-ticket.new.seat.me.0 c.stamp_call.new.place.me.0 c.renew.new.place.me.0 c.into_badge-2.result.views
     (look.0 low) few look.2 c.stamp_call.ensures.stamped.1 c.renew.ensures.renewed badge

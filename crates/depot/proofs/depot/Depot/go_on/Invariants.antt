@@ -8,5 +8,5 @@ use Rattle.depot.proofs.depot.Depot.go_on.Given as goal
 abbrev pub ghosts-stamp_call : goal.ghosts-stamp_call
 ghosts-stamp_call g a = record {
   item = Some (entry_of (layout_of a.layout.now) (affinity_of a.grant.now.affinity) (g.N.Node.parcels (layout_of a.layout.now)
-      (affinity_of a.grant.now.affinity) a.grant.now.held) (g.C.Entered.entered a.call.now) a.reply.now);
+      (affinity_of a.grant.now.affinity) a.grant.now.held) (g.C.Entered.entered a.call.now) (g.A.Entered.entered a.reply.now));
 }

@@ -25,7 +25,7 @@ finish_in-requires-clause-can g c =
     let found = some-there shown layout v gs c.args.worker _ c.requires.may.is_lent (granted c.index_mut.result.now) there in
     some-and (granted c.index_mut.result.now) found.0 _ found.1
     (can-finish shown g.M.Parcel.HasKind.kind layout self.depot.layout.lawful v gs c.requires.kept c.args.worker found.0 found.2
-    (machine_in self) c.args.call.now c.args.reply.now c.requires.may)
+    (machine_in self) (g.C.Entered.entered c.args.call.now) (g.A.Entered.entered c.args.reply.now) c.requires.may)
 
 pub returns-clause-kept : goal.returns-clause-kept
 returns-clause-kept g c =
@@ -37,7 +37,7 @@ returns-clause-kept g c =
     subst (λ xs. IsBook g.M.Parcel.HasKind.kind (books_of shown layout w xs) w)
     (sym (told-set granted slots c.args.worker c.finish_in.new.slot None c.finish_in.ensures.idle))
     (finished-desk shown g.M.Parcel.HasKind.kind layout self.depot.layout.lawful v gs c.requires.kept c.args.worker found.0 found.2
-    (machine_in self) c.args.call.now c.args.reply.now c.requires.may w
+    (machine_in self) (g.C.Entered.entered c.args.call.now) (g.A.Entered.entered c.args.reply.now) c.requires.may w
     (and-some (granted c.index_mut.result.now) found.0 _ found.1 c.finish_in.ensures.finished))
 
 pub returns-clause-finished : goal.returns-clause-finished
@@ -47,8 +47,9 @@ returns-clause-finished g c =
     let there = told-there granted slots c.args.worker c.index_mut.result.now c.index_mut.ensures.value in
     let found = some-there shown layout v gs c.args.worker _ c.requires.may.is_lent (granted c.index_mut.result.now) there in
     let w = view c.finish_in.new.seat in
-    subst (λ xs. HasFinished (machine_in self) (books self) c.args.worker c.args.call.now c.args.reply.now (books_of shown layout w xs))
+    subst (λ xs. HasFinished (machine_in self) (books self) c.args.worker (g.C.Entered.entered c.args.call.now)
+    (g.A.Entered.entered c.args.reply.now) (books_of shown layout w xs))
     (sym (told-set granted slots c.args.worker c.finish_in.new.slot None c.finish_in.ensures.idle))
     (finished-so shown g.M.Parcel.HasKind.kind layout self.depot.layout.lawful v gs c.requires.kept c.args.worker found.0 found.2
-    (machine_in self) c.args.call.now c.args.reply.now c.requires.may w
+    (machine_in self) (g.C.Entered.entered c.args.call.now) (g.A.Entered.entered c.args.reply.now) c.requires.may w
     (and-some (granted c.index_mut.result.now) found.0 _ found.1 c.finish_in.ensures.finished))

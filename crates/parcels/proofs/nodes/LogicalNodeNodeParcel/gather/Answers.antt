@@ -1,25 +1,23 @@
-use Rattle.std.proofs.Common.{◌∙◌}
 use Rattle.affinity.specs.Affinity.{affinity_of}
 use Rattle.affinity.specs.Layout.{layout_of}
 use Rattle.affinity.specs.Numbers.{number_of}
 use Rattle.parcels.specs.Exact.{HasParcel, IsPlaced, kind_in}
 use Rattle.parcels.specs.declared.family.Parcel.TheVariants as parcels
-use Rattle.parcels.proofs.OfKind.{is_logical}
 use Rattle.parcels.proofs.ByKind.{own-under, logical_child_kind, logical_room, logical-taken-at, logical-gathered-at}
 use Rattle.parcels.proofs.Moves.{taken-others}
 use Rattle.parcels.proofs.Siblings.{children-after, placed_kept}
 use Rattle.parcels.proofs.nodes.LogicalNodeNodeParcel.gather.Goals as goal
 
-pub unreachable-requires : goal.unreachable-requires
-unreachable-requires g c =
-    is_logical c.take_parcel.result (c.take_parcel.ensures.kind ∙ c.requires.kind) c.in_default.not-Logical
-
-pub take_parcel-requires-clause-node : goal.take_parcel-requires-clause-node
-take_parcel-requires-clause-node g c =
+pub take_own-own-requires-clause-node : goal.take_own-own-requires-clause-node
+take_own-own-requires-clause-node g c =
     c.requires.node
 
-pub take_parcel-requires-clause-there : goal.take_parcel-requires-clause-there
-take_parcel-requires-clause-there g c =
+pub take_own-own-requires-clause-kind : goal.take_own-own-requires-clause-kind
+take_own-own-requires-clause-kind g c =
+    c.requires.kind
+
+pub take_own-own-requires-clause-there : goal.take_own-own-requires-clause-there
+take_own-own-requires-clause-there g c =
     own-under (layout_of c.args.layout.now) (HasParcel (layout_of c.args.layout.now) (g.S.Shelf.at c.args.shelf.now))
     (affinity_of c.args.affinity) c.requires.node
     c.requires.there
@@ -39,23 +37,24 @@ gather_children-requires-clause-room g c =
 pub gather_children-requires-clause-there : goal.gather_children-requires-clause-there
 gather_children-requires-clause-there g c =
     children-after (layout_of c.args.layout.now) (IsPlaced kind_in (layout_of c.args.layout.now)) (placed_kept kind_in (layout_of c.args.layout.now))
-    (g.S.Shelf.at c.args.shelf.now) (g.S.Shelf.at c.take_parcel.new.shelf) (affinity_of c.args.affinity) c.requires.node
-    (taken-others (g.S.Shelf.at c.args.shelf.now) (g.S.Shelf.at c.take_parcel.new.shelf) (number_of (layout_of c.args.layout.now) (affinity_of c.args.affinity))
-    (parcels.Logical c.in-Logical.own) c.in-Logical.ensures.moved) c.requires.there
+    (g.S.Shelf.at c.args.shelf.now) (g.S.Shelf.at c.take_own-own.new.shelf) (affinity_of c.args.affinity) c.requires.node
+    (taken-others (g.S.Shelf.at c.args.shelf.now) (g.S.Shelf.at c.take_own-own.new.shelf)
+    (number_of (layout_of c.args.layout.now) (affinity_of c.args.affinity)) (parcels.Logical c.take_own-own.result) c.take_own-own.ensures.moved)
+    c.requires.there
 
 pub returns-clause-exact : goal.returns-clause-exact
 returns-clause-exact g c =
-    logical-gathered-at (layout_of c.args.layout.now) record { own = c.in-Logical.own; stripes = c.gather_children.new.slots }
-    (g.S.Shelf.at c.args.shelf.now) (g.S.Shelf.at c.take_parcel.new.shelf) (g.S.Shelf.at c.gather_children.new.shelf)
+    logical-gathered-at (layout_of c.args.layout.now) record { own = c.take_own-own.result; stripes = c.gather_children.new.slots }
+    (g.S.Shelf.at c.args.shelf.now) (g.S.Shelf.at c.take_own-own.new.shelf) (g.S.Shelf.at c.gather_children.new.shelf)
     (affinity_of c.args.affinity) c.requires.kind c.requires.node
-    c.in-Logical.ensures.moved c.gather_children.ensures.moved c.gather_children.ensures.gone c.requires.there
+    c.take_own-own.ensures.moved c.gather_children.ensures.moved c.gather_children.ensures.gone c.requires.there
 
 pub returns-clause-moved : goal.returns-clause-moved
 returns-clause-moved g c =
-    logical-taken-at (layout_of c.args.layout.now) record { own = c.in-Logical.own; stripes = c.gather_children.new.slots }
-    (g.S.Shelf.at c.args.shelf.now) (g.S.Shelf.at c.take_parcel.new.shelf) (g.S.Shelf.at c.gather_children.new.shelf)
-    (affinity_of c.args.affinity) c.requires.kind c.requires.node c.in-Logical.ensures.moved c.gather_children.ensures.moved
+    logical-taken-at (layout_of c.args.layout.now) record { own = c.take_own-own.result; stripes = c.gather_children.new.slots }
+    (g.S.Shelf.at c.args.shelf.now) (g.S.Shelf.at c.take_own-own.new.shelf) (g.S.Shelf.at c.gather_children.new.shelf)
+    (affinity_of c.args.affinity) c.requires.kind c.requires.node c.take_own-own.ensures.moved c.gather_children.ensures.moved
 
 pub returns-clause-kept : goal.returns-clause-kept
 returns-clause-kept g c =
-    g.met.S.Shelf.keeps_on c.args.shelf.now c.take_parcel.new.shelf c.gather_children.new.shelf c.in-Logical.ensures.kept c.gather_children.ensures.kept
+    g.met.S.Shelf.keeps_on c.args.shelf.now c.take_own-own.new.shelf c.gather_children.new.shelf c.take_own-own.ensures.kept c.gather_children.ensures.kept

@@ -4,6 +4,7 @@ use Rattle.affinity.specs.Affinity.{affinity_of}
 use Rattle.affinity.specs.Layout.{layout_of}
 use Rattle.nfs_values.specs.Credential.{credential_of}
 use Rattle.nfs_values.specs.Moment.{moment_of}
+use Rattle.parcels.specs.lemmas.Around.{is-aggregate}
 use Rattle.parcels.specs.lemmas.Exactly.{aggregate-exact}
 use Rattle.parcels.specs.lemmas.Sorts.{aggregate-kind}
 use Rattle.filer_state.specs.state.Sets.{aggregate_set}
@@ -11,17 +12,19 @@ use Rattle.service.specs.Running.{IsRunAt, outcome_of}
 use Rattle.service.specs.lemmas.Aggregates.{aggregate-whole, aggregate-ran, stays-there}
 use Rattle.service.proofs.task.RunTaskParcelFilesParcelKinds.on_aggregate.Goals as goal
 
-pub aggregate_of-requires : goal.aggregate_of-requires
-aggregate_of-requires c =
-    aggregate-kind (layout_of c.args.layout.now) (affinity_of c.args.affinity) c.args.held.now c.requires.node c.requires.exact
-
 pub run_on_aggregate-requires-clause-at : goal.run_on_aggregate-requires-clause-at
 run_on_aggregate-requires-clause-at c =
-    subst (λ (a : Affinity). IsRunAt (layout_of c.args.layout.now) c.args.self.call.now a) c.aggregate_of.ensures c.requires.asks.0
+    let at = is-aggregate (affinity_of c.args.affinity) c.aggregate_number.result
+    (aggregate-kind (layout_of c.args.layout.now) (affinity_of c.args.affinity) c.args.held.now c.requires.node c.requires.exact)
+    c.aggregate_number.ensures in
+    subst (λ (a : Affinity). IsRunAt (layout_of c.args.layout.now) c.args.self.call.now a) at c.requires.asks.0
 
 pub run_on_aggregate-requires-clause-whole : goal.run_on_aggregate-requires-clause-whole
 run_on_aggregate-requires-clause-whole c =
-    aggregate-whole (layout_of c.args.layout.now) c.args.layout.now.lawful c.aggregate_of.result (affinity_of c.args.affinity) c.aggregate_of.ensures
+    let at = is-aggregate (affinity_of c.args.affinity) c.aggregate_number.result
+    (aggregate-kind (layout_of c.args.layout.now) (affinity_of c.args.affinity) c.args.held.now c.requires.node c.requires.exact)
+    c.aggregate_number.ensures in
+    aggregate-whole (layout_of c.args.layout.now) c.args.layout.now.lawful c.aggregate_number.result (affinity_of c.args.affinity) at
     c.requires.node c.args.held.now c.requires.asks.1
 
 pub returns-clause-exact : goal.returns-clause-exact
@@ -36,8 +39,9 @@ returns-clause-does c =
     let call = c.args.self.call.now in
     let held = c.args.held.now in
     let new = c.run_on_aggregate.new.held in
-    let g = c.aggregate_of.result in
-    let at = c.aggregate_of.ensures in
+    let g = c.aggregate_number.result in
+    let at = is-aggregate a c.aggregate_number.result
+    (aggregate-kind L a held c.requires.node c.requires.exact) c.aggregate_number.ensures in
     let credential = credential_of c.args.self.credential in
     let moment = moment_of c.args.self.moment in
     let known = aggregate-whole L c.args.layout.now.lawful g a at c.requires.node held c.requires.asks.1 in

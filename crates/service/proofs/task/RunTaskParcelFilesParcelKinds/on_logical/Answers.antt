@@ -4,6 +4,7 @@ use Rattle.affinity.specs.Affinity.{affinity_of}
 use Rattle.affinity.specs.Layout.{layout_of}
 use Rattle.nfs_values.specs.Credential.{credential_of}
 use Rattle.nfs_values.specs.Moment.{moment_of}
+use Rattle.parcels.specs.lemmas.Around.{is-logical}
 use Rattle.parcels.specs.lemmas.Exactly.{logical-exact}
 use Rattle.parcels.specs.lemmas.Sorts.{logical-kind}
 use Rattle.filer_state.specs.state.Lenses.{logical_lens}
@@ -12,17 +13,19 @@ use Rattle.service.specs.Running.{IsRunAt, outcome_of}
 use Rattle.service.specs.lemmas.Serving.{logical-runs, logical-whole, moves-on}
 use Rattle.service.proofs.task.RunTaskParcelFilesParcelKinds.on_logical.Goals as goal
 
-pub volume_of_logical-requires : goal.volume_of_logical-requires
-volume_of_logical-requires c =
-    logical-kind (layout_of c.args.layout.now) (affinity_of c.args.affinity) c.args.held.now c.requires.node c.requires.exact
-
 pub run_on_logical-requires-clause-at : goal.run_on_logical-requires-clause-at
 run_on_logical-requires-clause-at c =
-    subst (λ (a : Affinity). IsRunAt (layout_of c.args.layout.now) c.args.self.call.now a) c.volume_of_logical.ensures c.requires.asks.0
+    let at = is-logical (affinity_of c.args.affinity) c.volume_number.result
+    (logical-kind (layout_of c.args.layout.now) (affinity_of c.args.affinity) c.args.held.now c.requires.node c.requires.exact)
+    c.volume_number.ensures in
+    subst (λ (a : Affinity). IsRunAt (layout_of c.args.layout.now) c.args.self.call.now a) at c.requires.asks.0
 
 pub run_on_logical-requires-clause-whole : goal.run_on_logical-requires-clause-whole
 run_on_logical-requires-clause-whole c =
-    (logical-whole (layout_of c.args.layout.now) c.args.layout.now.lawful c.volume_of_logical.result.0 (affinity_of c.args.affinity) c.volume_of_logical.ensures
+    let at = is-logical (affinity_of c.args.affinity) c.volume_number.result
+    (logical-kind (layout_of c.args.layout.now) (affinity_of c.args.affinity) c.args.held.now c.requires.node c.requires.exact)
+    c.volume_number.ensures in
+    (logical-whole (layout_of c.args.layout.now) c.args.layout.now.lawful c.volume_number.result (affinity_of c.args.affinity) at
     c.requires.node c.args.held.now c.requires.asks.1).1
 
 pub returns-clause-exact : goal.returns-clause-exact
@@ -37,8 +40,9 @@ returns-clause-does c =
     let call = c.args.self.call.now in
     let held = c.args.held.now in
     let new = c.run_on_logical.new.held in
-    let v = c.volume_of_logical.result.0 in
-    let at = c.volume_of_logical.ensures in
+    let v = c.volume_number.result in
+    let at = is-logical a c.volume_number.result
+    (logical-kind L a held c.requires.node c.requires.exact) c.volume_number.ensures in
     let credential = credential_of c.args.self.credential in
     let moment = moment_of c.args.self.moment in
     let known = logical-whole L c.args.layout.now.lawful v a at c.requires.node held c.requires.asks.1 in

@@ -3,6 +3,7 @@ use Rattle.affinity.specs.Layout.{layout_of}
 use Rattle.nfs_model.specs.Tree.{Affinity, Stripe}
 use Rattle.nfs_values.specs.Credential.{credential_of}
 use Rattle.nfs_values.specs.Moment.{moment_of}
+use Rattle.parcels.specs.lemmas.Around.{is-stripe}
 use Rattle.parcels.specs.lemmas.Exactly.{stripe-exact}
 use Rattle.parcels.specs.lemmas.Sorts.{stripe-kind}
 use Rattle.std.proofs.Common.{subst}
@@ -11,18 +12,20 @@ use Rattle.service.specs.Running.{IsRunAt, outcome_of}
 use Rattle.service.specs.lemmas.Serving.{stripe-runs, stripe-whole, moves-on}
 use Rattle.service.proofs.task.RunTaskParcelFilesParcelKinds.on_stripe.Goals as goal
 
-pub stripe_at-stripe-requires : goal.stripe_at-stripe-requires
-stripe_at-stripe-requires c =
-    stripe-kind (layout_of c.args.layout.now) (affinity_of c.args.affinity) c.args.held.now c.requires.node c.requires.exact
-
 pub run_on_stripe-requires-clause-at : goal.run_on_stripe-requires-clause-at
 run_on_stripe-requires-clause-at c =
-    subst (λ (a : Affinity). IsRunAt (layout_of c.args.layout.now) c.args.self.call.now a) c.stripe_at-stripe.ensures c.requires.asks.0
+    let at = is-stripe (affinity_of c.args.affinity) c.volume_number.result c.stripe_number.result
+    (stripe-kind (layout_of c.args.layout.now) (affinity_of c.args.affinity) c.args.held.now c.requires.node c.requires.exact)
+    c.volume_number.ensures c.stripe_number.ensures in
+    subst (λ (a : Affinity). IsRunAt (layout_of c.args.layout.now) c.args.self.call.now a) at c.requires.asks.0
 
 pub run_on_stripe-requires-clause-stripe : goal.run_on_stripe-requires-clause-stripe
 run_on_stripe-requires-clause-stripe c =
-    (stripe-whole (layout_of c.args.layout.now) c.args.layout.now.lawful c.stripe_at-stripe.result.0.0 c.stripe_at-stripe.result.1 (affinity_of c.args.affinity)
-    c.stripe_at-stripe.ensures c.requires.node c.args.held.now c.requires.asks.1).0
+    let at = is-stripe (affinity_of c.args.affinity) c.volume_number.result c.stripe_number.result
+    (stripe-kind (layout_of c.args.layout.now) (affinity_of c.args.affinity) c.args.held.now c.requires.node c.requires.exact)
+    c.volume_number.ensures c.stripe_number.ensures in
+    (stripe-whole (layout_of c.args.layout.now) c.args.layout.now.lawful c.volume_number.result c.stripe_number.result (affinity_of c.args.affinity)
+    at c.requires.node c.args.held.now c.requires.asks.1).0
 
 pub returns-clause-exact : goal.returns-clause-exact
 returns-clause-exact c =
@@ -35,9 +38,10 @@ returns-clause-does c =
     let call = c.args.self.call.now in
     let held = c.args.held.now in
     let new = c.run_on_stripe.new.held in
-    let v = c.stripe_at-stripe.result.0.0 in
-    let i = c.stripe_at-stripe.result.1 in
-    let at = c.stripe_at-stripe.ensures in
+    let v = c.volume_number.result in
+    let i = c.stripe_number.result in
+    let at = is-stripe a c.volume_number.result c.stripe_number.result
+    (stripe-kind L a held c.requires.node c.requires.exact) c.volume_number.ensures c.stripe_number.ensures in
     let credential = credential_of c.args.self.credential in
     let moment = moment_of c.args.self.moment in
     let known = stripe-whole L c.args.layout.now.lawful v i a at c.requires.node held c.requires.asks.1 in

@@ -1,4 +1,4 @@
-use Rattle.std.proofs.Common.{subst, arith}
+use Rattle.std.proofs.Common.{◌≡◌, length, subst, arith}
 use Rattle.affinity.specs.Affinity.{affinity_of}
 use Rattle.affinity.specs.Layout.{layout_of}
 use Rattle.affinity.specs.Tree.{IsNode}
@@ -13,7 +13,7 @@ volume_of_logical-requires c =
 pub recount_logical-requires : goal.recount_logical-requires
 recount_logical-requires c =
     let on = subst (IsNode (layout_of c.args.arg2.now)) c.volume_of_logical.ensures c.requires.node in
-    let long = c.requires.asks.1 in
+    let long : length c.args.self.counts.items ≡ length (layout_of c.args.arg2.now).volumes = c.requires.asks in
     omega (arith, on, long)
 
 pub returns-clause-does : goal.returns-clause-does

@@ -10,4 +10,4 @@ returns-clause-does c =
     let a = affinity_of c.args.arg3 in
     let held = c.args.held.now in
     serial-tallied L c.args.layout.now.lawful a (serial-kind L a held c.requires.node c.requires.exact) held c.args.self.counts.items c.recount_all.new.counts
-    c.recount_all.ensures c.requires.asks.1
+    c.recount_all.ensures c.requires.asks

@@ -1,0 +1,5 @@
+use Rattle.parcels.proofs.OfKind.{is_aggregate}
+use Rattle.parcels.proofs.own.AggregateNodeOwnParcelParcel.own_of.Goals as goal
+
+pub returns-in_default : goal.returns-in_default
+returns-in_default g c = record { own = tt; other = λ kind. is_aggregate c.args.parcel kind c.in_default.not-Aggregate }

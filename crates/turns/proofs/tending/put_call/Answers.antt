@@ -1,5 +1,0 @@
-use Rattle.filer_state.specs.laws.lemmas.Sizes.{size-some}
-use Rattle.turns.proofs.tending.put_call.Goals as goal
-
-pub range-requires : goal.range-requires
-range-requires c = size-some c.range_blocks_of.result c.range_blocks_of.ensures.size
