@@ -18,12 +18,13 @@ ghost use Rattle.service.specs.Running.{outcome_of, IsRunAt};
 use crate::outcome::{Outcome, outcome_grown};
 use crate::task::Run;
 use crate::totals::grow;
-use affinity::Layout;
+use affinity::{Home, Layout};
 use filer_state::Files;
 use nfs_values::Call;
 use parcels::AggrHeld;
 
-/// Runs a call on the parcels under an Aggregate: GROW of a volume on it.
+/// Runs a call on the parcels under an Aggregate: GROW of a volume on it. Any other call would have
+/// to run on Serial.
 pub fn run_on_aggregate(
     run: Run,
     layout: &Layout,
@@ -44,6 +45,6 @@ pub fn run_on_aggregate(
 {
     match run.call {
         Call::Grow { volume, ranges } => outcome_grown(grow(held, *volume, *ranges)),
-        _ => unreachable!(),
+        _ => Outcome::Moved(Home::Serial),
     }
 }

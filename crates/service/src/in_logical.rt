@@ -39,7 +39,7 @@ use crate::named::{fileid_here, fileid_of};
 use crate::outcome::{Outcome, outcome_read, outcome_written};
 use crate::renames::{EntryName, rename};
 use crate::task::Run;
-use affinity::Layout;
+use affinity::{Home, Layout};
 use filer_state::Files;
 use nfs_values::answer::{
     MakeResults, ReadDirectoryPlusResults, ReadDirectoryResults, RenameResults,
@@ -58,7 +58,8 @@ use service_names::telling::{check_access, filesystem_info, path_configuration};
 use std::alloc::AllocError;
 
 /// Runs a call on the parcels under Volume Logical of its volume: its home, or where a WRITE moved.
-/// A WRITE that the stock has too few blocks for has to run on Volume.
+/// A WRITE that the stock has too few blocks for has to run on Volume, as any call that isn't on
+/// names, attributes or bytes would.
 pub fn run_on_logical(
     run: Run,
     layout: &Layout,
@@ -243,7 +244,7 @@ fn change(run: Run, layout: &Layout, held: &mut LogicalHeld<Files>, named: Named
             Outcome::Replied(Reply::Success(Answer::RemoveDirectory(told)))
         }
         Call::Rename { from, to } => rename_here(run, layout, held, named, from, to),
-        _ => unreachable!(),
+        _ => Outcome::Moved(Home::Volume(volume.0)),
     }
 }
 

@@ -20,14 +20,14 @@ ghost use Rattle.service.specs.Running.{
 use crate::named::fileid_here;
 use crate::outcome::{Outcome, outcome_read, outcome_written_in_stripe};
 use crate::task::Run;
-use affinity::Layout;
+use affinity::{Home, Layout};
 use filer_state::Files;
 use nfs_values::{Call, Fileid, VolumeNumber};
 use parcels::StripeHeld;
 use service_data::{read_in_stripe, write_in_stripe};
 
 /// Runs a call on the parcel of a stripe of its volume, its home. A WRITE that would extend the
-/// file or fill a hole has to run on Volume Logical.
+/// file or fill a hole has to run on Volume Logical, as any call but READ and WRITE would.
 pub fn run_on_stripe(
     run: Run,
     layout: &Layout,
@@ -81,6 +81,6 @@ fn run_on_bytes(
             let told = write_in_stripe(held, fileid, *offset, *count, written, run.moment);
             outcome_written_in_stripe(volume, told)
         }
-        _ => unreachable!(),
+        _ => Outcome::Moved(Home::Logical(volume.0)),
     }
 }

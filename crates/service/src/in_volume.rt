@@ -17,15 +17,15 @@ use crate::named::fileid_here;
 use crate::outcome::{Outcome, outcome_written};
 use crate::task::Run;
 use crate::totals::filesystem_status;
-use affinity::Layout;
+use affinity::{Home, Layout};
 use filer_state::Files;
 use nfs_values::{Answer, Call, Reply, VolumeNumber};
 use parcels::VolumeHeld;
 use service_data::write_in_volume;
 
-/// Runs a call on the parcels under Volume of its volume: a WRITE that moved there, or else FSSTAT,
-/// whose home it is. Where a WRITE has space, but too few blocks are outside of workers' hands, it
-/// has to run there again.
+/// Runs a call on the parcels under Volume of its volume: a WRITE that moved there, or FSSTAT, whose
+/// home it is. Where a WRITE has space, but too few blocks are outside of workers' hands, it has to
+/// run there again. Any other call would have to run on Serial.
 pub fn run_on_volume(
     run: Run,
     layout: &Layout,
@@ -53,9 +53,10 @@ pub fn run_on_volume(
             let told = write_in_volume(held, fileid, *offset, *count, written, run.moment);
             outcome_written(volume, told)
         }
-        _ => {
+        Call::FilesystemStatus { .. } => {
             let told = filesystem_status(held, volume, fileid);
             Outcome::Replied(Reply::Success(Answer::FilesystemStatus(told)))
         }
+        _ => Outcome::Moved(Home::Serial),
     }
 }

@@ -195,12 +195,12 @@ leads-volume layout (OfAggregate volume) v at = no-grow layout volume (Volume v)
 leads-volume layout OfEverything v at = let no : ⊥ = cc in no
 leads-volume layout r v at = tt
 
-pub is-status : (layout : Layout) (call : Call) (v : ℕ) → IsRunAt layout call (Volume v)
+pub only-status : (layout : Layout) (call : Call) (v : ℕ) → IsRunAt layout call (Volume v)
     → ((handle : _) (offset count : ℕ) (bytes : _) → call ≡ calls.Write handle offset count bytes → ⊥)
-    → (handle : List ℕ) × (call ≡ calls.FilesystemStatus handle)
-is-status layout (calls.Write handle offset count bytes) v at no_write = absurd (no_write handle offset count bytes refl)
-is-status layout (calls.FilesystemStatus handle) v at no_write = (handle, refl)
-is-status layout call v at no_write = let no : ⊥ = leads-volume layout (route (call_of call)) v at.1 in absurd no
+    → ((handle : _) → call ≡ calls.FilesystemStatus handle → ⊥) → ⊥
+only-status layout (calls.Write handle offset count bytes) v at no_write no_status = no_write handle offset count bytes refl
+only-status layout (calls.FilesystemStatus handle) v at no_write no_status = no_status handle refl
+only-status layout call v at no_write no_status = leads-volume layout (route (call_of call)) v at.1
 
 -- in a stripe, only one on bytes that lie in it
 not-stripe : (named : Option Named) (v i : ℕ) → logical_home named ≡ Some (Stripe v i) → ⊥

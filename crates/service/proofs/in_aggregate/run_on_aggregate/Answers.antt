@@ -17,18 +17,18 @@ grow-requires c =
     let at = subst (λ (k : Call). IsRunAt L k (Aggregate g)) c.in-Grow.is c.requires.at in
     record { whole = has-volume L g c.in-Grow.volume.0 c.in-Grow.ranges at.1 c.args.held.now c.requires.whole }
 
-pub returns-clause-runs : goal.returns-clause-runs
-returns-clause-runs c =
+pub returns-in-Grow-clause-runs : goal.returns-in-Grow-clause-runs
+returns-in-Grow-clause-runs c =
     let L = layout_of c.args.layout.now in
     let g = c.args.aggregate in
     let at = subst (λ (k : Call). IsRunAt L k (Aggregate g)) c.in-Grow.is c.requires.at in
     grown-runs L g c.in-Grow.volume.0 c.in-Grow.ranges at.1 c.args.run.call.now (credential_of c.args.run.credential) (moment_of c.args.run.moment)
     c.args.held.now c.grow.new.held c.grow.result (outcome_of c.outcome_grown.result) (ap call_of c.in-Grow.is) c.outcome_grown.ensures c.grow.ensures.right
 
-pub returns-clause-moved : goal.returns-clause-moved
-returns-clause-moved c =
+pub returns-in-Grow-clause-moved : goal.returns-in-Grow-clause-moved
+returns-in-Grow-clause-moved c =
     unless-grown c.grow.result (outcome_of c.outcome_grown.result) (c.grow.new.held ≡ c.args.held.now) c.outcome_grown.ensures
 
-pub unreachable-requires : goal.unreachable-requires
-unreachable-requires c =
-    only-grows (layout_of c.args.layout.now) c.args.run.call.now c.args.aggregate c.requires.at c.in_default.not-Grow
+pub returns-in_default-clause-runs : goal.returns-in_default-clause-runs
+returns-in_default-clause-runs c =
+    absurd (only-grows (layout_of c.args.layout.now) c.args.run.call.now c.args.aggregate c.requires.at c.in_default.not-Grow)

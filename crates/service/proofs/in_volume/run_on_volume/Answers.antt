@@ -12,7 +12,7 @@ use Rattle.filer_state.specs.state.Lenses.{volume_lens}
 use Rattle.filer_state.specs.state.Sets.{volume_before, volume_after}
 use Rattle.service_data.specs.Writing.{written_outcome}
 use Rattle.service.specs.Running.{outcome_of}
-use Rattle.service.specs.lemmas.Homes.{is-status}
+use Rattle.service.specs.lemmas.Homes.{only-status}
 use Rattle.service.proofs.Runs.{runs-here, writing-runs, filesystem-status-runs}
 use Rattle.service.proofs.in_volume.run_on_volume.Goals as goal
 
@@ -37,17 +37,22 @@ returns-in-Write-clause-runs c =
     old new outcome (written_outcome v told.result) (ap call_of asked.is) c.as_slice-written.ensures c.outcome_written.ensures
     (told.ensures.right v asked.handle))
 
-pub returns-in_default-clause-runs : goal.returns-in_default-clause-runs
-returns-in_default-clause-runs c =
+pub returns-in-FilesystemStatus-clause-runs : goal.returns-in-FilesystemStatus-clause-runs
+returns-in-FilesystemStatus-clause-runs c =
     let L = layout_of c.args.layout.now in
     let v = c.args.volume.0 in
     let f = c.fileid_here-fileid.result.0 in
     let call = c.args.run.call.now in
     let credential = credential_of c.args.run.credential in
     let moment = moment_of c.args.run.moment in
-    let asked = is-status L call v c.requires.at c.in_default.not-Write in
+    let asked = c.in-FilesystemStatus in
     let told = c.filesystem_status-told.result in
     let held = volume_before c.args.held.now in
     runs-here L v volume_lens (Volume v) f (call_of call) credential moment held held (Replied (Success (answer_of (FilesystemStatus told))))
     c.fileid_here-fileid.ensures
-    (filesystem-status-runs L v f call asked.0 credential moment held told (ap call_of asked.1) c.filesystem_status-told.ensures.right)
+    (filesystem-status-runs L v f call asked.handle credential moment held told (ap call_of asked.is) c.filesystem_status-told.ensures.right)
+
+pub returns-in_default-clause-runs : goal.returns-in_default-clause-runs
+returns-in_default-clause-runs c =
+    absurd (only-status (layout_of c.args.layout.now) c.args.run.call.now c.args.volume.0 c.requires.at c.in_default.not-Write
+    c.in_default.not-FilesystemStatus)
