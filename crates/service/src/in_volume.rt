@@ -24,8 +24,8 @@ use parcels::VolumeHeld;
 use service_data::write_in_volume;
 
 /// Runs a call on the parcels under Volume of its volume: a WRITE that moved there, or else FSSTAT,
-/// whose home it is. Where a WRITE has space, but too few blocks are outside of workers' hands, it
-/// has to run there again.
+/// whose home it is; no other call runs there. Where a WRITE has space, but too few blocks are
+/// outside of workers' hands, it has to run there again.
 pub fn run_on_volume(
     run: Run,
     layout: &Layout,
