@@ -21,7 +21,8 @@ pub enum Affinity {
     Range { volume: u32, range: u32 },
 }
 
-/// A node at which calls run: all but block numbers of a volume, on which only inner calls run.
+/// A node at which calls run: any but a volume's block numbers and their ranges. A call's home is
+/// the one that it tries first.
 #[derive(Clone, Copy, Debug, PartialEq, Eq)]
 pub enum Home {
     /// A part of the files' bytes.

@@ -13,7 +13,7 @@ use crate::affinity::{Affinity, Home, Kind};
 use crate::layout::Layout;
 
 impl Home {
-    /// The node, among all nodes.
+    /// The same node, as one of all nodes of the tree.
     pub fn node(self) -> Affinity
         ensures { result ≡ home_affinity self }
     {
@@ -121,7 +121,7 @@ impl Affinity {
         self.covers(other, layout) && !other.covers(self, layout)
     }
 
-    /// Whether it is another or one of the two is above the other: just then a parcel is under
+    /// Whether both are one node or one of them is above the other: exactly then a parcel is under
     /// both.
     pub fn excludes(self, other: Affinity, layout: &Layout) -> bool
         ensures excludes { result

@@ -99,9 +99,10 @@ impl<M: Machine, K: NodeKinds<M::Parcel>> Desk<M, K> {
         put_back_in(&self.depot, &mut self.seat, &mut self.slots[worker]);
     }
 
-    /// Makes a call of an idle worker on a node of one kind: it begins, works on what it was lent,
-    /// and ends at once, by an entry of the history where its work is done. Where it doesn't begin,
-    /// the work is given back. No slot is used.
+    /// Makes a call of an idle worker on a node of one kind, from begin to end. It answers what the
+    /// work replied, for which the history has an entry, or what came of work that isn't done,
+    /// which leaves none. Where the call doesn't begin, the work is given back with the refusal.
+    /// The worker's slot isn't used.
     pub fn make<
         N: Node<M::Parcel>,
         C: Entered<M::Call>,

@@ -180,7 +180,7 @@ fn finish_large<M: Machine, K: NodeKinds<M::Parcel>, C: Entered<M::Call>, A: Ent
     }
 }
 
-/// Ends a worker's call by an entry, with its parcels as they are.
+/// Ends a worker's call by an entry, with its parcels as they are. Its slot has a grant.
 pub(crate) fn finish_in<
     M: Machine,
     K: NodeKinds<M::Parcel>,
@@ -252,7 +252,8 @@ fn put_back_large<M: Machine, K: NodeKinds<M::Parcel>>(
     }
 }
 
-/// Ends a worker's call without an entry. Its parcels have to be as they were granted.
+/// Ends a worker's call without an entry. Its slot has a grant, whose parcels have to be as they
+/// were granted.
 pub(crate) fn put_back_in<M: Machine, K: NodeKinds<M::Parcel>>(
     depot: &Depot<M>,
     seat: &mut Seat<M>,

@@ -32,7 +32,7 @@ pub trait NodeKinds<T: HasKind> {
     ghost serial: { Self.Serial.KIND ≡ kinds.Serial };
 }
 
-/// Those kinds of node of a family's parcels.
+/// The kinds of node of a family's parcels at which calls run.
 pub struct ParcelKinds;
 
 impl<F: Family> NodeKinds<Parcel<F>> for ParcelKinds {

@@ -10,7 +10,8 @@ use crate::kinds::NodeKinds;
 use affinity::{Affinity, HasKind, Layout};
 use parcels::Node;
 
-/// Work on the parcels under an affinity. It changes them and takes away none.
+/// Work on the parcels of a node, by a method for each kind of node at which calls run. It changes
+/// parcels and takes none away.
 pub trait Task<T: HasKind, K: NodeKinds<T>> {
     type Output;
 

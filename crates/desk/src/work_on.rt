@@ -13,8 +13,8 @@ use crate::grant::NodeGrant;
 use affinity::{Affinity, HasKind, Layout};
 use parcels::Node;
 
-/// Work on the parcels under a node of one kind: what it replies, or what comes of it where it is
-/// not done. It changes parcels and takes away none.
+/// Work on the parcels under a node of one kind. It comes to a reply `A`, or to `U` where it isn't
+/// done. It changes parcels and takes none away.
 pub trait WorkOn<T: HasKind, N: Node<T>, A, U> {
     // What it needs of the layout, the affinity and its parcels.
     ghost asks: { Self → Asks T };
@@ -32,7 +32,7 @@ pub trait WorkOn<T: HasKind, N: Node<T>, A, U> {
             held.old result held.new };
 }
 
-/// Works on what was granted.
+/// Does work on the parcels that were granted under a node.
 pub fn work_on_node<T: HasKind, N: Node<T>, A, U, W: WorkOn<T, N, A, U>>(
     layout: &Layout,
     node: &mut NodeGrant<T, N>,

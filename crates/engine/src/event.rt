@@ -64,13 +64,13 @@ pub enum Done {
     Opened {
         connection: ConnectionNumber,
     },
-    /// So many bytes were taken, and this stopped the taking.
+    /// This many bytes were taken, and this stopped the taking.
     Fed {
         taken: usize,
         stop: Stop,
     },
     Closed,
-    /// The message has this affinity's parcels.
+    /// The message has the parcels of this node.
     Granted {
         affinity: Home,
     },
@@ -78,22 +78,22 @@ pub enum Done {
     Replied,
     /// Memory ran out for the call, which changed nothing.
     Starved,
-    /// The message has to run on this affinity's parcels.
+    /// The message has to run on the parcels of this node.
     Moved {
         affinity: Home,
     },
-    /// The reply has so many bytes on this connection: none where it is closed.
+    /// The reply has this many bytes on this connection: none where it is closed.
     Written {
         connection: ConnectionNumber,
         count: usize,
     },
     /// The message waits again.
     PutBack,
-    /// So many blocks came into the hand.
+    /// This many blocks came into the hand.
     InHand {
         count: usize,
     },
-    /// So many blocks were put down.
+    /// This many blocks were put down.
     PutDown {
         count: usize,
     },

@@ -47,7 +47,7 @@ pub(crate) enum Asked {
     PutDown,
 }
 
-/// The affinity under which an inner call runs.
+/// The node at which an inner call runs.
 fn node_of(call: InnerCall) -> Affinity
     ensures { affinity_of result ≡ inner_node (inner_of call) }
 {
@@ -63,7 +63,7 @@ fn node_of(call: InnerCall) -> Affinity
     }
 }
 
-/// Why an inner call is refused that a desk refused.
+/// Why an inner call is refused, where the desk refused it.
 fn refusal_of(refusal: Refused) -> Refusal
     ensures { result ≡ refusal_by refusal }
 {
@@ -137,7 +137,7 @@ fn make(
     }
 }
 
-/// What is in the hand after an inner call with this reply, and what is told of it.
+/// What is in the hand after an inner call with this reply, and what the engine answers.
 fn told(reply: BatchReply) -> (BatchInHand, Done)
     ensures hand { result.0 ≡ hand_after (batch_reply_of reply) }
     ensures done { done_of result.1 ≡ told_as (batch_reply_of reply) }
@@ -154,7 +154,7 @@ fn told(reply: BatchReply) -> (BatchInHand, Done)
     }
 }
 
-/// The inner call that is asked for, with what is in the hand; or the hand, where there is none.
+/// The inner call that is asked for, with what was in the hand; or the hand, where there is none.
 fn work_of(layout: &Layout, hand: BatchInHand, asked: Asked) -> Result<BatchWork, BatchInHand>
     requires { FitsAsked asked hand }
     ensures call { MatchResult result
@@ -205,7 +205,7 @@ pub(crate) fn tend(state: &mut State, worker: usize, asked: Asked) -> Result<Don
     }
 }
 
-/// What is done by a survey.
+/// What an engine answers to a survey.
 fn surveyed(told: FreeCounts) -> Done
     ensures { done_of result ≡ told_as (counts_reply_of told) }
 {

@@ -70,7 +70,7 @@ pub(crate) fn set_run(workers: &mut Vec<Worker>, worker: usize, now: WorkerRun)
     drop(mem::replace(&mut workers[worker].run, now));
 }
 
-/// What a worker ran, which runs nothing from now on.
+/// Takes what a worker runs: then it runs nothing.
 pub(crate) fn take_run(workers: &mut Vec<Worker>, worker: usize) -> WorkerRun
     requires { worker < vec_len workers.old }
     ensures { RunTaken workers.old worker result workers.new }
@@ -86,7 +86,7 @@ pub(crate) fn set_hand(workers: &mut Vec<Worker>, worker: usize, now: BatchInHan
     drop(mem::replace(&mut workers[worker].hand, now));
 }
 
-/// What a worker carried, whose hand is empty from now on.
+/// Takes what a worker carries: then its hand is empty.
 pub(crate) fn take_hand(workers: &mut Vec<Worker>, worker: usize) -> BatchInHand
     requires { worker < vec_len workers.old }
     ensures { HandTaken workers.old worker result workers.new }

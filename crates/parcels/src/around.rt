@@ -1,4 +1,4 @@
-//! What a node is, or lies in, by number.
+//! Which volume a node is or lies in, and which aggregate or stripe it is, by number.
 
 ghost use Rattle.std.specs.Prelude.{◌≡◌};
 ghost use Rattle.affinity.specs.Affinity.{affinity_of};

@@ -32,7 +32,7 @@ fn take_parcel<T: HasKind, S: Shelf<T>>(shelf: &mut S, layout: &Layout, affinity
     shelf.take(layout.number_of(affinity))
 }
 
-/// Takes what a node's parcel has in it.
+/// Takes the parcel of a node of one kind, and gives what it has in it.
 pub(crate) fn take_own<T: HasKind, K: OwnParcel<T>, S: Shelf<T>>(
     shelf: &mut S,
     layout: &Layout,
@@ -47,7 +47,7 @@ pub(crate) fn take_own<T: HasKind, K: OwnParcel<T>, S: Shelf<T>>(
         (S.at shelf.new) }
     ensures kept { S.keeps shelf.old shelf.new }
 {
-    // A shelf has parcels of every kind.
+    // The parcel at a node is of the node's kind.
     match K::own_of(take_parcel(shelf, layout, affinity)) {
         Ok(own) => own,
         Err(_) => unreachable!(),

@@ -1,4 +1,4 @@
-//! The parcels of one kind of node.
+//! What the parcels of one kind of node have in them.
 
 ghost use Rattle.std.specs.Prelude.{◌≡◌, ◌≢◌, IfOk, IfErr};
 ghost use Rattle.affinity.specs.declared.affinity.Kind.{Kind};
@@ -11,9 +11,9 @@ use crate::nodes::{
 };
 use affinity::HasKind;
 
-/// A kind of node, by the parcels of its nodes.
+/// A kind of node, each of whose nodes has a parcel of its own.
 pub(crate) trait OwnParcel<T: HasKind> {
-    /// What such a parcel has in it.
+    /// What the parcel of such a node has in it.
     type Own;
 
     ghost KIND: { Kind };

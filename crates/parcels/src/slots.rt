@@ -1,4 +1,4 @@
-//! SlotArray for sets.
+//! Slots for sets.
 
 ghost use Rattle.std.specs.Prelude.{◌≡◌, ◌≢◌, ◌<◌, ℕ, List, Option, Some, None, slice_get};
 
@@ -8,7 +8,7 @@ pub struct SlotArray<T, const N: usize> {
     pub at: [Option<T>; N],
 }
 
-/// SlotArray by number, of any type, so that what goes over them is proved without their size.
+/// Slots by number, of any type, so that what goes over them is proved without their size.
 pub(crate) trait Slots<H> {
     ghost room: { ℕ };
 

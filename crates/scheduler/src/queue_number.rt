@@ -6,7 +6,8 @@ ghost use Rattle.scheduler.specs.QueueNumber.{queue_of, HasQueue};
 
 use affinity::Home;
 
-/// As many queues as the largest layout has nodes: 8 volumes of 35 in 2 aggregates.
+/// As many queues as the largest layout has nodes: 8 volumes of 35 in 2 aggregates. Those of block
+/// numbers and their ranges stay empty, since no call runs there.
 pub(crate) const QUEUES: usize = 283;
 
 /// The queues of a volume: itself, its names, its block numbers, 16 stripes and 16 ranges.

@@ -1,16 +1,16 @@
-//! What carries what is in a worker's hand.
+//! A worker's call with its hand, whatever the kind of its node.
 
 ghost use Rattle.std.specs.Prelude.{◌≡◌};
 ghost use Rattle.nfs_model.specs.Parts as parts;
 
 use crate::batch::BatchInHand;
 
-/// A worker's call with its hand, with what it carries.
+/// A worker's call with its hand, which owns what was in the hand.
 pub trait HandWork {
-    // What it carries.
+    // What was in the hand.
     ghost carried: { Self → parts.Hand };
 
-    /// What it carries, in the hand again.
+    /// The hand with that in it again.
     fn into_hand(self) -> BatchInHand
         ensures { result ≡ carried self };
 }

@@ -23,7 +23,7 @@ use service_batches::{cull, deliver, fetch, free, survey};
 use std::alloc::Global;
 use vbn_ranges::Batch;
 
-/// Why a worker's call with its hand was not done. It changed nothing.
+/// Why a worker's call with its hand isn't done. It changed nothing.
 #[derive(Drop)]
 pub enum Undone {
     /// The range that it would fetch from isn't in use.
@@ -35,7 +35,7 @@ pub enum Undone {
 /// What a call that moves a batch came to: what its entry replies, or why there is none.
 pub type BatchOutcome = Result<BatchReply, Undone>;
 
-/// What a survey came to.
+/// What a survey came to: the counts that its entry replies, or why there are none.
 pub type SurveyOutcome = Result<FreeCounts, Undone>;
 
 impl WorkOn<Parcel<Files>, RangeNode, BatchReply, Undone> for RangeWork {

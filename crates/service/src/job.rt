@@ -21,7 +21,7 @@ pub struct ServedCall {
     pub starved: bool,
 }
 
-/// A worker's call with its hand.
+/// A worker's call with its hand, as it is entered: an inner call.
 #[derive(Clone, Copy)]
 pub enum InnerCall {
     /// Free blocks of a range come into the hand.
@@ -45,7 +45,7 @@ pub enum BatchReply {
     Gave(BatchInHand),
 }
 
-/// What came of a survey.
+/// What a survey tells.
 #[derive(Drop)]
 pub struct FreeCounts {
     /// The free blocks of each range in use.

@@ -1,4 +1,5 @@
-//! Workers' calls with their hands, by the nodes that they run at, with what they carry there.
+//! Workers' calls with their hands, by the kind of node at which they run, each with what was in
+//! the hand.
 
 ghost use Rattle.std.specs.Prelude.{◌≡◌, Some, None, MatchResult};
 ghost use Rattle.affinity.specs.Layout.{layout_of};
@@ -16,7 +17,7 @@ use parcels::Hand;
 use std::alloc::Global;
 use vbn_ranges::Batch;
 
-/// A worker's call under a range.
+/// A worker's call on a range of block numbers.
 #[derive(Drop)]
 pub enum RangeWork {
     /// Free blocks of the range come into the hand.
@@ -32,7 +33,7 @@ pub enum RangeWork {
     },
 }
 
-/// A worker's call under Volume Logical.
+/// A worker's call on Volume Logical.
 #[derive(Drop)]
 pub enum LogicalWork {
     /// These free blocks come into the volume's stock.
@@ -41,16 +42,16 @@ pub enum LogicalWork {
     Cull { volume: VolumeNumber },
 }
 
-/// A worker's call that moves a batch, by the node that it runs at.
+/// A worker's call that moves a batch, by the kind of node at which it runs.
 pub enum BatchWork {
     Range(RangeWork),
     Logical(LogicalWork),
 }
 
-/// A worker's call under a volume's block numbers, which tells how many of them are free.
+/// A worker's call on a volume's block numbers, which tells how many of them are free.
 #[derive(Clone, Copy)]
 pub struct SurveyWork {
-    /// Where what it tells takes memory.
+    /// Where the counts that it tells take memory.
     pub alloc: Global,
     pub volume: VolumeNumber,
 }
@@ -101,7 +102,7 @@ impl HandWork for SurveyWork {
     }
 }
 
-/// A call under a range, as it is entered.
+/// A call on a range, as it is entered.
 fn range_call(work: &RangeWork) -> InnerCall
     ensures { inner_of result ≡ range_call_of work.now }
 {
@@ -121,7 +122,7 @@ fn range_call(work: &RangeWork) -> InnerCall
     }
 }
 
-/// A call under Volume Logical, as it is entered.
+/// A call on Volume Logical, as it is entered.
 fn logical_call(work: &LogicalWork) -> InnerCall
     ensures { inner_of result ≡ logical_call_of work.now }
 {
@@ -143,7 +144,8 @@ impl BatchWork {
     }
 }
 
-/// The call that puts down what is in a hand, with it; or the hand, where it has no block.
+/// The call that puts down what is in a hand, which goes with it. Where there is no such call, of
+/// an empty hand or a dead batch without a block, the hand is given back.
 pub fn put_down(layout: &Layout, hand: BatchInHand) -> Result<BatchWork, BatchInHand>
     ensures call { let asked = call_to_put (layout_of layout.now) hand in MatchResult result
         (λ work. asked ≡ Some (batch_call_of work))

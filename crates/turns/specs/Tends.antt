@@ -34,7 +34,7 @@ stocked_in w = w.stocked
 
 -- ---- which inner call it is
 
--- where there is no call, the hand is empty
+-- where there is no call, nothing in the hand is to be put down
 abbrev pub or_empty : Option InnerCall → Result InnerCall TendRefusal
 or_empty None = Err HandEmpty
 or_empty (Some call) = Ok call

@@ -48,7 +48,7 @@ fn refused(refusal: Refusal) -> Chained
 }
 
 /// Runs the call of a message on what was granted, and the next ones while they try the same node,
-/// at most so many. The last of them is still to be ended.
+/// `most` in all at most. The last of them is still to be ended.
 fn chain<N: TaskNode<Parcel<Files>, ParcelKinds>, R: Wait, G: Gate, H: Hint, S: AnswerSink>(
     filer: &Filer,
     seat: &mut Seat<Service>,

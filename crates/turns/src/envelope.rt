@@ -14,8 +14,8 @@ use service::ServedCall;
 use std::alloc::{AllocError, Global};
 use std::marker::Model;
 
-/// A message. What it asks stands in memory of its own, as the entry of its call will have it, so
-/// that it isn't moved any more; and what travels through queues and turns is small.
+/// A message. What it asks stands in memory of its own, as the entry of its call will have it: it
+/// is never moved from there, and what travels through queues and turns is small.
 #[derive(Drop)]
 pub struct Envelope {
     pub(crate) served: Box<ServedCall>,
@@ -101,7 +101,7 @@ impl Envelope {
         self.served.affinity
     }
 
-    /// The node that it tries, among all nodes.
+    /// What it tries, as one of all nodes of the tree.
     pub(crate) fn node(&self) -> Affinity
         ensures { result ≡ home_affinity self.now.affinity }
     {

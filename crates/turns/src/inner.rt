@@ -25,7 +25,7 @@ use service::{
     Service, Undone,
 };
 
-/// The node under which an inner call runs.
+/// The node at which an inner call runs.
 fn node_of(call: InnerCall) -> Affinity
     ensures { result ≡ node_tried (inner_of call) }
 {
@@ -74,8 +74,8 @@ struct InnerRan<G> {
     told: Option<bool>,
 }
 
-/// Begins an inner call on its node, which is of this kind, runs it there with what it carries, and
-/// looks at what it left.
+/// Begins an inner call on its node, which is of this kind, does its work there, and looks at what
+/// that left.
 fn run_inner<
     N: Node<Parcel<Files>>,
     W: WorkOn<Parcel<Files>, N, BatchReply, Undone> + HandWork,
@@ -118,8 +118,7 @@ fn run_inner<
     })
 }
 
-/// Begins an inner call on its node, which is of this kind, runs it with what it carries, and ends
-/// it.
+/// Begins an inner call on its node, which is of this kind, does its work, and ends it.
 #[inline(never)]
 fn carry_on<
     N: Node<Parcel<Files>>,
@@ -170,7 +169,7 @@ fn carry_on<
     }
 }
 
-/// Begins an inner call with what it carries, runs it, and ends it.
+/// Begins an inner call, does its work, which is of this call, and ends it.
 pub(crate) fn carry(
     filer: &Filer,
     seat: &mut Seat<Service>,

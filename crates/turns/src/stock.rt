@@ -8,7 +8,7 @@ use desk::WorkOn;
 use filer_state::Files;
 use parcels::{LogicalHeld, LogicalNode, Parcel, RangeHeld, RangeNode};
 
-/// So many numbers of a stock are enough: 4 GiB of blocks.
+/// How many numbers of a stock are enough: 4 GiB of blocks.
 pub const ENOUGH_STOCKED: usize = 1_048_576;
 
 /// Whether the stock of a volume has enough numbers.
@@ -18,8 +18,8 @@ fn has_enough(held: &LogicalHeld<Files>) -> bool
     held.own.get().stock.len() >= ENOUGH_STOCKED
 }
 
-/// A look at the parcels under which an inner call has moved a batch, which it leaves as they are:
-/// under Volume Logical it tells whether the stock has enough numbers, under a range nothing.
+/// A look at the parcels of a node at which an inner call has moved a batch, which it leaves as
+/// they are: on Volume Logical it tells whether the stock has enough numbers, on a range nothing.
 #[derive(Clone, Copy)]
 pub(crate) struct Look;
 
@@ -27,7 +27,7 @@ pub(crate) struct Look;
 #[derive(Clone, Copy)]
 pub(crate) struct Enough(pub(crate) bool);
 
-/// Nothing is told of a stock.
+/// There is no stock under the node.
 #[derive(Clone, Copy)]
 pub(crate) struct NoStock;
 
@@ -60,7 +60,7 @@ impl WorkOn<Parcel<Files>, LogicalNode, Enough, NoStock> for Look {
     }
 }
 
-/// What is told by a look.
+/// Whether the stock has enough numbers, by what a look told; nothing where there is no stock.
 pub(crate) fn told_by(looked: Result<Enough, NoStock>) -> Option<bool>
     ensures { result ≡ told_by looked }
 {
@@ -70,8 +70,8 @@ pub(crate) fn told_by(looked: Result<Enough, NoStock>) -> Option<bool>
     }
 }
 
-/// Of which volume it is known that its stock has enough numbers, after an inner call on a volume
-/// by which this was told.
+/// The volume whose stock is known to have enough numbers, after an inner call on a volume: by what
+/// a look told of its stock, and where it told nothing as before.
 pub(crate) fn stocked(volume: u32, told: Option<bool>, before: Option<u32>) -> Option<u32>
     ensures { result ≡ stocked_after volume told before }
 {
@@ -81,7 +81,7 @@ pub(crate) fn stocked(volume: u32, told: Option<bool>, before: Option<u32>) -> O
     }
 }
 
-/// Whether that is this volume.
+/// Whether the volume whose stock is known to have enough numbers is this one.
 pub(crate) fn is_stocked(stocked: Option<u32>, volume: u32) -> bool
     ensures { result ≡ is_stocked stocked volume }
 {

@@ -22,9 +22,9 @@ pub enum Tend {
 /// What a tend came to that was not refused.
 #[derive(Clone, Copy)]
 pub enum Tended {
-    /// So many blocks came into the hand.
+    /// This many blocks came into the hand.
     InHand { count: u32 },
-    /// So many blocks were put down.
+    /// This many blocks were put down.
     PutDown { count: u32 },
 }
 

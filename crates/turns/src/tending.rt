@@ -46,7 +46,7 @@ fn has_volume(layout: &Layout, volume: VolumeNumber) -> bool
     (volume.0 as usize) < layout.volume_count()
 }
 
-/// The inner call of a tend, with what is in the hand; or why there is none, and the hand.
+/// The inner call of a tend, with what was in the hand; or the hand, and why there is none.
 fn work_of(
     layout: &Layout,
     hand: BatchInHand,
@@ -135,8 +135,8 @@ fn either(a: bool, b: bool) -> bool
     a || b
 }
 
-/// Whether the tend after so many with an empty hand is a cull of a volume, where it is known of
-/// which volume's stock that it has enough numbers.
+/// Whether the tend after this many with an empty hand is a cull of a volume, by the volume whose
+/// stock is known to have enough numbers.
 fn is_cull(made: u64, volume: u32, stocked: Option<u32>) -> bool
     ensures { result ≡ is_cull made volume stocked }
 {
@@ -170,7 +170,7 @@ impl Worker {
         self.kept.is_some()
     }
 
-    /// The tend after a turn without a message, where so many were made with an empty hand: what is
+    /// The tend after a turn without a message, after `made` ones with an empty hand: what is
     /// in the hand is put down, else culls and fetches take turns, over all volumes, and the
     /// fetches of a volume over its ranges. A cull takes the place of a fetch where the stock of
     /// the volume had enough numbers when the worker looked last: as a rule, at the cull before it.

@@ -98,6 +98,7 @@ module _ {P C R : Type 0} where
       MayEnd b worker call (Ok reply) = MayFinish b worker call (entered reply)
       MayEnd b worker call (Err undone) = MayPutBack b worker
 
+      -- so it was ended
       abbrev pub HasEnded : Books P C R → ℕ → C → Result A U → Books P C R → Type 0
       HasEnded b worker call (Ok reply) c = HasFinished b worker call (entered reply) c
       HasEnded b worker call (Err undone) c = HasPutBack b worker c
