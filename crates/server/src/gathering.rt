@@ -149,7 +149,8 @@ fn join_all<D: Device + Drop, R: Wait + Drop>(
 }
 
 /// Puts all lanes of a filer together, whose connections are closed with that. The seats are all 64
-/// of the depot. What the lanes admitted is, as often, finished, kept or there. It takes no memory.
+/// of the depot. Each call that a lane admitted was finished, is kept or waits, once for each time
+/// that it was admitted. It takes no memory.
 pub(crate) fn gather_lanes<D: Device + Drop, R: Wait + Drop>(
     filer: &Filer,
     rt: &R,

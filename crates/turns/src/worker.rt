@@ -23,9 +23,9 @@ use std::sync::Wait;
 
 /// A seat of the depot and a pass of the queue, the batch of block numbers in the worker's hand,
 /// a message that it keeps where the queue was full, and of which volume it knows that the stock
-/// has enough numbers. What its pass picked is, as often, what its seat finished, what its pass put
-/// and what it keeps; the batch is all that its seat's calls took and didn't give; and its seat has
-/// no open grant.
+/// has enough numbers. Each message that its pass picked was finished by its seat, put back by its
+/// pass or is kept, once for each time that it was picked; the batch is all that its seat's calls
+/// took and didn't give; and its seat has no open grant.
 pub struct Worker {
     pub(crate) seat: Seat<Service>,
     pub(crate) pass: Pass<Envelope, Layout>,

@@ -20,8 +20,9 @@ use turns::shared_waiting::Pass;
 use turns::{Envelope, Filer, Worker};
 
 /// Puts all workers of a filer together, and all passes of those that only put messages, and picks
-/// what waits. The seats are all 64 of the depot, and the shares of the passes are the whole. What
-/// those passes put is, as often, finished, kept or there. It takes no memory.
+/// what waits. The seats are all 64 of the depot, and the shares of the passes are the whole. Each
+/// message that those passes put was finished, is kept or waits, once for each time that it was
+/// put. It takes no memory.
 pub fn gather<R: Wait>(
     filer: &Filer,
     rt: &R,

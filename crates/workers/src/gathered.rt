@@ -12,9 +12,9 @@ use turns::shared_waiting::Pass;
 use turns::{BatchInHand, Envelope, Service};
 
 /// Workers as one: their seats, their passes, the batches in their hands and the messages that they
-/// keep. What the pass picked is, as often, what the seat finished, what the pass put and what is
-/// kept; the batches are all that the seat's calls took and didn't give; and the seat has no open
-/// grant.
+/// keep. Each message that the pass picked was finished by the seat, put back by the pass or is
+/// kept, once for each time that it was picked; the batches are all that the seat's calls took and
+/// didn't give; and the seat has no open grant.
 pub(crate) struct Gathered {
     pub(crate) seat: Seat<Service>,
     pub(crate) pass: Pass<Envelope, Layout>,

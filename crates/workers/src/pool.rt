@@ -186,9 +186,9 @@ impl Pool {
     }
 
     /// Stops the threads, and gathers what their workers leave. With the passes of those that only
-    /// put messages the workers have the whole right to know the queue: what was put by these very
-    /// passes is, as often, finished, kept or there. The pass of the outboxes comes back, with all
-    /// that the pool had of the right to know these.
+    /// put messages the workers have the whole right to know the queue: each message that these
+    /// passes put was finished, is kept or waits, once for each time that it was put. The pass of
+    /// the outboxes comes back, with all that the pool had of the right to know these.
     pub fn stop<R: Threads + Wait>(
         self,
         rt: &R,
