@@ -16,10 +16,6 @@ after-cons : {A : Type 0} (before : List A) (first : A) (r : Reads (List A))
 after-cons {A} before first (Ok x) = ap (λ (l : List A). given (l, x.1)) (sym (append_assoc before (first ∷ []) x.0))
 after-cons before first (Err fault) = refl
 
-pub after-none : {A : Type 0} (r : Reads (List A)) → after [] r ≡ r
-after-none (Ok x) = refl
-after-none (Err fault) = refl
-
 -- one of those that are left
 pub item_read : {A : Type 0} (item : List ℕ → Reads A) (before : List A) (n i : ℕ) (bytes : List ℕ) (x : A × List ℕ) → i < n → item bytes ≡ Ok x
     → after before (items_at item (n - i) bytes) ≡ after (before ++ (x.0 ∷ [])) (items_at item (n - (i + 1)) x.1)

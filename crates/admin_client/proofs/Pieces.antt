@@ -1,13 +1,13 @@
 -- Pieces of a stream.
-use Rattle.std.proofs.Common.{◌≡◌, ℕ, ◌<◌, true, List, [], ◌++◌, length, take, drop, Option, Some, None, refl, sym, ap, subst, ◌∙◌, append_assoc, arith}
-use Rattle.std.proofs.lemmas.List.{take-append-drop, length-append, append-nil}
+use Rattle.std.proofs.Common.{◌≡◌, ℕ, ◌<◌, List, [], ◌++◌, length, take, drop, Option, Some, None, sym, ap, subst, ◌∙◌, append_assoc}
+use Rattle.std.proofs.lemmas.List.{take-append-drop, append-nil}
 use Rattle.std.specs.Prelude.{IfSome, IfErr, Result, Ok, Err}
 use Rattle.std.specs.Io.KnownBytes.{Consumes, Keeps, IsAtEnd}
-use Rattle.rpc_record.specs.Records.{IsRecord, IsAtFault, HasFault, HasNoFault, HasNoRecord, header, fragment, front}
-use Rattle.rpc_record.specs.Machine.{State, start}
+use Rattle.rpc_record.specs.Records.{IsRecord, IsAtFault, HasFault, HasNoFault, HasNoRecord}
+use Rattle.rpc_record.specs.Machine.{State}
 use Rattle.admin_client.specs.declared.fault.AdminFault.{AdminFault}
 use Rattle.admin_client.specs.declared.fault.AdminFault.TheVariants.{Stream, Late, Cut, TooLong, Malformed, OfAnotherCall, Refused, NoMemory}
-use Rattle.admin_client.specs.Incoming.{BeginsWith, HasNext, IsFailure, IsOfStream, IsOpen, Takes}
+use Rattle.admin_client.specs.Incoming.{BeginsWith, HasNext, IsFailure, IsOfStream, Takes}
 
 -- ---- what is in a piece
 
@@ -21,35 +21,7 @@ record_begins made came piece n r = (came ++ take n piece, drop n piece, split_p
 pub fault_begins : (came piece : List ℕ) (n : ℕ) → IsAtFault (came ++ take n piece) → HasFault (came ++ piece)
 fault_begins came piece n f = (came ++ take n piece, drop n piece, split_piece came piece n, f)
 
--- ---- before the first
-
-no_record : HasNoRecord []
-no_record made spelled after e r =
-    let sizes : length (spelled ++ after) ≡ 0 = ap length (sym e) in
-    let spelled_is : length spelled ≡ length (front r.parts ++ fragment true r.last) = ap length r.bytes_are in
-    absurd (omega (
-      arith,
-      sizes,
-      spelled_is,
-      length-append spelled after,
-      length-append (front r.parts) (fragment true r.last),
-      length-append (header true (length r.last)) r.last,
-    ))
-
-no_fault : HasNoFault []
-no_fault begun after e f =
-    let sizes : length (begun ++ after) ≡ 0 = ap length (sym e) in
-    let begun_is : length begun ≡ length (front f.parts ++ header f.last f.size) = ap length f.bytes_are in
-    absurd (omega (arith, sizes, begun_is, length-append begun after, length-append (front f.parts) (header f.last f.size)))
-
-pub opened : IsOpen [] (Some start)
-opened = (no_record, no_fault, (tt, refl))
-
 -- ---- bytes that were read
-
-pub consumed_none : (a : Option (List ℕ)) → Consumes a a []
-consumed_none None = tt
-consumed_none (Some xs) = refl
 
 pub consumed_more : (a b c : Option (List ℕ)) (xs ys : List ℕ) → Consumes a b xs → Consumes b c ys → Consumes a c (xs ++ ys)
 consumed_more None b c xs ys p q = tt
@@ -65,13 +37,13 @@ consumed_kept (Some l) (Some m) (Some n) xs p q = p ∙ ap (λ (t : List ℕ). x
 
 -- ---- what a stream that tells its bytes has next
 
-pub begins_known : (a c : Option (List ℕ)) (made read : List ℕ) → Consumes a c read → BeginsWith made read → IfSome a (BeginsWith made)
+begins_known : (a c : Option (List ℕ)) (made read : List ℕ) → Consumes a c read → BeginsWith made read → IfSome a (BeginsWith made)
 begins_known None c made read p b = tt
 begins_known (Some l) None made read p b = absurd p
 begins_known (Some l) (Some m) made read p b =
     (b.0, b.1 ++ m, p ∙ ap (λ (t : List ℕ). t ++ m) b.2 ∙ append_assoc b.0 b.1 m, b.3)
 
-pub fault_known : (a c : Option (List ℕ)) (read : List ℕ) → Consumes a c read → HasFault read → IfSome a HasFault
+fault_known : (a c : Option (List ℕ)) (read : List ℕ) → Consumes a c read → HasFault read → IfSome a HasFault
 fault_known None c read p f = tt
 fault_known (Some l) None read p f = absurd p
 fault_known (Some l) (Some m) read p f =

@@ -106,15 +106,6 @@ sizes_fault_by volumes a b c ea eb ec = λ j.
     ((list_all-map has_lawful_files volume_sized volumes ∙ eb) j)
     ((list_all-map has_lawful_inodes volume_sized volumes ∙ ec) j)
 
--- a rule of the tree that is broken is the first
-pub broken_first : (fault tree sizes : Option ℕ) → fault ≡ tree → (fault ≡ None → ⊥) → fault ≡ first_broken tree sizes
-broken_first fault None sizes e some = absurd (some e)
-broken_first fault (Some n) sizes e some = e
-
--- else it is one of sizes
-pub broken_then : (fault tree sizes : Option ℕ) → tree ≡ None → fault ≡ sizes → fault ≡ first_broken tree sizes
-broken_then fault tree sizes none e = e ∙ sym (ap (λ (t : Option ℕ). first_broken t sizes) none)
-
 -- ---- sizes that aren't given
 
 pub asked-more : (sized : List SizedVolumeSpec) (volumes : List VolumeSpec) (k : ℕ) (d : VolumeSpec) (v : SizedVolumeSpec)
@@ -127,11 +118,6 @@ asked-more sized volumes k d v e l f = map-append volume_sized sized (v ∷ []) 
     more [] n l = absurd (omega arith)
     more (x ∷ xs) zero l = refl
     more (x ∷ xs) (suc n) l = ap (λ vs. volume_asked x ∷ vs) (more xs n (omega arith))
-
--- a layout with sizes that aren't given
-pub asked-is : (aggregates : List AggregateSpec) (volumes : List VolumeSpec) (sized : List SizedVolumeSpec)
-    → map volume_sized sized ≡ map volume_asked volumes → sized_layout_in aggregates sized ≡ layout_in aggregates volumes
-asked-is aggregates volumes sized e = λ i. record { spare = map spare_of aggregates; volumes = e i }
 
 asked-ranges : (volumes : List VolumeSpec) → list_all has_lawful_ranges (map volume_asked volumes) ≡ true
 asked-ranges [] = refl
@@ -157,7 +143,7 @@ asked-files (v ∷ vs) h =
     (asked-files vs parts.1)
 
 -- where no rule is broken without sizes, none is with those that stand for them
-pub asked-lawful : (aggregates : List AggregateSpec) (volumes : List VolumeSpec) → fault_without_sizes (layout_in aggregates volumes) ≡ None
+asked-lawful : (aggregates : List AggregateSpec) (volumes : List VolumeSpec) → fault_without_sizes (layout_in aggregates volumes) ≡ None
     → fault_of (layout_in aggregates volumes) ≡ None
 asked-lawful aggregates volumes h =
     let both = neither (tree_fault (layout_in aggregates volumes)) (if not (list_all is_limited (map volume_asked volumes)) then Some 57 else None) h in

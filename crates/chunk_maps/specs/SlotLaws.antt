@@ -16,18 +16,18 @@ at-most-one true = omega arith
 at-most-one false = omega arith
 
 module _ {V : Type 0} where
-  pub used-most : (slots : Slots V) → used_in slots ≤ length slots
+  used-most : (slots : Slots V) → used_in slots ≤ length slots
   used-most [] = omega arith
   used-most (slot ∷ slots) = let rest = used-most slots in let one = at-most-one (is_some slot) in omega (arith, rest, one)
 
   -- one place set
-  pub used-set : (slots : Slots V) (i : ℕ) (o : Option V) → i < length slots
+  used-set : (slots : Slots V) (i : ℕ) (o : Option V) → i < length slots
       → used_in (set slots i o) + one_if (is_some (get_or slots i None)) ≡ used_in slots + one_if (is_some o)
   used-set [] i o h = absurd (omega arith)
   used-set (slot ∷ slots) zero o h = omega arith
   used-set (slot ∷ slots) (suc i) o h = let rest = used-set slots i o (omega arith) in omega (arith, rest)
 
-  pub none-used : (slots : Slots V) → used_in slots ≡ 0 → (i : ℕ) → get_or slots i None ≡ None
+  none-used : (slots : Slots V) → used_in slots ≡ 0 → (i : ℕ) → get_or slots i None ≡ None
   none-used [] h i = refl
   none-used (None ∷ slots) h zero = refl
   none-used (Some value ∷ slots) h zero = absurd (omega (arith, h))
@@ -36,7 +36,7 @@ module _ {V : Type 0} where
 -- values as they are stored, and how a slot without one is
 module _ {S V : Type 0} (stored : S → Option V) (vacant : S) (none : stored vacant ≡ None) where
   -- a value stored at a place
-  pub set-slot : (values : List S) (i f : ℕ) (x : S) → length values ≡ chunk_size → i ≡ f % chunk_size → (q : ℕ)
+  set-slot : (values : List S) (i f : ℕ) (x : S) → length values ≡ chunk_size → i ≡ f % chunk_size → (q : ℕ)
       → slot_of (map stored (set values i x)) q ≡ cond (q % chunk_size == f % chunk_size) (stored x) (slot_of (map stored values) q)
   set-slot values i f x long is q =
       let slots = map stored values in
@@ -89,7 +89,7 @@ module _ {S V : Type 0} (stored : S → Option V) (vacant : S) (none : stored va
       ∙ ap (λ l. cond (q % chunk_size == f % chunk_size) o (slot_of l q)) v
 
   -- no value at any place
-  pub none-stored : (n : ℕ) → used_in (map stored (replicate n vacant)) ≡ 0
+  none-stored : (n : ℕ) → used_in (map stored (replicate n vacant)) ≡ 0
   none-stored zero = refl
   none-stored (suc n) = let rest = none-stored n in let one = ap (λ o. one_if (is_some o)) none in omega (arith, rest, one)
 

@@ -11,7 +11,7 @@ all-append (x ∷ xs) ys =
     ap (λ t. times_of x ++ t) (all-append xs ys) ∙ sym (append_assoc (times_of x) (times_of_all xs) (times_of_all ys))
 
 -- one span more, last
-pub last-put : (first : Option Span) (xs ys : List Span) (x : Span) → ys ≡ xs ++ x ∷ []
+last-put : (first : Option Span) (xs ys : List Span) (x : Span) → ys ≡ xs ++ x ∷ []
     → times_of_first first ++ times_of_all ys ≡ (times_of_first first ++ times_of_all xs) ++ times_of x
 last-put first xs ys x is =
     ap (λ zs. times_of_first first ++ times_of_all zs) is
@@ -23,7 +23,7 @@ pub put-kept : (first : Option Span) (xs ys : List Span) (x : Span) (b : Bool) �
 put-kept first xs ys x b is kept = last-put first xs ys x (is ∙ ap (λ (c : Bool). if c then xs ++ x ∷ [] else xs) kept)
 
 -- some calls of a span, and then the others
-pub span-cut : (since calls most : ℕ) → most ≤ calls → replicate most since ++ replicate (calls - most) since ≡ replicate calls since
+span-cut : (since calls most : ℕ) → most ≤ calls → replicate most since ++ replicate (calls - most) since ≡ replicate calls since
 span-cut since calls most fits =
     replicate-append-replicate most (calls - most) since ∙ ap (λ n. replicate n since) (omega (arith, fits))
 

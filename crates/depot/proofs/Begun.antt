@@ -34,7 +34,7 @@ use Rattle.depot.proofs.Holding.{is-untaken}
 use Rattle.affinity.specs.lemmas.Standing.{parents-tree, number-place, under-place, covers-under, under-covers}
 
 -- what a taking took was there, and isn't any more
-pub moved-some : {T : Type 0} (before taken after : Option T) (p : T) → taken ≡ Some p → moving.Moved before taken after → (before ≡ Some p) × (after ≡ None)
+moved-some : {T : Type 0} (before taken after : Option T) (p : T) → taken ≡ Some p → moving.Moved before taken after → (before ≡ Some p) × (after ≡ None)
 moved-some before taken after p e m = subst (λ (t : Option _). moving.Moved before t after) e m
 
 pub some-parents : (layout : Layout) → 0 < length (parents layout)
@@ -146,7 +146,7 @@ module _ {P E : Type 0} where
     with = record v { looked = 0; held = set v.held b (Some g); reads = more ++ v.reads }
 
     -- the parcel of each node under the call's is there to be taken
-    pub found-there : (c : Affinity) → IsUnder layout a c → (p : P) × (untaken with b (number_of layout c) ≡ Some p)
+    found-there : (c : Affinity) → IsUnder layout a c → (p : P) × (untaken with b (number_of layout c) ≡ Some p)
         × (slice_index_or g (number_of layout c) None ≡ Some p) × (kind p ≡ kind_of c)
     found-there c under =
         let k : ℕ = number_of layout c in
@@ -198,10 +198,10 @@ module _ {P E : Type 0} where
           )
 
       -- the grant lists what was taken
-      pub begun-lists : ListsAs v b g f
+      begun-lists : ListsAs v b g f
       begun-lists k pos lt cover = let t = taken-at k pos lt cover in t.1 ∙ sym t.2
 
-      pub begun-so : (IsExcluded v b → ⊥) → (found : ℕ) → found < worn → (IsOnly v → Counts v found)
+      begun-so : (IsExcluded v b → ⊥) → (found : ℕ) → found < worn → (IsOnly v → Counts v found)
           → IsAmong (record { word = 0; value = found; shares = 0 }) more → (views : List (List (View P E))) → views ≡ ws ∷ [] → IsBegun v b f (known views)
       begun-so apart found low own looked views is = (
         g,
@@ -214,7 +214,7 @@ module _ {P E : Type 0} where
         (found, (low, own), among-later (record { word = 0; value = found; shares = 0 }) by_hand.1 more looked),
       )
 
-      pub begun-gathered : (IsExcluded v b → ⊥) → IsGathered v → IsGathered begun_view
+      begun-gathered : (IsExcluded v b → ⊥) → IsGathered v → IsGathered begun_view
       begun-gathered apart before c k h has pos lt cover =
           ⊎_elim
           (λ (t : (c ≡ b) × (Some g ≡ Some h)).

@@ -2,7 +2,7 @@
 use Rattle.std.proofs.Common.{◌≡◌, ◌≢◌, ℕ, zero, suc, ◌<◌, ◌≤◌, Bool, true, false, List, [], ◌∷◌, length, set, get_or, sym, refl, ap, ◌∙◌}
 use Rattle.std.proofs.Common.{subst, arith, Option, Some, None, inl, inr, ⊎_elim}
 use Rattle.std.proofs.lemmas.List.{get_or_past}
-use Rattle.std.proofs.lemmas.Bool.{false≢true, cases_lt}
+use Rattle.std.proofs.lemmas.Bool.{cases_lt}
 use mathlib.Core.Option as maybe
 use mathlib.Core.Option.{some, some-injective, some-ne-none}
 use lib.ListN.{get_elem?}
@@ -40,11 +40,6 @@ module _ {T : Type 0} where
   none-left filled items zero pos lt some_parcel e = absurd (omega arith)
   none-left filled items (suc k) pos lt some_parcel e = filled-none (get_or filled (suc k) false) (get_elem? items (suc k))
       (within-there items (suc k) lt) some_parcel e
-
-pub filled-within : (filled : List Bool) (k : ℕ) → get_or filled k false ≡ true → k < length filled
-filled-within [] k e = absurd (false≢true e)
-filled-within (b ∷ filled) zero e = omega arith
-filled-within (b ∷ filled) (suc k) e = let r = filled-within filled k e in omega arith
 
 -- slot 0 was emptied last
 pub all-empty : (filled : List Bool) → ((k : ℕ) → 0 < k → k < length filled → get_or filled k false ≡ false) → (k : ℕ) → k < length filled

@@ -136,7 +136,7 @@ module _ {P E : Type 0} where
           (λ q at. each.2 ∙ sym (seat.1 u.0 q u.1.0 (ap (λ n. slice_index_or v.first n None) u.2 ∙ at))),
         )
 
-    pub stamped-listed : (g : List (Option P)) → Has v (number_of layout a) g → (rs : List Read) (seen : List E) (mine : List ℕ)
+    stamped-listed : (g : List (Option P)) → Has v (number_of layout a) g → (rs : List Read) (seen : List E) (mine : List ℕ)
         → HasWith (record v {
           stamped = number_of layout a;
           held = set v.held (number_of layout a) (Some left);

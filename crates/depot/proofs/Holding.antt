@@ -32,16 +32,16 @@ if-some : {A : Type 0} (t : Bool) (y : Option A) (x : A) → (if t then y else N
 if-some true y x e = (refl, e)
 if-some false y x e = cc
 
-pub none-if : {A : Type 0} (y : Option A) → ((x : A) → y ≡ Some x → ⊥) → y ≡ None
+none-if : {A : Type 0} (y : Option A) → ((x : A) → y ≡ Some x → ⊥) → y ≡ None
 none-if None h = refl
 none-if (Some x) h = absurd (h x refl)
 
-pub in-place : {A : Type 0} (xs : List (Option A)) (b : ℕ) (x : A) → slice_index_or xs b None ≡ Some x → get_elem? xs b ≡ some (Some x)
+in-place : {A : Type 0} (xs : List (Option A)) (b : ℕ) (x : A) → slice_index_or xs b None ≡ Some x → get_elem? xs b ≡ some (Some x)
 in-place [] b x e = cc
 in-place (y ∷ ys) zero x e = ap some e
 in-place (y ∷ ys) (suc b) x e = in-place ys b x e
 
-pub of-place : {A : Type 0} (xs : List (Option A)) (b : ℕ) (x : A) → get_elem? xs b ≡ some (Some x) → slice_index_or xs b None ≡ Some x
+of-place : {A : Type 0} (xs : List (Option A)) (b : ℕ) (x : A) → get_elem? xs b ≡ some (Some x) → slice_index_or xs b None ≡ Some x
 of-place [] b x e = absurd (some-ne-none (Some x) (sym e))
 of-place (y ∷ ys) zero x e = some-injective y (Some x) e
 of-place (y ∷ ys) (suc b) x e = of-place ys b x e
@@ -88,7 +88,7 @@ module _ {P E : Type 0} where
       let all = and_from (nat_lt 0 k && nat_lt k (length v.tree)) (covers v.tree b k && eqb (tally k v.gone) 0) low high in
       if-is (is_untaken v b k) (listed_by (slice_index_or v.held b None) k) None all ∙ (ap (λ o. listed_by o k) (of-place v.held b g has) ∙ lists)
 
-  pub none-untaken : (v : View P E) (b k : ℕ) → 0 < tally k v.gone → untaken v b k ≡ None
+  none-untaken : (v : View P E) (b k : ℕ) → 0 < tally k v.gone → untaken v b k ≡ None
   none-untaken v b k away = none-if (untaken v b k) (λ p e. let u = untaken-is v b k p e in let h = u.home in absurd (omega arith))
 
   same-untaken : (v : View P E) (b k : ℕ) (gone : List ℕ) (rs : List Read) → tally k gone ≡ tally k v.gone

@@ -27,7 +27,7 @@ module _ {P : Type 0} where
   given-at now (Some p) before m none = m.0
 
   -- all that was given stands in the list, and nothing else
-  pub laid-so : (f : ℕ → Option P) (n : ℕ) (xs : List (Option P)) → length xs ≡ n → ((k : ℕ) → get_or xs k None ≡ f k) → xs ≡ by_number f n
+  laid-so : (f : ℕ → Option P) (n : ℕ) (xs : List (Option P)) → length xs ≡ n → ((k : ℕ) → get_or xs k None ≡ f k) → xs ≡ by_number f n
   laid-so f n xs size are =
       let many = by-number-length f n in
       ext_get_or None xs (by_number f n) (size ∙ sym many) (λ k h. are k ∙ sym (by-number-at f n k (omega arith)))
@@ -56,11 +56,11 @@ module _ {P : Type 0} where
   -- ---- the parcels of a whole tree
 
   -- past the last number there is none
-  pub past-nodes : (kind : P → Kind) (layout : Layout) (f : ℕ → Option P) → HasExactly kind layout Serial f → (k : ℕ) → length (parents layout) ≤ k → f k ≡ None
+  past-nodes : (kind : P → Kind) (layout : Layout) (f : ℕ → Option P) → HasExactly kind layout Serial f → (k : ℕ) → length (parents layout) ≤ k → f k ≡ None
   past-nodes kind layout f exact k le = exact.no_other k (λ node under e. let q = under-place layout Serial node under in let q1 = q.1
       in (let no : ⊥ = omega arith in no))
 
-  pub none-at-zero : (kind : P → Kind) (layout : Layout) (f : ℕ → Option P) → HasExactly kind layout Serial f → f 0 ≡ None
+  none-at-zero : (kind : P → Kind) (layout : Layout) (f : ℕ → Option P) → HasExactly kind layout Serial f → f 0 ≡ None
   none-at-zero kind layout f exact = exact.no_other 0 (λ node under e. let q = under-place layout Serial node under in let q0 = q.0
       in (let no : ⊥ = omega arith in no))
 

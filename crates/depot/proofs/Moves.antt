@@ -42,7 +42,7 @@ module _ {P E : Type 0} where
   pub not-excluded : (v : View P E) (node : ℕ) → ((c : ℕ) (h : List (Option P)) → Has v c h → Excludes v.tree node c → ⊥) → IsExcluded v node → ⊥
   not-excluded v node none x = none x.0 x.1 x.2 x.3
 
-  pub moved-again : (v : View P E) (more again : List Read) {p q : List ℕ} {vs ws : List (View P E)} → Moved v p more vs
+  moved-again : (v : View P E) (more again : List Read) {p q : List ℕ} {vs ws : List (View P E)} → Moved v p more vs
       → Moved (view_of vs) q again ws → Moved v q (again ++ more) ws
   moved-again v more again {q = q} is then =
       then ∙ (ap (λ us. let z : View P E = record (view_of us) { path = q; reads = again ++ (view_of us).reads } in z ∷ []) is

@@ -36,7 +36,7 @@ module _ {P E : Type 0} where
       (held-of v.held w.held b g has)
 
   -- two seats that met
-  pub met-two : (vs ws : List (View P E)) → length vs ≡ 1 → length ws ≡ 1 → vs ++ ws ≡ view_of vs ∷ view_of ws ∷ []
+  met-two : (vs ws : List (View P E)) → length vs ≡ 1 → length ws ≡ 1 → vs ++ ws ≡ view_of vs ∷ view_of ws ∷ []
   met-two [] ws one other = absurd (omega arith)
   met-two (v ∷ u ∷ us) ws one other = absurd (omega arith)
   met-two (v ∷ []) [] one other = absurd (omega arith)

@@ -1,9 +1,7 @@
 -- What a call that counts by one is to the parcels of its node, and to the seat's entries.
-use Rattle.std.proofs.Common.{◌≡◌, ◌≢◌, ℕ, ◌+◌, ◌%◌, ◌==◌, true, length, List, [], ◌∷◌, ◌++◌, map, refl, sym, ap, subst, ◌∙◌, Option, Some, None}
-use Rattle.std.proofs.lemmas.List.{map-append}
+use Rattle.std.proofs.Common.{◌≡◌, ℕ, ◌+◌, ◌%◌, ◌==◌, true, length, List, refl, sym, ap, subst, ◌∙◌, Option, Some}
 use Rattle.nfs_model.specs.Tree as trees
 use Rattle.nfs_model.specs.Tree.{Layout, Affinity, stripes_of, aggregate_of}
-use Rattle.affinity.specs.declared.affinity.Affinity as codes
 use Rattle.affinity.specs.Numbers.{number_of, parents}
 use Rattle.parcels.specs.declared.family.Parcel.{Parcel}
 use Rattle.parcels.specs.Exact.{kind_in}
@@ -20,22 +18,14 @@ use Rattle.parcels.specs.declared.sets.LogicalHeld.{LogicalHeld}
 use Rattle.parcels.specs.declared.sets.VolumeHeld.{VolumeHeld}
 use Rattle.parcels.specs.declared.sets.AggrHeld.{AggrHeld}
 use Rattle.parcels.specs.declared.sets.SerialHeld.{SerialHeld}
-use Rattle.depot_rule.specs.declared.view.View.{View}
-use Rattle.depot_rule.specs.declared.view.Entry.{Entry}
-use Rattle.depot.specs.declared.grants.Refusal.{Refusal}
-use Rattle.depot.specs.declared.grants.Refusal.TheVariants.{Busy, Worn}
-use Rattle.depot.specs.declared.trial.adding.Change.{Change}
 use Rattle.depot.specs.declared.trial.adding.Change.TheVariants.{Add}
-use Rattle.depot_rule.specs.History.{Behaviour, entries_of}
-use Rattle.depot.specs.Grants.{IsBegun, IsFinished, IsRefused}
-use Rattle.depot.specs.lemmas.Seats.{begun-entries, finished-entries}
 use Rattle.depot.specs.trial.Adding.{Changes}
 use Rattle.depot.specs.trial.lemmas.Stripes.{alone-here, alone-else}
-use Rattle.depot_rows.specs.Counting.{AddsOne, told}
+use Rattle.depot_rows.specs.Counting.{AddsOne}
 
 module _ {P : Type 0} where
   -- the number of a node without nodes below
-  pub leaf-added : (tree : List ℕ) (n : ℕ) (x y : Parcel P ℕ ℕ ℕ ℕ ℕ ℕ ℕ) (sum : ℕ) → kind_in y ≡ kind_in x → number_in y ≡ sum
+  leaf-added : (tree : List ℕ) (n : ℕ) (x y : Parcel P ℕ ℕ ℕ ℕ ℕ ℕ ℕ) (sum : ℕ) → kind_in y ≡ kind_in x → number_in y ≡ sum
       → (number_in x + 1) % 18446744073709551616 ≡ sum
       → Changes tree n (Add 1) (alone n x) sum (alone n y)
   leaf-added tree n x y sum kind is plus = (
@@ -44,7 +34,7 @@ module _ {P : Type 0} where
   )
 
   -- the number of a node with others below, which stay
-  pub node-added : (tree : List ℕ) (n : ℕ) (x y : Parcel P ℕ ℕ ℕ ℕ ℕ ℕ ℕ) (rest : ℕ → Option (Parcel P ℕ ℕ ℕ ℕ ℕ ℕ ℕ)) (sum : ℕ) → kind_in y ≡ kind_in x
+  node-added : (tree : List ℕ) (n : ℕ) (x y : Parcel P ℕ ℕ ℕ ℕ ℕ ℕ ℕ) (rest : ℕ → Option (Parcel P ℕ ℕ ℕ ℕ ℕ ℕ ℕ)) (sum : ℕ) → kind_in y ≡ kind_in x
       → number_in y ≡ sum → (number_in x + 1) % 18446744073709551616 ≡ sum
       → Changes tree n (Add 1) (λ k. or_else (alone n x k) (rest k)) sum (λ k. or_else (alone n y k) (rest k))
   node-added tree n x y rest sum kind is plus = (
@@ -127,17 +117,3 @@ module _ {P : Type 0} where
 
   pub serial-as-it-was : (held : SerialHeld P ℕ ℕ ℕ ℕ ℕ ℕ ℕ) → serial_alike held held
   serial-as-it-was held = (λ i. refl, λ i x y here there. aggregate-itself x y (some-some x y (sym here ∙ there)))
-
-module _ {T B : Type 0} (m : Behaviour T Change ℕ B) where
-  -- a call that was begun and finished is the last of those that the seat made
-  pub made-one : (v w u : View T (Entry T Change ℕ)) (b c : ℕ) (f : ℕ → Option T) (e : Entry T Change ℕ) → IsBegun v b f w → IsFinished m w c e u
-      → map told (entries_of u) ≡ map told (entries_of v) ++ told e ∷ []
-  made-one v w u b c f e begun finished =
-      ap (map told) (finished-entries m w u c e finished ∙ ap (λ es. es ++ e ∷ []) (begun-entries v w b f begun)) ∙ map-append told (entries_of v) (e ∷ [])
-
-module _ {T E : Type 0} where
-  -- a refusal leaves what the seat has seen, and what of it the seat made
-  pub refused-same : (layout : Layout) (v w : View T E) (a : codes.Affinity) (refusal : Refusal) → IsRefused layout v a refusal w
-      → (w.seen ≡ v.seen) × (w.mine ≡ v.mine)
-  refused-same layout v w a (Busy node word) r = (ap (λ (x : View T E). x.seen) r.1.1, ap (λ (x : View T E). x.mine) r.1.1)
-  refused-same layout v w a Worn r = (ap (λ (x : View T E). x.seen) r.1, ap (λ (x : View T E). x.mine) r.1)

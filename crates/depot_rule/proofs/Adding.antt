@@ -42,13 +42,13 @@ or-left : (b c : Bool) → b ≡ true → b || c ≡ true
 or-left true c e = refl
 or-left false c e = absurd cc
 
-pub covers-so : (ps : List ℕ) (a k : ℕ) → covers ps a k ≡ true → Covers ps a k
+covers-so : (ps : List ℕ) (a k : ℕ) → covers ps a k ≡ true → Covers ps a k
 covers-so ps a k e = ⊎_elim
     (λ (here : eqb a k ≡ true). inl (eqb-true a k here))
     (λ (above : ltb 0 (tally a (ancestors ps k)) ≡ true). inr (ltb-true 0 (tally a (ancestors ps k)) above))
     (either-true (eqb a k) (ltb 0 (tally a (ancestors ps k))) e)
 
-pub so-covers : (ps : List ℕ) (a k : ℕ) → Covers ps a k → covers ps a k ≡ true
+so-covers : (ps : List ℕ) (a k : ℕ) → Covers ps a k → covers ps a k ≡ true
 so-covers ps a k c = ⊎_elim
     (λ (e : a ≡ k). or-left (eqb a k) (ltb 0 (tally a (ancestors ps k))) (eq-eqb a k e))
     (λ (h : 0 < tally a (ancestors ps k)). or-right (eqb a k) (ltb 0 (tally a (ancestors ps k))) (lt-ltb 0 (tally a (ancestors ps k)) h)) c
@@ -77,13 +77,13 @@ last-or-before (x ∷ xs) ys (w ∷ zs) z e =
 
 module _ {P : Type 0} where
   -- what is patched in, and what stays outside
-  pub patched-in : (ps : List ℕ) (a k : ℕ) (inner outer : ℕ → Option P) → Covers ps a k → patched ps a inner outer k ≡ inner k
+  patched-in : (ps : List ℕ) (a k : ℕ) (inner outer : ℕ → Option P) → Covers ps a k → patched ps a inner outer k ≡ inner k
   patched-in ps a k inner outer c = if-less (covers ps a k) (inner k) (outer k) (so-covers ps a k c)
 
-  pub patched-out : (ps : List ℕ) (a k : ℕ) (inner outer : ℕ → Option P) → (Covers ps a k → ⊥) → patched ps a inner outer k ≡ outer k
+  patched-out : (ps : List ℕ) (a k : ℕ) (inner outer : ℕ → Option P) → (Covers ps a k → ⊥) → patched ps a inner outer k ≡ outer k
   patched-out ps a k inner outer apart = if-others (covers ps a k) (inner k) (outer k) (outer k) (λ e. absurd (apart (covers-so ps a k e))) (λ e. refl)
 
-  pub patched-alike : (ps : List ℕ) (a : ℕ) (one other outer : ℕ → Option P) → ((k : ℕ) → Covers ps a k → one k ≡ other k)
+  patched-alike : (ps : List ℕ) (a : ℕ) (one other outer : ℕ → Option P) → ((k : ℕ) → Covers ps a k → one k ≡ other k)
       → patched ps a one outer ≡ patched ps a other outer
   patched-alike ps a one other outer same = λ i k. at k i
     where
@@ -95,7 +95,7 @@ module _ {P : Type 0} where
       at k = pick (covers ps a k) (one k) (other k) (outer k) (λ e. same k (covers-so ps a k e))
 
 -- a node covers nodes alone
-pub covered-node : (ps : List ℕ) → IsTree ps → (a k : ℕ) → 0 < a → a < length ps → Covers ps a k → (0 < k) × (k < length ps)
+covered-node : (ps : List ℕ) → IsTree ps → (a k : ℕ) → 0 < a → a < length ps → Covers ps a k → (0 < k) × (k < length ps)
 covered-node ps t a k pos lt c = (positive, covers-below ps a k positive lt c)
   where
     positive : 0 < k

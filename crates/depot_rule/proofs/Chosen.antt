@@ -23,7 +23,7 @@ module _ {A : Type 0} where
   get-last (y ∷ ys) x = get-last ys x
 
   -- what stands at places of a beginning
-  pub chosen-start : (start rest : List A) (ps : List ℕ) → ((p : ℕ) → 0 < tally p ps → p < length start) → chosen (start ++ rest) ps ≡ chosen start ps
+  chosen-start : (start rest : List A) (ps : List ℕ) → ((p : ℕ) → 0 < tally p ps → p < length start) → chosen (start ++ rest) ps ≡ chosen start ps
   chosen-start start rest [] within = refl
   chosen-start start rest (p ∷ ps) within =
       let one = one-same p p refl in

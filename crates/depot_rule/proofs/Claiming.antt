@@ -36,7 +36,7 @@ use Rattle.depot_rule.proofs.Counting.{history-length}
 use Rattle.affinity.specs.declared.affinity.Kind.{Kind}
 
 -- what lies in a slot, none where it is out
-abbrev pub lying : {P : Type 0} → maybe.Option (Option P) → Option P
+abbrev lying : {P : Type 0} → maybe.Option (Option P) → Option P
 lying none = None
 lying (some y) = y
 

@@ -1,6 +1,6 @@
 -- Views that are dealt out anew: seats that meet, part and are joined keep the rule.
 use Rattle.std.proofs.Common.{◌≡◌, ◌≢◌, ℕ, ◌+◌, ◌<◌, ◌≤◌, eqb, List, [], ◌∷◌, ◌++◌, length, replicate, set, sym, refl, ap, ◌∙◌, arith, Option, None}
-use mathlib.Core.Option.{some, some-injective, some-ne-none}
+use mathlib.Core.Option.{some}
 use mathlib.Core.Option as maybe
 use lib.ListN.{get_elem?}
 use Rattle.atomic_table.specs.Table.{State, Joins, Splits}
@@ -69,7 +69,7 @@ module _ (P C R B : Type 0) (kind_of : P → Kind) (m : Behaviour P C R B) where
   abbrev AreSound : (ps : List ℕ) (first : List (Option P)) (s : St) → Rule kind_of m ps first s → List (List (View P E)) → Type 0
   AreSound ps first s r views = Each (Sound ps first s r) views
 
-  pub sound-views : (ps : List ℕ) (first : List (Option P)) (s : St) (r : Rule kind_of m ps first s) → AreSound ps first s r s.views
+  sound-views : (ps : List ℕ) (first : List (Option P)) (s : St) (r : Rule kind_of m ps first s) → AreSound ps first s r s.views
   sound-views ps first s r j vs at i v in_vs = (
     r.base.shares.sound j vs at i v in_vs,
     r.base.parcels.carries j vs at i v in_vs,

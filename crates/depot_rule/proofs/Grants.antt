@@ -30,12 +30,12 @@ module _ (P E : Type 0) where
       let o = over-at (λ c. tally a (ancestors v.tree c)) v.held b g here in let t : tally a (ancestors v.tree b) ≡ tally a (ancestors ps b) = ap
       (λ (q : List ℕ). tally a (ancestors q b)) s.tree in omega arith
 
-  pub claimed-once : (ps ws : List ℕ) (views : Views) (r : Shares ps ws views) (a : ℕ) → 0 < a → a < length ps → total (total (claims a)) views ≤ 1
+  claimed-once : (ps ws : List ℕ) (views : Views) (r : Shares ps ws views) (a : ℕ) → 0 < a → a < length ps → total (total (claims a)) views ≤ 1
   claimed-once ps ws views r a pos lt = dite (ℕ_discrete (total (total (claims a)) views) 0) (λ z. omega arith) (λ nz.
       let l = r.alone a pos lt (omega arith) in let one = l.0 in omega arith)
 
   -- no grant's node is above another's, in any two views
-  pub apart : (ps ws : List ℕ) (views : Views) (r : Shares ps ws views) (j k x y a b : ℕ) (vs us : List (View P E)) (v u : View P E)
+  apart : (ps ws : List ℕ) (views : Views) (r : Shares ps ws views) (j k x y a b : ℕ) (vs us : List (View P E)) (v u : View P E)
       (g h : List (Option P)) → 0 < a
       → get_elem? views j ≡ some vs → get_elem? vs x ≡ some v → get_elem? v.held a ≡ some (Some g)
       → get_elem? views k ≡ some us → get_elem? us y ≡ some u → get_elem? u.held b ≡ some (Some h)

@@ -6,7 +6,7 @@ use mathlib.Core.Option.{some, some-ne-none}
 use mathlib.Core.Logic.{dite}
 use native.Mathlib.Decide.{ℕ_discrete}
 use lib.ListN.{get_elem?}
-use Rattle.atomic_table.specs.Table.{State, Joins, Splits}
+use Rattle.atomic_table.specs.Table.{Joins, Splits}
 use Rattle.depot_rule.specs.declared.view.View.{View}
 use Rattle.depot_rule.specs.declared.view.Entry.{Entry}
 use Rattle.depot_rule.specs.History.{Behaviour}
@@ -88,14 +88,11 @@ module _ (P C R B : Type 0) (kind_of : P → Kind) (m : Behaviour P C R B) where
   abbrev E : Type 0
   E = Entry P C R
 
-  abbrev St : Type 0
-  St = State (Option P) (List (View P E))
-
   abbrev G : Type 0
   G = List (Option P)
 
   -- a seat with a split left gives a second one
-  pub splits-off : (ps : List ℕ) (first : List (Option P)) (id : ℕ) (v : View P E) → 2 ≤ v.parts → Splits (Rule kind_of m ps first) id (v ∷ [])
+  splits-off : (ps : List ℕ) (first : List (Option P)) (id : ℕ) (v : View P E) → 2 ≤ v.parts → Splits (Rule kind_of m ps first) id (v ∷ [])
       (record v { parts = v.parts - 1 } ∷ []) (fresh v ∷ [])
   splits-off ps first id v two = parted_in P C R B kind_of m ps first id (v ∷ []) (record v { parts = v.parts - 1 } ∷ []) (fresh v ∷ []) (λ s whole at.
       let r = whole.base in let h = whole.history in
@@ -149,7 +146,7 @@ module _ (P C R B : Type 0) (kind_of : P → Kind) (m : Behaviour P C R B) where
       ))
 
   -- two seats, of which the second runs no call, become one
-  pub merges : (ps : List ℕ) (first : List (Option P)) (id : ℕ) (v : View P E) (other : ℕ) (w : View P E) → w.path ≡ [] → w.unsure ≡ 0 → w.out ≡ 0
+  merges : (ps : List ℕ) (first : List (Option P)) (id : ℕ) (v : View P E) (other : ℕ) (w : View P E) → w.path ≡ [] → w.unsure ≡ 0 → w.out ≡ 0
       → w.stamped ≡ 0 → Joins (Rule kind_of m ps first) id (v ∷ []) other (w ∷ []) (merge v w ∷ []) []
   merges ps first id v other w no_path calm idle unstamped = joined P C R B kind_of m ps first id (v ∷ []) other (w ∷ []) (merge v w ∷ []) (λ s whole at at' ne.
       let r = whole.base in let h = whole.history in

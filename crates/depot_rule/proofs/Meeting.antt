@@ -21,14 +21,14 @@ less-cases true less others Q e f = e refl
 less-cases false less others Q e f = f refl
 
 module _ {A : Type 0} where
-  pub longer-first : (xs ys : List A) → length xs ≤ length (longer xs ys)
+  longer-first : (xs ys : List A) → length xs ≤ length (longer xs ys)
   longer-first xs ys = less-cases (ltb (length xs) (length ys)) ys xs (λ l. length xs ≤ length l) (λ e.
       let lt = ltb-true (length xs) (length ys) e in omega arith) (λ e. omega arith)
 
-  pub longer-second : (xs ys : List A) → length ys ≤ length (longer xs ys)
+  longer-second : (xs ys : List A) → length ys ≤ length (longer xs ys)
   longer-second xs ys = less-cases (ltb (length xs) (length ys)) ys xs (λ l. length ys ≤ length l) (λ e. omega arith) (λ e. ltb-false (length xs) (length ys) e)
 
-  pub longer-one : (Q : List A → Type 0) (xs ys : List A) → Q xs → Q ys → Q (longer xs ys)
+  longer-one : (Q : List A → Type 0) (xs ys : List A) → Q xs → Q ys → Q (longer xs ys)
   longer-one Q xs ys p q = less-cases (ltb (length xs) (length ys)) ys xs Q (λ e. q) (λ e. p)
 
 module _ (P C R B : Type 0) (m : Behaviour P C R B) (ps : List ℕ) (first : List (Option P)) where
@@ -39,17 +39,17 @@ module _ (P C R B : Type 0) (m : Behaviour P C R B) (ps : List ℕ) (first : Lis
     -- a seat with a longer beginning of the history
     module _ (id : ℕ) (vs : List (View P E)) (i : ℕ) (v : View P E) (at : get_elem? s.views id ≡ some vs) (in_vs : get_elem? vs i ≡ some v)
         (es : List E) (begins : StartsWith h.log es) (long : length v.seen ≤ length es) where
-      pub within-longer : (p : ℕ) → 0 < tally p v.mine → p < length es
+      within-longer : (p : ℕ) → 0 < tally p v.mine → p < length es
       within-longer p some_p = let o = (h.own id vs at i v in_vs).1 p some_p in omega arith
 
-      pub chosen-longer : chosen es v.mine ≡ chosen v.seen v.mine
+      chosen-longer : chosen es v.mine ≡ chosen v.seen v.mine
       chosen-longer = sym (chosen-within h.log es v.mine begins within-longer) ∙ chosen-within h.log v.seen v.mine (h.seen id vs at i v in_vs)
           (h.own id vs at i v in_vs).1
 
-      pub longer-own : Own P C R B m ps first (having_seen es v)
+      longer-own : Own P C R B m ps first (having_seen es v)
       longer-own = ((h.own id vs at i v in_vs).0, within-longer)
 
-      pub longer-hand : HasHand P C R B m ps first (having_seen es v)
+      longer-hand : HasHand P C R B m ps first (having_seen es v)
       longer-hand = let q = h.hand id vs at i v in_vs in (q.0, subst (λ l. AreHands m.takes m.gives l q.0) (sym chosen-longer) q.1)
 
     -- two seats

@@ -35,7 +35,7 @@ module _ (P E : Type 0) (kind_of : P → Kind) where
   G = List (Option P)
 
   -- the grant of b lists other parcels, where all that it covers is taken
-  pub relist-keeps : (ps : List ℕ) (first : List (Option P)) (s : State (Option P) (List (View P E))) (r : Base kind_of ps first s) (id b : ℕ)
+  relist-keeps : (ps : List ℕ) (first : List (Option P)) (s : State (Option P) (List (View P E))) (r : Base kind_of ps first s) (id b : ℕ)
       (v : View P E) (g left : G) (rs : List Read) (seen : List E) (mine : List ℕ)
       → get_elem? s.views id ≡ some (v ∷ []) → Has v b g → v.stamped ≡ 0 → length mine ≡ length v.mine + 1
       → ((k : ℕ) → 0 < k → k < length ps → Covers ps b k → has_out k v ≡ 1)

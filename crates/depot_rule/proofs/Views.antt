@@ -55,7 +55,7 @@ module _ (P E : Type 0) where
   shares-parts a views = total-parts (total (λ (v : View P E). entered a v + unsure_in a v)) (total (claims a)) (total (shares a))
       (λ vs. total-parts (λ (v : View P E). entered a v + unsure_in a v) (claims a) (shares a) (λ v. refl) vs) views
 
-  pub lower-most : (ps : List ℕ) → IsTree ps → (a : ℕ) (v : View P E) → IsWellFormed ps v → lower a v ≤ length ps
+  lower-most : (ps : List ℕ) → IsTree ps → (a : ℕ) (v : View P E) → IsWellFormed ps v → lower a v ≤ length ps
   lower-most ps t a v s =
       let o : over_taken (λ b. tally a (ancestors v.tree b)) 0 v.held ≤ length v.held
       = over-most (λ b. tally a (ancestors v.tree b)) 0 v.held (λ b. subst (λ (q : List ℕ). tally a (ancestors q b) ≤ 1) (sym s.tree)
@@ -75,7 +75,7 @@ module _ (P E : Type 0) where
       let s = r.seats in omega arith
 
   -- a view's rights to add entries are few, and so are all entries
-  pub few-due : (ps : List ℕ) → length ps ≤ 1024 → (v : View P E) → IsWellFormed ps v → v.looked + open_grants v ≤ 2000 * parts v
+  few-due : (ps : List ℕ) → length ps ≤ 1024 → (v : View P E) → IsWellFormed ps v → v.looked + open_grants v ≤ 2000 * parts v
   few-due ps few v s = let o = over-most (λ b. 1) 0 v.held (λ b. omega arith) in let w = s.wide in let l = s.looked in let some_part = s.some_part
       in omega arith
 
@@ -86,14 +86,14 @@ module _ (P E : Type 0) where
       (λ j vs e. total-most (λ (v : View P E). v.looked + open_grants v) parts vs (λ i v d. few-due ps r.few v (r.sound j vs e i v d))) in
       let s = r.seats in omega arith
 
-  pub unsettled-most : (ps ws : List ℕ) (views : List (List (View P E))) (r : Shares ps ws views) → total (total unsettled) views ≤ 128000
+  unsettled-most : (ps ws : List ℕ) (views : List (List (View P E))) (r : Shares ps ws views) → total (total unsettled) views ≤ 128000
   unsettled-most ps ws views r =
       let b = total-most (total unsettled) (total parts) views
       (λ j vs e. total-most unsettled parts vs (λ i v d. let o = one-most (ltb 0 v.stamped) in let some_part = (r.sound j vs e i v d).some_part
       in omega arith)) in
       let s = r.seats in omega arith
 
-  pub made-less : (views : List (List (View P E))) → total (total made) views ≤ total (total due) views
+  made-less : (views : List (List (View P E))) → total (total made) views ≤ total (total due) views
   made-less views = total-less (total made) (total due) (λ vs. total-less made due (λ v. omega arith) vs) views
 
   pub few-entries : (ps ws : List ℕ) (views : List (List (View P E))) (r : Shares ps ws views) → total (total made) views ≤ 4611686018427643904

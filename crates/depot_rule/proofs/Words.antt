@@ -27,7 +27,7 @@ module _ (P E : Type 0) where
   word-is ps ws views r a pos lt = r.counted a pos lt ∙ shares-parts P E a views
 
   -- a word found below 2^32 has no claim, and one found at 2^32 or more has one
-  pub unclaimed : (ps ws : List ℕ) (views : Views) (r : Shares ps ws views) (a : ℕ) → 0 < a → a < length ps → get_or ws a 0 < exclusive
+  unclaimed : (ps ws : List ℕ) (views : Views) (r : Shares ps ws views) (a : ℕ) → 0 < a → a < length ps → get_or ws a 0 < exclusive
       → total (total (claims a)) views ≡ 0
   unclaimed ps ws views r a pos lt low = let q = word-is ps ws views r a pos lt in omega arith
 
@@ -42,7 +42,7 @@ module _ (P E : Type 0) where
       dite (ℕ_discrete (total (total (claims a)) views) 0) (λ z. omega arith) (λ nz. let l = r.alone a pos lt (omega arith) in let one = l.0 in omega arith)
 
   -- the seat id's step on the word i, which makes it x
-  pub step-keeps : (ps ws : List ℕ) (views : Views) (r : Shares ps ws views) (i x id : ℕ) (v w : View P E) → get_elem? views id ≡ some (v ∷ [])
+  step-keeps : (ps ws : List ℕ) (views : Views) (r : Shares ps ws views) (i x id : ℕ) (v w : View P E) → get_elem? views id ≡ some (v ∷ [])
       → 0 < i → i < length ps
       → w.parts ≡ v.parts → made w ≡ made v → due w + unsettled v ≤ due v + unsettled w → IsWellFormed ps w
       → x + shares i v ≡ get_or ws i 0 + shares i w

@@ -24,7 +24,7 @@ pub known-here : (es : List Listed) (index : List Cookie) (i : ℕ) (c : Cookie)
 known-here es index i c x s = x.same c.0 ∙ listed-here index i c s
 
 -- a name that each compares otherwise isn't there
-pub not-listed : (es : List Listed) (index : List Cookie) (name : List ℕ) (o : Ordering) (cookie : ℕ) → (o ≡ Equal → ⊥) → name_in (under cookie es) ≡ name
+not-listed : (es : List Listed) (index : List Cookie) (name : List ℕ) (o : Ordering) (cookie : ℕ) → (o ≡ Equal → ⊥) → name_in (under cookie es) ≡ name
     → AllCompare es name o index → is_listed index cookie ≡ false
 not-listed es [] name o cookie n is a = refl
 not-listed es (x ∷ index) name o cookie n is a = by (x.0 == cookie) refl (not-listed es index name o cookie n is a.1)

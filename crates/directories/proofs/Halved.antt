@@ -3,7 +3,7 @@ use Rattle.std.proofs.Common.{◌≡◌, refl, ℕ, zero, suc, ◌+◌, ◌/◌,
 use Rattle.std.proofs.lemmas.Bool.Decides.{nat_tests}
 use Rattle.directories.specs.Digits.{digits_within, binary_digits}
 
-pub no-more-digits : (f g m n : ℕ) → m ≤ n → n ≤ g → digits_within f m ≤ digits_within g n
+no-more-digits : (f g m n : ℕ) → m ≤ n → n ≤ g → digits_within f m ≤ digits_within g n
 no-more-digits zero g m n l w = omega arith
 no-more-digits (suc f) zero m n l w = let none : m ≡ 0 = omega arith in rw none (omega arith)
 no-more-digits (suc f) (suc g) m n l w = by (m == 0) refl (n == 0) refl (λ p. no-more-digits f g (m / 2) (n / 2) (omega arith) (omega (arith, p)))

@@ -48,7 +48,7 @@ hashed-dropped d spots position s x h g =
     (hashed-remove d.list spots position h)
 
 -- what the spot of a name has as its hash
-pub hash-there : (d : DirectoryValue) (spots : List Spot) (position : ℕ) (s : Spot) (name : List ℕ) → AreHashed d.list spots
+hash-there : (d : DirectoryValue) (spots : List Spot) (position : ℕ) (s : Spot) (name : List ℕ) → AreHashed d.list spots
     → name_at d.list (cookies spots) position ≡ Some name → slice_get spots position ≡ Some s → s.hash ≡ name_hash name
 hash-there d spots position s name h n g =
     all-at (HasHash d.list) spots position s h g

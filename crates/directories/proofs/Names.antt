@@ -14,7 +14,7 @@ use Rattle.directories.proofs.Rising.{at-least, without-none}
 -- ---- what is under a cookie is in the list
 
 module _ (P : Listed → Type 0) where
-  pub all-under : (es : List Listed) (cookie : ℕ) (e : Listed) → AllByRecursion P es → under cookie es ≡ Some e → P e
+  all-under : (es : List Listed) (cookie : ℕ) (e : Listed) → AllByRecursion P es → under cookie es ≡ Some e → P e
   all-under [] cookie e a u = absurd (grind (arith, u))
   all-under (x ∷ es) cookie e a u = by (x.cookie == cookie) (all-under es cookie e a.1) u
     where
@@ -65,7 +65,7 @@ without-absent (x ∷ es) name f = by (same_name x.name name) (without-absent es
     by true r s = absurd (grind (arith, s))
     by false r s = ap (λ l. x ∷ l) (r s)
 
-pub without-other : (es : List Listed) (name : List ℕ) → AllByRecursion (λ (y : Listed). same_name y.name name ≡ false) es → without_name name es ≡ es
+without-other : (es : List Listed) (name : List ℕ) → AllByRecursion (λ (y : Listed). same_name y.name name ≡ false) es → without_name name es ≡ es
 without-other [] name a = refl
 without-other (x ∷ es) name a = rw a.0 (ap (λ l. x ∷ l) (without-other es name a.1))
 

@@ -17,13 +17,13 @@ keyed x = name_hash x ∷ x
 turned : (x y : List ℕ) → name_cmp x y ≡ ordering_reverse (name_cmp y x)
 turned x y = nat_list_cmp_total.antisymm (keyed x) (keyed y)
 
-pub turned-less : (x y : List ℕ) → name_cmp x y ≡ Greater → name_cmp y x ≡ Less
+turned-less : (x y : List ℕ) → name_cmp x y ≡ Greater → name_cmp y x ≡ Less
 turned-less x y h = turned y x ∙ ap ordering_reverse h
 
 pub turned-greater : (x y : List ℕ) → name_cmp x y ≡ Less → name_cmp y x ≡ Greater
 turned-greater x y h = turned y x ∙ ap ordering_reverse h
 
-pub less-less : (x y z : List ℕ) → name_cmp x y ≡ Less → name_cmp y z ≡ Less → name_cmp x z ≡ Less
+less-less : (x y z : List ℕ) → name_cmp x y ≡ Less → name_cmp y z ≡ Less → name_cmp x z ≡ Less
 less-less x y z = nat_list_cmp_total.trans (keyed x) (keyed y) (keyed z)
 
 pub same-names : (x y : List ℕ) → name_cmp x y ≡ Equal → x ≡ y

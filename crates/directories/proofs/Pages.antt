@@ -102,11 +102,11 @@ in-front [] more i e g = absurd (grind (arith, g))
 in-front (x ∷ es) more zero e g = g
 in-front (x ∷ es) more (suc i) e g = in-front es more i e g
 
-abbrev pub entry_in_slot : List Slot → ℕ → Listed
+abbrev entry_in_slot : List Slot → ℕ → Listed
 entry_in_slot slots s = entry_or_none (in_slot slots s)
 
 -- a run, and what comes behind it
-pub run-ahead : (slots : List Slot) (order run : List ℕ) (position : ℕ) → take (length run) (drop position order) ≡ run
+run-ahead : (slots : List Slot) (order run : List ℕ) (position : ℕ) → take (length run) (drop position order) ≡ run
     → in_order slots run ++ drop (position + length run) (in_order slots order) ≡ drop position (in_order slots order)
 run-ahead slots order run position e =
     let all = in_order slots order in

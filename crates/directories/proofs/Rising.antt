@@ -10,7 +10,7 @@ use Rattle.directories.specs.Entries.{under, has, without}
 
 -- ---- what rises
 
-pub rises-weaker : (low lower : ℕ) (es : List Listed) (next : ℕ) → lower ≤ low → Rises low es next → Rises lower es next
+rises-weaker : (low lower : ℕ) (es : List Listed) (next : ℕ) → lower ≤ low → Rises low es next → Rises lower es next
 rises-weaker low lower [] next l h = omega (arith, h)
 rises-weaker low lower (e ∷ es) next l h = (let a = h.0 in omega arith, h.1)
 
@@ -31,7 +31,7 @@ rises-without low (e ∷ es) next cookie h =
 
 -- ---- a cookie that is too low
 
-pub none-below : (low : ℕ) (es : List Listed) (next cookie : ℕ) → Rises low es next → cookie < low → under cookie es ≡ None
+none-below : (low : ℕ) (es : List Listed) (next cookie : ℕ) → Rises low es next → cookie < low → under cookie es ≡ None
 none-below low [] next cookie h l = refl
 none-below low (e ∷ es) next cookie h l = let a = h.0 in let r = none-below (e.cookie + 1) es next cookie h.1 (omega arith) in grind (arith, nat_tests, r)
 
@@ -40,7 +40,7 @@ at-least low es next cookie h t = let n = none-below low es next cookie h in gri
 
 -- ---- those above a cookie
 
-pub all-above : (low : ℕ) (es : List Listed) (next cookie : ℕ) → Rises low es next → cookie < low → above_cookie cookie es ≡ es
+all-above : (low : ℕ) (es : List Listed) (next cookie : ℕ) → Rises low es next → cookie < low → above_cookie cookie es ≡ es
 all-above low [] next cookie h l = refl
 all-above low (e ∷ es) next cookie h l = let a = h.0 in let r = all-above (e.cookie + 1) es next cookie h.1 (omega arith) in grind (arith, nat_tests, r)
 
@@ -123,13 +123,3 @@ remove-at low (x ∷ es) next cookie zero e h s is =
     let r = without-none (x.cookie + 1) es next cookie h.1 (omega arith) in grind (arith, nat_tests, r)
 remove-at low (x ∷ es) next cookie (suc i) e h s is =
     let m = at-low (x.cookie + 1) es next i e h.1 s in let r = remove-at (x.cookie + 1) es next cookie i e h.1 s is in grind (arith, nat_tests, r)
-
--- the entry with a cookie is the one under it
-pub under-at : (low : ℕ) (es : List Listed) (next cookie i : ℕ) (e : Listed) → Rises low es next → slice_get es i ≡ Some e → e.cookie ≡ cookie
-    → under cookie es ≡ slice_get es i
-under-at low [] next cookie i e h s is = absurd (grind (arith, s))
-under-at low (x ∷ es) next cookie zero e h s is =
-    let same : x ≡ e = grind (arith, s) in
-    let here : x.cookie ≡ cookie = ap (λ (y : Listed). y.cookie) same ∙ is in grind (arith, nat_tests)
-under-at low (x ∷ es) next cookie (suc i) e h s is =
-    let m = at-low (x.cookie + 1) es next i e h.1 s in let r = under-at (x.cookie + 1) es next cookie i e h.1 s is in grind (arith, nat_tests, m, r)

@@ -40,7 +40,7 @@ becomes-set (y ∷ slots) zero x l (suc q) = grind (arith, nat_tests)
 becomes-set (y ∷ slots) (suc s) x l zero = grind (arith, nat_tests)
 becomes-set (y ∷ slots) (suc s) x l (suc q) = let r = becomes-set slots s x (omega (arith, l)) q in grind (arith, nat_tests, r)
 
-pub becomes-push : (slots : List Slot) (x : Slot) → Becomes (length slots) (shown x) slots (slots ++ x ∷ [])
+becomes-push : (slots : List Slot) (x : Slot) → Becomes (length slots) (shown x) slots (slots ++ x ∷ [])
 becomes-push [] x zero = grind (arith, nat_tests)
 becomes-push [] x (suc q) = grind (arith, nat_tests)
 becomes-push (y ∷ slots) x zero = grind (arith, nat_tests)
@@ -60,7 +60,7 @@ put-push slots s e is = record {
 
 -- ---- the order
 
-pub order-at : (slots : List Slot) (order : List ℕ) (i : ℕ) (s : ℕ) → i < length order → s ≡ get_or order i 0
+order-at : (slots : List Slot) (order : List ℕ) (i : ℕ) (s : ℕ) → i < length order → s ≡ get_or order i 0
     → slice_get (in_order slots order) i ≡ Some (entry_or_none (in_slot slots s))
 order-at slots [] i s l is = absurd (omega (arith, l))
 order-at slots (x ∷ order) zero s l is = ap (λ k. Some (entry_or_none (in_slot slots k))) (sym is)
@@ -70,7 +70,7 @@ pub length-order : (slots : List Slot) (order : List ℕ) → length (in_order s
 length-order slots [] = refl
 length-order slots (s ∷ order) = ap (λ n. suc n) (length-order slots order)
 
-pub all-filled : (low : ℕ) (slots : List Slot) (order : List ℕ) (next : ℕ) → 1 ≤ low → Rises low (in_order slots order) next
+all-filled : (low : ℕ) (slots : List Slot) (order : List ℕ) (next : ℕ) → 1 ≤ low → Rises low (in_order slots order) next
     → AllByRecursion (λ s. is_some (in_slot slots s) ≡ true) order
 all-filled low slots [] next l h = tt
 all-filled low slots (s ∷ order) next l h =
@@ -157,7 +157,7 @@ becomes-here : (s : ℕ) (o : Option Listed) (slots new : List Slot) → Becomes
 becomes-here s o slots new b = let here = b s in grind (arith, nat_tests, here)
 
 -- what the order with one more slot has
-pub order-put : (slots new : List Slot) (order : List ℕ) (next s : ℕ) (e : Listed) → IsOrdered slots order next → PutInto s e slots new
+order-put : (slots new : List Slot) (order : List ℕ) (next s : ℕ) (e : Listed) → IsOrdered slots order next → PutInto s e slots new
     → in_order new (order ++ s ∷ []) ≡ in_order slots order ++ e ∷ []
 order-put slots new order next s e h p =
     let out = none-in 3 slots order next s h.rising (vacant-low 3 (in_slot slots s) (omega arith) p.vacant) in
@@ -218,7 +218,7 @@ still-one (x ∷ order) (suc i) s q l is o t = by (x == q) (still-one order i s 
     by false r u = r u
 
 -- what the order without a position has
-pub order-less : (slots new : List Slot) (order : List ℕ) (next cookie i s : ℕ) → IsOrdered slots order next → has (in_order slots order) cookie ≡ true
+order-less : (slots new : List Slot) (order : List ℕ) (next cookie i s : ℕ) → IsOrdered slots order next → has (in_order slots order) cookie ≡ true
     → under cookie (in_order slots order) ≡ slice_get (in_order slots order) i → i < length order → s ≡ get_or order i 0 → Becomes s None slots new
     → in_order new (remove order i) ≡ without cookie (in_order slots order)
 order-less slots new order next cookie i s h t u l is b =

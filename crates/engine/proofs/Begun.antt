@@ -4,7 +4,7 @@ use Rattle.std.specs.Prelude.{length, map, option_map, slice_get}
 use Rattle.std.specs.List.{remove}
 use Rattle.nfs_model.specs.Parts.{Hand}
 use Rattle.nfs_model.specs.Events.Refusals as events
-use Rattle.nfs_model.specs.Events.Refusals.{is_bad_moment, is_idle, open_count, refusal}
+use Rattle.nfs_model.specs.Events.Refusals.{is_idle, open_count, refusal}
 use Rattle.nfs_model.specs.Events.Step.{begun}
 use Rattle.nfs_values.specs.declared.call.Call.{Call}
 use Rattle.nfs_values.specs.declared.moment.Moment.{Moment}

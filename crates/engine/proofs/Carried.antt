@@ -8,11 +8,11 @@ use Rattle.nfs_model.specs.Server.{VolumeState}
 use Rattle.nfs_model.specs.Parts.{Hand, Empty, Fresh, Dead, batch_in, range_of, most_ranges}
 use Rattle.nfs_model.specs.World.{Setup, World, Worker, changed_at, with_hand}
 use Rattle.nfs_model.specs.Events.Refusals as events
-use Rattle.nfs_model.specs.Events.Refusals.{Event, Fetch, Cull, PutDown, Survey, excluded, refusal, is_idle, has_empty_hand, is_range_in_use, or_not_in_use}
-use Rattle.nfs_model.specs.Events.Refusals.{may_lack_memory, put_refusal, hand_of, fetch_refusal}
+use Rattle.nfs_model.specs.Events.Refusals.{Fetch, Cull, PutDown, Survey, excluded, refusal, is_idle, has_empty_hand, is_range_in_use, or_not_in_use}
+use Rattle.nfs_model.specs.Events.Refusals.{may_lack_memory, put_refusal, hand_of}
 use Rattle.nfs_model.specs.Events.Step.{Events, Happens, stamp_added}
 use Rattle.filer_state.specs.state.Jobs as jobs
-use Rattle.filer_state.specs.state.Jobs.{InnerCall, JobReply, Took, Gave, Surveyed, Replied, batches_in, inner_node, inner_volume, InnerMoves, without_hand}
+use Rattle.filer_state.specs.state.Jobs.{InnerCall, JobReply, Took, Gave, Surveyed, Replied, batches_in, without_hand}
 use Rattle.service.specs.Inner.{call_to_put}
 use Rattle.engine.specs.laws.Inner.{HasMoved}
 use Rattle.engine.specs.Inner as tending
@@ -207,11 +207,7 @@ module _ (setup : Setup) (w : World) (i : ℕ) where
     put-nothing empty = put-asks ∙ ap (put_refusal setup w) empty
 
   module _ (free : is_idle at ≡ true) (v : ℕ) (blocks : List ℕ) where
-    -- what a mover carries
-    carried-by : (k : Worker) → at ≡ Some k → (hand : Hand) → hand_of at ≡ hand → k.hand ≡ hand
-    carried-by k there hand is = sym (ap hand_of there) ∙ is
-
-    pub delivered : hand_of at ≡ Fresh v blocks → (answer : Result events.Done ℕ) (new : World) → Tends (jobs.Deliver v) answer new
+    delivered : hand_of at ≡ Fresh v blocks → (answer : Result events.Done ℕ) (new : World) → Tends (jobs.Deliver v) answer new
         → Events setup w (PutDown i) answer new
     delivered carries (Ok done) new h = (put-asks free (Fresh v blocks) carries ∙ h.0, told h.1 h.2 h.3)
       where
@@ -244,7 +240,7 @@ module _ (setup : Setup) (w : World) (i : ℕ) where
         by (inr (inl e)) = absurd e.2
         by (inr (inr e)) = inr (e.0, put-asks free (Fresh v blocks) carries ∙ e.1, may)
 
-    pub freed : hand_of at ≡ Dead v blocks → (answer : Result events.Done ℕ) (new : World) → Tends (to_free v blocks) answer new
+    freed : hand_of at ≡ Dead v blocks → (answer : Result events.Done ℕ) (new : World) → Tends (to_free v blocks) answer new
         → Events setup w (PutDown i) answer new
     freed carries (Ok done) new h = (put-asks free (Dead v blocks) carries ∙ h.0, told h.1 h.2 h.3)
       where

@@ -46,14 +46,14 @@ seen-set f (c ∷ cs) (suc i) d k e is = ap (λ (xs : List worlds.Connection). c
 
 -- ---- what is answered
 
-abbrev pub if_open : Bool → Option ℕ
+abbrev if_open : Bool → Option ℕ
 if_open b = if b then None else Some 36
 
-pub may-close : (cs : List Held) (i : ℕ) (o : ConnectionState) → slice_get cs i ≡ Some (Open o)
+may-close : (cs : List Held) (i : ℕ) (o : ConnectionState) → slice_get cs i ≡ Some (Open o)
     → if_open (is_open (slice_get (map connection_seen cs) i)) ≡ None
 may-close cs i o e = ap (λ (x : Option worlds.Connection). if_open (is_open x)) (seen-at cs i (Open o) e)
 
-pub may-not-close : (s : State) (i : ℕ) → key_at (slice_get s.connections.items i) ≡ None → if_open (is_open (slice_get (world s).connections i)) ≡ Some 36
+may-not-close : (s : State) (i : ℕ) → key_at (slice_get s.connections.items i) ≡ None → if_open (is_open (slice_get (world s).connections i)) ≡ Some 36
 may-not-close s i none = ap if_open (is-shut s.connections.items s.slab i none)
 
 -- ---- how many are open
@@ -79,7 +79,7 @@ open-before (d ∷ cs) zero c (suc j) x e = e
 open-before (d ∷ cs) (suc i) c zero x e = e
 open-before (d ∷ cs) (suc i) c (suc j) x e = open-before cs i c j x e
 
-pub closed-sound : (s new : State) (i : ℕ) (o : ConnectionState) (c : ClosedConnection)
+closed-sound : (s new : State) (i : ℕ) (o : ConnectionState) (c : ClosedConnection)
     → new ≡ record s { connections = new.connections; slab = new.slab } → held_in new ≡ slice_set (held_in s) i (Closed c)
     → AreKeyed new.connections.items new.slab → slab_len new.slab + 1 ≡ slab_len s.slab
     → slice_get (held_in s) i ≡ Some (Open o) → IsSoundEngine s → IsSoundEngine new
@@ -93,7 +93,7 @@ closed-sound s new i o c same items keyed less there sound =
     (λ j x e. sound.owed j x (open-before cs i c j x (subst (λ (l : List Held). slice_get l j ≡ Some (Open x)) items e)))
 
 -- what is seen of a connection that is closed
-pub closed-seen : (s : State) (i : ℕ) (o : ConnectionState) (c : ClosedConnection) → slice_get (held_in s) i ≡ Some (Open o)
+closed-seen : (s : State) (i : ℕ) (o : ConnectionState) (c : ClosedConnection) → slice_get (held_in s) i ≡ Some (Open o)
     → c.stream.items ≡ (connection_of o).stream → c.output.items ≡ (connection_of o).output → c.finished ≡ length (finished_of s.calls)
     → record (world s) { connections = map connection_seen (slice_set (held_in s) i (Closed c)) }
     ≡ record (world s) { connections = changed_at (with_closed (length (finished_of s.calls))) (map connection_seen (held_in s)) i }

@@ -118,10 +118,6 @@ module _ {P C R : Type 0} where
             ∙ set-back b.lent i (Some h.lent) h.is_lent) j;
       })
 
-  pub counted-anew : (counts : List VolumeCounts) (b : FilerBooks P C R) (i : ℕ) (new : Vec VolumeCounts) (c : FilerBooks P C R)
-      → HasWorked (HasCounted counts) b i new c → IsRecounted b i counts new.items
-  counted-anew counts b i new c h = (h.lent, h.is_lent, h.did.1)
-
   -- what a worker has after its work
   module _ {O : Type 0} (does : Does (FilerParcel P) O) (b c : FilerBooks P C R) (i : ℕ) (o : O) (h : HasWorked does b i o c) (counts : List VolumeCounts)
       (right : IsCounted b.layout counts (now b)) where

@@ -109,7 +109,7 @@ still-open bytes None x = refl
 still-open bytes (Some n) x = refl
 
 -- as many are open after bytes were written
-pub count-written : (bytes : List ℕ) (cs : List worlds.Connection) (n : ℕ) → open_count (changed_at (with_output bytes) cs n) ≡ open_count cs
+count-written : (bytes : List ℕ) (cs : List worlds.Connection) (n : ℕ) → open_count (changed_at (with_output bytes) cs n) ≡ open_count cs
 count-written bytes [] n = refl
 count-written bytes (x ∷ cs) zero = ap (λ k. k + open_count cs) (still-open bytes x.closed x)
 count-written bytes (x ∷ cs) (suc n) = ap (λ k. open_one x.closed + k) (count-written bytes cs n)

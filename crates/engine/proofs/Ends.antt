@@ -4,7 +4,7 @@ use Rattle.std.specs.Prelude.{slice_get}
 use mathlib.Core.Option.{some}
 use Rattle.nfs_model.specs.Types as types
 use Rattle.nfs_model.specs.World as worlds
-use Rattle.nfs_model.specs.World.{Setup, World, changed_at, finish, with_running, with_output, written_to}
+use Rattle.nfs_model.specs.World.{Setup, World, changed_at, finish}
 use Rattle.nfs_model.specs.Replay as replays
 use Rattle.nfs_model.specs.Tree.{Layout}
 use Rattle.nfs_model.specs.Server.{Server}

@@ -1,7 +1,7 @@
 -- An idle worker with an empty hand, a volume that is there, and what is in a hand: what a call of a hand asks for.
 use Rattle.std.proofs.Common.{◌≡◌, ℕ, zero, suc, ◌<◌, Bool, true, false, ◌&&◌, List, [], ◌∷◌, length, map, Some, None, refl, sym, ap, ◌∙◌}
 use Rattle.std.proofs.Common.{subst, arith}
-use Rattle.std.specs.Prelude.{slice_get, slice_index_or, is_some, nat_lt}
+use Rattle.std.specs.Prelude.{slice_get, is_some, nat_lt}
 use Rattle.std.proofs.lemmas.Bool.{and_parts, ltb-true, lt-ltb}
 use Rattle.std.proofs.lemmas.Bool.Decides.{nat_tests}
 use Rattle.std.proofs.lemmas.List.{length-map}
@@ -24,12 +24,7 @@ use Rattle.engine.specs.Seen.{world, worker_seen}
 use Rattle.engine.specs.Sound.{IsSoundEngine, IsCarried}
 use Rattle.engine.specs.Workers.{worker_with, idle_worker}
 use Rattle.engine.proofs.Lists.{all-at, inner}
-use Rattle.engine.proofs.Workers.{idle-worker, empty-hand, seen-at, index-found, in-vector}
-
--- an idle worker's place, as an index finds it
-pub there-at : (s : State) (i : ℕ) → is_idle (slice_get (world s).workers i) ≡ true → (k : Worker) → k ≡ slice_index_or s.workers.items i k
-    → slice_get s.workers.items i ≡ Some k
-there-at s i free k read = index-found s.workers i k (in-vector s.workers i _ (idle-worker s.workers.items i free).1) read
+use Rattle.engine.proofs.Workers.{idle-worker, empty-hand, seen-at}
 
 -- ---- a volume that is there
 

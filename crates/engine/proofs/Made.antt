@@ -32,7 +32,7 @@ module _ {P A : Type 0} (entered : A → JobReply) (b : FilerBooks P Job JobRepl
   told reply = job_reply_of (entered reply)
 
   -- it may run on what was lent
-  pub may_run : MayWork (AsksForInner call hand) c i
+  may_run : MayWork (AsksForInner call hand) c i
   may_run = record {
     lent = record { affinity = inner_node call; parcels = begins.parcels };
     is_lent = laws.lent job_of job_reply_of b may.lawful call may.node i may.idle c begins apart;
@@ -53,28 +53,28 @@ module _ {P A : Type 0} (entered : A → JobReply) (b : FilerBooks P Job JobRepl
       did : Ran (Ok reply)
       did = subst Ran is works.did
 
-      pub may_finish : MayFinish (filer job_of job_reply_of) d i entry (entered reply)
+      may_finish : MayFinish (filer job_of job_reply_of) d i entry (entered reply)
       may_finish = laws.may-finish job_of job_reply_of b may.lawful call may.node i may.idle c begins apart (InnerHasRun told call hand) o d works entry
           (entered reply) is_entry did.0 hand did.1 may.others may.hands
 
-      pub is_made : (e : FilerBooks P Job JobReply) → HasFinished (filer job_of job_reply_of) d i entry (entered reply) e → IsMade b call hand (entered reply) e
+      is_made : (e : FilerBooks P Job JobReply) → HasFinished (filer job_of job_reply_of) d i entry (entered reply) e → IsMade b call hand (entered reply) e
       is_made e done = laws.made job_of job_reply_of b may.lawful call may.node i may.idle c begins apart (InnerHasRun told call hand) o d works entry
           (entered reply) is_entry did.0 hand did.1 e done
 
     -- ---- it did nothing
 
-    pub put_back : (e : FilerBooks P Job JobReply) → HasPutBack d i e → e ≡ b
+    put_back : (e : FilerBooks P Job JobReply) → HasPutBack d i e → e ≡ b
     put_back e back = laws.put-back job_of job_reply_of b may.lawful call may.node i may.idle c begins apart (InnerHasRun told call hand) o d works e back
 
     module _ (is : o ≡ Err NoSuchRange) where
       refused : Ran (Err NoSuchRange)
       refused = subst Ran is works.did
 
-      pub may_go_back_refused : MayPutBack d i
+      may_go_back_refused : MayPutBack d i
       may_go_back_refused = laws.may-put-back job_of job_reply_of b may.lawful call may.node i may.idle c begins apart (InnerHasRun told call hand) o d works
           refused.1
 
-      pub is_refused : IsRefusedFor b call refusals.NoSuchRange
+      is_refused : IsRefusedFor b call refusals.NoSuchRange
       is_refused = (
         laws.is-free job_of job_reply_of b may.lawful call may.node i may.idle c begins apart,
         λ g hands made under sound p there.
@@ -86,7 +86,7 @@ module _ {P A : Type 0} (entered : A → JobReply) (b : FilerBooks P Job JobRepl
       )
 
       -- then it would fetch, and its hand is empty
-      pub empty_hand : hand ≡ Empty
+      empty_hand : hand ≡ Empty
       empty_hand = by call may.node may.fits (is_refused.1 (settled b) (batches_in hand ++ may.others) (stamps b) (λ k cover. refl)
           (laws.settled-sound b may.lawful job_of job_reply_of (batches_in hand ++ may.others) may.hands may.sound))
         where
@@ -105,14 +105,14 @@ module _ {P A : Type 0} (entered : A → JobReply) (b : FilerBooks P Job JobRepl
       starved : Ran (Err (NoMemory back))
       starved = subst Ran is works.did
 
-      pub may_go_back_starved : MayPutBack d i
+      may_go_back_starved : MayPutBack d i
       may_go_back_starved = laws.may-put-back job_of job_reply_of b may.lawful call may.node i may.idle c begins apart (InnerHasRun told call hand) o d works
           starved.2
 
-      pub is_starved : IsRefusedFor b call refusals.NoMemory
+      is_starved : IsRefusedFor b call refusals.NoMemory
       is_starved = (laws.is-free job_of job_reply_of b may.lawful call may.node i may.idle c begins apart, starved.0)
 
-      pub hand_back : back ≡ hand
+      hand_back : back ≡ hand
       hand_back = starved.1
 
 -- ---- at once

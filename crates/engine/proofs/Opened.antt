@@ -56,16 +56,16 @@ idle-ready layout connections (suc n) = ((tt, tt), idle-ready layout connections
 
 -- so many idle workers: how many they are, what is seen of them, and what they run
 module _ (ks : List workers.Worker) (n : ℕ) (are : ks ≡ replicate n idle_worker) where
-  pub idle-count : length ks ≡ n
+  idle-count : length ks ≡ n
   idle-count = ap (λ (xs : List workers.Worker). length xs) are ∙ length-replicate n idle_worker
 
-  pub idle-workers : map worker_seen ks ≡ replicate n (record { running = None; hand = Empty })
+  idle-workers : map worker_seen ks ≡ replicate n (record { running = None; hand = Empty })
   idle-workers = ap (λ xs. map worker_seen xs) are ∙ idle-seen n
 
-  pub idle-messages : running_messages ks ≡ []
+  idle-messages : running_messages ks ≡ []
   idle-messages = ap running_messages are ∙ idle-run n
 
-  pub idle-are-ready : (layout : Layout) (connections : ℕ) → AllByRecursion (IsReady layout connections) ks
+  idle-are-ready : (layout : Layout) (connections : ℕ) → AllByRecursion (IsReady layout connections) ks
   idle-are-ready layout connections = subst (λ xs. AllByRecursion (IsReady layout connections) xs) (sym are) (idle-ready layout connections n)
 
 -- ---- the world

@@ -26,12 +26,12 @@ pub ready-later : (layout : Layout) (n k : ℕ) → n ≤ k → (w : Worker) →
 ready-later layout n k h w p = (run-later layout n k h w.run p.0, p.1)
 
 -- what workers run is placed
-pub ready-placed : (layout : Layout) (n : ℕ) (run : WorkerRun) → IsRunReady layout n run → AllByRecursion (IsPlaced layout n) (messages_in run)
+ready-placed : (layout : Layout) (n : ℕ) (run : WorkerRun) → IsRunReady layout n run → AllByRecursion (IsPlaced layout n) (messages_in run)
 ready-placed layout n Idle p = tt
 ready-placed layout n (Begun r) p = (p, tt)
 ready-placed layout n (Worked r outcome) p = (p.0, tt)
 
-pub all-ready-placed : (layout : Layout) (n : ℕ) (ws : List Worker) → AllByRecursion (IsReady layout n) ws
+all-ready-placed : (layout : Layout) (n : ℕ) (ws : List Worker) → AllByRecursion (IsReady layout n) ws
     → AllByRecursion (IsPlaced layout n) (running_messages ws)
 all-ready-placed layout n [] p = tt
 all-ready-placed layout n (w ∷ ws) p =
@@ -50,7 +50,7 @@ pub room-other : (c : ℕ) (m : Message Call) → m.origin.connection.0 ≢ c �
 room-other c m e = grind (arith, nat_tests, e)
 
 -- a connection that isn't opened yet is owed nothing
-pub nothing-kept : (layout : Layout) (n : ℕ) (ms : List (Message Call)) → AllByRecursion (IsPlaced layout n) ms → total (room_on n) ms ≡ 0
+nothing-kept : (layout : Layout) (n : ℕ) (ms : List (Message Call)) → AllByRecursion (IsPlaced layout n) ms → total (room_on n) ms ≡ 0
 nothing-kept layout n [] all = refl
 nothing-kept layout n (m ∷ ms) all =
     let this = room-other n m (λ e. let k = all.0.known in omega (arith, e, k)) in

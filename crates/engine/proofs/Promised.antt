@@ -46,7 +46,7 @@ promised served es e came headline outcomes history = record {
   history = history;
 }
 
-pub goes-on : StreamsAreServed → (old new : Shown) (more : List Event) → setup_in new ≡ setup_in old → Runs (setup_in old) old.world more new.world
+goes-on : StreamsAreServed → (old new : Shown) (more : List Event) → setup_in new ≡ setup_in old → Runs (setup_in old) old.world more new.world
     → HasHeadline new → HasOutcomes new → HasHistory new → GoesOn old more new
 goes-on served old new more same then headline outcomes history es before =
     promised served (es ++ more) new

@@ -9,7 +9,7 @@ use Rattle.std.proofs.lemmas.Option.{slice_get_within}
 use Rattle.nfs_model.specs.Tree.{Layout}
 use Rattle.nfs_model.specs.Home.{home_of_asked}
 use Rattle.nfs_model.specs.World as worlds
-use Rattle.nfs_model.specs.World.{Setup, World, all_running, changed_at}
+use Rattle.nfs_model.specs.World.{Setup}
 use Rattle.nfs_model.specs.Events.Feed.{Feeds, feeding}
 use Rattle.nfs_model.specs.Events.Refusals as events
 use Rattle.nfs_model.specs.Events.Refusals.{open_count, takes_input}
@@ -46,7 +46,7 @@ use Rattle.engine.specs.declared.worker.Worker.{Worker}
 use Rattle.engine.specs.Receiving.{takes_bytes, IsFed, ReceivesUnder}
 use Rattle.engine.specs.Seen.{connection_seen, held_in, setup_in, world}
 use Rattle.engine.specs.Sound.{IsSoundEngine, IsPlaced, IsReady, room_on}
-use Rattle.engine.specs.Words.{Does, HasItsSetup}
+use Rattle.engine.specs.Words.{Does}
 use Rattle.engine.proofs.Lists.{all-after, all-later, set-here, set-elsewhere}
 use Rattle.engine.proofs.Placed.{kept_on, room-own, room-other}
 use Rattle.engine.proofs.Workers.{count-running}
@@ -60,20 +60,20 @@ pub none-of : {A : Type 0} (o : Option A) → is_none o ≡ true → o ≡ None
 none-of None e = refl
 none-of (Some x) e = absurd cc
 
-abbrev pub if_takes : Bool → Option ℕ
+abbrev if_takes : Bool → Option ℕ
 if_takes b = if b then None else Some 36
 
-pub may-take : (s : State) (i : ℕ) (d : Held) (b : Bool) → slice_get (held_in s) i ≡ Some d → takes_bytes s.offer d ≡ b
+may-take : (s : State) (i : ℕ) (d : Held) (b : Bool) → slice_get (held_in s) i ≡ Some d → takes_bytes s.offer d ≡ b
     → if_takes (takes_input (setup_in s) (slice_get (world s).connections i)) ≡ if_takes b
 may-take s i d b there is =
     ap (λ (x : Option worlds.Connection). if_takes (takes_input (setup_in s) x)) (seen-at (held_in s) i d there) ∙ ap if_takes is
 
 -- where a number has no open connection
-pub may-not-take : (s : State) (i : ℕ) → key_at (slice_get s.connections.items i) ≡ None
+may-not-take : (s : State) (i : ℕ) → key_at (slice_get s.connections.items i) ≡ None
     → if_takes (takes_input (setup_in s) (slice_get (world s).connections i)) ≡ Some 36
 may-not-take s i none = ap if_takes (takes-none (setup_in s) s.connections.items s.slab i none)
 
-pub open-takes : (offer : Offer) (d : Held) (o : ConnectionState) → d ≡ Open o → TakesInput o → takes_bytes offer d ≡ true
+open-takes : (offer : Offer) (d : Held) (o : ConnectionState) → d ≡ Open o → TakesInput o → takes_bytes offer d ≡ true
 open-takes offer d o is takes = ap (takes_bytes offer) is ∙ ap (λ (f : Option ℕ). is_none f) (takes offer)
 
 -- ---- how many are open
@@ -88,10 +88,10 @@ count-fed (d ∷ cs) (suc i) o x e = let t = count-fed cs i o x e in omega (arit
 
 -- ---- where messages are placed
 
-abbrev pub IsKnown : ℕ → Message Call → Type 0
+abbrev IsKnown : ℕ → Message Call → Type 0
 IsKnown n m = m.origin.connection.0 < n
 
-abbrev pub IsAtHome : Layout → worlds.Message → Type 0
+abbrev IsAtHome : Layout → worlds.Message → Type 0
 IsAtHome layout m = home_of_asked layout m.asked ≡ Some m.affinity
 
 placed-more : (layout : Layout) (n : ℕ) (ms : List (Message Call)) → AllByRecursion (IsAdmitted layout) ms → AllByRecursion (IsKnown n) ms
@@ -133,7 +133,7 @@ kept-more c kept ms more all ws is sum =
     omega (arith, whole, sum)
 
 -- the connection that bytes came on owes the rooms of its new messages more, and the others what they owed
-pub fed-owed : (cs : List Held) (number : ℕ) (before after : ConnectionState) (ms more all : List (Message Call)) (ws : List Worker)
+fed-owed : (cs : List Held) (number : ℕ) (before after : ConnectionState) (ms more all : List (Message Call)) (ws : List Worker)
     → slice_get cs number ≡ Some (Open before) → all ≡ ms ++ more → AllByRecursion (IsOwn number) more → owed_by after ≡ owed_by before + rooms more
     → ((c : ℕ) (x : ConnectionState) → slice_get cs c ≡ Some (Open x) → owed_by x ≡ kept_on c ms ws)
     → (c : ℕ) (x : ConnectionState) → slice_get (slice_set cs number (Open after)) c ≡ Some (Open x) → owed_by x ≡ kept_on c all ws
@@ -170,7 +170,7 @@ is-part s number before sound there =
           ∙ ap (λ (layout : Layout). length layout.volumes) sound.layout;
     }
 
-abbrev pub fed_state : State → State → State
+abbrev fed_state : State → State → State
 fed_state s new = record s { connections = new.connections; slab = new.slab; calls = new.calls }
 
 world-fed : (s new : State) (number : ℕ) (before after : ConnectionState) → held_in new ≡ slice_set (held_in s) number (Open after)
@@ -181,7 +181,7 @@ world-fed s new number before after items there =
     ∙ seen-set (λ (x : worlds.Connection). connection_of after) (held_in s) number (Open before) (Open after) there refl))
 
 -- the setup of other calls of the same layout
-pub setup-same : (s new : State) → layout_in new.calls ≡ layout_in s.calls → setup_in (fed_state s new) ≡ setup_in s
+setup-same : (s new : State) → layout_in new.calls ≡ layout_in s.calls → setup_in (fed_state s new) ≡ setup_in s
 setup-same s new e = ap (λ (l : Layout). record (setup_in s) { layout = l }) e
 
 -- ---- the state
@@ -256,10 +256,10 @@ module _ (stays : WithoutHomeStays) (s new : State) (sound : IsSoundEngine s) (n
       }
 
   -- what the model says of it
-  pub happens : Feeds (setup_in s) (feeding number bytes taken (stop_number stop)) (world s) (world new)
+  happens : Feeds (setup_in s) (feeding number bytes taken (stop_number stop)) (world s) (world new)
   happens = subst (λ (x : State). Feeds (setup_in s) (feeding number bytes taken (stop_number stop)) (world s) (world x)) (sym same) happens-fed
 
-  pub fed-sound : IsSoundEngine new
+  fed-sound : IsSoundEngine new
   fed-sound = subst IsSoundEngine (sym same) sound-fed
 
 -- a place that took none
@@ -269,12 +269,12 @@ module _ (s new : State) (number : ℕ) (d d' : Held) (at : slice_get (held_in s
   same_items : held_in new ≡ held_in s
   same_items = items ∙ ap (slice_set (held_in s) number) stays ∙ set-same (held_in s) number d at
 
-  pub unfed-world : world new ≡ world s
+  unfed-world : world new ≡ world s
   unfed-world =
       ap world same ∙ ap (λ (x : CallsState). world (record s { connections = new.connections; slab = new.slab; calls = x })) calls
       ∙ ap (λ (cs : List Held). record (world s) { connections = map connection_seen cs }) same_items
 
-  pub unfed-sound : IsSoundEngine s → IsSoundEngine new
+  unfed-sound : IsSoundEngine s → IsSoundEngine new
   unfed-sound sound =
       subst IsSoundEngine (sym same)
       (subst (λ (x : CallsState). IsSoundEngine (record s { connections = new.connections; slab = new.slab; calls = x })) (sym calls)
@@ -313,9 +313,6 @@ module _ (s : State) (sound : IsSoundEngine s) (i key : ℕ) (at : slice_get s.c
       unfed-world s given i (Open r.before) (Open r.after) stood set_none r.receives.1 r.receives.2 keyed_none many_none refl,
     )
 
-    pub untaken-setup : HasItsSetup s given
-    untaken-setup = setup-same s given (ap (λ (x : CallsState). layout_in x) r.receives.2)
-
     pub untaken-sound : IsSoundEngine given
     untaken-sound = unfed-sound s given i (Open r.before) (Open r.after) stood set_none r.receives.1 r.receives.2 keyed_none many_none refl sound
 
@@ -343,9 +340,6 @@ module _ (s : State) (sound : IsSoundEngine s) (i key : ℕ) (at : slice_get s.c
         happens stays s given sound i bytes taken stop (Open r.before) (Open r.after) stands set_some r.receives keyed_some many_some refl,
       ),
     )
-
-    pub taken-setup : HasItsSetup s given
-    taken-setup = setup-same s given r.receives.adds.layout
 
     pub taken-sound : IsSoundEngine given
     taken-sound = fed-sound stays s given sound i bytes taken stop (Open r.before) (Open r.after) stands set_some r.receives keyed_some many_some refl

@@ -80,7 +80,7 @@ count-opened [] = refl
 count-opened (x ∷ xs) = let t = count-opened xs in omega (arith, t)
 
 -- the state with one more connection, on which nothing came
-pub opened-sound : (s new : State) (o : ConnectionState) → new ≡ record s { connections = new.connections; slab = new.slab }
+opened-sound : (s new : State) (o : ConnectionState) → new ≡ record s { connections = new.connections; slab = new.slab }
     → held_in new ≡ held_in s ++ Open o ∷ [] → AreKeyed new.connections.items new.slab → slab_len new.slab ≡ slab_len s.slab + 1
     → connection_of o ≡ new_connection → owed_by o ≡ 0 → IsSoundEngine s → IsSoundEngine new
 opened-sound s new o same items keyed more is nothing sound =
@@ -109,7 +109,7 @@ reserved-sound s new same items keyed as_many sound =
     (λ c x e. sound.owed c x (subst (λ (l : List Held). slice_get l c ≡ Some (Open x)) items e))
 
 -- what is answered, where fewer than 64 are open
-pub opened-events : (s new : State) (o : ConnectionState) (n : ConnectionNumber) → new ≡ record s { connections = new.connections; slab = new.slab }
+opened-events : (s new : State) (o : ConnectionState) (n : ConnectionNumber) → new ≡ record s { connections = new.connections; slab = new.slab }
     → held_in new ≡ held_in s ++ Open o ∷ [] → connection_of o ≡ new_connection → n.0 ≡ length (held_in s)
     → IsSoundEngine s → slab_len s.slab < 64 → Does s events.Open (Ok (Opened n)) new
 opened-events s new o n same items is number sound few =
@@ -144,11 +144,6 @@ module _ (s : State) (sound : IsSoundEngine s) (grown : Slab ConnectionState) (i
       reserved-sound s (record s { connections = cs; slab = grown }) refl
       (ap (λ (xs : List Connection). held_by xs grown) items ∙ held-grown)
       (subst (λ (xs : List Connection). AreKeyed xs grown) (sym items) keyed-grown) many-grown sound
-
-  pub grown-world : (cs : Vec Connection) → cs.items ≡ s.connections.items → world (record s { connections = cs; slab = grown }) ≡ world s
-  grown-world cs items =
-      ap (λ (xs : List Held). record (world s) { connections = map connection_seen xs })
-      (ap (λ (xs : List Connection). held_by xs grown) items ∙ held-grown)
 
   -- one is opened
   module _ (key : ℕ) (o : ConnectionState) (vacant : get grown key ≡ None) (slab' : Slab ConnectionState) (updates : Updates grown slab' key (Some o))

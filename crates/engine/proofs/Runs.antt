@@ -13,7 +13,7 @@ use Rattle.engine.specs.Engine.{one_if_refused, RunsRefusing}
 use Rattle.engine.specs.Seen.{event_of, answer_of}
 use Rattle.engine.specs.Shown.{Shown, setup_in}
 
-pub runs-on : (setup : Setup) (old : World) (events : List Event) (refused : ℕ) (middle : World) (event : Event) (answer : Result Done ℕ) (new : World)
+runs-on : (setup : Setup) (old : World) (events : List Event) (refused : ℕ) (middle : World) (event : Event) (answer : Result Done ℕ) (new : World)
     → RunsRefusing setup old events refused middle → Events setup middle event answer new
     → RunsRefusing setup old (events ++ event ∷ []) (refused + one_if_refused answer) new
 runs-on setup old [] refused middle event answer new r e =
@@ -21,12 +21,12 @@ runs-on setup old [] refused middle event answer new r e =
 runs-on setup old (x ∷ events) refused middle event answer new r e =
     (r.0, r.1, r.2 + one_if_refused answer, r.3, omega (arith, r.4), runs-on setup r.1 events r.2 middle event answer new r.5 e)
 
-pub runs : (setup : Setup) (old : World) (events : List Event) (refused : ℕ) (new : World) → RunsRefusing setup old events refused new
+runs : (setup : Setup) (old : World) (events : List Event) (refused : ℕ) (new : World) → RunsRefusing setup old events refused new
     → Runs setup old events new
 runs setup old [] refused new r = r.1
 runs setup old (x ∷ events) refused new r = (r.0, r.1, r.3, runs setup r.1 events r.2 new r.5)
 
-pub run-more : (setup : Setup) (old : World) (events : List happened.Event) (i : ℕ) (d : happened.Event) (refused : ℕ) (middle : World)
+run-more : (setup : Setup) (old : World) (events : List happened.Event) (i : ℕ) (d : happened.Event) (refused : ℕ) (middle : World)
     (answer : Result Done ℕ) (after : ℕ) (new : World) → i < length events
     → RunsRefusing setup old (map event_of (take i events)) refused middle → Events setup middle (event_of (get_or events i d)) answer new
     → after ≡ refused + one_if_refused answer → RunsRefusing setup old (map event_of (take (i + 1) events)) after new

@@ -155,7 +155,7 @@ module _ {P C R : Type 0} (job : C → jobs.Job) (told : R → jobs.JobReply) (s
     (s : StandsFor job told setup w b) (i : ℕ) (k : worlds.Worker) (there : slice_get w.workers i ≡ Some k) (r : worlds.Running)
     (runs : k.running ≡ Some r) (fresh : r.outcome ≡ None) where
   -- what a worker was lent for a message that isn't worked
-  pub lent-is : (l : Lent (FilerParcel P)) → HasLent b i l → (l.affinity ≡ r.message.affinity) × IsUnchanged b l
+  lent-is : (l : Lent (FilerParcel P)) → HasLent b i l → (l.affinity ≡ r.message.affinity) × IsUnchanged b l
   lent-is l at =
       let found = lent-at setup b w.workers b.lent i k s.workers there in
       begun-lent setup b k.running r found.0 l runs fresh (some-injective found.0 (Some l) (sym found.1 ∙ at)) found.2

@@ -88,7 +88,7 @@ in-room v w i k x there are =
     omega (arith, within, same)
 
 -- an idle worker is there
-pub idle-at : (o : Option Worker) → is_idle (option_map worker_seen o) ≡ true → (hand : Hand) × (o ≡ Some (worker_with Idle hand))
+idle-at : (o : Option Worker) → is_idle (option_map worker_seen o) ≡ true → (hand : Hand) × (o ≡ Some (worker_with Idle hand))
 idle-at None e = absurd cc
 idle-at (Some k) e = (k.hand, ap (λ r. Some (worker_with r k.hand)) (by k.run e))
   where

@@ -69,7 +69,7 @@ module _ (offer : Offer) where
         (omega (arith, e.count), subst (λ (n : ℕ). Completes offer stream (take n bytes) scanned) count e.completes),
       )
 
-  pub took : (stream bytes : List ℕ) (taken : ℕ) (step : Step) (state : State) (new : Option State) → IsAt offer stream state
+  took : (stream bytes : List ℕ) (taken : ℕ) (step : Step) (state : State) (new : Option State) → IsAt offer stream state
       → Feeds (Some state) bytes taken step new → TookTo stream bytes taken new × Took stream bytes taken step
   took stream bytes taken (steps.Record made) state new h f =
       let e = ended stream bytes taken _ _ (scan-made offer stream bytes made.items state 0 taken h f.2) in
@@ -103,7 +103,7 @@ module _ (offer : Offer) where
   abbrev pub read_to : List ℕ → Result Heard ℕ → Scanned
   read_to stream r = joined (scan_stream offer stream).served (served_of (r ∷ []) None)
 
-  pub made_as : (stream taken : List ℕ) (made : List ℕ) (r : Result Heard ℕ) → heard offer made ≡ r
+  made_as : (stream taken : List ℕ) (made : List ℕ) (r : Result Heard ℕ) → heard offer made ≡ r
       → Completes offer stream taken (scanned_with offer stream made)
       → Completes offer stream taken (read_to stream r)
   made_as stream taken made r e k = subst (λ (q : Result Heard ℕ). Completes offer stream taken (read_to stream q)) e k
@@ -112,7 +112,7 @@ module _ (offer : Offer) where
   abbrev pub ended_by : List ℕ → ℕ → Scanned
   ended_by stream number = record { served = (scan_stream offer stream).served; fault = Some number }
 
-  pub no_more : (stream : List ℕ) (number : ℕ) → read_to stream (Err number) ≡ ended_by stream number
+  no_more : (stream : List ℕ) (number : ℕ) → read_to stream (Err number) ≡ ended_by stream number
   no_more stream number = ap (λ (hs : List Heard). record { served = hs; fault = Some number }) (append-nil (scan_stream offer stream).served)
 
   pub ended-as : (stream taken : List ℕ) (number : ℕ) → Completes offer stream taken (read_to stream (Err number))
@@ -128,6 +128,3 @@ module _ (offer : Offer) where
   pub read_as : (stream taken record_bytes given : List ℕ) (s : Result Heard ℕ) → given ≡ record_bytes → heard offer given ≡ s
       → Completes offer stream taken (scanned_with offer stream record_bytes) → Completes offer stream taken (read_to stream s)
   read_as stream taken record_bytes given s g e k = made_as stream taken record_bytes s (ap (heard offer) (sym g) ∙ e) k
-
-  pub scan_at : (stream taken : List ℕ) (scanned : Scanned) → Completes offer stream taken scanned → scan_stream offer (stream ++ taken) ≡ scanned
-  scan_at stream taken scanned k = k.complete

@@ -8,7 +8,6 @@ use Rattle.nfs_model.specs.Server as servers
 use Rattle.nfs_model.specs.Server.{start_of_times}
 use Rattle.nfs_model.specs.Home.{home, home_of_asked}
 use Rattle.nfs_model.specs.World as worlds
-use Rattle.nfs_model.specs.World.{Setup, World, Connection, changed_at}
 use Rattle.nfs_model.specs.Serial.Step.{Step, serve, serial, stay}
 use Rattle.nfs_model.specs.Serial.AtOnce.{answer_without_home}
 use Rattle.nfs_model.specs.Events.Feed.{admit}
@@ -66,7 +65,7 @@ StaysWithoutHome = (layout : trees.Layout) (server : servers.Server) (credential
     → length layout.volumes ≡ length server.volumes → home layout call ≡ None
     → serve server call credential moment ≡ stay server (answer_without_home layout call)
 
-pub at-once : (offer : Offer) (calls calls' : CallsState) (c c' : ConnectionState) (origin : Origin) (call : types.Call)
+at-once : (offer : Offer) (calls calls' : CallsState) (c c' : ConnectionState) (origin : Origin) (call : types.Call)
     (credential : types.Credential) (answer : types.Answer) (told : types.Reply) → StaysWithoutHome
     → home (layout_in calls) call ≡ None → answer ≡ answer_without_home (layout_in calls) call
     → told ≡ reply_told (form_of offer) (types.Success answer)

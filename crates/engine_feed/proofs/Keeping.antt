@@ -54,14 +54,14 @@ adds-then calls calls' calls'' c c' c'' n p q =
 -- ---- connections
 
 -- what was read isn't touched by replies
-pub in-step-answered : (c c' : ConnectionState) → IsAnswered c c' → IsInStep c → IsInStep c'
+in-step-answered : (c c' : ConnectionState) → IsAnswered c c' → IsInStep c → IsInStep c'
 in-step-answered c c' e s =
     subst IsInStep (sym e) (record { reassembler = s.reassembler; fault = s.fault; records = s.records; few = s.few })
 
-pub written-answered : (c c' : ConnectionState) (bytes : List ℕ) → IsWrittenTo c c' bytes → IsAnswered c c'
+written-answered : (c c' : ConnectionState) (bytes : List ℕ) → IsWrittenTo c c' bytes → IsAnswered c c'
 written-answered c c' bytes w = w.same ∙ ap (λ (k : ℕ). record c { output = c'.output; owed = k }) (sym (ap owed_by w.same))
 
-pub written-sound : (c c' : ConnectionState) (bytes : List ℕ) → IsWrittenTo c c' bytes
+written-sound : (c c' : ConnectionState) (bytes : List ℕ) → IsWrittenTo c c' bytes
     → length bytes ≤ reply_limit → HasRoomToReply c → IsSoundConnection c → IsSoundConnection c'
 written-sound c c' bytes w short room s =
     let owed = ap owed_by w.same in
@@ -86,7 +86,7 @@ roomier-sound c c' r s =
 
 -- ---- calls
 
-pub kept-sound : (calls calls' : CallsState) → KeepsEntry calls calls' → HaveRoomToAdmit calls → AreSound calls → AreSound calls'
+kept-sound : (calls calls' : CallsState) → KeepsEntry calls calls' → HaveRoomToAdmit calls → AreSound calls → AreSound calls'
 kept-sound calls calls' k entry s =
     let len = k.len in
     let room = k.room in
@@ -103,5 +103,3 @@ answered-keeps calls calls' c c' n bytes w k short s t room entry = record {
   };
   same = written-answered c c' bytes w;
 }
-
--- ---- bytes that are taken

@@ -62,7 +62,7 @@ pub feeds-none : (setup : Setup) (w : World) (calls : CallsState) (c : Connectio
 feeds-none setup w calls c n bytes e p = subst (Walks setup (feeding n bytes 0 0) w) (sym (part-is calls n c w p)) (feeds_none setup n w bytes e)
 
 -- a connection with more room for its stream is the same part
-pub roomier-part : (calls : CallsState) (n : ℕ) (c c' : ConnectionState) (w : World) → IsStreamRoomier c c' → IsPartOf calls n c w → IsPartOf calls n c' w
+roomier-part : (calls : CallsState) (n : ℕ) (c c' : ConnectionState) (w : World) → IsStreamRoomier c c' → IsPartOf calls n c w → IsPartOf calls n c' w
 roomier-part calls n c c' w r p = part-unseen calls calls n c c' w (stream-room-unseen c c' r) refl refl refl refl p
 
 -- a feed of bytes told byte by byte is one, as the law has it

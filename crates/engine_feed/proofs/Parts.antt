@@ -4,7 +4,7 @@ use Rattle.std.specs.Prelude.{length, map}
 use Rattle.nfs_model.specs.Types as types
 use Rattle.nfs_model.specs.Replay as replays
 use Rattle.nfs_model.specs.World as worlds
-use Rattle.nfs_model.specs.World.{Codec, Connection, Setup, World, all_running, changed_at, with_output}
+use Rattle.nfs_model.specs.World.{Connection, World, changed_at, with_output}
 use Rattle.nfs_model.specs.Events.Feed.{with_bytes, bytes_taken}
 use Rattle.engine_feed.specs.declared.state.ConnectionState.{ConnectionState}
 use Rattle.engine_feed.specs.declared.state.CallsState.{CallsState}
@@ -60,7 +60,7 @@ part-unseen calls calls' n c c' w o m f r l p = record {
 
 -- ---- room that is made
 
-pub room-unseen : (c c' : ConnectionState) → IsRoomier c c' → connection_of c' ≡ connection_of c
+room-unseen : (c c' : ConnectionState) → IsRoomier c c' → connection_of c' ≡ connection_of c
 room-unseen c c' r = ap connection_of r.same ∙ ap (λ (out : List ℕ). record (connection_of c) { output = out }) r.items
 
 pub stream-room-unseen : (c c' : ConnectionState) → IsStreamRoomier c c' → connection_of c' ≡ connection_of c

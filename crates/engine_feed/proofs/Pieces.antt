@@ -46,7 +46,7 @@ module _ (offer : Offer) where
 
   module _ (setup : Setup) (calls : CallsState) (n : ℕ) (c c' : ConnectionState) (w : World) (bytes given : List ℕ) (taken : ℕ) (arrival : Arrival) where
     -- the part after bytes were taken
-    pub took-is : IsTaking setup calls n c w → TakesFrom offer c c' given taken arrival → with_part calls n c' w ≡ bytes_taken w n (take taken given)
+    took-is : IsTaking setup calls n c w → TakesFrom offer c c' given taken arrival → with_part calls n c' w ≡ bytes_taken w n (take taken given)
     took-is i t = part-taken calls n c c' w (take taken given) i.part (open-taken c c' (take taken given) t.stream t.output)
 
     pub arrived : (as_this : Arrival) → arrival ≡ as_this → TakesFrom offer c c' given taken arrival → Arrives offer c.stream.items given taken as_this

@@ -9,7 +9,7 @@ use Rattle.rpc_msg.specs.declared.offer.Offer.{Offer}
 use Rattle.engine_feed.specs.Codec.{heard}
 use Rattle.engine_feed.specs.Streams.{fault_at, served_of, scan_stream}
 
-pub read_on-append : (r : Reading) (xs ys : List ℕ) → read_on r (xs ++ ys) ≡ read_on (read_on r xs) ys
+read_on-append : (r : Reading) (xs ys : List ℕ) → read_on r (xs ++ ys) ≡ read_on (read_on r xs) ys
 read_on-append r [] ys = refl
 read_on-append r (x ∷ xs) ys = read_on-append (byte_read r.records r.at x) xs ys
 
@@ -26,7 +26,7 @@ served_of-append (Ok h ∷ rs) others fault e = ap (joined (h ∷ [])) (served_o
 served_of-append (Err n ∷ rs) others fault e = absurd cc
 
 module _ (offer : Offer) where
-  abbrev pub scanned : Reading → Scanned
+  abbrev scanned : Reading → Scanned
   scanned r = served_of (map (heard offer) r.records) (fault_at r.at)
 
   -- a stream with no fault, as far as it was scanned
@@ -35,16 +35,16 @@ module _ (offer : Offer) where
     pub sound : (scan_stream offer stream).fault ≡ None
 
   -- the machine after one more byte
-  pub read-push : (stream : List ℕ) (state : State) (b : ℕ) → (read_stream stream).at ≡ Some state
+  read-push : (stream : List ℕ) (state : State) (b : ℕ) → (read_stream stream).at ≡ Some state
       → read_stream (stream ++ b ∷ []) ≡ reading_at (read_stream stream).records (after state b)
   read-push stream state b e = read_stream-push stream b ∙ ap (λ (at : Option State). byte_read (read_stream stream).records at b) e
 
   -- the calls of the records so far
-  pub scan-is : (stream : List ℕ) (state : State) → (read_stream stream).at ≡ Some state
+  scan-is : (stream : List ℕ) (state : State) → (read_stream stream).at ≡ Some state
       → scan_stream offer stream ≡ served_of (map (heard offer) (read_stream stream).records) None
   scan-is stream state e = ap (λ (at : Option State). served_of (map (heard offer) (read_stream stream).records) (fault_at at)) e
 
-  pub sound_records : (stream : List ℕ) (state : State) → IsAt stream state → (served_of (map (heard offer) (read_stream stream).records) None).fault ≡ None
+  sound_records : (stream : List ℕ) (state : State) → IsAt stream state → (served_of (map (heard offer) (read_stream stream).records) None).fault ≡ None
   sound_records stream state h = ap (λ (s : Scanned). s.fault) (sym (scan-is stream state h.at)) ∙ h.sound
 
   served_are : (stream : List ℕ) (state : State) (s : Scanned) → IsAt stream state

@@ -16,7 +16,7 @@ use Rattle.engine_feed.proofs.Records.{heard-decoded}
 -- ---- one more byte
 
 -- what a byte adds to a scan
-abbrev pub Adds : Scanned → Scanned → Type 0
+abbrev Adds : Scanned → Scanned → Type 0
 Adds old new = (more : List Heard) × (new.served ≡ old.served ++ more) × (length more ≤ 1) × IfSome new.fault (λ number. more ≡ [])
 
 nothing_told : (xs : List Heard) (o : Option ℕ) → IfSome o (λ number. xs ≡ xs)

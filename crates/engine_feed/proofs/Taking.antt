@@ -29,7 +29,7 @@ module _ (offer : Offer) where
   }
 
   -- the rest of a scan that goes on
-  abbrev pub GoesOn : List ℕ → List ℕ → State → ℕ → Type 0
+  abbrev GoesOn : List ℕ → List ℕ → State → ℕ → Type 0
   GoesOn stream bytes to t = (next : State) → IsAt offer stream next → scan t next bytes ≡ More to → IsQuietTo stream bytes to
 
   scan-more_at : (stream bytes : List ℕ) (b : ℕ) (state to : State) (t : ℕ) (n : Next) → IsAt offer stream state → after state b ≡ n
@@ -86,7 +86,7 @@ module _ (offer : Offer) where
   abbrev pub scanned_with : List ℕ → List ℕ → Scanned
   scanned_with stream made = joined (scan_stream offer stream).served (served_of (heard offer made ∷ []) None)
 
-  abbrev pub MakesOn : List ℕ → List ℕ → List ℕ → ℕ → ℕ → Type 0
+  abbrev MakesOn : List ℕ → List ℕ → List ℕ → ℕ → ℕ → Type 0
   MakesOn stream bytes made t n =
       (next : State) → IsAt offer stream next → scan t next bytes ≡ Made n made → EndsAt stream bytes t n (scanned_with stream made) (Some (start))
 
@@ -116,7 +116,7 @@ module _ (offer : Offer) where
   abbrev pub faulted_at : List ℕ → Scanned
   faulted_at stream = record { served = (scan_stream offer stream).served; fault = Some 11 }
 
-  abbrev pub FaultsOn : List ℕ → List ℕ → ℕ → ℕ → Type 0
+  abbrev FaultsOn : List ℕ → List ℕ → ℕ → ℕ → Type 0
   FaultsOn stream bytes t n = (next : State) → IsAt offer stream next → scan t next bytes ≡ Fault n → EndsAt stream bytes t n (faulted_at stream) None
 
   scan-fault_at : (stream bytes : List ℕ) (b : ℕ) (state : State) (t n : ℕ) (next : Next) → IsAt offer stream state → after state b ≡ next

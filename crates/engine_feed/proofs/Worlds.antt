@@ -37,7 +37,7 @@ bytes_taken-none w c = ap (λ (xs : List Connection). record w { connections = x
 with_more : (xs ys : List ℕ) (x : Connection) → with_bytes ys (with_bytes xs x) ≡ with_bytes (xs ++ ys) x
 with_more xs ys x = ap (λ (s : List ℕ). record x { stream = s }) (append_assoc x.stream xs ys)
 
-pub bytes_taken-more : (w : World) (c : ℕ) (xs ys : List ℕ) → bytes_taken (bytes_taken w c xs) c ys ≡ bytes_taken w c (xs ++ ys)
+bytes_taken-more : (w : World) (c : ℕ) (xs ys : List ℕ) → bytes_taken (bytes_taken w c xs) c ys ≡ bytes_taken w c (xs ++ ys)
 bytes_taken-more w c xs ys =
     ap (λ (cs : List Connection). record w { connections = cs })
     (changed_at-twice (with_bytes xs) (with_bytes ys) w.connections c
@@ -47,13 +47,13 @@ pub connection-taken : (w : World) (c : ℕ) (bytes : List ℕ) (x : Connection)
     → slice_get (bytes_taken w c bytes).connections c ≡ Some (with_bytes bytes x)
 connection-taken w c bytes x e = slice_get-changed_at (with_bytes bytes) w.connections c x e
 
-pub stream-of : (w : World) (c : ℕ) (x : Connection) → slice_get w.connections c ≡ Some x → stream_of w c ≡ x.stream
+stream-of : (w : World) (c : ℕ) (x : Connection) → slice_get w.connections c ≡ Some x → stream_of w c ≡ x.stream
 stream-of w c x e = ap stream_in e
 
 pub reached-quiet : (s : Scanned) → s.fault ≡ None → reached_by s (length s.served) ≡ Further
 reached-quiet s e = rw (e, slice_get-end s.served) refl
 
-pub reached-heard : (hs : List Heard) (h : Heard) → reached_by (record { served = hs ++ h ∷ []; fault = None }) (length hs) ≡ Complete h
+reached-heard : (hs : List Heard) (h : Heard) → reached_by (record { served = hs ++ h ∷ []; fault = None }) (length hs) ≡ Complete h
 reached-heard hs h = rw (slice_get-last hs h) refl
 
 -- the world before the last byte, and after it
@@ -64,10 +64,10 @@ front_and_last w c taken front last e = bytes_taken-more w c front (last ∷ [])
 module _ (offer : Offer) where
   -- ---- what a byte reaches
 
-  abbrev pub reached_from : List ℕ → ℕ → Reached
+  abbrev reached_from : List ℕ → ℕ → Reached
   reached_from stream b = reached_by (scan_stream offer (stream ++ b ∷ [])) (length (scan_stream offer stream).served)
 
-  pub served-count : (setup : Setup) (codec_is : setup.codec ≡ codec offer) (w : World) (c : ℕ) (x : Connection) → slice_get w.connections c ≡ Some x
+  served-count : (setup : Setup) (codec_is : setup.codec ≡ codec offer) (w : World) (c : ℕ) (x : Connection) → slice_get w.connections c ≡ Some x
       → served_count setup w c ≡ length (scan_stream offer x.stream).served
   served-count setup codec_is w c x e =
       ap (λ (k : Codec). length (k.scan (stream_of w c)).served) codec_is ∙ ap (λ (s : List ℕ). length (scan_stream offer s).served) (stream-of w c x e)

@@ -11,14 +11,14 @@ use Rattle.affinity.specs.Affinity.{kind_of}
 use Rattle.affinity.specs.Tree.{IsNode}
 use Rattle.affinity.specs.Under.{IsUnder}
 use Rattle.affinity.specs.Numbers.{number_of, node_count}
-use Rattle.affinity.specs.lemmas.Places.{number_positive, number_within}
+use Rattle.affinity.specs.lemmas.Places.{number_within}
 use Rattle.affinity.specs.lemmas.Numbered.{own_number}
 use Rattle.parcels.specs.Exact.{kind_in, HasExactly, IsPlaced}
 use Rattle.parcels.specs.Moved.{Moved}
 use Rattle.filer_state.specs.state.Parcels.{FilerParcel}
 use Rattle.filer_state.specs.state.Opening.{opening_parcel, AreOpening}
 
-pub opening-kind : (P : Type 0) (layout : Layout) (verifier : List ℕ) (a : Affinity) → kind_in (opening_parcel {P = P} layout verifier a) ≡ kind_of a
+opening-kind : (P : Type 0) (layout : Layout) (verifier : List ℕ) (a : Affinity) → kind_in (opening_parcel {P = P} layout verifier a) ≡ kind_of a
 opening-kind P layout verifier trees.Serial = refl
 opening-kind P layout verifier (trees.Aggregate a) = refl
 opening-kind P layout verifier (trees.Volume v) = refl
@@ -42,9 +42,6 @@ module _ {P : Type 0} (layout : Layout) (verifier : List ℕ) where
   abbrev pub LaidBelow : ℕ → List (Option (FilerParcel P)) → Type 0
   LaidBelow n xs = (a : Affinity) → IsNode layout a → number_of layout a < n
       → slice_index_or xs (number_of layout a) None ≡ Some (opening_parcel layout verifier a)
-
-  pub none-below : (xs : List (Option (FilerParcel P))) → LaidBelow 1 xs
-  none-below xs a on less = let positive = number_positive layout a in absurd (omega arith)
 
   pub laid-more : (xs : List (Option (FilerParcel P))) (n : ℕ) (b : Affinity) (p : FilerParcel P) → IsNode layout b → number_of layout b ≡ n
       → p ≡ opening_parcel layout verifier b → n < length xs → LaidBelow n xs → LaidBelow (n + 1) (set xs n (Some p))

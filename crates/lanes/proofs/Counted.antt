@@ -1,5 +1,5 @@
 -- How many messages wait in a queue of which both passes are known.
-use Rattle.std.proofs.Common.{◌≡◌, ◌<◌, ◌≤◌, ℕ, ◌+◌, List, [], ◌∷◌, length, length-append, refl, ap, ◌∙◌, arith}
+use Rattle.std.proofs.Common.{◌≡◌, ◌<◌, ◌≤◌, ℕ, ◌+◌, List, [], ◌∷◌, length, refl, ap, arith}
 use Rattle.std.specs.Prelude.{Option, Some, None}
 use Rattle.crossbeam_queue.specs.Fifo.{Held}
 use Rattle.affinity.specs.declared.layout.Layout as layouts
@@ -8,11 +8,11 @@ use Rattle.depot_rule.specs.lemmas.Sums.{total-append}
 use Rattle.turns.specs.Balance.{Passed, Weight, by_key, by_entry, by_kept, FilerEntry, IsEven}
 use Rattle.turns.specs.Turns.{Standing, standing_of}
 use Rattle.turns.specs.Tends.{kept_in}
-use Rattle.turns.specs.Words.{entries_in, passed, IsSameWorker}
+use Rattle.turns.specs.Words.{entries_in, passed}
 use Rattle.turns.specs.Messages.{Message}
 use Rattle.turns.specs.declared.shared_waiting.pass.Pass.{Pass}
 use Rattle.turns.specs.declared.worker.Worker.{Worker}
-use Rattle.turns.specs.shared_waiting.Balance.{IsWhole, Leaves, added, both}
+use Rattle.turns.specs.shared_waiting.Balance.{IsWhole, Leaves, both}
 use Rattle.turns.specs.shared_waiting.Passes.{known}
 use Rattle.lanes.specs.Queues.{HasBoth, IsCounted, count_kept}
 use Rattle.lanes.proofs.Idle.{turned-round}
@@ -40,19 +40,6 @@ pub not-full : (pass : Pass Message layouts.Layout) (worker : Worker) (waiting m
     → Held 1024 (Leaves (both (known pass) (passed worker))) → ⊥
 not-full pass worker waiting most h counted less few held =
     let e = held-count (known pass) (passed worker) 1024 h.0 held in omega (arith, e, counted, less, few)
-
--- a message more
-pub counted-more : (pass pass' : Pass Message layouts.Layout) (worker worker' : Worker) (waiting : ℕ) (m : Message)
-    → known pass' ≡ added (known pass) m → IsSameWorker worker worker' → IsCounted pass worker waiting
-    → IsCounted pass' worker' (waiting + 1)
-counted-more pass pass' worker worker' waiting m put same counted =
-    let a : length (known pass').put ≡ length (known pass).put + 1 =
-    ap (λ (v : Passed). length v.put) put ∙ length-append (known pass).put (m ∷ []) in
-    let b : length (known pass').picked ≡ length (known pass).picked = ap (λ (v : Passed). length v.picked) put in
-    let c : length (passed worker').put ≡ length (passed worker).put = ap (λ (v : Passed). length v.put) same.pass in
-    let d : length (passed worker').picked ≡ length (passed worker).picked = ap (λ (v : Passed). length v.picked) same.pass in
-    let k : count_kept (kept_in worker') ≡ count_kept (kept_in worker) = ap count_kept same.kept in
-    omega (arith, a, b, c, d, k, counted)
 
 -- as many, by other passes that know the same
 pub counted-same : (pass pass' : Pass Message layouts.Layout) (worker worker' : Worker) (waiting : ℕ) → known pass' ≡ known pass

@@ -68,10 +68,6 @@ home-volume layout h offset n a false e = cc
 prop-at : (a b : Affinity) → IsProp (a ≡ b)
 prop-at a b = Prim.hlevel (Coded-set, codes, props)
 
--- of two facts of which the first holds only where the second does
-second : {A B : Type 0} → IsProp B → (A → B) → ∥ A ⊎ B ∥₁ → A ⊎ B
-second prop to t = inr (∥∥₁_elim t prop (λ x. ⊎_elim to (λ b. b) x))
-
 first : {A B : Type 0} → IsProp A → (B → ⊥) → ∥ A ⊎ B ∥₁ → A ⊎ B
 first prop none t = inl (∥∥₁_elim t prop (λ x. ⊎_elim (λ a. a) (λ b. absurd (none b)) x))
 

@@ -9,7 +9,6 @@ use Rattle.std.specs.Io.KnownBytes.{Appends, Keeps}
 use Rattle.outboxes.specs.Boxes.{Boxes, oldest, taken}
 use Rattle.outboxes.specs.Messages.{ReplyMessage, record_of}
 use Rattle.tcp_front.specs.Writing.{records_of}
-use Rattle.lanes.specs.declared.connection.Connection.{Connection}
 use Rattle.lanes.specs.declared.told.Told.{Told}
 use Rattle.lanes.specs.declared.told.Told.TheVariants as tolds
 use Rattle.lanes.specs.declared.watched.Watched.{Watched}
@@ -17,9 +16,9 @@ use Rattle.lanes.specs.declared.writing.Sent.{Sent}
 use Rattle.lanes.specs.declared.writing.Sent.TheVariants as sents
 use Rattle.lanes.specs.Told.{device_of, HasCalled, HasGiven, MovesAtMost}
 use Rattle.lanes.specs.Rests.{list_of}
-use Rattle.lanes.specs.Taking.{IsOut, Takes}
+use Rattle.lanes.specs.Taking.{Takes}
 use Rattle.lanes.specs.Joining.{HasJoined}
-use Rattle.lanes.specs.Writing.{all_of, ComesTo, HasSent, HasWrittenAs, HasWrittenParts, IsOutcome, Tells}
+use Rattle.lanes.specs.Writing.{ComesTo, HasSent, HasWrittenParts, IsOutcome, Tells}
 use Rattle.lanes.specs.lemmas.Taking.{takes-first, takes-more, takes-none, takes-out}
 use Rattle.lanes.specs.lemmas.Writing.{record-some, records-append}
 
@@ -164,44 +163,6 @@ module _ {D : Type 0} (unread written : D → Option (List ℕ)) (number : ℕ) 
     tells = tells-of result s.sent n s.comes_to;
   }
 
-  tells-all : (r : Sent) (sent : List ℕ) → (r ≡ sents.All → ⊥) → (r ≡ sents.More → rest' ≡ []) → IsOut (get boxes'.waiting number)
-      → ComesTo r old sent rest' new → Tells (all_of r) old sent rest' (get boxes'.waiting number) new
-  tells-all sents.All sent n e out c = absurd (n refl)
-  tells-all sents.More sent n e out c = (out, inr (e refl, c.0))
-  tells-all sents.Blocked sent n e out c = c
-  tells-all sents.Failed sent n e out c = c
-
-  -- where nothing else waits
-  pub parts-all : (result : Sent) (waiting : List ℕ) → waiting ≡ buffer ++ records_of (list_of alone)
-      → HasSent unread written old waiting result new rest' → (result ≡ sents.All → ⊥) → (result ≡ sents.More → rest' ≡ [])
-      → IsOut (get boxes'.waiting number)
-      → HasWrittenParts unread written number old rest boxes (all_of result) new rest' boxes'
-  parts-all result waiting w s n e out = record {
-    taken = h.joined ++ list_of alone;
-    sent = s.sent;
-    takes = h.takes;
-    split = all-joined ∙ sym w ∙ s.split;
-    went_out = s.went_out;
-    apart = s.apart;
-    tells = tells-all result s.sent n e out s.comes_to;
-  }
-
--- nothing was there
-pub parts-none : {D : Type 0} (unread written : D → Option (List ℕ)) (number : ℕ) (old : Watched D) (boxes boxes' : Boxes)
-    (before buffer rest : List ℕ) → (h : HasJoined number boxes before None boxes' buffer) → before ≡ [] → rest ≡ [] → buffer ≡ []
-    → Keeps (unread (device_of old)) (unread (device_of old)) → Appends (written (device_of old)) (written (device_of old)) []
-    → HasWrittenParts unread written number old rest boxes sents.All old rest boxes'
-parts-none unread written number old boxes boxes' before buffer rest h blank none empty apart out = record {
-  taken = h.joined ++ [];
-  sent = [];
-  takes = h.takes;
-  split = all-joined unread written number old old boxes boxes' None before buffer rest rest h blank none
-      ∙ append-nil buffer ∙ empty ∙ sym none;
-  went_out = out;
-  apart = apart;
-  tells = (h.out, inl (none, refl, refl));
-}
-
 pub some-waits : (rest buffer : List ℕ) (m : ReplyMessage) → rest ≡ drop 0 buffer ++ records_of (m ∷ []) → 0 < length rest
 some-waits rest buffer m e =
     let first = record-some m in
@@ -229,13 +190,6 @@ parts-rest unread written number old new boxes rest rest' result s n = record {
     by sents.More n c = c
     by sents.Blocked n c = c
     by sents.Failed n c = c
-
--- ---- the call
-
-pub as-whole : {D : Type 0} (unread written : D → Option (List ℕ)) (old : Connection D) (boxes : Boxes) (result : Sent) (new : Connection D)
-    (boxes' : Boxes) (b : Bool) → b ≡ false → HasWrittenAs false unread written old boxes result new boxes'
-    → HasWrittenAs b unread written old boxes result new boxes'
-as-whole unread written old boxes result new boxes' b e h = subst (λ (x : Bool). HasWrittenAs x unread written old boxes result new boxes') (sym e) h
 
 -- ---- records that are joined
 

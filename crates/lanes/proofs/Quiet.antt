@@ -36,7 +36,7 @@ total-served h (e ∷ es) =
 abbrev one_if : Bool → ℕ
 one_if b = if b then 1 else 0
 
-abbrev pub of_number : ℕ → Weight
+abbrev of_number : ℕ → Weight
 of_number n connection number xid asked = one_if (connection == n)
 
 abbrev pub weigh_seen : Weight → worlds.Message → ℕ

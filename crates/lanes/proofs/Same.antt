@@ -11,8 +11,7 @@ use Rattle.turns.specs.declared.shared_waiting.pass.SharedWaiting.{SharedWaiting
 use Rattle.turns.specs.declared.worker.Worker.{Worker}
 use Rattle.turns.specs.Balance.{Passed}
 use Rattle.turns.specs.Messages.{IsPlaced, Message}
-use Rattle.turns.specs.Turns.{HasShareOf}
-use Rattle.turns.specs.Words.{entries_in, layout_in, layout_known, passed, seats_in, verifier_in, HasOpened, IsAt, IsHandIn, IsSameWorker}
+use Rattle.turns.specs.Words.{entries_in, layout_in, layout_known, seats_in, verifier_in, HasOpened, IsAt, IsHandIn, IsSameWorker}
 use Rattle.turns.specs.Words.{TakesFrom}
 
 pub same-entries : (w w' : Worker) → IsSameWorker w w' → entries_in w' ≡ entries_in w
@@ -20,13 +19,6 @@ same-entries w w' s = ap (λ x. entries_of (depots.view x)) s.seat
 
 pub same-seats : (w w' : Worker) → IsSameWorker w w' → seats_in w' ≡ seats_in w
 same-seats w w' s = ap (λ x. depots.splits_left x + 1) s.seat
-
-pub same-rights : (w w' : Worker) → IsSameWorker w w' → HasShareOf (passed w) (passed w')
-same-rights w w' s = (
-  ap (λ (v : Passed). v.share) s.pass,
-  ap (λ (v : Passed). v.halvings) s.pass,
-  ap (λ (v : Passed). v.key) s.pass,
-)
 
 pub same-inside : (filer : Filer) (queue queue' : SharedWaiting Message layouts.Layout) (w w' : Worker) → IsSameWorker w w'
     → TakesFrom queue' w' → IsAt filer queue w → IsAt filer queue' w'

@@ -71,9 +71,6 @@ both-kept p p' w w' h k b = (
 pub same-share : (p p' : Pass Message layouts.Layout) → known p' ≡ known p → HasShareOf (known p) (known p')
 same-share p p' e = (ap (λ (v : Passed). v.share) e, ap (λ (v : Passed). v.halvings) e, ap (λ (v : Passed). v.key) e)
 
-pub share-same : (w : Worker) → HasShareOf (passed w) (passed w)
-share-same w = (refl, refl, refl)
-
 abbrev get-of : Boxes → ℕ → Option (List ReplyMessage)
 get-of boxes n = maps.get boxes.waiting n
 
@@ -182,7 +179,7 @@ module _ {D : Type 0} (unread written : D → Option (List ℕ)) (layout : Layou
       (subst (λ (s : ℕ → Option (Connection D)). ∥ Story unread written layout offer lane lanes entries messages boxes s ∥₁)
       (sym (ap (λ (x : Slab (Connection D)). get x) reserved)) t)
 
-  pub closes-told : (slab slab' : Slab (Connection D)) (key : ℕ) (c : Connection D) (messages : List Message) (boxes boxes' : Boxes)
+  closes-told : (slab slab' : Slab (Connection D)) (key : ℕ) (c : Connection D) (messages : List Message) (boxes boxes' : Boxes)
       → get slab key ≡ Some c → Updates slab slab' key None → boxes' ≡ shut (number_of c) boxes
       → Told messages boxes slab → Told messages boxes' slab'
   closes-told slab slab' key c messages boxes boxes' was updates is t =
@@ -228,9 +225,6 @@ Once messages entries = (h : Weight) → total (by_entry h) entries ≤ total (b
 once-before : (messages : List Message) (entries more : List FilerEntry) → Once messages (entries ++ more) → Once messages entries
 once-before messages entries more once h =
     let a = once h in let b = total-append (by_entry h) entries more in omega (arith, a, b)
-
-once-same : (messages : List Message) (entries entries' : List FilerEntry) → entries' ≡ entries → Once messages entries' → Once messages entries
-once-same messages entries entries' e once = subst (Once messages) e once
 
 module _ {D : Type 0} (unread written : D → Option (List ℕ)) (layout : Layout) (offer : Offer) (lane lanes : ℕ) where
   replied : (m : Message) (moment : Moment) (a : Addressed) (e : FilerEntry) → IsEntryOf m moment a e → said_by (Served e) ≡ Some a

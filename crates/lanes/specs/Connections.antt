@@ -21,10 +21,6 @@ number_of c = c.stream.connection.0
 abbrev pub kept_of : {D : Type 0} → Connection D → List ℕ
 kept_of c = c.kept
 
--- the bytes that were taken to be written and aren't written yet
-abbrev pub rest_of : {D : Type 0} → Connection D → List ℕ
-rest_of c = c.rest
-
 -- why no more of it is read, if it isn't
 abbrev pub stopped_of : {D : Type 0} → Connection D → Option Stopped
 stopped_of c = c.stopped

@@ -2,11 +2,10 @@
 use Rattle.std.proofs.Common.{◌≡◌, ℕ, Bool, true, false, List, [], ◌∷◌, ◌++◌, Option, Some, None, Result, Ok, Err, refl, sym, ap, subst, ◌∙◌}
 use Rattle.std.specs.Prelude.{slice_get, is_some, if◌then◌else◌, ◌&&◌}
 use Rattle.nfs_model.specs.Tree.{Logical, range_blocks_of}
-use Rattle.nfs_model.specs.World.{Setup, World, Message, Running, Worker, IsScan}
+use Rattle.nfs_model.specs.World.{Setup, World, Message, Worker, IsScan}
 use Rattle.nfs_model.specs.Parts.{Hand, Empty, Fresh, Dead}
-use Rattle.nfs_model.specs.Work.{Outcome}
 use Rattle.nfs_model.specs.Events.Refusals.{Event, Open, Feed, Close, Begin, Work, Finish, Fetch, Cull, PutDown, Survey, Done, is_open, is_idle, is_busy}
-use Rattle.nfs_model.specs.Events.Refusals.{is_bad_moment, takes_input, begin_refusal, work_refusal, running_of, excluded, fetch_refusal, has_empty_hand}
+use Rattle.nfs_model.specs.Events.Refusals.{is_bad_moment, takes_input, begin_refusal, excluded, fetch_refusal, has_empty_hand}
 use Rattle.nfs_model.specs.Events.Refusals.{is_empty_hand, refusal}
 use Rattle.nfs_model.specs.Events.Step.{Happens, Events, Runs}
 use Rattle.nfs_model.specs.Headline.{Kept}
@@ -46,17 +45,6 @@ begun_free : (setup : Setup) (w : World) (place : ℕ) (m : Message) (moment : _
 begun_free setup w place m moment at e =
     let f : begin_refusal setup w moment (Some m) ≡ None = ap (λ (o : Option Message). begin_refusal setup w moment o) (sym at) ∙ e in
     (allowed_unless (is_busy setup w m.affinity) 21 _ (allowed_unless (is_bad_moment moment) 37 (excluded setup w m.affinity) f).1).0
-
-no_outcome : (o : Option Outcome) → is_some o ≡ false → o ≡ None
-no_outcome None e = refl
-no_outcome (Some x) e = absurd cc
-
--- a message that is worked wasn't
-worked_once : (w : World) (i : ℕ) (k : Worker) (r : Running) → slice_get w.workers i ≡ Some k → k.running ≡ Some r
-    → work_refusal (running_of (slice_get w.workers i)) ≡ None → r.outcome ≡ None
-worked_once w i k r there runs e =
-    let f : work_refusal (Some r) ≡ None = ap (λ (o : Option Running). work_refusal o) (sym (ap (λ (o : Option Worker). running_of o) there ∙ runs)) ∙ e in
-    no_outcome r.outcome (allowed_unless (is_some r.outcome) 34 None f).0
 
 -- a worker whose hand is empty
 record HasEmptyHand (w : World) (i : ℕ) : Type 0 where

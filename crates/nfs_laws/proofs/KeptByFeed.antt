@@ -271,7 +271,7 @@ module _ (setup : Setup) (w : World) (c b : ℕ) (t : IsTaking setup w c) (sound
     sound = sound;
   }
 
-  pub taking_finish : (e : FinishedCall) (reply : Reply) → e.connection ≡ c → IsTaking setup (finish setup (byte_taken w c b) e reply) c
+  taking_finish : (e : FinishedCall) (reply : Reply) → e.connection ≡ c → IsTaking setup (finish setup (byte_taken w c b) e reply) c
   taking_finish e reply on_it =
       let write : Connection → Connection = with_output (setup.codec.reply_record e.xid reply) in
       let x : Connection = with_byte b t.connection in
@@ -284,7 +284,7 @@ module _ (setup : Setup) (w : World) (c b : ℕ) (t : IsTaking setup w c) (sound
         sound = ap (λ (bytes : List ℕ). (setup.codec.scan bytes).fault) (written_stream (setup.codec.reply_record e.xid reply) x.closed x) ∙ sound;
       }
 
-  pub taking_admit : (number : ℕ) (heard : Heard) (o : Option Affinity) → IsTaking setup (admit setup (byte_taken w c b) c number heard o) c
+  taking_admit : (number : ℕ) (heard : Heard) (o : Option Affinity) → IsTaking setup (admit setup (byte_taken w c b) c number heard o) c
   taking_admit number heard None = taking_finish (call_at_once c number heard) (serial w.server heard.asked start_of_times false).reply refl
   taking_admit number heard (Some a) = record {
     connection = with_byte b t.connection;
@@ -302,7 +302,7 @@ record IsFeeding (setup : Setup) (w : World) (c : ℕ) : Type 0 where
   kept : Kept setup w
   taking : IsTaking setup w c
 
-pub numbered_at : (setup : Setup) (w : World) (c : ℕ) (t : IsTaking setup w c) → served_count setup w c ≡ length (served setup t.connection)
+numbered_at : (setup : Setup) (w : World) (c : ℕ) (t : IsTaking setup w c) → served_count setup w c ≡ length (served setup t.connection)
 numbered_at setup w c t = ap (λ (o : Option Connection). length (setup.codec.scan (stream_in o)).served) t.there
 
 takes_kept : (setup : Setup) (w : World) (c b : ℕ) (r : Reached) (new : World) → IsScan setup.codec → IsFeeding setup w c → reached setup w c b ≡ r

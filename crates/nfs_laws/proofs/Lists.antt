@@ -7,15 +7,15 @@ use Rattle.nfs_model.specs.World.{changed_at}
 
 -- ---- each element
 
-pub All-join : {A : Type 0} (P : A → Type 0) (xs ys : List A) → AllByRecursion P xs → AllByRecursion P ys → AllByRecursion P (xs ++ ys)
+All-join : {A : Type 0} (P : A → Type 0) (xs ys : List A) → AllByRecursion P xs → AllByRecursion P ys → AllByRecursion P (xs ++ ys)
 All-join P [] ys p q = q
 All-join P (x ∷ xs) ys p q = (p.0, All-join P xs ys p.1 q)
 
-pub All-left : {A : Type 0} (P : A → Type 0) (xs ys : List A) → AllByRecursion P (xs ++ ys) → AllByRecursion P xs
+All-left : {A : Type 0} (P : A → Type 0) (xs ys : List A) → AllByRecursion P (xs ++ ys) → AllByRecursion P xs
 All-left P [] ys p = tt
 All-left P (x ∷ xs) ys p = (p.0, All-left P xs ys p.1)
 
-pub All-right : {A : Type 0} (P : A → Type 0) (xs ys : List A) → AllByRecursion P (xs ++ ys) → AllByRecursion P ys
+All-right : {A : Type 0} (P : A → Type 0) (xs ys : List A) → AllByRecursion P (xs ++ ys) → AllByRecursion P ys
 All-right P [] ys p = p
 All-right P (x ∷ xs) ys p = All-right P xs ys p.1
 

@@ -14,7 +14,7 @@ use Rattle.nfs_model.specs.Parts.{IsPartition, one_if}
 use Rattle.std.specs.List.{AllByRecursion}
 use Rattle.nfs_laws.specs.lemmas.Evaluate.{contains_empty, set_len_empty, entries_sorted_list}
 
-pub any_range : (k a n : ℕ) → list_any (λ y. nat_eq y n) (range_with_len a k) ≡ (nat_le a n && nat_lt n (a + k))
+any_range : (k a n : ℕ) → list_any (λ y. nat_eq y n) (range_with_len a k) ≡ (nat_le a n && nat_lt n (a + k))
 any_range zero a n = grind (arith, nat_tests)
 any_range (suc k) a n = ap (λ b. nat_eq a n || b) (any_range k (a + 1) n) ∙ grind (arith, nat_tests)
 

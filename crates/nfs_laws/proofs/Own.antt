@@ -65,7 +65,7 @@ own_of_heard setup w e Undecoded scan h =
 heard_below : (setup : Setup) (w : World) (c n xid : ℕ) (asked : Asked) → IsHeard setup w c n xid asked → c < length w.connections
 heard_below setup w c n xid asked h = slice_get_below w.connections c h.0 h.1
 
-pub own_below : (setup : Setup) (w : World) (e : FinishedCall) (asked : Asked) → IsOwn setup w e asked → e.connection < length w.connections
+own_below : (setup : Setup) (w : World) (e : FinishedCall) (asked : Asked) → IsOwn setup w e asked → e.connection < length w.connections
 own_below setup w e (Ask call credential) h = heard_below setup w e.connection e.number e.xid (Ask call credential) h
 own_below setup w e (Refused reply) h = heard_below setup w e.connection e.number e.xid (Refused reply) h
 own_below setup w e Undecoded h = heard_below setup w e.connection e.number e.xid h.0 h.1

@@ -75,7 +75,7 @@ messages_there P (x ∷ xs) ys r p = messages_there P xs ys r p.1
 
 -- ---- the server that is worked
 
-pub server_worked-append : (s : Server) (xs ys : List Running) → server_worked s (xs ++ ys) ≡ server_worked (server_worked s xs) ys
+server_worked-append : (s : Server) (xs ys : List Running) → server_worked s (xs ++ ys) ≡ server_worked (server_worked s xs) ys
 server_worked-append s [] ys = refl
 server_worked-append s (x ∷ xs) ys = server_worked-append (worked_by s x x.outcome) xs ys
 
@@ -87,7 +87,7 @@ server_worked-between s xs ys r same =
 
 -- ---- affinities apart
 
-pub excludes_comm : (layout : Layout) (a b : Affinity) → excludes layout a b ≡ excludes layout b a
+excludes_comm : (layout : Layout) (a b : Affinity) → excludes layout a b ≡ excludes layout b a
 excludes_comm layout a b = or_comm (begins (path layout a) (path layout b)) (begins (path layout b) (path layout a))
 
 or_false : (a b : Bool) → (a || b) ≡ false → (a ≡ false) × (b ≡ false)

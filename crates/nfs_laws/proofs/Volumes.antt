@@ -73,7 +73,7 @@ module _ (server : Server) where
   serve_counts call credential moment = on_counts (absent_parts call) (locate server (handle_on (route call))) _
 
   -- a call on the serial server keeps the number of volumes
-  pub serial_counts : (asked : Asked) (moment : Moment) (starved : Bool) → volumes_in (serial server asked moment starved).server ≡ volumes_in server
+  serial_counts : (asked : Asked) (moment : Moment) (starved : Bool) → volumes_in (serial server asked moment starved).server ≡ volumes_in server
   serial_counts asked moment true = refl
   serial_counts (Ask call credential) moment false = serve_counts call credential moment
   serial_counts (Refused reply) moment false = refl

@@ -24,10 +24,10 @@ AreLawful-push s [] e p h = (h, tt)
 AreLawful-push s (x ∷ es) e p h = (p.0, AreLawful-push (step_of s x).server es e p.1 h)
 
 -- the bytes of an entry for a connection
-abbrev pub bytes_of : Codec → ℕ → Server → FinishedCall → List ℕ
+abbrev bytes_of : Codec → ℕ → Server → FinishedCall → List ℕ
 bytes_of codec c s e = if e.connection == c then codec.reply_record e.xid (step_of s e).reply else []
 
-pub replies-push : (codec : Codec) (c : ℕ) (s : Server) (es : List FinishedCall) (e : FinishedCall)
+replies-push : (codec : Codec) (c : ℕ) (s : Server) (es : List FinishedCall) (e : FinishedCall)
     → replies codec c s (es ++ e ∷ []) ≡ replies codec c s es ++ bytes_of codec c (server_after s es) e
 replies-push codec c s [] e = append-nil _
 replies-push codec c s (x ∷ es) e =

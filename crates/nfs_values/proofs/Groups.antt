@@ -1,5 +1,5 @@
 -- Further groups.
-use Rattle.std.proofs.Common.{◌≡◌, ℕ, ◌+◌, ◌<◌, List, [], ◌∷◌, ◌++◌, length, take, slice_set, min, arith}
+use Rattle.std.proofs.Common.{◌≡◌, ℕ, ◌+◌, ◌<◌, List, [], ◌∷◌, ◌++◌, length, take, slice_set, arith}
 use Rattle.std.proofs.lemmas.List.{take_more_set, length-take}
 
 pub one_more : (gids : List ℕ) (count gid : ℕ) → count < length gids → take (count + 1) (slice_set gids count gid) ≡ take count gids ++ (gid ∷ [])

@@ -1,4 +1,4 @@
-use Rattle.std.specs.Prelude.{ℕ, List, Result, Ok, Err, length, map}
+use Rattle.std.specs.Prelude.{ℕ, Result, Ok, Err, length, map}
 use Rattle.std.specs.List.{range_with_len}
 use Rattle.std.specs.Option.{option_map}
 use Rattle.nfs_model.specs.Types as model

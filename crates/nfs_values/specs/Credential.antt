@@ -1,4 +1,4 @@
-use Rattle.std.specs.Prelude.{ℕ, List, [], take}
+use Rattle.std.specs.Prelude.{ℕ, List, take}
 use Rattle.nfs_model.specs.Types as model
 use Rattle.nfs_values.specs.declared.credential.Credential.{Credential}
 use Rattle.nfs_values.specs.declared.credential.GroupList.{GroupList}
@@ -6,10 +6,6 @@ use Rattle.nfs_values.specs.declared.credential.GroupList.{GroupList}
 -- further groups: the first of the places
 abbrev pub gids_in : GroupList → List ℕ
 gids_in g = take g.count g.gids
-
--- no further groups
-abbrev pub no_gids : GroupList
-no_gids = record { gids = []; count = 0 }
 
 -- user and groups, as the model has them
 abbrev pub credential_of : Credential → model.Credential

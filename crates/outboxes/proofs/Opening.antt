@@ -16,9 +16,6 @@ module _ (most next step : ℕ) (es : List (ℕ × List ReplyMessage)) where
   pub full-by-count : (n : ℕ) → n ≡ length es → IsStrictlySortedBy nat_cmp (keys_of es) → most ≤ n → IsFull (boxes_of most next step es)
   full-by-count n e s h = inl (let l = len-found es s in omega (arith, l, e, h))
 
-  pub full-by-number : 2 ^ 62 ≤ next → IsFull (boxes_of most next step es)
-  full-by-number h = inr h
-
   pub not-full : (n : ℕ) → n ≡ length es → IsStrictlySortedBy nat_cmp (keys_of es) → n < most → next < 2 ^ 62 → IsFull (boxes_of most next step es) → ⊥
   not-full n e s h m (inl full) = let l = len-found es s in omega (arith, l, e, h, full)
   not-full n e s h m (inr full) = omega (arith, m, full)

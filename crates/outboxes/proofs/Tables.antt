@@ -8,7 +8,7 @@ use Rattle.std.specs.BTreeMap.{is_at}
 use Rattle.std.specs.Option.{option_map}
 use Rattle.std.specs.Ordering.{nat_cmp, is_eq, eq_by_cmp}
 use Rattle.std.specs.declared.cmp.Ordering.TheVariants.{Less}
-use Rattle.std.specs.Cmp.{nat_cmp_total, nat_cmp_is}
+use Rattle.std.specs.Cmp.{nat_cmp_total}
 use Rattle.std.specs.FinMap.{FinMap, find, get, insert, remove, len}
 use Rattle.std.specs.FinMap.{get-from_entries, get-insert, get-remove, len-empty, len-insert}
 use Rattle.std.proofs.lemmas.Cmp.{eq_by_cmp_equiv}
@@ -30,7 +30,7 @@ find-found : (q : ℕ) (es : Waits) → find nat_cmp q es ≡ found es q
 find-found q [] = refl
 find-found q (e ∷ es) = ap (cond (is_eq (nat_cmp q e.0)) (Some e.1)) (find-found q es)
 
-pub get-found : (es : Waits) (q : ℕ) → get (waiting_of es) q ≡ found es q
+get-found : (es : Waits) (q : ℕ) → get (waiting_of es) q ≡ found es q
 get-found es q = get-from_entries nat_cmp_total es q ∙ find-found q es
 
 -- ---- how many
@@ -66,16 +66,6 @@ fresh next es n = get-found es next ∙ n next (omega arith)
 pub rises : (next step : ℕ) → 0 < step → next < next + step
 rises next step h = omega (arith, h)
 
--- a smaller number is another
-other : (k q : ℕ) → k < q → is_at (nat_cmp k) q ≡ false
-other k q h = sym (ap is_eq (nat_cmp_is k q Less h))
-
--- after the next number was given, none is open from the one behind it on
-pub fresh-again : (next step : ℕ) (old new : Waits) → NoneFrom next old → 0 < step
-    → ((q : ℕ) → found new q ≡ cond (is_at (nat_cmp next) q) (Some []) (found old q)) → NoneFrom (next + step) new
-fresh-again next step old new n some h q far =
-    h q ∙ (ap (λ (b : Bool). cond b (Some []) (found old q)) (other next q (omega (arith, far, some))) ∙ n q (omega (arith, far)))
-
 module _ (most next step : ℕ) (old new : Waits) where
   -- a connection more
   pub opens : ((q : ℕ) → found new q ≡ cond (is_at (nat_cmp next) q) (Some []) (found old q))
@@ -100,7 +90,7 @@ module _ (most next step : ℕ) (old new : Waits) where
       by q true p = ap (option_map g) (sym (get-found old q) ∙ ap (get (waiting_of old)) (exact_unsigned_eq q k (sym p)))
       by q false p = sym (get-found old q)
 
-  pub puts : (k : ℕ) (m : ReplyMessage)
+  puts : (k : ℕ) (m : ReplyMessage)
       → ((q : ℕ) → found new q ≡ (if q == k then option_map (with_last m) (found old q) else found old q))
       → boxes_of most next step new ≡ put (record { connection = k; message = m }) (boxes_of most next step old)
   puts k m h = ap (λ w. record { most = most; next = next; step = step; waiting = w }) (changes (with_last m) k h)

@@ -144,7 +144,7 @@ module _ (layout : Layout) (Q : Affinity → Type 0) (known : (v : ℕ) → v < 
   serial-to_node on (Vbn w) node = ((on.aggregates (aggregate_of layout w) (known w node)).volumes w node refl).vbn.own
   serial-to_node on (Range w r) node = ((on.aggregates (aggregate_of layout w) (known w node.0)).volumes w node.0 refl).vbn.ranges r node.1
 
-  pub serial-to : OnSerial layout Q → Under layout Serial Q
+  serial-to : OnSerial layout Q → Under layout Serial Q
   serial-to on b under = serial-to_node on b under.0
 
 -- what was there and is gone was taken

@@ -16,19 +16,19 @@ module _ {T : Type 0} where
   moved-stays a (Some x) b e m = m.1
 
   -- two takings
-  pub moved-both : (a s b t c : Option T) → Moved a s b → Moved b t c → Moved a (or_else s t) c
+  moved-both : (a s b t c : Option T) → Moved a s b → Moved b t c → Moved a (or_else s t) c
   moved-both a None b t c m n = subst (λ o. Moved o t c) m n
   moved-both a (Some x) b None c m n = (m.0, n ∙ m.1)
   moved-both a (Some x) b (Some y) c m n = absurd (let no : None ≡ Some y = sym m.1 ∙ n.0 in cc)
 
   -- two givings
-  pub given-both : (a s b t c : Option T) → Moved b s a → Moved c t b → Moved c (or_else s t) a
+  given-both : (a s b t c : Option T) → Moved b s a → Moved c t b → Moved c (or_else s t) a
   given-both a None b t c m n = subst (λ o. Moved c t o) (sym m) n
   given-both a (Some x) b None c m n = (sym n ∙ m.0, m.1)
   given-both a (Some x) b (Some y) c m n = absurd (let no : None ≡ Some x = sym n.1 ∙ m.0 in cc)
 
   -- one parcel is taken
-  pub moved-alone : (f g : ℕ → Option T) (n : ℕ) (x : T) → f n ≡ Some x → g n ≡ None → ((k : ℕ) → k ≢ n → g k ≡ f k) → (k : ℕ) → Moved (f k) (alone n x k) (g k)
+  moved-alone : (f g : ℕ → Option T) (n : ℕ) (x : T) → f n ≡ Some x → g n ≡ None → ((k : ℕ) → k ≢ n → g k ≡ f k) → (k : ℕ) → Moved (f k) (alone n x k) (g k)
   moved-alone f g n x there gone others k =
       ⊎_elim
       (λ (e : k ≡ n). subst (λ j. Moved (f j) (alone n x j) (g j)) (sym e) (subst (λ o. Moved (f n) o (g n)) (sym (alone-there n x)) (there, gone)))
@@ -36,7 +36,7 @@ module _ {T : Type 0} where
       (cases_eq k n)
 
   -- one parcel is given
-  pub given-alone : (f g : ℕ → Option T) (n : ℕ) (x : T) → f n ≡ None → g n ≡ Some x → ((k : ℕ) → k ≢ n → g k ≡ f k) → (k : ℕ) → Moved (g k) (alone n x k) (f k)
+  given-alone : (f g : ℕ → Option T) (n : ℕ) (x : T) → f n ≡ None → g n ≡ Some x → ((k : ℕ) → k ≢ n → g k ≡ f k) → (k : ℕ) → Moved (g k) (alone n x k) (f k)
   given-alone f g n x vacant there others = moved-alone g f n x there vacant (λ k e. sym (others k e))
 
   -- a parcel that was taken is gone

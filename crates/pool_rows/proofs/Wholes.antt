@@ -7,8 +7,8 @@ use Rattle.affinity.specs.declared.layout.Layout.{Layout}
 use Rattle.affinity.specs.Layout.{layout_of}
 use Rattle.depot_rule.specs.Sums.{total}
 use Rattle.depot_rule.specs.History.{entries_of, AreHands}
-use Rattle.workers.specs.Shares.{share_of, share_in, picked_by, FilerPass}
-use Rattle.workers.specs.Pools.{filer_of, threads_of, HasAllWith, HasBetween}
+use Rattle.workers.specs.Shares.{share_in, picked_by, FilerPass}
+use Rattle.workers.specs.Pools.{filer_of, HasAllWith, HasBetween}
 use Rattle.workers.specs.declared.pool.Pool.{Pool}
 use Rattle.turns.specs.shared_waiting.Balance.{left, right, part, IsWhole}
 use Rattle.turns.specs.shared_waiting.Passes.{known, IsOf}

@@ -49,7 +49,7 @@ pub record Takes (n : ℕ) (answer : model.Answer) : Type 0 where
 
 -- ---- what MOUNT answers
 
-pub mounted_size : (volume : Option ℕ) → Takes 204 (root_of volume)
+mounted_size : (volume : Option ℕ) → Takes 204 (root_of volume)
 mounted_size None = record { bytes = omega arith }
 mounted_size (Some volume) = record { bytes = omega arith }
 
@@ -85,7 +85,7 @@ entries_size (e ∷ es) = entry_size e + entries_size es
 length-entry : (e : model.Listed) → length (spelling entry_shape (entry_value e)) + 4 ≡ entry_size e
 length-entry e = omega (arith, length-append (padded e.name) (hyper e.cookie), length-padded e.name)
 
-pub length-entries : (es : List model.Listed) → length (linked (λ v. spelling entry_shape v) (map entry_value es)) ≡ 4 + entries_size es
+length-entries : (es : List model.Listed) → length (linked (λ v. spelling entry_shape v) (map entry_value es)) ≡ 4 + entries_size es
 length-entries [] = refl
 length-entries (e ∷ es) =
     omega (
@@ -168,7 +168,7 @@ entry_is_short e attributes handle h =
       length-handle handle h,
     )
 
-pub length-entries_plus : (told : model.Listed → model.ListedPlus) → ((e : model.Listed) → IsShort e (told e)) → (es : List model.Listed)
+length-entries_plus : (told : model.Listed → model.ListedPlus) → ((e : model.Listed) → IsShort e (told e)) → (es : List model.Listed)
     → 8 * length es + length (linked (λ v. spelling entry_plus_shape v) (map entry_plus_value (map told es))) ≤ 4 + entries_plus_size es
 length-entries_plus told h [] = omega arith
 length-entries_plus told h (e ∷ es) =

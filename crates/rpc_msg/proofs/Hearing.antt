@@ -1,13 +1,12 @@
 -- Handles that are heard after a record was read.
-use Rattle.std.proofs.Common.{◌≡◌, ℕ, List, Result, Ok, Err, refl}
+use Rattle.std.proofs.Common.{◌≡◌, ℕ, Result, Ok, Err, refl}
 use Rattle.xdr.specs.declared.fault.Fault.{Fault as Unread}
 use Rattle.nfs_model.specs.Types as model
-use Rattle.nfs_model.specs.World.{Heard}
 use Rattle.nfs_types.specs.Arguments.{asked}
 use Rattle.rpc_msg.specs.declared.handle_form.HandleForm.{HandleForm}
 use Rattle.rpc_msg.specs.declared.handle_form.HandleForm.TheVariants.{Plain}
 use Rattle.rpc_msg.specs.Heads.{Head, Call, Refused, Faulty}
-use Rattle.rpc_msg.specs.Records.{asked_by, asked_heard, heard_from, told_heard}
+use Rattle.rpc_msg.specs.Records.{asked_by, heard_from, told_heard}
 
 asked_then : (form : HandleForm) (xid : ℕ) (who : model.Credential) (r : Result model.Call Unread)
     → told_heard form (Ok (record { xid = xid; asked = asked_by Plain who r })) ≡ Ok (record { xid = xid; asked = asked_by form who r })

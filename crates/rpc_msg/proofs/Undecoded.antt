@@ -6,16 +6,12 @@ use Rattle.xdr.specs.Reading.{all_of}
 use Rattle.xdr.specs.lemmas.Steps.{bind_ok, ok_is}
 use Rattle.nfs_model.specs.Types as model
 use Rattle.nfs_model.specs.Serial.Starve.{has_bytes}
-use Rattle.rpc_msg.specs.declared.handle_form.HandleForm.{HandleForm}
-use Rattle.rpc_msg.specs.declared.handle_form.HandleForm.TheVariants.{Plain, OfRun}
-use Rattle.rpc_msg.specs.HandleForm.{heard_in_run}
+use Rattle.rpc_msg.specs.declared.handle_form.HandleForm.TheVariants.{Plain}
 use Rattle.nfs_values.specs.declared.procedure.Procedure.{Procedure}
 use Rattle.nfs_values.specs.declared.procedure.Procedure.TheVariants.{Null}
 use Rattle.nfs_types.specs.Arguments.{arguments_shape, call_from, asked, takes_memory}
 use Rattle.nfs_types.specs.lemmas.Exact.{asked_is}
 use Rattle.rpc_msg.specs.declared.record.Request.TheVariants as requests
-use Rattle.nfs_values.specs.Call.{call_with}
-use Rattle.rpc_msg.specs.Handles.{call_heard}
 use Rattle.rpc_msg.specs.Heads.{Call}
 use Rattle.rpc_msg.specs.Records.{asked_by, heard_from}
 use Rattle.rpc_msg.specs.Seen.{Tells}
@@ -29,16 +25,6 @@ asked_has_bytes : (procedure : Procedure) (bytes : List ℕ) (call : model.Call)
 asked_has_bytes procedure bytes call e =
     let p = bind_ok (all_of (arguments_shape procedure) bytes) (λ v. Ok (call_from procedure v)) call (sym (asked_is procedure bytes) ∙ e) in
     subst (λ (c : model.Call). has_bytes c ≡ takes_memory procedure) (ok_is (call_from procedure p.0) call p.2) (bytes_from procedure p.0)
-
--- whatever its handles are
-with_bytes : (f : List ℕ → List ℕ) (call : model.Call) → has_bytes (call_with f call) ≡ has_bytes call
-with_bytes f model.Null = refl
-with_bytes f (model.Mount call) = refl
-with_bytes f call = refl
-
-pub heard_bytes : (form : HandleForm) (call : model.Call) → has_bytes (call_heard form call) ≡ has_bytes call
-heard_bytes Plain call = refl
-heard_bytes (OfRun run) call = with_bytes (heard_in_run run) call
 
 pub undecoded : (xid : ℕ) (procedure : Procedure) (who : model.Credential) (arguments : List ℕ)
     → (takes_memory procedure ≡ true) × ((call : model.Call) × (asked procedure arguments ≡ Ok call))

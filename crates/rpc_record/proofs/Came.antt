@@ -19,7 +19,7 @@ come_stands came s h =
     (record { parts = []; joined_is = refl; came_is = refl; short = omega arith; bytes = tt; small = omega arith }))
 
 -- more bytes, without a record or a fault
-pub come_more : (came bytes : List ℕ) (s u : State) → HasCome came (Some s) → AreBytes bytes → scan 0 s bytes ≡ More u → HasCome (came ++ bytes) (Some u)
+come_more : (came bytes : List ℕ) (s u : State) → HasCome came (Some s) → AreBytes bytes → scan 0 s bytes ≡ More u → HasCome (came ++ bytes) (Some u)
 come_more came bytes s u h b e =
     (AreBytes-append came bytes h.0 b, scan-append 0 start came bytes s h.1 ∙ more_any 0 (0 + length came) s bytes u e)
 

@@ -32,7 +32,7 @@ data_run (b ∷ c ∷ part) rest joined t left last some h =
     ∙ ap (λ (k : ℕ). rest_of (t + suc (suc (length part))) (after_data (joined ++ b ∷ c ∷ part) k last) rest) (omega arith)
 
 -- the same, where the bytes may go on past the fragment
-pub data_taken : (bytes joined : List ℕ) (n t left : ℕ) (last : Bool) → 0 < n → n ≤ left → n ≤ length bytes
+data_taken : (bytes joined : List ℕ) (n t left : ℕ) (last : Bool) → 0 < n → n ≤ left → n ≤ length bytes
     → scan t (InData joined left last) bytes ≡ rest_of (t + n) (after_data (joined ++ take n bytes) (left - n) last) (drop n bytes)
 data_taken bytes joined n t left last some h k =
     let len : length (take n bytes) ≡ n = omega (arith, length-take {A = ℕ}) in

@@ -110,7 +110,7 @@ above_limit joined n last fits h =
     rw (size_is n last fits, big) refl
 
 -- A header at fault is found, and no byte after it is taken.
-pub fault_found : (begun rest : List ℕ) → IsAtFault begun → scan 0 (InHeader [] []) (begun ++ rest) ≡ Fault (length begun)
+fault_found : (begun rest : List ℕ) → IsAtFault begun → scan 0 (InHeader [] []) (begun ++ rest) ≡ Fault (length begun)
 fault_found begun rest f =
     let h = header f.last f.size in
     let number = f.size + cond f.last last_bit 0 in

@@ -4,12 +4,12 @@ use Rattle.rpc_record.specs.Machine.{State, start, Next, Goes, Ends, Faults, Out
 use Rattle.rpc_record.specs.Stream.{Reading, opening, reading_at, byte_read, read_on, read_stream}
 
 -- reading goes on where it stands
-pub read_on-append : (r : Reading) (xs ys : List ℕ) → read_on r (xs ++ ys) ≡ read_on (read_on r xs) ys
+read_on-append : (r : Reading) (xs ys : List ℕ) → read_on r (xs ++ ys) ≡ read_on (read_on r xs) ys
 read_on-append r [] ys = refl
 read_on-append r (x ∷ xs) ys = read_on-append (byte_read r.records r.at x) xs ys
 
 -- a longer stream
-pub read_stream-append : (xs ys : List ℕ) → read_stream (xs ++ ys) ≡ read_on (read_stream xs) ys
+read_stream-append : (xs ys : List ℕ) → read_stream (xs ++ ys) ≡ read_on (read_stream xs) ys
 read_stream-append xs ys = read_on-append opening xs ys
 
 -- one more byte
@@ -27,7 +27,7 @@ ReadsTo t s bytes (Fault n) =
     → read_on (record { records = records; at = Some s }) (take k bytes) ≡ record { records = records; at = None })
 
 -- the same, past a byte
-abbrev pub ReadsPast : ℕ → Next → List ℕ → Outcome → Type 0
+abbrev ReadsPast : ℕ → Next → List ℕ → Outcome → Type 0
 ReadsPast t next bytes (More u) = (records : List (List ℕ)) → read_on (reading_at records next) bytes ≡ record { records = records; at = Some u }
 ReadsPast t next bytes (Made n m) =
     (k : ℕ) × (n ≡ t + suc k) × (k ≤ length bytes) × ((records : List (List ℕ))

@@ -96,7 +96,7 @@ module _ (cells : List (Option ℕ)) (a : ℕ) where
       (first-own (j + 1) b (entry nexts j) (omega (arith, under)) s.1 (r.next a j pa)))
       (λ (n : q ≢ a). first-still q (j + 1) (entry nexts j) n (r.next q j p)) t)) (same j b)
 
-  pub pushed : (firsts lasts nexts firsts' nexts' : List (Option ℕ)) → a < 283 → AreLined cells firsts lasts nexts
+  pushed : (firsts lasts nexts firsts' nexts' : List (Option ℕ)) → a < 283 → AreLined cells firsts lasts nexts
       → IsLinked firsts nexts a (entry lasts a) (Some (length cells)) firsts' nexts'
       → AreLined (cells ++ Some a ∷ []) firsts' (set lasts a (Some (length cells))) (nexts' ++ None ∷ [])
   pushed firsts lasts nexts firsts' nexts' l r k =
@@ -247,7 +247,7 @@ module _ (cells : List (Option ℕ)) (a i : ℕ) (there : IsIn cells a i) where
   ended-size lasts lasts' o None k = ap length k ∙ length-set lasts a o
   ended-size lasts lasts' o (Some c) k = ap length k
 
-  pub vacated : (firsts lasts nexts firsts' lasts' nexts' : List (Option ℕ)) (o : Option ℕ) → AreLined cells firsts lasts nexts
+  vacated : (firsts lasts nexts firsts' lasts' nexts' : List (Option ℕ)) (o : Option ℕ) → AreLined cells firsts lasts nexts
       → IsLastBelow (IsIn cells a) i o → IsLinked firsts nexts a o (entry nexts i) firsts' nexts' → IsEnded lasts a o (entry nexts i) lasts'
       → AreLined (set cells i None) firsts' lasts' nexts'
   vacated firsts lasts nexts firsts' lasts' nexts' o r s k m =

@@ -15,7 +15,7 @@ module _ {X : Type 0} where
   present-some (None ∷ xs) (suc i) x e = present-some xs i x e
   present-some (Some y ∷ xs) (suc i) x e = ap (λ (z : List X). y ∷ z) (present-some xs i x e)
 
-  pub present-none : (xs : List (Option X)) (i : ℕ) → slice_get xs i ≡ Some None → present (take (suc i) xs) ≡ present (take i xs)
+  present-none : (xs : List (Option X)) (i : ℕ) → slice_get xs i ≡ Some None → present (take (suc i) xs) ≡ present (take i xs)
   present-none [] i e = absurd (none-some None e)
   present-none (None ∷ xs) zero e = refl
   present-none (Some y ∷ xs) zero e = absurd (none-some y (sym (same_Some (Some y) None e)))

@@ -18,7 +18,7 @@ use Rattle.scheduler.proofs.Present.{present-at, present-all, cell-of, count-ris
 
 -- ---- one affinity, one queue
 
-pub same-affinity : (a b : Home) → HasQueue (home_node a) → HasQueue (home_node b) → queue_of (home_node a) ≡ queue_of (home_node b) → a ≡ b
+same-affinity : (a b : Home) → HasQueue (home_node a) → HasQueue (home_node b) → queue_of (home_node a) ≡ queue_of (home_node b) → a ≡ b
 same-affinity Serial Serial h k e = refl
 same-affinity (Aggregate a) (Aggregate b) h k e = let p : a ≡ b = omega (arith, e) in ap Aggregate p
 same-affinity (Volume a) (Volume b) h k e = let p : a ≡ b = omega (arith, e) in ap Volume p
@@ -101,7 +101,7 @@ module _ {C : Type 0} where
       (λ (t : (j ≡ length xs) × (Some m ≡ Some y)). subst (λ (z : Message C). HasQueue (home_node z.affinity)) (same_Some m y t.1) k)
       (get-past xs (Some m) (Some y) j e)
 
-  pub queues-all : (xs : List (Option (Message C))) → HaveQueues xs → HaveQueues (map (λ x. Some x) (present xs))
+  queues-all : (xs : List (Option (Message C))) → HaveQueues xs → HaveQueues (map (λ x. Some x) (present xs))
   queues-all xs h j m e =
       let r = cell-of xs j m (from-all (present xs) j m e) in h r.0 m r.1
     where

@@ -120,7 +120,7 @@ module _ {C : Type 0} where
   cell-within xs i t = within xs i (Some t.0) t.1
 
   -- the message of the first cell of an affinity's queue
-  pub tried : (xs : List (Option (Message C))) (lines : List (Option ℕ)) (count start q i : ℕ) (a : Home) (o : Option ℕ) (m : Message C)
+  tried : (xs : List (Option (Message C))) (lines : List (Option ℕ)) (count start q i : ℕ) (a : Home) (o : Option ℕ) (m : Message C)
       (old : List (Message C))
       → AreKept xs lines count start → present xs ≡ old → q ≡ queue_of (home_node a) → HasQueue (home_node a) → IsFirstFrom (IsIn lines q) 0 o → o ≡ Some i
       → slice_get xs i ≡ Some (Some m) → Tries a old (length (present (take i xs))) m × NoneTries a old (length (present (take i xs)))

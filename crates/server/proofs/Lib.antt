@@ -1,4 +1,3 @@
-mod Staying
 mod Remaining
 mod Ended
 mod Started

@@ -1,45 +1,15 @@
 -- What is left of a lane, put to what is left of others.
-use Rattle.std.proofs.Common.{◌≡◌, ℕ, ◌+◌, List, [], ◌∷◌, ◌++◌, Option, refl, sym, ap, subst, arith, ◌∙◌}
+use Rattle.std.proofs.Common.{◌≡◌, ℕ, ◌+◌, List, [], ◌++◌, Option, ap, arith}
 use Rattle.std.specs.Prelude.{option_to_list}
-use Rattle.affinity.specs.declared.layout.Layout.{Layout}
-use Rattle.depot.specs.Words.{view, splits_left, IsSeatHere}
-use Rattle.depot_rule.specs.History.{entries_of}
 use Rattle.depot_rule.specs.Sums.{total}
 use Rattle.depot_rule.specs.lemmas.Sums.{total-append}
-use Rattle.turns.specs.Apart.{AreOf}
 use Rattle.turns.specs.Balance.{FilerEntry, Passed, Weight, by_entry, by_key, by_kept, IsEven}
-use Rattle.turns.specs.Words.{entries_in, layout_in, seats_in, verifier_in, HasOpened, IsAt}
 use Rattle.turns.specs.Messages.{Message}
-use Rattle.turns.specs.declared.parts.WorkerParts.{WorkerParts}
-use Rattle.turns.specs.declared.shared.Filer.{Filer}
-use Rattle.turns.specs.declared.shared_waiting.pass.SharedWaiting.{SharedWaiting}
-use Rattle.turns.specs.declared.worker.Worker.{Worker}
 use Rattle.turns.specs.shared_waiting.Balance.{both}
 use Rattle.workers.proofs.Joins.{kept-once}
 
--- ---- a worker's parts
-
-module _ (filer there : Filer) (same : there ≡ filer) (q : SharedWaiting Message Layout) (w : Worker) (p : WorkerParts) (of : AreOf w p)
-    (inside : IsAt there q w) where
-  pub seat-here : IsSeatHere filer.depot p.seat
-  seat-here = subst (λ s. IsSeatHere filer.depot s) (sym of.seat) (subst (λ (f : Filer). IsSeatHere f.depot w.seat) same inside.seat)
-
-  pub seat-opened : HasOpened (layout_in filer) (verifier_in filer) (view p.seat)
-  seat-opened =
-      subst (λ s. HasOpened (layout_in filer) (verifier_in filer) (view s)) (sym of.seat)
-      (subst (λ (f : Filer). HasOpened (layout_in f) (verifier_in f) (view w.seat)) same inside.opened)
-
-module _ (w : Worker) (p : WorkerParts) (of : AreOf w p) where
-  pub seats-parted : splits_left p.seat + 1 ≡ seats_in w
-  seats-parted = ap (λ s. splits_left s + 1) of.seat
-
-  pub entries-parted : (weight : FilerEntry → ℕ) → total weight (entries_of (view p.seat)) ≡ total weight (entries_in w)
-  entries-parted weight = ap (λ s. total weight (entries_of (view s))) of.seat
-
--- ---- calls
-
 -- What a lane admitted, with what waited before, is what its worker finished and keeps, and what waits then.
-pub lane-even : (h : Weight) (a v j : Passed) (es : List FilerEntry) (k : Option Message) (before waiting : List Message) → a.picked ≡ []
+lane-even : (h : Weight) (a v j : Passed) (es : List FilerEntry) (k : Option Message) (before waiting : List Message) → a.picked ≡ []
     → j ≡ both a v → IsEven v es k
     → total (by_key h) j.put + total (by_key h) before ≡ total (by_key h) j.picked + total (by_key h) waiting
     → total (by_key h) a.put + total (by_key h) before ≡ total (by_entry h) es + (by_kept h k + total (by_key h) waiting)

@@ -1,5 +1,5 @@
 -- Lanes whose threads are started, and come back.
-use Rattle.std.proofs.Common.{◌≡◌, ℕ, ◌+◌, List, [], All, length, ap, ◌∙◌, subst, sym, arith}
+use Rattle.std.proofs.Common.{◌≡◌, ℕ, ◌+◌, List, [], All, length, ap, ◌∙◌, sym, arith}
 use Rattle.depot_rule.specs.Sums.{total}
 use Rattle.lanes.specs.declared.lane.Lane.{Lane}
 use Rattle.rpc_msg.specs.declared.offer.Offer.{Offer}

@@ -38,7 +38,7 @@ module _ {P S A : Type 0} (told : A → JobReply) (layout : Layout) (call : Inne
     (step : (reply : JobReply) → IsRight layout (inner_node call) (in_volume (inner_volume call) lens) (Inner call) old reply new
     → FilerSteps (parents layout) (number_of layout (inner_node call)) (Inner call) before reply after)
     (size : ℕ) (hand : Hand) (is : IsHandFor size call hand) where
-  pub has-run : (outcome : InnerOutcome A) → UnlessDone outcome ((k : ℕ) → after k ≡ before k)
+  has-run : (outcome : InnerOutcome A) → UnlessDone outcome ((k : ℕ) → after k ≡ before k)
       → HasRunOn told (inner_volume call) lens call hand old outcome new → InnerHasRun told call hand layout (inner_node call) before outcome after
   has-run (Ok reply) same right = (
     inner-runs-by layout call on lens numbered before after old new was step (Some (told reply)) right.0 right.1

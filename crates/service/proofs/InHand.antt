@@ -30,11 +30,11 @@ of-fresh v blocks u other n = let none = listed-other u v n blocks other in omeg
 of-dead : (v : ℕ) (blocks : List ℕ) → AreOf v (Dead v blocks ∷ [])
 of-dead v blocks u other n = let none = listed-other u v n blocks other in omega (arith, none)
 
-pub fetched-of : (v : ℕ) (blocks : List ℕ) → AreOf v (batches_in (fresh_hand v blocks))
+fetched-of : (v : ℕ) (blocks : List ℕ) → AreOf v (batches_in (fresh_hand v blocks))
 fetched-of v [] u other n = refl
 fetched-of v (b ∷ blocks) u other n = of-fresh v (b ∷ blocks) u other n
 
-pub culled-of : (v : ℕ) (blocks : List ℕ) → AreOf v (batches_in (dead_hand v blocks))
+culled-of : (v : ℕ) (blocks : List ℕ) → AreOf v (batches_in (dead_hand v blocks))
 culled-of v [] u other n = refl
 culled-of v (b ∷ blocks) u other n = of-dead v (b ∷ blocks) u other n
 

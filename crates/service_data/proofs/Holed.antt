@@ -21,10 +21,6 @@ use Rattle.service_data.specs.Holes.{Rise, AreHoles, with_hole, zeroed, renumber
 
 -- ---- blocks by their places
 
--- whether a place is another
-ties : FileBlock → FileBlock → Bool
-ties p k = eq_by_cmp file_block_cmp p k
-
 by-place : (p k : FileBlock) → (p ≡ k) ⊎ (eq_by_cmp file_block_cmp p k ≡ false)
 by-place p k = by (file_block_cmp p k) refl
   where
@@ -238,7 +234,7 @@ module _ (fileid : ℕ) where
         by false = rise-filter (λ b. not (is_filled (home_stripe xs fileid b) fileid b)) (offset / block_size) _ 0 (omega arith)
 
 -- as the search goes on
-pub found-more : (filled : ℕ → Bool) (a k : ℕ)
+found-more : (filled : ℕ → Bool) (a k : ℕ)
     → filter (λ b. not (filled b)) (range_with_len a (k + 1)) ≡ with_hole (filled (a + k)) (a + k) (filter (λ b. not (filled b)) (range_with_len a k))
 found-more filled a zero = let here : a ≡ a + 0 = omega arith in ap (λ (b : ℕ). if not (filled b) then b ∷ [] else []) here ∙ by (filled (a + 0))
   where

@@ -107,7 +107,7 @@ module _ {A : Type 0} where
   set-alike (x ∷ xs) (suc i) d here less same zero = refl
   set-alike (x ∷ xs) (suc i) d here less same (suc k) = set-alike xs i d here (omega arith) same k
 
-  pub at-same : (xs : List (Option A)) (i : ℕ) (d here : Option A) → i < length xs → here ≡ slice_index_or xs i d → slice_set xs i here ≡ xs
+  at-same : (xs : List (Option A)) (i : ℕ) (d here : Option A) → i < length xs → here ≡ slice_index_or xs i d → slice_set xs i here ≡ xs
   at-same [] i d here less e = absurd (omega arith)
   at-same (x ∷ xs) zero d here less e = ap (λ (y : Option A). y ∷ xs) e
   at-same (x ∷ xs) (suc i) d here less e = ap (λ (l : List (Option A)). x ∷ l) (at-same xs i d here (omega arith) e)
@@ -122,7 +122,7 @@ module _ {P : Type 0} (held : FilerVbn P) (long : length held.ranges.at ≡ 16) 
     was-is : in_place i ≡ range_value was
     was-is = ap range_value (sym (at-found held.ranges.at i d (omega (arith, below, long))) ∙ found)
 
-    pub leaves-range : (n : ℕ) → contains (range_value was).free n ≡ true → range_value here ≡ taken (n ∷ []) (range_value was)
+    leaves-range : (n : ℕ) → contains (range_value was).free n ≡ true → range_value here ≡ taken (n ∷ []) (range_value was)
         → LeavesFree n (vbn_set held) (vbn_set (record held { ranges = record held.ranges { at = slice_set held.ranges.at i here } }))
     leaves-range n there left = record {
       range = i;
@@ -134,7 +134,7 @@ module _ {P : Type 0} (held : FilerVbn P) (long : length held.ranges.at ≡ 16) 
           ∙ ap (taken (n ∷ [])) (sym (each-index in_place no_range 16 i below ∙ was-is)));
     }
 
-    pub alike-range : (change : RangeValue → RangeValue) → here ≡ range_changed change was → AreFilledAlike held.ranges.at (slice_set held.ranges.at i here)
+    alike-range : (change : RangeValue → RangeValue) → here ≡ range_changed change was → AreFilledAlike held.ranges.at (slice_set held.ranges.at i here)
     alike-range change changed = set-alike held.ranges.at i d here (omega (arith, below, long))
         (ap (λ (o : Option (FilerRange P)). is_filled (Some o)) found ∙ filled was
         ∙ ap (λ (o : Option (FilerRange P)). is_filled (Some o)) (sym changed))
@@ -144,7 +144,7 @@ module _ {P : Type 0} (held : FilerVbn P) (long : length held.ranges.at ≡ 16) 
         filled (Some h) = refl
 
     -- one range more that has no free number
-    pub none-more : ((k : ℕ) → k < i → (in_place k).free ≡ sets.empty) → (range_value was).free ≡ sets.empty
+    none-more : ((k : ℕ) → k < i → (in_place k).free ≡ sets.empty) → (range_value was).free ≡ sets.empty
         → (k : ℕ) → k < i + 1 → (in_place k).free ≡ sets.empty
     none-more others none k less = elim (cases_lt k i) [
       | inl before ↦ others k before

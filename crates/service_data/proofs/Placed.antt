@@ -22,7 +22,7 @@ module _ {P : Type 0} where
   placed-is (p ∷ ps) zero = refl
   placed-is (p ∷ ps) (suc i) = placed-is ps i
 
-  pub default-is : (places : List (Option (FilerStripe P))) (i : ℕ) (d : Option (FilerStripe P)) → i < length places
+  default-is : (places : List (Option (FilerStripe P))) (i : ℕ) (d : Option (FilerStripe P)) → i < length places
       → slice_index_or places i d ≡ slice_index_or places i None
   default-is [] i d less = absurd (omega arith)
   default-is (p ∷ ps) zero d less = refl
@@ -91,7 +91,7 @@ module _ {P : Type 0} where
     first-placed (suc n) (p ∷ ps) zero less = refl
     first-placed (suc n) (p ∷ ps) (suc k) less = first-placed n ps k (omega arith)
 
-    pub first-long : (n : ℕ) (places : List (Option (FilerStripe P))) → length (first_changed n change places) ≡ length places
+    first-long : (n : ℕ) (places : List (Option (FilerStripe P))) → length (first_changed n change places) ≡ length places
     first-long zero places = refl
     first-long (suc n) [] = refl
     first-long (suc n) (p ∷ ps) = ap suc (first-long n ps)
@@ -104,7 +104,7 @@ module _ {P : Type 0} where
     first-next (suc n) (p ∷ ps) d less = ap (λ (l : List (Option (FilerStripe P))). place_changed change p ∷ l) (first-next n ps d (omega arith))
 
     -- one more
-    pub first-more : (n : ℕ) (places now : List (Option (FilerStripe P))) (d was here : Option (FilerStripe P)) → n < length places
+    first-more : (n : ℕ) (places now : List (Option (FilerStripe P))) (d was here : Option (FilerStripe P)) → n < length places
         → now ≡ first_changed n change places → slice_index_or now n d ≡ was → here ≡ place_changed change was
         → slice_set now n here ≡ first_changed (n + 1) change places
     first-more n places now d was here less so is changed =
@@ -177,7 +177,7 @@ module _ {P : Type 0} (held : FilerLogical P) (has : HasStripes held) (fileid bl
     }
 
 -- all of them
-pub all-changes : {P : Type 0} (held : FilerLogical P) → HasStripes held → (change : StripeValue → StripeValue)
+all-changes : {P : Type 0} (held : FilerLogical P) → HasStripes held → (change : StripeValue → StripeValue)
     → StripesChanged (map change) held (with_places (first_changed held.own.stripes change held.stripes.at) held)
 all-changes {P} held has change = record {
   own = refl;

@@ -70,9 +70,6 @@ module _ {P : Type 0} (fileid b : ℕ) (blocks rest : List ℕ) (is : blocks ≡
     base-has : HasStripes base
     base-has = record { some = has.some; few = has.few; there = has.there }
 
-    pub taken-has : HasStripes taken
-    taken-has = subst HasStripes (sym base-is) base-has
-
     one-numbered : StripesChanged (home_changed fileid b (block_numbered fileid b n)) base mid
     one-numbered = subst (StripesChanged (home_changed fileid b (block_numbered fileid b n)) base)
         (sym (numbered ∙ ap (home_held fileid b (block_numbered fileid b n)) base-is))

@@ -35,7 +35,7 @@ module _ (f : ℕ → ℕ) (offset most size : ℕ) where
   bytes n = map f (range_with_len offset n)
 
   -- at or past the end of a file no bytes are given, and they reach it
-  pub told-some : read_told bytes offset most size ≡ some_told bytes offset size (min most (size - offset))
+  told-some : read_told bytes offset most size ≡ some_told bytes offset size (min most (size - offset))
   told-some = by (nat_le size offset) refl
     where
       by : (past : Bool) → nat_le size offset ≡ past

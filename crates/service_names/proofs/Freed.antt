@@ -45,16 +45,16 @@ among-both (x ∷ xs) ys q =
 same : (s t : FinSet nat_cmp) → ((q : ℕ) → contains s q ≡ contains t q) → s ≡ t
 same s t is = same_set nat_cmp_total nat_cmp-IsAntisymmetric s t is
 
-pub added-none : (d : FinSet nat_cmp) → with_numbers [] d ≡ d
+added-none : (d : FinSet nat_cmp) → with_numbers [] d ≡ d
 unfolding among
 added-none d = same (with_numbers [] d) d (λ q. has-more [] d q ∙ none-more (contains d q))
 
-pub added-then : (xs ys : List ℕ) (d : FinSet nat_cmp) → with_numbers ys (with_numbers xs d) ≡ with_numbers (xs ++ ys) d
+added-then : (xs ys : List ℕ) (d : FinSet nat_cmp) → with_numbers ys (with_numbers xs d) ≡ with_numbers (xs ++ ys) d
 added-then xs ys d = same (with_numbers ys (with_numbers xs d)) (with_numbers (xs ++ ys) d) (λ q.
     has-more ys (with_numbers xs d) q ∙ ap (λ b. b || among ys q) (has-more xs d q) ∙ either (contains d q) (among xs q) (among ys q)
     ∙ ap (λ b. contains d q || b) (sym (among-both xs ys q)) ∙ sym (has-more (xs ++ ys) d q))
 
-pub added-before : (xs ys : List ℕ) (d : FinSet nat_cmp) → with_numbers xs (with_numbers ys d) ≡ with_numbers (xs ++ ys) d
+added-before : (xs ys : List ℕ) (d : FinSet nat_cmp) → with_numbers xs (with_numbers ys d) ≡ with_numbers (xs ++ ys) d
 added-before xs ys d = same (with_numbers xs (with_numbers ys d)) (with_numbers (xs ++ ys) d) (λ q.
     has-more xs (with_numbers ys d) q ∙ ap (λ b. b || among xs q) (has-more ys d q) ∙ either (contains d q) (among ys q) (among xs q)
     ∙ ap (λ b. contains d q || b) (other (among ys q) (among xs q) ∙ sym (among-both xs ys q)) ∙ sym (has-more (xs ++ ys) d q))
@@ -63,7 +63,7 @@ added-before xs ys d = same (with_numbers xs (with_numbers ys d)) (with_numbers 
 pub marked-none : (d : DeadValue) → dead_marked [] d ≡ d
 marked-none d = λ j. record d { blocks = added-none d.blocks j }
 
-pub marked-then : (xs ys : List ℕ) (d : DeadValue) → dead_marked ys (dead_marked xs d) ≡ dead_marked (xs ++ ys) d
+marked-then : (xs ys : List ℕ) (d : DeadValue) → dead_marked ys (dead_marked xs d) ≡ dead_marked (xs ++ ys) d
 marked-then xs ys d = λ j. record d { blocks = added-then xs ys d.blocks j }
 
 pub marked-before : (xs ys : List ℕ) (d : DeadValue) → dead_marked xs (dead_marked ys d) ≡ dead_marked (xs ++ ys) d

@@ -19,10 +19,6 @@ module _ (f : ℕ → StripeValue) (fileid n : ℕ) where
   abbrev pub IsTouchFrom : ℕ → Option Moment → Type 0
   IsTouchFrom left touch = (m : ℕ) → left + m ≡ n → touch ≡ file_touch (each f left m) fileid
 
-  pub none-from : IsTouchFrom n None
-  none-from zero e = refl
-  none-from (suc m) e = absurd (omega arith)
-
   pub touch-more : (left : ℕ) (touch next : Option Moment) → left + 1 ≤ n → IsTouchFrom (left + 1) touch
       → next ≡ later (touch_of (get (f left).cards fileid)) touch → IsTouchFrom left next
   touch-more left touch next less before is zero e = absurd (omega arith)

@@ -14,7 +14,7 @@ use Rattle.filer_state.specs.state.Parcels.{no_stripe}
 use Rattle.filer_state.specs.state.Tree.{file_touch, later}
 use Rattle.filer_state.specs.state.Sets.{FilerStripe, stripe_value, placed, in_one}
 use Rattle.filer_state.specs.laws.lemmas.Each.{each-same, each-map}
-use Rattle.service_names.proofs.Latest.{IsTouchFrom, none-from, touch-more}
+use Rattle.service_names.proofs.Latest.{IsTouchFrom, touch-more}
 
 -- an empty place stays as it is
 pub vacant-taken : {P : Type 0} (o p : Option (FilerStripe P)) (fileid : ℕ) → o ≡ None → p ≡ o → stripe_value p ≡ touch_taken fileid (stripe_value o)
@@ -57,14 +57,6 @@ module _ {P : Type 0} (fileid n : ℕ) (old : List (Option (FilerStripe P))) whe
     pub before : (i : ℕ) → i < left → stripe_value (placed now i) ≡ was i
     pub taken : (i : ℕ) → left ≤ i → i < n → stripe_value (placed now i) ≡ touch_taken fileid (was i)
     pub latest : IsTouchFrom was fileid n left touch
-
-  pub none-taken : AreTakenFrom n None old
-  none-taken = record {
-    alike = λ i. refl;
-    before = λ i less. refl;
-    taken = λ i on less. absurd (omega arith);
-    latest = none-from was fileid n;
-  }
 
   -- one stripe more, by what comes into its place
   more-taken : (i : ℕ) (touch one next : Option Moment) (now : List (Option (FilerStripe P))) (was_here here : Option (FilerStripe P)) → i < n

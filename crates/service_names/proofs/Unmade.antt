@@ -48,12 +48,12 @@ module _ {P : Type 0} where
   there-of f (Some s) some = refl
 
   -- places that differ by cards are filled alike
-  pub cards-alike : (f n : ℕ) (old now : List (Option (FilerStripe P))) → InFirst (DiffersByCard f) n old now → AreFilledAlike old now
+  cards-alike : (f n : ℕ) (old now : List (Option (FilerStripe P))) → InFirst (DiffersByCard f) n old now → AreFilledAlike old now
   cards-alike f n old now t = first-alike (DiffersByCard f) (filled-of f) n old now t
 
   module _ (f n : ℕ) (old mid now : List (Option (FilerStripe P))) where
     -- the cards put in and taken out again, where there were none
-    pub cards-back : ((i : ℕ) (x : Option (FilerStripe P)) → i < n → slice_get old i ≡ Some x → get (stripe_value x).cards f ≡ None)
+    cards-back : ((i : ℕ) (x : Option (FilerStripe P)) → i < n → slice_get old i ≡ Some x → get (stripe_value x).cards f ≡ None)
         → InFirst (DiffersByCard f) n old mid → InFirst (IsDropped f) n mid now → now ≡ old
     cards-back none put gone = same-places old now (gone.long ∙ put.long) (λ i x y e h.
         let long = put.long in
@@ -66,7 +66,7 @@ module _ {P : Type 0} where
         (cases_lt i n))
 
   -- the stripes of a volume with the card of a new node
-  pub cards-made : (k : InodeKind) (f n : ℕ) (old now : List (Option (FilerStripe P)))
+  cards-made : (k : InodeKind) (f n : ℕ) (old now : List (Option (FilerStripe P)))
       → ((i : ℕ) → i < n → (x : Option (FilerStripe P)) × (slice_get old i ≡ Some x) × (is_some x ≡ true))
       → InFirst (HasCard k f) n old now
       → each (λ i. stripe_value (placed now i)) 0 n ≡ map (card_made k f) (each (λ i. stripe_value (placed old i)) 0 n)

@@ -14,7 +14,7 @@ top_of-above : (b : ℕ) → 4 ≤ b → top_of b ≡ (b % 4 + 5) * 2 ^ (b / 4 -
 top_of-above b h = rw (le-ltb b 4 h)
 
 -- four buckets further it is twice as long, and one more
-pub top_of-further : (b : ℕ) → 4 ≤ b → top_of (b + 4) ≡ 2 * top_of b + 1
+top_of-further : (b : ℕ) → 4 ≤ b → top_of (b + 4) ≡ 2 * top_of b + 1
 top_of-further b h =
     let here = top_of-above b h in
     let far : 4 ≤ b + 4 = omega arith in
@@ -26,7 +26,7 @@ top_of-further b h =
     ∙ twice (b % 4 + 5) (2 ^ (b / 4 - 1)) (omega arith) (pow_pos (b / 4 - 1)) ∙ ap (λ n. 2 * n + 1) (sym here)
 
 -- half a number below a power of two is below the power before it
-pub half_below : (m k : ℕ) → m < 2 ^ (suc k + 3) → m / 2 < 2 ^ (k + 3)
+half_below : (m k : ℕ) → m < 2 ^ (suc k + 3) → m / 2 < 2 ^ (k + 3)
 half_below m k h =
     let next : suc k + 3 ≡ suc (k + 3) = omega arith in
     let e : 2 ^ (suc k + 3) ≡ 2 ^ (k + 3) * 2 = ap (λ n. 2 ^ n) next ∙ pow-suc 2 (k + 3) in

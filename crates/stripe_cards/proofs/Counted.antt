@@ -120,14 +120,14 @@ less-below old new touched left is below most fewer = by (nat_lt old 255) refl i
     by false e h = absurd (grind (arith, nat_tests, e, h, below))
 
 module _ (counts : List ℕ) (m n : FinMap nat_cmp Card) where
-  pub no-more : AreCounted counts m → ((class : ℕ) → touched_in class (entries n) ≤ touched_in class (entries m)) → AreCounted counts n
+  no-more : AreCounted counts m → ((class : ℕ) → touched_in class (entries n) ≤ touched_in class (entries m)) → AreCounted counts n
   no-more a less = record {
     size = a.size;
     most = λ class within below. let most = a.most class within below in let l = less class in omega (arith, most, l);
   }
 
   module _ (new : List ℕ) (k : ℕ) where
-    pub up : ChangesCount one_more k counts new → ((class : ℕ) → touched_in class (entries n) ≤ touched_in class (entries m) + one_if (class == k))
+    up : ChangesCount one_more k counts new → ((class : ℕ) → touched_in class (entries n) ≤ touched_in class (entries m) + one_if (class == k))
         → AreCounted counts m → AreCounted new n
     up c more a = record { size = c.size ∙ a.size; most = λ class within below. by class (class == k) within below (c.counts class) (more class) }
       where
@@ -139,7 +139,7 @@ module _ (counts : List ℕ) (m n : FinMap nat_cmp Card) where
             omega (arith, one, l)
         by class false within below is l = let most = a.most class within (omega (arith, is, below)) in omega (arith, is, most, l)
 
-    pub down : ChangesCount one_less k counts new
+    down : ChangesCount one_less k counts new
         → ((class : ℕ) → touched_in class (entries n) + one_if (class == k) ≤ touched_in class (entries m)) → AreCounted counts m → AreCounted new n
     down c fewer a = record { size = c.size ∙ a.size; most = λ class within below. by class (class == k) within below (c.counts class) (fewer class) }
       where

@@ -28,7 +28,7 @@ get-put_after a n xs ys k h e l = grind (arith, places)
 pub byte_missed : (offset : ℕ) (written : List ℕ) (at old : ℕ) → (offset ≤ at → offset + length written ≤ at) → byte_written offset written at old ≡ old
 byte_missed offset written at old h = grind (arith, nat_tests, places)
 
-pub byte_met : (offset : ℕ) (written : List ℕ) (at old : ℕ) → offset ≤ at → at < offset + length written
+byte_met : (offset : ℕ) (written : List ℕ) (at old : ℕ) → offset ≤ at → at < offset + length written
     → byte_written offset written at old ≡ get_or written (at - offset) 0
 byte_met offset written at old h l = grind (arith, nat_tests, places)
 

@@ -13,9 +13,6 @@ use Rattle.stripes.proofs.Keys.{key-cases, key-itself, key-turned}
 abbrev PlacedBlock : Type 0
 PlacedBlock = FileBlock × Block
 
-found : FileBlock → List PlacedBlock → Bool
-found q es = is_some (find file_block_cmp q es)
-
 found-here : (e : PlacedBlock) (es : List PlacedBlock) → is_some (find file_block_cmp e.0 (e ∷ es)) ≡ true
 found-here e es = ap (λ t. is_some (cond t (Some e.1) (find file_block_cmp e.0 es))) (key-itself e.0)
 
@@ -28,7 +25,7 @@ found-later q e es h = by (eq_by_cmp file_block_cmp q e.0)
     by false = h
 
 -- none of the entries passes
-pub filter-none : (test : FileBlock → Bool) (es : List PlacedBlock) → ((q : FileBlock) → is_some (find file_block_cmp q es) ≡ true → test q ≡ false)
+filter-none : (test : FileBlock → Bool) (es : List PlacedBlock) → ((q : FileBlock) → is_some (find file_block_cmp q es) ≡ true → test q ≡ false)
     → filter (λ (e : PlacedBlock). test e.0) es ≡ []
 filter-none test [] none = refl
 filter-none test (e ∷ es) none =
@@ -36,7 +33,7 @@ filter-none test (e ∷ es) none =
     ∙ filter-none test es (λ q h. none q (found-later q e es h))
 
 -- an entry before all others that pass
-pub filter-first : (test : FileBlock → Bool) (k : FileBlock) (v : Block) (es : List PlacedBlock) → test k ≡ true
+filter-first : (test : FileBlock → Bool) (k : FileBlock) (v : Block) (es : List PlacedBlock) → test k ≡ true
     → ((q : FileBlock) → is_some (find file_block_cmp q es) ≡ true → file_block_cmp k q ≡ Equal → ⊥)
     → ((q : FileBlock) → is_some (find file_block_cmp q es) ≡ true → file_block_cmp k q ≡ Greater → test q ≡ false)
     → filter (λ (e : PlacedBlock). test e.0) (put file_block_cmp k v es) ≡ (k, v) ∷ filter (λ (e : PlacedBlock). test e.0) es

@@ -69,15 +69,15 @@ key-within fileid span i p within same =
 
 -- ---- the order of keys
 
-abbrev pub le-key : FileBlock → FileBlock → Type 0
+abbrev le-key : FileBlock → FileBlock → Type 0
 le-key a b = is_gt (file_block_cmp a b) ≡ false
 
-pub after-file : (a b : FileBlock) → b.0 < a.0 → le-key a b → ⊥
+after-file : (a b : FileBlock) → b.0 < a.0 → le-key a b → ⊥
 after-file a b h le =
     let e : nat_cmp a.0 b.0 ≡ Greater = sym (nat_cmp_is a.0 b.0 Greater h) in
     let no : true ≡ false = sym (ap (λ r. is_gt (ordering_then r (nat_cmp a.1 b.1))) e) ∙ le in cc
 
-pub after-span : (a b : FileBlock) → a.0 ≡ b.0 → b.1 < a.1 → le-key a b → ⊥
+after-span : (a b : FileBlock) → a.0 ≡ b.0 → b.1 < a.1 → le-key a b → ⊥
 after-span a b same h le =
     let e : nat_cmp a.0 b.0 ≡ Equal = sym (nat_cmp_is a.0 b.0 Equal same) in
     let g : nat_cmp a.1 b.1 ≡ Greater = sym (nat_cmp_is a.1 b.1 Greater h) in

@@ -10,10 +10,6 @@ use Rattle.nfs_model.specs.volume.lemmas.Entries.{place_total, place_same}
 use Rattle.stripes.specs.Spans.{Places, Spans, place_in, span_of, block_at, span_at, places_from, all_places, with_entry, present, blocks_of}
 use Rattle.stripes.proofs.Keys.{key-cases, key-test, key-itself}
 
--- whether a place is among some
-among : FileBlock → List FileBlock → Bool
-among p ps = list_any (is_at (file_block_cmp p)) ps
-
 -- what is found among the entries that are there
 find-present : (f : FileBlock → Option Block) (ps : List FileBlock) (q : FileBlock)
     → find file_block_cmp q (present f ps) ≡ cond (list_any (is_at (file_block_cmp q)) ps)

@@ -11,7 +11,7 @@ use Rattle.stripes.proofs.Bytes.{byte_missed}
 use Rattle.stripes.proofs.Places.{unlike}
 
 -- a block has as many bytes afterwards
-pub length-mapped : (change : ℕ → ℕ → ℕ) (block : ℕ) (b : Block) → length (block_mapped change block b).bytes ≡ block_size
+length-mapped : (change : ℕ → ℕ → ℕ) (block : ℕ) (b : Block) → length (block_mapped change block b).bytes ≡ block_size
 length-mapped change block b = length-map-range_with_len (λ i. change (block_size * block + i) (get_or b.bytes i 0)) 0 block_size
 
 pub length-file_mapped : (change : ℕ → ℕ → ℕ) (f : ℕ) (p : FileBlock) (b : Block) → length b.bytes ≡ block_size
@@ -23,7 +23,7 @@ length-file_mapped change f p b long = by (p.0 == f)
     by false = long
 
 -- a block of which no byte changes
-pub block-same : (change : ℕ → ℕ → ℕ) (block : ℕ) (b : Block) → length b.bytes ≡ block_size
+block-same : (change : ℕ → ℕ → ℕ) (block : ℕ) (b : Block) → length b.bytes ≡ block_size
     → ((i x : ℕ) → i < block_size → change (block_size * block + i) x ≡ x) → block_mapped change block b ≡ b
 block-same change block b long same = λ j. record {
   number = b.number;

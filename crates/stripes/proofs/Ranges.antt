@@ -24,7 +24,7 @@ same-maps f g a b (suc n) same =
     λ i. head i ∷ tail i
 
 -- a range in two parts
-pub map-range-append : {X : Type 0} (f : ℕ → X) (a n m : ℕ) → map f (range_with_len a (n + m)) ≡ map f (range_with_len a n) ++ map f
+map-range-append : {X : Type 0} (f : ℕ → X) (a n m : ℕ) → map f (range_with_len a (n + m)) ≡ map f (range_with_len a n) ++ map f
     (range_with_len (a + n) m)
 map-range-append f a zero m = λ i. map f (range_with_len (from i) (count i))
   where
@@ -54,7 +54,7 @@ all-range-more p a (suc n) all next =
     by false y z e f = absurd (let no : false ≡ true = e in cc)
 
 -- one number fails
-pub all-range-fails : (p : ℕ → Bool) (a n b : ℕ) → a ≤ b → b < a + n → p b ≡ false → list_all p (range_with_len a n) ≡ false
+all-range-fails : (p : ℕ → Bool) (a n b : ℕ) → a ≤ b → b < a + n → p b ≡ false → list_all p (range_with_len a n) ≡ false
 all-range-fails p a zero b from below fails = absurd (omega arith)
 all-range-fails p a (suc n) b from below fails = elim (cases_eq a b) [
   | inl here ↦ ap (λ x. x && list_all p (range_with_len (a + 1) n)) (ap p here ∙ fails)
@@ -107,9 +107,3 @@ pub not-filled : (p : ℕ → Bool) (offset n block : ℕ) → 0 < n → offset 
     → false ≡ list_all p (blocks_met offset n)
 not-filled p offset n block some from below fails =
     sym (ap (list_all p) (blocks-met offset n some) ∙ all-range-fails p (offset / block_size) _ block from (omega arith) fails)
-
--- all of them are filled
-pub all-filled : (p : ℕ → Bool) (offset n : ℕ) → 0 < n → list_all p (range_with_len (offset / block_size)
-    (last_met offset n + 1 - offset / block_size)) ≡ true
-    → true ≡ list_all p (blocks_met offset n)
-all-filled p offset n some all = sym (ap (list_all p) (blocks-met offset n some) ∙ all)

@@ -48,7 +48,7 @@ left-of from numbers old (Some new) t = record {
 -- ---- all arrays
 
 -- a span cut at a place is the file's first from there on
-pub spans-in : (f s from : ℕ) (numbers : List ℕ) (old new : Spans) → from ≤ span_blocks → ChangesSpan (TakesFrom from numbers) (f, s) old new → AllFilled old
+spans-in : (f s from : ℕ) (numbers : List ℕ) (old new : Spans) → from ≤ span_blocks → ChangesSpan (TakesFrom from numbers) (f, s) old new → AllFilled old
     → FreesSpan f (span_blocks * s + from) numbers old new
 spans-in f s from numbers old new few changes filled = by (span_at old (f, s)) refl changes.here
   where

@@ -59,7 +59,7 @@ left-of f s from block old (Some new) t = record {
 }
 
 -- the first block of a span from a place on is the file's first from there on
-pub frees-in : (f s from : ℕ) (block : Block) (old new : Spans) → from ≤ span_blocks → ChangesSpan (Takes from block) (f, s) old new → AllFilled old
+frees-in : (f s from : ℕ) (block : Block) (old new : Spans) → from ≤ span_blocks → ChangesSpan (Takes from block) (f, s) old new → AllFilled old
     → FreesFirst f (span_blocks * s + from) block old new
 frees-in f s from block old new few changes filled = by (span_at old (f, s)) refl changes.here
   where

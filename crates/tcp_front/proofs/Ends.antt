@@ -36,16 +36,6 @@ module _ {R S : Type 0} (remaining : R → Option (List ℕ)) (came : S → List
     same = refl;
   }
 
-  -- no memory for a block
-  pub nothing-done : ((s : S) → came s [] s) → HasRead remaining came layout offer connection.0 reader sink ends.NoMemory reader sink
-  nothing-done none = record {
-    read = [];
-    heard = [];
-    consumed = Consumes-nil (remaining (device_of reader));
-    given = none sink;
-    ends = (([], refl), refl);
-  }
-
   module _ (reader' : Counted R) (stream : Stream) (sink' : S) (so : SoFar reader' stream sink') where
     -- all that the bytes serve was given on
     all-given : AreAll offer so.taken.heard None so.read

@@ -8,7 +8,7 @@ use Rattle.std.specs.Io.KnownBytes.{Appends}
 use Rattle.outboxes.specs.Messages.{ReplyMessage, record_of}
 use Rattle.tcp_front.specs.Writing.{records_of, counted}
 
-pub records-append : (ms ks : List ReplyMessage) → records_of (ms ++ ks) ≡ records_of ms ++ records_of ks
+records-append : (ms ks : List ReplyMessage) → records_of (ms ++ ks) ≡ records_of ms ++ records_of ks
 records-append [] ks = refl
 records-append (m ∷ ms) ks =
     ap (λ (l : List ℕ). record_of m ++ l) (records-append ms ks)

@@ -6,7 +6,7 @@ use Rattle.std.specs.Io.KnownBytes.{Appends}
 use Rattle.outboxes.specs.Messages.{ReplyMessage, record_of}
 use Rattle.tcp_front.specs.Writing.{records_of, counted}
 
-pub records-push : (ms : List ReplyMessage) (m : ReplyMessage) → records_of (ms ++ m ∷ []) ≡ records_of ms ++ record_of m
+records-push : (ms : List ReplyMessage) (m : ReplyMessage) → records_of (ms ++ m ∷ []) ≡ records_of ms ++ record_of m
 records-push [] m = append-nil (record_of m)
 records-push (x ∷ ms) m = ap (λ (l : List ℕ). record_of x ++ l) (records-push ms m)
     ∙ sym (append_assoc (record_of x) (records_of ms) (record_of m))

@@ -60,10 +60,8 @@ read-stays records [] = refl
 read-stays records (b ∷ bytes) = read-stays records bytes
 
 module _ (offer : Offer) where
-  abbrev pub scanned : Reading → Scanned
+  abbrev scanned : Reading → Scanned
   scanned r = served_of (map (heard offer) r.records) (fault_at r.at)
-
-  -- ---- bytes that were read
 
   -- ---- streams
 

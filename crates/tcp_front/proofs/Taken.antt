@@ -17,7 +17,7 @@ use Rattle.tcp_front.proofs.Adding.{adds-more, adds-nothing, brings-first, bring
 
 -- ---- what records come to, one after another
 
-pub arrivals-append : (layout : Layout) (connection number : ℕ) (hs ks : List Heard)
+arrivals-append : (layout : Layout) (connection number : ℕ) (hs ks : List Heard)
     → arrivals layout connection number (hs ++ ks) ≡ arrivals layout connection number hs ++ arrivals layout connection
     (number + length hs) ks
 arrivals-append layout connection number [] ks = ap (λ (n : ℕ). arrivals layout connection n ks) (omega arith)
@@ -82,7 +82,7 @@ module _ {S : Type 0} (came : S → List Arrival → S → Type 0) (layout : Lay
       }
 
   -- the bytes behind a stop
-  pub taken-longer : (s s' : Stream) (sink sink' : S) (bytes rest : List ℕ) (stopped : Stopped)
+  taken-longer : (s s' : Stream) (sink sink' : S) (bytes rest : List ℕ) (stopped : Stopped)
       → HasTaken came layout offer s sink bytes (Some stopped) s' sink'
       → HasTaken came layout offer s sink (bytes ++ rest) (Some stopped) s' sink'
   taken-longer s s' sink sink' bytes rest stopped h = record {
@@ -111,7 +111,7 @@ module _ {S : Type 0} (came : S → List Arrival → S → Type 0) (layout : Lay
   taken-stopped s s' sink bytes taken at stops.NumbersUsed none h c r = absurd h
 
   -- a record that is whole and is given on
-  pub taken-record : (s t s' : Stream) (sink sink' : S) (bytes : List ℕ) (h : Heard) (stopped : Option Stopped)
+  taken-record : (s t s' : Stream) (sink sink' : S) (bytes : List ℕ) (h : Heard) (stopped : Option Stopped)
       → Adds offer s.reassembler bytes (h ∷ []) t.reassembler → t.connection ≡ s.connection → t.records ≡ s.records
       → HasGiven came layout t sink h stopped s' sink' → HasTaken came layout offer s sink bytes stopped s' sink'
   taken-record s t s' sink sink' bytes h None a c r g =
@@ -177,7 +177,7 @@ rest-is : (xs : List ℕ) (m : ℕ) → take (length xs - m) (drop m xs) ≡ dro
 rest-is xs m = take_all (length xs - m) (drop m xs) (omega (arith, length-drop m xs))
 
 -- the first m, and then n of those behind them
-pub next-part : (xs : List ℕ) (m n : ℕ) → take m xs ++ take n (take (length xs - m) (drop m xs)) ≡ take (m + n) xs
+next-part : (xs : List ℕ) (m n : ℕ) → take m xs ++ take n (take (length xs - m) (drop m xs)) ≡ take (m + n) xs
 next-part xs m n = ap (λ (l : List ℕ). take m xs ++ take n l) (rest-is xs m) ∙ sym (take-add m n xs)
 
 module _ {S : Type 0} (came : S → List Arrival → S → Type 0) (layout : Layout) (offer : Offer) (law : ComesMore came) (s t s' : Stream)

@@ -46,13 +46,13 @@ use Rattle.turns.proofs.Turning.{finishes, hand-stays, keeps, picks}
 
 -- ---- turns one after the other
 
-pub did-snoc : (moment : Moment) (s t u : Standing) (answers : List Addressed) (a : Addressed) → DidAll moment s answers t → HasDoneFrom t moment a u
+did-snoc : (moment : Moment) (s t u : Standing) (answers : List Addressed) (a : Addressed) → DidAll moment s answers t → HasDoneFrom t moment a u
     → DidAll moment s (answers ++ a ∷ []) u
 did-snoc moment s t u [] a did done = (u, subst (λ (x : Standing). HasDoneFrom x moment a u) did done, refl)
 did-snoc moment s t u (b ∷ rest) a did done = (did.0, did.1, did-snoc moment did.0 t u rest a did.2 done)
 
 -- there is one
-pub some-answer : (answers : List Addressed) (a : Addressed) → 0 < length (answers ++ a ∷ [])
+some-answer : (answers : List Addressed) (a : Addressed) → 0 < length (answers ++ a ∷ [])
 some-answer answers a = let more = length-append answers (a ∷ []) in omega (arith, more)
 
 -- the seat's entries, balanced by a pass and what is kept

@@ -115,7 +115,7 @@ module _ (layout : Layout) (lawful : fault_of layout ≡ None) (verifier : List 
           stands.ready
 
       module _ (a : Addressed) (is : a ≡ addressed e.origin.connection.0 (replies.message e.origin.xid (reply_of told))) where
-        pub is-finished : HasFinished b.view m moment a u
+        is-finished : HasFinished b.view m moment a u
         is-finished =
             entered layout lawful m placed moment b.view w stands.tree holding-tree enters.outcome l' run u told enters.starved ends a
             (entry-answer m moment enters.starved e enters.entry told a is)
@@ -124,7 +124,7 @@ module _ (layout : Layout) (lawful : fault_of layout ≡ None) (verifier : List 
         is-done = record { message = m; next = stands.picked.next; put = stands.picked.put; kept = refl; finished = is-finished }
 
       -- the next has the grant
-      pub stands-on : (next : Message) (pass' : Passed) (w' : FilerView) → next.affinity ≡ m.affinity → IsAhead pass pass' (Some next)
+      stands-on : (next : Message) (pass' : Passed) (w' : FilerView) → next.affinity ≡ m.affinity → IsAhead pass pass' (Some next)
           → IsGranted kind_in filer_behaviour layout u l'.affinity l' w'
           → Stands layout verifier (left_standing u pass None) next pass' l' w'
       stands-on next pass' w' same ahead granted = record {

@@ -21,7 +21,7 @@ use Rattle.depot.specs.lemmas.Seats.{begun-with, begun-entries, ended-entries, e
 use Rattle.desk.specs.laws.Backing.{CanFinish, CanPutBack}
 use Rattle.filer_state.specs.state.Contents.{VolumeContents, volume_at, contents_of, filer_contents}
 use Rattle.filer_state.specs.state.Jobs as jobs
-use Rattle.filer_state.specs.state.Jobs.{InnerCall, Fetch, Deliver, Cull, Free, Survey, gives, batches_in, inner_node, inner_volume}
+use Rattle.filer_state.specs.state.Jobs.{InnerCall, Fetch, Deliver, Cull, Free, Survey, batches_in, inner_node, inner_volume}
 use Rattle.filer_state.specs.state.Deeds.{FilerSteps}
 use Rattle.filer_state.specs.state.Parcels.{FilerParcel}
 use Rattle.filer_state.specs.state.Promises.{HandsMove}
@@ -31,7 +31,7 @@ use Rattle.filer_state.specs.state.Tree.{tree}
 use Rattle.filer_state.specs.laws.lemmas.Alike.{filer-same}
 use Rattle.filer_state.specs.laws.lemmas.Each.{each-get}
 use Rattle.filer_state.specs.declared.files.Files.{Files}
-use Rattle.service.specs.Inner.{IsHandFor, MayLackMemory, InnerHasRun, InnerOutcome}
+use Rattle.service.specs.Inner.{IsHandFor, InnerHasRun, InnerOutcome}
 use Rattle.service.specs.Jobs.{inner_of, batch_reply_of, job_steps, job_takes, job_gives}
 use Rattle.service.specs.Works.{range_call_of, logical_call_of}
 use Rattle.service.specs.declared.inner.Undone.TheVariants.{NoSuchRange, NoMemory}
@@ -217,7 +217,7 @@ module _ (layout : Layout) (lawful : fault_of layout ≡ None) (code : codes.Inn
   -- ---- it did nothing
 
   module _ (same : (k : ℕ) → l.parcels k ≡ before k) where
-    pub may-go-back : CanPutBack layout w l
+    may-go-back : CanPutBack layout w l
     may-go-back =
         let back : HasWith w (number_of layout node) l.parcels = (has.0, has.1, λ k some below cover. has.2 k some below cover ∙ sym (same k)) in
         record {
@@ -272,9 +272,3 @@ module _ (layout : Layout) (lawful : fault_of layout ≡ None) (code : codes.Inn
 
     pub starved-goes-back : CanPutBack layout w l
     starved-goes-back = may-go-back starved.2
-
-    pub may-lack : MayLackMemory call
-    may-lack = starved.0
-
-    pub same-hand : back ≡ hand
-    same-hand = starved.1

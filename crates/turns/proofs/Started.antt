@@ -16,7 +16,7 @@ use Rattle.filer_state.specs.state.Opening.{AreOpening}
 use Rattle.filer_state.specs.state.Parcels.{FilerParcel}
 use Rattle.filer_state.specs.declared.files.Files.{Files}
 use Rattle.turns.specs.Balance.{FilerView, Passed, by_key, by_entry, IsEven}
-use Rattle.turns.specs.Words.{HasOpened, HasDoneNothing, IsReady}
+use Rattle.turns.specs.Words.{HasOpened, IsReady}
 
 none-held : {A : Type 0} (n b : ℕ) (g : A) → get_elem? (replicate n None) b ≡ some (Some g) → ⊥
 none-held zero b g e = some-ne-none (Some g) (sym e)
@@ -44,12 +44,4 @@ module _ (layout : Layout) (verifier : List ℕ) (f : ℕ → Option (FilerParce
         let size = length-parents layout in
         by-number-at f (1 + node_count layout) (number_of layout node) (omega (arith, place.1, size)) ∙ opening node there);
     none_open = λ b g has. none-held (length (parents layout)) b g (subst (λ (x : FilerView). Has x b g) is has);
-  }
-
-  pub started-nothing : (pass : Passed) → pass.put ≡ [] → pass.picked ≡ [] → HasDoneNothing v pass
-  started-nothing pass put picked = record {
-    entries = ap (λ (x : FilerView). entries_of x) is;
-    seen = ap (λ (x : FilerView). x.seen) is;
-    put = put;
-    picked = picked;
   }

@@ -269,8 +269,3 @@ module _ (layout : trees.Layout) (before picked tried after : Worker) (moment : 
 -- a pass that has its share still is of a queue of the same layout
 pub known-still : (layout : trees.Layout) (v w : Passed) → HasShareOf v w → layout_known v ≡ Some layout → layout_known w ≡ Some layout
 known-still layout v w share known = ap (λ (k : Option Layout). option_map layout_of k) share.2 ∙ known
-
--- a turn that found no message was made by a worker that keeps none
-pub idle-kept : (layout : trees.Layout) (before : Worker) (moment : Moment) (turned : Turn) (after : Worker)
-    → HasTried layout before moment turned after → turned ≡ turns.Idle → before.kept ≡ None
-idle-kept layout before moment turned after h e = (subst (λ (t : Turn). HasTried layout before moment t after) e h).0

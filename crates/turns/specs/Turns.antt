@@ -206,8 +206,5 @@ HasReturned before m m' after = HasReturnedFrom (standing_of before) m m' (stand
 abbrev pub HasDone : Worker → Moment → Addressed → Worker → Type 0
 HasDone before moment a after = HasDoneFrom (standing_of before) moment a (standing_of after)
 
-abbrev pub WasIdle : Worker → Worker → Type 0
-WasIdle before after = WasIdleFrom (standing_of before) (standing_of after)
-
 abbrev pub Did : Layout → Worker → Moment → Turn → Worker → Type 0
 Did layout before moment turned after = DidFrom layout (standing_of before) moment turned (standing_of after)

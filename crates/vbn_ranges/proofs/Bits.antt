@@ -34,7 +34,7 @@ none first word = refl
 pub lowest : (word : ℕ) → (word % 2 ≡ 0) ⊎ (word % 2 ≡ 1)
 lowest word = ⊎_elim (λ l. inl (omega arith)) (λ l. inr (omega arith)) (cases_lt (word % 2) 1)
 
-pub bits-rising : (size first high word : ℕ) → first + size ≡ high → Rising first high (bits_from size first word)
+bits-rising : (size first high word : ℕ) → first + size ≡ high → Rising first high (bits_from size first word)
 bits-rising zero first high word s = rw none (omega arith)
 bits-rising (suc size) first high word s =
     let rest = bits-rising size (first + 1) high (word / 2) (omega arith) in
@@ -49,7 +49,7 @@ no-ones : (word : ℕ) → word ≡ 0 → 0 ≡ ones word
 unfolding ones
 no-ones word e = ap ones (sym e)
 
-pub bits-count : (size first word : ℕ) → word < 2 ^ size → length (bits_from size first word) ≡ ones word
+bits-count : (size first word : ℕ) → word < 2 ^ size → length (bits_from size first word) ≡ ones word
 bits-count zero first word l = ap length (none first word) ∙ no-ones word (omega arith)
 bits-count (suc size) first word l =
     let rest = bits-count size (first + 1) (word / 2) (omega arith) in
@@ -57,7 +57,7 @@ bits-count (suc size) first word l =
     (λ e. ap length (odd size first word e) ∙ omega (arith, rest, ones_step word, e)) (lowest word)
 
 -- which numbers they are
-pub bits-in : (size first word q : ℕ) → q < size → is_in (bits_from size first word) (first + q) ≡ (bit_at word q == 1)
+bits-in : (size first word q : ℕ) → q < size → is_in (bits_from size first word) (first + q) ≡ (bit_at word q == 1)
 bits-in zero first word q l = absurd (omega arith)
 bits-in (suc size) first word zero l =
     ⊎_elim

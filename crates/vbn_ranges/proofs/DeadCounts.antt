@@ -91,7 +91,7 @@ or-true : (a : Bool) → (a || true) ≡ true
 or-true true = refl
 or-true false = refl
 
-pub len-without : (low high : ℕ) (bs : List ℕ) (s : FinSet nat_cmp) → Rising low high bs → ((q : ℕ) → is_in bs q ≡ true → contains s q ≡ true)
+len-without : (low high : ℕ) (bs : List ℕ) (s : FinSet nat_cmp) → Rising low high bs → ((q : ℕ) → is_in bs q ≡ true → contains s q ≡ true)
     → len (without_numbers bs s) + length bs ≡ len s
 len-without low high [] s h c = let same = ap len (without-none s) in omega arith
 len-without low high (b ∷ bs) s h c =
@@ -131,7 +131,7 @@ in-dead n (m ∷ marks) q t =
     (λ e. ap (λ u. contains m.set q || u) (in-dead n marks q e) ∙ or-true (contains m.set q))
     (in-filled (lowest_marked n m) (map (lowest_marked n) marks) q t)
 
-pub len-taken : (n : ℕ) (marks : List MarksValue)
+len-taken : (n : ℕ) (marks : List MarksValue)
     → len (without_numbers (lowest_dead n marks) (all_of marks)) + length (lowest_dead n marks) ≡ len (all_of marks)
 len-taken n marks = let r = rising-dead n marks in len-without 0 r.0 (lowest_dead n marks) (all_of marks) r.1 (in-dead n marks)
 
@@ -259,7 +259,7 @@ single [] b l e = absurd cc
 single (c ∷ []) b l e = let same : c ≡ b = cc in ap (λ (n : ℕ). n ∷ []) same
 single (c ∷ (d ∷ bs)) b l e = absurd (omega arith)
 
-pub lowest-one : (size : ℕ) (set : FinSet nat_cmp) (b : ℕ) → first_of (lowest_of size 1 set) ≡ Some b → lowest_of size 1 set ≡ b ∷ []
+lowest-one : (size : ℕ) (set : FinSet nat_cmp) (b : ℕ) → first_of (lowest_of size 1 set) ≡ Some b → lowest_of size 1 set ≡ b ∷ []
 unfolding lowest_of
 lowest-one size set b e = single (lowest_of size 1 set) b (one-of-ranges (λ r. in_range size r set) (range_with_len 0 most_ranges)) e
 
@@ -306,7 +306,7 @@ if-never : (t : Bool) → (t ≡ true → ⊥) → t ≡ false
 if-never true h = absurd (h refl)
 if-never false h = refl
 
-pub none-lowest : (size : ℕ) (set : FinSet nat_cmp) → 0 < size → IsOfVolume size set → first_of (lowest_of size 1 set) ≡ None → set ≡ sets.empty
+none-lowest : (size : ℕ) (set : FinSet nat_cmp) → 0 < size → IsOfVolume size set → first_of (lowest_of size 1 set) ≡ None → set ≡ sets.empty
 unfolding lowest_of
 none-lowest size set some v e =
     same_set nat_cmp_total nat_cmp-IsAntisymmetric _ _

@@ -20,14 +20,14 @@ use Rattle.vbn_ranges.specs.Summary.{IsSummary}
 -- ---- one word of words
 
 -- the numbers past a word
-abbrev pub past : ℕ → ℕ → List ℕ → List ℕ
+abbrev past : ℕ → ℕ → List ℕ → List ℕ
 past first k words = members (first + k * 64 + 64) (drop (suc k) words)
 
 shifted : (first k : ℕ) → first + 64 + k * 64 ≡ first + suc k * 64
 shifted first k = omega arith
 
 -- where the words before a place are 0, the numbers are those of its word and those past it
-pub members-at : (k first x : ℕ) (words : List ℕ) → ZeroBefore k words → k < length words
+members-at : (k first x : ℕ) (words : List ℕ) → ZeroBefore k words → k < length words
     → members first (set words k x) ≡ bits_from 64 (first + k * 64) x ++ past first k words
 members-at k first x [] z l = absurd (omega arith)
 members-at zero first x (w ∷ words) z l =
@@ -109,7 +109,7 @@ bits-length (suc size) a b word =
     (lowest word)
 
 -- it doesn't hang on the first number
-pub members-length : (a b : ℕ) (words : List ℕ) → length (members a words) ≡ length (members b words)
+members-length : (a b : ℕ) (words : List ℕ) → length (members a words) ≡ length (members b words)
 members-length a b [] = refl
 members-length a b (w ∷ words) =
     length-append (bits_from 64 a w) (members (a + 64) words)
@@ -128,13 +128,6 @@ count-less count first any words new batch counted e =
     let parts = sym (length-append batch (members first new)) ∙ ap length e in
     let same = members-length first any new in
     omega (arith, is, parts, same)
-
-pub count-within : (count first : ℕ) (words new batch : List ℕ) → ((f : ℕ) → count ≡ length (members f words))
-    → batch ++ members first new ≡ members first words → length batch ≤ count
-count-within count first words new batch counted e =
-    let is = counted first in
-    let parts = sym (length-append batch (members first new)) ∙ ap length e in
-    omega (arith, is, parts)
 
 -- one more
 pub count-more : (count place any : ℕ) (words new : List ℕ) → ((f : ℕ) → count ≡ length (members f words)) → has_bit words place ≡ false
@@ -161,25 +154,6 @@ count-all n first words e =
 pub count-none : (n first : ℕ) (words : List ℕ) → words ≡ replicate n 0 → 0 ≡ length (members first words)
 count-none n first words e = sym (ap (λ ws. length (members first ws)) e ∙ ap length (zeros-none n first))
 
--- ---- all bits set, word by word
-
-pub full-more : (k : ℕ) (old : List ℕ) → k < length old
-    → set (replicate k (2 ^ 64 - 1) ++ drop k old) k (2 ^ 64 - 1) ≡ replicate (suc k) (2 ^ 64 - 1) ++ drop (suc k) old
-full-more k [] l = absurd (omega arith)
-full-more zero (w ∷ words) l = refl
-full-more (suc k) (w ∷ words) l = ap (λ ws. (2 ^ 64 - 1) ∷ ws) (full-more k words (omega arith))
-
-pub full-all : (k : ℕ) (old : List ℕ) → k ≡ length old → replicate k (2 ^ 64 - 1) ++ drop k old ≡ replicate (length old) (2 ^ 64 - 1)
-full-all zero [] e = refl
-full-all zero (w ∷ words) e = absurd (omega arith)
-full-all (suc k) [] e = absurd (omega arith)
-full-all (suc k) (w ∷ words) e = ap (λ ws. (2 ^ 64 - 1) ∷ ws) (full-all k words (omega arith))
-
-pub full-length : (k : ℕ) (old : List ℕ) → k ≤ length old → length (replicate k (2 ^ 64 - 1) ++ drop k old) ≡ length old
-full-length zero old l = refl
-full-length (suc k) [] l = absurd (omega arith)
-full-length (suc k) (w ∷ words) l = ap suc (full-length k words (omega arith))
-
 -- ---- the words of levels
 
 -- where the top is 0, no word has a bit
@@ -192,8 +166,3 @@ none-left words low middle top first hl hm ht one zero-top =
     all-zero : (k : ℕ) → get_or top k 0 ≡ 0
     all-zero zero = zero-top
     all-zero (suc k) = outside top (suc k) (omega (arith, one))
-
--- the numbers of words end below their end
-pub number-fits : (first count : ℕ) (words : List ℕ) → length words ≡ count → first + 64 * count ≤ 2 ^ 32 → (k : ℕ) → k < length words
-    → first + k * 64 + 64 ≤ 2 ^ 32
-number-fits first count words n l k h = omega (arith, n, l, h)

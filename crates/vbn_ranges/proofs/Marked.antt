@@ -115,7 +115,7 @@ lowest-taken size range most words new n e =
 
 -- ---- none and all
 
-pub zeros-before : (k n : ℕ) → ZeroBefore k (replicate n 0)
+zeros-before : (k n : ℕ) → ZeroBefore k (replicate n 0)
 zeros-before zero n = tt
 zeros-before (suc k) zero = tt
 zeros-before (suc k) (suc n) = (refl, zeros-before k n)
@@ -174,7 +174,7 @@ or-false : (a : Bool) → a ≡ (a || false)
 or-false true = refl
 or-false false = refl
 
-pub with-more : (bs cs : List ℕ) (s : FinSet nat_cmp) → with_numbers cs (with_numbers bs s) ≡ with_numbers (bs ++ cs) s
+with-more : (bs cs : List ℕ) (s : FinSet nat_cmp) → with_numbers cs (with_numbers bs s) ≡ with_numbers (bs ++ cs) s
 with-more bs cs s =
     same_set nat_cmp_total nat_cmp-IsAntisymmetric _ _
     (λ q. contains-union nat_cmp_total (with_numbers bs s) (from_list cs) q
@@ -185,7 +185,7 @@ with-more bs cs s =
     ∙ (λ i. contains s q || contains-from_list_nat (bs ++ cs) q i)
     ∙ (λ i. contains s q || list_any-append (λ b. nat_eq b q) bs cs i)))
 
-pub with-none : (s : FinSet nat_cmp) → s ≡ with_numbers [] s
+with-none : (s : FinSet nat_cmp) → s ≡ with_numbers [] s
 with-none s =
     same_set nat_cmp_total nat_cmp-IsAntisymmetric _ _
     (λ q. or-false (contains s q) ∙ sym (contains-union nat_cmp_total s (from_list []) q ∙ (λ i. contains s q || contains-from_list_nat [] q i)))

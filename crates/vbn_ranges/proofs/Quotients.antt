@@ -5,7 +5,7 @@ use native.Mathlib.Nat.{mul_comm, mod-lt, div-lt_iff_lt-mul}
 use Rattle.nfs_model.specs.volume.Ranges.{IsRangeSize}
 
 -- a number within a range is of it
-pub quotient-by : (size range low b : ℕ) → low ≡ range * size → low ≤ b → b < low + size → b / size ≡ range
+quotient-by : (size range low b : ℕ) → low ≡ range * size → low ≤ b → b < low + size → b / size ≡ range
 quotient-by size range low b e l h =
     let parts : b ≡ range * size + (b - low) = omega (arith, e, l) in
     ap (λ n. n / size) parts ∙ div-mul-add range size (b - low) (omega (arith, l, h))
@@ -41,7 +41,3 @@ size-by size power e some = (omega (arith, e, some), omega (arith, e))
 
 pub size-some : (size : ℕ) → IsRangeSize size → 0 < size
 size-some size h = (size-by size (2 ^ h.doublings) h.is (pow_pos h.doublings)).0
-
--- it is so many words
-pub size-words : (size : ℕ) → IsRangeSize size → 64 * (size / 64) ≡ size
-size-words size h = (size-by size (2 ^ h.doublings) h.is (pow_pos h.doublings)).1

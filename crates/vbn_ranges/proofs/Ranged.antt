@@ -81,7 +81,7 @@ upto-last b [] h = omega arith
 upto-last b (c ∷ blocks) h = let a = h.0 in let more = upto-last c blocks h.1 in omega (arith, a, more)
 
 -- Where the first and the last of ascending numbers are of a range, all are.
-pub all-of-range : (size range b : ℕ) (blocks : List ℕ) → 0 < size → IsAscending (b ∷ blocks) → b / size ≡ range → last_of b blocks / size ≡ range
+all-of-range : (size range b : ℕ) (blocks : List ℕ) → 0 < size → IsAscending (b ∷ blocks) → b / size ≡ range → last_of b blocks / size ≡ range
     → AllByRecursion (λ n. n / size ≡ range) (b ∷ blocks)
 all-of-range size range b [] some h e f = (e, tt)
 all-of-range size range b (c ∷ blocks) some h e f =
@@ -94,7 +94,7 @@ all-of-range size range b (c ∷ blocks) some h e f =
     (e, all-of-range size range c blocks some h.1 (quotient-is size range c (omega (arith, low, a)) (omega (arith, high, more))) f)
 
 -- and where all are, the last is
-pub last-of-range : (size range b : ℕ) (blocks : List ℕ) → AllByRecursion (λ n. n / size ≡ range) (b ∷ blocks) → last_of b blocks / size ≡ range
+last-of-range : (size range b : ℕ) (blocks : List ℕ) → AllByRecursion (λ n. n / size ≡ range) (b ∷ blocks) → last_of b blocks / size ≡ range
 last-of-range size range b [] h = h.0
 last-of-range size range b (c ∷ blocks) h = last-of-range size range c blocks h.1
 

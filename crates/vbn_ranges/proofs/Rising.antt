@@ -20,7 +20,7 @@ abbrev pub Rising : ℕ → ℕ → List ℕ → Type 0
 Rising low high [] = low ≤ high
 Rising low high (b ∷ bs) = (low ≤ b) × Rising (b + 1) high bs
 
-pub rising-bounds : (low high : ℕ) (bs : List ℕ) → Rising low high bs → low ≤ high
+rising-bounds : (low high : ℕ) (bs : List ℕ) → Rising low high bs → low ≤ high
 rising-bounds low high [] h = h
 rising-bounds low high (b ∷ bs) h = let r = rising-bounds (b + 1) high bs h.1 in let a = h.0 in omega arith
 
@@ -36,7 +36,7 @@ pub rising-front : (low high : ℕ) (bs cs : List ℕ) → Rising low high (bs +
 rising-front low high [] cs h = rising-bounds low high cs h
 rising-front low high (b ∷ bs) cs h = (h.0, rising-front (b + 1) high bs cs h.1)
 
-pub rising-back : (low high : ℕ) (bs cs : List ℕ) → Rising low high (bs ++ cs) → Rising low high cs
+rising-back : (low high : ℕ) (bs cs : List ℕ) → Rising low high (bs ++ cs) → Rising low high cs
 rising-back low high [] cs h = h
 rising-back low high (b ∷ bs) cs h =
     rising-weaker (b + 1) low high cs (let a = h.0 in omega arith) (rising-back (b + 1) high bs cs h.1)

@@ -2,7 +2,6 @@
 use Rattle.std.proofs.Common.{◌≡◌, sym, ap, ◌∙◌, ℕ, zero, suc, ◌*◌, ◌/◌, ◌%◌, ◌^◌, ◌<◌, Bool, true, false, not, ◌||◌, eqb, refl, if◌then◌else◌}
 use Rattle.std.proofs.Common.{List, length, get_or, ◌⊎◌, inl, inr, ⊎_elim, arith, bit_and, bit_or, w64, ◌==◌}
 use Rattle.std.proofs.Math.ListN.{set}
-use borrow.Author.Tests.{eqb-true}
 use Rattle.std.specs.Int.{bit_at, bit_not}
 use Rattle.std.proofs.lemmas.Bool.{cases_lt}
 use Rattle.std.proofs.lemmas.Bool.Decides.{nat_tests}
@@ -67,12 +66,12 @@ chosen n place t u e = grind (arith, nat_tests)
 unchosen : (n place : ℕ) (t u : Bool) → (n ≡ place → ⊥) → u ≡ (if n == place then t else u)
 unchosen n place t u e = grind (arith, nat_tests)
 
-pub set-is : (words : List ℕ) (place : ℕ) → place / 64 < length words → (n : ℕ)
+set-is : (words : List ℕ) (place : ℕ) → place / 64 < length words → (n : ℕ)
     → has_bit (set words (place / 64) (bit_or (get_or words (place / 64) 0) (1 * 2 ^ (place % 64) % 2 ^ 64))) n
     ≡ (if n == place then true else has_bit words n)
 set-is words place l n = insert-is words place l n ∙ or-if (n == place) (has_bit words n)
 
-pub clear-is : (words : List ℕ) (place : ℕ) → place / 64 < length words → (n : ℕ)
+clear-is : (words : List ℕ) (place : ℕ) → place / 64 < length words → (n : ℕ)
     → has_bit (set words (place / 64) (bit_and (get_or words (place / 64) 0) (bit_not w64 (1 * 2 ^ (place % 64) % 2 ^ 64)))) n
     ≡ (if n == place then false else has_bit words n)
 clear-is words place l n =
@@ -100,14 +99,6 @@ never a b e is = grind (arith, nat_tests, e, is)
 -- the other words
 pub other-words : (words : List ℕ) (i x k : ℕ) → (k == i) ≡ false → get_or (set words i x) k 0 ≡ get_or words k 0
 other-words words i x k e = get_or-set_other words i k x 0 (never k i e)
-
--- to set a bit that is set changes nothing
-pub already-there : (words : List ℕ) (place : ℕ) → has_bit words place ≡ true → (n : ℕ) → has_bit words n ≡ (n == place || has_bit words n)
-already-there words place h n = by (n == place) refl
-  where
-    by : (t : Bool) → (n == place) ≡ t → has_bit words n ≡ (t || has_bit words n)
-    by true e = ap (has_bit words) (eqb-true n place e) ∙ h
-    by false e = refl
 
 -- where the word is known by another name
 pub set-by : (words : List ℕ) (place word : ℕ) → word ≡ get_or words (place / 64) 0 → place / 64 < length words → (n : ℕ)

@@ -27,10 +27,10 @@ zero-from (suc n) [] h = tt
 zero-from (suc n) (w ∷ words) h = (h 0 (omega arith), zero-from n words (λ k l. h (suc k) (omega (arith, l))))
 
 -- a bit of a word that is 0
-pub no-bit : (words : List ℕ) (place : ℕ) → get_or words (place / 64) 0 ≡ 0 → has_bit words place ≡ false
+no-bit : (words : List ℕ) (place : ℕ) → get_or words (place / 64) 0 ≡ 0 → has_bit words place ≡ false
 no-bit words place e = ap (λ w. bit_at w (place % 64) == 1) e ∙ ap (λ b. b == 1) (bit_at-zero (place % 64))
 
-pub zeros-at : (n k : ℕ) → ◌≡◌ {A = ℕ} (get_or (replicate n 0) k 0) 0
+zeros-at : (n k : ℕ) → ◌≡◌ {A = ℕ} (get_or (replicate n 0) k 0) 0
 zeros-at zero k = refl
 zeros-at (suc n) zero = refl
 zeros-at (suc n) (suc k) = zeros-at n k
@@ -92,16 +92,6 @@ first-filled lower upper place h set before =
 pub none-below : (lower upper : List ℕ) → IsSummary lower upper → ((k : ℕ) → get_or upper k 0 ≡ 0) → (k : ℕ) → get_or lower k 0 ≡ 0
 none-below lower upper h none k = no-word (get_or lower k 0) (sym (h.bits k) ∙ no-bit upper k (none (k / 64)))
 
-never : (a b : ℕ) → (a == b) ≡ false → a ≡ b → ⊥
-never a b e is = grind (arith, nat_tests, e, is)
-
-pub another : (a b : ℕ) → (a ≡ b → ⊥) → (a == b) ≡ false
-another a b h = by (a == b) refl
-  where
-    by : (t : Bool) → (a == b) ≡ t → t ≡ false
-    by true e = absurd (h (eqb-true a b e))
-    by false e = refl
-
 -- a lower word changed, and its bit with it
 pub summary-again : (lower new upper told : List ℕ) (i : ℕ) → IsSummary lower upper
     → ((k : ℕ) → (k == i) ≡ false → get_or new k 0 ≡ get_or lower k 0) → length new ≡ length lower
@@ -153,31 +143,6 @@ none-summed n m l lower upper e f long wide = record {
 pub record IsSummedUpTo (n : ℕ) (lower upper : List ℕ) : Type 0 where
   pub bits : (place : ℕ) → place < n → has_bit upper place ≡ not (get_or lower place 0 == 0)
   pub past : (place : ℕ) → length lower ≤ place → has_bit upper place ≡ false
-
-pub summed-more : (n : ℕ) (lower upper told : List ℕ) (to : Bool) → n < length lower → to ≡ not (get_or lower n 0 == 0) → IsSummedUpTo n lower upper
-    → ((q : ℕ) → has_bit told q ≡ (if q == n then to else has_bit upper q)) → IsSummedUpTo (suc n) lower told
-summed-more n lower upper told to l e h bits = record {
-  bits = λ place less. bits place ∙ at place less (place == n) refl;
-  past = λ place past.
-      bits place
-      ∙ ap (λ t. if t then to else has_bit upper place) (another place n (λ is. omega (arith, l, past, is)))
-      ∙ h.past place past;
-}
-  where
-    at : (place : ℕ) → place < suc n → (t : Bool) → (place == n) ≡ t
-        → (if t then to else has_bit upper place) ≡ not (get_or lower place 0 == 0)
-    at place less true f = e ∙ ap (λ k. not (get_or lower k 0 == 0)) (sym (eqb-true place n f))
-    at place less false f =
-        h.bits place (⊎_elim (λ (k : place < n). k) (λ (k : n ≤ place). absurd (never place n f (omega (arith, less, k)))) (cases_lt place n))
-
-pub summed-all : (n : ℕ) (lower upper : List ℕ) → length lower ≤ n → length lower ≤ 64 * length upper → IsSummedUpTo n lower upper
-    → IsSummary lower upper
-summed-all n lower upper l size h = record {
-  size = size;
-  bits = λ place.
-      ⊎_elim (λ (k : place < length lower). h.bits place (omega (arith, l, k)))
-      (λ (k : length lower ≤ place). h.past place k ∙ sym (ap (λ w. not (w == 0)) (outside lower place k))) (cases_lt place (length lower));
-}
 
 -- where words were summed up, no bit is set past them
 pub none-past : (lower upper : List ℕ) → IsSummary lower upper → (place : ℕ) → length lower ≤ place → has_bit upper place ≡ false

@@ -51,7 +51,7 @@ module _ (L : Layout) (lawful : fault_of L ≡ None) (verifier : List ℕ) (v : 
   abbrev pub f : ℕ → Option (FilerParcel Files)
   f = serial_parcels L Serial held
 
-  abbrev pub g : ℕ → Option (FilerParcel Files)
+  abbrev g : ℕ → Option (FilerParcel Files)
   g = after (parents L) (listed v.first) v.seen
 
   is-legal : Legal job_steps (parents L) (listed v.first) v.seen

@@ -1,11 +1,9 @@
 -- A worker put to others.
-use Rattle.std.proofs.Common.{◌≡◌, ℕ, ◌+◌, List, [], ◌∷◌, ◌++◌, Option, Some, None, refl, sym, ap, subst, arith, ◌⊎◌, ⊎_elim}
+use Rattle.std.proofs.Common.{◌≡◌, ℕ, ◌+◌, List, [], ◌∷◌, ◌++◌, Option, Some, None, refl, ap, arith, ◌⊎◌, ⊎_elim}
 use Rattle.std.specs.Prelude.{option_to_list}
 use Rattle.nfs_model.specs.Parts.{Hand}
-use Rattle.depot.specs.Words.{view, splits_left, IsSeatHere}
 use Rattle.depot_rule.specs.declared.view.Entry.{Entry}
 use Rattle.depot_rule.specs.History.{batches_of, AreHands}
-use Rattle.depot_rule.specs.Seats.{merge}
 use Rattle.depot_rule.specs.Shares.{Has}
 use Rattle.depot_rule.specs.Sums.{total}
 use Rattle.depot_rule.specs.lemmas.Sums.{total-append}
@@ -13,47 +11,15 @@ use Rattle.filer_state.specs.state.Parcels.{FilerParcel}
 use Rattle.filer_state.specs.declared.files.Files.{Files}
 use Rattle.turns.specs.Jobs.{job_takes, job_gives}
 use Rattle.turns.specs.shared_waiting.Balance.{both}
-use Rattle.turns.specs.shared_waiting.Passes.{IsOf}
 use Rattle.turns.specs.Messages.{Message}
-use Rattle.turns.specs.declared.parts.WorkerParts.{WorkerParts}
-use Rattle.turns.specs.declared.shared.Filer.{Filer}
-use Rattle.turns.specs.declared.worker.Worker.{Worker}
-use Rattle.turns.specs.Apart.{AreOf}
 use Rattle.turns.specs.Balance.{FilerEntry, FilerView, Passed, Weight, by_entry, by_key, by_kept, IsEven}
-use Rattle.turns.specs.Words.{layout_in, verifier_in, seats_in, HasOpened, IsIn}
 use Rattle.workers.specs.Even.{IsEvenWith}
-
--- ---- a worker's parts
-
-module _ (filer : Filer) (w : Worker) (p : WorkerParts) (of : AreOf w p) where
-  pub part-seat : IsIn filer w → IsSeatHere filer.depot p.seat
-  part-seat inside = subst (λ s. IsSeatHere filer.depot s) (sym of.seat) inside.seat
-
-  pub part-opened : IsIn filer w → HasOpened (layout_in filer) (verifier_in filer) (view p.seat)
-  part-opened inside = subst (λ s. HasOpened (layout_in filer) (verifier_in filer) (view s)) (sym of.seat) inside.opened
-
-  pub part-pass : IsIn filer w → IsOf filer.waiting p.pass
-  part-pass inside = subst (λ s. IsOf filer.waiting s) (sym of.pass) inside.pass
-
-  pub part-seats : seats_in w ≡ splits_left p.seat + 1
-  part-seats = ap (λ s. splits_left s + 1) (sym of.seat)
 
 -- ---- balances
 
 pub kept-once : (h : Weight) (kept : Option Message) → total (by_key h) (option_to_list kept) ≡ by_kept h kept
 kept-once h None = refl
 kept-once h (Some m) = omega arith
-
--- of the first
-pub even-first : (v : Passed) (es : List FilerEntry) (kept none all : List Message) (k : Option Message) → none ≡ [] → all ≡ none ++ option_to_list k
-    → IsEven v es k → IsEvenWith v es all
-even-first v es kept none all k empty is even h =
-    let a = ap (total (by_key h)) is in
-    let b = total-append (by_key h) none (option_to_list k) in
-    let c = ap (total (by_key h)) empty in
-    let d = kept-once h k in
-    let e = even h in
-    omega (arith, a, b, c, d, e)
 
 -- of one more
 pub even-both : (v u w : Passed) (es ds all : List FilerEntry) (kept more : List Message) (k : Option Message) → w ≡ both v u
@@ -129,7 +95,3 @@ pub none-both : (v w j : FilerView) → ((b : ℕ) (g : List (Option (FilerParce
     → ((b : ℕ) (g : List (Option (FilerParcel Files))) → Has j b g → Has v b g ⊎ Has w b g)
     → (b : ℕ) (g : List (Option (FilerParcel Files))) → Has j b g → ⊥
 none-both v w j one other either b g has = ⊎_elim (one b g) (other b g) (either b g has)
-
-pub opened-both : (filer : Filer) (v w j : FilerView) → j ≡ merge v w → HasOpened (layout_in filer) (verifier_in filer) v
-    → HasOpened (layout_in filer) (verifier_in filer) j
-opened-both filer v w j is opened = subst (λ (x : FilerView). HasOpened (layout_in filer) (verifier_in filer) x) (sym is) opened

@@ -4,7 +4,7 @@ use Rattle.std.proofs.Common.{le_antisymm, le_of_mul-le-mul_right, le_of_eq}
 use Rattle.std.proofs.lemmas.Nat.{pow-add, pow_pos}
 
 -- a power, parted
-pub power : (k l : ℕ) → l ≤ k → 2 ^ k ≡ 2 ^ l * 2 ^ (k - l)
+power : (k l : ℕ) → l ≤ k → 2 ^ k ≡ 2 ^ l * 2 ^ (k - l)
 power k l le = let s : k ≡ l + (k - l) = omega arith in ap (λ n. 2 ^ n) s ∙ pow-add 2 l (k - l)
 
 -- half of a part, twice

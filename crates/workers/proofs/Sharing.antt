@@ -11,7 +11,7 @@ use Rattle.workers.specs.Shares.{FilerPass, AreAll, AreAllWith, share_in, share_
 use Rattle.workers.proofs.Lists.{total-last, total-none}
 use Rattle.workers.proofs.Portions.{halves, joined, whole}
 
-pub part-both : (k : ℕ) (v u w : Passed) → w ≡ both v u → v.halvings + u.halvings ≤ k → part k w ≡ part k v + part k u
+part-both : (k : ℕ) (v u w : Passed) → w ≡ both v u → v.halvings + u.halvings ≤ k → part k w ≡ part k v + part k u
 part-both k v u w is le = ap (part k) is ∙ joined v.share u.share v.halvings u.halvings k le
 
 -- a worker's pass is joined

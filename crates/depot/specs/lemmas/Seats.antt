@@ -4,12 +4,11 @@ use mathlib.Core.Option.{some, some-ne-none}
 use lib.ListN.{get_elem?}
 use Rattle.atomic_table.proofs.Lists.{at_set}
 use Rattle.depot_rule.specs.declared.view.View.{View}
-use Rattle.depot_rule.specs.declared.view.Read.{Read}
 use Rattle.depot_rule.specs.declared.view.Entry.{Entry}
 use Rattle.depot_rule.specs.Sums.{total}
 use Rattle.depot_rule.specs.Shares.{Has}
 use Rattle.depot_rule.specs.History.{Behaviour, AreHands, entries_of}
-use Rattle.depot.specs.Grants.{ListsAs, HasWith, HasRead, IsLast, IsBegun, IsAfter, IsEnded, IsFinished, HasInHand, HasGoneOn}
+use Rattle.depot.specs.Grants.{ListsAs, HasWith, IsBegun, IsAfter, IsEnded, IsFinished, HasInHand, HasGoneOn}
 
 set-there : {A : Type 0} (xs : List A) (i : ℕ) (x y : A) → get_elem? xs i ≡ some x → get_elem? (set xs i y) i ≡ some y
 set-there [] i x y e = absurd (some-ne-none x (sym e))
@@ -36,14 +35,14 @@ module _ {P E : Type 0} where
   -- ---- the seat's grants
 
   -- a grant that a seat has after one was ended was there before, and isn't that one
-  pub ended-others : (v w : View P E) (b : ℕ) → IsEnded v b w → (c : ℕ) (g : List (Option P)) → Has w c g → (c ≢ b) × Has v c g
+  ended-others : (v w : View P E) (b : ℕ) → IsEnded v b w → (c : ℕ) (g : List (Option P)) → Has w c g → (c ≢ b) × Has v c g
   ended-others v w b ended c g has = ⊎_elim
       (λ (t : (c ≡ b) × (None ≡ Some g)). absurd (let bad : None ≡ Some g = t.1 in let no_way : ⊥ = cc in no_way))
       (λ (t : (c ≢ b) × (get_elem? v.held c ≡ some (Some g))). t)
       (at_set v.held b c None (Some g) (sym (ap (λ u. get_elem? u.held c) ended.2) ∙ has))
 
   -- and one that it has after one was begun was there before, or is that one
-  pub begun-others : (v w : View P E) (b : ℕ) (f : ℕ → Option P) → IsBegun v b f w → (c : ℕ) (g : List (Option P)) → c ≢ b → Has w c g → Has v c g
+  begun-others : (v w : View P E) (b : ℕ) (f : ℕ → Option P) → IsBegun v b f w → (c : ℕ) (g : List (Option P)) → c ≢ b → Has w c g → Has v c g
   begun-others v w b f begun c g ne has = ⊎_elim
       (λ (t : (c ≡ b) × (Some begun.0 ≡ Some g)). absurd (ne t.0))
       (λ (t : (c ≢ b) × (get_elem? v.held c ≡ some (Some g))). t.1)
@@ -59,7 +58,7 @@ module _ {P C R B : Type 0} (m : Behaviour P C R B) where
   pub finished-entries : (v w : View P (Entry P C R)) (b : ℕ) (e : Entry P C R) → IsFinished m v b e w → entries_of w ≡ entries_of v ++ e ∷ []
   finished-entries v w b e finished = ap entries_of finished.3 ∙ finished.4.2
 
-  pub finished-others : (v w : View P (Entry P C R)) (b : ℕ) (e : Entry P C R) → IsFinished m v b e w → (c : ℕ) (g : List (Option P)) → Has w c g
+  finished-others : (v w : View P (Entry P C R)) (b : ℕ) (e : Entry P C R) → IsFinished m v b e w → (c : ℕ) (g : List (Option P)) → Has w c g
       → (c ≢ b) × Has v c g
   finished-others v w b e finished c g has = ⊎_elim
       (λ (t : (c ≡ b) × (None ≡ Some g)). absurd (let bad : None ≡ Some g = t.1 in let no_way : ⊥ = cc in no_way))

@@ -85,21 +85,6 @@ above-smaller ps t (suc a) (suc b) h = elim (dec_lt (suc a) (suc b)) [
       (suc a) (omega arith) (omega arith) in absurd (omega arith)
 ]
 
-from-above : (ps : List ℕ) (f : ℕ → List ℕ) (p b c : ℕ) → (0 < p → f p ≡ ancestors ps p) → (0 < p → 0 < tally b (f p) → 0 < tally c (ancestors ps b)
-    → 0 < tally c (f p)) → 0 < tally b (from_parent f p) → 0 < tally c (ancestors ps b) → 0 < tally c (from_parent f p)
-from-above ps f zero b c same further hb hc = absurd (omega arith)
-from-above ps f (suc p) b c same further hb hc = dite (ℕ_discrete (suc p) b)
-    (λ e. let u : 0 < tally c (f (suc p)) = subst (λ (z : List ℕ). 0 < tally c z) (sym (same (omega arith)))
-    (subst (λ (z : ℕ). 0 < tally c (ancestors ps z)) (sym e) hc) in omega arith)
-    (λ ne. let o = one-other (suc p) b ne in let u = further (omega arith) (omega arith) hc in omega arith)
-
-above-above : (ps : List ℕ) → IsTree ps → (m k b c : ℕ) → 0 < k → k ≤ m → 0 < tally b (upwards ps m k) → 0 < tally c (ancestors ps b)
-    → 0 < tally c (upwards ps m k)
-above-above ps t zero k b c pos le hb hc = absurd (omega arith)
-above-above ps t (suc m) k b c pos le hb hc = let l = t k pos in let p : ℕ = slice_index ps k in
-    from-above ps (upwards ps m) p b c (λ some_parent. enough ps t m p p some_parent (omega arith) (omega arith))
-    (λ some_parent ub uc. above-above ps t m p b c some_parent (omega arith) ub uc) hb hc
-
 beyond : (ps : List ℕ) (k : ℕ) → length ps ≤ k → slice_index ps k ≡ 0
 beyond [] k h = refl
 beyond (p ∷ ps) zero h = absurd (omega arith)

@@ -32,10 +32,6 @@ module _ {P C R : Type 0} where
     pub books : c ≡ with_lent b worker (Some (record { affinity = a; parcels = parcels }))
     pub same : IsSame b c
 
-  -- a call can't begin: something that is lent excludes its affinity
-  abbrev pub IsExcluded : Books P C R → Affinity → Type 0
-  IsExcluded b a = IsTaken b a
-
   -- a call can't begin: nothing that is lent excludes its affinity, but 2^62 calls were finished
   abbrev pub IsWorn : Books P C R → Affinity → Type 0
   IsWorn b a = (IsTaken b a → ⊥) × (worn ≤ stamps b)

@@ -17,7 +17,7 @@ counts_free total = record { files = 0; stock = 0; dead = 0; total = total }
 abbrev pub counts_given : VolumeLayout → VolumeCounts
 counts_given v = counts_free (v.range_blocks * v.ranges)
 
-pub opened : (verifier : List ℕ) (number : ℕ) (volumes : List VolumeLayout)
+opened : (verifier : List ℕ) (number : ℕ) (volumes : List VolumeLayout)
     → map counts_given volumes ≡ all_seen (opening_volumes verifier number volumes) (map opening_parts volumes)
 opened verifier number [] = refl
 opened verifier number (v ∷ volumes) = λ j. here j ∷ opened verifier (number + 1) volumes j

@@ -7,11 +7,6 @@ use Rattle.engine.specs.declared.counts.counts.VolumeCounts.{VolumeCounts}
 use Rattle.engine.specs.counts.Counts.{recounted}
 
 module _ (h : ℕ → VolumeCounts → VolumeCounts) where
-  pub recounted-length : (from n : ℕ) (counts : List VolumeCounts) → length (recounted h from n counts) ≡ length counts
-  recounted-length from zero counts = refl
-  recounted-length from (suc n) [] = refl
-  recounted-length from (suc n) (c ∷ counts) = ap suc (recounted-length (from + 1) n counts)
-
   more-from : (from n : ℕ) (counts : List VolumeCounts) (d : VolumeCounts)
       → slice_set (recounted h from n counts) n (h (from + n) (slice_index_or (recounted h from n counts) n d)) ≡ recounted h from (suc n) counts
   more-from from zero [] d = refl

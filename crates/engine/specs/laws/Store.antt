@@ -20,7 +20,7 @@ use Rattle.filer_state.specs.state.Tree.{tree}
 use Rattle.filer_state.specs.state.Partition.{all_parts}
 use Rattle.filer_state.specs.state.Sound.{IsFiler}
 use Rattle.filer_state.specs.state.Jobs as jobs
-use Rattle.filer_state.specs.state.Jobs.{InnerCall, Job, Serve, Inner, JobReply, takes, gives, batches_in}
+use Rattle.filer_state.specs.state.Jobs.{Job, Serve, Inner, JobReply, takes, gives, batches_in}
 use Rattle.filer_state.specs.state.Deeds.{FilerSteps}
 use Rattle.filer_state.specs.state.Opening.{AreOpening}
 

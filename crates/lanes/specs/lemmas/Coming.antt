@@ -20,7 +20,7 @@ answered-append [] ys = refl
 answered-append (Waits message ∷ xs) ys = answered-append xs ys
 answered-append (Answered reply ∷ xs) ys = ap (λ l. reply ∷ l) (answered-append xs ys)
 
-pub all-put-append : (xs ys : List Addressed) (b : Boxes) → all_put (xs ++ ys) b ≡ all_put ys (all_put xs b)
+all-put-append : (xs ys : List Addressed) (b : Boxes) → all_put (xs ++ ys) b ≡ all_put ys (all_put xs b)
 all-put-append [] ys b = refl
 all-put-append (x ∷ xs) ys b = all-put-append xs ys (put x b)
 

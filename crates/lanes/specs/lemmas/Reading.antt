@@ -74,7 +74,7 @@ module _ {D S : Type 0} (unread : D → Option (List ℕ)) (opened now now' : D)
         none_lost = h.none_lost;
       }
 
-  pub cuts-on : (before_stopped : Option Stopped) (heard : List Heard) → IsReadFrom offer unread opened now s kept before_stopped before
+  cuts-on : (before_stopped : Option Stopped) (heard : List Heard) → IsReadFrom offer unread opened now s kept before_stopped before
       → Cuts came room layout offer before_stopped s sink kept read heard stopped s' sink' kept'
       → IsReadFrom offer unread opened now' s' kept' stopped (before ++ heard)
   cuts-on None heard g h =

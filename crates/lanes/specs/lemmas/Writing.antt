@@ -49,7 +49,7 @@ module _ {D : Type 0} (written : D → Option (List ℕ)) (opened : D) where
       }
 
   -- bytes more that went out, and replies that were taken
-  pub written-more : (now now' : D) (rest rest' sent : List ℕ) (is_broken : Bool) (waiting waiting' taken replies : List ReplyMessage)
+  written-more : (now now' : D) (rest rest' sent : List ℕ) (is_broken : Bool) (waiting waiting' taken replies : List ReplyMessage)
       → IsWrittenTo written opened now rest false waiting replies → waiting ≡ taken ++ waiting'
       → rest ++ records_of taken ≡ sent ++ rest' → Appends (written now) (written now') sent
       → IsWrittenTo written opened now' rest' is_broken waiting' replies
@@ -134,7 +134,7 @@ module _ {D : Type 0} (unread written : D → Option (List ℕ)) (old : Connecti
       )
 
   -- nor does it read
-  pub written-apart : Keeps (unread (now_of old)) (unread (now_of new))
+  written-apart : Keeps (unread (now_of old)) (unread (now_of new))
   written-apart = by old.is_broken h
     where
       by : (b : Bool) → HasWrittenAs b unread written old boxes result new boxes' → Keeps (unread (now_of old)) (unread (now_of new))

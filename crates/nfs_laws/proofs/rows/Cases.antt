@@ -4,7 +4,7 @@ use Rattle.std.specs.Ordering.{nat_cmp}
 use Rattle.std.specs.FinMap.{from_sorted}
 use Rattle.std.specs.FinSet.{FinSet}
 use Rattle.std.specs.FinSet as sets
-use Rattle.nfs_model.specs.Types.{Moment, Credential, Call, Create, Mkdir, Write, Unchecked, Reply, Success, Failed}
+use Rattle.nfs_model.specs.Types.{Moment, Credential, Call, Create, Write, Unchecked, Reply, Success, Failed}
 use Rattle.nfs_model.specs.Types.{Status, Shown, Regular, DirectoryKind, Before, Wcc, Listed, SetAttributes}
 use Rattle.nfs_model.specs.Tree.{Layout, VolumeLayout}
 use Rattle.nfs_model.specs.Server.{Attributes, Node, File, Directory, VolumeState, Server, opening, opening_volume, handle_bytes}
@@ -64,7 +64,7 @@ abbrev pub x : List ℕ
 x = 120 ∷ []
 
 -- a file in the root, unchecked
-abbrev pub make : List ℕ → Call
+abbrev make : List ℕ → Call
 make name = Create root name (Unchecked no_attributes)
 
 abbrev pub write_at : ℕ → ℕ → List ℕ → Call

@@ -1,6 +1,6 @@
 -- MOUNT version 3 (RFC 1813 appendix I, sections 5.2.0 to 5.2.5), of two volumes.
 use Rattle.std.proofs.Common.{◌≡◌, true, false, List, ℕ, [], ◌∷◌, ◌++◌, replicate, None, refl}
-use Rattle.nfs_model.specs.Types.{Call, Mount, MountCall, Mnt, Dump, Exports, Unmount, Reply, Ask, Success, NullDone, MountDone, DumpDone, ExportsDone}
+use Rattle.nfs_model.specs.Types.{Mount, MountCall, Mnt, Dump, Exports, Unmount, Reply, Ask, Success, NullDone, MountDone, DumpDone, ExportsDone}
 use Rattle.nfs_model.specs.Types.{NoEntry, Invalid, NameTooLong}
 use Rattle.nfs_model.specs.Home.{home}
 use Rattle.nfs_model.specs.Serial.Step.{serial}

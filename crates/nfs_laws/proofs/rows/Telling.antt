@@ -1,8 +1,8 @@
 -- ACCESS, FSINFO and PATHCONF, and what isn't supported (RFC 1813 sections 3.3.4, 3.3.5, 3.3.10, 3.3.11, 3.3.15, 3.3.19 and 3.3.20).
-use Rattle.std.proofs.Common.{◌≡◌, ℕ, false, List, [], ◌∷◌, replicate, None, refl}
+use Rattle.std.proofs.Common.{◌≡◌, ℕ, false, [], ◌∷◌, replicate, None, refl}
 use Rattle.nfs_model.specs.Types.{Credential, Readlink, Symlink, Mknod, Link, CheckAccess, Fsinfo, Pathconf, Unsupported, Ask, Success, AccessDone}
 use Rattle.nfs_model.specs.Types.{FsinfoDone, PathconfDone, Stale, BadHandle, NotSupported}
-use Rattle.nfs_model.specs.Server.{Node, File, Directory, Server, handle_bytes}
+use Rattle.nfs_model.specs.Server.{File, Directory, Server, handle_bytes}
 use Rattle.nfs_model.specs.Serial.Step.{serial}
 use Rattle.nfs_laws.specs.lemmas.Evaluate.{evaluate}
 use Rattle.nfs_laws.proofs.rows.Cases.{start, at, nobody, h, root, fails, no_blocks, stored, file, with_file, narrow, root_shown, file_shown}

@@ -7,7 +7,6 @@ use Rattle.nfs_model.specs.Server.{opening_volume, opening_volumes, opening, Fil
 use Rattle.nfs_model.specs.Server.{handle_of, most_bytes}
 use Rattle.nfs_model.specs.Tree.{Layout, VolumeLayout, range_blocks_in, range_blocks_of}
 use Rattle.nfs_model.specs.Replay.{FinishedCall, server_after}
-use Rattle.nfs_model.specs.Shown.{shown}
 use Rattle.nfs_model.specs.Names.{is_dots, name_fault, same_name, dot, dot_dot}
 use Rattle.nfs_model.specs.Locate.{Effect, Fails, Tells, Changes, unless, on_node, on_directory, on_file, Located, located_in, located_by, locate, Found}
 use Rattle.nfs_model.specs.Locate.{Naming, named_child, on_name}
@@ -16,22 +15,19 @@ use Rattle.nfs_model.specs.Serial.Getattr.{getattr, tell_of}
 use Rattle.nfs_model.specs.Serial.Access.{access_given}
 use Rattle.nfs_model.specs.Serial.Lookup.{looked_up, lookup_told, lookup}
 use Rattle.nfs_model.specs.Serial.Read.{read}
-use Rattle.nfs_model.specs.Serial.Write.{Writing, bytes_kept, write_fault, space_fault, write_some, write}
+use Rattle.nfs_model.specs.Serial.Write.{Writing, write_some, write}
 use Rattle.nfs_model.specs.Serial.Create.{create_over, create_at, create}
 use Rattle.nfs_model.specs.Serial.Mkdir.{mkdir_at, mkdir}
 use Rattle.nfs_model.specs.Serial.Remove.{gone, remove_node, remove_at, remove_name}
 use Rattle.nfs_model.specs.Serial.Rmdir.{if_empty, rmdir_node, rmdir_at, rmdir}
 use Rattle.nfs_model.specs.Serial.Rename.{Renaming, goes_below_itself, may_go, renamed_volume, rename_told, is_same_entry, rename_at, rename_in, rename}
-use Rattle.nfs_model.specs.Serial.Readdir.{page_of, paged, readdir}
-use Rattle.nfs_model.specs.Serial.Readdirplus.{listed_plus, page_plus_of, paged_plus, readdirplus}
+use Rattle.nfs_model.specs.Serial.Readdir.{paged, readdir}
+use Rattle.nfs_model.specs.Serial.Readdirplus.{listed_plus, paged_plus, readdirplus}
 use Rattle.nfs_model.specs.Serial.Fsstat.{fsstat}
-use Rattle.nfs_model.specs.Serial.Fsinfo.{fsinfo}
-use Rattle.nfs_model.specs.Serial.Pathconf.{pathconf}
 use Rattle.nfs_model.specs.Serial.Commit.{commit}
 use Rattle.nfs_model.specs.Parts.{most_ranges}
 use Rattle.nfs_model.specs.Serial.Grow.{Grown, grown, grow_volume}
-use Rattle.nfs_model.specs.Serial.Step.{Step, stay, placed, on, on_two, serve, serial}
-use Rattle.nfs_model.specs.Serial.Absent.{absent_parts}
+use Rattle.nfs_model.specs.Serial.Step.{Step, placed, on, on_two, serve, serial}
 use Rattle.nfs_laws.specs.Sizes.{HaveSizes}
 
 -- ---- what a call on a volume comes to

@@ -1,6 +1,6 @@
 -- Optional parts that are absent.
-use Rattle.std.proofs.Common.{◌≡◌, ℕ, zero, suc, ◌+◌, ◌*◌, List, ◌++◌, length, None, refl, sym, ap, ◌∙◌, append_assoc, add-one, arith}
-use Rattle.std.proofs.lemmas.List.{length-append, append-nil}
+use Rattle.std.proofs.Common.{◌≡◌, ℕ, zero, suc, ◌+◌, ◌*◌, List, ◌++◌, length, refl, ap, append_assoc, add-one, arith}
+use Rattle.std.proofs.lemmas.List.{length-append}
 use Rattle.xdr.specs.Shape.{word}
 use Rattle.nfs_types.specs.Results.{absent_parts}
 

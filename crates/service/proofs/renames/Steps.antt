@@ -40,7 +40,7 @@ entry-put old new directory name fileid own stripes = λ j. record {
   stripes = each (λ i. stripe_value (placed (stripes j).at i)) 0 old.own.stripes;
 }
 
-pub kept-out : (b : Between) (target : Option HeldNode) (s : LogicalSet) → (target_out b target s).own.stripes ≡ s.own.stripes
+kept-out : (b : Between) (target : Option HeldNode) (s : LogicalSet) → (target_out b target s).own.stripes ≡ s.own.stripes
 kept-out b None s = refl
 kept-out b (Some t) s = by t.fileid t.inode.attributes t.inode.kind
   where
@@ -50,13 +50,13 @@ kept-out b (Some t) s = by t.fileid t.inode.attributes t.inode.kind
     by q a (DirectoryKind parent subs) = refl
 
 -- a set as it is between two steps
-pub set-at : {P : Type 0} (old mid : FilerLogical P) (t : LogicalSet) → logical_after old mid ≡ t → t.own.stripes ≡ old.own.stripes
+set-at : {P : Type 0} (old mid : FilerLogical P) (t : LogicalSet) → logical_after old mid ≡ t → t.own.stripes ≡ old.own.stripes
     → logical_before mid ≡ t
 set-at old mid t first kept =
     let same : mid.own.stripes ≡ old.own.stripes = ap (λ (s : LogicalSet). s.own.stripes) first ∙ kept in
     ap (λ (n : ℕ). logical_set n mid) same ∙ first
 
-pub sized-put : (directory : ℕ) (name : List ℕ) (fileid : ℕ) (s : LogicalSet) (target : Option HeldNode)
+sized-put : (directory : ℕ) (name : List ℕ) (fileid : ℕ) (s : LogicalSet) (target : Option HeldNode)
     → IfSome target (λ (t : HeldNode). MayBeSet t.fileid s)
     → IfSome target (λ (t : HeldNode). MayBeSet t.fileid (entry_put directory name fileid s))
 sized-put directory name fileid s None may = tt
@@ -66,7 +66,7 @@ abbrev most : ℕ
 most = most_ranges * most_range_blocks
 
 module _ (b : Between) (s : LogicalSet) (to_within : IsWithin (kind_value b.to.inode.kind)) where
-  pub within-out : (target : Option HeldNode) → IfSome target (λ (t : HeldNode). IsWithin t.inode.kind) → AllWithin s.own.inodes.inodes
+  within-out : (target : Option HeldNode) → IfSome target (λ (t : HeldNode). IsWithin t.inode.kind) → AllWithin s.own.inodes.inodes
       → AllWithin (target_out b target s).own.inodes.inodes
   within-out None w all = all
   within-out (Some t) w all = by t.fileid t.inode.attributes t.inode.kind w
@@ -86,7 +86,7 @@ module _ (b : Between) (s : LogicalSet) (to_within : IsWithin (kind_value b.to.i
           within-set b.to.fileid.0 (directory_left (dropping_of (to_of b s) t)) (inode_dropped q s.own.inodes)
           (within-dropped q s.own.inodes all) (within-left 1 (kind_value b.to.inode.kind) to_within)
 
-  pub used-out : (target : Option HeldNode) → IfSome target (λ (t : HeldNode). IsWithin t.inode.kind)
+  used-out : (target : Option HeldNode) → IfSome target (λ (t : HeldNode). IsWithin t.inode.kind)
       → (target_out b target s).own.inodes.used ≤ s.own.inodes.used + (most + most)
   used-out None w = omega arith
   used-out (Some t) w = by t.fileid t.inode.attributes t.inode.kind w
@@ -124,10 +124,10 @@ module _ (b : Between) (name : List ℕ) (child : HeldNode) (s : LogicalSet) (fr
       within-left (directories_in child.inode.kind) now.kind
       (within-now (get s.own.inodes.inodes b.from.fileid.0) (inode_value b.from.inode) (all b.from.fileid.0) from_within)
 
-  pub within-entry : AllWithin (entry_out b name child s).own.inodes.inodes
+  within-entry : AllWithin (entry_out b name child s).own.inodes.inodes
   within-entry = within-set b.from.fileid.0 dated s.own.inodes all dated-within
 
-  pub used-entry : (entry_out b name child s).own.inodes.used ≤ s.own.inodes.used + most
+  used-entry : (entry_out b name child s).own.inodes.used ≤ s.own.inodes.used + most
   used-entry =
       let set = used-set b.from.fileid.0 dated s.own.inodes in
       let few = dated-within.filled in
@@ -142,10 +142,7 @@ module _ (b : Between) (from_name to_name : List ℕ) (child : HeldNode) (s : Lo
   abbrev t : ℕ
   t = b.to.fileid.0
 
-  abbrev map_done : Option HeldNode → DirectoryMap
-  map_done target = (set_renamed (renaming_in b from_name to_name s) child target).own.directories
-
-  pub all-moved : (target : Option HeldNode) → MayMove b from_name to_name target s
+  all-moved : (target : Option HeldNode) → MayMove b from_name to_name target s
       → node_in b child (entry_out b from_name child (target_out b target (entry_put t to_name child.fileid s)))
       ≡ set_renamed (renaming_in b from_name to_name s) child target
   all-moved None may =

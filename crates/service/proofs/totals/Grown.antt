@@ -3,7 +3,7 @@ use Rattle.std.proofs.Common.{◌≡◌, ◌≢◌, ℕ, zero, suc, ◌+◌, ◌
 use Rattle.std.proofs.Common.{refl, sym, ap, subst, ◌∙◌, arith, eq-eqb}
 use Rattle.std.specs.Prelude.{slice_get, slice_set, slice_index_or, is_some, Result, if◌then◌else◌}
 use Rattle.nfs_model.specs.Types as types
-use Rattle.nfs_model.specs.Types.{Ask, Credential, Moment, Success}
+use Rattle.nfs_model.specs.Types.{Ask, Success}
 use Rattle.nfs_model.specs.Tree.{Layout, Aggregate, stripes_of, aggregate_of}
 use Rattle.nfs_model.specs.Work.{Replied}
 use Rattle.nfs_values.specs.Status.{status_of}

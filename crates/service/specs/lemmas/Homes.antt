@@ -74,7 +74,7 @@ at-above (Some n) a above =
     ⊎_elim (λ (e : a ≡ Logical n.volume). of-logical n a (sym e)) (λ (e : a ≡ Volume n.volume). of-volume n a (sym e)) above
 
 -- a route on a volume leads to a node of what its handle names
-pub leads-within : (layout : Layout) (r : Route) (a : Affinity) → IsOnVolume r → LeadsTo layout r a → IsNodeOf (named_by layout (handle_on r)) a
+leads-within : (layout : Layout) (r : Route) (a : Affinity) → IsOnVolume r → LeadsTo layout r a → IsNodeOf (named_by layout (handle_on r)) a
 leads-within layout (OfNames handle) a on at = at-logical (named_by layout handle) a at
 leads-within layout (OfBytesRead handle offset count) a on at = at-bytes layout (named_by layout handle) offset (min count most_bytes) a at
 leads-within layout (OfBytesWritten handle offset count) a on at =
@@ -161,11 +161,6 @@ is-census layout calls.Census at = refl
 is-census layout (calls.Grow volume more) at =
     let kind : kinds.Serial ≡ kinds.Aggregate = (grown-on (slice_get layout.volumes volume.0) Serial at.1).0 in let no : ⊥ = cc in absurd no
 is-census layout call at = let above = (run-home layout call Serial at).above in let no : ⊥ = cc in absurd no
-
--- under Logical not FSSTAT
-not-logical : (named : Option Named) (v : ℕ) → volume_home named ≡ Some (Logical v) → ⊥
-not-logical None v e = cc
-not-logical (Some n) v e = cc
 
 -- on Volume only a WRITE, or FSSTAT
 not-volume : (named : Option Named) (v : ℕ) → logical_home named ≡ Some (Volume v) → ⊥

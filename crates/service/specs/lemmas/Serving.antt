@@ -134,7 +134,7 @@ on-both layout a from from_name to to_name credential moment is tried =
           (eq-eqb v v refl);
     }
 
-pub run-is-call : (layout : Layout) (call : Call) (credential : Credential) (moment : Moment) (a : Affinity) → IsRunIn layout call a
+run-is-call : (layout : Layout) (call : Call) (credential : Credential) (moment : Moment) (a : Affinity) → IsRunIn layout call a
     → IsCallOn layout (volume_around a) (call_on layout a credential moment (call_of call)) credential moment
 run-is-call layout (calls.Rename from to) credential moment a at =
     on-both layout a from.directory from.name to.directory to.name credential moment at.1 (run-tried layout (calls.Rename from to) credential a at)

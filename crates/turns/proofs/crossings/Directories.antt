@@ -20,7 +20,7 @@ entries-inside-send = struct-send EntriesInside.the_type (
   (sequence-send (UInt w32) (search sendable depth 20), (search sendable depth 20, (cookie.the_field_send, tt))),
 )
 
-pub entries-send : IsSend Entries.the_row
+entries-send : IsSend Entries.the_row
 entries-send = view_send EntriesInside.the_row _ _ _ _ entries-inside-send
 
 directory-inside-send : IsSend DirectoryInside.the_row

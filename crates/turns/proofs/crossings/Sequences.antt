@@ -29,7 +29,7 @@ module _ (T : RattleType) (s : IsSend T) where
   room-inside-send : IsSend (RoomInside.the_row T)
   room-inside-send = struct-send (RoomInside.the_type T) (Box-send (Node.the_row T) node-send, tt)
 
-  pub room-send : IsSend (Room.the_row T)
+  room-send : IsSend (Room.the_row T)
   room-send = view_send (RoomInside.the_row T) _ _ _ _ room-inside-send
 
   sequence-inside-send : IsSend (SequenceInside.the_row T)

@@ -1,7 +1,7 @@
 use Rattle.std.proofs.Common.{sym, subst}
 use Rattle.affinity.specs.Affinity.{affinity_of}
 use Rattle.parcels.specs.Exact.{HasExactly, kind_in}
-use Rattle.depot.specs.Words.{view, layout_in, node_of, held_in}
+use Rattle.depot.specs.Words.{view, layout_in, node_of}
 use Rattle.depot.specs.lemmas.Seats.{begun-with}
 use Rattle.depot_rows.specs.Counting.{AddsOne}
 use Rattle.depot_rows.proofs.counters.attempt.Goals as goal

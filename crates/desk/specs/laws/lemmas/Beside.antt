@@ -1,5 +1,5 @@
 -- What a worker's call leaves to it and to the others, in the words of the books alone.
-use Rattle.std.proofs.Common.{◌≡◌, ◌≢◌, ◌<◌, ℕ, List, length, Option, Some, None, sym, ap, ◌∙◌, subst}
+use Rattle.std.proofs.Common.{◌≡◌, ◌≢◌, ◌<◌, ℕ, length, Option, Some, None, sym, ap, ◌∙◌, subst}
 use mathlib.Core.Option.{some, some-injective}
 use lib.ListN.{get_elem?}
 use Rattle.atomic_table.proofs.Lists.{set_here, set_else}
@@ -19,7 +19,7 @@ module _ {P C R : Type 0} (b : Books P C R) (i : ℕ) where
     pub lent-else : (j : ℕ) (o : Option (Lent P)) → j ≢ i → get_elem? b.lent j ≡ some o → get_elem? c.lent j ≡ some o
     lent-else j o ne at = ap (λ (d : Books P C R). get_elem? d.lent j) changed ∙ set_else b.lent i j x ne ∙ at
 
-    pub unchanged-still : (l : Lent P) → IsUnchanged b l → IsUnchanged c l
+    unchanged-still : (l : Lent P) → IsUnchanged b l → IsUnchanged c l
     unchanged-still l un = subst (λ (d : Books P C R). IsUnchanged d l) (sym changed) un
 
     pub fresh-still : (j : ℕ) → j ≢ i → MayPutBack b j → MayPutBack c j
@@ -29,7 +29,7 @@ module _ {P C R : Type 0} (b : Books P C R) (i : ℕ) where
       unchanged = unchanged-still may.lent may.unchanged;
     }
 
-    pub worked-still : {B : Type 0} (m : Behaviour P C R B) (l : Lent P) (call : C) (reply : R) → IsWorked m b l call reply → IsWorked m c l call reply
+    worked-still : {B : Type 0} (m : Behaviour P C R B) (l : Lent P) (call : C) (reply : R) → IsWorked m b l call reply → IsWorked m c l call reply
     worked-still m l call reply w = subst (λ (d : Books P C R). IsWorked m d l call reply) (sym changed) w
 
   -- ---- a call that began

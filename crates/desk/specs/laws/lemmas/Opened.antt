@@ -26,7 +26,7 @@ map-none f (suc n) = ap (λ xs. None ∷ xs) (map-none f n)
 
 module _ {P C R G : Type 0} (shows : Shows G P) (kind : P → Kind) (L : Layout) (f : ℕ → Option P) (v : View P (Entry P C R)) (n : ℕ)
     (made : v ≡ opening_view (parents L) (by_number f (1 + node_count L))) where
-  pub opened-so : books_of shows L v (replicate n None) ≡ opening_books L f n
+  opened-so : books_of shows L v (replicate n None) ≡ opening_books L f n
   opened-so = ap (λ (x : View P (Entry P C R)). books_of shows L x (replicate n None)) made
       ∙ ap (λ (ls : List (Option (Lent P))). record { layout = L; first = listed (by_number f (1 + node_count L)); entries = []; lent = ls })
       (map-none (shows L) n)
@@ -34,7 +34,7 @@ module _ {P C R G : Type 0} (shows : Shows G P) (kind : P → Kind) (L : Layout)
   none-lent-yet : (i : ℕ) (l : Lent P) → HasLent (books_of shows L v (replicate n None)) i l → ⊥
   none-lent-yet i l at = none-at n i l (ap (λ (ls : List (Option (Lent P))). get_elem? ls i) (sym (map-none (shows L) n)) ∙ at)
 
-  pub opened-desk : IsSeatOf kind L v → IsBook kind (books_of shows L v (replicate n None)) v
+  opened-desk : IsSeatOf kind L v → IsBook kind (books_of shows L v (replicate n None)) v
   opened-desk seat = record {
     seat = seat;
     only = ap (λ (x : View P (Entry P C R)). x.parts) made;

@@ -43,7 +43,7 @@ or-turned true false = refl
 or-turned false true = refl
 or-turned false false = refl
 
-pub excludes-turned : (layout : Layout) (a b : Affinity) → excludes layout a b ≡ excludes layout b a
+excludes-turned : (layout : Layout) (a b : Affinity) → excludes layout a b ≡ excludes layout b a
 excludes-turned layout a b = or-turned (begins (path layout a) (path layout b)) (begins (path layout b) (path layout a))
 
 not-true : (t : Bool) → (t ≡ true → ⊥) → t ≡ false
@@ -98,7 +98,7 @@ module _ {P C R : Type 0} (kind : P → Kind) (b : Books P C R) (lawful : fault_
       (pos, covers-below ps (number l.affinity) k pos slot.1 c)
 
   -- what is lent is what is now, under its affinity
-  pub lent-now : (i : ℕ) (l : Lent P) → HasLent b i l → (k : ℕ) → Covers ps (number l.affinity) k → now b k ≡ l.parcels k
+  lent-now : (i : ℕ) (l : Lent P) → HasLent b i l → (k : ℕ) → Covers ps (number l.affinity) k → now b k ≡ l.parcels k
   lent-now i l at k c = overlaid-here b.layout b.lent i l (settled b) k at c (λ j m there ne d. covered-once i j l m at there ne k c d)
 
   -- ---- a call begins
@@ -253,7 +253,7 @@ module _ {P C R : Type 0} (kind : P → Kind) (b : Books P C R) (lawful : fault_
         (λ (t : (j ≢ i) × (get_elem? b.lent j ≡ some (Some m))). t)
         (at_set b.lent i j None (Some m) at)
 
-    pub ended-same : IsSame b c
+    ended-same : IsSame b c
     ended-same k = covers-or-not ps (number l.affinity) k
         (λ d. now-new k
         ∙ overlaid-free b.layout (set b.lent i None) (settled c) k (λ j m at e. let t = left j m at in covered-once i j l m lent t.1 t.0 k d e)
@@ -299,7 +299,7 @@ module _ {P C R : Type 0} (kind : P → Kind) (b : Books P C R) (lawful : fault_
         (old.0, old.1, ap (λ (ls : List (Option (Lent P))). get_elem? ls old.0) idle ∙ set_else b.lent i old.0 None ne ∙ old.2, old.3))
         (at_set v.held (number l.affinity) n None (Some g) (ap (λ (hs : List (Option (List (Option P)))). get_elem? hs n) (sym held) ∙ has))
 
-    pub ended-book : IsBook kind c w
+    ended-book : IsBook kind c w
     ended-book = record {
       seat = subst (λ (y : Layout). IsSeatOf kind y w) (sym layout) (
         tree ∙ h.seat.0,

@@ -136,13 +136,13 @@ set-there (z ∷ xs) (suc i) x y e = set-there xs i x y e
 
 -- a volume with parts, and that they are as many as its numbers
 module _ (w : World) (parted : IsParted w) (v : ℕ) (p : Parts) (there : slice_get w.parts v ≡ Some p) where
-  pub volume-there : (volume : VolumeState) × (slice_get w.server.volumes v ≡ Some volume)
+  volume-there : (volume : VolumeState) × (slice_get w.server.volumes v ≡ Some volume)
   volume-there =
       let less = get-there w.parts v p there in
       let long = parted.long in
       found w.server.volumes v (omega (arith, less, long))
 
-  pub size-there : (volume : VolumeState) → slice_get w.server.volumes v ≡ Some volume
+  size-there : (volume : VolumeState) → slice_get w.server.volumes v ≡ Some volume
       → sets.len p.files + sets.len p.stock + sets.len p.dead + sets.len p.free + length (hands_blocks v w.workers) ≡ volume.total
   size-there volume at =
       let here = parted.each v volume at in
@@ -169,7 +169,7 @@ module _ (w : World) (parted : IsParted w) (worker v : ℕ) (before after : Carr
   )
 
   -- dead blocks come into it
-  pub culled-seen : (count : ℕ) → after.parts.files ≡ before.parts.files → after.parts.stock ≡ before.parts.stock → after.parts.free ≡ before.parts.free
+  culled-seen : (count : ℕ) → after.parts.files ≡ before.parts.files → after.parts.stock ≡ before.parts.stock → after.parts.free ≡ before.parts.free
       → length (hand_blocks v before.hand) ≡ 0 → length (hand_blocks v after.hand) ≡ count
       → world_counts (carried w worker v after) ≡ changed_at (with_culled count) (world_counts w) v
   culled-seen count files stock free none some =
@@ -186,7 +186,7 @@ module _ (w : World) (parted : IsParted w) (worker v : ℕ) (before after : Carr
       (λ j. record { files = f j; stock = s j; dead = fewer j; total = volume.0.total }) w.server.volumes w.parts v volume.1 there
 
   -- blocks for the stock leave it
-  pub put-seen : (count : ℕ) → after.parts.files ≡ before.parts.files → after.parts.dead ≡ before.parts.dead → after.parts.free ≡ before.parts.free
+  put-seen : (count : ℕ) → after.parts.files ≡ before.parts.files → after.parts.dead ≡ before.parts.dead → after.parts.free ≡ before.parts.free
       → length (hand_blocks v before.hand) ≡ count → length (hand_blocks v after.hand) ≡ 0
       → world_counts (carried w worker v after) ≡ changed_at (with_put count) (world_counts w) v
   put-seen count files dead free some none =
@@ -229,7 +229,7 @@ nothing-carried v o others k hand passes is held =
     by (Dead u blocks) e = absurd cc
 
 module _ (setup : Setup) (w new : World) (parted : IsParted w) (parted-then : IsParted new) where
-  pub cull-happens : (worker volume : ℕ) (done : Done) → Events setup w (Cull worker volume) (Ok done) new
+  cull-happens : (worker volume : ℕ) (done : Done) → Events setup w (Cull worker volume) (Ok done) new
       → (count : ℕ) × (done ≡ HandHas count) × (world_counts new ≡ changed_at (with_culled count) (world_counts w) volume)
   cull-happens worker volume done e =
       let h = e.1 in
@@ -263,7 +263,7 @@ module _ (setup : Setup) (w new : World) (parted : IsParted w) (parted-then : Is
       (ap (λ (c : Carrying). c.parts.files) did.1) (ap (λ (c : Carrying). c.parts.dead) did.1) (ap (λ (c : Carrying). c.parts.free) did.1)
       (fresh-length v blocks ∙ sym did.0) (ap (λ (c : Carrying). length (hand_blocks v c.hand)) did.1)
 
-  pub put-happens : (worker : ℕ) (done : Done) → Events setup w (PutDown worker) (Ok done) new
+  put-happens : (worker : ℕ) (done : Done) → Events setup w (PutDown worker) (Ok done) new
       → (count : ℕ) × (done ≡ HasPut count)
       × (world_counts new ≡ put_counted (fresh_volume (hand_of (slice_get w.workers worker))) count (world_counts w))
   put-happens worker done e =

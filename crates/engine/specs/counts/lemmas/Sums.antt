@@ -54,7 +54,7 @@ sum-single b (suc t) h =
 -- ---- sizes
 
 -- a list of numbers below t
-pub list-size : (t : ℕ) (ns : List ℕ) → ((n : ℕ) → t ≤ n → times_listed n ns ≡ 0) → length ns ≡ sum_below (λ n. times_listed n ns) t
+list-size : (t : ℕ) (ns : List ℕ) → ((n : ℕ) → t ≤ n → times_listed n ns ≡ 0) → length ns ≡ sum_below (λ n. times_listed n ns) t
 list-size t [] h = sym (sum-none (λ n. 0) t (λ n less. refl))
 list-size t (b ∷ ns) h =
     let others = list-size t ns (λ n more. let all = h n more in let l : times_listed n ns ≡ 0 = omega (arith, all) in l) in
@@ -85,7 +85,7 @@ removed-size s t = by (contains s t) refl (sets.len s) refl (len-remove nat_cmp_
     by true e (suc m) size gone = omega (arith, size, gone)
 
 -- a set of numbers below t
-pub set-size : (t : ℕ) (s : FinSet nat_cmp) → ((n : ℕ) → t ≤ n → contains s n ≡ false) → sets.len s ≡ sum_below (λ n. one_if (contains s n)) t
+set-size : (t : ℕ) (s : FinSet nat_cmp) → ((n : ℕ) → t ≤ n → contains s n ≡ false) → sets.len s ≡ sum_below (λ n. one_if (contains s n)) t
 set-size zero s h = empty-set s (λ n. h n (omega arith))
 set-size (suc t) s h =
     let left : (n : ℕ) → contains (sets.remove s t) n ≡ (not (n == t) && contains s n) =

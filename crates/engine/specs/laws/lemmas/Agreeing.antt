@@ -49,7 +49,7 @@ batch-times v n (Fresh u blocks) = omega arith
 batch-times v n (Dead u blocks) = omega arith
 
 -- how often a number stands in the hands of workers
-pub carried-times : (v n : ℕ) (ks : List Worker) → times_listed n (hands_blocks v ks) ≡ total (times_in_hand v n) (batches_carried ks)
+carried-times : (v n : ℕ) (ks : List Worker) → times_listed n (hands_blocks v ks) ≡ total (times_in_hand v n) (batches_carried ks)
 carried-times v n [] = refl
 carried-times v n (k ∷ ks) =
     let one = batch-times v n k.hand in

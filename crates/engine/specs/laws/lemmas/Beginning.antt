@@ -47,10 +47,6 @@ not-true : (x : Bool) → (x ≡ true → ⊥) → x ≡ false
 not-true true never = absurd (never refl)
 not-true false never = refl
 
-true-false : (x : Bool) → x ≡ true → x ≡ false → ⊥
-true-false true e f = absurd cc
-true-false false e f = absurd cc
-
 -- 21, then 22
 abbrev excluded_by : Bool → Bool → Option ℕ
 excluded_by busy many = if busy then Some 21 else if many then Some 22 else None

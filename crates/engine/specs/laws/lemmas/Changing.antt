@@ -24,7 +24,7 @@ module _ {P C R : Type 0} (setup : Setup) (b : FilerBooks P C R) where
   next_books es xs = record b { entries = es; lent = xs }
 
   -- an outcome stays where nothing changed for the finished calls under what is lent
-  pub outcome-kept : (es : List (Entry (FilerParcel P) C R)) (xs : List (Option (Lent (FilerParcel P)))) (r : Running)
+  outcome-kept : (es : List (Entry (FilerParcel P) C R)) (xs : List (Option (Lent (FilerParcel P)))) (r : Running)
       (l : Lent (FilerParcel P)) (o : Option Outcome) → UnderLent b l (λ k. settled (next_books es xs) k ≡ settled b k)
       → HasOutcome setup b r l o → HasOutcome setup (next_books es xs) r l o
   outcome-kept es xs r l None same did = λ k pos lt c. did k pos lt c ∙ sym (same k pos lt c)

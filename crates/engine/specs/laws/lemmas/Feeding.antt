@@ -9,7 +9,7 @@ use Rattle.nfs_model.specs.Server.{Server, start_of_times}
 use Rattle.nfs_model.specs.Home.{home, home_of_asked}
 use Rattle.nfs_model.specs.Serial.Step.{Step, serial, serve, stay}
 use Rattle.nfs_model.specs.Serial.AtOnce.{answer_without_home}
-use Rattle.nfs_model.specs.Replay.{FinishedCall, server_after}
+use Rattle.nfs_model.specs.Replay.{server_after}
 use Rattle.nfs_model.specs.World.{Setup, World, Heard, Message}
 use Rattle.nfs_model.specs.Headline.{start}
 use Rattle.nfs_model.specs.Events.Feed.{Feeds, Feeding, Hears, heard_in, admit, call_at_once, call_undecoded, bytes_taken, served_count}
@@ -82,9 +82,6 @@ module _ (stays : WithoutHomeStays) (setup : Setup) where
 
   abbrev Counted : World → Type 0
   Counted w = length setup.layout.volumes ≡ length (server_after (start setup) w.finished).volumes
-
-  abbrev finished_alike : World → FinishedCall → Type 0
-  finished_alike w e = server_after (start setup) (w.finished ++ e ∷ []) ≡ server_after (start setup) w.finished
 
   admit-alike : (w : World) (c n : ℕ) (h : Heard) (o : Option Affinity) → home_of_asked setup.layout h.asked ≡ o → Counted w
       → RunAlike setup w (admit setup w c n h o)
@@ -174,7 +171,7 @@ module _ (stays : WithoutHomeStays) (setup : Setup) where
         ap (λ (layout : Layout). length layout.volumes) (sym s.layout) ∙ sym laid.volumes
         ∙ sym (length-map (filer_contents b.layout (settled b)).volumes volume_of) ∙ ap (λ (server : Server). length server.volumes) (sym s.finished)
 
-    pub feed-alike : (f : Feeding) (new : World) → Feeds setup f w new → RunAlike setup w new
+    feed-alike : (f : Feeding) (new : World) → Feeds setup f w new → RunAlike setup w new
     feed-alike f new feeds =
         let same = hears-alike feeds.heard f.connection (bytes_taken w f.connection (take f.taken f.bytes))
         (served_count setup w f.connection) new counted feeds.hears in

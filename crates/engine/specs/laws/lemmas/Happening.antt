@@ -45,7 +45,7 @@ kept-after job told partition keep setup old event answer new b scan kept stands
 -- ---- begin
 
 -- a message at a place, with an idle worker and a moment that is one: what is left to ask is what excludes it
-pub begin-asks : (setup : Setup) (w : World) (worker place : ℕ) (moment : Moment) (m : Message) → is_idle (slice_get w.workers worker) ≡ true
+begin-asks : (setup : Setup) (w : World) (worker place : ℕ) (moment : Moment) (m : Message) → is_idle (slice_get w.workers worker) ≡ true
     → slice_get w.waiting place ≡ Some m → is_bad_moment moment ≡ false → refusal setup w (Begin worker place moment) ≡ excluded setup w m.affinity
 begin-asks setup w worker place moment m idle there good = rw (idle, there, good) refl
 

@@ -56,7 +56,7 @@ none-some x e = absurd cc
 
 module _ {P C R : Type 0} (b : FilerBooks P C R) (lawful : fault_of b.layout ≡ None) where
   -- no two that are lent reach one node
-  pub apart-once : IsApart b → (i j : ℕ) (l m : Lent (FilerParcel P)) → HasLent b i l → HasLent b j m → j ≢ i
+  apart-once : IsApart b → (i j : ℕ) (l m : Lent (FilerParcel P)) → HasLent b i l → HasLent b j m → j ≢ i
       → (k : ℕ) → Covers (parents b.layout) (number_of b.layout l.affinity) k → Covers (parents b.layout) (number_of b.layout m.affinity) k → ⊥
   apart-once apart i j l m at there ne k c d =
       let free = apart.apart i j l m at there (λ e. ne (sym e)) in
@@ -150,7 +150,7 @@ module _ {P C R : Type 0} (job : C → Job) (told : R → JobReply) (b : FilerBo
     abbrev next_books : FilerBooks P C R
     next_books = with_lent b i (Some left)
 
-    pub next-is : d ≡ next_books
+    next-is : d ≡ next_books
     next-is = works.books ∙ ap (λ (x : Lent (FilerParcel P)). with_lent c i (Some x)) left-is
         ∙ ap (λ (x : FilerBooks P C R). with_lent x i (Some left)) begins.books
         ∙ ap (λ xs. record b { lent = xs }) (set-twice b.lent i (Some l) (Some left))

@@ -24,7 +24,7 @@ use Rattle.filer_state.specs.state.Contents.{filer_contents}
 use Rattle.filer_state.specs.state.Tree.{server_of, tree}
 use Rattle.filer_state.specs.state.Sound.{AllSound}
 use Rattle.filer_state.specs.state.Jobs as jobs
-use Rattle.filer_state.specs.state.Jobs.{Job, JobReply, Serve}
+use Rattle.filer_state.specs.state.Jobs.{Serve}
 use Rattle.filer_state.specs.state.Deeds.{Serves}
 use Rattle.filer_state.specs.laws.lemmas.Steps.{sound-later}
 use Rattle.filer_state.specs.laws.lemmas.Lawful.{steps-local, entry-does}
@@ -49,7 +49,7 @@ patched-same ps a g f same = λ j k. covers-or-not ps a k
     j
 
 -- all stays sound with one more entry
-pub all-later : {P : Type 0} (layout : Layout) (f : ℕ → Option (FilerParcel P)) (hands : List Hand) (n : ℕ)
+all-later : {P : Type 0} (layout : Layout) (f : ℕ → Option (FilerParcel P)) (hands : List Hand) (n : ℕ)
     → AllSound layout f hands n → AllSound layout f hands (n + 1)
 all-later layout f hands n sound v p there =
     let s = sound v p there in (s.0, sound-later p hands hands n (λ i. refl) s.1)
@@ -70,7 +70,7 @@ module _ {P C R : Type 0} (setup : Setup) (b : FilerBooks P C R) (lawful : fault
   put f = patched ps here l.parcels f
 
   -- a call that was worked serves on whatever agrees with what it was granted
-  pub serves-there : (call : FinishedCall) (reply : Reply) → IsServed b l call reply
+  serves-there : (call : FinishedCall) (reply : Reply) → IsServed b l call reply
       → (f : ℕ → Option (FilerParcel P)) → Agrees f → (hands : List Hand) (n : ℕ) → AllSound b.layout f hands n
       → Serves b.layout l.affinity call (filer_contents b.layout f) reply (filer_contents b.layout (put f))
       × AllSound b.layout (put f) hands (n + 1)
@@ -81,7 +81,7 @@ module _ {P C R : Type 0} (setup : Setup) (b : FilerBooks P C R) (lawful : fault
       entry-does b.layout lawful l.affinity node (Serve call) (jobs.Replied reply) f (put f) hands hands n step sound (λ weigh. refl)
 
   -- what is unchanged, put in
-  pub put-unchanged : IsUnchanged b l → (f : ℕ → Option (FilerParcel P)) → Agrees f → put f ≡ f
+  put-unchanged : IsUnchanged b l → (f : ℕ → Option (FilerParcel P)) → Agrees f → put f ≡ f
   put-unchanged same f agrees = patched-same ps here l.parcels f
       (λ k c. let in_tree = covered-node b.layout lawful l.affinity node k c in same k in_tree.0 in_tree.1 c ∙ sym (agrees k c))
 

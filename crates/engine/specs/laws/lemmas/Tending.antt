@@ -48,7 +48,7 @@ use Rattle.engine.specs.laws.lemmas.Sized.{now-sized}
 -- ---- what workers carry
 
 -- what is carried, weighed, where a worker carries another thing
-pub carried-changed : (weigh : Hand → ℕ) (ks : List Worker) (i : ℕ) (k : Worker) (hand : Hand) → slice_get ks i ≡ Some k
+carried-changed : (weigh : Hand → ℕ) (ks : List Worker) (i : ℕ) (k : Worker) (hand : Hand) → slice_get ks i ≡ Some k
     → total weigh (batches_carried (changed_at (with_hand hand) ks i)) + total weigh (batches_in k.hand)
     ≡ total weigh (batches_carried ks) + total weigh (batches_in hand)
 carried-changed weigh [] i k hand there = absurd (none-some k there)
@@ -70,7 +70,7 @@ carried-changed weigh (j ∷ ks) (suc i) k hand there =
     omega (arith, left, right, others)
 
 -- one of all that is carried
-pub carried-one : (ks : List Worker) (i : ℕ) (k : Worker) → slice_get ks i ≡ Some k
+carried-one : (ks : List Worker) (i : ℕ) (k : Worker) → slice_get ks i ≡ Some k
     → (others : List Hand) × ((weigh : Hand → ℕ) → total weigh (batches_in k.hand ++ others) ≡ total weigh (batches_carried ks))
 carried-one ks i k there = (
   batches_carried (changed_at (with_hand Empty) ks i),
@@ -82,7 +82,7 @@ carried-one ks i k there = (
 
 module _ {P C R : Type 0} (setup : Setup) (b : FilerBooks P C R) where
   -- what workers run stays
-  pub runs-still : (ks : List Worker) (ls : List (Option (Lent (FilerParcel P)))) (i : ℕ) (hand : Hand) → RunOn setup b ks ls
+  runs-still : (ks : List Worker) (ls : List (Option (Lent (FilerParcel P)))) (i : ℕ) (hand : Hand) → RunOn setup b ks ls
       → RunOn setup b (changed_at (with_hand hand) ks i) ls
   runs-still [] ls i hand run = run
   runs-still (k ∷ ks) [] i hand run = absurd run

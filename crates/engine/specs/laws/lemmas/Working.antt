@@ -88,7 +88,7 @@ module _ (setup : Setup) (home : Affinity) where
   call-moves store a b call moved above = absurd cc
 
 -- where a task moves is above its home
-pub moves-up : (setup : Setup) (store : Store) (task : Task) (to : Affinity) → move_of store task ≡ Some to
+moves-up : (setup : Setup) (store : Store) (task : Task) (to : Affinity) → move_of store task ≡ Some to
     → IsTriedAt setup task.asked task.affinity → IsTriedAt setup task.asked to
 moves-up setup store task to moved tried = (tried.0, tried.1, by task.asked moved)
   where

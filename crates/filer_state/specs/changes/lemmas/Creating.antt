@@ -9,7 +9,7 @@ use Rattle.nfs_model.specs.Types.{Moment, Credential, SetAttributes, CreateMode,
 use Rattle.nfs_model.specs.Locate.{Effect, Fails, unless, Naming}
 use Rattle.nfs_model.specs.Serial.Setattr.{has_bad_time, is_past, given}
 use Rattle.nfs_model.specs.Serial.Create as creating
-use Rattle.nfs_model.specs.Serial.Create.{is_full, create_fault, new_file, asked_attributes, kept_verifier}
+use Rattle.nfs_model.specs.Serial.Create.{is_full, create_fault, new_file, asked_attributes}
 use Rattle.nfs_model.specs.Serial.Mkdir.{mkdir_fault, new_directory}
 use Rattle.nfs_model.specs.Parts.{Hand}
 use Rattle.nfs_model.specs.volume.Directories.{found}

@@ -28,7 +28,7 @@ use Rattle.filer_state.specs.names.Answers.{entries_of}
 use Rattle.filer_state.specs.nodes.Making.{directories_in, with_subdirectories}
 use Rattle.filer_state.specs.nodes.Dropping.{without_subdirectories}
 use Rattle.filer_state.specs.nodes.Moving as moving
-use Rattle.filer_state.specs.nodes.Moving.{dated_inode, inodes_untied, entries_untied, node_hung, inodes_hung}
+use Rattle.filer_state.specs.nodes.Moving.{dated_inode, inodes_untied, entries_untied, node_hung}
 use Rattle.filer_state.specs.nodes.Laws.{WeighAlike, StandsUnder, MayHang, seen_directory, nodes_of}
 use Rattle.filer_state.specs.nodes.lemmas.Others.{by-one}
 use Rattle.filer_state.specs.nodes.lemmas.Unnamed.{parent-kept}
@@ -184,9 +184,6 @@ module _ (q : VolumeContents) (from to : HeldNaming) (child : HeldNode) (from_pa
 
     abbrev entered : Node
     entered = Directory (with_name (seen_directory n.inode n.entries to_parent) to.name c to.moment)
-
-    abbrev moved : Node
-    moved = moved_node to.fileid to.moment (node_of q.stripes taken.own.directories c child.inode)
 
     entry-left : without_entry from_seen (volume_of q).nodes ≡ nodes_of taken
     entry-left =

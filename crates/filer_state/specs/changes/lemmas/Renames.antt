@@ -12,7 +12,7 @@ use Rattle.nfs_model.specs.Parts.{Hand}
 use Rattle.nfs_model.specs.Moves.{Emptied}
 use Rattle.nfs_model.specs.Locate.{Effect, Fails, unless, Found, named_child, Located, located_in, located_by, locate}
 use Rattle.nfs_model.specs.Serial.Rename as renames
-use Rattle.nfs_model.specs.Serial.Rename.{Renaming, may_go, goes_below_itself, with_moved, with_entry, without_entry, without_target, renamed_volume}
+use Rattle.nfs_model.specs.Serial.Rename.{Renaming, may_go, with_moved, with_entry, without_entry, renamed_volume}
 use Rattle.nfs_model.specs.Serial.Rename.{rename_told, same_told, is_same_entry, rename_at, rename_in}
 use Rattle.nfs_model.specs.Serial.Starve.{takes_memory}
 use Rattle.nfs_model.specs.volume.Inodes.{DirectoryKind, Inode}

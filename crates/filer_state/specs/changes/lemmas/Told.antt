@@ -26,7 +26,6 @@ use Rattle.filer_state.specs.changes.Named.{HeldNaming, HeldNode}
 use Rattle.filer_state.specs.changes.Renaming as held
 use Rattle.filer_state.specs.changes.Renaming.{HeldRenaming, fails_both, above, climbs, goes_below, target_may_go, inode_or, directory_now, on_directory_inode}
 use Rattle.filer_state.specs.changes.Renaming.{if_directory}
-use Rattle.filer_state.specs.changes.Renaming.{held_renamed}
 use Rattle.filer_state.specs.changes.lemmas.Named.{IsChildHere, found_seen}
 use Rattle.filer_state.specs.changes.lemmas.Climbing.{climbs-none, stays-there}
 use Rattle.filer_state.specs.changes.lemmas.Renamed.{not-root}

@@ -11,7 +11,7 @@ use Rattle.std.specs.FinSet as sets
 use Rattle.std.specs.FinSet.{contains, from_list, contains-union, contains-from_list_nat, contains-empty}
 use Rattle.nfs_model.specs.Server.{Node, filled_in, blocks_of, used}
 use Rattle.nfs_model.specs.Parts as parts
-use Rattle.nfs_model.specs.Parts.{Parts, Hand, one_if, count, times_listed, places}
+use Rattle.nfs_model.specs.Parts.{Hand, one_if, times_listed}
 use Rattle.depot_rule.specs.Sums.{total}
 use Rattle.nfs_model.specs.volume.Inodes.{InodeKind, RegularFile, DirectoryKind, Inode, filled_blocks, blocks_filled}
 use Rattle.nfs_model.specs.volume.Stripes.{FileBlock, Block, StripeValue}

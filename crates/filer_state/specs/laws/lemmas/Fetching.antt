@@ -33,10 +33,6 @@ false-where : (b : Bool) → (b ≡ true → ⊥) → b ≡ false
 false-where true h = absurd (h refl)
 false-where false h = refl
 
-true-where : (b : Bool) → (b ≡ false → ⊥) → b ≡ true
-true-where true h = refl
-true-where false h = absurd (h refl)
-
 or-false : (a b : Bool) → b ≡ false → (a || b) ≡ a
 or-false true b e = refl
 or-false false b e = e

@@ -1,7 +1,7 @@
 -- The ranges of stored volumes have as many blocks as the layout says.
 use Rattle.std.proofs.Common.{◌≡◌, ℕ, zero, suc, ◌<◌, List, [], ◌∷◌, length, map, Option, Some, None, sym, ap, ◌∙◌, subst, arith}
 use Rattle.std.specs.Prelude.{slice_get}
-use Rattle.nfs_model.specs.Tree.{Layout, Logical, Range, range_blocks_of, stripes_of}
+use Rattle.nfs_model.specs.Tree.{Layout, Logical, Range, range_blocks_of}
 use Rattle.nfs_model.specs.Server.{Server, opening}
 use Rattle.nfs_model.specs.Parts.{Hand}
 use Rattle.nfs_model.specs.Replay.{server_after}
@@ -21,7 +21,7 @@ use Rattle.filer_state.specs.state.Sound.{IsFiler}
 use Rattle.filer_state.specs.state.Jobs.{Job, JobReply, takes, gives}
 use Rattle.filer_state.specs.state.Deeds.{FilerSteps}
 use Rattle.filer_state.specs.state.Replayed.{calls_of}
-use Rattle.filer_state.specs.state.Lenses.{LogicalSet, volume_or_none, logical_lens}
+use Rattle.filer_state.specs.state.Lenses.{LogicalSet, volume_or_none}
 use Rattle.filer_state.specs.state.Opening.{AreOpening}
 use Rattle.filer_state.specs.state.Running.{HasSizedFiler}
 use Rattle.filer_state.specs.state.Sets.{FilerRange, FilerLogical}

@@ -1,8 +1,8 @@
 -- The parcels as a run begins are sound, and stand for the server as it begins.
 use Rattle.std.proofs.Common.{◌≡◌, ℕ, zero, suc, ◌+◌, ◌*◌, ◌/◌, ◌<◌, ◌≤◌, ◌==◌, Bool, true, false, not, ◌&&◌, cond, List, [], ◌∷◌, ◌++◌, length, map}
 use Rattle.std.proofs.Common.{Option, Some, None}
-use Rattle.std.proofs.Common.{refl, sym, ap, ◌∙◌, subst, arith, eqb, nat_lt, nat_eq, inl, inr, ⊎_elim}
-use Rattle.std.specs.Prelude.{if◌then◌else◌, slice_get, slice_index_or, is_some, IfSome, nat_le}
+use Rattle.std.proofs.Common.{refl, sym, ap, ◌∙◌, subst, arith, eqb, nat_lt, nat_eq, ⊎_elim}
+use Rattle.std.specs.Prelude.{slice_get, slice_index_or, is_some, IfSome, nat_le}
 use Rattle.std.proofs.lemmas.Bool.{cases_lt, lt-ltb, le-ltb, eqb-true, leb-true, and_parts}
 use Rattle.std.specs.List.{range_with_len, list_any, list_all}
 use Rattle.std.specs.Option.{option_map}
@@ -22,7 +22,7 @@ use Rattle.affinity.specs.Largest.{mebibyte, largest_of, mebibytes_in, inodes_in
 use Rattle.affinity.specs.lemmas.Lawful.{keeps_rules, stripes_either, mebibytes_between, inodes_between, range_blocks_size}
 use Rattle.nfs_model.specs.Types.{Listed}
 use Rattle.nfs_model.specs.Tree as trees
-use Rattle.nfs_model.specs.Tree.{Layout, VolumeLayout, Affinity, stripes_of, aggregate_of, aggregate_in, range_blocks_of, range_blocks_in}
+use Rattle.nfs_model.specs.Tree.{Layout, VolumeLayout, stripes_of, aggregate_of, aggregate_in, range_blocks_of, range_blocks_in}
 use Rattle.nfs_model.specs.Server.{VolumeState, root_node, opening_volume, opening_volumes, opening}
 use Rattle.nfs_model.specs.Parts.{count}
 use Rattle.nfs_model.specs.volume.Maps.{map_values}

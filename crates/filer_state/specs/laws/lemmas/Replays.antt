@@ -71,10 +71,6 @@ module _ (layout : Layout) (node : Affinity) where
 
 -- ---- a history
 
-append-none : {A : Type 0} (xs : List A) → xs ++ [] ≡ xs
-append-none [] = refl
-append-none (x ∷ xs) = ap (λ ys. x ∷ ys) (append-none xs)
-
 module _ {P : Type 0} (layout : Layout) (lawful : fault_of layout ≡ None) (f : ℕ → Option (FilerParcel P)) where
   -- at a place of the history: some hands, with which all is sound
   abbrev SoundAt : List (Entry (FilerParcel P) Job JobReply) → Type 0

@@ -1,6 +1,6 @@
 -- Products and quotients by the blocks of a range.
 use Rattle.std.proofs.Common.{◌≡◌, sym, ap, ◌∙◌, subst, ℕ, ◌+◌, ◌-◌, ◌*◌, ◌/◌, ◌^◌, ◌<◌, ◌≤◌, arith}
-use Rattle.std.proofs.Math.Nat.{mul-add, mul-one, mul_comm, mul-le-mul_left}
+use Rattle.std.proofs.Math.Nat.{mul-add, mul-one, mul_comm}
 use Rattle.std.proofs.lemmas.Nat.{div-mul-add, div_below, pow_pos}
 use Rattle.nfs_model.specs.volume.Ranges.{IsRangeSize}
 

@@ -116,10 +116,6 @@ total-plus : {A : Type 0} (g h : A → ℕ) (xs : List A) → total (λ x. g x +
 total-plus g h [] = refl
 total-plus g h (x ∷ xs) = let others = total-plus g h xs in omega (arith, others)
 
-total-same : {A : Type 0} (g h : A → ℕ) → ((x : A) → g x ≡ h x) → (xs : List A) → total g xs ≡ total h xs
-total-same g h same [] = refl
-total-same g h same (x ∷ xs) = let here = same x in let others = total-same g h same xs in omega (arith, here, others)
-
 -- a sum in which one place alone counts
 total-only : (g : StripeValue → ℕ) (stripes : List StripeValue) (i : ℕ) → i < length stripes
     → ((j : ℕ) → j < length stripes → j ≢ i → g (stripe_at stripes j) ≡ 0) → total g stripes ≡ g (stripe_at stripes i)

@@ -14,7 +14,7 @@ use Rattle.std.specs.FinSet.{contains, from_list, contains-union}
 use Rattle.nfs_model.specs.Server.{block_size}
 use Rattle.nfs_model.specs.Parts.{Hand, one_if, times_listed}
 use Rattle.depot_rule.specs.Sums.{total}
-use Rattle.nfs_model.specs.volume.Inodes.{InodeKind, RegularFile, Inode, InodesValue, filled_blocks, inode_of, inode_set}
+use Rattle.nfs_model.specs.volume.Inodes.{RegularFile, Inode, InodesValue, filled_blocks, inode_of, inode_set}
 use Rattle.nfs_model.specs.volume.Stripes.{Card, OfFile, OfDirectory, Block, StripeValue, byte_cut, block_mapped, card_settled, touch_taken}
 use Rattle.nfs_model.specs.volume.Stripes.{touch_of, stripe_of, is_filled, numbers_freed}
 use Rattle.nfs_model.specs.volume.lemmas.Inodes.{inode-set-there, inode-set-other, next-set, used-set, len-set, set-is}
@@ -146,9 +146,6 @@ module _ (p : VolumeContents) (m : Sizing) (well : WellFormed p) (there : get p.
 
   size-after : size_of (inode_of new f) ≡ Some m.size
   size-after = ap size_of at-file ∙ ap size_in kind-after
-
-  size-before : size_of (inode_of old f) ≡ Some old_size
-  size-before = ap size_of there ∙ ap size_in is_file
 
   places : SamePlaces new.inodes old.inodes
   places = record {

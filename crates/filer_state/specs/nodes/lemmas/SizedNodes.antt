@@ -33,9 +33,6 @@ use Rattle.filer_state.specs.nodes.lemmas.Sized.{sized_in, card-sized, filled-ot
 
 -- ---- lists by a range
 
-less-from : (a b : ℕ) → nat_lt a b ≡ true → a < b
-less-from a b h = grind (arith, nat_tests)
-
 test-less : (a b : ℕ) → a < b → nat_lt a b ≡ true
 test-less a b h = grind (arith, nat_tests)
 

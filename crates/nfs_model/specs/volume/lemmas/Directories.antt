@@ -1,6 +1,6 @@
 -- What is found after a name is added or removed.
 use Rattle.std.proofs.Common.{◌≡◌, refl, sym, subst, ◌∙◌, ap, ℕ, Bool, true, false, ◌==◌, ◌&&◌}
-use Rattle.std.proofs.Common.{not, nat_eq, List, [], ◌∷◌, ◌++◌, Some, None, if◌then◌else◌, arith}
+use Rattle.std.proofs.Common.{not, nat_eq, List, [], ◌∷◌, Some, None, if◌then◌else◌}
 use Rattle.std.specs.Cmp.Lexicographic.{pointwise, same_text, nat_list_eq_equiv}
 use Rattle.nfs_model.specs.Types.{Listed}
 use Rattle.nfs_model.specs.Names.{same_name, find_name, without_name}
@@ -22,22 +22,6 @@ same-turned x y = same-pointwise x y ∙ (nat_list_eq_equiv.symm x y ∙ sym (sa
 
 pub same-is : (x y : List ℕ) → same_name x y ≡ true → x ≡ y
 same-is x y e = same_text x y (sym e ∙ same-pointwise x y)
-
--- ---- after `added`
-
-find-last : (es : List Listed) (e : Listed) → find_name e.name es ≡ None → find_name e.name (es ++ e ∷ []) ≡ Some e
-find-last [] e f = rw (same-itself e.name) refl
-find-last (x ∷ es) e f = by (same_name x.name e.name) (find-last es e) f
-  where
-    by : (b : Bool) → (find_name e.name es ≡ None → find_name e.name (es ++ e ∷ []) ≡ Some e)
-        → (if b then Some x else find_name e.name es) ≡ None → (if b then Some x else find_name e.name (es ++ e ∷ [])) ≡ Some e
-    by true r s = absurd (grind (arith, s))
-    by false r s = r s
-
-find-before : (es : List Listed) (e : Listed) (other : List ℕ) → same_name e.name other ≡ false
-    → find_name other (es ++ e ∷ []) ≡ find_name other es
-find-before [] e other o = rw o refl
-find-before (x ∷ es) e other o = ap (λ r. if same_name x.name other then Some x else r) (find-before es e other o)
 
 -- ---- after `removed`
 

@@ -1,4 +1,4 @@
-use Rattle.std.proofs.Common.{ℕ, ◌-◌, List, length, drop, sym, subst, ap, ◌∙◌, arith}
+use Rattle.std.proofs.Common.{ℕ, ◌-◌, List, sym, subst, ap, ◌∙◌, arith}
 use Rattle.nfs_types.specs.lemmas.Bytes.{are_bytes}
 use Rattle.nfs_values.specs.Credential.{credential_of}
 use Rattle.rpc_msg.specs.declared.handle_form.HandleForm.TheVariants.{Plain}

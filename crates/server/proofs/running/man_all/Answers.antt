@@ -1,4 +1,4 @@
-use Rattle.std.proofs.Common.{rules, ap, ◌∙◌, refl, arith}
+use Rattle.std.proofs.Common.{ap, ◌∙◌, refl, arith}
 use Rattle.depot_rule.specs.Sums.{total}
 use Rattle.server.specs.Lanes.{by_identity, seats_of, IsLaneOf}
 use Rattle.server.specs.Threads.{identity_for, seats_for, IsTaskFor}

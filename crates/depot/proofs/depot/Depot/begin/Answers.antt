@@ -4,7 +4,6 @@ use Rattle.affinity.specs.Ancestors.{IsTree}
 use Rattle.affinity.specs.Numbers as numbers
 use Rattle.affinity.specs.lemmas.Standing.{parents-tree, number-place}
 use Rattle.depot_rule.specs.declared.view.Read.{Read}
-use Rattle.depot_rule.specs.declared.view.Entry.{Entry}
 use Rattle.depot_rule.specs.History.{listed}
 use Rattle.depot_rule.specs.Seats.{view_of}
 use Rattle.depot_rule.specs.Shares.{worn}
@@ -24,9 +23,6 @@ use Rattle.depot.proofs.depot.Depot.begin.Goals.{After-load-ticket, In-Ok, In-Er
 use Rattle.depot.proofs.depot.Depot.begin.Goals as goal
 
 -- ---- what several goals share
-
-abbrev E : Over → Type 0
-E g = Entry g.row.M-Parcel.Denot g.row.M-Call.Denot g.row.M-Reply.Denot
 
 abbrev ticket : ℕ → Read
 ticket found = record { word = 0; value = found; shares = 0 }

@@ -1,4 +1,4 @@
-use Rattle.std.proofs.Common.{◌+◌, ◌%◌, refl}
+use Rattle.std.proofs.Common.{refl}
 use Rattle.parcels.specs.lemmas.Exactly.{aggregate-exact}
 use Rattle.depot_rows.proofs.Counted.{aggregate-added, aggregate-as-it-was}
 use Rattle.depot_rows.proofs.counters.OneCounterAggregateNode.add_one.Goals as goal

@@ -1,4 +1,4 @@
-use Rattle.std.proofs.Common.{◌+◌, ◌%◌, refl}
+use Rattle.std.proofs.Common.{refl}
 use Rattle.parcels.specs.lemmas.Exactly.{logical-exact}
 use Rattle.depot_rows.proofs.Counted.{logical-added}
 use Rattle.depot_rows.proofs.counters.OneCounterLogicalNode.add_one.Goals as goal

@@ -1,4 +1,4 @@
-use Rattle.std.proofs.Common.{◌+◌, ◌%◌, refl}
+use Rattle.std.proofs.Common.{refl}
 use Rattle.parcels.specs.lemmas.Exactly.{range-exact}
 use Rattle.depot_rows.proofs.Counted.{range-added}
 use Rattle.depot_rows.proofs.counters.OneCounterRangeNode.add_one.Goals as goal

@@ -1,4 +1,4 @@
-use Rattle.std.proofs.Common.{◌+◌, ◌%◌, refl}
+use Rattle.std.proofs.Common.{refl}
 use Rattle.parcels.specs.lemmas.Exactly.{serial-exact}
 use Rattle.depot_rows.proofs.Counted.{serial-added, serial-as-it-was}
 use Rattle.depot_rows.proofs.counters.OneCounterSerialNode.add_one.Goals as goal

@@ -1,4 +1,4 @@
-use Rattle.std.proofs.Common.{◌+◌, ◌%◌, refl}
+use Rattle.std.proofs.Common.{refl}
 use Rattle.parcels.specs.lemmas.Exactly.{stripe-exact}
 use Rattle.depot_rows.proofs.Counted.{stripe-added}
 use Rattle.depot_rows.proofs.counters.OneCounterStripeNode.add_one.Goals as goal

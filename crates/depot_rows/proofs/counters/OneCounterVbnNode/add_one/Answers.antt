@@ -1,4 +1,4 @@
-use Rattle.std.proofs.Common.{◌+◌, ◌%◌, refl}
+use Rattle.std.proofs.Common.{refl}
 use Rattle.parcels.specs.lemmas.Exactly.{vbn-exact}
 use Rattle.depot_rows.proofs.Counted.{vbn-added}
 use Rattle.depot_rows.proofs.counters.OneCounterVbnNode.add_one.Goals as goal

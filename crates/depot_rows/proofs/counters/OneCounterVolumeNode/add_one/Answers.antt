@@ -1,4 +1,4 @@
-use Rattle.std.proofs.Common.{◌+◌, ◌%◌, refl}
+use Rattle.std.proofs.Common.{refl}
 use Rattle.parcels.specs.lemmas.Exactly.{volume-exact}
 use Rattle.depot_rows.proofs.Counted.{volume-added}
 use Rattle.depot_rows.proofs.counters.OneCounterVolumeNode.add_one.Goals as goal
