@@ -12,6 +12,7 @@ mod moment;
 mod mount;
 mod name;
 mod number;
+mod opaque_bytes;
 mod procedure;
 mod procedure_set;
 mod reply;
