@@ -3,7 +3,7 @@ use Rattle.std.proofs.Common.{◌≡◌, ℕ, zero, suc, ◌+◌, ◌-◌, ◌<�
 use Rattle.std.specs.Int.{w32, w64, to_be_bytes, from_be_bytes}
 use Rattle.std.proofs.lemmas.Nat.{be_bytes_4, be_bytes_8, from_be_bytes-to_be_bytes_4, from_be_bytes-to_be_bytes_8}
 use Rattle.std.proofs.lemmas.List.{length-take-le, length-drop, get_or-drop, take_all, take-append-drop}
-use Rattle.nfs_model.specs.Server.{handle_bytes, Named}
+use Rattle.nfs_model.specs.Server.{handle_bytes}
 use Rattle.nfs_values.specs.Handle.{named_in}
 
 -- the first of bytes are bytes
@@ -23,8 +23,7 @@ pub handle_of_read : (bytes : List ℕ) (volume fileid : ℕ) → length bytes �
 handle_of_read bytes volume fileid len below v f =
     let front = be_bytes_4 (take 4 bytes) volume (length-take-le 4 bytes (omega (arith, len))) (below-take 4 bytes below) v in
     let all = take_all (length bytes - 4) (drop 4 bytes) (omega (arith, length-drop 4 bytes)) in
-    let back =
-      be_bytes_8 (drop 4 bytes) fileid (omega (arith, len, length-drop 4 bytes)) (below-drop 4 bytes below) (f ∙ ap (from_be_bytes w64) all) in
+    let back = be_bytes_8 (drop 4 bytes) fileid (omega (arith, len, length-drop 4 bytes)) (below-drop 4 bytes below) (f ∙ ap (from_be_bytes w64) all) in
     ap (λ (l : List ℕ). l ++ to_be_bytes w64 fileid) front ∙ ap (λ (l : List ℕ). take 4 bytes ++ l) back ∙ take-append-drop 4 bytes
 
 -- What a handle names is read from its bytes.

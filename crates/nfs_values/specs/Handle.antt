@@ -1,5 +1,5 @@
 -- What handles name, and how they are kept.
-use Rattle.std.specs.Prelude.{◌≡◌, ◌≢◌, ℕ, ◌==◌, List, length, if◌then◌else◌, Option, Some, None}
+use Rattle.std.specs.Prelude.{◌≢◌, ℕ, ◌==◌, List, length, if◌then◌else◌, Option, Some, None}
 use Rattle.nfs_model.specs.Server as servers
 use Rattle.nfs_values.specs.declared.handle.Named.{Named}
 use Rattle.nfs_values.specs.declared.handle.Form.{Form}

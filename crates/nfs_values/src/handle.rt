@@ -4,6 +4,7 @@ ghost use Rattle.std.specs.Prelude.{◌≡◌, ◌≤◌, List, ℕ, Some, lengt
 ghost use Rattle.nfs_model.specs.Server.{handle_bytes};
 ghost use Rattle.nfs_values.specs.Handle.{bytes_naming, named_in, named_of};
 
+use crate::limits::HANDLE_BYTES;
 use crate::number::{Fileid, VolumeNumber};
 use crate::opaque_bytes::OpaqueBytes;
 use byteorder::{BigEndian, ByteOrder};
@@ -74,7 +75,7 @@ impl FileHandle {
         requires { length bytes.now ≤ 64 }
         ensures { result ≡ bytes.now }
     {
-        if bytes.len() == 12 {
+        if bytes.len() == HANDLE_BYTES {
             FileHandle(Form::Naming(read_named(bytes)))
         } else {
             FileHandle(Form::Other(OpaqueBytes::new(bytes)))
@@ -99,7 +100,7 @@ impl FileHandle {
     }
 
     /// The bytes of a handle, for which this space is lent.
-    pub fn bytes_in<'a>(&'a self, space: &'a mut [u8; 12]) -> &'a [u8]
+    pub fn bytes_in<'a>(&'a self, space: &'a mut [u8; HANDLE_BYTES]) -> &'a [u8]
         ensures value { result.now ≡ self.now }
         ensures most { length result.now ≤ 64 }
     {
