@@ -1,6 +1,6 @@
 //! Arguments that take memory, each once where memory is there.
 
-use crate::bytes::{holds, joined, same};
+use crate::bytes::{holds, is_handle, joined, same};
 use nfs_types::{Bad, decode_args, decode_call, decode_in_place};
 use nfs_values::{
     Call, CreateMode, Moment, NFS_PROGRAM, Procedure, SetAttributes, SetTime, Target,
@@ -40,7 +40,7 @@ fn decoded(rt: &(impl Abort + AllocGlobal), procedure: Procedure, arguments: &[u
 
 /// Looks whether this is the target.
 fn is_target(rt: &impl Abort, target: &Target) {
-    same(rt, target.directory.as_bytes(), &[7]);
+    is_handle(rt, &target.directory, &[7]);
     same(rt, target.name.as_bytes(), b"ab");
 }
 
@@ -72,7 +72,7 @@ fn two_names_are_copied(rt: HostRuntime) {
     match &call {
         Call::Rename { from, to } => {
             is_target(&rt, from);
-            same(&rt, to.directory.as_bytes(), &[8]);
+            is_handle(&rt, &to.directory, &[8]);
             same(&rt, to.name.as_bytes(), b"xyz");
         }
         _ => panic!(rt; "no RENAME"),
@@ -151,7 +151,7 @@ fn is_write(rt: &impl Abort, call: &Call) {
             count,
             bytes,
         } => {
-            same(rt, handle.as_bytes(), &[7]);
+            is_handle(rt, handle, &[7]);
             holds(rt, *offset == 8 && *count == 3);
             same(rt, bytes.as_slice(), &[1, 2, 3]);
         }
@@ -192,7 +192,7 @@ fn bits_are_asked(rt: HostRuntime) {
     let call = decoded(&rt, Procedure::CheckAccess, &asked);
     match &call {
         Call::CheckAccess { handle, asked } => {
-            same(&rt, handle.as_bytes(), &[7]);
+            is_handle(&rt, handle, &[7]);
             holds(&rt, *asked == 0x8000_003F);
         }
         _ => panic!(rt; "no ACCESS"),
@@ -208,7 +208,7 @@ fn objects_are_told_of(rt: HostRuntime) {
         let call = decoded(&rt, procedure, &HANDLE);
         match &call {
             Call::FilesystemInfo { handle } | Call::PathConfiguration { handle } => {
-                same(&rt, handle.as_bytes(), &[7]);
+                is_handle(&rt, handle, &[7]);
             }
             _ => panic!(rt; "another call"),
         }
@@ -267,7 +267,7 @@ fn pages_with_attributes_are_asked(rt: HostRuntime) {
             names_count,
             count,
         } => {
-            same(&rt, directory.as_bytes(), &[7]);
+            is_handle(&rt, directory, &[7]);
             holds(&rt, cookie.0 == 3);
             same(&rt, &verifier.0, &[1, 2, 3, 4, 5, 6, 7, 8]);
             holds(&rt, *names_count == 512 && *count == 8192);

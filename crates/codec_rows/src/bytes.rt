@@ -5,7 +5,7 @@ ghost use Rattle.nfs_types.specs.Results.{answer_bytes};
 ghost use Rattle.nfs_values.specs.Answer.{answer_of};
 
 use nfs_values::answer::ReadResults;
-use nfs_values::{Answer, BytesRead, room_to_read};
+use nfs_values::{Answer, BytesRead, FileHandle, HANDLE_BYTES, room_to_read};
 use std::process::Abort;
 
 /// Looks whether this is so.
@@ -16,6 +16,11 @@ pub(crate) fn holds(rt: &impl Abort, is_so: bool) {
 /// Looks whether these are the bytes that are wanted.
 pub(crate) fn same(rt: &impl Abort, bytes: &[u8], wanted: &[u8]) {
     assert!(rt; bytes == wanted);
+}
+
+/// Looks whether these are the bytes of a handle.
+pub(crate) fn is_handle(rt: &impl Abort, handle: &FileHandle, wanted: &[u8]) {
+    same(rt, handle.bytes_in(&mut [0; HANDLE_BYTES]), wanted);
 }
 
 /// Parts, one after the other.

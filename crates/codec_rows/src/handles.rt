@@ -1,6 +1,6 @@
 //! Handles of a run, of volume and fileid and then the run's verifier, heard and told.
 
-use crate::bytes::{bytes_of, same};
+use crate::bytes::{bytes_of, is_handle, same};
 use nfs_values::{Answer, Call, FileHandle, Fileid, MountResults, Named, Reply, VolumeNumber};
 use rpc_msg::{HandleForm, Offer, Request, read_record_of, tell, write_reply_record};
 use std::mem;
@@ -21,7 +21,7 @@ fn hears(rt: &(impl Abort + AllocGlobal), offer: Offer, handle: &[u32], wanted: 
         Request::Call {
             call: Call::GetAttributes { handle },
             ..
-        } => same(rt, handle.as_bytes(), wanted),
+        } => is_handle(rt, handle, wanted),
         _ => panic!(rt; "no GETATTR"),
     }
     mem::forget(heard);

@@ -13,8 +13,8 @@ ghost use Rattle.nfs_types.specs.Shapes.{attributes_value, prior_shape, prior_va
 ghost use Rattle.nfs_types.specs.Shapes.{change_value};
 
 use nfs_values::{
-    Attributes, BytesRead, Change, Cookie, FileHandle, FileKind, Fileid, Moment, Name,
-    PriorAttributes, Verifier, VolumeNumber,
+    Attributes, BytesRead, Change, Cookie, FileHandle, FileKind, Fileid, HANDLE_BYTES, Moment,
+    Name, PriorAttributes, Verifier, VolumeNumber,
 };
 use xdr::{put_bool, put_fixed, put_opaque, put_u32, put_u64};
 
@@ -192,11 +192,11 @@ impl Encode for FileHandle {
     ghost value = { λ h. h };
 
     fn size(&self) -> usize {
-        size_of_opaque(self.as_bytes())
+        size_of_opaque(self.bytes_in(&mut [0; HANDLE_BYTES]))
     }
 
     fn write(&self, out: &mut Vec<u8>) {
-        put_opaque(out, self.as_bytes()).unwrap()
+        put_opaque(out, self.bytes_in(&mut [0; HANDLE_BYTES])).unwrap()
     }
 }
 

@@ -1,4 +1,5 @@
 pub mod Zeros
+pub mod Handles
 pub mod Behind
 pub mod Groups
 pub mod Listed

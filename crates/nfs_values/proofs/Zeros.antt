@@ -2,12 +2,12 @@
 use Rattle.std.proofs.Common.{◌≡◌, ℕ, ◌-◌, ◌≤◌, List, ◌++◌, length, take, drop, replicate, refl, arith}
 use Rattle.std.proofs.lemmas.List.{take_at, length-append, length-replicate, drop-replicate}
 
-pub drop_zeros : (n : ℕ) → n ≤ 64 → drop {A = ℕ} n (replicate 64 0) ≡ replicate (64 - n) 0
-drop_zeros n h = drop-replicate n 64 0
+pub drop_opaque_zeros : (n : ℕ) → n ≤ 64 → drop {A = ℕ} n (replicate 64 0) ≡ replicate (64 - n) 0
+drop_opaque_zeros n h = drop-replicate n 64 0
 
-pub handle_with_zeros : (bytes : List ℕ) → length bytes ≤ 64
+pub opaque_with_zeros : (bytes : List ℕ) → length bytes ≤ 64
     → (length (bytes ++ replicate (64 - length bytes) 0) ≡ 64) × (take (length bytes) (bytes ++ replicate (64 - length bytes) 0) ≡ bytes)
-handle_with_zeros bytes h =
+opaque_with_zeros bytes h =
     let zeros = replicate (64 - length bytes) 0 in
     (omega (arith, length-append bytes zeros, length-replicate {A = ℕ} (64 - length bytes) 0), take_at bytes zeros (length bytes) refl)
 

@@ -1,5 +1,6 @@
 pub mod Moment
 pub mod ShortName
+pub mod OpaqueBytes
 pub mod Name
 pub mod Handle
 pub mod Credential

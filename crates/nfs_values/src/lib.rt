@@ -12,6 +12,7 @@ mod moment;
 mod mount;
 mod name;
 mod number;
+mod opaque_bytes;
 mod procedure;
 mod procedure_set;
 mod reply;
@@ -30,7 +31,7 @@ pub use call::Call;
 pub use credential::{Credential, GroupList};
 pub use handle::{FileHandle, HandleMap, Named};
 pub use limits::{
-    BLOCK_BYTES, COUNT_LIMIT, MILLISECONDS_OF_A_SECOND, NANOSECONDS_OF_A_MILLISECOND,
+    BLOCK_BYTES, COUNT_LIMIT, HANDLE_BYTES, MILLISECONDS_OF_A_SECOND, NANOSECONDS_OF_A_MILLISECOND,
     NANOSECONDS_OF_A_SECOND, SPAN_BLOCKS, SPAN_BYTES,
 };
 pub use moment::Moment;

@@ -9,6 +9,9 @@ pub const SPAN_BYTES: u64 = 262_144;
 /// The blocks of a span, which lie in one stripe.
 pub const SPAN_BLOCKS: u64 = 64;
 
+/// The bytes of a handle that names something.
+pub const HANDLE_BYTES: usize = 12;
+
 /// Larger counts of READ, WRITE, READDIR and READDIRPLUS are taken as this.
 pub const COUNT_LIMIT: u32 = 65_536;
 

@@ -4,10 +4,7 @@ ghost use Rattle.std.specs.Prelude.{◌≡◌};
 ghost use Rattle.nfs_model.specs.Names.{same_name};
 ghost use Rattle.rpc_msg.specs.HandleForm.{heard_in_run as heard_so, told_in_run as told_so};
 
-use nfs_values::FileHandle;
-
-/// How many bytes a handle of the server has.
-const PLAIN_BYTES: usize = 12;
+use nfs_values::{FileHandle, HANDLE_BYTES};
 
 /// How a server spells its handles, which are opaque to clients (nfs_fh3, RFC 1813 section 2.6).
 #[derive(Clone, Copy)]
@@ -30,7 +27,8 @@ fn is_same(bytes: &[u8], other: &[u8]) -> bool
 pub(crate) fn heard_in_run(handle: &FileHandle, run: u64) -> FileHandle
     ensures { result ≡ heard_so run handle.now }
 {
-    let bytes = handle.as_bytes();
+    let mut space = [0; HANDLE_BYTES];
+    let bytes = handle.bytes_in(&mut space);
     if bytes.len() != 20 {
         return FileHandle::new(&[]);
     }
@@ -46,8 +44,9 @@ pub(crate) fn heard_in_run(handle: &FileHandle, run: u64) -> FileHandle
 pub(crate) fn told_in_run(handle: &FileHandle, run: u64) -> FileHandle
     ensures { result ≡ told_so run handle.now }
 {
-    let bytes = handle.as_bytes();
-    let size = PLAIN_BYTES.min(bytes.len());
+    let mut space = [0; HANDLE_BYTES];
+    let bytes = handle.bytes_in(&mut space);
+    let size = HANDLE_BYTES.min(bytes.len());
     let mut told = [0; 20];
     told[..size].copy_from_slice(&bytes[..size]);
     told[size..size + 8].copy_from_slice(&run.to_be_bytes());

@@ -1,4 +1,4 @@
-//! What the handles of calls name.
+//! What the handles of calls name, which they know since they were made.
 
 ghost use Rattle.std.specs.Prelude.{◌≡◌, option_map};
 ghost use Rattle.nfs_model.specs.Home.{named_by};

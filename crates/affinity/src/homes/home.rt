@@ -13,26 +13,18 @@ ghost use Rattle.affinity.specs.Layout.{layout_of};
 ghost use Rattle.affinity.specs.Tree.{IsNode};
 
 use crate::{Home, Layout};
-use byteorder::{BigEndian, ByteOrder};
-use nfs_values::{COUNT_LIMIT, Call, FileHandle, Fileid, Named, Route, SPAN_BYTES, VolumeNumber};
+use nfs_values::{COUNT_LIMIT, Call, FileHandle, Named, Route, SPAN_BYTES, VolumeNumber};
 
 /// What a good handle names, which has 12 bytes and a volume that the layout has.
 pub fn named_by(handle: &FileHandle, layout: &Layout) -> Option<Named>
     ensures named { option_map named_of result ≡ named_by (layout_of layout.now) handle.now }
     ensures there { IfSome result (λ n. n.volume.0 < length (layout_of layout.now).volumes) }
 {
-    let bytes = handle.as_bytes();
-    if bytes.len() != 12 {
+    let named = handle.named()?;
+    if named.volume.0 as usize >= layout.volume_count() {
         return None;
     }
-    let volume = BigEndian::read_u32(&bytes[..4]);
-    if volume as usize >= layout.volume_count() {
-        return None;
-    }
-    Some(Named {
-        volume: VolumeNumber(volume),
-        fileid: Fileid(BigEndian::read_u64(&bytes[4..])),
-    })
+    Some(named)
 }
 
 /// Whether bytes, as many as a count that isn't 0, lie in one span.
