@@ -17,12 +17,12 @@ pub struct Named {
     pub fileid: Fileid,
 }
 
-/// What a handle is kept as.
+/// How a handle is kept.
 #[derive(Drop)]
 enum Form {
     /// What its 12 bytes name.
     Naming(Named),
-    /// Its bytes, which are of another number.
+    /// Its bytes, where they are more or fewer.
     Other(OpaqueBytes),
 }
 
