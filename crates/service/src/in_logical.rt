@@ -35,7 +35,7 @@ ghost use Rattle.service.specs.Running.{
 };
 
 use crate::attributes::get_attributes;
-use crate::named::{fileid_here, fileid_of};
+use crate::named::{fileid_of_call, fileid_of};
 use crate::outcome::{Outcome, outcome_read, outcome_written};
 use crate::renames::{EntryName, rename};
 use crate::task::Run;
@@ -76,7 +76,7 @@ pub fn run_on_logical(
     ensures moved { UnlessReplied (outcome_of result) (held.new ≡ held.old) }
     ensures alike { logical_alike held.old held.new }
 {
-    let fileid = fileid_here(layout, run.call);
+    let fileid = fileid_of_call(layout, run.call);
     let named = Named { volume, fileid };
     match tell(run, held, named) {
         Some(outcome) => outcome,

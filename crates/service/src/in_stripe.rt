@@ -17,7 +17,7 @@ ghost use Rattle.service.specs.Running.{
   IsStripeOf,
 };
 
-use crate::named::fileid_here;
+use crate::named::fileid_of_call;
 use crate::outcome::{Outcome, outcome_read, outcome_written_in_stripe};
 use crate::task::Run;
 use affinity::{Home, Layout};
@@ -44,7 +44,7 @@ pub fn run_on_stripe(
         held.old.own (outcome_of result) held.new.own }
     ensures moved { UnlessReplied (outcome_of result) (held.new ≡ held.old) }
 {
-    let fileid = fileid_here(layout, run.call);
+    let fileid = fileid_of_call(layout, run.call);
     run_on_bytes(run, volume, stripe, held, fileid)
 }
 

@@ -13,7 +13,7 @@ ghost use Rattle.filer_state.specs.state.Running.{RunsOn, UnlessReplied};
 ghost use Rattle.filer_state.specs.state.Sets.{volume_before, volume_after};
 ghost use Rattle.service.specs.Running.{call_on, outcome_of, IsRunAt};
 
-use crate::named::fileid_here;
+use crate::named::fileid_of_call;
 use crate::outcome::{Outcome, outcome_written};
 use crate::task::Run;
 use crate::totals::filesystem_status;
@@ -41,7 +41,7 @@ pub fn run_on_volume(
     ensures moved { UnlessReplied (outcome_of result) (held.new ≡ held.old) }
     ensures alike { volume_alike held.old held.new }
 {
-    let fileid = fileid_here(layout, run.call);
+    let fileid = fileid_of_call(layout, run.call);
     match run.call {
         Call::Write {
             handle: _,

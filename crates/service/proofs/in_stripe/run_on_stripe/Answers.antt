@@ -14,7 +14,7 @@ pub run_on_bytes-requires-clause-bytes : goal.run_on_bytes-requires-clause-bytes
 run_on_bytes-requires-clause-bytes c =
     let s = c.args.held.now.own in
     let i = c.args.stripe in
-    subst (λ (f : ℕ). BytesLieIn s.stripes i f (call_of c.args.run.call.now)) (sym c.fileid_here-fileid.ensures)
+    subst (λ (f : ℕ). BytesLieIn s.stripes i f (call_of c.args.run.call.now)) (sym c.fileid_of_call-fileid.ensures)
     (bytes-lie (layout_of c.args.layout.now) c.args.run.call.now c.args.volume.0 i s.stripes c.requires.at c.requires.stripe.count c.requires.stripe.there)
 
 pub returns-clause-runs : goal.returns-clause-runs
@@ -22,6 +22,6 @@ returns-clause-runs c =
     let L = layout_of c.args.layout.now in
     let v = c.args.volume.0 in
     let i = c.args.stripe in
-    runs-here L v (stripe_lens i) (Stripe v i) c.fileid_here-fileid.result.0 (call_of c.args.run.call.now) (credential_of c.args.run.credential)
-    (moment_of c.args.run.moment) c.args.held.now.own c.run_on_bytes.new.held.own (outcome_of c.run_on_bytes.result) c.fileid_here-fileid.ensures
+    runs-here L v (stripe_lens i) (Stripe v i) c.fileid_of_call-fileid.result.0 (call_of c.args.run.call.now) (credential_of c.args.run.credential)
+    (moment_of c.args.run.moment) c.args.held.now.own c.run_on_bytes.new.held.own (outcome_of c.run_on_bytes.result) c.fileid_of_call-fileid.ensures
     (c.run_on_bytes.ensures.runs L)

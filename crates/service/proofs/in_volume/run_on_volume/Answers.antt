@@ -23,7 +23,7 @@ pub returns-in-Write-clause-runs : goal.returns-in-Write-clause-runs
 returns-in-Write-clause-runs c =
     let L = layout_of c.args.layout.now in
     let v = c.args.volume.0 in
-    let f = c.fileid_here-fileid.result.0 in
+    let f = c.fileid_of_call-fileid.result.0 in
     let call = c.args.run.call.now in
     let credential = credential_of c.args.run.credential in
     let moment = moment_of c.args.run.moment in
@@ -32,7 +32,7 @@ returns-in-Write-clause-runs c =
     let old = volume_before c.args.held.now in
     let new = volume_after c.args.held.now told.new.held in
     let outcome = outcome_of c.outcome_written.result in
-    runs-here L v volume_lens (Volume v) f (call_of call) credential moment old new outcome c.fileid_here-fileid.ensures
+    runs-here L v volume_lens (Volume v) f (call_of call) credential moment old new outcome c.fileid_of_call-fileid.ensures
     (writing-runs L v volume_lens (Volume v) f call asked.handle asked.offset asked.count asked.bytes c.as_slice-written.result.now credential moment
     old new outcome (written_outcome v told.result) (ap call_of asked.is) c.as_slice-written.ensures c.outcome_written.ensures
     (told.ensures.right v asked.handle))
@@ -41,7 +41,7 @@ pub returns-in-FilesystemStatus-clause-runs : goal.returns-in-FilesystemStatus-c
 returns-in-FilesystemStatus-clause-runs c =
     let L = layout_of c.args.layout.now in
     let v = c.args.volume.0 in
-    let f = c.fileid_here-fileid.result.0 in
+    let f = c.fileid_of_call-fileid.result.0 in
     let call = c.args.run.call.now in
     let credential = credential_of c.args.run.credential in
     let moment = moment_of c.args.run.moment in
@@ -49,7 +49,7 @@ returns-in-FilesystemStatus-clause-runs c =
     let told = c.filesystem_status-told.result in
     let held = volume_before c.args.held.now in
     runs-here L v volume_lens (Volume v) f (call_of call) credential moment held held (Replied (Success (answer_of (FilesystemStatus told))))
-    c.fileid_here-fileid.ensures
+    c.fileid_of_call-fileid.ensures
     (filesystem-status-runs L v f call asked.handle credential moment held told (ap call_of asked.is) c.filesystem_status-told.ensures.right)
 
 pub returns-in_default-clause-runs : goal.returns-in_default-clause-runs
