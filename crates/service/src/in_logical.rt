@@ -35,7 +35,7 @@ ghost use Rattle.service.specs.Running.{
 };
 
 use crate::attributes::get_attributes;
-use crate::named::{fileid_of_call, fileid_of};
+use crate::named::{fileid_of, fileid_of_call};
 use crate::outcome::{Outcome, outcome_read, outcome_written};
 use crate::renames::{EntryName, rename};
 use crate::task::Run;
