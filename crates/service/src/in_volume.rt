@@ -23,9 +23,9 @@ use nfs_values::{Answer, Call, Reply, VolumeNumber};
 use parcels::VolumeHeld;
 use service_data::write_in_volume;
 
-/// Runs a call on the parcels under Volume of its volume: a WRITE that moved there, or FSSTAT, whose
-/// home it is. Where a WRITE has space, but too few blocks are outside of workers' hands, it has to
-/// run there again. Any other call would have to run on Serial.
+/// Runs a call on the parcels under Volume of its volume: a WRITE that moved there, or FSSTAT,
+/// whose home it is. Where a WRITE has space, but too few blocks are outside of workers' hands, it
+/// has to run there again. Any other call would have to run on Serial.
 pub fn run_on_volume(
     run: Run,
     layout: &Layout,
