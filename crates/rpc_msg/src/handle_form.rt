@@ -32,10 +32,10 @@ pub(crate) fn heard_in_run(handle: &FileHandle, run: u64) -> FileHandle
     if bytes.len() != 20 {
         return FileHandle::new(&[]);
     }
-    if is_same(&bytes[12..], &run.to_be_bytes()) {
-        return FileHandle::new(&bytes[..12]);
+    if is_same(&bytes[HANDLE_BYTES..], &run.to_be_bytes()) {
+        return FileHandle::new(&bytes[..HANDLE_BYTES]);
     }
-    let mut other = [0; 12];
+    let mut other = [0; HANDLE_BYTES];
     other[..4].copy_from_slice(&bytes[..4]);
     FileHandle::new(&other)
 }
