@@ -100,7 +100,7 @@ static void make_replies(void) {
 
 /* ---- calls */
 
-/* Room for so many bytes more behind what is there. */
+/* Room for this many bytes more behind what is there. */
 static void reserve(struct buffer *buffer, size_t size) {
     if (buffer->from == buffer->end) buffer->from = buffer->end = 0;
     if (buffer->end + size <= buffer->size) return;

@@ -23,7 +23,7 @@ UNSET = "00000000 00000000 00000000 00000000 00000000 00000000"
 
 
 def call(size, xid, program, version, procedure, user=NOBODY):
-    """A call without its arguments, in a fragment of so many bytes."""
+    """A call without its arguments, in a fragment of this many bytes."""
     head = f"{xid} 00000000 00000002 {program} {version} {procedure}"
     return f"80000{size} {head} {user} 00000000 00000000"
 
@@ -46,7 +46,7 @@ def reply(size, xid, status="00000000"):
 
 
 def failed(xid, status, parts):
-    """A status and so many optional parts that aren't there."""
+    """A status and this many optional parts that aren't there."""
     return f"{reply(f'{28 + 4 * parts:03x}', xid)} {status}" + " 00000000" * parts
 
 

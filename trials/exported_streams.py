@@ -11,7 +11,7 @@ from results import are_results
 
 # Procedures of NFS by which nothing changes; no call of another is to be made by a changed byte.
 CHANGE_NOTHING = (0, 1, 3, 4, 5, 10, 11, 15, 17, 19, 20)
-# So many rows make one stream.
+# This many rows make one stream.
 TOGETHER = 8
 # Between two pieces of a stream, so that they come apart.
 PAUSE = 0.0005

@@ -184,7 +184,7 @@ def half_closed(address):
 
 
 def asks_and_never_reads(address, count):
-    """A connection on which a thread sends so many calls for 64 KiB, and ends its input behind
+    """A connection on which a thread sends this many calls for 64 KiB, and ends its input behind
     them."""
     client = Client(address)
     file = client.look_up(0, b"large") or client.create(0, b"large", PIECE * 2)

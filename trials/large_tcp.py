@@ -58,7 +58,7 @@ class Peer:
         self.socket.sendall(b"".join(records))
 
     def take(self, first, count):
-        """The xids and results of so many replies, in the order in which they come."""
+        """The xids and results of this many replies, in the order in which they come."""
         at, seen = 0, set()
         while len(seen) < count:
             end = at + 4 + int.from_bytes(self.input[at : at + 4], "big") - (1 << 31)
@@ -192,7 +192,7 @@ def called(name):
 
 
 class Names:
-    """A directory with so many empty files, whose names are numbers."""
+    """A directory with this many empty files, whose names are numbers."""
 
     def __init__(self, client, name, count):
         self.client, self.count = client, count
@@ -227,7 +227,7 @@ class Names:
         self.client.ask(((LOOKUP, self.handle + called(name_of(k))) for k in numbers), look)
 
     def change(self, calls):
-        """Makes and removes so many files more, some at a time."""
+        """Makes and removes this many files more, some at a time."""
         for first in range(self.count, self.count + calls // 2, PEERS * DEPTH):
             numbers = range(first, first + PEERS * DEPTH)
             self.client.ask(self.creations(numbers), status_is(OK, "CREATE"))
@@ -323,7 +323,7 @@ def piece(number):
 
 
 def write_all(client, file, count):
-    """Writes so many pieces: the mebibytes a second of each tenth."""
+    """Writes this many pieces: the mebibytes a second of each tenth."""
     speeds, handle = [], client.files.handle(file)
     for k in range(10):
         numbers = range(count * k // 10, count * (k + 1) // 10)
@@ -335,7 +335,7 @@ def write_all(client, file, count):
 
 
 def read_all(client, file, count):
-    """Reads so many pieces, and compares them."""
+    """Reads this many pieces, and compares them."""
     handle = client.files.handle(file)
     calls = ((READ, handle + hyper(PIECE * n) + words(PIECE)) for n in range(count))
 

@@ -119,7 +119,7 @@ def start(kernel, image, port, only, sizes):
 
 
 def console(guest, seconds):
-    """The lines of the guest's console, until it ends or so many seconds are over."""
+    """The lines of the guest's console, until it ends or this many seconds are over."""
     clock = threading.Timer(seconds, guest.kill)
     clock.start()
     try:

@@ -76,7 +76,7 @@ def mount_calls(files):
 
 
 def no_parts(name, count):
-    """Judges a failure whose optional parts, so many, aren't there."""
+    """Judges a failure whose optional parts, this many, aren't there."""
     return lambda reader: expect(name, reader.bytes(4 * count), bytes(4 * count))
 
 

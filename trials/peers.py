@@ -31,7 +31,7 @@ SMALL = ("--ranges", "16")
 
 
 class Server:
-    """`filer serve` or `filer export`, for so many connections, or without an end where their
+    """`filer serve` or `filer export`, for this many connections, or without an end where their
     number is None."""
 
     def __init__(self, filer, connections, workers=2, command="serve", options=()):

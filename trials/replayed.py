@@ -32,7 +32,7 @@ LONG_NAMES = ["full_volume", "blocks_in_a_hand"]
 # How long a run may take, in seconds.
 PATIENCE = 60
 
-# A script of more events is long; so many of its events are run after the one that met the refusal was sent again.
+# A script of more events is long; this many of its events are run after the one that met the refusal was sent again.
 LONG = 100
 FEW = 24
 
@@ -70,7 +70,7 @@ class Runner:
         self.written = None
 
     def write(self, script, events, length):
-        """Writes a script with these events, of so many bytes in all."""
+        """Writes a script with these events, of this many bytes in all."""
         lines = [line.encode() + b"\n" for line in script.layout] + [event.spelled for event in events]
         padding = length - sum(map(len, lines))
         assert padding >= 2, f"{script.name}: no room for the padding"
@@ -132,7 +132,7 @@ def probe_call(connection, place, record):
 
 
 def probes(script, connection, place, reads):
-    """What shows parts, directories, attributes and data, on a connection, where so many messages wait."""
+    """What shows parts, directories, attributes and data, on a connection, where this many messages wait."""
     events = [Event(f"parts {volume}") for volume in range(script.volumes)]
     records = []
     for fileid in range(1, script.last_fileid + 2):

@@ -175,7 +175,7 @@ def is_as_typed(printed_lines, typed):
 
 class Record:
     """A call record of one fragment: its xid, program, procedure and arguments (RFC 5531 sections 9 and 11). It ends
-    after so many bytes of its feed."""
+    after this many bytes of its feed."""
 
     def __init__(self, data, end):
         self.data, self.end = data, end

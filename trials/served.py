@@ -76,7 +76,7 @@ class Server:
         )
 
     def wait(self, seconds):
-        """What it printed since it listens and its status, once it has ended within so many
+        """What it printed since it listens and its status, once it has ended within this many
         seconds."""
         try:
             self.process.wait(seconds)
@@ -150,7 +150,7 @@ class Link:
 
 class Trial:
     """A server one of whose allocations is refused; its clients wait for each reply, or send
-    batches, in so many rounds."""
+    batches, in this many rounds."""
 
     def __init__(self, way, filer, library, folder, refused, in_batches, rounds):
         self.way, self.rounds, self.files = way, rounds, Files()

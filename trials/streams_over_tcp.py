@@ -7,7 +7,7 @@ import socket
 from made_streams import made
 from peers import Client, Differs, Server, compare, connect, read_all, reset
 
-# After so many streams of each process the server has to answer on another connection.
+# After this many streams of each process the server has to answer on another connection.
 BETWEEN = 50
 
 
@@ -44,7 +44,7 @@ def try_stream(address, source, service, stream, rng):
 
 
 def job(task):
-    """So many streams of one seed, from one address."""
+    """This many streams of one seed, from one address."""
     address, source, service, seed, count = task
     rng, passed, failures = random.Random(seed), 0, []
     try:
@@ -69,7 +69,7 @@ def job(task):
 
 
 def run(filer, pool, jobs, seed, streams, command):
-    """So many streams in one run of a server, by as many processes as the pool has."""
+    """This many streams in one run of a server, by as many processes as the pool has."""
     count = -(-streams // jobs)
     passed, failures = 0, []
     try:

@@ -49,7 +49,7 @@ pub fn census<S: Read + Write>(stream: &mut S, alloc: Global) -> Result<Census, 
     read_census(alloc, XID, &reply)
 }
 
-/// Asks a server over a connected stream for so many more ranges for a volume.
+/// Asks a server over a connected stream for this many more ranges for a volume.
 pub fn grow<S: Read + Write>(
     stream: &mut S,
     alloc: Global,

@@ -24,7 +24,7 @@ const ADMIN_VERSION: u32 = 1;
 pub enum AdminCall {
     /// CENSUS: how many blocks each volume has, and how many of them are in files.
     Census,
-    /// GROW: so many more ranges for a volume.
+    /// GROW: this many more ranges for a volume.
     Grow { volume: VolumeNumber, ranges: u32 },
 }
 

@@ -24,7 +24,7 @@ fn read_count(from: &mut Cursor<'_>) -> Result<VolumeCount, Fault>
     })
 }
 
-/// Reads the counts of so many volumes.
+/// Reads the counts of this many volumes.
 fn read_items(
     alloc: Global,
     count: u32,

@@ -8,7 +8,7 @@ use xdr::{Cursor, Fault};
 /// What GROW tells (our profile).
 #[derive(Clone, Copy, PartialEq, Eq)]
 pub enum Growth {
-    /// The volume has so many blocks now, of 4,096 bytes.
+    /// The volume has this many blocks now, of 4,096 bytes.
     Grown { blocks: u64 },
     /// NOENT: there is no such volume.
     NoVolume,

@@ -4,8 +4,8 @@ use Rattle.std.specs.Fmt.{decimal}
 use Rattle.nfs_model.specs.Tree as trees
 use Rattle.affinity.specs.declared.affinity.Affinity.{Affinity}
 use Rattle.affinity.specs.declared.affinity.Affinity.TheVariants.{Serial, Aggregate, Volume, VolumeLogical, Stripe, VolumeVbn, Range}
-use Rattle.affinity.specs.declared.affinity.Home.{Home}
-use Rattle.affinity.specs.declared.affinity.Home.TheVariants as homes
+use Rattle.affinity.specs.declared.affinity.CallNode.{CallNode}
+use Rattle.affinity.specs.declared.affinity.CallNode.TheVariants as homes
 use Rattle.affinity.specs.declared.affinity.Kind.{Kind}
 use Rattle.affinity.specs.declared.affinity.Kind.TheVariants as kinds
 
@@ -20,16 +20,16 @@ affinity_of (VolumeVbn volume) = trees.Vbn volume
 affinity_of (Range volume range) = trees.Range volume range
 
 -- a node at which calls run, among all nodes
-abbrev pub home_affinity : Home → Affinity
-home_affinity (homes.Stripe volume stripe) = Stripe volume stripe
-home_affinity (homes.Logical volume) = VolumeLogical volume
-home_affinity (homes.Volume volume) = Volume volume
-home_affinity (homes.Aggregate aggregate) = Aggregate aggregate
-home_affinity homes.Serial = Serial
+abbrev pub call_affinity : CallNode → Affinity
+call_affinity (homes.Stripe volume stripe) = Stripe volume stripe
+call_affinity (homes.Logical volume) = VolumeLogical volume
+call_affinity (homes.Volume volume) = Volume volume
+call_affinity (homes.Aggregate aggregate) = Aggregate aggregate
+call_affinity homes.Serial = Serial
 
 -- the same, as the model has it
-abbrev pub home_node : Home → trees.Affinity
-home_node home = affinity_of (home_affinity home)
+abbrev pub call_node : CallNode → trees.Affinity
+call_node home = affinity_of (call_affinity home)
 
 -- the kind of an affinity
 abbrev pub kind_of : trees.Affinity → Kind

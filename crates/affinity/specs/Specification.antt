@@ -8,7 +8,7 @@ use Rattle.affinity.specs.declared.specification.SizedVolumeSpec.{SizedVolumeSpe
 abbrev pub spare_of : AggregateSpec → ℕ
 spare_of a = a.spare
 
--- a volume with ranges of so many blocks, and so many inodes at most
+-- a volume with ranges of this many blocks, and this many inodes at most
 abbrev pub volume_with : (range_blocks inodes : ℕ) → VolumeSpec → trees.VolumeLayout
 volume_with range_blocks inodes v = record {
   aggregate = v.aggregate;

@@ -24,7 +24,7 @@ pub enum Affinity {
 /// A node at which calls run: any but a volume's block numbers and their ranges. A call's home is
 /// the one that it tries first.
 #[derive(Clone, Copy, Debug, PartialEq, Eq)]
-pub enum Home {
+pub enum CallNode {
     /// A part of the files' bytes.
     Stripe { volume: u32, stripe: u32 },
     /// The names and attributes of a volume.

@@ -41,7 +41,7 @@ pub fn parents_have_smaller_numbers()
 {}
 
 /// Two affinities exclude each other where they are one or one is above the other; of a layout's
-/// nodes just where a parcel is under both.
+/// nodes exactly when a parcel is under both.
 pub fn exclusion_is_sharing()
     ensures above { (layout : Layout) (a b : Affinity)
         → ((excludes layout a b ≡ true)
@@ -53,7 +53,7 @@ pub fn exclusion_is_sharing()
 {}
 
 /// Node numbers stand for nodes: what a node's number covers is the number of a node under it, and
-/// two numbers exclude each other just where their nodes do.
+/// two numbers exclude each other exactly when their nodes do.
 pub fn numbers_stand_for_nodes()
     ensures tree { (layout : Layout) → fault_of layout ≡ None → IsTree (parents layout) }
     ensures place { (layout : Layout) (a : Affinity)

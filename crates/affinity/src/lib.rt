@@ -15,7 +15,7 @@ mod sizes;
 mod specification;
 mod tree;
 
-pub use affinity::{Affinity, HasKind, Home, Kind};
+pub use affinity::{Affinity, CallNode, HasKind, Kind};
 pub use fault::LayoutFault;
 pub use layout::Layout;
 pub use rules::{MOST_AGGREGATES, MOST_RANGES, MOST_SPARE, MOST_VOLUMES};

@@ -1,9 +1,9 @@
 //! Names of affinities.
 
 ghost use Rattle.std.specs.Prelude.{Some};
-ghost use Rattle.affinity.specs.Affinity.{affinity_text, home_affinity};
+ghost use Rattle.affinity.specs.Affinity.{affinity_text, call_affinity};
 
-use crate::affinity::{Affinity, Home};
+use crate::affinity::{Affinity, CallNode};
 use std::fmt;
 
 impl fmt::Display for Affinity {
@@ -22,16 +22,16 @@ impl fmt::Display for Affinity {
     }
 }
 
-impl fmt::Display for Home {
-    ghost output = { λ h. Some (affinity_text (home_affinity h)) };
+impl fmt::Display for CallNode {
+    ghost output = { λ h. Some (affinity_text (call_affinity h)) };
 
     fn fmt<W: fmt::Write>(&self, f: &mut fmt::Formatter<W>) -> fmt::Result {
         match *self {
-            Home::Stripe { volume, stripe } => write!(f, "stripe {volume} {stripe}"),
-            Home::Logical(volume) => write!(f, "logical {volume}"),
-            Home::Volume(volume) => write!(f, "volume {volume}"),
-            Home::Aggregate(aggregate) => write!(f, "aggregate {aggregate}"),
-            Home::Serial => write!(f, "serial"),
+            CallNode::Stripe { volume, stripe } => write!(f, "stripe {volume} {stripe}"),
+            CallNode::Logical(volume) => write!(f, "logical {volume}"),
+            CallNode::Volume(volume) => write!(f, "volume {volume}"),
+            CallNode::Aggregate(aggregate) => write!(f, "aggregate {aggregate}"),
+            CallNode::Serial => write!(f, "serial"),
         }
     }
 }

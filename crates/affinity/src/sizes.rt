@@ -71,7 +71,7 @@ const RANGE_SIZES: [u32; 15] = [
     2_097_152, 4_194_304, 8_388_608, 16_777_216,
 ];
 
-/// Whether a range may have so many blocks.
+/// Whether a range may have this many blocks.
 fn is_range_size(blocks: u32) -> bool
     ensures { result ≡ list_any (λ n. n == blocks) range_sizes }
 {

@@ -3,26 +3,26 @@
 ghost use Rattle.std.specs.Prelude.{◌≡◌, ◌↔◌, option_map, IsTrue, IsNone, IfSome};
 ghost use Rattle.nfs_model.specs.Tree as trees;
 ghost use Rattle.nfs_model.specs.Tree.{excludes};
-ghost use Rattle.affinity.specs.Affinity.{affinity_of, home_affinity, kind_of};
+ghost use Rattle.affinity.specs.Affinity.{affinity_of, call_affinity, kind_of};
 ghost use Rattle.affinity.specs.Layout.{layout_of};
 ghost use Rattle.affinity.specs.Tree.{IsNode, IsParent};
 ghost use Rattle.affinity.specs.Tree.{covers, is_above, parent_of, volume_in};
 ghost use Rattle.affinity.specs.Under.{ShareParcel};
 
-use crate::affinity::{Affinity, Home, Kind};
+use crate::affinity::{Affinity, CallNode, Kind};
 use crate::layout::Layout;
 
-impl Home {
+impl CallNode {
     /// The same node, as one of all nodes of the tree.
     pub fn node(self) -> Affinity
-        ensures { result ≡ home_affinity self }
+        ensures { result ≡ call_affinity self }
     {
         match self {
-            Home::Stripe { volume, stripe } => Affinity::Stripe { volume, stripe },
-            Home::Logical(volume) => Affinity::VolumeLogical(volume),
-            Home::Volume(volume) => Affinity::Volume(volume),
-            Home::Aggregate(aggregate) => Affinity::Aggregate(aggregate),
-            Home::Serial => Affinity::Serial,
+            CallNode::Stripe { volume, stripe } => Affinity::Stripe { volume, stripe },
+            CallNode::Logical(volume) => Affinity::VolumeLogical(volume),
+            CallNode::Volume(volume) => Affinity::Volume(volume),
+            CallNode::Aggregate(aggregate) => Affinity::Aggregate(aggregate),
+            CallNode::Serial => Affinity::Serial,
         }
     }
 }

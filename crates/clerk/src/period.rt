@@ -7,7 +7,7 @@ pub const MOST_MINUTES: u32 = 1_440;
 
 const MILLISECONDS_OF_A_MINUTE: u64 = 60_000;
 
-/// So many minutes lie between two lines of statistics.
+/// This many minutes lie between two lines of statistics.
 #[derive(Clone, Copy)]
 pub struct Period {
     pub minutes: u32,
@@ -19,7 +19,7 @@ impl Period {
     ghost use Rattle.std.specs.Prelude.{◌≡◌, ◌*◌, IfNone, IfSome};
     ghost use Rattle.clerk.specs.Periods.{AreMinutes};
 
-    /// So many minutes, from 1 to 1,440.
+    /// This many minutes, from 1 to 1,440.
     pub fn new(minutes: u32) -> Option<Period>
         ensures given { IfSome result (λ period. period.minutes ≡ minutes) }
         ensures in_range { IfSome result (λ period. AreMinutes minutes) }

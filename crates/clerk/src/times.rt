@@ -26,7 +26,7 @@ impl Times {
     ghost use Rattle.std.specs.Prelude.{IfNone, IfOk, IfSome, IsNone, None};
     ghost use Rattle.clerk.specs.Times.{times_in};
 
-    /// No call, and room for so many times.
+    /// No call, and room for this many times.
     pub fn new(alloc: Global, most: usize) -> Result<Times, AllocError>
         ensures { IfOk result (λ times. times_in times ≡ []) }
     {
@@ -36,7 +36,8 @@ impl Times {
         })
     }
 
-    /// So many calls came at a time. Answers whether that is kept: it isn't where memory runs out.
+    /// This many calls came at a time. Answers whether that is kept: it isn't where memory runs
+    /// out.
     pub fn put(&mut self, since: u64, calls: usize) -> bool
         ensures kept { result ≡ true
             → times_in self.new ≡ times_in self.old ++ replicate calls since }
@@ -61,7 +62,7 @@ impl Times {
         self.behind.pop_front()
     }
 
-    /// Takes the first calls, as many as came at one time, but at most so many.
+    /// Takes the first calls, as many as came at one time, but at most this many.
     pub fn take(&mut self, most: usize) -> Option<Span>
         ensures taken { IfSome result (λ span.
             times_in self.old ≡ replicate span.calls span.since ++ times_in self.new) }

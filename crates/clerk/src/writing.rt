@@ -81,7 +81,7 @@ impl Clerk {
         self.page.flush(err);
     }
 
-    /// Sleeps until it is woken, or for so many milliseconds.
+    /// Sleeps until it is woken, or for this many milliseconds.
     fn sleep<R: Clock>(&mut self, rt: &R, longest: Option<u64>) {
         let longest = longest.map(Duration::from_millis);
         if self.poll.poll(&mut self.events, longest).is_err() {

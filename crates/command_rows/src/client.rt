@@ -45,7 +45,7 @@ impl Client {
         sent.expect(rt, "a write");
     }
 
-    /// Sends words so many times over. Whether a write was held up.
+    /// Sends words this many times over. Whether a write was held up.
     pub(crate) fn send_many(
         &mut self,
         rt: &(impl Abort + AllocGlobal),

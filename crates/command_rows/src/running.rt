@@ -13,8 +13,8 @@ use std::time::Duration;
 /// How many seconds a line of a server's may take.
 const PATIENCE: u64 = 30;
 
-/// Runs a server of two volumes and so many workers at a port that the system picks, for so many
-/// connections. Its status.
+/// Runs a server of two volumes and this many workers at a port that the system picks, for this
+/// many connections. Its status.
 pub(crate) fn serve_by<R>(rt: R, workers: &str, connections: &str, mut out: UnixStream) -> u8
 where
     R: Files + AllocGlobal + Threads + Wait + Clock,

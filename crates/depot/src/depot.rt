@@ -44,7 +44,7 @@ fn parents_of(alloc: Global, layout: &Layout) -> Result<Vec<u64>, AllocError>
     Ok(parents)
 }
 
-/// The number of each node's parent, so many zeros, and an empty shelf for so many parcels.
+/// The number of each node's parent, this many zeros, and an empty shelf for this many parcels.
 fn room_for<T: Drop>(
     alloc: Global,
     layout: &Layout,

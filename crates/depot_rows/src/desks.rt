@@ -1,29 +1,29 @@
 //! Calls on nodes of each kind, and what other calls find in their midst.
 
 use crate::turns::{Turn, close, open, take_turn};
-use affinity::{Affinity, Home};
+use affinity::{Affinity, CallNode};
 use parcels::{Numbers, SerialHeld};
 use std::mem;
 
-const STRIPE: Home = Home::Stripe {
+const STRIPE: CallNode = CallNode::Stripe {
     volume: 0,
     stripe: 2,
 };
 
-const OTHER_STRIPE: Home = Home::Stripe {
+const OTHER_STRIPE: CallNode = CallNode::Stripe {
     volume: 0,
     stripe: 3,
 };
 
 /// Where a call adds 5, what another asks for in its midst, the number of that one's refusal, and
 /// the sum.
-const ROWS: [(Home, Home, Option<u32>, Option<u64>); 6] = [
-    (STRIPE, Home::Volume(0), Some(21), Some(5)),
+const ROWS: [(CallNode, CallNode, Option<u32>, Option<u64>); 6] = [
+    (STRIPE, CallNode::Volume(0), Some(21), Some(5)),
     (STRIPE, OTHER_STRIPE, None, Some(10)),
-    (Home::Logical(0), Home::Logical(1), None, None),
-    (Home::Volume(0), STRIPE, Some(21), None),
-    (Home::Aggregate(0), Home::Logical(0), Some(21), None),
-    (Home::Serial, STRIPE, Some(21), None),
+    (CallNode::Logical(0), CallNode::Logical(1), None, None),
+    (CallNode::Volume(0), STRIPE, Some(21), None),
+    (CallNode::Aggregate(0), CallNode::Logical(0), Some(21), None),
+    (CallNode::Serial, STRIPE, Some(21), None),
 ];
 
 /// The number of volume 0's stripe 2.

@@ -61,7 +61,7 @@ pub fn close_joined(rt: &impl Abort, alloc: Global) -> u64 {
     own
 }
 
-/// How many seats can be split off, up to so many, and the number of the refusal after these.
+/// How many seats can be split off, up to this many, and the number of the refusal after these.
 pub fn splits(depot: &Depot<Adding>, mut seat: Seat<Adding>, most: usize) -> (usize, u32)
     requires seat { IsSeatHere depot.now seat }
 {

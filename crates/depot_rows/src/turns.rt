@@ -1,14 +1,14 @@
 //! Calls on a desk of numbers, from begin to end.
 
 ghost use Rattle.std.specs.Prelude.{◌≡◌, ◌≢◌, ◌↔◌, ℕ, true, IfSome};
-ghost use Rattle.affinity.specs.Affinity.{home_node};
+ghost use Rattle.affinity.specs.Affinity.{call_node};
 ghost use Rattle.affinity.specs.Tree.{IsNode};
 ghost use Rattle.desk.specs.laws.Books.{IsIdle};
 ghost use Rattle.desk.specs.laws.Calls.{AreIdle, MayPutBack};
 ghost use Rattle.desk.specs.Words.{books, IsKept};
 
 use crate::adder::Adder;
-use affinity::Home;
+use affinity::CallNode;
 use depot::trial::adding::{Adding, Change, all_of, volumes};
 use depot_rule::machine::Machine;
 use desk::{Desk, NodeKinds, ParcelKinds};
@@ -26,7 +26,7 @@ pub(crate) struct Turn {
     pub(crate) sum: Option<u64>,
 }
 
-/// A desk with two volumes in which each parcel is 0, and so many idle workers.
+/// A desk with two volumes in which each parcel is 0, and this many idle workers.
 pub(crate) fn open(rt: &(impl Abort + AllocGlobal), workers: usize) -> Counters
     ensures { IsKept result }
 {
@@ -39,10 +39,10 @@ pub(crate) fn open(rt: &(impl Abort + AllocGlobal), workers: usize) -> Counters
 fn is_ready<M: Machine, K: NodeKinds<M::Parcel>>(
     desk: &Desk<M, K>,
     worker: usize,
-    home: Home,
+    home: CallNode,
 ) -> bool
     ensures idle { result ≡ true → IsIdle (books desk.now) worker }
-    ensures node { result ≡ true → IsNode (books desk.now).layout (home_node home) }
+    ensures node { result ≡ true → IsNode (books desk.now).layout (call_node home) }
 {
     if !desk.is_idle(worker) {
         return false;
@@ -54,10 +54,10 @@ fn is_ready<M: Machine, K: NodeKinds<M::Parcel>>(
 fn ask<M: Machine, K: NodeKinds<M::Parcel>>(
     desk: &mut Desk<M, K>,
     worker: usize,
-    home: Home,
+    home: CallNode,
 ) -> Option<u32>
     requires kept { IsKept desk.old }
-    requires node { IsNode (books desk.old).layout (home_node home) }
+    requires node { IsNode (books desk.old).layout (call_node home) }
     requires idle { IsIdle (books desk.old) worker }
     ensures kept { IsKept desk.new }
     ensures others { (other : ℕ) → other ≢ worker
@@ -79,9 +79,9 @@ fn ask<M: Machine, K: NodeKinds<M::Parcel>>(
 fn begin_beside<M: Machine, K: NodeKinds<M::Parcel>>(
     desk: &mut Desk<M, K>,
     worker: usize,
-    home: Home,
+    home: CallNode,
     other: usize,
-    asked: Home,
+    asked: CallNode,
 ) -> Option<Option<u32>>
     requires kept { IsKept desk.old }
     ensures kept { IsKept desk.new }
@@ -122,7 +122,7 @@ fn add(desk: &mut Counters, worker: usize, number: u64) -> Option<u64>
 pub(crate) fn take_turn(
     desk: &mut Counters,
     workers: [usize; 2],
-    homes: [Home; 2],
+    homes: [CallNode; 2],
     number: u64,
 ) -> Option<Turn>
     requires kept { IsKept desk.old }

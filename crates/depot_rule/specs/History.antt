@@ -23,7 +23,7 @@ patched parents a inner outer k = if_less (covers parents a k) (inner k) (outer 
 abbrev pub listed : {P : Type 0} → List (Option P) → ℕ → Option P
 listed ys k = slice_index_or ys k None
 
--- parcels by node as a list, of so many places
+-- parcels by node as a list, of this many places
 abbrev pub by_number : {P : Type 0} → (ℕ → Option P) → ℕ → List (Option P)
 by_number f zero = []
 by_number f (suc n) = by_number f n ++ f n ∷ []

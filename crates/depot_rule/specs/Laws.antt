@@ -56,7 +56,7 @@ module _ (P E : Type 0) where
   GrantsHaveEntered = (kind_of : P → Kind) (parents : List ℕ) (first : List (Option P)) (s : State (Option P) (List (View P E))) → Base kind_of parents first s
       → (j i b a : ℕ) → IsOpen s.views j i b → 0 < tally a (ancestors parents b) → (0 < slice_index s.words a) × (slice_index s.words a < exclusive)
 
-  -- a word has its exclusive part just where a grant of that very node is open
+  -- a word has its exclusive part exactly when a grant of that very node is open
   abbrev pub ExclusiveIsGranted : Type 0
   ExclusiveIsGranted = (kind_of : P → Kind) (parents : List ℕ) (first : List (Option P)) (s : State (Option P) (List (View P E))) → Base kind_of parents first s
       → (a : ℕ) → 0 < a → a < length parents

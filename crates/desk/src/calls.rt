@@ -11,14 +11,14 @@ use crate::taken::is_taken;
 use crate::task::Task;
 use crate::work_on::{WorkOn, work_on_node};
 use crate::working::work_in;
-use affinity::{Affinity, Home};
+use affinity::{Affinity, CallNode};
 use depot::{Entered, Refusal as Refused};
 use depot_rule::machine::Machine;
 use parcels::Node;
 
 impl<M: Machine, K: NodeKinds<M::Parcel>> Desk<M, K> {
     ghost use Rattle.std.specs.Prelude.{OnOk, IfOk, IfErr};
-    ghost use Rattle.affinity.specs.Affinity.{affinity_of, home_node};
+    ghost use Rattle.affinity.specs.Affinity.{affinity_of, call_node};
     ghost use Rattle.affinity.specs.Tree.{IsNode};
     ghost use Rattle.depot.specs.Words.{IsNodeOf};
     ghost use Rattle.desk.specs.laws.Books.{IsIdle};
@@ -31,14 +31,14 @@ impl<M: Machine, K: NodeKinds<M::Parcel>> Desk<M, K> {
     /// Lends the parcels under a node to an idle worker, unless something that is lent excludes it
     /// or 2^62 calls were finished. It takes no memory.
     #[inline(never)]
-    pub fn begin(&mut self, worker: usize, home: Home) -> Result<(), Refusal>
+    pub fn begin(&mut self, worker: usize, home: CallNode) -> Result<(), Refusal>
         requires kept { IsKept self.old }
-        requires node { IsNode (books self.old).layout (home_node home) }
+        requires node { IsNode (books self.old).layout (call_node home) }
         requires idle { IsIdle (books self.old) worker }
         ensures kept { IsKept self.new }
         ensures begun { OnOk result
-            (HasBegun (books self.old) worker (home_node home) (books self.new)) }
-        ensures refused { IfErr result (IsRefused (books self.old) (home_node home)) }
+            (HasBegun (books self.old) worker (call_node home) (books self.new)) }
+        ensures refused { IfErr result (IsRefused (books self.old) (call_node home)) }
         ensures same { IfErr result (λ refusal. books self.new ≡ books self.old) }
     {
         match begin_in(&self.depot, &mut self.seat, home, &mut self.slots[worker]) {

@@ -1,7 +1,7 @@
 //! Grants of nodes of any kind, begun and ended in a worker's slot.
 
 ghost use Rattle.std.specs.Prelude.{◌≡◌, Some, None, OnOk, IfErr, IsSomeAnd};
-ghost use Rattle.affinity.specs.Affinity.{affinity_of, home_affinity, home_node};
+ghost use Rattle.affinity.specs.Affinity.{affinity_of, call_affinity, call_node};
 ghost use Rattle.affinity.specs.Numbers.{number_of};
 ghost use Rattle.affinity.specs.Tree.{IsNode};
 ghost use Rattle.depot.specs.Grants.{entry_of, IsEnded, IsFinished, IsRefused};
@@ -16,7 +16,7 @@ use crate::kinds::NodeKinds;
 use crate::nodes::{begin_node, finish_node, put_back_node};
 use crate::putting::{put_large, put_small};
 use crate::slot::Slot;
-use affinity::{Affinity, Home};
+use affinity::{Affinity, CallNode};
 use depot::{Depot, Entered, Refusal, Seat};
 use depot_rule::machine::Machine;
 
@@ -79,41 +79,41 @@ fn begin_serial<M: Machine, K: NodeKinds<M::Parcel>>(
 pub(crate) fn begin_in<M: Machine, K: NodeKinds<M::Parcel>>(
     depot: &Depot<M>,
     seat: &mut Seat<M>,
-    home: Home,
+    home: CallNode,
     slot: &mut Slot<M::Parcel, K>,
 ) -> Result<(), Refusal>
     requires seat { IsSeatHere depot.now seat.old }
-    requires node { IsNode (layout_in depot.now) (home_node home) }
+    requires node { IsNode (layout_in depot.now) (call_node home) }
     requires idle { granted slot.old ≡ None }
     ensures seat { IsSeatHere depot.now seat.new }
     ensures splits { splits_left seat.new ≡ splits_left seat.old }
     ensures granted { let L = layout_in depot.now in OnOk result ((lends : _)
         × (granted slot.new ≡ Some lends)
-        × IsGranted M.Parcel.kind (machine_of seat.old) L (view seat.old) (home_node home)
+        × IsGranted M.Parcel.kind (machine_of seat.old) L (view seat.old) (call_node home)
         (lends L) (view seat.new)) }
     ensures refused { IfErr result (λ refusal. IsRefused (layout_in depot.now) (view seat.old)
-        (home_affinity home) refusal (view seat.new)) }
+        (call_affinity home) refusal (view seat.new)) }
     ensures idle { IfErr result (λ refusal. granted slot.new ≡ None) }
 {
     match home {
-        Home::Stripe { volume, stripe } => {
+        CallNode::Stripe { volume, stripe } => {
             let affinity = Affinity::Stripe { volume, stripe };
             let node = begin_node::<M, K::Stripe>(depot, seat, affinity)?;
             put_small(slot, SmallGrant::Stripe(node));
         }
-        Home::Logical(volume) => {
+        CallNode::Logical(volume) => {
             let affinity = Affinity::VolumeLogical(volume);
             let node = begin_node::<M, K::Logical>(depot, seat, affinity)?;
             put_small(slot, SmallGrant::Logical(node));
         }
-        Home::Volume(volume) => {
+        CallNode::Volume(volume) => {
             let node = begin_node::<M, K::Volume>(depot, seat, Affinity::Volume(volume))?;
             put_small(slot, SmallGrant::Volume(node));
         }
-        Home::Aggregate(aggregate) => {
+        CallNode::Aggregate(aggregate) => {
             begin_aggregate(depot, seat, Affinity::Aggregate(aggregate), slot)?;
         }
-        Home::Serial => begin_serial(depot, seat, Affinity::Serial, slot)?,
+        CallNode::Serial => begin_serial(depot, seat, Affinity::Serial, slot)?,
     }
     Ok(())
 }

@@ -13,7 +13,7 @@ use depot_rule::machine::Machine;
 use parcels::Node;
 use std::alloc::{AllocError, Global};
 
-/// The slots of so many idle workers.
+/// The slots of this many idle workers.
 fn idle_slots<T: HasKind, K: NodeKinds<T>>(
     alloc: Global,
     count: usize,
@@ -37,7 +37,7 @@ impl<M: Machine, K: NodeKinds<M::Parcel>> Desk<M, K> {
     ghost use Rattle.desk.specs.laws.Books.{opening_books};
     ghost use Rattle.desk.specs.Words.{books, IsKept};
 
-    /// A desk of a layout with the parcels of all nodes, and so many idle workers.
+    /// A desk of a layout with the parcels of all nodes, and this many idle workers.
     pub fn new(
         alloc: Global,
         layout: Layout,

@@ -30,7 +30,8 @@ pub struct Guesses {
     words: Vec<u32>,
     /// The low bits of a word, in which it has a slot: those that tell the words apart.
     mask: u32,
-    /// How far the index has been gone through since there are so many words, or the most if whole.
+    /// How far the index has been gone through since there are this many words, or the most if
+    /// whole.
     seen: usize,
     /// Where in the index the last search ended: a call that adds or removes a name looks it up
     /// first.
@@ -141,7 +142,7 @@ impl Guesses {
     }
 }
 
-/// So many words without a guess.
+/// This many words without a guess.
 fn zeros(alloc: Global, size: usize) -> Result<Vec<u32>, AllocError> {
     vec![in alloc; 0; size]
 }

@@ -145,7 +145,7 @@ pub fn guess_place(index: &Sequence<Spot>, hash: u32) -> usize {
 }
 
 /// How many of some spots have lower hashes than one, if they are in the order of these: at first
-/// so many are guessed.
+/// this many are guessed.
 fn lower_in(spots: &[Spot], hash: u32, guess: usize) -> usize {
     let guess = guess.min(spots.len());
     match spots[guess..].iter().position(|spot| spot.hash >= hash) {
@@ -159,14 +159,14 @@ fn lower_in(spots: &[Spot], hash: u32, guess: usize) -> usize {
     }
 }
 
-/// How many of so many hashes are below one, if they are spread evenly.
+/// How many of this many hashes are below one, if they are spread evenly.
 fn share(hash: u32, size: usize) -> usize
     ensures { result < 2 ^ 32 }
 {
     (hash as usize).wrapping_mul(size) / (1 << 32)
 }
 
-/// How many of so many hashes are in the front of a gap, if they are spread evenly in it.
+/// How many of this many hashes are in the front of a gap, if they are spread evenly in it.
 fn share_of(front: u32, gap: u32, size: usize) -> usize {
     (front as usize).wrapping_mul(size) / (gap as usize + 1)
 }

@@ -15,7 +15,7 @@ use Rattle.nfs_model.specs.Events.Refusals.{Begin, is_idle, is_bad_moment, refus
 use Rattle.nfs_model.specs.Tree.{Affinity}
 use Rattle.nfs_values.specs.Moment.{moment_of}
 use Rattle.nfs_values.specs.declared.call.Call.{Call}
-use Rattle.affinity.specs.declared.affinity.Home.{Home}
+use Rattle.affinity.specs.declared.affinity.CallNode.{CallNode}
 use Rattle.scheduler.specs.declared.message.Message.{Message}
 use Rattle.filer_state.specs.state.Contents.{filer_contents}
 use Rattle.filer_state.specs.state.Tree.{server_of}
@@ -83,7 +83,7 @@ idle-lent {P} {C} {R} job told setup w b s i k there idle =
     none (Some l) run = absurd run
 
 -- the message that tries what was told of a place
-pub found-message : (a : Home) (o : Option (Message Call)) → Some a ≡ option_map (λ (m : Message Call). m.affinity) o
+pub found-message : (a : CallNode) (o : Option (Message Call)) → Some a ≡ option_map (λ (m : Message Call). m.affinity) o
     → (m : Message Call) × (o ≡ Some m) × (a ≡ m.affinity)
 found-message a None e = absurd cc
 found-message a (Some m) e = (m, refl, (let same : a ≡ m.affinity = cc in same))
@@ -141,7 +141,7 @@ module _ {P C R : Type 0} (b c : FilerBooks P C R) (i : ℕ) (a : Affinity) (h :
 
 -- ---- lists of messages
 
-pub tried-affinity : (a : Home) (o : Option (Message Call)) (m : Message Call) → Some a ≡ option_map (λ (x : Message Call). x.affinity) o → o ≡ Some m
+pub tried-affinity : (a : CallNode) (o : Option (Message Call)) (m : Message Call) → Some a ≡ option_map (λ (x : Message Call). x.affinity) o → o ≡ Some m
     → a ≡ m.affinity
 tried-affinity a o m told there = inner a m.affinity (told ∙ ap (λ p. option_map (λ (x : Message Call). x.affinity) p) there)
 

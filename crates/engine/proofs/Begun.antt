@@ -9,8 +9,8 @@ use Rattle.nfs_model.specs.Events.Step.{begun}
 use Rattle.nfs_values.specs.declared.call.Call.{Call}
 use Rattle.nfs_values.specs.declared.moment.Moment.{Moment}
 use Rattle.nfs_values.specs.Moment.{moment_of}
-use Rattle.affinity.specs.declared.affinity.Home.{Home}
-use Rattle.affinity.specs.Affinity.{home_node}
+use Rattle.affinity.specs.declared.affinity.CallNode.{CallNode}
+use Rattle.affinity.specs.Affinity.{call_node}
 use Rattle.scheduler.specs.declared.message.Message.{Message}
 use Rattle.depot_rule.specs.Sums.{total}
 use Rattle.filer_state.specs.state.Contents.{filer_contents}
@@ -43,7 +43,7 @@ use Rattle.engine.proofs.Changed.{IsChanged, same_setup, run_count, run_weight, 
 
 -- ---- it is refused
 
-module _ (s : State) (sound : IsSoundEngine s) (i place : ℕ) (moment : Moment) (a : Home) (free : is_idle (slice_get (world s).workers i) ≡ true)
+module _ (s : State) (sound : IsSoundEngine s) (i place : ℕ) (moment : Moment) (a : CallNode) (free : is_idle (slice_get (world s).workers i) ≡ true)
     (told : Some a ≡ option_map (λ (m : Message Call). m.affinity) (slice_get s.calls.waiting place)) where
   message : (m : Message Call) × (slice_get s.calls.waiting place ≡ Some m) × (a ≡ m.affinity)
   message = found-message a (slice_get s.calls.waiting place) told
@@ -55,13 +55,13 @@ module _ (s : State) (sound : IsSoundEngine s) (i place : ℕ) (moment : Moment)
   late_refused late = bad-moment (setup_in s) (world s) i place (moment_of moment) (message_of message.0) free at_place late
 
   module _ (early : moment.nanoseconds < 1000000000) where
-    pub taken_refused : IsTaken (books s.desk) (home_node a) → refusal (setup_in s) (world s) (events.Begin i place (moment_of moment)) ≡ Some 21
+    pub taken_refused : IsTaken (books s.desk) (call_node a) → refusal (setup_in s) (world s) (events.Begin i place (moment_of moment)) ≡ Some 21
     taken_refused taken = begin-taken job_of job_reply_of (setup_in s) (world s) (books s.desk) sound.stands i place (moment_of moment) (message_of message.0)
-        free at_place (good-moment (moment_of moment) early) (subst (λ (x : Home). IsTaken (books s.desk) (home_node x)) message.2 taken)
+        free at_place (good-moment (moment_of moment) early) (subst (λ (x : CallNode). IsTaken (books s.desk) (call_node x)) message.2 taken)
 
-    pub worn_refused : desks.IsWorn (books s.desk) (home_node a) → refusal (setup_in s) (world s) (events.Begin i place (moment_of moment)) ≡ Some 22
+    pub worn_refused : desks.IsWorn (books s.desk) (call_node a) → refusal (setup_in s) (world s) (events.Begin i place (moment_of moment)) ≡ Some 22
     worn_refused worn = begin-worn job_of job_reply_of (setup_in s) (world s) (books s.desk) sound.stands i place (moment_of moment) (message_of message.0)
-        free at_place (good-moment (moment_of moment) early) (subst (λ (x : Home). desks.IsWorn (books s.desk) (home_node x)) message.2 worn)
+        free at_place (good-moment (moment_of moment) early) (subst (λ (x : CallNode). desks.IsWorn (books s.desk) (call_node x)) message.2 worn)
 
 -- ---- it begins
 
@@ -69,7 +69,7 @@ module _ (s new : State) (sound : IsSoundEngine s) (i place : ℕ) (r : Running)
     (h : IsChanged s new i (worker_with Idle hand) (worker_with (Begun r) hand))
     (connections : held_in new ≡ held_in s) (keyed : AreKeyed new.connections.items new.slab)
     (opened : slab_len new.slab ≡ slab_len s.slab) (kept : IsKept new.desk)
-    (begins : desks.HasBegun (books s.desk) i (home_node r.message.affinity) (books new.desk)) (takes : HasBegun s.calls place r.message new.calls) where
+    (begins : desks.HasBegun (books s.desk) i (call_node r.message.affinity) (books new.desk)) (takes : HasBegun s.calls place r.message new.calls) where
   waits : slice_get (world s).waiting place ≡ Some (message_of r.message)
   waits = waits-at s.calls place r.message takes.there
 
@@ -94,7 +94,7 @@ module _ (s new : State) (sound : IsSoundEngine s) (i place : ℕ) (r : Running)
   begun_stand : StandsFor job_of job_reply_of (setup_in s) (world new) (books new.desk)
   begun_stand =
       subst (λ w. StandsFor job_of job_reply_of (setup_in s) w (books new.desk)) (sym begun_is)
-      (begun-stands (setup_in s) job_of job_reply_of (world s) (books s.desk) sound.stands (home_node r.message.affinity) (books new.desk) i begins
+      (begun-stands (setup_in s) job_of job_reply_of (world s) (books s.desk) sound.stands (call_node r.message.affinity) (books new.desk) i begins
       (book-apart _ (books new.desk) _ kept) place (message_of r.message) (moment_of r.moment) refl)
 
   as_many_run : length (running_messages new.workers.items) ≡ running_count new.calls

@@ -168,7 +168,7 @@ none-left (k ∷ ks) zero past = absurd (omega (arith, past))
 none-left (k ∷ ks) (suc i) past = none-left ks i (omega (arith, past))
 
 module _ (v : ℕ) (ks : List Worker) where
-  -- so many blocks are carried by the workers before one
+  -- this many blocks are carried by the workers before one
   abbrev pub CarriedSoFar : ℕ → ℕ → Type 0
   CarriedSoFar i n =
       (n ≤ 64 * i) × (n + length (hands_blocks v (map worker_seen (drop i ks))) ≡ length (hands_blocks v (map worker_seen ks)))

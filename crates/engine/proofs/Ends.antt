@@ -114,7 +114,7 @@ finished-as setup w i r outcome reply starved is = ⊎_elim
     ∙ (λ j. finish setup (stamp_added (without_call w i)) (finished_call r (sym t.2 j)) (reply_of (sym t.1 j))))
     is
 
--- and tells so many bytes
+-- and tells this many bytes
 pub told-as : (setup : Setup) (w : World) (r : worlds.Running) (outcome : Outcome) (reply : Reply) (starved : Bool) → ToldAs outcome reply starved
     → told_of setup w r (outcome_of outcome) ≡ Written r.message.connection (length (bytes_of_reply setup w r.message (reply_of reply)))
 told-as setup w r outcome reply starved is = ⊎_elim

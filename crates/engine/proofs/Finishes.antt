@@ -13,8 +13,8 @@ use Rattle.nfs_values.specs.declared.call.Call.{Call}
 use Rattle.nfs_values.specs.declared.reply.Reply.{Reply}
 use Rattle.nfs_values.specs.Moment.{moment_of}
 use Rattle.nfs_values.specs.Reply.{reply_of}
-use Rattle.affinity.specs.declared.affinity.Home.{Home}
-use Rattle.affinity.specs.Affinity.{home_node}
+use Rattle.affinity.specs.declared.affinity.CallNode.{CallNode}
+use Rattle.affinity.specs.Affinity.{call_node}
 use Rattle.scheduler.specs.declared.message.Message.{Message}
 use Rattle.depot_rule.specs.Sums.{total}
 use Rattle.depot_rule.specs.lemmas.Sums.{total-append}
@@ -68,7 +68,7 @@ abbrev came : Running → Outcome → worlds.Running
 came r o = running_as r (Some (outcome_of o))
 
 -- the message that waits again, at the affinity that it moved to
-abbrev pub again : Running → Home → Message Call
+abbrev pub again : Running → CallNode → Message Call
 again r a = record r.message { affinity = a }
 
 -- the books of a state's desk
@@ -115,14 +115,14 @@ module _ (s : State) (sound : IsSoundEngine s) (i : ℕ) (r : Running) (o : Outc
 
   -- ---- it moves
 
-  module _ (a : Home) (is : o ≡ Moved a) where
+  module _ (a : CallNode) (is : o ≡ Moved a) where
     -- what it was lent may go home
     pub may_go_back : MayPutBack (held s) i
     may_go_back = record {
       lent = lent.0;
       is_lent = lent.1;
       unchanged = moved-unchanged job_of job_reply_of (setup_in s) (world s) (held s) sound.stands i (worker_seen ran) seen (came r o) refl
-          (outcome_of o) refl lent.0 lent.1 (home_node a) (ap outcome_of is);
+          (outcome_of o) refl lent.0 lent.1 (call_node a) (ap outcome_of is);
     }
 
     moves : MayEnd (layout_in s.calls) r.message (Moved a)
@@ -142,10 +142,10 @@ module _ (s : State) (sound : IsSoundEngine s) (i : ℕ) (r : Running) (o : Outc
       back_stamps : stamps (held new) ≡ stamps (held s)
       back_stamps = ap (λ (x : FilerBooks Files Job JobReply). stamps x) back.books
 
-      back_is : world new ≡ finished_by (setup_in s) (world s) i (came r o) (tasks.Moved (home_node a))
+      back_is : world new ≡ finished_by (setup_in s) (world s) i (came r o) (tasks.Moved (call_node a))
       back_is = back-world (world s) s.calls new.calls (again r a) (record { waiting = refl; finished = refl }) waits (setup_in s) (held_in new)
           (ap (λ (cs : List Held). map connection_seen cs) connections) s.workers.items new.workers.items i (Worked r o) hand refl there h.set
-          (came r o) (home_node a) refl
+          (came r o) (call_node a) refl
           (server_of (filer_contents (held new).layout (now (held new)))) (all_parts (filer_contents (held new).layout (now (held new)))) (stamps (held new))
           (server-kept (held s) (held new) back_layout back.same) (parts-kept (held s) (held new) back_layout back.same) back_stamps
 

@@ -54,7 +54,7 @@ idle-ready : (layout : Layout) (connections n : ℕ) → AllByRecursion (IsReady
 idle-ready layout connections zero = tt
 idle-ready layout connections (suc n) = ((tt, tt), idle-ready layout connections n)
 
--- so many idle workers: how many they are, what is seen of them, and what they run
+-- this many idle workers: how many they are, what is seen of them, and what they run
 module _ (ks : List workers.Worker) (n : ℕ) (are : ks ≡ replicate n idle_worker) where
   idle-count : length ks ≡ n
   idle-count = ap (λ (xs : List workers.Worker). length xs) are ∙ length-replicate n idle_worker

@@ -14,7 +14,7 @@ use Rattle.nfs_model.specs.Events.Feed.{Feeds, feeding}
 use Rattle.nfs_model.specs.Events.Refusals as events
 use Rattle.nfs_model.specs.Events.Refusals.{open_count, takes_input}
 use Rattle.nfs_values.specs.declared.call.Call.{Call}
-use Rattle.affinity.specs.Affinity.{home_node}
+use Rattle.affinity.specs.Affinity.{call_node}
 use Rattle.scheduler.specs.declared.message.Message.{Message}
 use Rattle.depot_rule.specs.Sums.{total}
 use Rattle.depot_rule.specs.lemmas.Sums.{total-append}
@@ -101,7 +101,7 @@ placed-more layout n (m ∷ ms) admitted known at_home = (
   record {
     admitted = admitted.0;
     known = known.0;
-    run = at-home layout m.call (home_node m.affinity) at_home.0;
+    run = at-home layout m.call (call_node m.affinity) at_home.0;
   },
   placed-more layout n ms admitted.1 known.1 at_home.1,
 )
@@ -316,7 +316,7 @@ module _ (s : State) (sound : IsSoundEngine s) (i key : ℕ) (at : slice_get s.c
     pub untaken-sound : IsSoundEngine given
     untaken-sound = unfed-sound s given i (Open r.before) (Open r.after) stood set_none r.receives.1 r.receives.2 keyed_none many_none refl sound
 
-  -- or so many
+  -- or this many
   module _ (stays : WithoutHomeStays) (taken : ℕ) (stop : Stop) (r : ReceivesUnder s.offer s.calls s.slab key i bytes (Some (taken, stop)) calls' slab') where
     stands : slice_get (held_in s) i ≡ Some (Open r.before)
     stands = found-open s.connections.items s.slab i key r.before at r.was

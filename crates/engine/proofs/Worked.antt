@@ -21,7 +21,7 @@ use Rattle.nfs_values.specs.declared.call.Call.{Call}
 use Rattle.nfs_values.specs.Call.{call_of}
 use Rattle.nfs_values.specs.Credential.{credential_of}
 use Rattle.nfs_values.specs.Reply.{reply_of}
-use Rattle.affinity.specs.Affinity.{home_node}
+use Rattle.affinity.specs.Affinity.{call_node}
 use Rattle.scheduler.specs.declared.message.Message.{Message}
 use Rattle.depot_rule.specs.Shares.{too_many}
 use Rattle.filer_state.specs.state.Parcels.{FilerParcel}
@@ -98,7 +98,7 @@ roomy-now begins stays setup w eight is =
 -- what a message came to may be told
 pub may-end : RepliesFit → (layout : Layout) (m : Message Call) → IsAdmitted layout m → (moment : Moment) (store after : Store)
     → IsRoomy (length layout.volumes) store.server → (o : Outcome)
-    → Works (record { asked = Ask (call_of m.call) (credential_of m.credential); affinity = home_node m.affinity; moment = moment }) store (outcome_of o)
+    → Works (record { asked = Ask (call_of m.call) (credential_of m.credential); affinity = call_node m.affinity; moment = moment }) store (outcome_of o)
     after
     → MovesOn layout m.call (outcome_of o) → MayEnd layout m o
 may-end fit layout m admitted moment store after roomy (Replied reply) works moves = λ form.

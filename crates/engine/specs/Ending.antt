@@ -7,7 +7,7 @@ use Rattle.nfs_values.specs.declared.call.Call.{Call}
 use Rattle.nfs_values.specs.declared.reply.Reply.{Reply}
 use Rattle.nfs_values.specs.declared.moment.Moment.{Moment}
 use Rattle.nfs_values.specs.Moment.{moment_of}
-use Rattle.affinity.specs.declared.affinity.Home.{Home}
+use Rattle.affinity.specs.declared.affinity.CallNode.{CallNode}
 use Rattle.scheduler.specs.declared.message.Origin.{Origin}
 use Rattle.scheduler.specs.declared.message.Message.{Message}
 use Rattle.service.specs.declared.job.Job.{Job}
@@ -30,7 +30,7 @@ use Rattle.engine.specs.Seen.{connection_seen}
 
 -- ---- the entry
 
-abbrev pub served_made : Origin → Call → Credential → Home → Moment → Bool → ServedCall
+abbrev pub served_made : Origin → Call → Credential → CallNode → Moment → Bool → ServedCall
 served_made origin call credential affinity moment starved = record {
   connection = origin.connection;
   number = origin.number;
@@ -52,7 +52,7 @@ answer_made reply = Replied reply
 -- ---- the connection
 
 -- a message is finished in every world of which these calls and its connection are a part, by each codec that spells its reply as this one
--- is told, and so many bytes were written
+-- is told, and this many bytes were written
 abbrev pub EndsIn : CallsState → Held → Running → types.Reply → Bool → ℕ → CallsState → Held → Type 0
 EndsIn calls place r told starved count calls' place' =
     (setup : Setup) (w : World) (reply : types.Reply)

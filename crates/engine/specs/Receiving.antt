@@ -17,7 +17,7 @@ use Rattle.engine.specs.Seen.{connection_seen}
 abbrev pub takes_bytes : Offer → Held → Bool
 takes_bytes offer c = is_none (connection_seen c).closed && is_none (scan_stream offer (connection_seen c).stream).fault
 
--- so many of the bytes were taken, and this stopped the taking
+-- this many of the bytes were taken, and this stopped the taking
 pub record IsFed (offer : Offer) (calls : CallsState) (old : Held) (number : ℕ) (bytes : List ℕ) (taken : ℕ) (stop : Stop)
     (calls' : CallsState) (new : Held) : Type 0 where
   pub before : ConnectionState

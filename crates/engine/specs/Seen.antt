@@ -6,7 +6,7 @@ use Rattle.nfs_model.specs.World as worlds
 use Rattle.nfs_model.specs.Events.Refusals as events
 use Rattle.rpc_msg.specs.declared.offer.Offer.{Offer}
 use Rattle.nfs_values.specs.Moment.{moment_of}
-use Rattle.affinity.specs.Affinity.{home_node}
+use Rattle.affinity.specs.Affinity.{call_node}
 use Rattle.desk.specs.laws.Books.{now, stamps}
 use Rattle.desk.specs.Words.{books}
 use Rattle.filer_state.specs.state.Contents.{filer_contents}
@@ -58,7 +58,7 @@ worker_seen k = record { running = running_seen k.run; hand = k.hand }
 
 -- ---- the world
 
--- what is fixed for a run of so many workers
+-- what is fixed for a run of this many workers
 abbrev pub setup_of : Offer → Layout → List ℕ → ℕ → worlds.Setup
 setup_of offer layout verifier workers =
     record { codec = codec offer; layout = layout; verifier = verifier; workers = workers; connections = 64 }
@@ -95,10 +95,10 @@ abbrev pub done_of : Done → events.Done
 done_of (dones.Opened connection) = events.Opened connection.0
 done_of (dones.Fed taken stop) = events.Fed taken (stop_number stop)
 done_of dones.Closed = events.IsClosed
-done_of (dones.Granted affinity) = events.Granted (home_node affinity)
+done_of (dones.Granted affinity) = events.Granted (call_node affinity)
 done_of dones.Replied = events.HasReply
 done_of dones.Starved = events.IsStarved
-done_of (dones.Moved affinity) = events.HasMove (home_node affinity)
+done_of (dones.Moved affinity) = events.HasMove (call_node affinity)
 done_of (dones.Written connection count) = events.Written connection.0 count
 done_of dones.PutBack = events.IsBack
 done_of (dones.InHand count) = events.HandHas count

@@ -55,7 +55,7 @@ Does old event answer new = Events (setup_in old) old.world event (answer_of ans
 abbrev pub HasItsSetup : Shown → Shown → Type 0
 HasItsSetup old new = setup_in new ≡ setup_in old
 
--- a list of events, of which so many were refused
+-- a list of events, of which this many were refused
 abbrev pub HasRun : Shown → List Event → ℕ → Shown → Type 0
 HasRun old es refused new = RunsRefusing (setup_in old) old.world (map event_of es) refused new.world
 

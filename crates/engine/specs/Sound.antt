@@ -8,7 +8,7 @@ use Rattle.nfs_model.specs.Parts.{Hand, Empty, Fresh, Dead, range_of, most_range
 use Rattle.nfs_model.specs.Events.Refusals.{open_count}
 use Rattle.nfs_values.specs.declared.call.Call.{Call}
 use Rattle.nfs_values.specs.Reply.{reply_of}
-use Rattle.affinity.specs.Affinity.{home_node}
+use Rattle.affinity.specs.Affinity.{call_node}
 use Rattle.affinity.specs.Tree.{IsNode}
 use Rattle.depot_rule.specs.Sums.{total}
 use Rattle.scheduler.specs.declared.message.Message.{Message}
@@ -48,13 +48,13 @@ running_messages (k ∷ ks) = messages_in k.run ++ running_messages ks
 pub record IsPlaced (layout : Layout) (connections : ℕ) (m : Message Call) : Type 0 where
   pub admitted : IsAdmitted layout m
   pub known : m.origin.connection.0 < connections
-  pub run : IsRunAt layout m.call (home_node m.affinity)
+  pub run : IsRunAt layout m.call (call_node m.affinity)
 
 -- what a message came to may be told: its reply fits the room that is kept for it, however handles are told
 abbrev pub MayEnd : Layout → Message Call → Outcome → Type 0
 MayEnd layout m (Replied reply) = (form : HandleForm) → length (reply_record m.origin.xid (reply_told form (reply_of reply))) ≤ m.room
 MayEnd layout m Starved = (form : HandleForm) → length (reply_record m.origin.xid (reply_told form SystemError)) ≤ m.room
-MayEnd layout m (Moved a) = IsNode layout (home_node a) × IsRunAt layout m.call (home_node a)
+MayEnd layout m (Moved a) = IsNode layout (call_node a) × IsRunAt layout m.call (call_node a)
 
 abbrev pub IsRunReady : Layout → ℕ → WorkerRun → Type 0
 IsRunReady layout connections Idle = Unit {0}

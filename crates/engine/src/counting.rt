@@ -123,7 +123,7 @@ fn carried_in(hand: &BatchInHand, volume: u32) -> usize
     }
 }
 
-/// So many where two volumes are the same, else none.
+/// This many where two volumes are the same, else none.
 fn if_same(volume: u32, other: u32, count: usize) -> usize
     ensures { result ≡ (if volume == other then count else 0) }
 {

@@ -128,7 +128,7 @@ impl Model for Engine {
 }
 
 impl Engine {
-    /// An engine to which nothing has happened, which reads by what is offered, with so many
+    /// An engine to which nothing has happened, which reads by what is offered, with this many
     /// workers, from 1 to 64.
     pub fn offering(
         alloc: Global,

@@ -2,7 +2,7 @@
 
 ghost use Rattle.std.specs.Prelude.{◌≡◌};
 
-use affinity::Home;
+use affinity::CallNode;
 use engine_feed::Stop;
 use nfs_values::{ConnectionNumber, Moment, VolumeNumber, WorkerNumber};
 
@@ -72,7 +72,7 @@ pub enum Done {
     Closed,
     /// The message has the parcels of this node.
     Granted {
-        affinity: Home,
+        affinity: CallNode,
     },
     /// The call has its reply.
     Replied,
@@ -80,7 +80,7 @@ pub enum Done {
     Starved,
     /// The message has to run on the parcels of this node.
     Moved {
-        affinity: Home,
+        affinity: CallNode,
     },
     /// The reply has this many bytes on this connection: none where it is closed.
     Written {

@@ -22,7 +22,7 @@ use crate::event::{Done, Refusal};
 use crate::lending::{enter, take_back};
 use crate::state::State;
 use crate::worker::{Running, WorkerRun, set_run, take_run};
-use affinity::Home;
+use affinity::CallNode;
 use desk::{Desk, ParcelKinds};
 use engine_feed::{Calls, OpenConnection};
 use nfs_values::{Call, Credential, Moment, Reply};
@@ -36,7 +36,7 @@ fn served(
     origin: Origin,
     call: Call,
     credential: Credential,
-    affinity: Home,
+    affinity: CallNode,
     moment: Moment,
     starved: bool,
 ) -> ServedCall

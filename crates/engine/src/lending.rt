@@ -1,14 +1,14 @@
 //! The desk's calls at the engine's own types: what is asked of those types is proved here once.
 
 ghost use Rattle.std.specs.Prelude.{◌≡◌, OnOk, IfErr};
-ghost use Rattle.affinity.specs.Affinity.{home_node};
+ghost use Rattle.affinity.specs.Affinity.{call_node};
 ghost use Rattle.affinity.specs.Tree.{IsNode};
 ghost use Rattle.desk.specs.laws.Books.{IsIdle};
 ghost use Rattle.desk.specs.laws.Calls.{HasBegun, MayFinish, HasFinished, MayPutBack, HasPutBack};
 ghost use Rattle.desk.specs.Refusal.{IsRefused};
 ghost use Rattle.desk.specs.Words.{books, machine_in, IsKept};
 
-use affinity::Home;
+use affinity::CallNode;
 use depot::Entered;
 use desk::{Desk, ParcelKinds, Refusal};
 use service::{Job, JobReply, Service};
@@ -17,15 +17,15 @@ use service::{Job, JobReply, Service};
 pub(crate) fn lend(
     desk: &mut Desk<Service, ParcelKinds>,
     worker: usize,
-    home: Home,
+    home: CallNode,
 ) -> Result<(), Refusal>
     requires kept { IsKept desk.old }
-    requires node { IsNode (books desk.old).layout (home_node home) }
+    requires node { IsNode (books desk.old).layout (call_node home) }
     requires idle { IsIdle (books desk.old) worker }
     ensures kept { IsKept desk.new }
     ensures begun { OnOk result
-        (HasBegun (books desk.old) worker (home_node home) (books desk.new)) }
-    ensures refused { IfErr result (IsRefused (books desk.old) (home_node home)) }
+        (HasBegun (books desk.old) worker (call_node home) (books desk.new)) }
+    ensures refused { IfErr result (IsRefused (books desk.old) (call_node home)) }
     ensures same { IfErr result (λ refusal. books desk.new ≡ books desk.old) }
 {
     desk.begin(worker, home)

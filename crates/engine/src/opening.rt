@@ -21,7 +21,7 @@ use service::{BatchInHand, Service};
 use slab::Slab;
 use std::alloc::{AllocError, Global};
 
-/// So many idle workers with empty hands.
+/// This many idle workers with empty hands.
 fn idle(alloc: Global, count: usize) -> Result<Vec<Worker>, AllocError>
     ensures { IfOk result (λ workers. workers.items ≡ replicate count idle_worker) }
 {

@@ -19,7 +19,7 @@ use Rattle.engine_feed.proofs.Scanning.{IsAt, joined}
 use Rattle.engine_feed.proofs.Taking.{EndsAt, scanned_with, faulted_at, scan-more, scan-made, scan-fault}
 use Rattle.engine_feed.proofs.Worlds.{quiet-scan}
 
--- so many bytes were taken, and the reading is at this state after them
+-- this many bytes were taken, and the reading is at this state after them
 pub record TookTo (stream bytes : List ℕ) (taken : ℕ) (at : Option State) : Type 0 where
   pub within : taken ≤ length bytes
   pub to : (read_stream (stream ++ take taken bytes)).at ≡ at

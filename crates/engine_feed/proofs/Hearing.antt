@@ -23,7 +23,7 @@ use Rattle.rpc_msg.specs.Replies as replies
 use Rattle.rpc_msg.specs.Room.{reply_room}
 use Rattle.scheduler.specs.declared.message.Message.{Message}
 use Rattle.scheduler.specs.declared.message.Origin.{Origin}
-use Rattle.affinity.specs.Affinity.{home_node}
+use Rattle.affinity.specs.Affinity.{call_node}
 use Rattle.engine_feed.specs.declared.state.ConnectionState.{ConnectionState}
 use Rattle.engine_feed.specs.declared.state.CallsState.{CallsState}
 use Rattle.rpc_msg.specs.declared.record.Request.{Request}
@@ -41,19 +41,19 @@ use Rattle.engine_feed.proofs.Parts.{lists-same}
 
 pub waits : (offer : Offer) (calls calls' : CallsState) (c c' : ConnectionState) (m : Message Call) (asked : types.Asked) → Waits calls c m calls' c'
     → types.Ask (call_of m.call) (credential_of m.credential) ≡ asked
-    → home_of_asked (layout_in calls) asked ≡ Some (home_node m.affinity)
+    → home_of_asked (layout_in calls) asked ≡ Some (call_node m.affinity)
     → HasHeard offer calls c m.origin asked false calls' c'
 waits offer calls calls' c c' m asked w a h setup v k p =
     let n = m.origin.connection.0 in
     let more : waiting_of calls' ≡ v.waiting ++ message_of m ∷ [] = ap waiting_of w.waits ∙ map_push message_of calls.waiting m
     ∙ ap (λ (ms : List worlds.Message). ms ++ message_of m ∷ []) (sym p.shows.waiting) in
-    let home_is : home_of_asked setup.layout asked ≡ Some (home_node m.affinity) = ap (λ (l : trees.Layout). home_of_asked l asked) k.layout ∙ h in
+    let home_is : home_of_asked setup.layout asked ≡ Some (call_node m.affinity) = ap (λ (l : trees.Layout). home_of_asked l asked) k.layout ∙ h in
     let there : slice_get v.connections n ≡ Some (connection_of c') = p.connection ∙ ap (λ (x : ConnectionState). Some (connection_of x)) (sym w.owes) in
     lists-same v _ v.connections _ (v.waiting ++ message_of m ∷ []) _ v.finished (put-same (connection_of c') v.connections n there) more
     (ap finished_of w.waits ∙ sym p.shows.finished)
     ∙ ap (λ (x : types.Asked). record v {
       waiting = v.waiting
-          ++ (record { connection = n; number = m.origin.number; xid = m.origin.xid; asked = x; affinity = home_node m.affinity }) ∷ [];
+          ++ (record { connection = n; number = m.origin.number; xid = m.origin.xid; asked = x; affinity = call_node m.affinity }) ∷ [];
     }) a
     ∙ ap (λ (o : Option trees.Affinity). admit setup v n m.origin.number (record { xid = m.origin.xid; asked = asked }) o) (sym home_is)
 

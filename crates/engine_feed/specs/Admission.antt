@@ -5,7 +5,7 @@ use Rattle.nfs_model.specs.Tree.{Layout}
 use Rattle.affinity.specs.Tree.{IsNode}
 use Rattle.nfs_model.specs.Home.{home}
 use Rattle.nfs_model.specs.Serial.AtOnce.{answer_without_home}
-use Rattle.affinity.specs.Affinity.{home_node}
+use Rattle.affinity.specs.Affinity.{call_node}
 use Rattle.rpc_msg.specs.Room.{reply_room}
 use Rattle.engine_feed.specs.declared.admission.Admission.{Admission}
 
@@ -17,6 +17,6 @@ reply_at_once layout types.Undecoded = types.SystemError
 
 -- where a call waits: for its home, a node of the layout, and with the room of its reply
 pub record IsAdmissionOf (layout : Layout) (call : types.Call) (a : Admission) : Type 0 where
-  pub at_home : home layout call ≡ Some (home_node a.affinity)
-  pub node : IsNode layout (home_node a.affinity)
+  pub at_home : home layout call ≡ Some (call_node a.affinity)
+  pub node : IsNode layout (call_node a.affinity)
   pub room : a.room ≡ reply_room (length layout.volumes) call

@@ -9,7 +9,7 @@ use Rattle.nfs_values.specs.Moment.{moment_of}
 use Rattle.nfs_values.specs.Credential.{credential_of}
 use Rattle.nfs_values.specs.Call.{call_of}
 use Rattle.nfs_values.specs.Reply.{refusal_of}
-use Rattle.affinity.specs.Affinity.{home_node}
+use Rattle.affinity.specs.Affinity.{call_node}
 use Rattle.affinity.specs.Layout as layouts
 use Rattle.scheduler.specs.declared.message.Message.{Message}
 use Rattle.scheduler.specs.declared.message.Origin.{Origin}
@@ -37,7 +37,7 @@ message_of m =
       number = m.origin.number;
       xid = m.origin.xid;
       asked = types.Ask (call_of m.call) (credential_of m.credential);
-      affinity = home_node m.affinity;
+      affinity = call_node m.affinity;
     }
 
 abbrev pub entry_of : FinishedCall → replays.FinishedCall
@@ -47,7 +47,7 @@ entry_of e =
       number = e.origin.number;
       xid = e.origin.xid;
       asked = asked_of e.request;
-      affinity = option_map home_node e.affinity;
+      affinity = option_map call_node e.affinity;
       moment = moment_of e.moment;
       starved = e.starved;
     }
@@ -68,7 +68,7 @@ entry_at origin asked affinity moment starved =
 -- a message as it is finished
 abbrev pub finished_message : Message Call → types.Moment → Bool → replays.FinishedCall
 finished_message m moment starved =
-    entry_at m.origin (types.Ask (call_of m.call) (credential_of m.credential)) (Some (home_node m.affinity)) moment starved
+    entry_at m.origin (types.Ask (call_of m.call) (credential_of m.credential)) (Some (call_node m.affinity)) moment starved
 
 -- ---- connections
 

@@ -9,7 +9,7 @@ use Rattle.nfs_values.specs.declared.call.Call.{Call}
 use Rattle.rpc_msg.specs.declared.offer.Offer.{Offer}
 use Rattle.nfs_values.specs.Call.{call_of}
 use Rattle.rpc_msg.specs.Room.{reply_room}
-use Rattle.affinity.specs.Affinity.{home_node}
+use Rattle.affinity.specs.Affinity.{call_node}
 use Rattle.affinity.specs.Tree.{IsNode}
 use Rattle.rpc_record.specs.Machine.{State, Outcome, More, Made, Fault, outcome}
 use Rattle.rpc_record.specs.Stream.{read_stream}
@@ -43,7 +43,7 @@ pub record IsSoundConnection (c : ConnectionState) : Type 0 where
 
 -- A message tries a node of the layout, and it keeps the room of its reply.
 pub record IsAdmitted (layout : Layout) (m : Message Call) : Type 0 where
-  pub node : IsNode layout (home_node m.affinity)
+  pub node : IsNode layout (call_node m.affinity)
   pub room : m.room ≡ reply_room (length layout.volumes) (call_of m.call)
 
 pub record AreSound (calls : CallsState) : Type 0 where
@@ -53,7 +53,7 @@ pub record AreSound (calls : CallsState) : Type 0 where
 
 -- ---- bytes that arrive
 
--- What bytes came to that a connection was given: so many of them were taken.
+-- What bytes came to that a connection was given: this many of them were taken.
 abbrev pub Arrives : Offer → List ℕ → List ℕ → ℕ → Arrival → Type 0
 Arrives offer stream bytes taken arrivals.More = (taken ≡ length bytes) × IsQuiet offer stream bytes
 Arrives offer stream bytes taken (arrivals.Heard heard) =
@@ -79,12 +79,12 @@ IsFaultless (arrivals.Undecoded xid) fault = fault ≡ None
 IsFaultless (arrivals.Fault told) fault = Unit {0}
 IsFaultless arrivals.NoMemory fault = fault ≡ None
 
--- a connection at no fault, with room for so many more bytes of its stream
+-- a connection at no fault, with room for this many more bytes of its stream
 pub record TakesIn (c : ConnectionState) (rest : ℕ) : Type 0 where
   pub faultless : c.fault ≡ None
   pub room : vec_len c.stream + rest ≤ vec_capacity c.stream
 
--- bytes came on a connection, and so many of them were taken; nothing was written
+-- bytes came on a connection, and this many of them were taken; nothing was written
 pub record TakesFrom (offer : Offer) (old new : ConnectionState) (bytes : List ℕ) (taken : ℕ) (arrival : Arrival) : Type 0 where
   pub arrives : Arrives offer old.stream.items bytes taken arrival
   pub within : taken ≤ length bytes
@@ -164,7 +164,7 @@ AdmitsNone (arrivals.Undecoded xid) = ⊥
 AdmitsNone (arrivals.Fault fault) = fault ≡ RecordTooLong
 AdmitsNone arrivals.NoMemory = Unit {0}
 
--- so many of the bytes complete no record, and one more would
+-- this many of the bytes complete no record, and one more would
 pub record IsFree (at : Option State) (bytes : List ℕ) (free : ℕ) : Type 0 where
   pub within : free ≤ length bytes
   pub none : HasNoRecord (outcome at (take free bytes))

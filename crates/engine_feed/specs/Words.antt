@@ -34,7 +34,7 @@ TakesInput c = (offer : Offer) → (scan_stream offer (connection_of c).stream).
 abbrev pub InWorlds : Offer → CallsState → ℕ → ConnectionState → (Setup → World → Type 0) → Type 0
 InWorlds offer calls number c P = (setup : Setup) (w : World) → IsSetup offer setup calls → IsPartOf calls number c w → P setup w
 
--- so many of the bytes were taken, and this stopped the taking
+-- this many of the bytes were taken, and this stopped the taking
 abbrev pub HasFed : Offer → CallsState → ConnectionState → ℕ → List ℕ → ℕ → Stop → CallsState → ConnectionState → Type 0
 HasFed offer calls c number bytes taken stop calls' c' =
     InWorlds offer calls number c (λ setup w. Feeds setup (feeding number bytes taken (stop_number stop)) w (with_part calls' number c' w))
@@ -44,7 +44,7 @@ abbrev pub FeedsAll : Offer → CallsState → ConnectionState → ℕ → List 
 FeedsAll offer calls c number bytes taken stop calls' c' =
     InWorlds offer calls number c (λ setup w. Walks setup (feeding number bytes taken (stop_number stop)) w (with_part calls' number c' w))
 
--- so many of the bytes were taken, and more may be, or taking stopped
+-- this many of the bytes were taken, and more may be, or taking stopped
 abbrev pub FeedsSome : Offer → CallsState → ConnectionState → ℕ → List ℕ → ℕ → Option Stop → CallsState → ConnectionState → Type 0
 FeedsSome offer calls c number bytes taken stop calls' c' =
     InWorlds offer calls number c (λ setup w. FeedsPart setup number w bytes taken stop (with_part calls' number c' w))

@@ -4,7 +4,7 @@ ghost use Rattle.std.specs.Prelude.{◌≡◌, ◌≤◌, ℕ, IfSome, length, o
 ghost use Rattle.nfs_model.specs.Home.{home};
 ghost use Rattle.nfs_values.specs.Call.{call_of};
 ghost use Rattle.nfs_values.specs.Reply.{reply_of};
-ghost use Rattle.affinity.specs.Affinity.{home_node};
+ghost use Rattle.affinity.specs.Affinity.{call_node};
 ghost use Rattle.affinity.specs.Layout.{layout_of};
 ghost use Rattle.rpc_msg.specs.declared.handle_form.HandleForm.{HandleForm};
 ghost use Rattle.rpc_msg.specs.Handles.{reply_told};
@@ -15,7 +15,7 @@ ghost use Rattle.engine_feed.specs.Seen.{asked_of};
 
 use crate::at_once::answer_at_once;
 use affinity::homes::home_of;
-use affinity::{Home, Layout};
+use affinity::{CallNode, Layout};
 use nfs_values::{Call, Refusal, Reply};
 use rpc_msg::{Request, refusals_fit, replies_fit, room_of_reply};
 use std::alloc::Global;
@@ -23,7 +23,7 @@ use std::alloc::Global;
 /// Where a call waits.
 #[derive(Clone, Copy)]
 pub struct Admission {
-    pub affinity: Home,
+    pub affinity: CallNode,
     /// The most bytes that the record of its reply takes.
     pub room: usize,
 }
@@ -32,7 +32,7 @@ pub struct Admission {
 pub fn admission_of(layout: &Layout, call: &Call) -> Option<Admission>
     ensures waits { IfSome result
         (IsAdmissionOf (layout_of layout.now) (call_of call.now)) }
-    ensures home { option_map (λ a. home_node a.affinity) result
+    ensures home { option_map (λ a. call_node a.affinity) result
         ≡ home (layout_of layout.now) (call_of call.now) }
     ensures short { IfSome result (λ a. a.room ≤ 131072) }
 {

@@ -4,7 +4,7 @@ use crate::connection::OpenConnection;
 use crate::message::FinishedCall;
 use crate::moving::{begin, leave, put_back, reply_to};
 use crate::state::CallsState;
-use affinity::{Home, Layout};
+use affinity::{CallNode, Layout};
 use nfs_values::{Call, Moment, Reply};
 use scheduler::{Message, NoSuchCall, Waiting};
 use std::alloc::{AllocError, Global};
@@ -41,7 +41,7 @@ impl Calls {
     ghost use Rattle.nfs_model.specs.World.{with_output};
     ghost use Rattle.nfs_values.specs.Moment.{moment_of};
     ghost use Rattle.nfs_values.specs.Reply.{reply_of};
-    ghost use Rattle.affinity.specs.Affinity.{home_node};
+    ghost use Rattle.affinity.specs.Affinity.{call_node};
     ghost use Rattle.affinity.specs.Layout.{layout_of};
     ghost use Rattle.affinity.specs.Tree.{IsNode};
     ghost use Rattle.engine_feed.specs.Codec.{reply_record};
@@ -95,10 +95,10 @@ impl Calls {
     }
 
     /// What the message at a place of the list tries.
-    pub fn affinity_at(&self, place: usize) -> Option<Home>
+    pub fn affinity_at(&self, place: usize) -> Option<CallNode>
         ensures there { result ≡ option_map (λ m. m.affinity)
             (slice_get (messages_of self.now) place) }
-        ensures node { IfSome result (λ a. IsNode (layout_in self.now) (home_node a)) }
+        ensures node { IfSome result (λ a. IsNode (layout_in self.now) (call_node a)) }
     {
         match self.state.waiting.get(place) {
             Some(message) => Some(message.affinity),

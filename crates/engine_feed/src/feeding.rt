@@ -216,7 +216,7 @@ fn is_stopped(connection: &ConnectionState, calls: &CallsState, bytes: &[u8]) ->
     free_bytes(connection, bytes) == 0
 }
 
-/// Room for so many bytes more of a stream.
+/// Room for this many bytes more of a stream.
 fn make_stream_room(connection: &mut ConnectionState, size: usize) -> Result<(), AllocError>
     requires { connection.old.fault ≡ None }
     ensures same { IsStreamRoomier connection.old connection.new }

@@ -4,7 +4,7 @@ ghost use Rattle.std.specs.Prelude.{◌≡◌, ◌+◌, ◌≤◌, ◌<◌, ◌�
 ghost use Rattle.std.specs.Prelude.{vec_len, vec_capacity};
 ghost use Rattle.nfs_values.specs.Moment.{moment_of};
 ghost use Rattle.nfs_values.specs.Reply.{reply_of};
-ghost use Rattle.affinity.specs.Affinity.{home_node};
+ghost use Rattle.affinity.specs.Affinity.{call_node};
 ghost use Rattle.engine_feed.specs.Codec.{reply_record};
 ghost use Rattle.engine_feed.specs.Seen.{asked_of, entry_at, entry_of};
 ghost use Rattle.engine_feed.specs.Sound.{IsWrittenTo, KeepsEntry};
@@ -12,7 +12,7 @@ ghost use Rattle.engine_feed.specs.Sound.{IsWrittenTo, KeepsEntry};
 use crate::message::FinishedCall;
 use crate::reply::put_reply;
 use crate::state::{CallsState, ConnectionState};
-use affinity::Home;
+use affinity::CallNode;
 use nfs_values::{Moment, Reply};
 use rpc_msg::Request;
 use scheduler::Origin;
@@ -35,13 +35,13 @@ pub(crate) fn keep_entry(
     calls: &mut CallsState,
     origin: Origin,
     request: Request,
-    affinity: Option<Home>,
+    affinity: Option<CallNode>,
     moment: Moment,
     starved: bool,
 )
     requires { vec_len calls.old.finished < vec_capacity calls.old.finished }
     ensures kept { map entry_of calls.new.finished.items ≡ map entry_of calls.old.finished.items
-        ++ entry_at origin (asked_of request) (option_map home_node affinity)
+        ++ entry_at origin (asked_of request) (option_map call_node affinity)
         (moment_of moment) starved ∷ [] }
     ensures keeps { KeepsEntry calls.old calls.new }
 {

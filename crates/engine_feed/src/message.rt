@@ -1,6 +1,6 @@
 //! Calls that are finished.
 
-use affinity::Home;
+use affinity::CallNode;
 use nfs_values::Moment;
 use rpc_msg::Request;
 use scheduler::Origin;
@@ -12,7 +12,7 @@ pub struct FinishedCall {
     /// What its record asked.
     pub request: Request,
     /// What it ran on; nothing where it was answered as its record was complete.
-    pub affinity: Option<Home>,
+    pub affinity: Option<CallNode>,
     pub moment: Moment,
     /// Whether memory ran out, so that it changed nothing and was answered so.
     pub starved: bool,

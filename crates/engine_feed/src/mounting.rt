@@ -46,7 +46,7 @@ fn names_volume(path: &[u8], volume: u32) -> bool
     is_same(path, &export_path(volume)) || (is_same(path, b"/") && volume == 0)
 }
 
-/// Which of so many volumes from one on a path names.
+/// Which of this many volumes from one on a path names.
 fn mounted(path: &[u8], first: u32, count: u32) -> Option<u32>
     requires { first + count ≤ 10 }
     ensures { result ≡ find (names_volume path.now) (range_with_len first count) }
@@ -60,7 +60,7 @@ fn mounted(path: &[u8], first: u32, count: u32) -> Option<u32>
     mounted(path, first + 1, count - 1)
 }
 
-/// MNT, of so many volumes.
+/// MNT, of this many volumes.
 fn answer_path(path: &[u8], volumes: u32) -> Result<MountResults, Status>
     requires { volumes ≤ 8 }
     ensures { answer_of (Mount result) ≡ mnt volumes path.now }

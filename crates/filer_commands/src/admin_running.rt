@@ -109,7 +109,7 @@ where
     }
 }
 
-/// What is to grow: a volume of a server, by so many ranges.
+/// What is to grow: a volume of a server, by this many ranges.
 #[derive(Clone, Copy)]
 pub struct Growing {
     pub server: SocketAddr,

@@ -11,10 +11,10 @@ use std::net::SocketAddr;
 /// The bytes of a block's number.
 const NUMBER: u64 = 4;
 
-/// So many numbers come into a volume's stock before it has enough.
+/// This many numbers come into a volume's stock before it has enough.
 const STOCKED: u64 = ENOUGH_STOCKED as u64;
 
-/// The bytes of the words that have so many bits.
+/// The bytes of the words that have this many bits.
 fn words_for(bits: u64) -> u64
     requires { bits ≤ 8589934592 }
     ensures { result ≤ bits + 8 }
@@ -22,7 +22,7 @@ fn words_for(bits: u64) -> u64
     8 * ((bits + 63) / 64)
 }
 
-/// The bytes of the marks of a range of so many blocks, a bit for each, and of what stands above
+/// The bytes of the marks of a range of this many blocks, a bit for each, and of what stands above
 /// them where they are more than 1,024: a bit for each word, for each word of these, and so on, in
 /// three levels.
 fn marks_of(blocks: u32) -> u64

@@ -177,7 +177,7 @@ fn peers_in(matches: &ArgMatches<'_>) -> Option<Peers> {
     Some(Peers::Networks(networks))
 }
 
-/// The bytes of each of so many volumes where no size is named: an even share of a quarter of the
+/// The bytes of each of this many volumes where no size is named: an even share of a quarter of the
 /// machine's memory.
 fn usual_bytes(volumes: u64, machine: Machine) -> u64 {
     let all = match machine.memory {
@@ -187,7 +187,7 @@ fn usual_bytes(volumes: u64, machine: Machine) -> u64 {
     (all / volumes.max(1)).clamp(LEAST_VOLUME, MOST_BYTES)
 }
 
-/// What each of so many volumes has at the start, on a machine.
+/// What each of this many volumes has at the start, on a machine.
 fn plan_in(matches: &ArgMatches<'_>, volumes: u64, machine: Machine) -> Option<VolumePlan> {
     let mut plan = match (matches.get_one::<u64>("ranges"), matches.get_str("size")) {
         (Some(ranges), _) => VolumePlan::export(u32::try_from(ranges).ok()?)?,

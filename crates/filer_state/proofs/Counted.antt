@@ -8,7 +8,7 @@ use Rattle.filer_state.specs.state.Tree.{ranges_used}
 use Rattle.filer_state.proofs.Places.{placed-index}
 
 module _ (f : ℕ → RangeValue) (all : ℕ) where
-  -- of the ranges so many are in use before one, and all with those from it on
+  -- of the ranges this many are in use before one, and all with those from it on
   abbrev pub UsedSoFar : ℕ → ℕ → Type 0
   UsedSoFar at used = (used ≤ at) × ((m : ℕ) → at + m ≡ 16 → used + ranges_used (each f at m) ≡ all)
 

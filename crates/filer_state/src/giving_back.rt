@@ -8,7 +8,7 @@ use parcels::{LogicalHeld, StripeHeld};
 /// The stripes of a volume at most.
 const MOST_STRIPES: usize = 16;
 
-/// Gives back the memory of so many blocks at least that cuts left for later, or of all that they
+/// Gives back the memory of this many blocks at least that cuts left for later, or of all that they
 /// left.
 pub fn give_back(held: &mut LogicalHeld<Files>, blocks: usize)
     ensures { held.new ≡ held.old }

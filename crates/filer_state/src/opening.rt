@@ -155,8 +155,8 @@ fn opening_stripe(
     StripeParcel::new(alloc, stripe)
 }
 
-/// A range of a volume, where a range has so many blocks and so many are in use: with its blocks
-/// free, if it is one of them.
+/// A range of a volume, where a range has this many blocks and this many are in use: with its
+/// blocks free, if it is one of them.
 fn opening_range(
     alloc: Global,
     range_blocks: u32,

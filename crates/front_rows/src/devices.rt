@@ -3,7 +3,7 @@
 use std::io;
 use std::io::{ErrorKind, Read, Write};
 
-/// A reader that gives at most so many bytes at once, and fails after so many reads.
+/// A reader that gives at most this many bytes at once, and fails after this many reads.
 #[derive(Drop)]
 pub(crate) struct Cut<'a> {
     pub(crate) rest: &'a [u8],
@@ -22,7 +22,7 @@ impl Read for Cut<'_> {
     }
 }
 
-/// A writer that takes at most so many bytes at once, and after so many writes fails, or takes
+/// A writer that takes at most this many bytes at once, and after this many writes fails, or takes
 /// nothing.
 #[derive(Drop)]
 pub(crate) struct Narrow {

@@ -20,7 +20,7 @@ const ANSWERED: usize = 232;
 /// The calls among the records that wait: the third.
 const CALLS: [(usize, u32); 1] = [(2, 2)];
 
-/// How many records end within so many bytes.
+/// How many records end within this many bytes.
 fn records_in(bytes: usize) -> usize {
     let mut records = 0usize;
     for end in &JOINED_ENDS {
@@ -31,7 +31,7 @@ fn records_in(bytes: usize) -> usize {
     records
 }
 
-/// What the stream comes to where the reader gives so many bytes, in so many reads, and then
+/// What the stream comes to where the reader gives this many bytes, in this many reads, and then
 /// fails.
 fn up_to(bytes: usize, reads: usize) -> Row {
     let records = records_in(bytes);
@@ -66,7 +66,7 @@ fn streams_are_read_in_pieces_of_any_size(rt: HostRuntime) {
     }
 }
 
-/// A writer that takes so many bytes at most at once, and after so many writes fails, or takes
+/// A writer that takes this many bytes at most at once, and after this many writes fails, or takes
 /// nothing.
 fn writer(rt: &impl AllocGlobal, size: usize, writes: usize, is_stuck: bool) -> Counted<Narrow>
     ensures { failures_of result ≡ 0 }
@@ -79,7 +79,7 @@ fn writer(rt: &impl AllocGlobal, size: usize, writes: usize, is_stuck: bool) -> 
     })
 }
 
-/// Looks whether just so many bytes of the replies went out.
+/// Looks whether just this many bytes of the replies went out.
 fn went_out(
     rt: &(impl Abort + AllocGlobal),
     bytes: usize,
@@ -99,7 +99,7 @@ fn went_out(
     mem::forget((all, taken));
 }
 
-/// Writes the replies byte by byte, to a writer that fails after so many.
+/// Writes the replies byte by byte, to a writer that fails after this many.
 fn write(rt: &(impl Abort + AllocGlobal + Wait), bytes: usize, is_stuck: bool) {
     let mut source = waiting_for(rt, &JOINED);
     let mut writer = writer(rt, 1, bytes, is_stuck);
@@ -108,7 +108,7 @@ fn write(rt: &(impl Abort + AllocGlobal + Wait), bytes: usize, is_stuck: bool) {
     mem::forget(source);
 }
 
-/// Writes the replies joined in a buffer, to a writer that takes so many bytes and then fails.
+/// Writes the replies joined in a buffer, to a writer that takes this many bytes and then fails.
 fn join(rt: &(impl Abort + AllocGlobal + Wait), bytes: usize) {
     let mut source = waiting_for(rt, &JOINED);
     let mut writer = writer(rt, bytes, 1, false);

@@ -9,7 +9,7 @@ use crate::texts::{
     BADHANDLE_REPLY, GETATTR, GETATTR_ASTRAY, NO_CALL, NO_PROGRAM, NO_PROGRAM_REPLY, NULL,
     NULL_IN_TWO, NULL_REPLY, SHORT, TOO_LONG,
 };
-use affinity::{AggregateSpec, Home, Layout, VolumeSpec};
+use affinity::{AggregateSpec, CallNode, Layout, VolumeSpec};
 use nfs_values::ConnectionNumber;
 use rpc_msg::Offer;
 use std::mem;
@@ -24,7 +24,7 @@ pub(crate) struct Row {
     pub(crate) stream: &'static [&'static [u32]],
     /// How many bytes at its end are left out.
     pub(crate) without: usize,
-    /// After so many reads the reader fails.
+    /// After this many reads the reader fails.
     pub(crate) reads: usize,
     pub(crate) end: u32,
     /// The numbers and xids of the calls that wait.
@@ -148,7 +148,7 @@ fn are_calls(rt: &impl Abort, sink: &Gathered, calls: &[(usize, u32)]) {
         assert!(rt; message.origin.connection.0 == 0);
         assert!(rt; message.origin.number == *number);
         assert!(rt; message.origin.xid == *xid);
-        assert!(rt; message.affinity == Home::Logical(0));
+        assert!(rt; message.affinity == CallNode::Logical(0));
     }
 }
 
@@ -162,7 +162,7 @@ fn are_replies(rt: &(impl Abort + AllocGlobal), sink: &mut Gathered, replies: &[
     assert!(rt; sink.outboxes.take(connection).is_none());
 }
 
-/// Reads the stream of a row, at most so many bytes at once.
+/// Reads the stream of a row, at most this many bytes at once.
 pub(crate) fn read(rt: &(impl Abort + AllocGlobal + Wait), row: &Row, size: usize) {
     let stream = bytes_of(rt, row.stream);
     let layout = layout(rt);

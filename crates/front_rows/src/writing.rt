@@ -17,9 +17,9 @@ use tcp_front::{Counted, WriteFault, read_loop, write_joined, write_loop, write_
 
 /// How two records of 28 bytes are written.
 struct Row {
-    /// At most so many bytes at once.
+    /// At most this many bytes at once.
     size: usize,
-    /// After so many writes the writer fails.
+    /// After this many writes the writer fails.
     writes: usize,
     /// How many bytes went out before it failed.
     sent: Option<u64>,

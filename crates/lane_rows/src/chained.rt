@@ -12,7 +12,7 @@ use std::process::Abort;
 use std::sync::Wait;
 use turns::{Chained, Hint, Unwatched, Wanted};
 
-/// Makes at most so many turns, which finish so many calls. What the last came to.
+/// Makes at most this many turns, which finish this many calls. What the last came to.
 fn turns<R: Wait>(
     rt: &impl Abort,
     lane: &mut MemoryLane<R>,

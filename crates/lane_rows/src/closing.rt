@@ -20,7 +20,7 @@ use turns::{Unwatched, Wanted};
 /// How many bytes the replies have, to a NULL call and to a GETATTR.
 const REPLIES: usize = 144;
 
-/// What two writes of the replies come to, where the device takes so many bytes and then would
+/// What two writes of the replies come to, where the device takes this many bytes and then would
 /// wait.
 fn sent_of(takes: usize) -> (Sent, Sent) {
     if takes < REPLIES {
@@ -31,7 +31,7 @@ fn sent_of(takes: usize) -> (Sent, Sent) {
 }
 
 /// Opens a connection that asks for attributes twice, and something at once, over a device that
-/// takes so many bytes and then would wait; reads it whole, and runs the first of its two calls.
+/// takes this many bytes and then would wait; reads it whole, and runs the first of its two calls.
 /// Its key.
 fn ask<R: Abort + AllocGlobal + Wait>(rt: &R, lane: &mut MemoryLane<R>, takes: usize) -> usize
     ensures { Stays lane.old lane.new }
@@ -54,8 +54,8 @@ fn write<R: Wait>(lane: &mut MemoryLane<R>, key: usize, buffer: &mut Vec<u8>) ->
     lane.write(key, buffer)
 }
 
-/// Serves a connection of a lane: its device gets just so many bytes of the replies, also where it
-/// is written again, and is closed then. One call was finished, and one waits.
+/// Serves a connection of a lane: its device gets just this many bytes of the replies, also where
+/// it is written again, and is closed then. One call was finished, and one waits.
 fn serve<R: Abort + AllocGlobal + Wait>(
     rt: &R,
     mut lane: MemoryLane<R>,

@@ -48,7 +48,7 @@ impl Gathered {
         self.has_place = self.places > 0;
     }
 
-    /// So many places.
+    /// This many places.
     pub fn empty(&mut self, places: usize)
         ensures { self.new.layout ≡ self.old.layout }
     {

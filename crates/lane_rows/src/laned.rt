@@ -98,7 +98,7 @@ fn take_back<R: Wait>(lane: &mut MemoryLane<R>, key: usize) -> Option<Memory>
     lane.close(key)
 }
 
-/// Closes a connection, to which just the first bytes of these words were written, so many.
+/// Closes a connection, to which just the first bytes of these words were written, this many.
 pub(crate) fn close_after<R: Wait>(
     rt: &(impl Abort + AllocGlobal),
     lane: &mut MemoryLane<R>,
@@ -124,7 +124,7 @@ pub(crate) fn close<R: Wait>(
     close_after(rt, lane, key, wanted, usize::MAX);
 }
 
-/// Takes a lane apart, in whose queue so many messages wait.
+/// Takes a lane apart, in whose queue this many messages wait.
 pub(crate) fn part<R: Abort + Wait + Copy + Drop>(rt: R, lane: MemoryLane<R>, waiting: usize) {
     let LaneParts {
         worker,
@@ -136,7 +136,7 @@ pub(crate) fn part<R: Abort + Wait + Copy + Drop>(rt: R, lane: MemoryLane<R>, wa
     assert!(&rt; queue.count(&rt, &mut pass) == waiting);
 }
 
-/// Two connections of a lane, of which so many bytes move at once, are read, their calls run, and
+/// Two connections of a lane, of which this many bytes move at once, are read, their calls run, and
 /// the replies written. What needs no worker is answered first.
 fn serve<R: Abort + AllocGlobal + Wait + Copy + Drop>(rt: R, mut lane: MemoryLane<R>, size: usize) {
     let one = device(&rt, &[&NULL, &GETATTR, &NO_PROGRAM], size, MANY);
@@ -199,7 +199,7 @@ fn a_lane_serves_what_it_offers(rt: HostRuntime) {
 /// The replies to a GETATTR, a NULL call and a GETATTR: what needs no worker is answered first.
 const ANSWERS: [&[u32]; 3] = [&NULL_REPLY, &GETATTR_REPLY, &GETATTR_REPLY];
 
-/// A connection of a lane whose device gives so many bytes of three records, which end at 60, 104
+/// A connection of a lane whose device gives this many bytes of three records, which end at 60, 104
 /// and 164 bytes, and then would wait: just the whole ones are answered.
 fn serve_given<R: Abort + AllocGlobal + Wait + Copy + Drop>(
     rt: R,
@@ -235,7 +235,7 @@ fn two_lanes_answer_what_is_given(rt: HostRuntime) {
     }
 }
 
-/// A device that fails after so many calls: what was taken is a beginning of the replies, and the
+/// A device that fails after this many calls: what was taken is a beginning of the replies, and the
 /// other connection gets its own.
 fn failing<R: Abort + AllocGlobal + Wait + Copy + Drop>(rt: R, calls: usize) {
     let mut lane = lane(rt);

@@ -34,14 +34,14 @@ impl Calls {
 /// How many bytes move one way.
 #[derive(Drop)]
 pub(crate) struct Flow {
-    /// At most so many at once.
+    /// At most this many at once.
     pub(crate) size: usize,
-    /// So many until it would wait for good.
+    /// This many until it would wait for good.
     pub(crate) left: usize,
 }
 
 impl Flow {
-    /// So many bytes at once.
+    /// This many bytes at once.
     pub(crate) fn by(size: usize) -> Flow {
         Flow {
             size,
@@ -49,7 +49,7 @@ impl Flow {
         }
     }
 
-    /// So many bytes until it would wait for good.
+    /// This many bytes until it would wait for good.
     pub(crate) fn until(left: usize) -> Flow {
         Flow {
             size: usize::MAX,
@@ -57,7 +57,7 @@ impl Flow {
         }
     }
 
-    /// Moves what it may of so many bytes.
+    /// Moves what it may of this many bytes.
     fn take(&mut self, most: usize) -> Told
         ensures { IsWithin result most }
     {

@@ -30,7 +30,7 @@ pub(crate) fn bytes_of(rt: &(impl Abort + AllocGlobal), parts: &[&[u32]]) -> Vec
     bytes
 }
 
-/// So many volumes of one range, at most two.
+/// This many volumes of one range, at most two.
 pub(crate) fn layout(rt: &(impl Abort + AllocGlobal), volumes: usize) -> Layout {
     let aggregates = [AggregateSpec { spare: 1 }];
     let volume = VolumeSpec::new(0, 1);
@@ -50,7 +50,7 @@ fn sink(rt: &(impl Abort + AllocGlobal), layout: &Layout, places: usize) -> Gath
     sink
 }
 
-/// A device of a stream, with what it gives and takes, which fails after so many calls.
+/// A device of a stream, with what it gives and takes, which fails after this many calls.
 pub(crate) fn narrow_device(
     rt: &(impl Abort + AllocGlobal),
     stream: &[&[u32]],
@@ -71,7 +71,8 @@ pub(crate) fn narrow_device(
     }
 }
 
-/// A device of a stream, of which so many bytes move at once, and which fails after so many calls.
+/// A device of a stream, of which this many bytes move at once, and which fails after this many
+/// calls.
 pub(crate) fn device(
     rt: &(impl Abort + AllocGlobal),
     stream: &[&[u32]],
@@ -180,7 +181,7 @@ fn each_cut_gives_the_same(rt: HostRuntime) {
     }
 }
 
-/// A device that fails after so many calls: what was taken is a beginning.
+/// A device that fails after this many calls: what was taken is a beginning.
 fn failing(rt: &(impl Abort + AllocGlobal), size: usize, calls: usize) {
     let layout = layout(rt, 1);
     let mut sink = sink(rt, &layout, 100);

@@ -21,7 +21,7 @@ ones : (xs : List Message) → total (λ (m : Message). 1) xs ≡ length xs
 ones [] = refl
 ones (x ∷ xs) = let e = ones xs in omega (arith, e)
 
--- so many are there, where two passes are all that there are
+-- this many are there, where two passes are all that there are
 held-count : (v w : Passed) (n : ℕ) → IsWhole (both v w) → Held n (Leaves (both v w))
     → length v.put + length w.put ≡ (length v.picked + length w.picked) + n
 held-count v w n whole (items, count, leaves) =

@@ -5,7 +5,7 @@ use Rattle.nfs_model.specs.Tree as trees
 use Rattle.nfs_model.specs.Home.{home}
 use Rattle.nfs_values.specs.Call.{call_of}
 use Rattle.affinity.specs.declared.layout.Layout.{Layout}
-use Rattle.affinity.specs.Affinity.{home_node}
+use Rattle.affinity.specs.Affinity.{call_node}
 use Rattle.affinity.specs.Layout.{layout_of}
 use Rattle.service.specs.lemmas.Homes.{at-home}
 use Rattle.engine_feed.specs.Sound.{IsAdmitted}
@@ -15,11 +15,11 @@ use Rattle.turns.specs.Messages.{IsPlaced, Fits, Message}
 use Rattle.turns.specs.Words.{layout_known}
 
 -- a message that is admitted at the home of its call is placed
-pub placed : (layout : trees.Layout) (m : Message) → IsAdmitted layout m → home layout (call_of m.call) ≡ Some (home_node m.affinity)
+pub placed : (layout : trees.Layout) (m : Message) → IsAdmitted layout m → home layout (call_of m.call) ≡ Some (call_node m.affinity)
     → IsPlaced layout m
 placed layout m admitted h =
     let room = admitted.room in
-    record { node = admitted.node; run = at-home layout m.call (home_node m.affinity) h; room = omega (arith, room) }
+    record { node = admitted.node; run = at-home layout m.call (call_node m.affinity) h; room = omega (arith, room) }
 
 -- what is placed in a layout fits a queue of that layout
 pub fits-by : (layout : trees.Layout) (v : Passed) (m : Message) → layout_known v ≡ Some layout → IsPlaced layout m → FitsIn Fits v.key m

@@ -11,7 +11,7 @@ use Rattle.nfs_model.specs.Home.{home_of_route, bytes_home, named_by, span_bytes
 use Rattle.nfs_model.specs.Parts.{Hand, Empty, Fresh, Dead, IsAscending}
 use Rattle.nfs_model.specs.Server.{Named, most_bytes}
 use Rattle.nfs_model.specs.Tree.{Affinity, Layout, Serial, Aggregate, Volume, Logical, Stripe, Vbn, Range}
-use Rattle.affinity.specs.Affinity.{home_node}
+use Rattle.affinity.specs.Affinity.{call_node}
 use Rattle.affinity.specs.Tree.{IsNode}
 use Rattle.affinity.specs.declared.layout.Layout as layouts
 use Rattle.turns.specs.declared.shared_waiting.pass.SharedWaiting.{SharedWaiting}
@@ -97,10 +97,10 @@ leads-to layout r node t = ∥∥₁_elim t (at-prop (home_of_route layout r) no
 placed : (layout : Layout) (m : Message) → ∥ IsPlaced layout m ∥₁ → IsPlaced layout m
 placed layout m t =
     record {
-      node = ∥∥₁_elim t (node-prop layout (home_node m.affinity)) (λ p. p.node);
+      node = ∥∥₁_elim t (node-prop layout (call_node m.affinity)) (λ p. p.node);
       run = (
         ∥∥₁_elim t (on-state-prop (route (call_of m.call))) (λ p. p.run.0),
-        leads-to layout (route (call_of m.call)) (home_node m.affinity) (∥∥₁_map t (λ p. p.run.1)),
+        leads-to layout (route (call_of m.call)) (call_node m.affinity) (∥∥₁_map t (λ p. p.run.1)),
       );
       room = ∥∥₁_elim t le_prop (λ p. p.room);
     }

@@ -24,7 +24,7 @@ abbrev pub count_kept : Option Message → ℕ
 count_kept None = 0
 count_kept (Some m) = 1
 
--- So many messages wait, in the queue or kept by the worker: what was put by these and isn't picked, and what is kept.
+-- This many messages wait, in the queue or kept by the worker: what was put by these and isn't picked, and what is kept.
 abbrev pub IsCounted : Pass Message layouts.Layout → Worker → ℕ → Type 0
 IsCounted pass worker waiting =
     (length (known pass).put + length (passed worker).put) + count_kept (kept_in worker)

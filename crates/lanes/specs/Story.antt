@@ -111,15 +111,15 @@ HasLived unread written layout offer came endings boxes slots number (Closed las
     (later : List Ending) × (endings ≡ ended ++ later) × (number_of last ≡ number)
     × IsServed unread written layout offer came ended waiting last
 
--- the number of a lane's connection, of which there were so many before: the lane's own at first, and each larger by the count of lanes
+-- the number of a lane's connection, of which there were this many before: the lane's own at first, and each larger by the count of lanes
 abbrev pub number_at : ℕ → ℕ → ℕ → ℕ
 number_at lane lanes before = lane + before * lanes
 
 -- ---- the lane
 
--- What came to one of so many lanes, of all its connections in one order, and what ended, in one order: the calls that came were
+-- What came to one of this many lanes, of all its connections in one order, and what ended, in one order: the calls that came were
 -- admitted, in order and each once; the lane's entries are just those that ended, and so are the replies at once that came; no call
--- was finished more often than it was admitted, each by its connection, its number there, its xid, and what it asks. So many
+-- was finished more often than it was admitted, each by its connection, its number there, its xid, and what it asks. This many
 -- connections were opened, each under a number of its own, and it is known what became of each; those that are open are among
 -- them, and nothing came under another number.
 pub record Story {D : Type 0} (unread written : D → Option (List ℕ)) (layout : Layout) (offer : Offer) (lane lanes : ℕ) (entries : List FilerEntry)

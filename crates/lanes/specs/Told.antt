@@ -14,7 +14,7 @@ device_of w = w.device
 abbrev pub calls_of : {D : Type 0} → Watched D → ℕ
 calls_of w = w.calls
 
--- The device was called once, with so many bytes offered or so much room, and this is what it answered.
+-- The device was called once, with this many bytes offered or so much room, and this is what it answered.
 pub record HasCalled {D : Type 0} (old : Watched D) (offered : ℕ) (told : Told) (new : Watched D) : Type 0 where
   pub once : calls_of new ≡ (calls_of old + 1) % 2 ^ 64
   pub offered_is : new.offered ≡ offered

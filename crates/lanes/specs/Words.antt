@@ -18,7 +18,7 @@ use Rattle.lanes.specs.declared.intake.Intake.{Intake}
 use Rattle.lanes.specs.declared.lane.Lane.{Lane}
 use Rattle.lanes.specs.Story.{Story}
 
--- a place among so many lanes, what is offered, and a queue
+-- a place among this many lanes, what is offered, and a queue
 abbrev pub Identity : Type 0
 Identity = (ℕ × ℕ) × Offer × SharedWaiting Message Layout
 

@@ -45,7 +45,7 @@ ComesTo sents.Blocked old sent left new =
 ComesTo sents.Failed old sent left new =
     (sent ≡ []) × ((offered : ℕ) × (HasCalled old offered (tolds.Moved 0) new ⊎ HasCalled old offered tolds.Failed new))
 
--- What an answer to a write of so many bytes comes to, and how many went out: none at a failure; and fewer than all, or
+-- What an answer to a write of this many bytes comes to, and how many went out: none at a failure; and fewer than all, or
 -- none where the device would have to wait.
 abbrev pub IsOutcome : Told → ℕ → ℕ → Sent → Type 0
 IsOutcome (tolds.Moved n) size moved sents.All = ⊥

@@ -71,7 +71,7 @@ impl Backlog {
         self.len() == 0
     }
 
-    /// Forgets so many, the first ones.
+    /// Forgets this many, the first ones.
     pub(crate) fn forget(&mut self, size: usize)
         requires { size ≤ length self.old }
         ensures { self.new ≡ drop size self.old }

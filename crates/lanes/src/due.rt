@@ -1,6 +1,6 @@
 //! What is owed to a connection.
 
-/// What is owed to a connection for its records: so many replies, and about how much room they
+/// What is owed to a connection for its records: this many replies, and about how much room they
 /// take. It says nothing of the connection's bytes.
 #[derive(Clone, Copy, PartialEq, Eq, Debug)]
 pub struct Due {

@@ -7,7 +7,7 @@ ghost use Rattle.lanes.specs.Queues.{HasBoth, IsCounted};
 
 use crate::due::Due;
 use crate::placing::put_last;
-use affinity::{Home, Layout};
+use affinity::{CallNode, Layout};
 use nfs_values::{Call, ConnectionNumber, Reply};
 use outboxes::Outboxes;
 use rpc_msg::{HandleForm, tell};
@@ -71,7 +71,7 @@ impl<R> Intake<R> {
 /// Whether there may be something to tend after a call. After a WRITE on a stripe there isn't,
 /// unless it moves.
 fn may_leave_blocks(message: &Message<Call>) -> bool {
-    !matches!(message.affinity, Home::Stripe { .. }) && message.call.may_move_blocks()
+    !matches!(message.affinity, CallNode::Stripe { .. }) && message.call.may_move_blocks()
 }
 
 impl<R: Wait> RecordSink for Intake<R> {

@@ -14,7 +14,7 @@ use tcp_front::RecordSink;
 /// What a read of a connection came to.
 #[derive(Clone, Copy, PartialEq, Eq, Debug)]
 pub enum Came {
-    /// So many bytes were read. Fewer than the block has room for: there were no more.
+    /// This many bytes were read. Fewer than the block has room for: there were no more.
     Read(usize),
     /// Bytes that were read before were cut into records. The device wasn't asked.
     Cut,

@@ -10,7 +10,7 @@ use std::alloc::Global;
 use std::marker::Model;
 
 /// Bytes that wait to be written: some of records that were joined, and behind them those of one
-/// record that weren't copied, the last so many.
+/// record that weren't copied, the last this many.
 #[derive(Drop)]
 pub(crate) struct Rest {
     joined: Backlog,
@@ -98,7 +98,7 @@ impl Rest {
         }
     }
 
-    /// Forgets so many bytes, the first ones.
+    /// Forgets this many bytes, the first ones.
     pub(crate) fn forget(&mut self, size: usize)
         requires { size ≤ length self.old }
         ensures { self.new ≡ drop size self.old }

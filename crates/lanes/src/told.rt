@@ -3,7 +3,7 @@
 /// What a device answered to one call.
 #[derive(Clone, Copy, PartialEq, Eq, Debug)]
 pub enum Told {
-    /// So many bytes moved.
+    /// This many bytes moved.
     Moved(usize),
     /// None did, and the device would have to wait.
     Blocked,

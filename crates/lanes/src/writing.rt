@@ -30,7 +30,7 @@ pub enum Sent {
     Failed,
 }
 
-/// What an answer to a write of so many bytes comes to, and how many of them went out.
+/// What an answer to a write of this many bytes comes to, and how many of them went out.
 fn outcome_of(told: Told, size: usize) -> (usize, Sent)
     ensures within { result.0 ≤ size }
     ensures is { IsOutcome told size result.0 result.1 }

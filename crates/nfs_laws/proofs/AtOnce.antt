@@ -40,7 +40,7 @@ IsOnOneHandle (OfAggregate volume) = ⊥
 IsOnOneHandle OfEverything = ⊥
 IsOnOneHandle r = Unit {0}
 
--- a route on one handle has no home just where the handle is bad
+-- a route on one handle has no home exactly when the handle is bad
 bad_handle : (layout : Layout) (r : Route) → IsOnOneHandle r → home_of_route layout r ≡ None → named_by layout (handle_on r) ≡ None
 bad_handle layout (OfNames handle) one e = no_logical (named_by layout handle) e
 bad_handle layout (OfBytesRead handle offset count) one e = no_bytes layout (named_by layout handle) offset (min count most_bytes) e

@@ -1,4 +1,4 @@
--- A batch is at most 64 numbers of one range, ascending, where a range has so many blocks.
+-- A batch is at most 64 numbers of one range, ascending, where a range has this many blocks.
 use Rattle.std.proofs.Common.{◌≡◌, ap, ◌∙◌, ℕ, zero, suc, ◌+◌, ◌-◌, ◌*◌, ◌/◌, ◌<◌, ◌≤◌, Bool, true, false, cond, List, [], ◌∷◌, length, map, take, arith}
 use Rattle.std.proofs.lemmas.Nat.{div-mul-add}
 use native.Mathlib.Nat.{mul_comm}

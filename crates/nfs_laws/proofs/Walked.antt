@@ -169,7 +169,7 @@ module _ (setup : Setup) (c : ℕ) (w : World) (came bytes : List ℕ) (stop : �
 
 -- ---- a byte, and then others
 
--- what is true of no byte and after one is true of fewer than so many
+-- what is true of no byte and after one is true of fewer than this many
 below : (P : ℕ → Type 0) (k : ℕ) → P 0 → ((n : ℕ) → n < k → P (suc n)) → (n : ℕ) → n < suc k → P n
 below P k first more zero l = first
 below P k first more (suc n) l = more n (omega (arith, l))

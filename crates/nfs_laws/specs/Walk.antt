@@ -58,7 +58,7 @@ Stops w at taken stop new =
     (taken ≡ 0) × (new ≡ w) × (((stop ≡ 31) × IsTrue (is_crowded w && is_complete at)) ⊎ ((stop ≡ 90) × ((is_crowded w && is_complete at) ≡ false)))
 
 module _ (setup : Setup) (c stop : ℕ) (new : World) where
-  -- The bytes of a feed that are left, of which so many are taken: all are (0), or taking stops before
+  -- The bytes of a feed that are left, of which this many are taken: all are (0), or taking stops before
   -- a byte, or at the fault that a byte reaches.
   abbrev pub WalksOver : World → List ℕ → ℕ → Type 0
   WalksOver w [] taken = (taken ≡ 0) × (stop ≡ 0) × (new ≡ w)

@@ -80,7 +80,7 @@ PartsChange call affinity old new = new.parts ≡ old.parts
 
 -- ---- batches
 
--- the numbers of a range that are in a set, lowest first, where a range has so many
+-- the numbers of a range that are in a set, lowest first, where a range has this many
 unfoldable pub in_range : (size range : ℕ) → FinSet nat_cmp → List ℕ
 in_range size range blocks = filter (contains blocks) (range_with_len (size * range) size)
 
@@ -146,27 +146,27 @@ fetched volume blocks p = record { parts = without_free blocks p; hand = fresh_h
 abbrev pub culled : ℕ → List ℕ → Parts → Carrying
 culled volume blocks p = record { parts = without_dead blocks p; hand = dead_hand volume blocks }
 
--- Fetch, under a Range of so many blocks: its 64 lowest free blocks come into the hand, or all if
--- they are fewer; so many.
+-- Fetch, under a Range of this many blocks: its 64 lowest free blocks come into the hand, or all if
+-- they are fewer; this many.
 abbrev pub Fetches : (size volume range count : ℕ) → Carrying → Carrying → Type 0
 Fetches size volume range count old new =
     (count ≡ length (batch size range old.parts.free))
     × (new ≡ fetched volume (batch size range old.parts.free) old.parts)
 
 -- Cull, under Logical: the 64 lowest dead blocks of the range of the lowest come into the hand, or
--- all of that range if they are fewer; so many. A range has the first number's blocks.
+-- all of that range if they are fewer; this many. A range has the first number's blocks.
 abbrev pub Culls : (size volume count : ℕ) → Carrying → Carrying → Type 0
 Culls size volume count old new =
     (count ≡ length (lowest_batch size old.parts.dead))
     × (new ≡ culled volume (lowest_batch size old.parts.dead) old.parts)
 
 -- PutDown, under Logical for a fresh batch and under its Range for a dead one: the batch leaves the
--- hand; so many blocks.
+-- hand; this many blocks.
 abbrev pub PutsDown : ℕ → Carrying → Carrying → Type 0
 PutsDown count old new =
     (count ≡ length (batch_in old.hand))
     × (new ≡ record { parts = put_down old.hand old.parts; hand = Empty })
 
--- Survey, under Vbn: how many blocks of each range in use are free, where a range has so many.
+-- Survey, under Vbn: how many blocks of each range in use are free, where a range has this many.
 abbrev pub Surveys : (size ranges : ℕ) → Parts → List ℕ → Type 0
 Surveys size ranges p told = told ≡ map (λ r. length (in_range size r p.free)) (range_with_len 0 ranges)

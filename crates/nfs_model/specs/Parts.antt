@@ -52,12 +52,12 @@ IsAscending [] = Unit {0}
 IsAscending (b ∷ []) = Unit {0}
 IsAscending (b ∷ (c ∷ rest)) = (b < c) × IsAscending (c ∷ rest)
 
--- the range of the first block, where a range has so many
+-- the range of the first block, where a range has this many
 abbrev pub range_of : (size : ℕ) → List ℕ → ℕ
 range_of size [] = 0
 range_of size (b ∷ blocks) = b / size
 
--- a batch: at most 64 numbers of one range, ascending, where a range has so many
+-- a batch: at most 64 numbers of one range, ascending, where a range has this many
 pub record IsBatch (size range : ℕ) (blocks : List ℕ) : Type 0 where
   pub few : length blocks ≤ most_carried
   pub ascending : IsAscending blocks

@@ -143,7 +143,7 @@ abbrev pub named_read : List ℕ → Named
 named_read bytes =
     record { volume = from_be_bytes w32 (take 4 bytes); fileid = from_be_bytes w64 (drop 4 bytes) }
 
--- A handle is good where it is 12 bytes that name one of so many volumes.
+-- A handle is good where it is 12 bytes that name one of this many volumes.
 abbrev pub handle_of : ℕ → List ℕ → Option Named
 handle_of volumes bytes =
     if (length bytes == 12) && nat_lt (from_be_bytes w32 (take 4 bytes)) volumes

@@ -186,7 +186,7 @@ pub record VolumeCount : Type 0 where
 
 -- The results of a call that was decoded (RFC 1813 section 3.3). In an OK arm every optional part
 -- is there, but READ and WRITE give no attributes; a failure has a status and some optional parts,
--- all absent: so many zero words (our profile).
+-- all absent: this many zero words (our profile).
 pub data Answer : Type 0 where
   NullDone : Answer
   GetattrDone : (attributes : Shown) → Answer

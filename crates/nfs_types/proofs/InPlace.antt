@@ -16,7 +16,7 @@ pub rest-is : (bytes lent : List ℕ) (from : ℕ) → lent ≡ bytes → take (
 rest-is bytes lent from e =
     take_all (length lent - from) (drop from lent) (omega (arith, length-drop from lent)) ∙ ap (λ (l : List ℕ). drop from l) e
 
--- where data end but for their padding, in a record of so many bytes
+-- where data end but for their padding, in a record of this many bytes
 abbrev pub start_of : ℕ → List ℕ → ℕ
 start_of len given = len - (length given + padding (length given))
 

@@ -165,7 +165,7 @@ exports_shape = Chain export_shape
 abbrev pub done : (shape : Shape) → Value shape → List ℕ
 done shape v = spelling (Word & shape) (0, v)
 
--- so many optional parts that are absent
+-- this many optional parts that are absent
 abbrev pub absent_parts : ℕ → List ℕ
 absent_parts zero = []
 absent_parts (suc n) = spelling (Optional Void) None ++ absent_parts n
@@ -199,7 +199,7 @@ answer_bytes model.DumpDone = spelling mounts_shape []
 answer_bytes (model.ExportsDone paths) = spelling exports_shape (map export_value paths)
 answer_bytes (model.Failed status absent) = failed status absent
 
--- the bytes of what was done, or of a failure that leaves out so many optional parts
+-- the bytes of what was done, or of a failure that leaves out this many optional parts
 abbrev pub result_bytes : {R : Type 0} (shape : Shape) → (R → Value shape) → ℕ → Result R Status → List ℕ
 result_bytes shape value absent (Ok r) = done shape (value r)
 result_bytes shape value absent (Err status) = failed (status_of status) absent

@@ -41,7 +41,7 @@ fn before_name(fileid: Fileid, size: u32) -> [u8; 12]
     before
 }
 
-/// Appends the padding of so many bytes, for which there is room: a few bytes of a known number
+/// Appends the padding of this many bytes, for which there is room: a few bytes of a known number
 /// are written without a call.
 fn pad(out: &mut Vec<u8>, size: usize)
     requires { vec_len out.old + padding size ≤ vec_capacity out.old }

@@ -48,7 +48,7 @@ fn write_export(volume: u32, out: &mut Vec<u8>)
     write_absent(out);
 }
 
-/// The exports of so many volumes from one on, each behind TRUE, and FALSE at the end.
+/// The exports of this many volumes from one on, each behind TRUE, and FALSE at the end.
 fn write_exports(first: u32, count: u32, out: &mut Vec<u8>)
     requires few { first + count ≤ 8 }
     requires room { vec_len out.old + 20 * count + 4 ≤ vec_capacity out.old }

@@ -22,7 +22,7 @@ fn write_done<T: Encode>(arm: &T, out: &mut Vec<u8>)
     arm.write(out);
 }
 
-/// So many optional parts that are absent.
+/// This many optional parts that are absent.
 #[tactic(auto, using(crate::specs::lemmas::Absent::absent))]
 fn write_absent_parts(count: u32, out: &mut Vec<u8>)
     requires { vec_len out.old + 4 * count ≤ vec_capacity out.old }
@@ -34,7 +34,7 @@ fn write_absent_parts(count: u32, out: &mut Vec<u8>)
     }
 }
 
-/// A status and the failure arm, with so many optional parts.
+/// A status and the failure arm, with this many optional parts.
 #[tactic(auto, using(crate::specs::lemmas::Absent::absent))]
 fn write_failed(status: Status, parts: u32, out: &mut Vec<u8>)
     requires few { parts ≤ 4 }
@@ -47,7 +47,7 @@ fn write_failed(status: Status, parts: u32, out: &mut Vec<u8>)
     write_absent_parts(parts, out);
 }
 
-/// What was done, or a failure whose arm has so many optional parts.
+/// What was done, or a failure whose arm has this many optional parts.
 fn write_either<T: Encode>(outcome: &Result<T, Status>, parts: u32, out: &mut Vec<u8>)
     requires few { parts ≤ 4 }
     requires short { length (result_bytes T.shape T.value parts outcome.now) < 2 ^ 32 }

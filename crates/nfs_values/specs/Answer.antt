@@ -121,7 +121,7 @@ volumes_exported exports = model.ExportsDone (map volume_path (range_with_len 0 
 
 -- ---- results, as the model has them
 
--- what was done, or a failure that leaves out so many optional parts; wcc_data has two (RFC 1813 section 3.3)
+-- what was done, or a failure that leaves out this many optional parts; wcc_data has two (RFC 1813 section 3.3)
 abbrev pub result_of : {R : Type 0} → (R → model.Answer) → ℕ → Result R Status → model.Answer
 result_of done absent (Ok r) = done r
 result_of done absent (Err status) = model.Failed (status_of status) absent

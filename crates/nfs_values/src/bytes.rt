@@ -48,7 +48,7 @@ impl BytesToWrite {
         }
     }
 
-    /// So many bytes of a record, from one on.
+    /// This many bytes of a record, from one on.
     pub fn part(record: Vec<u8>, from: usize, size: usize) -> BytesToWrite
         requires { from + size ≤ length record.items }
         ensures { result ≡ take size (drop from record.items) }
@@ -92,7 +92,7 @@ impl Model for BytesRead {
     ghost invariant = { λ b. HasRoom b.place };
 }
 
-/// A vector for so many bytes that are to be read behind what it has.
+/// A vector for this many bytes that are to be read behind what it has.
 pub fn room_to_read(alloc: Global, count: usize) -> Result<Vec<u8>, AllocError>
     requires { count ≤ 131072 }
     ensures head { IfOk result (λ room. length room.items ≡ 48) }

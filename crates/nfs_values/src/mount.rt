@@ -36,7 +36,7 @@ pub struct MountResults {
     pub handle: FileHandle,
 }
 
-/// What EXPORT tells (RFC 1813 appendix I, section 5.2.5): the paths of so many volumes, from the
+/// What EXPORT tells (RFC 1813 appendix I, section 5.2.5): the paths of this many volumes, from the
 /// first on.
 #[derive(Clone, Copy)]
 pub struct Exports {

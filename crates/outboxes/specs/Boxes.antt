@@ -61,7 +61,7 @@ AreOfLane lane lanes b = (b.step ≡ lanes) × IsNumberOf lane lanes b.next
 
 -- ---- what calls do
 
--- before the first connection of one of so many lanes, at which so many may be open
+-- before the first connection of one of this many lanes, at which this many may be open
 abbrev pub none_of : ℕ → ℕ → ℕ → Boxes
 none_of most lane lanes = record { most = most; next = lane; step = lanes; waiting = empty }
 

@@ -8,7 +8,7 @@ use Rattle.outboxes.specs.declared.chain.Link.{Link}
 abbrev pub IsOf : ReplyMessage → Link → Type 0
 IsOf m link = (link.numbered ≡ m) × (link.bytes.items ≡ record_of m)
 
--- it has no bytes, and room for so many
+-- it has no bytes, and room for this many
 abbrev pub IsBlank : ℕ → Link → Type 0
 IsBlank n link = (link.bytes.items ≡ []) × (n ≤ vec_capacity link.bytes)
 

@@ -13,7 +13,7 @@ use rpc_msg::{move_reply_record, write_reply_record};
 use std::alloc::{AllocError, Global};
 use std::mem;
 
-/// A blank record with room for so many bytes.
+/// A blank record with room for this many bytes.
 pub(crate) fn blank(alloc: Global, bytes: usize) -> Result<Box<Link>, AllocError>
     ensures { IfOk result (λ link. IsBlank bytes link.value) }
 {

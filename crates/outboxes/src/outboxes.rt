@@ -93,9 +93,9 @@ impl Outboxes {
         Outboxes::of_lane(alloc, 0, 1)
     }
 
-    /// The outboxes of one of so many lanes: no connection is open, and numbers are given from the
-    /// lane's own on, each larger by the count of lanes than the one before. So no two lanes give
-    /// one number (`lanes_are_apart`). At most 64 connections will be open.
+    /// The outboxes of one of this many lanes: no connection is open, and numbers are given from
+    /// the lane's own on, each larger by the count of lanes than the one before. So no two lanes
+    /// give one number (`lanes_are_apart`). At most 64 connections will be open.
     pub fn of_lane(alloc: Global, lane: usize, lanes: usize) -> Outboxes
         requires lane { lane < lanes }
         requires few { lanes ≤ most_numbers }
@@ -105,7 +105,7 @@ impl Outboxes {
         Outboxes::with_room_for(alloc, MOST_OPEN, lane, lanes)
     }
 
-    /// The same, where so many connections may be open.
+    /// The same, where this many connections may be open.
     pub fn with_room_for(alloc: Global, most: usize, lane: usize, lanes: usize) -> Outboxes
         requires lane { lane < lanes }
         requires few { lanes ≤ most_numbers }

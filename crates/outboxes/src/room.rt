@@ -38,7 +38,7 @@ impl Model for Room {
 }
 
 impl Room {
-    /// Room for a record of so many bytes (`rpc_msg::room_of_reply`), at most 131,072.
+    /// Room for a record of this many bytes (`rpc_msg::room_of_reply`), at most 131,072.
     pub fn new(alloc: Global, bytes: usize) -> Result<Room, AllocError>
         requires { bytes ≤ most_bytes }
         ensures { IfOk result (λ room. room ≡ bytes) }

@@ -110,7 +110,7 @@ struct Came {
     left: usize,
 }
 
-/// Runs it all with so many threads.
+/// Runs it all with this many threads.
 fn run<R>(rt: R, alloc: Global, threads: usize) -> Option<Came>
 where
     R: Threads + Wait + Clock + Copy + Drop + Send + Sync + 'static,

@@ -11,7 +11,7 @@ use std::thread;
 /// How often it is looked whether something has come.
 pub(crate) const LOOKS: usize = 10_000_000;
 
-/// How many replies wait for a connection, counted up to so many. They are taken.
+/// How many replies wait for a connection, counted up to this many. They are taken.
 pub(crate) fn replies<R: Wait>(
     rt: &R,
     mail: &mut Mail,
@@ -28,7 +28,7 @@ pub(crate) fn replies<R: Wait>(
     most
 }
 
-/// The next reply for a connection, once it has come: `None` where it hasn't after so many looks.
+/// The next reply for a connection, once it has come: `None` where it hasn't after this many looks.
 pub(crate) fn awaited<R: Wait>(
     rt: &R,
     mail: &mut Mail,

@@ -26,7 +26,7 @@ pub(crate) struct Running {
     pub(crate) mail: Mail,
 }
 
-/// Starts so many workers, who tell a gate of their calls: `None` where they can't be started.
+/// Starts this many workers, who tell a gate of their calls: `None` where they can't be started.
 pub(crate) fn start<R, G>(
     rt: R,
     alloc: Global,

@@ -43,7 +43,7 @@ more_of (model.ReaddirplusDone directory page eof) = 8 * length page
 more_of (model.MountDone handle) = 8
 more_of answer = 0
 
--- the results take at most so many bytes, however their handles are told
+-- the results take at most this many bytes, however their handles are told
 pub record Takes (n : ℕ) (answer : model.Answer) : Type 0 where
   pub bytes : more_of answer + length (answer_bytes answer) ≤ n
 
@@ -274,7 +274,7 @@ length-readdirplus directory page eof =
     let front : length (verifier ++ rest) ≡ 8 + length rest = length-append verifier rest in
     omega (arith, front, length-append chain (word (flag eof)))
 
--- results take so many bytes more at most, as they are told
+-- results take this many bytes more at most, as they are told
 pub told_size : (run : ℕ) (answer : model.Answer)
     → length (answer_bytes (answer_with (told_in_run run) answer)) ≤ more_of answer + length (answer_bytes answer)
 told_size run (model.LookupDone handle object directory) =

@@ -92,7 +92,7 @@ commit_size w verifier e = record { bytes = omega (arith, eight verifier e) }
 
 -- ---- what a call on a volume comes to
 
--- an answer has at most so many bytes, and the volume's verifier stays
+-- an answer has at most this many bytes, and the volume's verifier stays
 Fits : ℕ → VolumeState → Effect → Type 0
 Fits n old (Fails status) = Unit {0}
 Fits n old (Tells answer) = Takes n answer

@@ -13,7 +13,7 @@ use Rattle.rpc_msg.specs.Calls.{call_shape, call_value}
 use Rattle.rpc_msg.specs.Replies.{accepted, message, reply_bytes}
 use Rattle.rpc_msg.proofs.Spelled.{call_found}
 
--- arguments end a record of so many bytes
+-- arguments end a record of this many bytes
 pub record End (record_bytes arguments : List ℕ) (len : ℕ) : Type 0 where
   pub fits : length arguments ≤ len
   pub there : drop (len - length arguments) record_bytes ≡ arguments

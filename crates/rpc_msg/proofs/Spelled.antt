@@ -52,7 +52,7 @@ body_ok (Ok y) x e = cc
 body_ok (Err unreads.Short) x e = absurd cc
 body_ok (Err fault) x e = absurd cc
 
--- a credential whose body has so many bytes
+-- a credential whose body has this many bytes
 record CredentialIs (flavor size : ℕ) (bytes : List ℕ) (who : model.Credential) (rest : List ℕ) : Type 0 where
   body : List ℕ
   small : size ≤ 400

@@ -36,7 +36,7 @@ made_room = 4 + 28 + 88 + change_room
 abbrev pub readdir_room : ℕ → ℕ
 readdir_room count = 4 + max 4 (min count most_bytes)
 
--- The most bytes of the results of a call, where there are so many volumes (RFC 1813 section 3.3).
+-- The most bytes of the results of a call, where there are this many volumes (RFC 1813 section 3.3).
 abbrev pub results_room : ℕ → model.Call → ℕ
 results_room volumes model.Null = 0
 results_room volumes (model.Getattr handle) = 4 + 84
@@ -61,11 +61,11 @@ results_room volumes model.Census = 4 + 20 * volumes
 results_room volumes (model.Grow volume ranges) = 4 + 8
 results_room volumes (model.Mount call) = 4 + 20 * 10
 
--- the most bytes of the record of the reply to a call, where there are so many volumes
+-- the most bytes of the record of the reply to a call, where there are this many volumes
 abbrev pub reply_room : ℕ → model.Call → ℕ
 reply_room volumes call = head_room + results_room volumes call
 
--- Each write verifier is 8 bytes, and there are at most so many volumes.
+-- Each write verifier is 8 bytes, and there are at most this many volumes.
 pub record IsRoomy (volumes : ℕ) (server : Server) : Type 0 where
   pub few : length server.volumes ≤ volumes
   pub verifiers : (i : ℕ) (volume : VolumeState) → slice_get server.volumes i ≡ Some volume → length volume.verifier ≡ 8

@@ -21,7 +21,7 @@ const AUTH_SYS: u32 = 1;
 /// The most bytes of a credential's body (RFC 5531 section 8.2).
 const MOST_BODY: u32 = 400;
 
-/// Reads so many groups.
+/// Reads this many groups.
 fn read_gids(count: u32, from: &mut Cursor<'_>) -> Result<GroupList, xdr::Fault>
     requires { count ≤ 16 }
     ensures { Gives gids_in result (items_at (λ rest. read Word rest) count from.old) from.new }

@@ -15,7 +15,7 @@ pub(crate) fn word(bytes: &[u8]) -> Result<(u32, &[u8]), Fault>
     Ok((number, from.rest()))
 }
 
-/// So many bytes, and their padding (RFC 4506 section 4.9).
+/// This many bytes, and their padding (RFC 4506 section 4.9).
 pub(crate) fn fixed(bytes: &[u8], size: u32) -> Result<(&[u8], &[u8]), Fault>
     ensures { Says (with_rest (λ x. x.now)) (λ f. f) result (read (Fixed size) bytes.now) }
 {

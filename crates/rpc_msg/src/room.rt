@@ -25,7 +25,7 @@ fn padded_size(count: u32) -> usize
     (count as usize + 3) / 4 * 4
 }
 
-/// The most bytes of the results of a call, where there are so many volumes.
+/// The most bytes of the results of a call, where there are this many volumes.
 fn results_room(call: &Call, volumes: u32) -> usize
     ensures { result ≡ results_room volumes (call_of call.now) }
 {
@@ -55,7 +55,7 @@ fn results_room(call: &Call, volumes: u32) -> usize
     }
 }
 
-/// The most bytes that the record of the reply to a call takes, where there are so many volumes:
+/// The most bytes that the record of the reply to a call takes, where there are this many volumes:
 /// a READ's, a READDIR's and a READDIRPLUS's by its count, a CENSUS's by the volumes, and of other
 /// calls always the same. The record of a reply that says that memory ran out fits too.
 pub fn room_of_reply(call: &Call, volumes: u32) -> usize

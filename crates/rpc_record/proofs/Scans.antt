@@ -31,7 +31,7 @@ pub more_any : (t k : ℕ) (s : State) (xs : List ℕ) (u : State) → scan t s 
 more_any t k s [] u e = e
 more_any t k s (x ∷ xs) u e = more_any_next t k (after s x) xs u (λ v p. more_any (t + 1) (k + 1) v xs u p) e
 
--- so many bytes come before the end of the record or the fault
+-- this many bytes come before the end of the record or the fault
 abbrev pub IsBefore : ℕ → Outcome → Type 0
 IsBefore n (More u) = Unit {0}
 IsBefore n (Made taken made) = n < taken

@@ -8,7 +8,7 @@ use Rattle.rpc_record.specs.Records.{IsRecord, HasNoRecord, IsAtFault, HasNoFaul
 use Rattle.rpc_record.specs.Machine.{State, start, Outcome, More, Made, Fault, scan, outcome}
 use Rattle.rpc_record.specs.Stream.{AreBytes, read_stream}
 
--- Feeding these bytes takes so many of them, answers this, and leads from the old state to the
+-- Feeding these bytes takes this many of them, answers this, and leads from the old state to the
 -- new one.
 abbrev pub Feeds : Option State → List ℕ → ℕ → Step → Option State → Type 0
 Feeds old bytes taken (steps.Record made) new =

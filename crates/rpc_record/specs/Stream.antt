@@ -37,7 +37,7 @@ abbrev pub AreBytes : List ℕ → Type 0
 AreBytes [] = Unit {0}
 AreBytes (b ∷ bytes) = (b < 256) × AreBytes bytes
 
--- The reading has the stream's records, and has come to a fault just where a header after them
+-- The reading has the stream's records, and has come to a fault exactly when a header after them
 -- is at fault.
 abbrev pub IsReading : List ℕ → Reading → Type 0
 IsReading stream reading =

@@ -5,9 +5,9 @@ use Rattle.std.specs.List.{slice_get}
 use Rattle.std.specs.Option.{option_map}
 use Rattle.std.proofs.lemmas.List.{map-set, map-append, length-map}
 use Rattle.std.proofs.lemmas.Option.{same_Some, none-some, slice_get-map, slice_get-get_or}
-use Rattle.affinity.specs.Affinity.{home_node}
-use Rattle.affinity.specs.declared.affinity.Home.{Home}
-use Rattle.affinity.specs.declared.affinity.Home.TheVariants.{Serial, Aggregate, Volume, Logical, Stripe}
+use Rattle.affinity.specs.Affinity.{call_node}
+use Rattle.affinity.specs.declared.affinity.CallNode.{CallNode}
+use Rattle.affinity.specs.declared.affinity.CallNode.TheVariants.{Serial, Aggregate, Volume, Logical, Stripe}
 use Rattle.scheduler.specs.QueueNumber.{queue_of, HasQueue}
 use Rattle.scheduler.specs.declared.message.Message.{Message}
 use Rattle.scheduler.specs.Lines.{IsIn, IsFirstFrom}
@@ -18,7 +18,7 @@ use Rattle.scheduler.proofs.Present.{present-at, present-all, cell-of, count-ris
 
 -- ---- one affinity, one queue
 
-same-affinity : (a b : Home) → HasQueue (home_node a) → HasQueue (home_node b) → queue_of (home_node a) ≡ queue_of (home_node b) → a ≡ b
+same-affinity : (a b : CallNode) → HasQueue (call_node a) → HasQueue (call_node b) → queue_of (call_node a) ≡ queue_of (call_node b) → a ≡ b
 same-affinity Serial Serial h k e = refl
 same-affinity (Aggregate a) (Aggregate b) h k e = let p : a ≡ b = omega (arith, e) in ap Aggregate p
 same-affinity (Volume a) (Volume b) h k e = let p : a ≡ b = omega (arith, e) in ap Volume p
@@ -32,13 +32,13 @@ same-affinity a b h k e = absurd (omega (arith, e, h, k))
 
 module _ {C : Type 0} where
   pub line-at : (xs : List (Option (Message C))) (lines : List (Option ℕ)) (i q : ℕ) (m : Message C) → lines ≡ lines_of xs
-      → slice_get xs i ≡ Some (Some m) → q ≡ queue_of (home_node m.affinity) → IsIn lines q i
+      → slice_get xs i ≡ Some (Some m) → q ≡ queue_of (call_node m.affinity) → IsIn lines q i
   line-at xs lines i q m l e f =
       ap (λ (z : List (Option ℕ)). slice_get z i) l ∙ slice_get-map line_of xs i ∙ ap (option_map line_of) e ∙ ap (λ (z : ℕ). Some (Some z)) (sym f)
 
   -- the message of a cell that is in a queue
   pub in-line : (xs : List (Option (Message C))) (i q : ℕ) → IsIn (lines_of xs) q i → (m : Message C) × (slice_get xs i ≡ Some (Some m))
-      × (queue_of (home_node m.affinity) ≡ q)
+      × (queue_of (call_node m.affinity) ≡ q)
   in-line [] i q e = absurd (none-some (Some q) e)
   in-line (None ∷ xs) zero q e = absurd (none-some q (same_Some None (Some q) e))
   in-line (Some m ∷ xs) zero q e = (m, refl, same_Some _ _ (same_Some _ _ e))
@@ -72,7 +72,7 @@ module _ {C : Type 0} where
 
   pub lines-more : (xs : List (Option (Message C))) (lines lines' : List (Option ℕ)) (i q : ℕ) (r : Option (Message C)) (m : Message C) → i < length xs
       → r ≡ get_or xs i r
-      → r ≡ Some m → lines ≡ lines_of (map (λ x. Some x) (present (take i xs))) → q ≡ queue_of (home_node m.affinity)
+      → r ≡ Some m → lines ≡ lines_of (map (λ x. Some x) (present (take i xs))) → q ≡ queue_of (call_node m.affinity)
       → lines' ≡ lines ++ Some q ∷ [] → lines' ≡ lines_of (map (λ x. Some x) (present (take (i + 1) xs)))
   lines-more xs lines lines' i q r m l e s k f g =
       let more : present (take (i + 1) xs) ≡ present (take i xs) ++ m ∷ []
@@ -96,9 +96,9 @@ module _ {C : Type 0} where
       (sym (get-set xs i None l) ∙ subst (λ (z : ℕ). slice_get (set xs i None) z ≡ Some (Some m)) s e))))
       (λ (n : j ≢ i). h j m (sym (get-set-other xs i j None n) ∙ e)) (same j i)
 
-  pub queues-push : (xs : List (Option (Message C))) (m : Message C) → HaveQueues xs → HasQueue (home_node m.affinity) → HaveQueues (xs ++ Some m ∷ [])
+  pub queues-push : (xs : List (Option (Message C))) (m : Message C) → HaveQueues xs → HasQueue (call_node m.affinity) → HaveQueues (xs ++ Some m ∷ [])
   queues-push xs m h k j y e = ⊎_elim (λ (l : j < length xs). h j y (sym (get-before xs (Some m) j l) ∙ e))
-      (λ (t : (j ≡ length xs) × (Some m ≡ Some y)). subst (λ (z : Message C). HasQueue (home_node z.affinity)) (same_Some m y t.1) k)
+      (λ (t : (j ≡ length xs) × (Some m ≡ Some y)). subst (λ (z : Message C). HasQueue (call_node z.affinity)) (same_Some m y t.1) k)
       (get-past xs (Some m) (Some y) j e)
 
   queues-all : (xs : List (Option (Message C))) → HaveQueues xs → HaveQueues (map (λ x. Some x) (present xs))
@@ -130,14 +130,14 @@ module _ {C : Type 0} where
 
   -- ---- the first of an affinity
 
-  pub first-none : (xs : List (Option (Message C))) (lines : List (Option ℕ)) (a : Home) (q : ℕ) → lines ≡ lines_of xs → q ≡ queue_of (home_node a)
+  pub first-none : (xs : List (Option (Message C))) (lines : List (Option ℕ)) (a : CallNode) (q : ℕ) → lines ≡ lines_of xs → q ≡ queue_of (call_node a)
       → IsFirstFrom (IsIn lines q) 0 None → IsFirstOf a (present xs) None
   first-none xs lines a q l eq s p m e f =
       let r = cell-of xs p m e in
-      s r.0 (omega arith) (line-at xs lines r.0 q m l r.1 (eq ∙ ap (λ (z : Home). queue_of (home_node z)) (sym f)))
+      s r.0 (omega arith) (line-at xs lines r.0 q m l r.1 (eq ∙ ap (λ (z : CallNode). queue_of (call_node z)) (sym f)))
 
-  pub first-tries : (xs : List (Option (Message C))) (lines : List (Option ℕ)) (a : Home) (q k : ℕ) → lines ≡ lines_of xs → q ≡ queue_of (home_node a)
-      → HaveQueues xs → HasQueue (home_node a) → IsFirstFrom (IsIn lines q) 0 (Some k)
+  pub first-tries : (xs : List (Option (Message C))) (lines : List (Option ℕ)) (a : CallNode) (q k : ℕ) → lines ≡ lines_of xs → q ≡ queue_of (call_node a)
+      → HaveQueues xs → HasQueue (call_node a) → IsFirstFrom (IsIn lines q) 0 (Some k)
       → (m : Message C) × (slice_get xs k ≡ Some (Some m)) × Tries a (present xs) (length (present (take k xs))) m
       × NoneTries a (present xs) (length (present (take k xs)))
   first-tries xs lines a q k l eq h ha s =
@@ -151,5 +151,5 @@ module _ {C : Type 0} where
             let below : r.0 < k = ⊎_elim (λ (u : r.0 < k). u) (λ (u : (r.0 ≡ k) ⊎ (k < r.0)).
             absurd (let c = count-rises xs k r.0 (⊎_elim (λ (w : r.0 ≡ k). omega (arith, w)) (λ (w : k < r.0). omega (arith, w)) u) in omega
             (arith, c, b, counted))) (either k r.0) in
-            s.2 r.0 (omega arith) below (line-at xs lines r.0 q n l r.1 (eq ∙ ap (λ (z : Home). queue_of (home_node z)) (sym f))),
+            s.2 r.0 (omega arith) below (line-at xs lines r.0 q n l r.1 (eq ∙ ap (λ (z : CallNode). queue_of (call_node z)) (sym f))),
       )

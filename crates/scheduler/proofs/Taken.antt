@@ -3,8 +3,8 @@ use Rattle.std.proofs.Common.{◌≡◌, refl, sym, subst, ap, ◌∙◌, ℕ, z
 use Rattle.std.proofs.Common.{Option, Some, None, set, length-set, length-append, arith}
 use Rattle.std.specs.List.{slice_get, remove}
 use Rattle.std.proofs.lemmas.Option.{same_Some, none-some, get_or_from_slice_get}
-use Rattle.affinity.specs.Affinity.{home_node}
-use Rattle.affinity.specs.declared.affinity.Home.{Home}
+use Rattle.affinity.specs.Affinity.{call_node}
+use Rattle.affinity.specs.declared.affinity.CallNode.{CallNode}
 use Rattle.scheduler.specs.QueueNumber.{queue_of, HasQueue}
 use Rattle.scheduler.specs.declared.message.Message.{Message}
 use Rattle.scheduler.specs.Lines.{IsIn, IsFirstFrom}
@@ -79,7 +79,7 @@ module _ {C : Type 0} where
       ∙ ap (λ (t : List (Message C)). remove t place) o
 
   pub pushed-kept : (xs xs' ys : List (Option (Message C))) (lines lines' : List (Option ℕ)) (count start start' : ℕ) (m : Message C) (old : List (Message C))
-      → AreKept xs lines count start → present xs ≡ old → length old < 1024 → present xs' ≡ present xs → HaveQueues xs' → HasQueue (home_node m.affinity)
+      → AreKept xs lines count start → present xs ≡ old → length old < 1024 → present xs' ≡ present xs → HaveQueues xs' → HasQueue (call_node m.affinity)
       → start' ≤ length xs' → present (take start' xs') ≡ [] → ys ≡ xs' ++ Some m ∷ [] → lines' ≡ lines_of ys → AreKept ys lines' (count + 1) start'
   pushed-kept xs xs' ys lines lines' count start start' m old k o few p h q w v e l =
       let size : length (present (xs' ++ Some m ∷ [])) ≡ length (present xs) + 1
@@ -102,8 +102,8 @@ module _ {C : Type 0} where
 
   -- ---- by affinity
 
-  pub none-first : (xs : List (Option (Message C))) (lines : List (Option ℕ)) (count start q : ℕ) (a : Home) (o : Option ℕ) (old : List (Message C))
-      → AreKept xs lines count start → present xs ≡ old → q ≡ queue_of (home_node a) → IsFirstFrom (IsIn lines q) 0 o → o ≡ None → IsFirstOf a old None
+  pub none-first : (xs : List (Option (Message C))) (lines : List (Option ℕ)) (count start q : ℕ) (a : CallNode) (o : Option ℕ) (old : List (Message C))
+      → AreKept xs lines count start → present xs ≡ old → q ≡ queue_of (call_node a) → IsFirstFrom (IsIn lines q) 0 o → o ≡ None → IsFirstOf a old None
   none-first xs lines count start q a o old k e f s n =
       subst (λ (t : List (Message C)). IsFirstOf a t None) e
       (first-none xs lines a q k.lined f (subst (λ (t : Option ℕ). IsFirstFrom (IsIn lines q) 0 t) n s))
@@ -120,9 +120,9 @@ module _ {C : Type 0} where
   cell-within xs i t = within xs i (Some t.0) t.1
 
   -- the message of the first cell of an affinity's queue
-  tried : (xs : List (Option (Message C))) (lines : List (Option ℕ)) (count start q i : ℕ) (a : Home) (o : Option ℕ) (m : Message C)
+  tried : (xs : List (Option (Message C))) (lines : List (Option ℕ)) (count start q i : ℕ) (a : CallNode) (o : Option ℕ) (m : Message C)
       (old : List (Message C))
-      → AreKept xs lines count start → present xs ≡ old → q ≡ queue_of (home_node a) → HasQueue (home_node a) → IsFirstFrom (IsIn lines q) 0 o → o ≡ Some i
+      → AreKept xs lines count start → present xs ≡ old → q ≡ queue_of (call_node a) → HasQueue (call_node a) → IsFirstFrom (IsIn lines q) 0 o → o ≡ Some i
       → slice_get xs i ≡ Some (Some m) → Tries a old (length (present (take i xs))) m × NoneTries a old (length (present (take i xs)))
   tried xs lines count start q i a o m old k e f h s n there =
       let t = first-tries xs lines a q i k.lined f k.queues h (first-is (IsIn lines q) 0 i o s n) in
@@ -130,17 +130,17 @@ module _ {C : Type 0} where
       subst (λ (z : List (Message C)). Tries a z (length (present (take i xs))) m × NoneTries a z (length (present (take i xs)))) e
       (subst (λ (z : Message C). Tries a (present xs) (length (present (take i xs))) z × NoneTries a (present xs) (length (present (take i xs)))) is (t.2, t.3))
 
-  pub placed : (xs w : List (Option (Message C))) (lines : List (Option ℕ)) (count start q i place : ℕ) (a : Home) (o : Option ℕ) (old : List (Message C))
-      → AreKept xs lines count start → present xs ≡ old → q ≡ queue_of (home_node a) → HasQueue (home_node a) → IsFirstFrom (IsIn lines q) 0 o → o ≡ Some i
+  pub placed : (xs w : List (Option (Message C))) (lines : List (Option ℕ)) (count start q i place : ℕ) (a : CallNode) (o : Option ℕ) (old : List (Message C))
+      → AreKept xs lines count start → present xs ≡ old → q ≡ queue_of (call_node a) → HasQueue (call_node a) → IsFirstFrom (IsIn lines q) 0 o → o ≡ Some i
       → w ≡ xs → place ≡ length (present (take i w)) → IsFirstOf a old (Some place)
   placed xs w lines count start q i place a o old k e f h s n we p =
       let c = cell-first xs lines count start q i o k s n in
       let t = tried xs lines count start q i a o c.0 old k e f h s n c.1 in
       subst (λ (z : ℕ). IsFirstOf a old (Some z)) (sym (p ∙ ap (λ (z : List (Option (Message C))). length (present (take i z))) we)) ((c.0, t.0), t.1)
 
-  pub front : (xs : List (Option (Message C))) (lines : List (Option ℕ)) (count start q i : ℕ) (a : Home) (o : Option ℕ) (r x : Option (Message C))
+  pub front : (xs : List (Option (Message C))) (lines : List (Option ℕ)) (count start q i : ℕ) (a : CallNode) (o : Option ℕ) (r x : Option (Message C))
       (old : List (Message C))
-      → AreKept xs lines count start → present xs ≡ old → q ≡ queue_of (home_node a) → HasQueue (home_node a) → IsFirstFrom (IsIn lines q) 0 o → o ≡ Some i
+      → AreKept xs lines count start → present xs ≡ old → q ≡ queue_of (call_node a) → HasQueue (call_node a) → IsFirstFrom (IsIn lines q) 0 o → o ≡ Some i
       → r ≡ get_or xs i r → x ≡ r → IsFront a old x
   front xs lines count start q i a o r x old k e f h s n re xe =
       let c = cell-first xs lines count start q i o k s n in
@@ -148,9 +148,9 @@ module _ {C : Type 0} where
       let is : r ≡ Some c.0 = re ∙ get_or_from_slice_get xs i (Some c.0) r c.1 in
       subst (λ (z : Option (Message C)). IsFront a old z) (sym (xe ∙ is)) (length (present (take i xs)), t.0, t.1)
 
-  pub takes-front : (xs ys : List (Option (Message C))) (lines : List (Option ℕ)) (count start q i : ℕ) (a : Home) (o : Option ℕ) (m : Message C)
+  pub takes-front : (xs ys : List (Option (Message C))) (lines : List (Option ℕ)) (count start q i : ℕ) (a : CallNode) (o : Option ℕ) (m : Message C)
       (old : List (Message C))
-      → AreKept xs lines count start → present xs ≡ old → q ≡ queue_of (home_node a) → HasQueue (home_node a) → IsFirstFrom (IsIn lines q) 0 o → o ≡ Some i
+      → AreKept xs lines count start → present xs ≡ old → q ≡ queue_of (call_node a) → HasQueue (call_node a) → IsFirstFrom (IsIn lines q) 0 o → o ≡ Some i
       → slice_get xs i ≡ Some (Some m) → ys ≡ set xs i None → TakesFront a old (Some m) (present ys)
   takes-front xs ys lines count start q i a o m old k e f h s n there ye =
       let t = tried xs lines count start q i a o m old k e f h s n there in

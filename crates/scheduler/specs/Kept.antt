@@ -1,7 +1,7 @@
 -- How messages are kept: in cells, some of them vacant, beside the line that each cell is in.
 use Rattle.std.specs.Prelude.{◌≡◌, ℕ, ◌≤◌, List, [], ◌∷◌, length, map, take, Option, Some, None}
 use Rattle.std.specs.List.{slice_get}
-use Rattle.affinity.specs.Affinity.{home_node}
+use Rattle.affinity.specs.Affinity.{call_node}
 use Rattle.scheduler.specs.QueueNumber.{queue_of, HasQueue}
 use Rattle.scheduler.specs.declared.message.Message.{Message}
 
@@ -14,14 +14,14 @@ present (Some x ∷ xs) = x ∷ present xs
 -- the queue of what is in a cell
 abbrev pub line_of : {C : Type 0} → Option (Message C) → Option ℕ
 line_of None = None
-line_of (Some m) = Some (queue_of (home_node m.affinity))
+line_of (Some m) = Some (queue_of (call_node m.affinity))
 
 abbrev pub lines_of : {C : Type 0} → List (Option (Message C)) → List (Option ℕ)
 lines_of messages = map line_of messages
 
 -- each message tries an affinity that a layout may have
 abbrev pub HaveQueues : {C : Type 0} → List (Option (Message C)) → Type 0
-HaveQueues {C} messages = (i : ℕ) (m : Message C) → slice_get messages i ≡ Some (Some m) → HasQueue (home_node m.affinity)
+HaveQueues {C} messages = (i : ℕ) (m : Message C) → slice_get messages i ≡ Some (Some m) → HasQueue (call_node m.affinity)
 
 -- a cell has a message
 abbrev pub HasMessage : {C : Type 0} → List (Option (Message C)) → ℕ → Type 0

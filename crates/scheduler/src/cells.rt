@@ -17,7 +17,7 @@ ghost use Rattle.std.specs.Prelude.{
   vec_capacity,
 };
 ghost use Rattle.std.specs.List.{slice_get};
-ghost use Rattle.affinity.specs.Affinity.{home_node};
+ghost use Rattle.affinity.specs.Affinity.{call_node};
 ghost use Rattle.scheduler.specs.QueueNumber.{HasQueue};
 ghost use Rattle.scheduler.specs.Kept.{present, line_of, lines_of, HaveQueues};
 ghost use Rattle.scheduler.specs.Kept.{HasMessage};
@@ -35,7 +35,7 @@ pub(crate) fn append<C>(
     requires lined { lines.old ≡ lines_of messages.old.items }
     requires cells { length messages.old.items < 2048 }
     requires room { 2048 ≤ vec_capacity messages.old }
-    requires queue { HasQueue (home_node message.affinity) }
+    requires queue { HasQueue (call_node message.affinity) }
     ensures messages { messages.new.items ≡ messages.old.items ++ Some message ∷ [] }
     ensures lined { lines.new ≡ lines_of messages.new.items }
     ensures room { vec_capacity messages.new ≡ vec_capacity messages.old }

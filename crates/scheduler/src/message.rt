@@ -1,6 +1,6 @@
 //! Calls on their way.
 
-use affinity::Home;
+use affinity::CallNode;
 use nfs_values::{ConnectionNumber, Credential};
 
 /// The record that a call came in.
@@ -20,7 +20,7 @@ pub struct Message<C> {
     pub call: C,
     pub credential: Credential,
     /// What it tries: first the node that its call is at home in, then where it moved.
-    pub affinity: Home,
+    pub affinity: CallNode,
     /// How many bytes its reply may take of the room that its connection has.
     pub room: usize,
 }

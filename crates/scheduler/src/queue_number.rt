@@ -1,10 +1,10 @@
 //! The queue of a node at which calls run, by number.
 
 ghost use Rattle.std.specs.Prelude.{◌≡◌, ◌+◌, ◌*◌, ◌<◌};
-ghost use Rattle.affinity.specs.Affinity.{home_node};
+ghost use Rattle.affinity.specs.Affinity.{call_node};
 ghost use Rattle.scheduler.specs.QueueNumber.{queue_of, HasQueue};
 
-use affinity::Home;
+use affinity::CallNode;
 
 /// As many queues as the largest layout has nodes: 8 volumes of 35 in 2 aggregates. Those of block
 /// numbers and their ranges stay empty, since no call runs there.
@@ -22,16 +22,16 @@ fn volume_queue(volume: u32) -> usize
 }
 
 /// The number of the queue of a node, in constant time.
-pub(crate) fn queue_of(affinity: Home) -> usize
-    requires { HasQueue (home_node affinity) }
-    ensures number { result ≡ queue_of (home_node affinity) }
+pub(crate) fn queue_of(affinity: CallNode) -> usize
+    requires { HasQueue (call_node affinity) }
+    ensures number { result ≡ queue_of (call_node affinity) }
     ensures within { result < 283 }
 {
     match affinity {
-        Home::Serial => 0,
-        Home::Aggregate(aggregate) => 1 + aggregate as usize,
-        Home::Volume(volume) => volume_queue(volume),
-        Home::Logical(volume) => volume_queue(volume) + 1,
-        Home::Stripe { volume, stripe } => volume_queue(volume) + 3 + stripe as usize,
+        CallNode::Serial => 0,
+        CallNode::Aggregate(aggregate) => 1 + aggregate as usize,
+        CallNode::Volume(volume) => volume_queue(volume),
+        CallNode::Logical(volume) => volume_queue(volume) + 1,
+        CallNode::Stripe { volume, stripe } => volume_queue(volume) + 3 + stripe as usize,
     }
 }

@@ -20,7 +20,7 @@ ghost use Rattle.std.specs.Prelude.{
   option_copied,
 };
 ghost use Rattle.std.specs.List.{slice_get, remove};
-ghost use Rattle.affinity.specs.Affinity.{home_node};
+ghost use Rattle.affinity.specs.Affinity.{call_node};
 ghost use Rattle.scheduler.specs.QueueNumber.{HasQueue};
 ghost use Rattle.scheduler.specs.Waiting.{IsFirstOf, IsFront, TakesFront};
 
@@ -28,7 +28,7 @@ use crate::cells::{append, cell_at, first_used, make_room, place_of, take_out};
 use crate::lines::{CELLS, Lines};
 use crate::message::Message;
 use crate::queue_number::queue_of;
-use affinity::Home;
+use affinity::CallNode;
 use std::alloc::{AllocError, Global};
 use std::marker::Model;
 
@@ -119,7 +119,7 @@ impl<C: Drop> Waiting<C> {
 
     /// Lets a message wait after all others, where fewer than 1,024 do.
     pub fn admit(&mut self, message: Message<C>) -> Result<(), Full<C>>
-        requires { HasQueue (home_node message.affinity) }
+        requires { HasQueue (call_node message.affinity) }
         ensures ok { OnOk result (self.new ≡ self.old ++ message ∷ []) }
         ensures full { IsErr result ↔ (length self.old ≡ 1024) }
         ensures back { IfErr result (λ full. full.message ≡ message) }
@@ -135,7 +135,7 @@ impl<C: Drop> Waiting<C> {
     /// Lets a message wait again, after all others.
     pub fn put_back(&mut self, message: Message<C>)
         requires place { length self.old < 1024 }
-        requires queue { HasQueue (home_node message.affinity) }
+        requires queue { HasQueue (call_node message.affinity) }
         ensures { self.new ≡ self.old ++ message ∷ [] }
     {
         self.start = make_room(&mut self.messages, &mut self.lines, self.start);
@@ -172,8 +172,8 @@ impl<C: Drop> Waiting<C> {
     }
 
     /// The smallest place whose message tries an affinity. It goes over the cells once.
-    pub fn first_of(&self, affinity: Home) -> Option<usize>
-        requires { HasQueue (home_node affinity) }
+    pub fn first_of(&self, affinity: CallNode) -> Option<usize>
+        requires { HasQueue (call_node affinity) }
         ensures { IsFirstOf affinity self.now result }
     {
         let cell = self.lines.first(queue_of(affinity))?;
@@ -182,8 +182,8 @@ impl<C: Drop> Waiting<C> {
 
     /// The message at the smallest place that tries an affinity, and how many cells were looked
     /// at, in constant time.
-    pub fn front_counted(&self, affinity: Home) -> (Option<&Message<C>>, usize)
-        requires { HasQueue (home_node affinity) }
+    pub fn front_counted(&self, affinity: CallNode) -> (Option<&Message<C>>, usize)
+        requires { HasQueue (call_node affinity) }
         ensures front { IsFront affinity self.now (option_copied result.0) }
         ensures looked { result.1 ≤ 1 }
     {
@@ -195,8 +195,8 @@ impl<C: Drop> Waiting<C> {
 
     /// Takes the message at the smallest place that tries an affinity, in constant time but for
     /// vacant cells, each of which is passed over once.
-    pub fn pick_front(&mut self, affinity: Home) -> Option<Message<C>>
-        requires { HasQueue (home_node affinity) }
+    pub fn pick_front(&mut self, affinity: CallNode) -> Option<Message<C>>
+        requires { HasQueue (call_node affinity) }
         ensures { TakesFront affinity self.old result self.new }
     {
         let cell = self.lines.first(queue_of(affinity))?;

@@ -1,4 +1,4 @@
--- So many volumes of one plan.
+-- This many volumes of one plan.
 use Rattle.std.proofs.Common.{◌≡◌, ℕ, zero, suc, ◌≤◌, ◌∷◌, map, take, refl, ap, arith}
 use Rattle.std.specs.Prelude.{replicate}
 

@@ -8,11 +8,11 @@ use Rattle.server.specs.declared.admission.Admission.{Admission}
 use Rattle.server.specs.declared.admission.WhenFull.TheVariants.{Waits}
 use Rattle.server.specs.declared.plan.VolumePlan.{VolumePlan}
 
--- so many volumes and workers
+-- this many volumes and workers
 abbrev pub IsInRange : ℕ → ℕ → Type 0
 IsInRange volumes workers = (0 < volumes × volumes ≤ 8) × (0 < workers × workers ≤ 64)
 
--- so many ranges of a volume
+-- this many ranges of a volume
 abbrev pub AreRanges : ℕ → Type 0
 AreRanges ranges = 0 < ranges × ranges ≤ 16
 
@@ -24,15 +24,15 @@ most_size = 1099511627776
 abbrev pub fewest_inodes : ℕ
 fewest_inodes = 65536
 
--- so many bytes of a volume, from 4 MiB to 1 TiB
+-- this many bytes of a volume, from 4 MiB to 1 TiB
 abbrev pub IsVolumeSize : ℕ → Type 0
 IsVolumeSize bytes = 4 * mebibyte ≤ bytes × bytes ≤ most_size
 
--- so many bytes of a file, from 16 MiB to 1 TiB
+-- this many bytes of a file, from 16 MiB to 1 TiB
 abbrev pub IsFileSize : ℕ → Type 0
 IsFileSize bytes = 16 * mebibyte ≤ bytes × bytes ≤ most_size
 
--- so many inodes of a volume
+-- this many inodes of a volume
 abbrev pub AreInodes : ℕ → Type 0
 AreInodes inodes = fewest_inodes ≤ inodes × inodes ≤ inodes_of_a_volume
 
@@ -45,7 +45,7 @@ pub record IsBasic (plan : VolumePlan) : Type 0 where
   pub inodes : plan.inodes ≡ fewest_inodes
   pub spare : plan.spare ≡ 16
 
--- volumes of so many ranges of 1,024 blocks, with files of 64 MiB and 65,536 inodes, which may grow
+-- volumes of this many ranges of 1,024 blocks, with files of 64 MiB and 65,536 inodes, which may grow
 pub record HasRanges (ranges : ℕ) (plan : VolumePlan) : Type 0 where
   pub given : plan.ranges ≡ ranges
   pub range_blocks : plan.range_blocks ≡ 1024
@@ -61,7 +61,7 @@ range_bytes_of plan = block_size * plan.range_blocks
 abbrev pub bytes_of : VolumePlan → ℕ
 bytes_of plan = plan.ranges * range_bytes_of plan
 
--- Volumes of at most so many bytes, which may not grow: one more range would be too many, and 16 ranges of half as many blocks too few, unless
+-- Volumes of at most this many bytes, which may not grow: one more range would be too many, and 16 ranges of half as many blocks too few, unless
 -- they have 1,024. Files are as large as the volume, at least 16 MiB, and there is an inode for 16 KiB, but at least 65,536.
 pub record HasSize (bytes : ℕ) (plan : VolumePlan) : Type 0 where
   pub size : IsRangeSize plan.range_blocks
@@ -73,7 +73,7 @@ pub record HasSize (bytes : ℕ) (plan : VolumePlan) : Type 0 where
   pub inodes : plan.inodes ≡ max (bytes_of plan / 16384) fewest_inodes
   pub spare : plan.spare ≡ 0
 
--- another plan with files of at most so many bytes, in whole mebibytes, and else the same
+-- another plan with files of at most this many bytes, in whole mebibytes, and else the same
 pub record HasFiles (bytes : ℕ) (old new : VolumePlan) : Type 0 where
   pub given : new.mib ≡ bytes / mebibyte
   pub ranges : new.ranges ≡ old.ranges
@@ -82,7 +82,7 @@ pub record HasFiles (bytes : ℕ) (old new : VolumePlan) : Type 0 where
   pub inodes : new.inodes ≡ old.inodes
   pub spare : new.spare ≡ old.spare
 
--- another plan with so many inodes at most, and else the same
+-- another plan with this many inodes at most, and else the same
 pub record HasInodes (inodes : ℕ) (old new : VolumePlan) : Type 0 where
   pub given : new.inodes ≡ inodes
   pub ranges : new.ranges ≡ old.ranges
@@ -95,6 +95,6 @@ pub record HasInodes (inodes : ℕ) (old new : VolumePlan) : Type 0 where
 abbrev pub IsUsual : Admission → Type 0
 IsUsual admission = (admission.most_open ≡ 64) × (admission.when_full ≡ Waits)
 
--- so many seconds after which a connection is idle
+-- this many seconds after which a connection is idle
 abbrev pub AreIdleSeconds : ℕ → Type 0
 AreIdleSeconds seconds = 0 < seconds × seconds ≤ 86400

@@ -13,7 +13,7 @@ use Rattle.turns.specs.declared.shared.Filer.{Filer}
 use Rattle.turns.specs.Balance.{FilerEntry, Weight, by_key}
 use Rattle.turns.specs.Words.{entries_in, layout_in, seats_in}
 
--- the places of so many lanes: of each which it is, from 0, and how many there are
+-- the places of this many lanes: of each which it is, from 0, and how many there are
 abbrev pub places_below : ℕ → ℕ → List (ℕ × ℕ)
 places_below count zero = []
 places_below count (suc n) = (n, count) ∷ places_below count n

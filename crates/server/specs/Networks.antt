@@ -9,7 +9,7 @@ abbrev pub width_of : IpAddr → ℕ
 width_of (V4 ip) = 32
 width_of (V6 ip) = 128
 
--- of two numbers of so many bits the first are the same, the highest first
+-- of two numbers of this many bits the first are the same, the highest first
 abbrev pub Agree : ℕ → ℕ → ℕ → ℕ → Type 0
 Agree width bits a b = a / 2 ^ (width - bits) ≡ b / 2 ^ (width - bits)
 

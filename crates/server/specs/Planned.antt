@@ -14,7 +14,7 @@ volume_planned plan = record {
   inodes = plan.inodes;
 }
 
--- so many volumes of a plan on one aggregate, with its spare ranges
+-- this many volumes of a plan on one aggregate, with its spare ranges
 pub record IsLaidOut (volumes : ℕ) (plan : VolumePlan) (layout : trees.Layout) : Type 0 where
   pub spare : layout.spare ≡ plan.spare ∷ []
   pub volumes_are : layout.volumes ≡ replicate volumes (volume_planned plan)

@@ -2,6 +2,6 @@
 use Rattle.std.specs.Prelude.{ℕ}
 use Rattle.server.specs.declared.room.Room.{Room}
 
--- for so many lanes
+-- for this many lanes
 abbrev pub lanes_for : Room → ℕ
 lanes_for room = room.lanes

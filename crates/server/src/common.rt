@@ -41,7 +41,7 @@ impl Drop for Common {
     }
 }
 
-/// So many tallies, in which nothing was counted.
+/// This many tallies, in which nothing was counted.
 fn new_tallies(alloc: Global, count: usize) -> Result<Vec<Tally>, AllocError> {
     let mut tallies = Vec::with_capacity(alloc, count)?;
     for _ in 0..count {

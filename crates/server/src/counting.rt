@@ -77,12 +77,12 @@ impl Counting {
         })
     }
 
-    /// So many calls came at a moment, and wait.
+    /// This many calls came at a moment, and wait.
     pub(crate) fn put(&mut self, moment: Moment, calls: usize) {
         let _kept = self.times.put(microseconds_of(moment), calls);
     }
 
-    /// So many calls that waited are finished at a moment.
+    /// This many calls that waited are finished at a moment.
     pub(crate) fn finish(&mut self, tally: &Tally, moment: Moment, calls: usize) {
         let now = microseconds_of(moment);
         let mut left = calls;

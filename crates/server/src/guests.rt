@@ -30,7 +30,7 @@ fn nobody() -> Guest {
 }
 
 impl Guests {
-    /// No connection, and room for so many.
+    /// No connection, and room for this many.
     pub(crate) fn new(alloc: Global, most: usize) -> Result<Guests, AllocError> {
         Ok(Guests {
             by_key: vec![in alloc; nobody(); most]?,

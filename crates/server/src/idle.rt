@@ -17,7 +17,7 @@ impl IdleTime {
     ghost use Rattle.std.specs.Prelude.{◌≡◌, IfNone, IfSome};
     ghost use Rattle.server.specs.Asked.{AreIdleSeconds};
 
-    /// So many seconds, from 1 to 86,400.
+    /// This many seconds, from 1 to 86,400.
     pub fn new(seconds: u32) -> Option<IdleTime>
         ensures given { IfSome result (λ time. time.seconds ≡ seconds) }
         ensures in_range { IfSome result (λ time. AreIdleSeconds seconds) }

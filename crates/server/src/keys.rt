@@ -6,7 +6,7 @@ use crate::socket::Socket;
 use lanes::{Flags, Lane};
 use std::alloc::{AllocError, Global};
 
-/// No connection has this key: a lane never has so many.
+/// No connection has this key: a lane never has this many.
 const NO_KEY: usize = usize::MAX;
 
 /// The keys of a lane's connections that may have something to read, to write or to close. Each
@@ -19,7 +19,7 @@ pub(crate) struct Keys {
 }
 
 impl Keys {
-    /// None, and room for so many.
+    /// None, and room for this many.
     pub(crate) fn new(alloc: Global, most: usize) -> Result<Keys, AllocError> {
         Ok(Keys {
             listed: Vec::with_capacity(alloc, most)?,
@@ -46,7 +46,7 @@ impl Keys {
         };
     }
 
-    /// The key that is visited after so many others: those from the first on, and then those
+    /// The key that is visited after this many others: those from the first on, and then those
     /// before it.
     pub(crate) fn visited(&self, others: usize) -> usize {
         let place = self.first.saturating_add(others);
@@ -61,7 +61,7 @@ impl Keys {
         }
     }
 
-    /// Keeps the first so many.
+    /// Keeps the first this many.
     pub(crate) fn truncate(&mut self, kept: usize) {
         self.listed.truncate(kept);
     }

@@ -51,7 +51,7 @@ impl Drop for Mailbox {
 }
 
 impl Mailbox {
-    /// An empty mailbox of the thread that waits by this poll, with room for so many streams.
+    /// An empty mailbox of the thread that waits by this poll, with room for this many streams.
     pub(crate) fn new(
         alloc: Global,
         poll: &Poll,

@@ -49,7 +49,7 @@ fn agree_of_six(first: u128, second: u128, bits: u32) -> bool
 impl Network {
     ghost use Rattle.std.specs.Prelude.{IfNone, IfSome};
 
-    /// The addresses that have the first bits of this one, so many, where it has as many.
+    /// The addresses that have the first bits of this one, this many, where it has as many.
     pub fn new(address: IpAddr, bits: u32) -> Option<Network>
         ensures given { IfSome result (λ network. network.address ≡ address
             × network.bits ≡ bits) }

@@ -22,7 +22,7 @@ use std::sync::Arc;
 use turns::shared_waiting::{Pass, SharedWaiting};
 use turns::{Envelope, Filer, Worker};
 
-/// So many volumes of a plan on one aggregate.
+/// This many volumes of a plan on one aggregate.
 pub(crate) fn layout_of(
     alloc: Global,
     volumes: usize,
@@ -92,7 +92,7 @@ fn open_queue(alloc: Global, filer: &Filer) -> Result<Queue, AllocError>
     })
 }
 
-/// A lane of a worker, this one of so many, with at most so many connections open.
+/// A lane of a worker, this one of this many, with at most this many connections open.
 fn open_lane<D, R>(
     rt: R,
     alloc: Global,
@@ -122,8 +122,8 @@ where
     ))
 }
 
-/// All lanes of a filer, so many, which read by what is offered, with their connections over
-/// devices of one type, of which each lane has at most so many.
+/// All lanes of a filer, this many, which read by what is offered, with their connections over
+/// devices of one type, of which each lane has at most this many.
 pub fn open_lanes<D, R>(
     rt: R,
     alloc: Global,

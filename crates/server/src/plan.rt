@@ -41,7 +41,7 @@ pub struct VolumePlan {
     pub ghost inodes_to: { inodes ≤ 67108864 },
 }
 
-/// The fewest blocks of a range of which 16 have so many.
+/// The fewest blocks of a range of which 16 have this many.
 fn range_blocks_for(blocks: u32) -> u32
     requires { blocks ≤ 268435456 }
     ensures size { IsRangeSize result }
@@ -74,8 +74,8 @@ impl VolumePlan {
         }
     }
 
-    /// A plan of `export`: volumes of so many ranges of 4 MiB, from 1 to 16, with files of at most
-    /// 64 MiB.
+    /// A plan of `export`: volumes of this many ranges of 4 MiB, from 1 to 16, with files of at
+    /// most 64 MiB.
     pub fn export(ranges: u32) -> Option<VolumePlan>
         ensures given { IfSome result (HasRanges ranges) }
         ensures in_range { IfSome result (λ plan. AreRanges ranges) }
@@ -94,9 +94,9 @@ impl VolumePlan {
         })
     }
 
-    /// A plan of `export`: volumes of so many bytes, from 4 MiB to 1 TiB, which never grow, as far
-    /// as whole ranges fit into them, of the fewest blocks of which 16 would do. Their files may be
-    /// as large as they are, and they may have an inode for 16 KiB, and 65,536 in any case.
+    /// A plan of `export`: volumes of this many bytes, from 4 MiB to 1 TiB, which never grow, as
+    /// far as whole ranges fit into them, of the fewest blocks of which 16 would do. Their files
+    /// may be as large as they are, and they may have an inode for 16 KiB, and 65,536 in any case.
     pub fn sized(bytes: u64) -> Option<VolumePlan>
         ensures given { IfSome result (HasSize bytes) }
         ensures in_range { IfSome result (λ plan. IsVolumeSize bytes) }
@@ -121,7 +121,7 @@ impl VolumePlan {
         })
     }
 
-    /// The plan with files of at most so many bytes, from 16 MiB to 1 TiB, in whole mebibytes.
+    /// The plan with files of at most this many bytes, from 16 MiB to 1 TiB, in whole mebibytes.
     pub fn with_files(self, bytes: u64) -> Option<VolumePlan>
         ensures given { IfSome result (HasFiles bytes self) }
         ensures in_range { IfSome result (λ plan. IsFileSize bytes) }
@@ -135,7 +135,7 @@ impl VolumePlan {
         Some(plan)
     }
 
-    /// The plan with so many inodes at most, from 65,536 to 67,108,864.
+    /// The plan with this many inodes at most, from 65,536 to 67,108,864.
     pub fn with_inodes(self, inodes: u32) -> Option<VolumePlan>
         ensures given { IfSome result (HasInodes inodes self) }
         ensures in_range { IfSome result (λ plan. AreInodes inodes) }

@@ -6,8 +6,8 @@ use scheduler::MOST_WAITING;
 use std::alloc::{AllocError, Global};
 use turns::{BatchInHand, Envelope};
 
-/// Room for all that so many lanes can leave: a batch and a message of each, and the messages that
-/// wait. Who has it puts the lanes together without memory.
+/// Room for all that this many lanes can leave: a batch and a message of each, and the messages
+/// that wait. Who has it puts the lanes together without memory.
 #[derive(Drop)]
 pub struct Room {
     pub(crate) lanes: usize,

@@ -97,7 +97,7 @@ fn read_round<R: Wait>(
     waiting
 }
 
-/// Counts what was finished in a round, where that is told: of so many messages that waited once
+/// Counts what was finished in a round, where that is told: of this many messages that waited once
 /// it had read, at a moment at which it began.
 fn count<R: Clock>(
     lane: &Lane<Socket, R>,

@@ -49,7 +49,8 @@ struct Running<R> {
     ghost wide: { (vec_len threads ≤ vec_capacity lanes) × (vec_len threads ≤ room.lanes) },
 }
 
-/// Gives each of these lanes what its thread will have beside it, for at most so many connections.
+/// Gives each of these lanes what its thread will have beside it, for at most this many
+/// connections.
 fn man_all<R: Net + Drop>(
     rt: &R,
     alloc: Global,

@@ -81,7 +81,7 @@ impl Drop for Station {
 }
 
 impl Station {
-    /// A station of a server whose threads share this, for at most so many connections.
+    /// A station of a server whose threads share this, for at most this many connections.
     pub(crate) fn new(
         alloc: Global,
         net: &impl Net,

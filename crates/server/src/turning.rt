@@ -55,7 +55,7 @@ fn fell_short(pace: &mut Pace, ran: &Ran) -> bool {
     }
 }
 
-/// Makes turns under one grant, at most so many.
+/// Makes turns under one grant, at most this many.
 fn run_some<R: Wait>(
     lane: &mut Lane<Socket, R>,
     pace: &Pace,
@@ -84,7 +84,7 @@ fn run_some<R: Wait>(
     }
 }
 
-/// Tends though calls may wait, since a stock had too few numbers for one of them. What so many
+/// Tends though calls may wait, since a stock had too few numbers for one of them. What this many
 /// tends leave is for the next lane without a message.
 fn restock<R>(lane: &mut Lane<Socket, R>, pace: &mut Pace, common: &Common, moment: Moment)
     ensures { Stays lane.old lane.new }

@@ -9,7 +9,7 @@ use Rattle.desk.specs.laws.Calls.{Asks, Does}
 use Rattle.service.specs.declared.inner.Undone.{Undone}
 use Rattle.service.specs.declared.inner.Undone.TheVariants.{NoSuchRange, NoMemory}
 
--- what is in the hand, where a range has so many blocks: a fresh batch of the volume for its stock, a dead one of the range, else nothing
+-- what is in the hand, where a range has this many blocks: a fresh batch of the volume for its stock, a dead one of the range, else nothing
 abbrev pub IsHandFor : (size : ℕ) → InnerCall → Hand → Type 0
 IsHandFor size (Fetch v r) hand = hand ≡ Empty
 IsHandFor size (Deliver v) hand =

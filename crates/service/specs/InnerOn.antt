@@ -10,7 +10,7 @@ use Rattle.filer_state.specs.state.Running.{InnerRunsOn}
 use Rattle.service.specs.declared.inner.Undone.TheVariants.{NoSuchRange, NoMemory}
 use Rattle.service.specs.Inner.{IsHandFor, MayLackMemory, InnerOutcome}
 
--- the call's batch, by ranges of so many blocks, is in the hand, if it gives one, and some sound volume, which has that in a hand, has this part
+-- the call's batch, by ranges of this many blocks, is in the hand, if it gives one, and some sound volume, which has that in a hand, has this part
 abbrev pub MayRunOn : {S : Type 0} → (size v : ℕ) → Lens VolumeContents S → InnerCall → Hand → S → Type 0
 MayRunOn size v lens call hand old = IsHandFor size call hand × HasVolume v lens (batches_in hand) old
 

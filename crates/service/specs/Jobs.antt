@@ -3,7 +3,7 @@ use Rattle.std.specs.Prelude.{ℕ, List, Option, Some}
 use Rattle.nfs_model.specs.Types as types
 use Rattle.nfs_model.specs.Parts.{Hand}
 use Rattle.nfs_model.specs.Replay as replay
-use Rattle.affinity.specs.Affinity.{home_node}
+use Rattle.affinity.specs.Affinity.{call_node}
 use Rattle.nfs_values.specs.Call.{call_of}
 use Rattle.nfs_values.specs.Credential.{credential_of}
 use Rattle.nfs_values.specs.Moment.{moment_of}
@@ -36,7 +36,7 @@ finished_of c = record {
   number = c.number;
   xid = c.xid;
   asked = asked_in c;
-  affinity = Some (home_node c.affinity);
+  affinity = Some (call_node c.affinity);
   moment = moment_of c.moment;
   starved = c.starved;
 }

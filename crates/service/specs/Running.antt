@@ -25,7 +25,7 @@ use Rattle.nfs_model.specs.Serial.Rmdir.{rmdir}
 use Rattle.nfs_model.specs.Serial.Write.{write}
 use Rattle.nfs_model.specs.Server.{Named, VolumeState, most_bytes}
 use Rattle.nfs_model.specs.Work as works
-use Rattle.affinity.specs.Affinity.{home_node}
+use Rattle.affinity.specs.Affinity.{call_node}
 use Rattle.affinity.specs.Tree.{IsNode}
 use Rattle.nfs_values.specs.Call.{call_of}
 use Rattle.nfs_values.specs.Reply.{reply_of}
@@ -44,7 +44,7 @@ use Rattle.service.specs.declared.outcome.Outcome.TheVariants.{Replied, Starved,
 abbrev pub outcome_of : Outcome → works.Outcome
 outcome_of (Replied reply) = works.Replied (reply_of reply)
 outcome_of Starved = works.Starved
-outcome_of (Moved home) = works.Moved (home_node home)
+outcome_of (Moved home) = works.Moved (call_node home)
 
 -- ---- what is run
 

@@ -18,7 +18,7 @@ ghost use Rattle.service.specs.Running.{outcome_of, IsRunAt};
 use crate::outcome::{Outcome, outcome_grown};
 use crate::task::Run;
 use crate::totals::grow;
-use affinity::{Home, Layout};
+use affinity::{CallNode, Layout};
 use filer_state::Files;
 use nfs_values::Call;
 use parcels::AggrHeld;
@@ -45,6 +45,6 @@ pub fn run_on_aggregate(
 {
     match run.call {
         Call::Grow { volume, ranges } => outcome_grown(grow(held, *volume, *ranges)),
-        _ => Outcome::Moved(Home::Serial),
+        _ => Outcome::Moved(CallNode::Serial),
     }
 }

@@ -39,7 +39,7 @@ use crate::named::{fileid_of, fileid_of_call};
 use crate::outcome::{Outcome, outcome_read, outcome_written};
 use crate::renames::{EntryName, rename};
 use crate::task::Run;
-use affinity::{Home, Layout};
+use affinity::{CallNode, Layout};
 use filer_state::Files;
 use nfs_values::answer::{
     MakeResults, ReadDirectoryPlusResults, ReadDirectoryResults, RenameResults,
@@ -244,7 +244,7 @@ fn change(run: Run, layout: &Layout, held: &mut LogicalHeld<Files>, named: Named
             Outcome::Replied(Reply::Success(Answer::RemoveDirectory(told)))
         }
         Call::Rename { from, to } => rename_here(run, layout, held, named, from, to),
-        _ => Outcome::Moved(Home::Volume(volume.0)),
+        _ => Outcome::Moved(CallNode::Volume(volume.0)),
     }
 }
 

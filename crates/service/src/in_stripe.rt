@@ -20,7 +20,7 @@ ghost use Rattle.service.specs.Running.{
 use crate::named::fileid_of_call;
 use crate::outcome::{Outcome, outcome_read, outcome_written_in_stripe};
 use crate::task::Run;
-use affinity::{Home, Layout};
+use affinity::{CallNode, Layout};
 use filer_state::Files;
 use nfs_values::{Call, Fileid, VolumeNumber};
 use parcels::StripeHeld;
@@ -81,6 +81,6 @@ fn run_on_bytes(
             let told = write_in_stripe(held, fileid, *offset, *count, written, run.moment);
             outcome_written_in_stripe(volume, told)
         }
-        _ => Outcome::Moved(Home::Logical(volume.0)),
+        _ => Outcome::Moved(CallNode::Logical(volume.0)),
     }
 }

@@ -17,7 +17,7 @@ use crate::named::fileid_of_call;
 use crate::outcome::{Outcome, outcome_written};
 use crate::task::Run;
 use crate::totals::filesystem_status;
-use affinity::{Home, Layout};
+use affinity::{CallNode, Layout};
 use filer_state::Files;
 use nfs_values::{Answer, Call, Reply, VolumeNumber};
 use parcels::VolumeHeld;
@@ -57,6 +57,6 @@ pub fn run_on_volume(
             let told = filesystem_status(held, volume, fileid);
             Outcome::Replied(Reply::Success(Answer::FilesystemStatus(told)))
         }
-        _ => Outcome::Moved(Home::Serial),
+        _ => Outcome::Moved(CallNode::Serial),
     }
 }

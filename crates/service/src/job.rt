@@ -1,7 +1,7 @@
 //! What a depot of a filer's parcels runs.
 
 use crate::batch::BatchInHand;
-use affinity::Home;
+use affinity::CallNode;
 use nfs_values::{Call, ConnectionNumber, Credential, Moment, Reply, VolumeNumber};
 
 /// A call that a record asked for, as it is finished.
@@ -15,7 +15,7 @@ pub struct ServedCall {
     /// Whom it acts for.
     pub credential: Credential,
     /// The node that it ran on.
-    pub affinity: Home,
+    pub affinity: CallNode,
     pub moment: Moment,
     /// Whether memory ran out, so that it changed nothing and was answered so.
     pub starved: bool,

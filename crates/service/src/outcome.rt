@@ -7,7 +7,7 @@ ghost use Rattle.service.specs.totals.Census.{census_outcome};
 ghost use Rattle.service.specs.totals.Growing.{growing_outcome};
 ghost use Rattle.service.specs.Running.{outcome_of};
 
-use affinity::Home;
+use affinity::CallNode;
 use nfs_values::answer::{ReadResults, VolumeCount, WriteResults};
 use nfs_values::{Answer, Reply, Status, VolumeNumber};
 use std::alloc::AllocError;
@@ -19,7 +19,7 @@ pub enum Outcome {
     /// Memory ran out.
     Starved,
     /// It has to run on this node.
-    Moved(Home),
+    Moved(CallNode),
 }
 
 /// What a READ comes to.
@@ -41,7 +41,7 @@ pub(crate) fn outcome_written_in_stripe(
 {
     match written {
         Some(told) => Outcome::Replied(Reply::Success(Answer::Write(told))),
-        None => Outcome::Moved(Home::Logical(volume.0)),
+        None => Outcome::Moved(CallNode::Logical(volume.0)),
     }
 }
 
@@ -54,7 +54,7 @@ pub(crate) fn outcome_written(
 {
     match written {
         Ok(Some(told)) => Outcome::Replied(Reply::Success(Answer::Write(told))),
-        Ok(None) => Outcome::Moved(Home::Volume(volume.0)),
+        Ok(None) => Outcome::Moved(CallNode::Volume(volume.0)),
         Err(AllocError) => Outcome::Starved,
     }
 }

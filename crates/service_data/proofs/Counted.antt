@@ -32,7 +32,7 @@ few-free r size =
 -- ---- places, counted one after another
 
 module _ (f : ℕ → RangeValue) (all : ℕ) where
-  -- so many numbers are free before one, and all with those from it on
+  -- this many numbers are free before one, and all with those from it on
   abbrev pub FreeSoFar : ℕ → ℕ → Type 0
   FreeSoFar at free = (free ≤ 16777216 * at) × ((m : ℕ) → at + m ≡ 16 → free + free_count (each f at m) ≡ all)
 

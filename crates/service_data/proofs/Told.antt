@@ -47,7 +47,7 @@ module _ (f : ℕ → ℕ) (offset most size : ℕ) where
           let eof : true ≡ nat_le size (offset + 0) = grind (arith, nat_tests, e) in
           (λ j. ReadDone 0 (eof j) []) ∙ ap (some_told bytes offset size) none
 
-  -- so many of its bytes
+  -- this many of its bytes
   told-these : (given : ℕ) (eof : Bool) (items : List ℕ) → given ≡ min most (size - offset)
       → eof ≡ nat_le size (offset + min most (size - offset)) → items ≡ bytes given
       → ReadDone (length items) eof items ≡ read_told bytes offset most size

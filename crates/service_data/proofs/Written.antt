@@ -27,7 +27,7 @@ use Rattle.service_data.specs.Writing.{bytes_to_write, writing_outcome, WritesIn
 -- ---- what the checks leave
 
 module _ (v fileid : ℕ) (w : Writing) (s : StripeValue) where
-  -- so many bytes
+  -- this many bytes
   abbrev bytes_come_to : ℕ → StripeOutcome
   bytes_come_to n =
       if stays_within fileid w.offset n s then record {
@@ -36,7 +36,7 @@ module _ (v fileid : ℕ) (w : Writing) (s : StripeValue) where
       }
       else record { outcome = Moved (Logical v); stripe = s }
 
-  -- a failure, none, or so many
+  -- a failure, none, or this many
   abbrev comes_to : Result ℕ Status → StripeOutcome
   comes_to (Err status) = fails (status_of status) s
   comes_to (Ok n) = if n == 0 then tells (WriteDone 0 s.verifier) s else bytes_come_to n

@@ -26,7 +26,7 @@ use Rattle.filer_state.specs.bytes.WritingUp.{LogicalWrites, bytes_due, holes_of
 abbrev pub asked_to_write : ℕ → ℕ → List ℕ → Moment → Writing
 asked_to_write offset count written moment = record { offset = offset; count = count; written = written; moment = moment }
 
--- How many bytes are to be written, by a file's card and the largest size, where so many are there: STALE, INVAL for a directory,
+-- How many bytes are to be written, by a file's card and the largest size, where this many are there: STALE, INVAL for a directory,
 -- INVAL for another count, none for a count of 0, FBIG.
 abbrev pub bytes_to_write : Option Card → ℕ → ℕ → ℕ → ℕ → Result ℕ Status
 bytes_to_write None largest offset count long = Err Stale

@@ -8,7 +8,8 @@ ghost use Rattle.filer_state.specs.bytes.WritingUp.{all_blocks, for_holes, free_
 use filer_state::{Files, ranges_used};
 use parcels::{RangeHeld, VbnHeld, VolumeHeld};
 
-/// Whether the filled blocks of all files, and so many holes, are more than all blocks of a volume.
+/// Whether the filled blocks of all files, and this many holes, are more than all blocks of a
+/// volume.
 pub(crate) fn lacks_space(held: &VolumeHeld<Files>, holes: usize) -> bool
     requires used { held.now.logical.own.inodes.used < 9223372036854775808 }
     requires few { holes ≤ 17 }
@@ -20,7 +21,7 @@ pub(crate) fn lacks_space(held: &VolumeHeld<Files>, holes: usize) -> bool
     all < logical.inodes.used() + holes as u64
 }
 
-/// Whether the stock, the ranges and the dead of a volume have fewer blocks than so many.
+/// Whether the stock, the ranges and the dead of a volume have fewer blocks than this many.
 pub(crate) fn lacks_numbers(held: &VolumeHeld<Files>, holes: usize) -> bool
     requires few { holes ≤ 17 }
     ensures { result ≡ nat_lt (for_holes (volume_before held.now)) holes }

@@ -154,7 +154,7 @@ fn fill_and_write(
     Ok(())
 }
 
-/// Extends the inode of a file to an end, with so many more filled blocks. It takes no memory.
+/// Extends the inode of a file to an end, with this many more filled blocks. It takes no memory.
 fn extend_inode(held: &mut LogicalHeld<Files>, fileid: Fileid, end: u64, more: u32)
     requires room { HasRoom fileid.0 held.old.own.inodes }
     requires few { more ≤ 17 }
@@ -171,7 +171,7 @@ fn extend_inode(held: &mut LogicalHeld<Files>, fileid: Fileid, end: u64, more: u
     held.own.get_mut().inodes.set(fileid, extended);
 }
 
-/// A file of at least a size, with so many more filled blocks.
+/// A file of at least a size, with this many more filled blocks.
 fn extended_kind(kind: InodeKind, end: u64, more: u32) -> InodeKind
     requires { filled_blocks (kind_value kind) + more < 4294967296 }
     ensures { kind_value result ≡ kind_extended end more (kind_value kind) }

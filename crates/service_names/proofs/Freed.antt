@@ -105,7 +105,7 @@ none-marked (b ∷ bs) dead none = absurd (omega arith)
 
 -- ---- one stripe, span by span
 
--- numbers of a volume whose ranges have so many blocks, in two parts
+-- numbers of a volume whose ranges have this many blocks, in two parts
 pub numbers-parted : (blocks : ℕ) (xs ys : List ℕ) → AreNumbers blocks (xs ++ ys) → AreNumbers blocks xs × AreNumbers blocks ys
 numbers-parted blocks [] ys are = (tt, are)
 numbers-parted blocks (x ∷ xs) ys are = let rest = numbers-parted blocks xs ys are.1 in ((are.0, rest.0), rest.1)

@@ -14,7 +14,7 @@ use Rattle.filer_state.specs.changes.NodesDropped.{without_subdirectories}
 use Rattle.filer_state.specs.changes.NodesMade.{directories_in}
 use Rattle.filer_state.specs.changes.NodesSized.{Sizing, all_freed}
 
--- numbers that blocks of a volume can have whose ranges have so many
+-- numbers that blocks of a volume can have whose ranges have this many
 abbrev pub AreNumbers : (size : ℕ) → List ℕ → Type 0
 AreNumbers size [] = Unit {0}
 AreNumbers size (n ∷ ns) = (n < most_ranges * size) × AreNumbers size ns

@@ -42,7 +42,7 @@ page_plus_value p = record { entries = map entry_plus_of p.entries.items; is_las
 abbrev pub with_nodes : (Listed → ListedPlus) → List Listed → List Listed → PageWithNodes
 with_nodes told remaining page = record { entries = map told page; is_last = length page == length remaining }
 
--- the page whose names fit into so many bytes, and which fits whole into so many
+-- the page whose names fit into this many bytes, and which fits whole into this many
 abbrev pub page_plus_of : (Listed → ListedPlus) → ℕ → ℕ → List Listed → PageWithNodes
 page_plus_of told names room remaining = with_nodes told remaining (fitting_plus room (fitting names remaining))
 

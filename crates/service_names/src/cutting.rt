@@ -121,7 +121,7 @@ fn size_stripe(
     left
 }
 
-/// Marks blocks dead, and tells how many of so many are left. It takes no memory.
+/// Marks blocks dead, and tells how many of this many are left. It takes no memory.
 fn mark_all(dead: &mut DeadBlocks, blocks: &[BlockNumber], filled: u32) -> u32
     requires { AreNumbers dead.old.range_blocks (numbers blocks.now) }
     ensures left { result ≡ filled - length (numbers blocks.now) }

@@ -42,7 +42,7 @@ pub fn size_file(
     sized
 }
 
-/// What an inode is of where its file has a size, and so many filled blocks.
+/// What an inode is of where its file has a size, and this many filled blocks.
 fn sized_kind(kind: InodeKind, size: u64, left: u32) -> InodeKind
     ensures { (fewer : ℕ) → left ≡ filled_blocks (kind_value kind) - fewer
         → kind_value result ≡ kind_sized size fewer (kind_value kind) }

@@ -11,7 +11,7 @@ const MADE: Moment = Moment {
     nanoseconds: 0,
 };
 
-/// A file of one owner with so many bytes and filled blocks.
+/// A file of one owner with this many bytes and filled blocks.
 fn file(size: u64, filled: u32) -> Inode {
     Inode {
         attributes: StoredAttributes {

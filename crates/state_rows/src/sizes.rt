@@ -55,7 +55,7 @@ fn ends(batch: &Batch) -> (Option<BlockNumber>, Option<BlockNumber>, usize) {
     )
 }
 
-/// Looks whether a batch has so many blocks, from a first one to a last.
+/// Looks whether a batch has this many blocks, from a first one to a last.
 fn is_from(rt: &impl Abort, batch: &Batch, first: u32, last: u32, count: usize) {
     let wanted = (Some(BlockNumber(first)), Some(BlockNumber(last)), count);
     same(rt, &ends(batch), &wanted);
@@ -156,7 +156,7 @@ fn dead_of_largest_ranges(rt: HostRuntime) {
     mem::forget(dead);
 }
 
-/// How many words a search for so many blocks looks at, and how many of them give one.
+/// How many words a search for this many blocks looks at, and how many of them give one.
 fn looks(rt: &impl Abort, range: &mut Range, n: usize) -> (usize, usize) {
     let (_, looks) = range.take_counted(n).expect(rt, "refused");
     (looks.looked, looks.giving)

@@ -32,7 +32,7 @@ half_below m k h =
     let e : 2 ^ (suc k + 3) ≡ 2 ^ (k + 3) * 2 = ap (λ n. 2 ^ n) next ∙ pow-suc 2 (k + 3) in
     omega (arith, e, h)
 
--- so many buckets are passed below a power of two, if half as long a time passes four fewer
+-- this many buckets are passed below a power of two, if half as long a time passes four fewer
 pub passed_below : (m b : ℕ) → 8 ≤ m → ((k : ℕ) → m / 2 < 2 ^ (k + 3) → b < 4 * (k + 2)) → (k : ℕ) → m < 2 ^ (k + 3) → b + 4 < 4 * (k + 2)
 passed_below m b long few zero h = let short : m < 8 = h in omega (arith, long, short)
 passed_below m b long few (suc k) h = let half : b < 4 * (k + 2) = few k (half_below m k h) in omega (arith, half)

@@ -11,7 +11,7 @@ pub record IsBucketOf (time bucket : ℕ) : Type 0 where
   pub fits : time ≤ top_of bucket
   pub first : (before : ℕ) → before + 1 ≡ bucket → top_of before < time
 
--- so many calls took so long each, of which times above 2^32 - 1 aren't told apart
+-- this many calls took so long each, of which times above 2^32 - 1 aren't told apart
 pub record HasPut (time calls : ℕ) (before after : List ℕ) : Type 0 where
   pub bucket : ℕ
   pub is : IsBucketOf (min time (2 ^ 32 - 1)) bucket
@@ -21,7 +21,7 @@ pub record HasPut (time calls : ℕ) (before after : List ℕ) : Type 0 where
 abbrev pub through_by : List ℕ → ℕ → ℕ
 through_by counts bucket = sum (take (bucket + 1) counts)
 
--- the longest time of the first bucket by whose end so many percent of the calls are through
+-- the longest time of the first bucket by whose end this many percent of the calls are through
 pub record IsPercentile (counts : List ℕ) (percent time : ℕ) : Type 0 where
   pub bucket : ℕ
   pub is : time ≡ top_of bucket

@@ -25,7 +25,7 @@ impl ReplyCounts {
         ReplyCounts { counts: [0; KINDS] }
     }
 
-    /// So many of each kind, by their places.
+    /// This many of each kind, by their places.
     pub(crate) fn from_counts(counts: [u64; KINDS]) -> ReplyCounts
         ensures { kinds_in result ≡ counts }
     {

@@ -57,7 +57,7 @@ fn total_of(counts: &[u64; BUCKETS]) -> u128
     total
 }
 
-/// The first bucket by whose end hundred times the calls are so many.
+/// The first bucket by whose end hundred times the calls are this many.
 fn first_through(counts: &[u64; BUCKETS], share: u128) -> usize
     requires { share ≤ 100 * sum counts.now }
     ensures within { result < 124 }
@@ -94,15 +94,15 @@ impl Histogram {
         }
     }
 
-    /// So many calls of each bucket.
+    /// This many calls of each bucket.
     pub(crate) fn from_counts(counts: [u64; BUCKETS]) -> Histogram
         ensures { buckets_in result ≡ counts }
     {
         Histogram { counts }
     }
 
-    /// So many calls took so many microseconds each; those that took more than 2^32 - 1 count as
-    /// that.
+    /// This many calls took this many microseconds each; those that took more than 2^32 - 1 count
+    /// as that.
     pub fn put(&mut self, micros: u64, calls: u64)
         ensures { HasPut micros calls (buckets_in self.old) (buckets_in self.new) }
     {
@@ -110,7 +110,7 @@ impl Histogram {
         self.counts[bucket] = self.counts[bucket].wrapping_add(calls);
     }
 
-    /// The longest time of the bucket in which so many percent of the calls are through, in
+    /// The longest time of the bucket in which this many percent of the calls are through, in
     /// microseconds; 0 where there was no call. More than 100 percent are 100.
     pub fn percentile(&self, percent: u32) -> u64
         ensures { IsPercentile (buckets_in self.now) (min percent 100) result }

@@ -33,7 +33,7 @@ impl Drop for Tally {
     }
 }
 
-/// So many more, at a place where there is one.
+/// This many more, at a place where there is one.
 fn count_at(counts: &[AtomicU64], place: usize, more: u64) {
     if let Some(count) = counts.get(place) {
         count.fetch_add(more, Ordering::Relaxed);
@@ -79,12 +79,12 @@ impl Tally {
         self.busy.fetch_add(1, Ordering::Relaxed);
     }
 
-    /// So many calls took so many microseconds each (`Histogram::put`).
+    /// This many calls took this many microseconds each (`Histogram::put`).
     pub fn took(&self, micros: u64, calls: u64) {
         count_at(&self.times, bucket_of(micros), calls);
     }
 
-    /// So many replies were made at once so far, in all: these take the place of what was given
+    /// This many replies were made at once so far, in all: these take the place of what was given
     /// before.
     pub fn at_once(&self, counts: &ReplyCounts) {
         for (place, count) in counts.as_slice().iter().enumerate() {

@@ -74,7 +74,7 @@ impl Totals {
         }
     }
 
-    /// The longest time of the bucket in which so many percent of the timed calls are through, in
+    /// The longest time of the bucket in which this many percent of the timed calls are through, in
     /// microseconds; 0 where no call was timed (`Histogram::percentile`).
     pub fn percentile(&self, percent: u32) -> u64
         ensures { IsPercentile (buckets_in (times_in self.now)) (min percent 100) result }

@@ -197,8 +197,8 @@ impl Blocks {
         false
     }
 
-    /// Gives back the memory of so many blocks at least that cuts took, or of all that is left, and
-    /// tells of how many.
+    /// Gives back the memory of this many blocks at least that cuts took, or of all that is left,
+    /// and tells of how many.
     pub fn give_back(&mut self, blocks: usize) -> usize
         ensures same { self.new ≡ self.old }
         ensures long { IsLong self.new }

@@ -232,8 +232,8 @@ fn pass_on(span: Span, gone: &mut Vec<Span>, memory: GiveBack, freed: &mut Freed
     }
 }
 
-/// Gives back the memory of spans with so many blocks at least, or of all that are left, and tells
-/// how many blocks they had.
+/// Gives back the memory of spans with this many blocks at least, or of all that are left, and
+/// tells how many blocks they had.
 pub fn give_back(gone: &mut Vec<Span>, blocks: usize) -> usize {
     let mut given = 0_usize;
     for _span in 0..blocks {

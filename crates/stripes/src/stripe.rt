@@ -93,7 +93,7 @@ impl Model for Stripe {
 }
 
 impl Stripe {
-    /// A stripe of a volume with so many stripes and a largest size of a file, with the write
+    /// A stripe of a volume with this many stripes and a largest size of a file, with the write
     /// verifier of the run. It takes no memory.
     pub fn new(alloc: Global, verifier: Verifier, stripes: u32, largest: u64) -> Stripe
         ensures { result ≡ empty_stripe verifier.0 stripes largest }
@@ -291,7 +291,7 @@ impl Stripe {
         self.blocks.cut(fileid.0, size, memory, freed)
     }
 
-    /// Gives back the memory of so many blocks at least that cuts left for later, or of all that
+    /// Gives back the memory of this many blocks at least that cuts left for later, or of all that
     /// they left, and tells of how many blocks.
     pub fn give_back(&mut self, blocks: usize) -> usize
         ensures { self.new ≡ self.old }

@@ -59,7 +59,7 @@ abbrev pub BringsRecord : Offer → Option State → List ℕ → Result Heard �
 BringsRecord offer at bytes (Ok h) at' = Adds offer at bytes (h ∷ []) at'
 BringsRecord offer at bytes (Err fault) at' = Brings offer at bytes [] (Some fault)
 
--- so many of the bytes came to this
+-- this many of the bytes came to this
 abbrev pub Comes : Offer → Option State → List ℕ → ℕ → Next → Option State → Type 0
 Comes offer at bytes taken nexts.More at' = (taken ≡ length bytes) × Adds offer at (take taken bytes) [] at'
 Comes offer at bytes taken (nexts.Record made) at' = (0 < taken) × BringsRecord offer at (take taken bytes) (heard offer made.items) at'

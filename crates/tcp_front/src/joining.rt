@@ -52,7 +52,7 @@ fn join<S: RecordSource>(source: &mut S, buffer: &mut Vec<u8>) -> Joined
     Joined::Many
 }
 
-/// Writes a piece after so many bytes went out. Answers how many these are then.
+/// Writes a piece after this many bytes went out. Answers how many these are then.
 fn send<W: Write>(writer: &mut Counted<W>, piece: &[u8], sent: u64) -> Result<u64, WriteFault>
     requires { may_fail writer.old }
     ensures { HasSentMore W.contents writer.old piece.now sent result writer.new }

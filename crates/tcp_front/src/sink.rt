@@ -7,7 +7,7 @@ ghost use Rattle.nfs_model.specs.Tree as trees;
 ghost use Rattle.rpc_msg.specs.declared.handle_form.HandleForm.{HandleForm};
 ghost use Rattle.nfs_values.specs.Call.{call_of};
 ghost use Rattle.nfs_values.specs.Reply.{reply_of};
-ghost use Rattle.affinity.specs.Affinity.{home_node};
+ghost use Rattle.affinity.specs.Affinity.{call_node};
 ghost use Rattle.engine_feed.specs.Seen.{message_of};
 ghost use Rattle.engine_feed.specs.Sound.{IsAdmitted};
 ghost use Rattle.rpc_msg.specs.Handles.{reply_told};
@@ -41,7 +41,7 @@ pub trait RecordSink {
         requires room { room self.old ≡ true }
         requires admitted { IsAdmitted (layout self.old) message }
         requires at_home { home (layout self.old) (call_of message.call)
-            ≡ Some (home_node message.affinity) }
+            ≡ Some (call_node message.affinity) }
         requires short { message.room ≤ most_bytes }
         ensures ok { OnOk result (came self.old (Waits (message_of message) ∷ []) self.new) }
         ensures err { OnErr result (came self.old [] self.new) }

@@ -12,7 +12,7 @@ use outboxes::Record;
 use std::io::Write;
 use std::sync::Wait;
 
-/// A writer failed, after so many bytes went out. The count stays at the last value of its type.
+/// A writer failed, after this many bytes went out. The count stays at the last value of its type.
 #[derive(Clone, Copy)]
 pub struct WriteFault {
     pub sent: u64,

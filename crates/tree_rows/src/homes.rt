@@ -3,7 +3,7 @@
 use crate::holds::holds;
 use crate::layouts::two_volumes;
 use affinity::homes::home_of;
-use affinity::{Home, Layout};
+use affinity::{CallNode, Layout};
 use nfs_values::{
     BytesToWrite, Call, Cookie, CreateMode, FileHandle, Name, SetAttributes, SetTime, Target,
     UnsupportedProcedure, Verifier, VolumeNumber,
@@ -41,14 +41,14 @@ fn target(alloc: Global) -> Target {
 }
 
 /// Looks whether this is a call's home.
-fn has_home(rt: &impl Abort, layout: &Layout, call: Call, home: Option<Home>) {
+fn has_home(rt: &impl Abort, layout: &Layout, call: Call, home: Option<CallNode>) {
     holds(rt, home_of(&call, layout) == home);
     mem::forget(call);
 }
 
 /// Looks whether the home of calls is Volume Logical of volume 1.
 fn is_logical(rt: &impl Abort, layout: &Layout, call: Call) {
-    has_home(rt, layout, call, Some(Home::Logical(1)));
+    has_home(rt, layout, call, Some(CallNode::Logical(1)));
 }
 
 #[test]
@@ -160,9 +160,9 @@ fn status(volume: u8) -> Call {
 #[test]
 fn homes_of_whole_volumes(rt: HostRuntime) {
     let layout = two_volumes(&rt);
-    has_home(&rt, &layout, status(0), Some(Home::Volume(0)));
-    has_home(&rt, &layout, growth(0), Some(Home::Aggregate(1)));
-    has_home(&rt, &layout, Call::Census, Some(Home::Serial));
+    has_home(&rt, &layout, status(0), Some(CallNode::Volume(0)));
+    has_home(&rt, &layout, growth(0), Some(CallNode::Aggregate(1)));
+    has_home(&rt, &layout, Call::Census, Some(CallNode::Serial));
     mem::forget(layout);
 }
 
@@ -204,10 +204,10 @@ const SPANS: [(u64, u32, Option<u32>); 12] = [
 ];
 
 /// Its home.
-fn home_at(stripe: Option<u32>) -> Option<Home> {
+fn home_at(stripe: Option<u32>) -> Option<CallNode> {
     match stripe {
-        Some(stripe) => Some(Home::Stripe { volume: 0, stripe }),
-        None => Some(Home::Logical(0)),
+        Some(stripe) => Some(CallNode::Stripe { volume: 0, stripe }),
+        None => Some(CallNode::Logical(0)),
     }
 }
 
@@ -256,7 +256,7 @@ const STRIPES: [(u64, u32); 4] = [(0, 2), (8, 10), (13, 15), (14, 0)];
 fn spans_of_16_stripes(rt: HostRuntime) {
     let layout = two_volumes(&rt);
     for (span, stripe) in &STRIPES {
-        let home = Home::Stripe {
+        let home = CallNode::Stripe {
             volume: 1,
             stripe: *stripe,
         };

@@ -1,30 +1,30 @@
 //! Messages found by affinity, and a thousand of them.
 
-ghost use Rattle.affinity.specs.Affinity.{home_node};
+ghost use Rattle.affinity.specs.Affinity.{call_node};
 ghost use Rattle.scheduler.specs.QueueNumber.{HasQueue};
 
 use crate::holds::holds;
-use affinity::Home;
+use affinity::CallNode;
 use nfs_values::{ConnectionNumber, Credential};
 use scheduler::{Message, NoSuchCall, Origin, Waiting};
 use std::mem;
 use std::process::Abort;
 
-const LOGICAL: Home = Home::Logical(0);
+const LOGICAL: CallNode = CallNode::Logical(0);
 
-const STRIPE: Home = Home::Stripe {
+const STRIPE: CallNode = CallNode::Stripe {
     volume: 0,
     stripe: 2,
 };
 
-const OTHER_STRIPE: Home = Home::Stripe {
+const OTHER_STRIPE: CallNode = CallNode::Stripe {
     volume: 0,
     stripe: 3,
 };
 
 /// Lets a message of the first connection wait. The number of one that found no place.
-fn refused(waiting: &mut Waiting<u32>, number: usize, affinity: Home) -> Option<usize>
-    requires { HasQueue (home_node affinity) }
+fn refused(waiting: &mut Waiting<u32>, number: usize, affinity: CallNode) -> Option<usize>
+    requires { HasQueue (call_node affinity) }
 {
     let message = Message {
         origin: Origin {

@@ -8,7 +8,7 @@ use Rattle.nfs_model.specs.Tree.{Layout}
 use Rattle.nfs_values.specs.Reply.{reply_of}
 use Rattle.nfs_values.specs.declared.moment.Moment.{Moment}
 use Rattle.nfs_values.specs.declared.reply.Reply.{Reply}
-use Rattle.affinity.specs.Affinity.{home_affinity, home_node}
+use Rattle.affinity.specs.Affinity.{call_affinity, call_node}
 use Rattle.affinity.specs.Fault.{fault_of}
 use Rattle.affinity.specs.Numbers.{number_of, parents}
 use Rattle.parcels.specs.Exact.{kind_in}
@@ -317,18 +317,18 @@ begins took took_none layout verifier s moment sink m pass l w stands =
 
 module _ (layout : Layout) (verifier : List ℕ) (s : Standing) (m : Message) (v : FilerView) (pass : Passed) (picked : IsPicked s v pass m)
     (ready : IsReady layout verifier v) where
-  pub stands-first : (l : FilerLent) (w : FilerView) → v.tree ≡ parents layout → IsGranted kind_in filer_behaviour layout v (home_node m.affinity) l w
+  pub stands-first : (l : FilerLent) (w : FilerView) → v.tree ≡ parents layout → IsGranted kind_in filer_behaviour layout v (call_node m.affinity) l w
       → Stands layout verifier s m pass l w
   stands-first l w tree granted = record {
     ready = subst (λ (x : FilerView). IsReady layout verifier x) picked.view ready;
     tree = sym (ap (λ (x : FilerView). x.tree) picked.view) ∙ tree;
-    granted = subst (λ (x : FilerView). IsGranted kind_in filer_behaviour layout x (home_node m.affinity) l w) picked.view granted;
+    granted = subst (λ (x : FilerView). IsGranted kind_in filer_behaviour layout x (call_node m.affinity) l w) picked.view granted;
     picked = record { view = refl; next = picked.next; put = picked.put };
   }
 
   -- it was refused
   pub refused-served : {S : Type 0} (took : S → List Addressed → S → Type 0) (took_none : (x : S) → took x [] x) (moment : Moment) (sink : S)
-      (w : FilerView) (refusal : Refusal) → IsRefused layout v (home_affinity m.affinity) refusal w
+      (w : FilerView) (refusal : Refusal) → IsRefused layout v (call_affinity m.affinity) refusal w
       → HasServedOn took layout s moment sink (chained_by refusal) sink (left_standing w pass (Some m))
   refused-served took took_none moment sink w (refusals.Busy at word) refused = record {
     answers = [];
@@ -339,8 +339,8 @@ module _ (layout : Layout) (verifier : List ℕ) (s : Standing) (m : Message) (v
       m,
       record { view = refl; next = picked.next; put = picked.put },
       refl,
-      subst (λ (x : FilerView). IsRefused layout x (home_affinity m.affinity) (refusals.Busy at word) w) picked.view refused,
-      refused-entries layout v w (home_affinity m.affinity) (refusals.Busy at word) refused ∙ ap (λ (x : FilerView). entries_of x) picked.view,
+      subst (λ (x : FilerView). IsRefused layout x (call_affinity m.affinity) (refusals.Busy at word) w) picked.view refused,
+      refused-entries layout v w (call_affinity m.affinity) (refusals.Busy at word) refused ∙ ap (λ (x : FilerView). entries_of x) picked.view,
     );
     suits = (refl, refl);
   }
@@ -353,8 +353,8 @@ module _ (layout : Layout) (verifier : List ℕ) (s : Standing) (m : Message) (v
       m,
       record { view = refl; next = picked.next; put = picked.put },
       refl,
-      subst (λ (x : FilerView). IsRefused layout x (home_affinity m.affinity) refusals.Worn w) picked.view refused,
-      refused-entries layout v w (home_affinity m.affinity) refusals.Worn refused ∙ ap (λ (x : FilerView). entries_of x) picked.view,
+      subst (λ (x : FilerView). IsRefused layout x (call_affinity m.affinity) refusals.Worn w) picked.view refused,
+      refused-entries layout v w (call_affinity m.affinity) refusals.Worn refused ∙ ap (λ (x : FilerView). entries_of x) picked.view,
     );
     suits = (refl, refl);
   }
@@ -437,7 +437,7 @@ module _ {S : Type 0} (took : S → List Addressed → S → Type 0) (took_none 
           ends = (
             x.0,
             returned h.between x.0 x.0 x.1 x.2 x.4,
-            subst (λ (v : FilerView). IsRefused layout h.between.view (home_affinity x.0.affinity) (refusals.Busy at word) v) (sym last) x.3,
+            subst (λ (v : FilerView). IsRefused layout h.between.view (call_affinity x.0.affinity) (refusals.Busy at word) v) (sym last) x.3,
           );
         }
     not-all chains.Worn is did =
@@ -452,7 +452,7 @@ module _ {S : Type 0} (took : S → List Addressed → S → Type 0) (took_none 
           ends = (
             x.0,
             returned h.between x.0 x.0 x.1 x.2 x.4,
-            subst (λ (v : FilerView). IsRefused layout h.between.view (home_affinity x.0.affinity) refusals.Worn v) (sym last) x.3,
+            subst (λ (v : FilerView). IsRefused layout h.between.view (call_affinity x.0.affinity) refusals.Worn v) (sym last) x.3,
           );
         }
     not-all chains.Idle is did =

@@ -3,7 +3,7 @@ use Rattle.std.proofs.Common.{◌≡◌, ◌≤◌, ◌+◌, ℕ, List, [], ◌�
 use Rattle.nfs_model.specs.Tree.{Layout, Affinity}
 use Rattle.nfs_values.specs.declared.moment.Moment.{Moment}
 use Rattle.nfs_values.specs.declared.reply.Reply.{Reply}
-use Rattle.affinity.specs.Affinity.{home_node}
+use Rattle.affinity.specs.Affinity.{call_node}
 use Rattle.affinity.specs.Numbers.{number_of}
 use Rattle.parcels.specs.Exact.{kind_in}
 use Rattle.depot_rule.specs.History.{entries_of}
@@ -45,9 +45,9 @@ module _ {S : Type 0} (took : S → List Addressed → S → Type 0) (layout : L
   pub on-size : (next : Message) → HasLinked took layout verifier b m moment pass l w sink (links.On next) said pass' l' w' sink'
       → length (entries_of w') ≡ length (entries_of w) + 1
   on-size next h =
-      let here = granted-size layout b.view w (home_node m.affinity) l stands.granted in
+      let here = granted-size layout b.view w (call_node m.affinity) l stands.granted in
       let one = one-more (entries_of b.view) (entries_of h.1.view) h.2.finished.entry h.2.finished.entries in
-      let there = granted-size layout h.1.view w' (home_node next.affinity) l' h.4.granted in
+      let there = granted-size layout h.1.view w' (call_node next.affinity) l' h.4.granted in
       omega (arith, here, one, there)
 
   -- or none
@@ -55,8 +55,8 @@ module _ {S : Type 0} (took : S → List Addressed → S → Type 0) (layout : L
       → length (entries_of w') ≡ length (entries_of w)
   over-size tried h =
       let o = h.1 in
-      let here = granted-size layout b.view w (home_node m.affinity) l stands.granted in
-      let there = granted-size layout b.view o.holding (home_node o.message.affinity) o.before o.stands.granted in
+      let here = granted-size layout b.view w (call_node m.affinity) l stands.granted in
+      let there = granted-size layout b.view o.holding (call_node o.message.affinity) o.before o.stands.granted in
       let same = stayed-size tried o.holding w' o.stayed in
       omega (arith, here, there, same)
 

@@ -5,8 +5,8 @@ use Rattle.nfs_model.specs.Tree.{Layout}
 use Rattle.nfs_values.specs.Reply.{reply_of}
 use Rattle.nfs_values.specs.declared.moment.Moment.{Moment}
 use Rattle.nfs_values.specs.declared.reply.Reply.{Reply}
-use Rattle.affinity.specs.declared.affinity.Home.{Home}
-use Rattle.affinity.specs.Affinity.{home_node}
+use Rattle.affinity.specs.declared.affinity.CallNode.{CallNode}
+use Rattle.affinity.specs.Affinity.{call_node}
 use Rattle.affinity.specs.Fault.{fault_of}
 use Rattle.affinity.specs.Numbers.{number_of, parents}
 use Rattle.parcels.specs.Exact.{kind_in}
@@ -131,7 +131,7 @@ module _ (layout : Layout) (lawful : fault_of layout ≡ None) (verifier : List 
         ready = is-ready;
         tree = ap (λ (x : FilerView). x.tree) finished.3 ∙ holding-tree;
         granted = subst (λ a. IsGranted kind_in filer_behaviour layout u a l' w')
-            (enters.ran.done.affinity ∙ stands.granted.affinity ∙ ap home_node (sym same)) granted;
+            (enters.ran.done.affinity ∙ stands.granted.affinity ∙ ap call_node (sym same)) granted;
         picked = record { view = refl; next = inr (refl, ahead.0); put = ahead.1 };
       }
 
@@ -144,7 +144,7 @@ entered-so layout m moment l l' tried told e next is ran = (subst (λ (t : Tried
 module _ (layout : Layout) (lawful : fault_of layout ≡ None) (verifier : List ℕ) (b : Standing) (m : Message) (placed : IsPlaced layout m)
     (moment : Moment) (pass : Passed) (l : FilerLent) (w : FilerView) (stands : Stands layout verifier b m pass l w) (said : Reply)
     (l' : FilerLent) where
-  pub link-moved : (tried : Tried) (back : Message) (to : Home) → tried ≡ tries.Moved back to → HasRunSo layout m moment l tried said l'
+  pub link-moved : (tried : Tried) (back : Message) (to : CallNode) → tried ≡ tries.Moved back to → HasRunSo layout m moment l tried said l'
       → IsOver layout verifier moment b (tries.Moved back to) said pass l' w
   link-moved tried back to is ran = record {
     message = m;

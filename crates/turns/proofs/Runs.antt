@@ -11,7 +11,7 @@ use Rattle.desk.specs.laws.Backing.{IsWhole, IsDone}
 use Rattle.nfs_values.specs.declared.reply.Refusal.TheVariants.{SystemError}
 use Rattle.nfs_values.specs.declared.reply.Reply.{Reply}
 use Rattle.nfs_values.specs.declared.reply.Reply.TheVariants.{Refused}
-use Rattle.affinity.specs.declared.affinity.Home.{Home}
+use Rattle.affinity.specs.declared.affinity.CallNode.{CallNode}
 use Rattle.service.specs.declared.outcome.Outcome.{Outcome}
 use Rattle.service.specs.declared.outcome.Outcome.TheVariants as outcomes
 use Rattle.service.specs.Running.{HasRun}
@@ -41,5 +41,5 @@ module _ (outcome : Outcome) (ended : Ended) (said : Reply) (says : HasTold outc
   pub starved-so : ended ≡ ends.Starved → (outcome ≡ outcomes.Starved) × (said ≡ Refused SystemError)
   starved-so is = subst (λ (x : Ended). HasTold outcome x said) is says
 
-  pub moved-so : (to : Home) → ended ≡ ends.Moved to → outcome ≡ outcomes.Moved to
+  pub moved-so : (to : CallNode) → ended ≡ ends.Moved to → outcome ≡ outcomes.Moved to
   moved-so to is = subst (λ (x : Ended). HasTold outcome x said) is says

@@ -10,9 +10,9 @@ use Rattle.nfs_values.specs.Reply.{reply_of}
 use Rattle.nfs_values.specs.declared.moment.Moment.{Moment}
 use Rattle.nfs_values.specs.declared.reply.Reply.{Reply}
 use Rattle.affinity.specs.declared.affinity.Affinity as codes
-use Rattle.affinity.specs.declared.affinity.Home.{Home}
+use Rattle.affinity.specs.declared.affinity.CallNode.{CallNode}
 use Rattle.affinity.specs.Ancestors.{Covers}
-use Rattle.affinity.specs.Affinity.{home_node}
+use Rattle.affinity.specs.Affinity.{call_node}
 use Rattle.affinity.specs.Fault.{fault_of}
 use Rattle.affinity.specs.Numbers.{number_of, parents}
 use Rattle.affinity.specs.Tree.{IsNode}
@@ -58,7 +58,7 @@ module _ (layout : Layout) (lawful : fault_of layout ≡ None) (m : Message) (pl
     (v w : FilerView) (of_v : v.tree ≡ parents layout) (of_w : w.tree ≡ parents layout)
     (outcome : Outcome) (l : FilerLent) (r : HasRunOn layout v m moment outcome l w) where
   abbrev node : Affinity
-  node = home_node m.affinity
+  node = call_node m.affinity
 
   abbrev before : Parcels
   before = r.before.parcels
@@ -176,7 +176,7 @@ module _ (layout : Layout) (lawful : fault_of layout ≡ None) (m : Message) (pl
 
   -- ---- it moves
 
-  module _ (to : Home) (is : outcome ≡ outcomes.Moved to) where
+  module _ (to : CallNode) (is : outcome ≡ outcomes.Moved to) where
     moved : HasRun m.call (credential_of m.credential) (moment_of moment) layout node before (outcomes.Moved to) l.parcels
     moved = subst (λ (o : Outcome). HasRun m.call (credential_of m.credential) (moment_of moment) layout node before o l.parcels) is told
 

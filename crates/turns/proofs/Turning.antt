@@ -7,7 +7,7 @@ use Rattle.nfs_model.specs.Tree as trees
 use Rattle.nfs_values.specs.declared.moment.Moment.{Moment}
 use Rattle.affinity.specs.declared.layout.Layout.{Layout}
 use Rattle.affinity.specs.Layout.{layout_of}
-use Rattle.affinity.specs.Affinity.{home_affinity}
+use Rattle.affinity.specs.Affinity.{call_affinity}
 use Rattle.depot_rule.specs.declared.view.Entry.{Entry}
 use Rattle.depot_rule.specs.Sums.{total}
 use Rattle.depot_rule.specs.lemmas.Sums.{total-append}
@@ -244,14 +244,14 @@ module _ (layout : trees.Layout) (before picked tried after : Worker) (moment : 
   turn-did (turns.Busy at word) did = (
     did.0,
     returned did.0 did.0 did.1 did.2 did.3,
-    subst (λ (x : FilerView). IsRefused layout x (home_affinity did.0.affinity) (refusals.Busy at word) (seat_view after)) seat
-        (subst (λ (x : FilerView). IsRefused layout (seat_view picked) (home_affinity did.0.affinity) (refusals.Busy at word) x) (sym last) did.4),
+    subst (λ (x : FilerView). IsRefused layout x (call_affinity did.0.affinity) (refusals.Busy at word) (seat_view after)) seat
+        (subst (λ (x : FilerView). IsRefused layout (seat_view picked) (call_affinity did.0.affinity) (refusals.Busy at word) x) (sym last) did.4),
   )
   turn-did turns.Worn did = (
     did.0,
     returned did.0 did.0 did.1 did.2 did.3,
-    subst (λ (x : FilerView). IsRefused layout x (home_affinity did.0.affinity) refusals.Worn (seat_view after)) seat
-        (subst (λ (x : FilerView). IsRefused layout (seat_view picked) (home_affinity did.0.affinity) refusals.Worn x) (sym last) did.4),
+    subst (λ (x : FilerView). IsRefused layout x (call_affinity did.0.affinity) refusals.Worn (seat_view after)) seat
+        (subst (λ (x : FilerView). IsRefused layout (seat_view picked) (call_affinity did.0.affinity) refusals.Worn x) (sym last) did.4),
   )
   turn-did turns.Idle did =
       let none = nothing-put did.1 in

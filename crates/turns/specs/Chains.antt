@@ -2,7 +2,7 @@
 use Rattle.std.specs.Prelude.{◌≡◌, ◌<◌, ◌≤◌, ◌+◌, ◌-◌, ℕ, Bool, true, false, List, [], ◌∷◌, ◌++◌, length, Option, Some, None}
 use Rattle.nfs_model.specs.Tree.{Layout}
 use Rattle.nfs_values.specs.declared.moment.Moment.{Moment}
-use Rattle.affinity.specs.Affinity.{home_affinity}
+use Rattle.affinity.specs.Affinity.{call_affinity}
 use Rattle.depot_rule.specs.History.{entries_of}
 use Rattle.depot.specs.Grants.{IsRefused}
 use Rattle.depot.specs.declared.grants.Refusal.{Refusal}
@@ -59,11 +59,11 @@ Suits answers sink (chains.Busy at word) sink' = (answers ≡ []) × (sink' ≡ 
 Suits answers sink chains.Worn sink' = (answers ≡ []) × (sink' ≡ sink)
 Suits answers sink chains.Idle sink' = (answers ≡ []) × (sink' ≡ sink)
 
--- a seat finished at most so many calls more
+-- a seat finished at most this many calls more
 abbrev pub HasDoneFew : ℕ → FilerView → FilerView → Type 0
 HasDoneFew most v w = length (entries_of w) ≤ length (entries_of v) + most
 
--- where at most so many turns are asked for: one is made at least
+-- where at most this many turns are asked for: one is made at least
 abbrev pub turns_at_most : ℕ → ℕ
 turns_at_most most = 1 + (most - 1)
 
@@ -97,10 +97,10 @@ IsLeft layout between moment chains.Moved after =
     × HasMoved layout between.view m moment m' after.view × (entries_of after.view ≡ entries_of between.view)
 IsLeft layout between moment (chains.Busy at word) after =
     (m : Message) × IsPicked between between.view after.pass m × (after.kept ≡ Some m)
-    × IsRefused layout between.view (home_affinity m.affinity) (refusals.Busy at word) after.view × (entries_of after.view ≡ entries_of between.view)
+    × IsRefused layout between.view (call_affinity m.affinity) (refusals.Busy at word) after.view × (entries_of after.view ≡ entries_of between.view)
 IsLeft layout between moment chains.Worn after =
     (m : Message) × IsPicked between between.view after.pass m × (after.kept ≡ Some m)
-    × IsRefused layout between.view (home_affinity m.affinity) refusals.Worn after.view × (entries_of after.view ≡ entries_of between.view)
+    × IsRefused layout between.view (call_affinity m.affinity) refusals.Worn after.view × (entries_of after.view ≡ entries_of between.view)
 IsLeft layout between moment chains.Idle after = ⊥
 
 -- so was a message tried, and those after it that try the same node

@@ -7,7 +7,7 @@ use Rattle.nfs_values.specs.declared.moment.Moment.{Moment}
 use Rattle.rpc_msg.specs.declared.handle_form.HandleForm.{HandleForm}
 use Rattle.nfs_values.specs.declared.reply.Reply.{Reply}
 use Rattle.rpc_msg.specs.Handles.{reply_told}
-use Rattle.affinity.specs.Affinity.{home_node}
+use Rattle.affinity.specs.Affinity.{call_node}
 use Rattle.affinity.specs.Numbers.{number_of, parents}
 use Rattle.parcels.specs.Exact.{kind_in}
 use Rattle.depot_rule.specs.declared.view.Read.{Read}
@@ -75,7 +75,7 @@ HasRunSo layout m moment l (tries.Entered e next) told l' = (next ≡ None) × I
 pub record Stands (layout : Layout) (verifier : List ℕ) (b : Standing) (m : Message) (pass : Passed) (l : FilerLent) (w : FilerView) : Type 0 where
   pub ready : IsReady layout verifier b.view
   pub tree : b.view.tree ≡ parents layout
-  pub granted : IsGranted kind_in filer_behaviour layout b.view (home_node m.affinity) l w
+  pub granted : IsGranted kind_in filer_behaviour layout b.view (call_node m.affinity) l w
   pub picked : IsPicked b b.view pass m
 
 -- nothing but reads was added

@@ -3,9 +3,9 @@ use Rattle.std.specs.Prelude.{◌≤◌, ℕ, length}
 use Rattle.nfs_model.specs.Tree as trees
 use Rattle.nfs_values.specs.Call.{call_of}
 use Rattle.nfs_values.specs.declared.call.Call.{Call}
-use Rattle.affinity.specs.declared.affinity.Home.{Home}
+use Rattle.affinity.specs.declared.affinity.CallNode.{CallNode}
 use Rattle.affinity.specs.declared.layout.Layout.{Layout}
-use Rattle.affinity.specs.Affinity.{home_node}
+use Rattle.affinity.specs.Affinity.{call_node}
 use Rattle.affinity.specs.Layout.{layout_of}
 use Rattle.affinity.specs.Tree.{IsNode}
 use Rattle.rpc_msg.specs.Room.{reply_room}
@@ -29,12 +29,12 @@ message_of_call s room = record {
 
 -- a message tries a node of the layout at which its call is run, and each reply to the call fits its room
 pub record IsPlaced (layout : trees.Layout) (m : Message) : Type 0 where
-  pub node : IsNode layout (home_node m.affinity)
-  pub run : IsRunAt layout m.call (home_node m.affinity)
+  pub node : IsNode layout (call_node m.affinity)
+  pub run : IsRunAt layout m.call (call_node m.affinity)
   pub room : reply_room (length layout.volumes) (call_of m.call) ≤ m.room
 
 -- it tries another node
-abbrev pub readdressed : Home → Message → Message
+abbrev pub readdressed : CallNode → Message → Message
 readdressed to m = record m { affinity = to }
 
 abbrev pub Fits : Layout → Message → Type 0

@@ -7,7 +7,7 @@ use Rattle.nfs_values.specs.declared.moment.Moment.{Moment}
 use Rattle.nfs_values.specs.declared.reply.Refusal.TheVariants.{SystemError}
 use Rattle.nfs_values.specs.declared.reply.Reply.{Reply}
 use Rattle.nfs_values.specs.declared.reply.Reply.TheVariants.{Refused}
-use Rattle.affinity.specs.Affinity.{home_node}
+use Rattle.affinity.specs.Affinity.{call_node}
 use Rattle.affinity.specs.Numbers.{parents}
 use Rattle.parcels.specs.Exact.{kind_in}
 use Rattle.desk.specs.laws.Books.{Lent}
@@ -29,7 +29,7 @@ FilerLent = Lent (FilerParcel Files)
 -- a depot granted a seat the parcels of what a message tries, and the run of its call came to this, and left them so
 pub record HasRunOn (layout : Layout) (v : FilerView) (m : Message) (moment : Moment) (outcome : Outcome) (l : FilerLent) (w : FilerView) : Type 0 where
   pub before : FilerLent
-  pub granted : IsGranted kind_in filer_behaviour layout v (home_node m.affinity) before w
+  pub granted : IsGranted kind_in filer_behaviour layout v (call_node m.affinity) before w
   pub done : IsDone (HasRun m.call (credential_of m.credential) (moment_of moment)) layout before outcome l
   pub whole : IsWhole kind_in layout l
 
@@ -38,7 +38,7 @@ pub record IsLentFor (layout : Layout) (m : Message) (l : FilerLent) : Type 0 wh
   pub before : FilerView
   pub holding : FilerView
   pub tree : before.tree ≡ parents layout
-  pub granted : IsGranted kind_in filer_behaviour layout before (home_node m.affinity) l holding
+  pub granted : IsGranted kind_in filer_behaviour layout before (call_node m.affinity) l holding
 
 -- the run of a message's call on what is lent came to this, and left it so
 pub record HasRunFrom (layout : Layout) (m : Message) (moment : Moment) (l : FilerLent) (outcome : Outcome) (l' : FilerLent) : Type 0 where

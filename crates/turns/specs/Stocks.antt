@@ -11,7 +11,7 @@ use Rattle.turns.specs.declared.stock.NoStock.{NoStock}
 
 -- ---- of a stock
 
--- so many numbers are enough: 4 GiB of blocks
+-- this many numbers are enough: 4 GiB of blocks
 abbrev pub enough_stocked : ℕ
 enough_stocked = 1048576
 

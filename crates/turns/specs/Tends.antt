@@ -87,7 +87,7 @@ abbrev pub blocks_moved : Tended → ℕ
 blocks_moved (tendeds.InHand count) = count
 blocks_moved (tendeds.PutDown count) = count
 
--- what a tend did by the count that it answers: so many blocks are in the hand, or were put down
+-- what a tend did by the count that it answers: this many blocks are in the hand, or were put down
 abbrev pub TendsTo : Layout → Worker → Tend → Result ℕ TendRefusal → Worker → Type 0
 TendsTo layout before tend (Ok count) after = (tended : Tended) × Tends layout before tend (Ok tended) after × (count ≡ blocks_moved tended)
 TendsTo layout before tend (Err refusal) after = Tends layout before tend (Err refusal) after
@@ -102,12 +102,12 @@ tend_refusal_number NoMemory = 90
 
 -- ---- which tend is next
 
--- Whether the tend after so many is a cull of this volume, where a stock is known to have enough numbers: each second tend is one, and
+-- Whether the tend after this many is a cull of this volume, where a stock is known to have enough numbers: each second tend is one, and
 -- the tend after it too where it is the volume's stock that has.
 abbrev pub is_cull : (made volume : ℕ) → (stocked : Option ℕ) → Bool
 is_cull made volume stocked = (made % 2 == 0) || is_stocked stocked volume
 
--- With a batch in the hand it is put down. With an empty one, after so many such tends, a cull is next or a fetch, in turn: each two
+-- With a batch in the hand it is put down. With an empty one, after this many such tends, a cull is next or a fetch, in turn: each two
 -- of them are of the next volume, and once round the volumes, the fetches are of the next range. A cull takes the place of a fetch just
 -- where the volume's stock had enough numbers when the worker looked last.
 abbrev pub IsNextTend : (volumes made : ℕ) → (stocked : Option ℕ) → Hand → Tend → Type 0

@@ -8,8 +8,8 @@ use Rattle.nfs_values.specs.Call.{call_of}
 use Rattle.nfs_values.specs.Credential.{credential_of}
 use Rattle.nfs_values.specs.Moment.{moment_of}
 use Rattle.nfs_values.specs.declared.moment.Moment.{Moment}
-use Rattle.affinity.specs.declared.affinity.Home.{Home}
-use Rattle.affinity.specs.Affinity.{home_affinity, home_node}
+use Rattle.affinity.specs.declared.affinity.CallNode.{CallNode}
+use Rattle.affinity.specs.Affinity.{call_affinity, call_node}
 use Rattle.affinity.specs.Numbers.{number_of}
 use Rattle.depot_rule.specs.History.{Behaviour, behaviour, entries_of}
 use Rattle.depot_rule.specs.Plays.{HasAdded}
@@ -109,22 +109,22 @@ pub record HasFinished (v : FilerView) (m : Message) (moment : Moment) (a : Addr
 -- on what the message tries, and had just these parcels by that grant, as a history left them that begins with all that the seat had
 -- seen; on them the call moves there; and the grant was put back, without an entry.
 pub record HasMoved (layout : Layout) (v : FilerView) (m : Message) (moment : Moment) (m' : Message) (w : FilerView) : Type 0 where
-  pub to : Home
+  pub to : CallNode
   pub message : m' ≡ record m { affinity = to }
   pub placed : IsPlaced layout m'
   pub parcels : ℕ → Option (FilerParcel Files)
   pub holding : FilerView
-  pub begun : IsBegun v (number_of layout (home_node m.affinity)) parcels holding
-  pub granted : IsAfter filer_behaviour v (number_of layout (home_node m.affinity)) parcels
-  pub moves : MovesTo layout (home_node m.affinity) (Ask (call_of m.call) (credential_of m.credential)) (moment_of moment) parcels (home_node to)
-  pub ended : IsEnded holding (number_of layout (home_node m.affinity)) w
+  pub begun : IsBegun v (number_of layout (call_node m.affinity)) parcels holding
+  pub granted : IsAfter filer_behaviour v (number_of layout (call_node m.affinity)) parcels
+  pub moves : MovesTo layout (call_node m.affinity) (Ask (call_of m.call) (credential_of m.credential)) (moment_of moment) parcels (call_node to)
+  pub ended : IsEnded holding (number_of layout (call_node m.affinity)) w
 
 -- what came of a message on a seat
 abbrev pub HasServed : Layout → FilerView → Message → Moment → Served → FilerView → Type 0
 HasServed layout v m moment (served.Done a) w = HasFinished v m moment a w
 HasServed layout v m moment (served.Moved m') w = HasMoved layout v m moment m' w × (entries_of w ≡ entries_of v)
 HasServed layout v m moment (served.Refused back refusal) w =
-    (back ≡ m) × (entries_of w ≡ entries_of v) × IsRefused layout v (home_affinity m.affinity) refusal w
+    (back ≡ m) × (entries_of w ≡ entries_of v) × IsRefused layout v (call_affinity m.affinity) refusal w
 
 -- ---- parts of a turn
 
@@ -148,10 +148,10 @@ HasTried layout before moment turns.Moved after =
     × (entries_in after ≡ entries_in before)
 HasTried layout before moment (turns.Busy at word) after =
     (m : Message) × (before.kept ≡ Some m) × (after.kept ≡ Some m) × (entries_in after ≡ entries_in before)
-    × IsRefused layout (seat_view before) (home_affinity m.affinity) (refusals.Busy at word) (seat_view after)
+    × IsRefused layout (seat_view before) (call_affinity m.affinity) (refusals.Busy at word) (seat_view after)
 HasTried layout before moment turns.Worn after =
     (m : Message) × (before.kept ≡ Some m) × (after.kept ≡ Some m) × (entries_in after ≡ entries_in before)
-    × IsRefused layout (seat_view before) (home_affinity m.affinity) refusals.Worn (seat_view after)
+    × IsRefused layout (seat_view before) (call_affinity m.affinity) refusals.Worn (seat_view after)
 HasTried layout before moment turns.Idle after = (before.kept ≡ None) × (after.kept ≡ None) × (seat_view after ≡ seat_view before)
 
 -- ---- turns
@@ -193,9 +193,9 @@ DidFrom layout before moment (turns.Done a) after = HasDoneFrom before moment a 
 DidFrom layout before moment turns.Moved after =
     (m m' : Message) × HasMoved layout before.view m moment m' after.view × HasReturnedFrom before m m' after
 DidFrom layout before moment (turns.Busy at word) after = (m : Message) × HasReturnedFrom before m m after
-    × IsRefused layout before.view (home_affinity m.affinity) (refusals.Busy at word) after.view
+    × IsRefused layout before.view (call_affinity m.affinity) (refusals.Busy at word) after.view
 DidFrom layout before moment turns.Worn after = (m : Message) × HasReturnedFrom before m m after
-    × IsRefused layout before.view (home_affinity m.affinity) refusals.Worn after.view
+    × IsRefused layout before.view (call_affinity m.affinity) refusals.Worn after.view
 DidFrom layout before moment turns.Idle after = WasIdleFrom before after
 
 -- ---- of a worker

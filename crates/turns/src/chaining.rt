@@ -1,7 +1,7 @@
 //! Messages one after the other under one grant.
 
 ghost use Rattle.std.specs.Prelude.{◌≡◌, ◌-◌, Some, IfSome};
-ghost use Rattle.affinity.specs.Affinity.{home_affinity};
+ghost use Rattle.affinity.specs.Affinity.{call_affinity};
 ghost use Rattle.depot.specs.Words.{view, splits_left, IsNodeOf, IsSeatHere};
 ghost use Rattle.desk.specs.Any.{node_lent};
 ghost use Rattle.turns.specs.shared_waiting.Passes.{known, IsOf};
@@ -21,7 +21,7 @@ use crate::shared::Filer;
 use crate::shared_waiting::{Pass, SharedWaiting};
 use crate::telling::{forget, starved};
 use crate::turned::Gate;
-use affinity::{Home, Layout};
+use affinity::{CallNode, Layout};
 use depot::{Refusal, Seat};
 use desk::{NodeGrant, ParcelKinds, TaskNode};
 use filer_state::Files;
@@ -134,7 +134,7 @@ fn run_messages_on<
     requires of { IsOf queue.now pass.old }
     requires layout { layout_known (known pass.old) ≡ Some (layout_in filer.now) }
     requires placed { IsPlaced (layout_in filer.now) message }
-    requires kind { IsNodeOf (layout_in filer.now) N.KIND (home_affinity message.affinity) }
+    requires kind { IsNodeOf (layout_in filer.now) N.KIND (call_affinity message.affinity) }
     ensures seat { IsSeatHere filer.now.depot seat.new }
     ensures splits { splits_left seat.new ≡ splits_left seat.old }
     ensures ready { IsReady (layout_in filer.now) (verifier_in filer.now) (view seat.new) }
@@ -204,19 +204,19 @@ pub(crate) fn run_messages<R: Wait, G: Gate, H: Hint, S: AnswerSink>(
         result.chained sink.new (left_standing (view seat.new) (known pass.new) result.kept) }
 {
     match message.affinity() {
-        Home::Stripe { .. } => run_messages_on::<StripeNode, R, G, H, S>(
+        CallNode::Stripe { .. } => run_messages_on::<StripeNode, R, G, H, S>(
             filer, seat, queue, rt, pass, message, moment, gate, hint, most, handles, sink,
         ),
-        Home::Logical(_) => run_messages_on::<LogicalNode, R, G, H, S>(
+        CallNode::Logical(_) => run_messages_on::<LogicalNode, R, G, H, S>(
             filer, seat, queue, rt, pass, message, moment, gate, hint, most, handles, sink,
         ),
-        Home::Volume(_) => run_messages_on::<VolumeNode, R, G, H, S>(
+        CallNode::Volume(_) => run_messages_on::<VolumeNode, R, G, H, S>(
             filer, seat, queue, rt, pass, message, moment, gate, hint, most, handles, sink,
         ),
-        Home::Aggregate(_) => run_messages_on::<AggregateNode, R, G, H, S>(
+        CallNode::Aggregate(_) => run_messages_on::<AggregateNode, R, G, H, S>(
             filer, seat, queue, rt, pass, message, moment, gate, hint, most, handles, sink,
         ),
-        Home::Serial => run_messages_on::<SerialNode, R, G, H, S>(
+        CallNode::Serial => run_messages_on::<SerialNode, R, G, H, S>(
             filer, seat, queue, rt, pass, message, moment, gate, hint, most, handles, sink,
         ),
     }

@@ -1,12 +1,12 @@
 //! Messages in memory of their own.
 
 ghost use Rattle.std.specs.Prelude.{◌≡◌, ◌≤◌, IfOk};
-ghost use Rattle.affinity.specs.Affinity.{home_affinity};
+ghost use Rattle.affinity.specs.Affinity.{call_affinity};
 ghost use Rattle.outboxes.specs.Boxes.{most_bytes};
 ghost use Rattle.turns.specs.Messages.{readdressed};
 
 use crate::shared_waiting::Fitting;
-use affinity::{Affinity, Home, Layout};
+use affinity::{Affinity, CallNode, Layout};
 use nfs_values::{Call, Credential, Moment};
 use outboxes::Room;
 use scheduler::{Message, Origin};
@@ -95,7 +95,7 @@ impl Envelope {
     }
 
     /// What it tries.
-    pub(crate) fn affinity(&self) -> Home
+    pub(crate) fn affinity(&self) -> CallNode
         ensures { result ≡ self.now.affinity }
     {
         self.served.affinity
@@ -103,7 +103,7 @@ impl Envelope {
 
     /// What it tries, as one of all nodes of the tree.
     pub(crate) fn node(&self) -> Affinity
-        ensures { result ≡ home_affinity self.now.affinity }
+        ensures { result ≡ call_affinity self.now.affinity }
     {
         self.served.affinity.node()
     }
@@ -118,7 +118,7 @@ impl Envelope {
     }
 
     /// It tries another node.
-    pub(crate) fn readdress(&mut self, to: Home)
+    pub(crate) fn readdress(&mut self, to: CallNode)
         ensures { self.new ≡ readdressed to self.old }
     {
         self.served.affinity = to;

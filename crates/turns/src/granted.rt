@@ -6,7 +6,7 @@ ghost use Rattle.depot.specs.Words.{view, splits_left, IsNodeOf, IsSeatHere};
 ghost use Rattle.desk.specs.Any.{node_lent};
 ghost use Rattle.desk.specs.laws.Backing.{IsGranted};
 ghost use Rattle.parcels.specs.Exact.{kind_in};
-ghost use Rattle.affinity.specs.Affinity.{home_affinity, home_node};
+ghost use Rattle.affinity.specs.Affinity.{call_affinity, call_node};
 ghost use Rattle.turns.specs.Messages.{IsPlaced};
 ghost use Rattle.turns.specs.Runs.{HasRunTo, HasRunInto, IsLentFor};
 ghost use Rattle.turns.specs.Turns.{filer_behaviour};
@@ -16,7 +16,7 @@ use crate::envelope::Envelope;
 use crate::shared::Filer;
 use crate::telling::{tell, tell_starved};
 use crate::turned::{Gate, Place, Stage};
-use affinity::Home;
+use affinity::CallNode;
 use depot::{Refusal, Seat};
 use desk::{NodeGrant, ParcelKinds, TaskNode, begin_node, work_node};
 use filer_state::Files;
@@ -48,7 +48,7 @@ pub(crate) enum Ended {
     /// Memory ran out, and that was told.
     Starved,
     /// It has to run on this node.
-    Moved(Home),
+    Moved(CallNode),
 }
 
 /// Runs the call of a message on what was granted of what it tries, and tells its reply.
@@ -106,14 +106,14 @@ pub(crate) fn run<N: TaskNode<Parcel<Files>, ParcelKinds>, G: Gate>(
     requires seat { IsSeatHere filer.now.depot seat.old }
     requires placed { IsPlaced (layout_in filer.now) envelope.now }
     requires kind { IsNodeOf (layout_in filer.now) N.KIND
-        (home_affinity envelope.now.affinity) }
+        (call_affinity envelope.now.affinity) }
     ensures seat { IsSeatHere filer.now.depot seat.new }
     ensures splits { splits_left seat.new ≡ splits_left seat.old }
     ensures ran { let L = layout_in filer.now in IfOk result (λ ran.
         HasRunInto L (view seat.old) envelope.now moment ran.outcome told.new
         (node_lent L ran.grant) (view seat.new)) }
     ensures refused { IfErr result (λ refusal. IsRefused (layout_in filer.now)
-        (view seat.old) (home_affinity envelope.now.affinity) refusal (view seat.new)) }
+        (view seat.old) (call_affinity envelope.now.affinity) refusal (view seat.new)) }
 {
     let mut grant = begin_on::<N, G>(filer, seat, envelope, gate)?;
     let outcome = run_on::<N, G>(filer, &mut grant, envelope, moment, gate, told);
@@ -129,14 +129,14 @@ pub(crate) fn begin_on<N: TaskNode<Parcel<Files>, ParcelKinds>, G: Gate>(
 ) -> Result<NodeGrant<Parcel<Files>, N>, Refusal>
     requires seat { IsSeatHere filer.now.depot seat.old }
     requires kind { IsNodeOf (layout_in filer.now) N.KIND
-        (home_affinity envelope.now.affinity) }
+        (call_affinity envelope.now.affinity) }
     ensures seat { IsSeatHere filer.now.depot seat.new }
     ensures splits { splits_left seat.new ≡ splits_left seat.old }
     ensures granted { let L = layout_in filer.now in IfOk result (λ grant.
-        IsGranted kind_in filer_behaviour L (view seat.old) (home_node envelope.now.affinity)
+        IsGranted kind_in filer_behaviour L (view seat.old) (call_node envelope.now.affinity)
         (node_lent L grant) (view seat.new)) }
     ensures refused { IfErr result (λ refusal. IsRefused (layout_in filer.now)
-        (view seat.old) (home_affinity envelope.now.affinity) refusal (view seat.new)) }
+        (view seat.old) (call_affinity envelope.now.affinity) refusal (view seat.new)) }
 {
     let grant = begin_node::<Service, N>(&filer.depot, seat, envelope.node())?;
     gate.pass(place_of(envelope.origin(), Stage::Begun));

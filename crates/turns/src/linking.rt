@@ -25,7 +25,7 @@ use crate::granted::{Ended, place_of, run_on};
 use crate::shared::Filer;
 use crate::shared_waiting::{Pass, SharedWaiting};
 use crate::turned::{Gate, Stage};
-use affinity::{Affinity, Home, Layout};
+use affinity::{Affinity, CallNode, Layout};
 use depot::Seat;
 use desk::{NodeGrant, ParcelKinds, TaskNode, finish_node, go_on_node, put_back_node};
 use filer_state::Files;
@@ -38,7 +38,7 @@ use std::sync::Wait;
 /// What came of a message under a grant that is still open.
 pub(crate) enum Tried {
     /// Its call has to run on this node.
-    Moved(Envelope, Home),
+    Moved(Envelope, CallNode),
     /// Its entry is to be made. Another message was picked, or none.
     Entered(Entry, Option<Envelope>),
 }
@@ -127,7 +127,7 @@ fn go_on_by<N: Node<Parcel<Files>>>(
 }
 
 /// Whether two nodes are the same.
-fn is_same(one: Home, other: Home) -> bool
+fn is_same(one: CallNode, other: CallNode) -> bool
     ensures { result ≡ true → one ≡ other }
 {
     one == other

@@ -1,7 +1,7 @@
 //! A message on a seat, from begin to end.
 
 ghost use Rattle.std.specs.Prelude.{◌≡◌, ◌≤◌, length};
-ghost use Rattle.affinity.specs.Affinity.{home_affinity};
+ghost use Rattle.affinity.specs.Affinity.{call_affinity};
 ghost use Rattle.affinity.specs.Numbers.{number_of};
 ghost use Rattle.nfs_values.specs.Reply.{reply_of};
 ghost use Rattle.rpc_msg.specs.declared.handle_form.HandleForm.{HandleForm as HandleFormSeen};
@@ -27,7 +27,7 @@ use crate::linking::has_eight;
 use crate::shared::Filer;
 use crate::telling::starved;
 use crate::turned::{Gate, Served, Stage};
-use affinity::Home;
+use affinity::CallNode;
 use depot::Seat;
 use desk::{NodeGrant, ParcelKinds, TaskNode, finish_node, put_back_node};
 use filer_state::Files;
@@ -81,7 +81,7 @@ fn run_message_on<N: TaskNode<Parcel<Files>, ParcelKinds>, G: Gate>(
     requires seat { IsSeatHere filer.now.depot seat.old }
     requires ready { IsReady (layout_in filer.now) (verifier_in filer.now) (view seat.old) }
     requires placed { IsPlaced (layout_in filer.now) message }
-    requires kind { IsNodeOf (layout_in filer.now) N.KIND (home_affinity message.affinity) }
+    requires kind { IsNodeOf (layout_in filer.now) N.KIND (call_affinity message.affinity) }
     ensures seat { IsSeatHere filer.now.depot seat.new }
     ensures splits { splits_left seat.new ≡ splits_left seat.old }
     ensures ready { IsReady (layout_in filer.now) (verifier_in filer.now) (view seat.new) }
@@ -136,12 +136,16 @@ pub(crate) fn run_message<G: Gate>(
         (view seat.old) message moment result (view seat.new) }
 {
     match message.affinity() {
-        Home::Stripe { .. } => run_message_on::<StripeNode, G>(filer, seat, message, moment, gate),
-        Home::Logical(_) => run_message_on::<LogicalNode, G>(filer, seat, message, moment, gate),
-        Home::Volume(_) => run_message_on::<VolumeNode, G>(filer, seat, message, moment, gate),
-        Home::Aggregate(_) => {
+        CallNode::Stripe { .. } => run_message_on::<StripeNode, G>(
+            filer, seat, message, moment, gate,
+        ),
+        CallNode::Logical(_) => run_message_on::<LogicalNode, G>(
+            filer, seat, message, moment, gate,
+        ),
+        CallNode::Volume(_) => run_message_on::<VolumeNode, G>(filer, seat, message, moment, gate),
+        CallNode::Aggregate(_) => {
             run_message_on::<AggregateNode, G>(filer, seat, message, moment, gate)
         }
-        Home::Serial => run_message_on::<SerialNode, G>(filer, seat, message, moment, gate),
+        CallNode::Serial => run_message_on::<SerialNode, G>(filer, seat, message, moment, gate),
     }
 }

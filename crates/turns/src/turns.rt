@@ -25,7 +25,7 @@ impl Worker {
     ghost use Rattle.turns.specs.Words.{layout_in, passed, seat_view, seats_in, IsAt};
 
     /// Tries the message that is kept, if one is, and then those that wait and try the same node,
-    /// at most so many. What is kept then: the last where it isn't finished, or else one that was
+    /// at most this many. What is kept then: the last where it isn't finished, or else one that was
     /// picked and tries another node.
     fn try_all<R: Wait, G: Gate, H: Hint, S: AnswerSink>(
         &mut self,
@@ -73,7 +73,7 @@ impl Worker {
 
     /// Turns for who has another pass of the queue beside: the call of the message that is kept, or
     /// else of the one that waits longest, and then, under the same grant, those of the messages
-    /// after it that try the same node, at most so many. The answers go into a sink, with their
+    /// after it that try the same node, at most this many. The answers go into a sink, with their
     /// handles in a form. A message that was picked and tries another node is kept, for the next
     /// turn. Where the node was refused, a hint is left to who has it; and where one is left here,
     /// no more is picked. Where no message is found, none waits by both passes, and so none at all

@@ -27,7 +27,7 @@ pub within-range : (size range b : ℕ) → 0 < size → b / size ≡ range → 
 within-range size range b some e =
     within-by size (size * range) b (b / size * size) (div-add-mod' b size) (mul_comm size range ∙ ap (λ n. n * size) (sym e)) (mod-lt b some)
 
--- a number is in one of the first ranges just where it is below their end
+-- a number is in one of the first ranges exactly when it is below their end
 pub below-range : (size ranges b : ℕ) → 0 < size → b < ranges * size → b / size < ranges
 below-range size ranges b some l = div_below b size ranges some l
 

@@ -14,13 +14,13 @@ abbrev pub all_of : List MarksValue → FinSet nat_cmp
 all_of [] = sets.empty
 all_of (m ∷ marks) = union m.set (all_of marks)
 
--- The marks of a range of so many blocks.
+-- The marks of a range of this many blocks.
 pub record IsMarksOf (size range : ℕ) (m : MarksValue) : Type 0 where
   pub size_is : m.range_blocks ≡ size
   pub range_is : m.range ≡ range
   pub marks : IsMarks m
 
--- The marks are of the ranges from one on, in order, each of so many blocks.
+-- The marks are of the ranges from one on, in order, each of this many blocks.
 abbrev pub AreNumbered : (size range : ℕ) → List MarksValue → Type 0
 AreNumbered size range [] = Unit {0}
 AreNumbered size range (m ∷ marks) = IsMarksOf size range m × AreNumbered size (range + 1) marks
@@ -32,7 +32,7 @@ pub record AreDead (size : ℕ) (marks : List MarksValue) (count : ℕ) : Type 0
   pub numbered : AreNumbered size 0 marks
   pub counted : count ≡ len (all_of marks)
 
--- the dead blocks that marks of ranges of so many blocks have
+-- the dead blocks that marks of ranges of this many blocks have
 abbrev pub dead_of : ℕ → List MarksValue → DeadValue
 dead_of size marks = record { range_blocks = size; blocks = all_of marks }
 
@@ -40,6 +40,6 @@ dead_of size marks = record { range_blocks = size; blocks = all_of marks }
 abbrev pub lowest_dead : ℕ → List MarksValue → List ℕ
 lowest_dead n marks = first_filled (map (lowest_marked n) marks)
 
--- at most n, and 64, of the lowest numbers of the range of the lowest, where a range has so many
+-- at most n, and 64, of the lowest numbers of the range of the lowest, where a range has this many
 unfoldable pub lowest_of : (size n : ℕ) → FinSet nat_cmp → List ℕ
 lowest_of size n set = first_filled (map (λ r. take (min n most_carried) (in_range size r set)) (range_with_len 0 most_ranges))

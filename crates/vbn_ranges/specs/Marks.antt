@@ -9,7 +9,7 @@ use Rattle.nfs_model.specs.Moves.{in_range}
 use Rattle.nfs_model.specs.volume.Ranges.{RangeValue, range_numbers, with_numbers, without_numbers}
 use Rattle.vbn_ranges.specs.Words.{set_of}
 
--- a range of so many blocks, and which of its numbers are marked
+-- a range of this many blocks, and which of its numbers are marked
 pub record MarksValue : Type 0 where
   pub range_blocks : ℕ
   pub range : ℕ

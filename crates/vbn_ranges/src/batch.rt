@@ -52,7 +52,7 @@ impl Batch {
         self.count == 0
     }
 
-    /// The range of the first block, where a range has so many blocks; without a block there is
+    /// The range of the first block, where a range has this many blocks; without a block there is
     /// none.
     pub fn range(&self, range_blocks: u32) -> Option<u32>
         requires { 0 < range_blocks }

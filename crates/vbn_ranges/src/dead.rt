@@ -74,7 +74,7 @@ impl Model for DeadBlocks {
 }
 
 impl DeadBlocks {
-    /// No block, and room for all that a volume has at most, where a range has so many blocks.
+    /// No block, and room for all that a volume has at most, where a range has this many blocks.
     pub fn new(alloc: Global, range_blocks: u32) -> Result<DeadBlocks, AllocError>
         requires { IsRangeSize range_blocks }
         ensures { IfOk result (λ d. d ≡ no_dead range_blocks) }
@@ -150,7 +150,7 @@ impl DeadBlocks {
         self.take_counted(64).0
     }
 
-    /// Takes the lowest blocks of the range of the lowest, at most so many and 64. It tells how
+    /// Takes the lowest blocks of the range of the lowest, at most this many and 64. It tells how
     /// many words it looked at: at most 8 for each word that gives a block, and 32 for each range.
     pub fn take_counted(&mut self, most: usize) -> (Batch, Looks)
         ensures batch { result.0 ≡ lowest_of self.old.range_blocks most self.old.blocks }
@@ -165,7 +165,7 @@ impl DeadBlocks {
     }
 }
 
-/// Takes the lowest blocks of the first range that has one, at most so many and 64, and tells how
+/// Takes the lowest blocks of the first range that has one, at most this many and 64, and tells how
 /// many words it looked at.
 fn take_first(ranges: &mut [Marks], most: usize) -> (Batch, Looks)
     requires numbered { (size : ℕ) × AreNumbered size 0 ranges.old }

@@ -104,7 +104,7 @@ fn fill_words(words: &mut Vec<u64>)
 impl Levels {
     ghost use Rattle.vbn_ranges.specs.Levels.{HasSummaries, AreLevels};
 
-    /// So many words, no bit of which is set.
+    /// This many words, no bit of which is set.
     pub fn none(alloc: Global, words: usize) -> Result<Levels, AllocError>
         requires { words ≤ 262144 }
         ensures words { IfOk result (λ levels. levels.words.items ≡ replicate words 0) }
@@ -196,7 +196,7 @@ impl Levels {
         lowest_bit(&self.low, of_low)
     }
 
-    /// Takes the lowest bits that are set, at most so many and 64, as block numbers, where the
+    /// Takes the lowest bits that are set, at most this many and 64, as block numbers, where the
     /// lowest bit of the first word has the number first. It tells how many words it looked at: at
     /// most 8 for each word that gives a block, and one more.
     pub fn take_counted(&mut self, first: u32, most: usize) -> (Batch, Looks)

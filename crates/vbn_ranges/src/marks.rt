@@ -50,7 +50,7 @@ impl Model for Marks {
 }
 
 impl Marks {
-    /// No number of a range of so many blocks is marked.
+    /// No number of a range of this many blocks is marked.
     pub fn none(alloc: Global, range_blocks: u32, range: u32) -> Result<Marks, AllocError>
         requires size { IsRangeSize range_blocks }
         requires range { range < most_ranges }
@@ -138,7 +138,7 @@ impl Marks {
         }
     }
 
-    /// Takes the lowest marked blocks, at most so many and 64. It tells how many words it looked
+    /// Takes the lowest marked blocks, at most this many and 64. It tells how many words it looked
     /// at: at most 8 for each word that gives a block, and 32 more.
     pub fn take_counted(&mut self, most: usize) -> (Batch, Looks)
         ensures batch { result.0 ≡ lowest_marked most self.old }

@@ -63,7 +63,7 @@ impl Model for Range {
 }
 
 impl Range {
-    /// The range of a number below 16, of so many blocks, not in use.
+    /// The range of a number below 16, of this many blocks, not in use.
     pub fn new(alloc: Global, range_blocks: u32, number: u32) -> Result<Range, AllocError>
         requires size { IsRangeSize range_blocks }
         requires number { number < most_ranges }
@@ -171,8 +171,8 @@ impl Range {
     }
 }
 
-/// Whether ascending blocks are all of a range, where a range has so many blocks: the first and the
-/// last are looked at.
+/// Whether ascending blocks are all of a range, where a range has this many blocks: the first and
+/// the last are looked at.
 fn are_of(blocks: &[BlockNumber], range_blocks: u32, range: u32) -> bool
     requires size { 0 < range_blocks }
     requires ascending { IsAscending (numbers blocks.now) }

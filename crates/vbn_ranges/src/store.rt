@@ -38,7 +38,7 @@ pub enum Store {
 impl Store {
     ghost use Rattle.vbn_ranges.specs.Store.{words_in, IsStore};
 
-    /// So many words, at least 16, no bit of which is set. Sixteen take no memory.
+    /// This many words, at least 16, no bit of which is set. Sixteen take no memory.
     pub fn none(alloc: Global, words: usize) -> Result<Store, AllocError>
         requires { words ≤ 262144 }
         ensures words { IfOk result (λ store. words_in store ≡ replicate words 0) }
@@ -100,7 +100,7 @@ impl Store {
         }
     }
 
-    /// Takes the lowest bits that are set, at most so many and 64, as block numbers, where the
+    /// Takes the lowest bits that are set, at most this many and 64, as block numbers, where the
     /// lowest bit of the first word has the number first. It tells how many words it looked at: at
     /// most 8 for each word that gives a block, and 32 more.
     pub fn take_counted(&mut self, first: u32, most: usize) -> (Batch, Looks)

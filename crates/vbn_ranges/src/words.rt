@@ -65,8 +65,8 @@ pub fn insert(words: &mut [u64; 16], place: usize)
     words[place / 64] |= 1 << (place % 64);
 }
 
-/// Takes the lowest bits of a word, until so many are in the batch or none is left, and gives what
-/// is left of the word. The lowest bit has the number first.
+/// Takes the lowest bits of a word, until this many are in the batch or none is left, and gives
+/// what is left of the word. The lowest bit has the number first.
 pub fn take_bits(word: u64, first: u32, most: usize, batch: &mut Batch) -> u64
     requires word { 0 < word }
     requires first { first + 64 ≤ 2 ^ 32 }
@@ -85,7 +85,7 @@ pub fn take_bits(word: u64, first: u32, most: usize, batch: &mut Batch) -> u64
     left
 }
 
-/// Takes the lowest bits that are set, at most so many and 64, as block numbers, where the lowest
+/// Takes the lowest bits that are set, at most this many and 64, as block numbers, where the lowest
 /// bit of the first word has the number first. It tells how many words it looked at: all at once,
 /// each once more until it has enough, and each that gives a block again.
 pub fn take_counted(words: &mut [u64; 16], first: u32, most: usize) -> (Batch, Looks)

@@ -8,7 +8,7 @@ use Rattle.turns.specs.Messages.{Message}
 use Rattle.turns.specs.Balance.{Passed}
 use Rattle.workers.proofs.Lists.{total-one, none-left}
 
--- so many wait
+-- this many wait
 pub counted : (v w : Passed) (n : ℕ) → w ≡ v → IsWhole v → Held n (Leaves v) → length v.put ≡ length v.picked + n
 counted v w n same whole held =
     let e = held.2 whole (λ (m : Message). 1) in

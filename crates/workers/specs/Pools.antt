@@ -25,7 +25,7 @@ filer_of pool = arc_value pool.filer
 abbrev pub outboxes_of : Pool → SharedOutboxes
 outboxes_of pool = arc_value pool.outboxes
 
--- Each of so many threads was started with a worker. Between them these had all the seats of one seat and all the share of one pass in
+-- Each of this many threads was started with a worker. Between them these had all the seats of one seat and all the share of one pass in
 -- the right to know the queue, and what the seat had finished, and the pass had put and picked, each once: so their seats and passes
 -- are this seat and this pass, or split from them, and none is left over.
 pub record HasBetween (splits : ℕ) (finished : List FilerEntry) (pass : FilerPass) (many : ℕ) (pool : Pool) : Type 0 where
@@ -41,7 +41,7 @@ abbrev pub HasAllWith : Pool → List FilerPass → Type 0
 HasAllWith pool passes = (level : ℕ)
     × ((k : ℕ) → level ≤ k → total (share_with k) (threads_of pool) + total (share_in k) passes ≡ 2 ^ k)
 
--- So many threads, and the pool, have between them all that one pass had of the right to know the outboxes.
+-- This many threads, and the pool, have between them all that one pass had of the right to know the outboxes.
 abbrev pub HasLentBetween : OutboxesPass → ℕ → Pool → Type 0
 HasLentBetween pass many pool = (k : ℕ) → (known pass).halvings + many ≤ k
     → part k (known pool.pass) + total (lent_share_with k) (threads_of pool) ≡ part k (known pass)

@@ -40,7 +40,7 @@ pub(crate) fn first_worker(
     Worker::new(seat, pass)
 }
 
-/// So many workers of one, with all its seats and all its share of the right to know the queue.
+/// This many workers of one, with all its seats and all its share of the right to know the queue.
 pub(crate) fn split_workers(
     filer: &Filer,
     mut worker: Worker,

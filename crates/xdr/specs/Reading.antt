@@ -35,19 +35,19 @@ fixed_at size bytes =
     else if list_all (λ b. b == 0) (take (padding size) (drop size bytes)) then Ok (take size bytes, drop (padding size) (drop size bytes))
     else Err BadPad
 
--- a length of at most so many
+-- a length of at most this many
 unfoldable pub length_at : ℕ → List ℕ → Reads ℕ
 length_at most bytes = number_at w32 bytes >>= λ n. if nat_lt most n.0 then Err TooLong else Ok n
 
 unfoldable pub opaque_at : ℕ → List ℕ → Reads (List ℕ)
 opaque_at most bytes = length_at most bytes >>= λ n. fixed_at n.0 n.1
 
--- so many items
+-- this many items
 abbrev pub items_at : {A : Type 0} → (List ℕ → Reads A) → ℕ → List ℕ → Reads (List A)
 items_at item zero bytes = Ok ([], bytes)
 items_at item (suc n) bytes = item bytes >>= λ x. items_at item n x.1 >>= λ xs. Ok (x.0 ∷ xs.0, xs.1)
 
--- items up to the flag that is false, of which there are at most so many
+-- items up to the flag that is false, of which there are at most this many
 abbrev pub links_at : {A : Type 0} → (List ℕ → Reads A) → ℕ → List ℕ → Reads (List A)
 links_at item zero bytes = Err Short
 links_at item (suc n) bytes =

@@ -15,12 +15,12 @@ pub data Shape : Type 0 where
   -- 4.4, 4.3: a boolean, and an enumeration of these numbers
   Boolean : Shape
   Choice : (numbers : List ℕ) → Shape
-  -- 4.9, 4.10 and 4.11: so many bytes, and at most so many
+  -- 4.9, 4.10 and 4.11: this many bytes, and at most this many
   Fixed : (size : ℕ) → Shape
   Opaque : (most : ℕ) → Shape
   -- 4.14: a structure, two members at a time
   Pair : (first second : Shape) → Shape
-  -- 4.13: at most so many elements
+  -- 4.13: at most this many elements
   Array : (most : ℕ) (element : Shape) → Shape
   -- 4.15: a discriminated union, an arm at a time; the others are Case again, or NoCase
   Case : (number : ℕ) (arm others : Shape) → Shape
@@ -65,7 +65,7 @@ padding n = (4 - n % 4) % 4
 abbrev pub padded : List ℕ → List ℕ
 padded bytes = bytes ++ replicate (padding (length bytes)) 0
 
--- a length, and so many bytes with their padding (4.10)
+-- a length, and this many bytes with their padding (4.10)
 abbrev pub counted : List ℕ → List ℕ
 counted bytes = word (length bytes) ++ padded bytes
 

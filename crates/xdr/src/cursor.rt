@@ -107,7 +107,7 @@ impl<'a> Cursor<'a> {
         Ok(number)
     }
 
-    /// So many bytes, and their padding (RFC 4506, section 4.9).
+    /// This many bytes, and their padding (RFC 4506, section 4.9).
     #[tactic(auto, unfolding(crate::specs::Reading::fixed_at))]
     pub fn fixed(&mut self, size: u32) -> Result<&'a [u8], Fault>
         ensures takes { Takes (λ x. x.now) result (read (Fixed size) self.old) self.old self.new }

@@ -42,7 +42,7 @@ nodes_before_next (y ∷ ys) (suc v) (suc w) x e h =
     let others = nodes_before_next ys v w x e (omega arith) in
     omega arith
 
--- so many numbers lie between the nodes of two volumes
+-- this many numbers lie between the nodes of two volumes
 pub volume_number_next : (layout : Layout) (v w : ℕ) → v < length layout.volumes → v < w
     → volume_number layout v + 19 + stripes_of layout v ≤ volume_number layout w
 volume_number_next layout v w there h =

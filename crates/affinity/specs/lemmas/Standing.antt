@@ -129,7 +129,7 @@ module _ (layout : Layout) (lawful : fault_of layout ≡ None) where
       let c = place-node layout k pos less in
       (c.0, under-number a c.0 m c.1 (subst (Covers (parents layout) (number_of layout a)) (sym c.2) covers), c.2)
 
-  -- two nodes exclude each other just where their numbers do
+  -- two nodes exclude each other exactly when their numbers do
   pub excludes-number : (a b : Affinity) → IsNode layout a → IsNode layout b → excludes layout a b ≡ true
       → Excludes (parents layout) (number_of layout a) (number_of layout b)
   excludes-number a b m n h =

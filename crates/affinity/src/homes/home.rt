@@ -8,11 +8,11 @@ ghost use Rattle.nfs_model.specs.Home.{volume_home};
 ghost use Rattle.nfs_values.specs.Call.{call_of};
 ghost use Rattle.nfs_values.specs.Handle.{named_of};
 ghost use Rattle.nfs_values.specs.Route.{route_of};
-ghost use Rattle.affinity.specs.Affinity.{home_node};
+ghost use Rattle.affinity.specs.Affinity.{call_node};
 ghost use Rattle.affinity.specs.Layout.{layout_of};
 ghost use Rattle.affinity.specs.Tree.{IsNode};
 
-use crate::{Home, Layout};
+use crate::{CallNode, Layout};
 use nfs_values::{COUNT_LIMIT, Call, FileHandle, Named, Route, SPAN_BYTES, VolumeNumber};
 
 /// What a good handle names, which has 12 bytes and a volume that the layout has.
@@ -37,88 +37,88 @@ fn is_in_one_span(offset: u64, count: u32) -> bool
 
 /// The stripe of a file's span.
 #[tactic(auto, using(crate::proofs::homes::Spans::remainder_of_parts))]
-fn stripe_of_span(layout: &Layout, named: Named, span: u64) -> Home
+fn stripe_of_span(layout: &Layout, named: Named, span: u64) -> CallNode
     requires { named.volume.0 < length (layout_of layout.now).volumes }
-    ensures stripe { home_node result
+    ensures stripe { call_node result
         ≡ stripe_of_span (layout_of layout.now) (named_of named) span }
-    ensures node { IsNode (layout_of layout.now) (home_node result) }
+    ensures node { IsNode (layout_of layout.now) (call_node result) }
 {
     let volume = named.volume.0;
     let stripes = u64::from(layout.stripes_of(volume));
     let stripe = (named.fileid.0 % stripes + span % stripes) % stripes;
-    Home::Stripe {
+    CallNode::Stripe {
         volume,
         stripe: stripe as u32,
     }
 }
 
 /// Where a call on bytes of a file is at home.
-fn home_of_bytes(handle: &FileHandle, offset: u64, count: u32, layout: &Layout) -> Option<Home>
-    ensures home { let L = layout_of layout.now in option_map home_node result
+fn home_of_bytes(handle: &FileHandle, offset: u64, count: u32, layout: &Layout) -> Option<CallNode>
+    ensures home { let L = layout_of layout.now in option_map call_node result
         ≡ bytes_home L (named_by L handle.now) offset (min count COUNT_LIMIT) }
-    ensures node { IfSome result (λ a. IsNode (layout_of layout.now) (home_node a)) }
+    ensures node { IfSome result (λ a. IsNode (layout_of layout.now) (call_node a)) }
 {
     let named = named_by(handle, layout)?;
     let count = count.min(COUNT_LIMIT);
     if count == 0 || is_in_one_span(offset, count) {
         Some(stripe_of_span(layout, named, offset / SPAN_BYTES))
     } else {
-        Some(Home::Logical(named.volume.0))
+        Some(CallNode::Logical(named.volume.0))
     }
 }
 
 /// Where a call on names and attributes is at home.
-fn home_of_names(handle: &FileHandle, layout: &Layout) -> Option<Home>
-    ensures home { option_map home_node result
+fn home_of_names(handle: &FileHandle, layout: &Layout) -> Option<CallNode>
+    ensures home { option_map call_node result
         ≡ logical_home (named_by (layout_of layout.now) handle.now) }
-    ensures node { IfSome result (λ a. IsNode (layout_of layout.now) (home_node a)) }
+    ensures node { IfSome result (λ a. IsNode (layout_of layout.now) (call_node a)) }
 {
     let named = named_by(handle, layout)?;
-    Some(Home::Logical(named.volume.0))
+    Some(CallNode::Logical(named.volume.0))
 }
 
 /// Where a call on names in two directories is at home: with the one volume that both are of.
-fn home_of_renaming(from: &FileHandle, to: &FileHandle, layout: &Layout) -> Option<Home>
-    ensures home { let L = layout_of layout.now in option_map home_node result
+fn home_of_renaming(from: &FileHandle, to: &FileHandle, layout: &Layout) -> Option<CallNode>
+    ensures home { let L = layout_of layout.now in option_map call_node result
         ≡ rename_home (named_by L from.now) (named_by L to.now) }
-    ensures node { IfSome result (λ a. IsNode (layout_of layout.now) (home_node a)) }
+    ensures node { IfSome result (λ a. IsNode (layout_of layout.now) (call_node a)) }
 {
     let from = named_by(from, layout)?;
     let to = named_by(to, layout)?;
     if from.volume.0 == to.volume.0 {
-        Some(Home::Logical(from.volume.0))
+        Some(CallNode::Logical(from.volume.0))
     } else {
         None
     }
 }
 
 /// Where a call on a whole volume is at home.
-fn home_of_volume(handle: &FileHandle, layout: &Layout) -> Option<Home>
-    ensures home { option_map home_node result
+fn home_of_volume(handle: &FileHandle, layout: &Layout) -> Option<CallNode>
+    ensures home { option_map call_node result
         ≡ volume_home (named_by (layout_of layout.now) handle.now) }
-    ensures node { IfSome result (λ a. IsNode (layout_of layout.now) (home_node a)) }
+    ensures node { IfSome result (λ a. IsNode (layout_of layout.now) (call_node a)) }
 {
     let named = named_by(handle, layout)?;
-    Some(Home::Volume(named.volume.0))
+    Some(CallNode::Volume(named.volume.0))
 }
 
 /// Where a volume's growth is at home.
-fn home_of_growth(volume: VolumeNumber, layout: &Layout) -> Option<Home>
-    ensures home { option_map home_node result
+fn home_of_growth(volume: VolumeNumber, layout: &Layout) -> Option<CallNode>
+    ensures home { option_map call_node result
         ≡ grow_home (slice_get (layout_of layout.now).volumes volume.0) }
-    ensures node { IfSome result (λ a. IsNode (layout_of layout.now) (home_node a)) }
+    ensures node { IfSome result (λ a. IsNode (layout_of layout.now) (call_node a)) }
 {
     if volume.0 as usize >= layout.volume_count() {
         return None;
     }
-    Some(Home::Aggregate(layout.aggregate_of(volume.0)))
+    Some(CallNode::Aggregate(layout.aggregate_of(volume.0)))
 }
 
 /// The node that a call of a route tries first; nothing for one that is on no state.
-fn home_of_route(route: Route<'_>, layout: &Layout) -> Option<Home>
-    ensures home { option_map home_node result
+fn home_of_route(route: Route<'_>, layout: &Layout) -> Option<CallNode>
+    ensures home { option_map call_node result
         ≡ home_of_route (layout_of layout.now) (route_of route.entry) }
-    ensures node { IfSome result (λ a. IsNode (layout_of layout.now) (home_node a)) }
+    ensures node { IfSome result (λ a. IsNode (layout_of layout.now) (call_node a)) }
 {
     match route {
         Route::AtOnce => None,
@@ -136,14 +136,14 @@ fn home_of_route(route: Route<'_>, layout: &Layout) -> Option<Home>
         Route::TwoHandles { from, to } => home_of_renaming(from, to, layout),
         Route::Volume { handle } => home_of_volume(handle, layout),
         Route::Aggregate { volume } => home_of_growth(volume, layout),
-        Route::Everything => Some(Home::Serial),
+        Route::Everything => Some(CallNode::Serial),
     }
 }
 
 /// The node that a call tries first; nothing for a call that is answered without one.
-pub fn home_of(call: &Call, layout: &Layout) -> Option<Home>
-    ensures home { option_map home_node result ≡ home (layout_of layout.now) (call_of call.now) }
-    ensures node { IfSome result (λ a. IsNode (layout_of layout.now) (home_node a)) }
+pub fn home_of(call: &Call, layout: &Layout) -> Option<CallNode>
+    ensures home { option_map call_node result ≡ home (layout_of layout.now) (call_of call.now) }
+    ensures node { IfSome result (λ a. IsNode (layout_of layout.now) (call_node a)) }
 {
     home_of_route(call.route(), layout)
 }

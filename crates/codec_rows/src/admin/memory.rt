@@ -14,7 +14,7 @@ pub(super) fn bytes_of(rt: &(impl Abort + AllocGlobal), words: &[u32]) -> Vec<u8
     bytes
 }
 
-/// A stream of which each read gives so many bytes at most, and which keeps what is written.
+/// A stream of which each read gives this many bytes at most, and which keeps what is written.
 #[derive(Drop)]
 pub(super) struct Memory<'a> {
     pub(super) written: Vec<u8>,

@@ -14,7 +14,7 @@ pub(crate) const ONE: Admission = Admission {
     when_full: WhenFull::IsClosed,
 };
 
-/// Options of one volume, one worker and so many connections.
+/// Options of one volume, one worker and this many connections.
 pub(crate) fn options_for(rt: &impl Abort, connections: u64) -> Options {
     let address = "127.0.0.1:0".parse::<SocketAddr>().ok();
     let address = address.expect(rt, "an address");

@@ -20,7 +20,7 @@ impl Read for Broken<'_> {
     }
 }
 
-/// A writer that takes so many writes, and then fails, as a flush of it does where it is cut.
+/// A writer that takes this many writes, and then fails, as a flush of it does where it is cut.
 #[derive(Drop)]
 struct Closing {
     left: usize,
@@ -45,7 +45,7 @@ impl Write for Closing {
     }
 }
 
-/// What is written of a script's output that fails after so many writes. The script ends with 1.
+/// What is written of a script's output that fails after this many writes. The script ends with 1.
 fn cut(rt: &(impl Abort + AllocGlobal), script: &str, left: usize, is_cut: bool) -> Vec<u8> {
     let mut out = Closing {
         left,

@@ -3,7 +3,7 @@
 use filer_commands::replay::replay;
 use std::process::Abort;
 
-/// Appends a piece of text, so many times.
+/// Appends a piece of text, this many times.
 pub(crate) fn put(rt: &impl Abort, text: &mut String, piece: &str, times: usize) {
     for _ in 0..times {
         holds(rt, text.push_str(piece).is_ok());

@@ -178,7 +178,7 @@ impl Row {
         self.put_answer(rt, WRITTEN);
     }
 
-    /// Appends one such WRITE to the first file, and so many to the second.
+    /// Appends one such WRITE to the first file, and this many to the second.
     fn put_files(&mut self, rt: &impl Abort, count: usize) {
         self.put_large(rt, 2, 0);
         for number in 0..count {
@@ -186,7 +186,7 @@ impl Row {
         }
     }
 
-    /// Appends a WRITE of one byte behind so many in the second file, up to Volume.
+    /// Appends a WRITE of one byte behind this many in the second file, up to Volume.
     fn put_small(&mut self, rt: &impl Abort, number: usize) {
         self.put_head(rt, SMALL, 3, number);
         self.put(rt, "00000001000000020000000161000000\n", "");

@@ -79,7 +79,7 @@ hand-fits layout a v held n rest is node own seen =
     let part = sum-at (λ k. tokens_in (after v.tree (listed v.first) seen.0 k)) (number_of layout a) (length v.tree) there in
     let mine = own size in let hand = seen.1.own_hand size in let all = seen.1.together size in let few = seen.1.sound in omega arith
 
--- ---- a depot in which each node has so many tokens
+-- ---- a depot in which each node has this many tokens
 
 sum-most : (f : ℕ → ℕ) (n : ℕ) → ((k : ℕ) → f k ≤ 1000) → sum_below f n ≤ 1000 * n
 sum-most f zero most = omega arith

@@ -58,7 +58,7 @@ impl Machine for Adding {
     ghost keeps = { λ parents a c f r f' hands hands' n i s w. tt };
 }
 
-/// One aggregate with so many volumes of one range each. Nothing where memory ran out, or with no
+/// One aggregate with this many volumes of one range each. Nothing where memory ran out, or with no
 /// volume.
 pub fn volumes<const N: usize>(alloc: Global) -> Option<Layout>
     requires few { N ≤ 8 }
@@ -83,8 +83,8 @@ pub fn all_of(alloc: Global, layout: &Layout, each: u64) -> Result<SerialHeld<Nu
     Ok(<SerialNode as Node<Parcel<Numbers>>>::gather(&mut shelf, layout, Affinity::Serial))
 }
 
-/// A depot with so many volumes in which each parcel is 0, and its first seat. Nothing where memory
-/// ran out, or with no volume.
+/// A depot with this many volumes in which each parcel is 0, and its first seat. Nothing where
+/// memory ran out, or with no volume.
 pub fn open<const N: usize>(alloc: Global) -> Option<(Depot<Adding>, Seat<Adding>)>
     requires few { N ≤ 8 }
     ensures { IfSome result (λ made. IsSeatHere made.0 made.1) }
@@ -184,7 +184,7 @@ pub fn touch<N: Node<Parcel<Numbers>>>(
     }
 }
 
-/// So many calls of a seat on a node, one after another. How many were granted; none at a node of
+/// This many calls of a seat on a node, one after another. How many were granted; none at a node of
 /// another kind, or one that isn't there.
 pub fn touches<N: Node<Parcel<Numbers>>>(
     depot: &Depot<Adding>,
@@ -231,7 +231,7 @@ fn touch_again<N: Node<Parcel<Numbers>>>(
     }
 }
 
-/// Begins a call on a node and, if it is granted, makes so many and one with its grant: nothing
+/// Begins a call on a node and, if it is granted, makes this many and one with its grant: nothing
 /// changes. How many were made; none at a node of another kind, or one that isn't there.
 pub fn touch_on<N: Node<Parcel<Numbers>>>(
     depot: &Depot<Adding>,

@@ -15,9 +15,9 @@ use std::alloc::{AllocError, Global};
 /// A call on the tokens of its node.
 #[derive(Clone, Copy)]
 pub enum Move {
-    /// So many tokens go from the node's parcel into the hand, as one batch.
+    /// This many tokens go from the node's parcel into the hand, as one batch.
     Take(u64),
-    /// A batch of so many tokens goes from the hand into the node's parcel.
+    /// A batch of this many tokens goes from the hand into the node's parcel.
     Give(u64),
 }
 
@@ -95,7 +95,7 @@ pub fn take(
     }
 }
 
-/// Gives a batch of so many tokens from the hand to a stripe. Whether it did: not where the call
+/// Gives a batch of this many tokens from the hand to a stripe. Whether it did: not where the call
 /// wasn't granted.
 pub fn give(
     depot: &Depot<Lending>,

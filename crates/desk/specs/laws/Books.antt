@@ -63,7 +63,7 @@ module _ {P C R : Type 0} where
   abbrev pub IsSame : Books P C R → Books P C R → Type 0
   IsSame b c = (k : ℕ) → now c k ≡ now b k
 
-  -- a desk with so many workers and these parcels, at the start
+  -- a desk with this many workers and these parcels, at the start
   abbrev pub opening_books : Layout → (ℕ → Option P) → ℕ → Books P C R
   opening_books layout f workers = record {
     layout = layout;

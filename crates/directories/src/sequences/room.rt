@@ -32,7 +32,7 @@ impl<T> Model for Room<T> {
 }
 
 impl<T: Copy> Room<T> {
-    /// Memory for so many items, in a node that is there or a new one.
+    /// Memory for this many items, in a node that is there or a new one.
     pub(crate) fn new(
         alloc: Global,
         size: usize,

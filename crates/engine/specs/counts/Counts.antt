@@ -21,7 +21,7 @@ use Rattle.engine.specs.declared.counts.counts.PartCounts.{PartCounts}
 
 -- ---- by parcels
 
--- of what Logical has, and so many numbers
+-- of what Logical has, and this many numbers
 abbrev pub counts_of : LogicalValue → ℕ → VolumeCounts
 counts_of l total = record { files = l.inodes.used; stock = len l.stock; dead = len l.dead.blocks; total = total }
 
@@ -60,7 +60,7 @@ seen_if (Some volume) (Some p) = Some (counts_seen volume p)
 
 -- ---- what is told
 
--- where hands carry so many of the volume: those that aren't counted are free
+-- where hands carry this many of the volume: those that aren't counted are free
 abbrev pub told_of : ℕ → VolumeCounts → Counts
 told_of hands c = record {
   files = c.files;
@@ -76,11 +76,11 @@ parts_told c = record { files = c.files; stock = c.stock; dead = c.dead; free = 
 
 -- ---- by what workers carry
 
--- after so many dead blocks came into a hand
+-- after this many dead blocks came into a hand
 abbrev pub with_culled : ℕ → VolumeCounts → VolumeCounts
 with_culled count c = record c { dead = c.dead - count }
 
--- after so many fresh ones were put down in the stock, which has at most all
+-- after this many fresh ones were put down in the stock, which has at most all
 abbrev pub with_put : ℕ → VolumeCounts → VolumeCounts
 with_put count c = record c { stock = min (c.stock + count) c.total }
 
@@ -90,7 +90,7 @@ fresh_volume Empty = None
 fresh_volume (Fresh volume blocks) = Some volume
 fresh_volume (Dead volume blocks) = None
 
--- where a hand is put down, with so many blocks
+-- where a hand is put down, with this many blocks
 abbrev pub put_counted : Option ℕ → ℕ → List VolumeCounts → List VolumeCounts
 put_counted None count counts = counts
 put_counted (Some volume) count counts = changed_at (with_put count) counts volume
@@ -134,7 +134,7 @@ module _ {P : Type 0} where
   abbrev pub in_whole : Layout → FilerSerial P → ℕ → VolumeCounts → VolumeCounts
   in_whole layout held v before = counts_in (volume_placed layout (placed held.aggregates.at (aggregate_of layout v)) v)
 
--- the counts of so many volumes from a number on, one by one
+-- the counts of this many volumes from a number on, one by one
 abbrev pub recounted : (ℕ → VolumeCounts → VolumeCounts) → ℕ → ℕ → List VolumeCounts → List VolumeCounts
 recounted h from zero counts = counts
 recounted h from (suc n) [] = []

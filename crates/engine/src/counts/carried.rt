@@ -6,7 +6,7 @@ ghost use Rattle.engine.specs.counts.Counts.{with_culled, with_put};
 
 use crate::counts::counts::VolumeCounts;
 
-/// So many dead blocks of a volume came into a hand.
+/// This many dead blocks of a volume came into a hand.
 pub fn count_culled(counts: &mut Vec<VolumeCounts>, volume: u32, count: usize)
     ensures { counts.new.items ≡ changed_at (with_culled count) counts.old.items volume }
 {
@@ -15,7 +15,7 @@ pub fn count_culled(counts: &mut Vec<VolumeCounts>, volume: u32, count: usize)
     }
 }
 
-/// So many blocks that a hand carried were put down in the stock of a volume, which has at most
+/// This many blocks that a hand carried were put down in the stock of a volume, which has at most
 /// all.
 pub fn count_put(counts: &mut Vec<VolumeCounts>, volume: u32, count: usize)
     ensures { counts.new.items ≡ changed_at (with_put count) counts.old.items volume }
@@ -25,7 +25,7 @@ pub fn count_put(counts: &mut Vec<VolumeCounts>, volume: u32, count: usize)
     }
 }
 
-/// The stock of a volume of so many numbers after so many more.
+/// The stock of a volume of this many numbers after this many more.
 fn stock_after(stock: usize, count: usize, total: usize) -> usize
     ensures { result ≡ min (stock + count) total }
 {

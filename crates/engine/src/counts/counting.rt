@@ -14,7 +14,7 @@ use affinity::Layout;
 use filer_state::{Files, ranges_used};
 use parcels::{AggrHeld, LogicalHeld, SerialHeld, VolumeHeld};
 
-/// Counts the volume again whose Logical is held: so many numbers as before.
+/// Counts the volume again whose Logical is held: this many numbers as before.
 pub(crate) fn recount_logical(
     counts: &mut Vec<VolumeCounts>,
     volume: u32,
@@ -127,7 +127,7 @@ fn count_volume(held: &VolumeHeld<Files>) -> VolumeCounts
     )
 }
 
-/// The counts of a volume of so many numbers.
+/// The counts of a volume of this many numbers.
 fn count(held: &LogicalHeld<Files>, total: usize) -> VolumeCounts
     ensures { result ≡ counts_of held.now.own total }
 {

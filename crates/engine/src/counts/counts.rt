@@ -31,7 +31,7 @@ pub struct PartCounts {
 impl VolumeCounts {
     ghost use Rattle.engine.specs.counts.Counts.{told_of, parts_told};
 
-    /// All parts, where hands carry so many.
+    /// All parts, where hands carry this many.
     pub fn with_hands(self, hands: usize) -> PartCounts
         ensures { parts_told result ≡ told_of hands self }
     {

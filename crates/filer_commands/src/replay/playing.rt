@@ -55,7 +55,7 @@ fn output_before(engine: &Engine, event: Event<'_>) -> usize {
 }
 
 /// Prints what a feed came to: how many bytes were taken and what stopped it, and the records that
-/// were written since there were so many bytes.
+/// were written since there were this many bytes.
 fn print_fed<W: Write>(
     engine: &Engine,
     connection: ConnectionNumber,
@@ -70,7 +70,7 @@ fn print_fed<W: Write>(
     print_records(out, connection, &output[before.min(output.len())..])
 }
 
-/// Prints the last so many bytes that were written to a connection.
+/// Prints the last this many bytes that were written to a connection.
 fn print_written<W: Write>(
     engine: &Engine,
     connection: ConnectionNumber,

@@ -17,7 +17,7 @@ use std::io::Write;
 /// How many bytes are spelled in one write.
 const PIECE: usize = 256;
 
-/// The hex digits of so many bytes.
+/// The hex digits of this many bytes.
 const DIGITS: usize = 512;
 
 /// Prints a line.

@@ -49,7 +49,7 @@ fn is_volume(aggregates: &[AggregateSpec], volumes: &[VolumeSpec], volume: Volum
         && (volume.mib == MIB || volume.mib == MOST_MIB)
 }
 
-/// Whether an engine may have so many workers.
+/// Whether an engine may have this many workers.
 fn is_worker_count(workers: u32) -> bool
     ensures { IsTrue result ↔ (1 ≤ workers) × (workers ≤ 64) }
 {

@@ -59,7 +59,7 @@ spans_written fileid offset written moment stripes =
 
 -- ---- the inode
 
--- a file of at least a size, with so many blocks more
+-- a file of at least a size, with this many blocks more
 abbrev pub kind_extended : ℕ → ℕ → InodeKind → InodeKind
 kind_extended end more (RegularFile size filled verifier) = RegularFile (max size end) (filled + more) verifier
 kind_extended end more (DirectoryKind parent subdirectories) = DirectoryKind parent subdirectories

@@ -17,7 +17,7 @@ use Rattle.filer_state.specs.state.Lenses.{LogicalSet}
 abbrev pub some_told : (ℕ → List ℕ) → ℕ → ℕ → ℕ → Answer
 some_told bytes offset size n = ReadDone n (nat_le size (offset + n)) (bytes n)
 
--- at most so many bytes of a file of a size; at or past its end none. `bytes n` are its n bytes from the offset on
+-- at most this many bytes of a file of a size; at or past its end none. `bytes n` are its n bytes from the offset on
 abbrev pub read_told : (ℕ → List ℕ) → ℕ → ℕ → ℕ → Answer
 read_told bytes offset most size = if nat_le size offset then ReadDone 0 true [] else some_told bytes offset size (min most (size - offset))
 

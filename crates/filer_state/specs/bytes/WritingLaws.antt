@@ -19,7 +19,7 @@ write_call handle node fileid w = record {
 }
 
 -- Whatever the rest of the volume is, by the i-th stripe, where the bytes lie in it: a reply is the serial server's, and so is the
--- volume that is left; it moves just where the model says.
+-- volume that is left; it moves exactly when the model says.
 abbrev pub StripeWriteIsRight : Type 0
 StripeWriteIsRight = (v i fileid : ℕ) (handle : List ℕ) (w : Writing) (s : StripeValue) → i < s.stripes
     → LieIn s.stripes i fileid w.offset (min w.count most_bytes)

@@ -11,7 +11,7 @@ use Rattle.filer_state.specs.bytes.WritingLaws.{write_call}
 use Rattle.filer_state.specs.bytes.WritingUp.{LogicalWrites, VolumeWrites, bytes_due, holes_of, for_holes, all_blocks}
 
 -- ---- Whatever the rest of the volume is: a reply is the serial server's, so is the volume that is left, blocks moved as the profile
--- says, and it moves just where the model says.
+-- says, and it moves exactly when the model says.
 
 abbrev pub LogicalWriteIsRight : Type 0
 LogicalWriteIsRight = (v fileid : ℕ) (handle : List ℕ) (w : Writing) (old new : LogicalSet) (outcome : Outcome)

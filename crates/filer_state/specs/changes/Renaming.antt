@@ -45,7 +45,7 @@ abbrev pub above : ℕ → Option ℕ → Option ℕ
 above fileid None = None
 above fileid (Some parent) = if parent == fileid then None else Some parent
 
--- whether at most so many steps from a directory to its parent lead to a target
+-- whether at most this many steps from a directory to its parent lead to a target
 abbrev pub climbs : ℕ → InodeMap → ℕ → ℕ → Bool
 climbs zero inodes target fileid = fileid == target
 climbs (suc n) inodes target fileid =

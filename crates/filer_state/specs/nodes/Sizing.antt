@@ -22,7 +22,7 @@ abbrev pub all_freed : ℕ → ℕ → List StripeValue → List ℕ
 all_freed fileid size [] = []
 all_freed fileid size (s ∷ stripes) = numbers_freed fileid size s ++ all_freed fileid size stripes
 
--- a file of a size, with so many blocks less
+-- a file of a size, with this many blocks less
 abbrev pub kind_sized : ℕ → ℕ → InodeKind → InodeKind
 kind_sized size fewer (RegularFile old filled verifier) = RegularFile size (filled - fewer) verifier
 kind_sized size fewer (DirectoryKind parent subdirectories) = DirectoryKind parent subdirectories

@@ -50,7 +50,7 @@ pub record LieIn (stripes i fileid offset n : ℕ) : Type 0 where
   pub span : (n ≡ 0) ⊎ (offset / span_bytes ≡ (offset + n - 1) / span_bytes)
   pub stripe : stripe_of stripes fileid (offset / block_size) ≡ i
 
--- an effect's answer; a failure has so many absent parts
+-- an effect's answer; a failure has this many absent parts
 abbrev pub answer_of : ℕ → Effect → Answer
 answer_of absent (Fails status) = Failed status absent
 answer_of absent (Tells answer) = answer

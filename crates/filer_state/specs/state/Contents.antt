@@ -27,7 +27,7 @@ pub record FilerContents : Type 0 where
 abbrev pub volume_at : FilerContents → ℕ → Option VolumeContents
 volume_at c v = slice_get c.volumes v
 
--- f of so many numbers from a number on
+-- f of this many numbers from a number on
 abbrev pub each : {A : Type 0} → (ℕ → A) → ℕ → ℕ → List A
 each f from zero = []
 each f from (suc n) = f from ∷ each f (from + 1) n

@@ -72,7 +72,7 @@ HandPutDown size range hand old new =
     (0 < length (batch_in hand)) × IsBatch size range (batch_in hand)
     × PutsDown (length (batch_in hand)) (record { parts = old; hand = hand }) (without_hand new)
 
--- What an inner call does with a volume's parts, where a range has so many blocks and so many are in use, by its reply. A fetch
+-- What an inner call does with a volume's parts, where a range has this many blocks and this many are in use, by its reply. A fetch
 -- is from a range in use; what is put down is a fresh batch of the volume, or a dead one of the range.
 abbrev pub InnerMoves : (size : ℕ) → InnerCall → (used : ℕ) → Parts → JobReply → Parts → Type 0
 InnerMoves size (Fetch v r) used old (Took hand) new =

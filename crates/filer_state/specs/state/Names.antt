@@ -87,7 +87,7 @@ abbrev pub parent_or : Option ℕ → ℕ → ℕ
 parent_or None fileid = fileid
 parent_or (Some parent) fileid = parent
 
--- the directory so many steps above one
+-- the directory this many steps above one
 abbrev pub directory_above : InodeMap → ℕ → ℕ → ℕ
 directory_above inodes zero fileid = fileid
 directory_above inodes (suc n) fileid = directory_above inodes n (parent_or (parent_directory (get inodes fileid)) fileid)

@@ -17,7 +17,7 @@ use Rattle.filer_state.specs.state.Parcels.{FilerParcel}
 use Rattle.filer_state.specs.state.Contents.{at}
 use Rattle.filer_state.specs.state.Names.{root}
 
--- of a volume of so many stripes, with this largest size, so many inodes, and ranges of so many blocks
+-- of a volume of this many stripes, with this largest size, this many inodes, and ranges of this many blocks
 abbrev pub opening_logical : List ℕ → (stripes largest most_inodes size : ℕ) → LogicalValue
 opening_logical verifier stripes largest most_inodes size = record {
   verifier = verifier;
@@ -33,7 +33,7 @@ opening_logical verifier stripes largest most_inodes size = record {
 abbrev pub opening_stripe : List ℕ → ℕ → ℕ → StripeValue
 opening_stripe verifier stripes largest = record (empty_stripe verifier stripes largest) { cards = from_sorted ((root, OfDirectory) ∷ []) }
 
--- the r-th range, where a range has so many blocks and so many are in use
+-- the r-th range, where a range has this many blocks and this many are in use
 abbrev pub opening_range : (size used r : ℕ) → RangeValue
 opening_range size used r = if nat_lt r used then put_in_use (unused_range size r) else unused_range size r
 

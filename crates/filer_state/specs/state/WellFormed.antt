@@ -46,7 +46,7 @@ pub record StripeFits (l : LogicalValue) (i : ℕ) (s : StripeValue) : Type 0 wh
 abbrev pub range_at : List RangeValue → ℕ → RangeValue
 range_at ranges r = slice_index_or ranges r no_range
 
--- Of the r-th range, where a range has so many blocks and so many are in use: these are the first.
+-- Of the r-th range, where a range has this many blocks and this many are in use: these are the first.
 pub record RangeFits (size used r : ℕ) (x : RangeValue) : Type 0 where
   pub blocks : x.range_blocks ≡ size
   pub number : x.number ≡ r

@@ -13,11 +13,11 @@ first_in_use zero ranges = ranges
 first_in_use (suc n) [] = []
 first_in_use (suc n) (r ∷ ranges) = put_in_use r ∷ first_in_use n ranges
 
--- a volume in which so many are in use
+-- a volume in which this many are in use
 abbrev pub with_ranges : ℕ → VolumeSet → VolumeSet
 with_ranges n volume = record volume { ranges = first_in_use n volume.ranges }
 
--- Why more ranges don't come into use in a volume that has so many, on an aggregate that has so many spare ones: INVAL where none
+-- Why more ranges don't come into use in a volume that has this many, on an aggregate that has this many spare ones: INVAL where none
 -- are asked for, FBIG where the volume would have more than 16, NOSPC where more are asked for than are spare.
 abbrev pub grow_refusal : ℕ → ℕ → ℕ → Option Status
 grow_refusal used spare more =
@@ -48,6 +48,6 @@ grow_there v more None s = record { answer = Failed NoEntry 0; set = s }
 grow_there v more (Some None) s = record { answer = Failed NoEntry 0; set = s }
 grow_there v more (Some (Some volume)) s = grow_checked v more volume (grow_refusal (ranges_used volume.ranges) s.spare more) s
 
--- so many more ranges for the volume of a number
+-- this many more ranges for the volume of a number
 abbrev pub grow_aggregate : ℕ → ℕ → AggregateSet → AggregateAnswer
 grow_aggregate v more s = grow_there v more (slice_get s.volumes v) s

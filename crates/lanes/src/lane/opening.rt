@@ -30,9 +30,9 @@ impl<D: Device, R> Lane<D, R> {
     ghost use Rattle.lanes.specs.Words.{boxes_in, connections_in, filer_in, identity_in, pass_in};
     ghost use Rattle.lanes.specs.Words.{worker_in};
 
-    /// One of so many lanes of a filer, which reads records by what is offered, with a queue of its
-    /// own: a pass that will only admit, and a worker with the other pass. Neither has done
-    /// anything. At most so many connections will be open.
+    /// One of this many lanes of a filer, which reads records by what is offered, with a queue of
+    /// its own: a pass that will only admit, and a worker with the other pass. Neither has done
+    /// anything. At most this many connections will be open.
     pub fn new(
         rt: R,
         alloc: Global,

@@ -92,7 +92,7 @@ impl<D: Device, R: Wait> Lane<D, R> {
 
     /// Tries the call of the message that its worker keeps, or else of the one that waits longest,
     /// and then, under the same grant, those of the messages after it that try the same node, at
-    /// most so many in all (`Worker::turns_beside`). Their answers are put into the outboxes, as
+    /// most this many in all (`Worker::turns_beside`). Their answers are put into the outboxes, as
     /// what is offered tells them. Where no message is found, all that was ever put into the queue
     /// was picked.
     pub fn turns<G: Gate, H: Hint>(

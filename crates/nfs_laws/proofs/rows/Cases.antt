@@ -93,7 +93,7 @@ stored = record { mode = 420; uid = 65534; gid = 65534; atime = at 1; mtime = at
 abbrev pub file : List ℕ → FinSet nat_cmp → Node
 file bytes filled = File (record { attributes = stored; bytes = bytes; filled = filled; touch = None; verifier = None })
 
--- one that was written to, at so many seconds
+-- one that was written to, at this many seconds
 abbrev pub touched_file : ℕ → List ℕ → FinSet nat_cmp → Node
 touched_file seconds bytes filled = File (record { attributes = stored; bytes = bytes; filled = filled; touch = Some (at seconds); verifier = None })
 
@@ -115,7 +115,7 @@ root_with next list =
       list = list;
     })
 
--- volume 0 of so many blocks, in ranges of 1,024, with 65,536 inodes at most, with files of so many bytes at most, by its next fileid and its nodes
+-- volume 0 of this many blocks, in ranges of 1,024, with 65,536 inodes at most, with files of this many bytes at most, by its next fileid and its nodes
 abbrev pub volume_with : ℕ → ℕ → ℕ → List (ℕ × Node) → VolumeState
 volume_with total largest next nodes =
     record {
@@ -160,7 +160,7 @@ tight first second = small 2 16777216 4 ((1, root_with 5 (entry 3 a 2 ∷ (entry
 
 -- ---- what is shown
 
--- the root of volume 0, with so many links, changed at so many seconds
+-- the root of volume 0, with this many links, changed at this many seconds
 abbrev pub root_shown : ℕ → ℕ → Shown
 root_shown links seconds =
     record {

@@ -10,14 +10,14 @@ use Rattle.nfs_model.specs.Work.{Store, Task, move_of}
 use Rattle.nfs_laws.specs.lemmas.Evaluate.{evaluate}
 use Rattle.nfs_laws.proofs.rows.Cases.{at, nobody, h, write_at, sized, no_blocks, block_0, file, with_file, narrow, tight}
 
--- ---- a WRITE, with so many blocks in the stock, free and dead
+-- ---- a WRITE, with this many blocks in the stock, free and dead
 
--- a set of so many numbers
+-- a set of this many numbers
 abbrev sized_set : ℕ → FinSet nat_cmp
 sized_set zero = sets.empty
 sized_set (suc n) = sets.insert (sized_set n) n
 
--- a server, with so many blocks in the parts of volume 0
+-- a server, with this many blocks in the parts of volume 0
 abbrev store : Server → ℕ → ℕ → ℕ → Store
 store server stock free dead = record {
   server = server;

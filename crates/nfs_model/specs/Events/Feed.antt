@@ -142,7 +142,7 @@ StopsAt setup w h (Some number) = (h.stop ≡ number) × ((is_crowded w && is_of
 
 -- ---- a feed
 
--- bytes for a connection, of which so many are taken, and the number with which taking stops
+-- bytes for a connection, of which this many are taken, and the number with which taking stops
 pub record Feeding : Type 0 where
   pub connection : ℕ
   pub bytes : List ℕ

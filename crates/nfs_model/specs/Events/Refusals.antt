@@ -30,7 +30,7 @@ pub data Done : Type 0 where
   HasReply : Done
   HasMove : (affinity : Affinity) → Done
   IsStarved : Done
-  Written : (connection count : ℕ) → Done  -- so many bytes, none where the connection is closed
+  Written : (connection count : ℕ) → Done  -- this many bytes, none where the connection is closed
   IsBack : Done
   HandHas : (count : ℕ) → Done
   HasPut : (count : ℕ) → Done
@@ -73,7 +73,7 @@ has_empty_hand (Some k) = is_empty_hand k.hand
 abbrev pub is_busy : Setup → World → Affinity → Bool
 is_busy setup w affinity = list_any (excludes setup.layout affinity) (affinities (all_running w.workers))
 
--- so many stamps were made that no more can be
+-- this many stamps were made that no more can be
 abbrev pub is_worn : World → Bool
 is_worn w = nat_le (2 ^ 62) w.stamps
 

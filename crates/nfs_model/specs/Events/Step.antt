@@ -21,7 +21,7 @@ use Rattle.nfs_model.specs.Events.Feed.{Feeds, feeding}
 abbrev pub new_connection : Connection
 new_connection = record { stream = []; closed = None; output = [] }
 
--- a connection closed when so many calls were finished
+-- a connection closed when this many calls were finished
 abbrev pub with_closed : ℕ → Connection → Connection
 with_closed count x = record x { closed = Some count }
 

@@ -1,4 +1,4 @@
--- How many optional parts a failure of a procedure has in its results, all absent: so many zero
+-- How many optional parts a failure of a procedure has in its results, all absent: this many zero
 -- words (our profile; RFC 1813 section 3.3 has the results).
 use Rattle.std.specs.Prelude.{ℕ}
 use Rattle.nfs_model.specs.Types.{UnsupportedProcedure, Readlink, Symlink, Mknod, Link, Call, Null, Getattr}

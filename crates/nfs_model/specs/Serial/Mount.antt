@@ -25,7 +25,7 @@ abbrev pub is_absolute : List ℕ → Bool
 is_absolute [] = false
 is_absolute (c ∷ cs) = c == 47
 
--- the volumes that are exported: of so many those whose number is one digit
+-- the volumes that are exported: of this many those whose number is one digit
 abbrev pub exported : ℕ → List ℕ
 exported volumes = range_with_len 0 (min volumes 10)
 
@@ -33,7 +33,7 @@ exported volumes = range_with_len 0 (min volumes 10)
 abbrev pub names_volume : List ℕ → ℕ → Bool
 names_volume path volume = same_name path (volume_path volume) || (same_name path root_path && (volume == 0))
 
--- which of so many volumes a path names
+-- which of this many volumes a path names
 abbrev pub mounted : ℕ → List ℕ → Option ℕ
 mounted volumes path = find (names_volume path) (exported volumes)
 

@@ -5,7 +5,7 @@ use Rattle.nfs_model.specs.Types.{Answer, ReadDone}
 use Rattle.nfs_model.specs.Server.{VolumeState, most_bytes}
 use Rattle.nfs_model.specs.Locate.{Effect, Tells, on_file}
 
--- at most so many bytes from offset on
+-- at most this many bytes from offset on
 abbrev pub bytes_at : List ℕ → ℕ → ℕ → List ℕ
 bytes_at bytes offset count = take count (drop offset bytes)
 

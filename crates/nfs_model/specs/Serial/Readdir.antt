@@ -23,7 +23,7 @@ above_cookie cookie es = filter (λ e. nat_lt cookie e.cookie) es
 abbrev pub entry_size : Listed → ℕ
 entry_size e = 24 + 4 * ((length e.name + 3) / 4)
 
--- the longest beginning that fits into so many bytes
+-- the longest beginning that fits into this many bytes
 abbrev pub fitting : ℕ → List Listed → List Listed
 fitting room [] = []
 fitting room (e ∷ es) = if nat_le (entry_size e) room then e ∷ fitting (room - entry_size e) es else []

@@ -31,7 +31,7 @@ listed_plus volume e = record {
 abbrev pub entry_plus_size : Listed → ℕ
 entry_plus_size e = entry_size e + 116
 
--- the longest beginning that fits into so many bytes with attributes and handles
+-- the longest beginning that fits into this many bytes with attributes and handles
 abbrev pub fitting_plus : ℕ → List Listed → List Listed
 fitting_plus room [] = []
 fitting_plus room (e ∷ es) =

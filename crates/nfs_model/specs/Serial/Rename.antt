@@ -28,7 +28,7 @@ abbrev pub on_parent : Option ℕ → (ℕ → Bool) → Bool
 on_parent None test = false
 on_parent (Some parent) test = test parent
 
--- Whether at most so many steps from a directory to its parent lead to a target. As many as there
+-- Whether at most this many steps from a directory to its parent lead to a target. As many as there
 -- are nodes are enough, since parents lead to the root, and the root ends the way.
 abbrev pub climbs_to : ℕ → VolumeState → ℕ → ℕ → Bool
 climbs_to zero volume target fileid = fileid == target

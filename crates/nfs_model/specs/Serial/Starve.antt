@@ -49,7 +49,7 @@ has_name (Some (File f)) name = false
 has_name (Some (Directory d)) name = is_some (find_name name d.list)
 
 -- whether a call with this answer takes memory: READ that gives bytes, READDIR, READDIRPLUS, CENSUS,
--- WRITE that fills a block, CREATE, MKDIR and RENAME that add an entry (a CREATE adds one just where the
+-- WRITE that fills a block, CREATE, MKDIR and RENAME that add an entry (a CREATE adds one exactly when the
 -- name isn't there)
 abbrev pub takes_memory : Server → Call → Answer → Bool
 takes_memory server call (ReadDone count eof bytes) = is_some_bytes bytes

@@ -39,7 +39,7 @@ pub record Step : Type 0 where
 abbrev pub stay : Server → Answer → Step
 stay server answer = record { reply = Success answer; server = server }
 
--- what a call on a volume comes to, put back into the server; a failure has so many absent parts
+-- what a call on a volume comes to, put back into the server; a failure has this many absent parts
 abbrev pub placed : Server → ℕ → ℕ → Effect → Step
 placed server absent index (Fails status) = stay server (Failed status absent)
 placed server absent index (Tells answer) = stay server answer
@@ -60,7 +60,7 @@ on_two server absent (Some from) (Some to) run =
     then placed server absent from.named.volume (run from.volume from.named.fileid to.named.fileid)
     else stay server (Failed CrossVolume absent)
 
--- a call that was decoded, by its procedure (RFC 1813 section 3.3); a failure has so many absent
+-- a call that was decoded, by its procedure (RFC 1813 section 3.3); a failure has this many absent
 -- parts
 abbrev pub serve_by : Server → ℕ → Call → Credential → Moment → Step
 serve_by server absent Null credential moment = stay server NullDone

@@ -29,7 +29,7 @@ pub record Page : Type 0 where
   pub entries : List Listed
   pub is_last : Bool  -- no entry remains after it
 
--- of the entries that remain, those that fit into so many bytes
+-- of the entries that remain, those that fit into this many bytes
 abbrev pub page_of : ℕ → List Listed → Page
 page_of room remaining = record { entries = fitting room remaining; is_last = length (fitting room remaining) == length remaining }
 

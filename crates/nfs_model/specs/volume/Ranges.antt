@@ -24,11 +24,11 @@ pub record RangeValue : Type 0 where
   pub is_used : Bool
   pub free : FinSet nat_cmp
 
--- a range of so many blocks as it is made, not in use
+-- a range of this many blocks as it is made, not in use
 abbrev pub unused_range : (size number : ℕ) → RangeValue
 unused_range size number = record { range_blocks = size; number = number; is_used = false; free = sets.empty }
 
--- all numbers of a range, where a range has so many
+-- all numbers of a range, where a range has this many
 abbrev pub range_numbers : (size number : ℕ) → List ℕ
 range_numbers size number = range_with_len (size * number) size
 
@@ -86,7 +86,7 @@ pub record IsRange (r : RangeValue) : Type 0 where
 pub record IsOfVolume (size : ℕ) (set : FinSet nat_cmp) : Type 0 where
   pub below : (b : ℕ) → contains set b ≡ true → b < most_ranges * size
 
--- the dead blocks of a volume, by ranges of so many blocks
+-- the dead blocks of a volume, by ranges of this many blocks
 pub record DeadValue : Type 0 where
   pub range_blocks : ℕ
   pub blocks : FinSet nat_cmp

@@ -47,7 +47,7 @@ pub record StripeValue : Type 0 where
 abbrev pub span_blocks : ℕ
 span_blocks = span_bytes / block_size
 
--- the stripe of a file's block, of so many
+-- the stripe of a file's block, of this many
 abbrev pub stripe_of : ℕ → ℕ → ℕ → ℕ
 stripe_of stripes fileid block = (fileid + block / span_blocks) % stripes
 
@@ -60,7 +60,7 @@ byte_of (Some b) i = slice_index_or b.bytes i 0
 abbrev pub byte_at : StripeValue → ℕ → ℕ → ℕ
 byte_at s fileid at = byte_of (get s.blocks (fileid, at / block_size)) (at % block_size)
 
--- so many bytes of a file from an offset on
+-- this many bytes of a file from an offset on
 abbrev pub bytes_read : StripeValue → ℕ → ℕ → ℕ → List ℕ
 bytes_read s fileid offset n = map (byte_at s fileid) (range_with_len offset n)
 

@@ -122,7 +122,7 @@ pub(crate) fn created<'a, R: Abort + AllocGlobal + Wait>(
     worker
 }
 
-/// Writes four bytes into the empty file, in so many turns, and looks at the reply (RFC 1813
+/// Writes four bytes into the empty file, in this many turns, and looks at the reply (RFC 1813
 /// section 3.3.7).
 fn written<'a, R: Abort + AllocGlobal + Wait>(
     rt: &R,
@@ -220,7 +220,7 @@ fn two_workers(rt: HostRuntime) {
     mem::forget((first, second, reader));
 }
 
-/// Makes tends one after another, each of which comes to so many blocks or this refusal.
+/// Makes tends one after another, each of which comes to this many blocks or this refusal.
 fn tended<'a>(
     rt: &impl Abort,
     worker: FilerWorker<'a>,

@@ -42,7 +42,7 @@ module _ {P : Type 0} where
 
 -- ---- a volume on it
 
--- the check that fails, of a volume with so many ranges where so many are spare
+-- the check that fails, of a volume with this many ranges where this many are spare
 abbrev pub growth_refused : Option Status → ℕ → ℕ → ℕ → Type 0
 growth_refused status used spare more = option_map status_of status ≡ grow_refusal used spare more
 
@@ -56,7 +56,7 @@ module _ {P : Type 0} where
     pub kept : OnErr result (new ≡ old)
     pub alike : aggregate_alike old new
 
-  -- what it comes to on a volume, where so many ranges are spare
+  -- what it comes to on a volume, where this many ranges are spare
   abbrev pub VolumeGrows : ℕ → ℕ → FilerVolume P → Result ℕ Status → FilerVolume P → Type 0
   VolumeGrows spare more old (Err status) new = growth_refused (Some status) (ranges_used (vbn_set old.vbn)) spare more × (new ≡ old)
   VolumeGrows spare more old (Ok total) new =

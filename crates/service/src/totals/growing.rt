@@ -22,7 +22,7 @@ use parcels::{AggrHeld, VolumeHeld};
 
 /// GROW of the admin program (our profile), on the parcels under the Aggregate of the volume: INVAL
 /// where no range is asked for, FBIG where the volume would have more than 16, NOSPC where more are
-/// asked for than are spare; else so many ranges come into use in the volume, all their blocks
+/// asked for than are spare; else this many ranges come into use in the volume, all their blocks
 /// free, and are spare no more. Gives the new total of the volume's blocks. It takes no memory.
 pub fn grow(held: &mut AggrHeld<Files>, volume: VolumeNumber, more: u32) -> Result<u64, Status>
     requires whole { HasVolumeOf volume.0 held.old }
@@ -48,7 +48,7 @@ fn grow_at(held: &mut AggrHeld<Files>, volume: u32, more: u32) -> Result<u64, St
     Ok(total)
 }
 
-/// Puts more ranges of the volume in a place into use, where so many are spare.
+/// Puts more ranges of the volume in a place into use, where this many are spare.
 fn grow_in(place: &mut Option<VolumeHeld<Files>>, spare: u32, more: u32) -> Result<u64, Status>
     requires { HasRangesIn place.old }
     ensures { PlaceGrows spare more place.old result place.new }
@@ -59,7 +59,7 @@ fn grow_in(place: &mut Option<VolumeHeld<Files>>, spare: u32, more: u32) -> Resu
     }
 }
 
-/// Puts more ranges of a volume into use, where so many are spare.
+/// Puts more ranges of a volume into use, where this many are spare.
 fn grow_volume(held: &mut VolumeHeld<Files>, spare: u32, more: u32) -> Result<u64, Status>
     requires { HasRanges held.old.vbn }
     ensures { VolumeGrows spare more held.old result held.new }
@@ -74,7 +74,7 @@ fn grow_volume(held: &mut VolumeHeld<Files>, spare: u32, more: u32) -> Result<u6
     Ok(u64::from(range_blocks) * u64::from(used + more))
 }
 
-/// The first check that fails of GROW of a volume with so many ranges, where so many are spare.
+/// The first check that fails of GROW of a volume with this many ranges, where this many are spare.
 fn refusal(used: u32, spare: u32, more: u32) -> Option<Status>
     requires { used ≤ 16 }
     ensures { growth_refused result used spare more }

@@ -10,7 +10,7 @@ ghost use Rattle.service.specs.totals.Ranges.{HasRanges, place_in_use};
 use filer_state::Files;
 use parcels::{RangeHeld, VbnHeld};
 
-/// Puts the first ranges of a volume into use, so many: those that weren't, with all their blocks
+/// Puts the first ranges of a volume into use, this many: those that weren't, with all their blocks
 /// free.
 pub(crate) fn put_in_use(held: &mut VbnHeld<Files>, count: u32)
     requires there { HasRanges held.old }

@@ -8,7 +8,7 @@ use Rattle.turns.specs.declared.shared_waiting.view.View.{View}
 module _ {T K : Type 0} where
   -- ---- what a pass knows
 
-  -- it has so many parts of 1 / 2^halvings of the right to know the whole, has put and picked these, and knows the queue's key
+  -- it has this many parts of 1 / 2^halvings of the right to know the whole, has put and picked these, and knows the queue's key
   abbrev pub viewed : ℕ → ℕ → List T → List T → Option K → View T K
   viewed parts halvings put picked key = record { share = parts; halvings = halvings; put = put; picked = picked; key = key }
 

@@ -112,6 +112,6 @@ module _ {P C R B G : Type 0} (shows : Shows G P) (kind : P → Kind) (m : Behav
   pub taken-so : (IsExcluded v (number_of L a)) → IsTaken (books_of shows L v gs) a
   taken-so excluded = refused-taken kind (books_of shows L v gs) lawful v h a node excluded
 
-  -- the ticket of the only seat is worn just where 2^62 calls were finished
+  -- the ticket of the only seat is worn exactly when 2^62 calls were finished
   pub worn-so : depots.IsWorn v w → worn ≤ stamps (books_of shows L v gs)
   worn-so worn_so = let most = (worn_so.3 h.only).1 in most

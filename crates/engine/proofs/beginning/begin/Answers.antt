@@ -6,8 +6,8 @@ use Rattle.nfs_model.specs.Parts.{Hand}
 use Rattle.nfs_model.specs.Tree.{Layout}
 use Rattle.nfs_model.specs.Events.Refusals.{Begin}
 use Rattle.nfs_values.specs.Moment.{moment_of}
-use Rattle.affinity.specs.declared.affinity.Home.{Home}
-use Rattle.affinity.specs.Affinity.{home_node}
+use Rattle.affinity.specs.declared.affinity.CallNode.{CallNode}
+use Rattle.affinity.specs.Affinity.{call_node}
 use Rattle.affinity.specs.Tree.{IsNode}
 use Rattle.desk.specs.laws.Calls as desks
 use Rattle.desk.specs.Refusal.{IsRefused}
@@ -47,7 +47,7 @@ unreachable-requires c =
 
 pub lend-requires-clause-node : goal.lend-requires-clause-node
 lend-requires-clause-node c =
-    subst (λ (L : Layout). IsNode L (home_node c.in-Some.affinity)) (sym c.requires.layout) c.in-Some.ensures.node
+    subst (λ (L : Layout). IsNode L (call_node c.in-Some.affinity)) (sym c.requires.layout) c.in-Some.ensures.node
 
 pub set_run-requires : goal.set_run-requires
 set_run-requires c =
@@ -81,7 +81,7 @@ pub returns-in-Err-Taken-clause-events : goal.returns-in-Err-Taken-clause-events
 returns-in-Err-Taken-clause-events c =
     let s = c.args.state.now in
     let free = idle-there s.workers.items c.deref.result.now c.args.worker c.is_idle.result c.deref.ensures.value c.is_idle.ensures c.if-not-is_idle.false in
-    let taken = subst (λ r. IsRefused (books s.desk) (home_node c.in-Some.affinity) r) c.in-Err-Taken.field-0-is c.in-Err-Taken.ensures.refused in (
+    let taken = subst (λ r. IsRefused (books s.desk) (call_node c.in-Some.affinity) r) c.in-Err-Taken.field-0-is c.in-Err-Taken.ensures.refused in (
       inl (taken_refused s c.requires c.args.worker c.args.place c.args.moment c.in-Some.affinity free c.in-Some.ensures.there
           c.if-moment-ge-SECOND.false taken),
       same-books (world s) (books s.desk) (books c.lend.new.desk) c.in-Err-Taken.ensures.same,
@@ -101,7 +101,7 @@ pub returns-in-Err-Worn-clause-events : goal.returns-in-Err-Worn-clause-events
 returns-in-Err-Worn-clause-events c =
     let s = c.args.state.now in
     let free = idle-there s.workers.items c.deref.result.now c.args.worker c.is_idle.result c.deref.ensures.value c.is_idle.ensures c.if-not-is_idle.false in
-    let worn = subst (λ r. IsRefused (books s.desk) (home_node c.in-Some.affinity) r) c.in-Err-Worn.field-0-is c.in-Err-Worn.ensures.refused in (
+    let worn = subst (λ r. IsRefused (books s.desk) (call_node c.in-Some.affinity) r) c.in-Err-Worn.field-0-is c.in-Err-Worn.ensures.refused in (
       inl (worn_refused s c.requires c.args.worker c.args.place c.args.moment c.in-Some.affinity free c.in-Some.ensures.there
           c.if-moment-ge-SECOND.false worn),
       same-books (world s) (books s.desk) (books c.lend.new.desk) c.in-Err-Worn.ensures.same,
@@ -145,12 +145,12 @@ module _ (c : goal.After-set_run) where
   tried : c.in-Some.affinity ≡ r.message.affinity
   tried = tried-affinity c.in-Some.affinity (slice_get s.calls.waiting c.args.place) r.message c.in-Some.ensures.there takes.there
 
-  begins : desks.HasBegun (books s.desk) c.args.worker (home_node r.message.affinity) (books new.desk)
-  begins = subst (λ (a : Home). desks.HasBegun (books s.desk) c.args.worker (home_node a) (books new.desk)) tried c.in-Ok.ensures.begun
+  begins : desks.HasBegun (books s.desk) c.args.worker (call_node r.message.affinity) (books new.desk)
+  begins = subst (λ (a : CallNode). desks.HasBegun (books s.desk) c.args.worker (call_node a) (books new.desk)) tried c.in-Ok.ensures.begun
 
 pub returns-in-Ok-begin-clause-events : goal.returns-in-Ok-begin-clause-events
 returns-in-Ok-begin-clause-events c =
-    subst (λ (a : Home). Does (s c) (Begin c.args.worker c.args.place (moment_of c.args.moment)) (Ok (Granted a)) (new c)) (sym (tried c))
+    subst (λ (a : CallNode). Does (s c) (Begin c.args.worker c.args.place (moment_of c.args.moment)) (Ok (Granted a)) (new c)) (sym (tried c))
     (begun_events (s c) (new c) c.requires c.args.worker c.args.place (r c) (hand c) (changed c) refl c.requires.keyed refl
     c.in-Ok.ensures.kept (begins c) (takes c)
     c.if-moment-ge-SECOND.false)

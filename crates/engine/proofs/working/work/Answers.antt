@@ -15,7 +15,7 @@ use Rattle.nfs_model.specs.Events.Step as steps
 use Rattle.nfs_values.specs.declared.call.Call.{Call}
 use Rattle.nfs_values.specs.Credential.{credential_of}
 use Rattle.nfs_values.specs.Moment.{moment_of}
-use Rattle.affinity.specs.Affinity.{home_node}
+use Rattle.affinity.specs.Affinity.{call_node}
 use Rattle.scheduler.specs.declared.message.Message.{Message}
 use Rattle.depot_rule.specs.Sums.{total}
 use Rattle.filer_state.specs.state.Parcels.{FilerParcel}
@@ -137,7 +137,7 @@ run_on-outcome-requires-clause-may c =
     let placed = (all-at (IsReady (layout_in s.calls) (length (held_in s))) s.workers.items i ran sound.workers found).0 in
     may-work job_of job_reply_of (setup_in s) (world s) (books s.desk) sound.stands i (worker_seen ran) (seen-at s.workers.items i ran found)
     (running_as r None) refl refl (few-stamps _ (running_count s.calls) sound.stamps) r.message.call
-    (subst (λ (l : Layout). IsRunAt l r.message.call (home_node r.message.affinity)) (sym sound.layout) placed.run)
+    (subst (λ (l : Layout). IsRunAt l r.message.call (call_node r.message.affinity)) (sym sound.layout) placed.run)
 
 pub run_on-outcome-requires-clause-counted : goal.run_on-outcome-requires-clause-counted
 run_on-outcome-requires-clause-counted c =
@@ -245,7 +245,7 @@ module _ (c : goal.After-set_run-2) where
   stands : StandsFor job_of job_reply_of setup_new new next
   stands =
       let apart = book-apart _ next _ c.run_on-outcome.ensures.kept in
-      let tried = run-tried L r.message.call (credential_of r.message.credential) (home_node r.message.affinity) placed.run in
+      let tried = run-tried L r.message.call (credential_of r.message.credential) (call_node r.message.affinity) placed.run in
       let then = worked-stands job_of job_reply_of setup old b c.requires.whole.0.stands i (worker_seen ran) seen (running_as r None)
       refl refl (outcome_of o) next served apart tried in
       subst (λ (x : Setup). StandsFor job_of job_reply_of x new next) (sym setup_is)

@@ -28,7 +28,7 @@ sum-none : (f : ℕ → ℕ) (t : ℕ) → ((n : ℕ) → n < t → f n ≡ 0) �
 sum-none f zero h = refl
 sum-none f (suc t) h = let here = h t (omega arith) in let others = sum-none f t (λ n less. h n (omega arith)) in omega (arith, here, others)
 
--- those below a number are so many
+-- those below a number are this many
 sum-below : (m t : ℕ) → t ≤ m → sum_below (λ n. one_if (nat_lt n m)) t ≡ t
 sum-below m zero h = refl
 sum-below m (suc t) h =

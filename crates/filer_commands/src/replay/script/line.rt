@@ -10,7 +10,7 @@ use std::alloc::Global;
 /// A line of a layout.
 #[derive(Clone, Copy)]
 pub(crate) enum LayoutLine {
-    /// An aggregate with so many spare ranges.
+    /// An aggregate with this many spare ranges.
     Aggregate { spare: u32 },
     Volume(VolumeSpec),
     /// The end of the layout: how many workers, and the write verifier.

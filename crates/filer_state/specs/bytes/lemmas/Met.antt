@@ -63,7 +63,7 @@ met-passes test offset n k all from below = by (n == 0) refl all
     by false e h = range-passes test (offset / block_size) (((offset + n - 1) / block_size + 1) - offset / block_size) (k / block_size) h
         (omega (arith, from)) (omega (arith, from, below))
 
--- none is left out just where all pass
+-- none is left out exactly when all pass
 pub none-left : (test : ℕ → Bool) (blocks : List ℕ) → nat_lt 0 (length (filter (λ b. not (test b)) blocks)) ≡ not (list_all test blocks)
 none-left test [] = refl
 none-left test (b ∷ blocks) = by (test b) (none-left test blocks)

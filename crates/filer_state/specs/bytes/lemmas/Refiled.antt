@@ -41,7 +41,7 @@ pub record Refits (stripes i f size : ℕ) (s new : StripeValue) : Type 0 where
 
 -- ---- all stripes
 
--- what has to hold of them, where so many blocks are more
+-- what has to hold of them, where this many blocks are more
 pub record Refiles (p : VolumeContents) (f size more : ℕ) (stripes : List StripeValue) : Type 0 where
   pub as_many : length stripes ≡ length p.stripes
   pub each : (i : ℕ) → i < length p.stripes → Refits p.logical.stripes i f size (stripe_at p.stripes i) (stripe_at stripes i)

@@ -64,7 +64,7 @@ module _ (p : VolumeContents) (i f offset n size : ℕ) (inode : Inode) (verifie
       ∙ ap not (met-tests (contains (file_filled p.stripes f)) (is_filled s f) offset n
       (λ b some from below. filled-here p.stripes i f offset n lies small b some from below))
 
-  -- it extends or fills just where it doesn't stay within
+  -- it extends or fills exactly when it doesn't stay within
   pub moves-or-stays : (touch : Option Moment) → get s.cards f ≡ Some (OfFile size touch)
       → (nat_lt (length file.bytes) (offset + n) || nat_lt 0 (need file offset n)) ≡ not (stays_within f offset n s)
   moves-or-stays touch card =

@@ -139,7 +139,7 @@ may-starve absent v c done stays parts right s takes =
     ∙ right p hands made sound ∙ ap (λ (n : ℕ). answer_of n (c.run (volume_of p))) (sym parts) in
     (stays p, (λ server at. subst (λ (a : Answer). IsTrue (takes_memory server c.call a)) told (takes p server has at)), refl))
 
--- a directory as it is seen has a name just where its entries have it
+-- a directory as it is seen has a name exactly when its entries have it
 no-name : (p : VolumeContents) (fileid : ℕ) (name : List ℕ) → fileid_found (entries_of p.logical fileid) name ≡ None
     → has_name (get (volume_of p).nodes fileid) name ≡ false
 no-name p fileid name absent = ap (λ (o : Option Node). has_name o name) (node-at p fileid) ∙ by (get p.logical.inodes.inodes fileid)

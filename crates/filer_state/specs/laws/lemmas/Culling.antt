@@ -66,7 +66,7 @@ cull-right v set p hands hands' made has numbered sound moved =
 
 -- ---- survey
 
--- how many numbers of each range in use are free, where a range has so many blocks
+-- how many numbers of each range in use are free, where a range has this many blocks
 abbrev pub counts_by : ℕ → List RangeValue → List ℕ
 counts_by size ranges = map (λ r. length (in_range size r (free_in ranges))) (range_with_len 0 (ranges_used ranges))
 

@@ -21,7 +21,7 @@ use Rattle.filer_state.specs.state.Partition.{all_numbers, StandOnce}
 use Rattle.filer_state.specs.laws.lemmas.Mapped.{entry-at-least}
 use Rattle.filer_state.specs.laws.lemmas.Counted.{all-times, all-length}
 
--- ---- so many different numbers
+-- ---- this many different numbers
 
 without_it : ℕ → List ℕ → List ℕ
 without_it t ns = filter (λ b. not (b == t)) ns

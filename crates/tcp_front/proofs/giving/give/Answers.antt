@@ -1,6 +1,6 @@
 use Rattle.std.proofs.Common.{List, refl, sym, subst}
 use Rattle.std.specs.Prelude.{OnOk}
-use Rattle.affinity.specs.Affinity.{home_node}
+use Rattle.affinity.specs.Affinity.{call_node}
 use Rattle.affinity.specs.Layout.{layout_of}
 use Rattle.rpc_msg.specs.declared.record.Request.{Request}
 use Rattle.engine_feed.specs.Seen.{asked_of}
@@ -16,7 +16,7 @@ returns-in-Some-clause-ok g c =
     subst (λ (r : Request). OnOk c.admit.result (g.S.RecordSink.came c.args.sink.now (given_of layout c.args.origin (asked_of r)) c.admit.new.self))
     (sym c.in-Call.is)
     (subst (λ (xs : List Arrival). OnOk c.admit.result (g.S.RecordSink.came c.args.sink.now xs c.admit.new.self))
-    (waits-is layout c.args.origin (asked_of (Call c.in-Call.call c.in-Call.credential)) (home_node c.in-Some.admission.affinity)
+    (waits-is layout c.args.origin (asked_of (Call c.in-Call.call c.in-Call.credential)) (call_node c.in-Some.admission.affinity)
     c.in-Some.ensures.waits.at_home) c.admit.ensures.ok)
 
 pub returns-in-None-clause-ok : goal.returns-in-None-clause-ok

@@ -1,4 +1,4 @@
--- so many bytes went out, and nothing failed
+-- this many bytes went out, and nothing failed
 use Rattle.std.proofs.Common.{◌≤◌, ◌-◌, length, take}
 use Rattle.std.specs.Io.KnownBytes.{Appends}
 use Rattle.tcp_front.specs.Counts.{device_of, HasNotFailed}

@@ -1,5 +1,5 @@
 use Rattle.std.proofs.Common.{List, length, Some, refl, sym, ap, subst, arith}
-use Rattle.affinity.specs.Affinity.{home_affinity, home_node}
+use Rattle.affinity.specs.Affinity.{call_affinity, call_node}
 use Rattle.depot.specs.Words.{view}
 use Rattle.desk.specs.Any.{node_lent}
 use Rattle.turns.specs.Telling.{TookTold}
@@ -18,7 +18,7 @@ use Rattle.turns.proofs.chaining.run_messages_on.Goals as goal
 
 pub returns-in-Err-clause-ready : goal.returns-in-Err-clause-ready
 returns-in-Err-clause-ready g c =
-    refused-ready (layout_in c.args.filer.now) (view c.args.seat.now) (view c.begin_on.new.seat) (home_affinity c.args.message.affinity)
+    refused-ready (layout_in c.args.filer.now) (view c.args.seat.now) (view c.begin_on.new.seat) (call_affinity c.args.message.affinity)
     (verifier_in c.args.filer.now)
     c.in-Err.refusal c.in-Err.ensures.refused c.requires.ready
 
@@ -36,7 +36,7 @@ returns-in-Err-clause-served g c s picked =
 pub returns-in-Err-clause-few : goal.returns-in-Err-clause-few
 returns-in-Err-clause-few g c =
     let same = ap (λ (es : List FilerEntry). length es)
-    (refused-entries (layout_in c.args.filer.now) (view c.args.seat.now) (view c.begin_on.new.seat) (home_affinity c.args.message.affinity) c.in-Err.refusal
+    (refused-entries (layout_in c.args.filer.now) (view c.args.seat.now) (view c.begin_on.new.seat) (call_affinity c.args.message.affinity) c.in-Err.refusal
     c.in-Err.ensures.refused) in
     omega (arith, same)
 
@@ -87,7 +87,7 @@ returns-clause-ready g c =
 pub returns-clause-few : goal.returns-clause-few
 returns-clause-few g c =
     let L = layout_in c.args.filer.now in
-    let begun = granted-size L (view c.args.seat.now) (view c.begin_on.new.seat) (home_node c.args.message.affinity) (node_lent L c.in-Ok.grant)
+    let begun = granted-size L (view c.args.seat.now) (view c.begin_on.new.seat) (call_node c.args.message.affinity) (node_lent L c.in-Ok.grant)
     c.in-Ok.ensures.granted in
     let few = c.chain-tried.ensures.few in
     let ended = ended-size (TookTold c.args.handles g.S.AnswerSink.took) L (view c.chain-tried.new.seat) (view c.end_on-kept.new.seat)

@@ -1,6 +1,6 @@
 use Rattle.std.proofs.Common.{true, false, refl, ap}
 use Rattle.nfs_values.specs.Reply.{reply_of}
-use Rattle.affinity.specs.Affinity.{home_affinity}
+use Rattle.affinity.specs.Affinity.{call_affinity}
 use Rattle.depot.specs.Words.{view}
 use Rattle.desk.specs.Any.{node_lent}
 use Rattle.turns.specs.Words.{layout_in, verifier_in}
@@ -13,14 +13,14 @@ use Rattle.turns.proofs.serving.run_message_on.Goals as goal
 
 pub returns-in-Err-clause-ready : goal.returns-in-Err-clause-ready
 returns-in-Err-clause-ready g c =
-    refused-ready (layout_in c.args.filer.now) (view c.args.seat.now) (view c.run.new.seat) (home_affinity c.args.message.affinity)
+    refused-ready (layout_in c.args.filer.now) (view c.args.seat.now) (view c.run.new.seat) (call_affinity c.args.message.affinity)
     (verifier_in c.args.filer.now)
     c.in-Err.refusal c.in-Err.ensures.refused c.requires.ready
 
 pub returns-in-Err-clause-served : goal.returns-in-Err-clause-served
 returns-in-Err-clause-served g c = (
   refl,
-  refused-entries (layout_in c.args.filer.now) (view c.args.seat.now) (view c.run.new.seat) (home_affinity c.args.message.affinity) c.in-Err.refusal
+  refused-entries (layout_in c.args.filer.now) (view c.args.seat.now) (view c.run.new.seat) (call_affinity c.args.message.affinity) c.in-Err.refusal
       c.in-Err.ensures.refused,
   c.in-Err.ensures.refused,
 )

@@ -1,6 +1,6 @@
 use Rattle.std.proofs.Common.{◌<◌, length, Some, sym, subst, ap, ◌∙◌, arith}
 use Rattle.std.proofs.lemmas.List.{length-map}
-use Rattle.affinity.specs.Affinity.{affinity_of, home_affinity, home_node}
+use Rattle.affinity.specs.Affinity.{affinity_of, call_affinity, call_node}
 use Rattle.affinity.specs.Layout.{layout_of}
 use Rattle.depot.specs.Grants as depots
 use Rattle.depot.specs.Words.{layout_in, view}
@@ -37,10 +37,10 @@ returns-then-is_taken-clause-kept g c =
     (told-there granted slots c.args.worker c.index_mut.result.now c.index_mut.ensures.value) in
     let same = told-same granted slots c.args.worker c.index_mut.result.now c.begin_in.new.slot c.index_mut.ensures.value
     (c.in-Err-Worn.ensures.idle ∙ sym idle) in
-    let worn = subst (λ r. depots.IsRefused layout v (home_affinity c.args.home) r w) c.in-Err-Worn.field-0-is c.in-Err-Worn.ensures.refused in
+    let worn = subst (λ r. depots.IsRefused layout v (call_affinity c.args.home) r w) c.in-Err-Worn.field-0-is c.in-Err-Worn.ensures.refused in
     subst (λ xs. IsBook g.M.Parcel.HasKind.kind (books_of shown layout w xs) w) (sym same)
     (read-desk shown g.M.Parcel.HasKind.kind (machine_in self) layout self.depot.layout.lawful v w gs c.requires.kept
-    (home_node c.args.home) c.requires.node v.looked worn.0 worn.1)
+    (call_node c.args.home) c.requires.node v.looked worn.0 worn.1)
 
 pub returns-then-is_taken-clause-refused : goal.returns-then-is_taken-clause-refused
 returns-then-is_taken-clause-refused g c =
@@ -63,10 +63,10 @@ returns-then-is_taken-clause-same g c =
     (told-there granted slots c.args.worker c.index_mut.result.now c.index_mut.ensures.value) in
     let same = told-same granted slots c.args.worker c.index_mut.result.now c.begin_in.new.slot c.index_mut.ensures.value
     (c.in-Err-Worn.ensures.idle ∙ sym idle) in
-    let worn = subst (λ r. depots.IsRefused layout v (home_affinity c.args.home) r w) c.in-Err-Worn.field-0-is c.in-Err-Worn.ensures.refused in
+    let worn = subst (λ r. depots.IsRefused layout v (call_affinity c.args.home) r w) c.in-Err-Worn.field-0-is c.in-Err-Worn.ensures.refused in
     ap (λ xs. books_of shown layout w xs) same ∙
     read-books shown g.M.Parcel.HasKind.kind (machine_in self) layout self.depot.layout.lawful v w gs c.requires.kept
-    (home_node c.args.home) c.requires.node v.looked worn.0 worn.1
+    (call_node c.args.home) c.requires.node v.looked worn.0 worn.1
 
 pub returns-in-Ok-clause-kept : goal.returns-in-Ok-clause-kept
 returns-in-Ok-clause-kept g c =
@@ -77,7 +77,7 @@ returns-in-Ok-clause-kept g c =
     subst (λ xs. IsBook g.M.Parcel.HasKind.kind (books_of shown layout w xs) w)
     (sym (told-set granted slots c.args.worker c.begin_in.new.slot (Some begun.0) begun.1))
     (begun-desk shown g.M.Parcel.HasKind.kind (machine_in self) layout self.depot.layout.lawful v w gs c.requires.kept
-    (home_node c.args.home) c.requires.node c.args.worker c.requires.idle begun.0 begun.2)
+    (call_node c.args.home) c.requires.node c.args.worker c.requires.idle begun.0 begun.2)
 
 pub returns-in-Ok-clause-begun : goal.returns-in-Ok-clause-begun
 returns-in-Ok-clause-begun g c =
@@ -85,10 +85,10 @@ returns-in-Ok-clause-begun g c =
     let gs = all_granted slots in
     let w = view c.begin_in.new.seat in
     let begun = c.in-Ok.ensures.granted in
-    subst (λ xs. HasBegun (books self) c.args.worker (home_node c.args.home) (books_of shown layout w xs))
+    subst (λ xs. HasBegun (books self) c.args.worker (call_node c.args.home) (books_of shown layout w xs))
     (sym (told-set granted slots c.args.worker c.begin_in.new.slot (Some begun.0) begun.1))
     (begun-so shown g.M.Parcel.HasKind.kind (machine_in self) layout self.depot.layout.lawful v w gs c.requires.kept
-    (home_node c.args.home) c.requires.node c.args.worker c.requires.idle begun.0 begun.2)
+    (call_node c.args.home) c.requires.node c.args.worker c.requires.idle begun.0 begun.2)
 
 pub returns-in-Err-Busy-clause-kept : goal.returns-in-Err-Busy-clause-kept
 returns-in-Err-Busy-clause-kept g c =
@@ -99,19 +99,19 @@ returns-in-Err-Busy-clause-kept g c =
     (told-there granted slots c.args.worker c.index_mut.result.now c.index_mut.ensures.value) in
     let same = told-same granted slots c.args.worker c.index_mut.result.now c.begin_in.new.slot c.index_mut.ensures.value
     (c.in-Err-Busy.ensures.idle ∙ sym idle) in
-    let busy = subst (λ r. depots.IsRefused layout v (home_affinity c.args.home) r w) c.in-Err-Busy.field-0-is c.in-Err-Busy.ensures.refused in
+    let busy = subst (λ r. depots.IsRefused layout v (call_affinity c.args.home) r w) c.in-Err-Busy.field-0-is c.in-Err-Busy.ensures.refused in
     subst (λ xs. IsBook g.M.Parcel.HasKind.kind (books_of shown layout w xs) w) (sym same)
     (read-desk shown g.M.Parcel.HasKind.kind (machine_in self) layout self.depot.layout.lawful v w gs c.requires.kept
-    (home_node c.args.home) c.requires.node 1 busy.1.0 busy.1.1)
+    (call_node c.args.home) c.requires.node 1 busy.1.0 busy.1.1)
 
 pub returns-in-Err-Busy-clause-refused : goal.returns-in-Err-Busy-clause-refused
 returns-in-Err-Busy-clause-refused g c =
     let self = c.args.self.now in let layout = layout_in self.depot in let v = view self.seat in let slots = self.slots.items in
     let gs = all_granted slots in
     let w = view c.begin_in.new.seat in
-    let busy = subst (λ r. depots.IsRefused layout v (home_affinity c.args.home) r w) c.in-Err-Busy.field-0-is c.in-Err-Busy.ensures.refused in
+    let busy = subst (λ r. depots.IsRefused layout v (call_affinity c.args.home) r w) c.in-Err-Busy.field-0-is c.in-Err-Busy.ensures.refused in
     taken-so shown g.M.Parcel.HasKind.kind (machine_in self) layout self.depot.layout.lawful v w gs c.requires.kept
-    (home_node c.args.home) c.requires.node (busy.1.5 c.requires.kept.only)
+    (call_node c.args.home) c.requires.node (busy.1.5 c.requires.kept.only)
 
 pub returns-in-Err-Busy-clause-same : goal.returns-in-Err-Busy-clause-same
 returns-in-Err-Busy-clause-same g c =
@@ -122,10 +122,10 @@ returns-in-Err-Busy-clause-same g c =
     (told-there granted slots c.args.worker c.index_mut.result.now c.index_mut.ensures.value) in
     let same = told-same granted slots c.args.worker c.index_mut.result.now c.begin_in.new.slot c.index_mut.ensures.value
     (c.in-Err-Busy.ensures.idle ∙ sym idle) in
-    let busy = subst (λ r. depots.IsRefused layout v (home_affinity c.args.home) r w) c.in-Err-Busy.field-0-is c.in-Err-Busy.ensures.refused in
+    let busy = subst (λ r. depots.IsRefused layout v (call_affinity c.args.home) r w) c.in-Err-Busy.field-0-is c.in-Err-Busy.ensures.refused in
     ap (λ xs. books_of shown layout w xs) same ∙
     read-books shown g.M.Parcel.HasKind.kind (machine_in self) layout self.depot.layout.lawful v w gs c.requires.kept
-    (home_node c.args.home) c.requires.node 1 busy.1.0 busy.1.1
+    (call_node c.args.home) c.requires.node 1 busy.1.0 busy.1.1
 
 pub returns-else-is_taken-clause-kept : goal.returns-else-is_taken-clause-kept
 returns-else-is_taken-clause-kept g c =
@@ -136,10 +136,10 @@ returns-else-is_taken-clause-kept g c =
     (told-there granted slots c.args.worker c.index_mut.result.now c.index_mut.ensures.value) in
     let same = told-same granted slots c.args.worker c.index_mut.result.now c.begin_in.new.slot c.index_mut.ensures.value
     (c.in-Err-Worn.ensures.idle ∙ sym idle) in
-    let worn = subst (λ r. depots.IsRefused layout v (home_affinity c.args.home) r w) c.in-Err-Worn.field-0-is c.in-Err-Worn.ensures.refused in
+    let worn = subst (λ r. depots.IsRefused layout v (call_affinity c.args.home) r w) c.in-Err-Worn.field-0-is c.in-Err-Worn.ensures.refused in
     subst (λ xs. IsBook g.M.Parcel.HasKind.kind (books_of shown layout w xs) w) (sym same)
     (read-desk shown g.M.Parcel.HasKind.kind (machine_in self) layout self.depot.layout.lawful v w gs c.requires.kept
-    (home_node c.args.home) c.requires.node v.looked worn.0 worn.1)
+    (call_node c.args.home) c.requires.node v.looked worn.0 worn.1)
 
 pub returns-else-is_taken-clause-refused : goal.returns-else-is_taken-clause-refused
 returns-else-is_taken-clause-refused g c =
@@ -150,13 +150,13 @@ returns-else-is_taken-clause-refused g c =
     (told-there granted slots c.args.worker c.index_mut.result.now c.index_mut.ensures.value) in
     let same = told-same granted slots c.args.worker c.index_mut.result.now c.begin_in.new.slot c.index_mut.ensures.value
     (c.in-Err-Worn.ensures.idle ∙ sym idle) in
-    let worn = subst (λ r. depots.IsRefused layout v (home_affinity c.args.home) r w) c.in-Err-Worn.field-0-is c.in-Err-Worn.ensures.refused in (
+    let worn = subst (λ r. depots.IsRefused layout v (call_affinity c.args.home) r w) c.in-Err-Worn.field-0-is c.in-Err-Worn.ensures.refused in (
       subst (λ a. IsTaken (books self) (affinity_of a) → ⊥) c.node.ensures
           (free-books shown layout v gs (affinity_of c.node.result) (layout_of c.layout.result.now) (all_granted c.as_slice.result.now)
           c.is_taken.result c.layout.ensures
           (ap all_granted c.as_slice.ensures.value ∙ same) c.is_taken.ensures.1 c.if-is_taken.false),
       worn-so shown g.M.Parcel.HasKind.kind (machine_in self) layout self.depot.layout.lawful v w gs c.requires.kept
-          (home_node c.args.home) c.requires.node worn,
+          (call_node c.args.home) c.requires.node worn,
     )
 
 pub returns-else-is_taken-clause-same : goal.returns-else-is_taken-clause-same
@@ -168,7 +168,7 @@ returns-else-is_taken-clause-same g c =
     (told-there granted slots c.args.worker c.index_mut.result.now c.index_mut.ensures.value) in
     let same = told-same granted slots c.args.worker c.index_mut.result.now c.begin_in.new.slot c.index_mut.ensures.value
     (c.in-Err-Worn.ensures.idle ∙ sym idle) in
-    let worn = subst (λ r. depots.IsRefused layout v (home_affinity c.args.home) r w) c.in-Err-Worn.field-0-is c.in-Err-Worn.ensures.refused in
+    let worn = subst (λ r. depots.IsRefused layout v (call_affinity c.args.home) r w) c.in-Err-Worn.field-0-is c.in-Err-Worn.ensures.refused in
     ap (λ xs. books_of shown layout w xs) same ∙
     read-books shown g.M.Parcel.HasKind.kind (machine_in self) layout self.depot.layout.lawful v w gs c.requires.kept
-    (home_node c.args.home) c.requires.node v.looked worn.0 worn.1
+    (call_node c.args.home) c.requires.node v.looked worn.0 worn.1
