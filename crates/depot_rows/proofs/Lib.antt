@@ -1,2 +1,3 @@
 pub mod Rejoined
 pub mod Counted
+pub mod AtOnce

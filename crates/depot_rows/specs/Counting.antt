@@ -1,5 +1,5 @@
 -- Calls that count by one, and what a seat's entries tell of them.
-use Rattle.std.specs.Prelude.{◌≡◌, ℕ, List, map, Option}
+use Rattle.std.specs.Prelude.{◌≡◌, ℕ, List, map, Option, Result, Ok, Err}
 use Rattle.nfs_model.specs.Tree.{Layout, Affinity}
 use Rattle.affinity.specs.Numbers.{number_of, parents}
 use Rattle.affinity.specs.declared.affinity.HasKind as kinds
@@ -17,6 +17,12 @@ module _ {P : Type 0} where
   -- the node's number becomes the sum of what it was and 1, modulo 2^64; all others stay
   abbrev pub AddsOne : Layout → Affinity → (ℕ → Option (Parcel P ℕ ℕ ℕ ℕ ℕ ℕ ℕ)) → ℕ → (ℕ → Option (Parcel P ℕ ℕ ℕ ℕ ℕ ℕ ℕ)) → Type 0
   AddsOne layout affinity f sum f' = Changes (parents layout) (number_of layout affinity) (Add 1) f sum f'
+
+  -- so it does where the work is done; where it isn't, nothing changes
+  abbrev pub Counts : {U : Type 0} → Layout → Affinity → (ℕ → Option (Parcel P ℕ ℕ ℕ ℕ ℕ ℕ ℕ)) → Result ℕ U
+      → (ℕ → Option (Parcel P ℕ ℕ ℕ ℕ ℕ ℕ ℕ)) → Type 0
+  Counts layout affinity f (Ok sum) f' = AddsOne layout affinity f sum f'
+  Counts layout affinity f (Err undone) f' = (k : ℕ) → f' k ≡ f k
 
 -- what a call adds
 abbrev pub added_by : Change → ℕ

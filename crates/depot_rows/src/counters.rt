@@ -31,6 +31,7 @@ pub(crate) trait Counter<N: Node<Parcel<Numbers>>> {
 }
 
 /// Counts by one.
+#[derive(Clone, Copy)]
 pub(crate) struct One;
 
 impl Counter<RangeNode> for One {

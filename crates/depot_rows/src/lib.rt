@@ -5,6 +5,8 @@
 #[cfg(test)]
 mod adder;
 #[cfg(test)]
+mod at_once;
+#[cfg(test)]
 mod contention;
 #[cfg(test)]
 mod counters;

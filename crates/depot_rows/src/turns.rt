@@ -36,7 +36,7 @@ pub(crate) fn open(rt: &(impl Abort + AllocGlobal), workers: usize) -> Counters
 }
 
 /// Whether a worker is idle and the layout has a node.
-fn is_ready<M: Machine, K: NodeKinds<M::Parcel>>(
+pub(crate) fn is_ready<M: Machine, K: NodeKinds<M::Parcel>>(
     desk: &Desk<M, K>,
     worker: usize,
     home: CallNode,

@@ -1,0 +1,6 @@
+use Rattle.desk.specs.Words.{IsKept}
+use Rattle.depot_rows.proofs.at_once.made_at_once.Given as goal
+
+-- the desk's seat backs its books
+abbrev pub invariant-loop-count : goal.invariant-loop-count
+invariant-loop-count g l = IsKept l.desk
