@@ -1,9 +1,10 @@
-use Rattle.std.proofs.Common.{rules, refl, ◌≡◌, ◌∷◌, [], length, ap, ◌∙◌}
+use Rattle.std.proofs.Common.{rules, refl, ◌≡◌, ◌∷◌, [], length, sym, ap, ◌∙◌, subst}
 use Rattle.depot_rule.specs.History.{entries_of}
 use Rattle.depot_rule.specs.Seats.{view_of, first_of, others_of}
 use Rattle.depot_rule.proofs.Dealing.{meets, parts-again}
 use Rattle.depot_rule.proofs.Looking.{alikes}
 use Rattle.depot.specs.Calls.{known, own_views}
+use Rattle.depot.specs.Holds.{IsGathered, IsApart}
 use Rattle.depot.specs.Words.{served_by}
 use Rattle.depot.proofs.Seated.{HasMet, met-so, AreAlike, alike-known, told, told-known}
 use Rattle.depot.proofs.meeting.meet.Given.{Over}
@@ -15,8 +16,8 @@ use Rattle.depot.proofs.meeting.meet.Goals as goal
 met : (g : Over) (c : After-join_seat g) → HasMet c.args.one.now.badge.views c.args.other.now.badge.views c.into_seat-first.result.me.0
     c.into_seat-second.result.me.0 c.join_seat.new.seat.me.0
 met g c =
-    let is : c.args.one.now.badge.views ≡ c.into_seat-first.result.me.0 ∷ [] = search rules in
-    let other_is : c.args.other.now.badge.views ≡ c.into_seat-second.result.me.0 ∷ [] = search rules in
+    let is = sym (ap (λ b. b.views) c.replace.ensures.value) ∙ c.into_seat-first.ensures.2 in
+    let other_is = sym (ap (λ b. b.views) c.replace-2.ensures.value) ∙ c.into_seat-second.ensures.2 in
     met-so _ _ c.into_seat-first.result.me.0 c.into_seat-second.result.me.0 _ is other_is c.args.one.now.one.1 c.args.other.now.one.1
     (ap (λ m. m.0) c.join_seat.ensures.2)
 
@@ -27,11 +28,14 @@ alike g c m = alike-known _ _ _ _ _ m (c.load.ensures.2.1 (view_of c.into_seat-f
 
 one-told : (g : Over) (c : After-into_badge g) (m : HasMet c.args.one.now.badge.views c.args.other.now.badge.views c.into_seat-first.result.me.0
     c.into_seat-second.result.me.0 c.join_seat.new.seat.me.0)
-    → known c.into_badge.result.views ≡ told (known c.args.one.now.badge.views) (known c.args.other.now.badge.views) (known c.args.one.now.badge.views)
+    → ((length c.into_badge.result.views ≡ 1) × (length (own_views c.into_badge.result.views) ≡ 1))
+    × (known c.into_badge.result.views ≡ told (known c.args.one.now.badge.views) (known c.args.other.now.badge.views) (known c.args.one.now.badge.views))
 one-told g c m =
     let badge : c.into_badge.result.views ≡ c.split_seat-second.new.seat.me.0 ∷ [] = search rules in
-    let first = ap (λ m. m.0) c.split_seat-second.ensures.2 ∙ ap first_of (ap (λ m. m.0) c.load.ensures.2.0 ∙ m.both) in
-    ap known badge ∙ (ap view_of first ∙ (told-known _ _ _ _ _ m).0)
+    let first = ap (λ m. m.0) c.split_seat-second.ensures.2 ∙ ap first_of (ap (λ m. m.0) c.load.ensures.2.0 ∙ m.both) in (
+      (ap length badge, ap (λ b. length (own_views b)) badge ∙ ap length first),
+      ap known badge ∙ (ap view_of first ∙ (told-known _ _ _ _ _ m).0),
+    )
 
 other-told : (g : Over) (c : After-into_badge-2 g) (m : HasMet c.args.one.now.badge.views c.args.other.now.badge.views c.into_seat-first.result.me.0
     c.into_seat-second.result.me.0 c.join_seat.new.seat.me.0)
@@ -79,23 +83,36 @@ split_seat-second-requires g c =
 
 pub invariant_of-one : goal.invariant_of-one
 invariant_of-one g c =
-    let e = one-told g c (met g (goal.at.invariant_of-one g c).After-join_seat) in
+    let now = one-told g c (met g (goal.at.invariant_of-one g c).After-join_seat) in
+    let e = now.1 in
     let s = c.args.one.now in
-    record { one = search rules; idle = rw e s.idle; parts = rw e s.parts; gathered = rw e s.gathered; apart = rw e s.apart }
+    record {
+      one = now.0;
+      idle = subst (λ v. (v.unsure ≡ 0) × (v.out ≡ 0) × (length v.path ≡ 0) × (v.stamped ≡ 0)) (sym e) s.idle;
+      parts = ap (λ v. v.parts) e ∙ s.parts;
+      gathered = subst IsGathered (sym e) s.gathered;
+      apart = subst IsApart (sym e) s.apart;
+    }
 
 pub invariant_of-other : goal.invariant_of-other
 invariant_of-other g c =
     let now = other-told g c (met g (goal.at.invariant_of-other g c).After-join_seat) in
     let e = now.1 in
     let s = c.args.other.now in
-    record { one = now.0; idle = rw e s.idle; parts = rw e s.parts; gathered = rw e s.gathered; apart = rw e s.apart }
+    record {
+      one = now.0;
+      idle = subst (λ v. (v.unsure ≡ 0) × (v.out ≡ 0) × (length v.path ≡ 0) × (v.stamped ≡ 0)) (sym e) s.idle;
+      parts = ap (λ v. v.parts) e ∙ s.parts;
+      gathered = subst IsGathered (sym e) s.gathered;
+      apart = subst IsApart (sym e) s.apart;
+    }
 
 pub returns-clause-splits : goal.returns-clause-splits
 returns-clause-splits g c = (refl, refl)
 
 pub returns-clause-one : goal.returns-clause-one
 returns-clause-one g c =
-    let at = goal.at.returns-clause-one g c in one-told g at.After-into_badge (met g at.After-join_seat)
+    let at = goal.at.returns-clause-one g c in (one-told g at.After-into_badge (met g at.After-join_seat)).1
 
 pub returns-clause-other : goal.returns-clause-other
 returns-clause-other g c =

@@ -6,7 +6,6 @@ use Rattle.affinity.specs.lemmas.Standing.{parents-tree, number-place}
 use Rattle.depot_rule.specs.declared.view.Read.{Read}
 use Rattle.depot_rule.specs.History.{listed}
 use Rattle.depot_rule.specs.Seats.{view_of}
-use Rattle.depot_rule.specs.Shares.{worn}
 use Rattle.depot_rule.proofs.Places.{one-view}
 use Rattle.depot_rule.proofs.Looking.{looks}
 use Rattle.depot.specs.Calls.{known}
@@ -29,15 +28,15 @@ ticket found = record { word = 0; value = found; shares = 0 }
 
 looked : (g : Over) (c : After-load-ticket g) → HasLookedAt (view c.args.seat.now) c.load-ticket.result c.load-ticket.new.seat.me.0
 looked g c =
-    let is : c.args.seat.now.badge.views ≡ c.into_seat-place.result.me.0 ∷ [] = search rules in
+    let is = sym (ap (λ b. b.views) c.replace.ensures.value) ∙ c.into_seat-place.ensures.2 in
     looked-at _ c.args.seat.now.badge.views c.into_seat-place.result.me.0 c.load-ticket.new.seat.me.0 c.load-ticket.result is c.args.seat.now.one.1
     c.load-ticket.ensures.2.0
 
 granted : (g : Over) (c : In-Ok g) → GrantedAfter g.M.Parcel.HasKind.kind (view c.args.seat.now) c.number_of-node.result
     (λ u l. IsAfter (served_by g.M.Machine) u c.number_of-node.result (listed l)) (ticket c.load-ticket.result) c.try_claim.new.place.me.0
 granted g c =
-    let is : c.args.seat.now.badge.views ≡ c.into_seat-place.result.me.0 ∷ [] = search rules in
-    let low : c.load-ticket.result < worn = search rules in
+    let is = sym (ap (λ b. b.views) c.replace.ensures.value) ∙ c.into_seat-place.ensures.2 in
+    let low = c.if-ticket-ge-WORN.false in
     let look = looked-at _ c.args.seat.now.badge.views c.into_seat-place.result.me.0 c.load-ticket.new.seat.me.0 c.load-ticket.result is
     c.args.seat.now.one.1 c.load-ticket.ensures.2.0 in
     granted-after g.M.Parcel.HasKind.kind (view c.args.seat.now) c.number_of-node.result
@@ -47,8 +46,8 @@ granted g c =
 refused : (g : Over) (c : In-Err g) → RefusedAfter (view c.args.seat.now) c.deref.result.now c.number_of-node.result c.in-Err.busy.node c.in-Err.busy.word
     (ticket c.load-ticket.result) c.try_claim.new.place.me.0
 refused g c =
-    let is : c.args.seat.now.badge.views ≡ c.into_seat-place.result.me.0 ∷ [] = search rules in
-    let low : c.load-ticket.result < worn = search rules in
+    let is = sym (ap (λ b. b.views) c.replace.ensures.value) ∙ c.into_seat-place.ensures.2 in
+    let low = c.if-ticket-ge-WORN.false in
     let look = looked-at _ c.args.seat.now.badge.views c.into_seat-place.result.me.0 c.load-ticket.new.seat.me.0 c.load-ticket.result is
     c.args.seat.now.one.1 c.load-ticket.ensures.2.0 in
     refused-after (view c.args.seat.now) c.deref.result.now c.number_of-node.result c.in-Err.busy.node c.in-Err.busy.word (ticket c.load-ticket.result)
@@ -60,8 +59,8 @@ begun : (g : Over) (c : After-into_badge-in-Ok g) (q : GrantedAfter g.M.Parcel.H
     c.gather-held.result) q.0.0 c.into_badge-in-Ok.result.views
 begun g c q =
     let L = layout_in c.args.self.now in
-    let is : c.args.seat.now.badge.views ≡ c.into_seat-place.result.me.0 ∷ [] = search rules in
-    let low : c.load-ticket.result < worn = search rules in
+    let is = sym (ap (λ b. b.views) c.replace.ensures.value) ∙ c.into_seat-place.ensures.2 in
+    let low = c.if-ticket-ge-WORN.false in
     let look = looked-at _ c.args.seat.now.badge.views c.into_seat-place.result.me.0 c.load-ticket.new.seat.me.0 c.load-ticket.result is
     c.args.seat.now.one.1 c.load-ticket.ensures.2.0 in
     let badge : c.into_badge-in-Ok.result.views ≡ c.gather-held.new.shelf.place.me.0 ∷ [] = search rules in
@@ -81,7 +80,7 @@ into_seat-place-requires g c =
 pub load-ticket-requires : goal.load-ticket-requires
 load-ticket-requires g c =
     let key = c.args.self.now.table.shared.key.value in
-    let is : c.args.seat.now.badge.views ≡ c.into_seat-place.result.me.0 ∷ [] = search rules in
+    let is = sym (ap (λ b. b.views) c.replace.ensures.value) ∙ c.into_seat-place.ensures.2 in
     let words : c.args.self.now.table.shared.table_id.words ≡ length (numbers.parents (layout_in c.args.self.now)) = search rules in (
       search rules,
       subst (λ (n : ℕ). 0 < n) (sym words) (some-parents (layout_in c.args.self.now)),
@@ -131,7 +130,7 @@ try_claim-requires-clause-tree g c =
 pub try_claim-requires-clause-ready : goal.try_claim-requires-clause-ready
 try_claim-requires-clause-ready g c =
     let seat = c.args.seat.now in
-    let low : c.load-ticket.result < worn = search rules in
+    let low = c.if-ticket-ge-WORN.false in
     let parent : c.deref.result.now ≡ numbers.parents (layout_in c.args.self.now) = search rules in
     let place = number-place (layout_in c.args.self.now) (affinity_of c.args.affinity) c.requires.node.0 in
     let look = (looked g (goal.at.try_claim-requires-clause-ready g c).After-load-ticket).0 low in (
@@ -244,7 +243,7 @@ returns-in-Err-clause-refused g c =
     let L = layout_in c.args.self.now in
     let badge : c.into_badge-in-Err.result.views ≡ c.try_claim.new.place.me.0 ∷ [] = search rules in
     let parent : c.deref.result.now ≡ numbers.parents L = search rules in
-    let low : c.load-ticket.result < worn = search rules in (
+    let low = c.if-ticket-ge-WORN.false in (
       c.affinity_at.ensures.node,
       busy-so L (view c.args.seat.now) c.deref.result.now c.number_of-node.result c.in-Err.busy.node c.in-Err.busy.word (number_at L c.args.affinity)
           (number_at L c.affinity_at.result)

@@ -1,12 +1,13 @@
 use Rattle.std.proofs.Common.{rules, ◌≡◌, ◌∷◌, [], refl, sym, ap, ◌∙◌, subst, length}
 use Rattle.affinity.specs.Ancestors.{IsTree}
+use Rattle.affinity.specs.Numbers as numbers
 use Rattle.affinity.specs.lemmas.Standing.{parents-tree}
 use Rattle.depot_rule.specs.Seats.{view_of}
 use Rattle.depot.specs.Calls.{known}
 use Rattle.depot.specs.Holds.{IsGathered}
 use Rattle.depot.specs.Grants.{IsEnded}
 use Rattle.depot.specs.Words.{view, layout_in, number_in, parcels_in}
-use Rattle.depot.proofs.Moves.{one-of}
+use Rattle.depot.proofs.Moves.{placed-one, one-of}
 use Rattle.depot.proofs.Apart.{less-apart}
 use Rattle.depot.proofs.Begun.{seat-still}
 use Rattle.depot.proofs.Between.{between}
@@ -38,6 +39,13 @@ ended g c =
 pub into_seat-place-requires : goal.into_seat-place-requires
 into_seat-place-requires g c =
     one-of c.replace.result.views (ap (λ b. length b.views) c.replace.ensures.value ∙ c.args.seat.now.one.0)
+
+pub give_home-place-requires-clause-ready : goal.give_home-place-requires-clause-ready
+give_home-place-requires-clause-ready g c =
+    let o = start g (goal.at.give_home-place-requires-clause-ready g c).After-into_seat-place in
+    let none : c.into_seat-place.result.me.1 ≡ [] = search rules in
+    let parents : c.deref.result.now ≡ numbers.parents (layout_in c.args.self.now) = search rules in
+    (placed-one o.is c.args.seat.now.one.1, none, o.out, o.path, o.still.0 ∙ sym parents)
 
 pub give_home-place-requires-clause-listed : goal.give_home-place-requires-clause-listed
 give_home-place-requires-clause-listed g c = (start g (goal.at.give_home-place-requires-clause-listed g c).After-into_seat-place).listed
@@ -72,3 +80,8 @@ returns-clause-seat g c =
       seat-still g.M.Parcel.HasKind.kind (layout_in c.args.self.now) (view c.args.seat.now) (known c.into_badge.result.views)
           (ap (λ v. v.tree) now) (ap (λ v. v.first) now) c.requires.seat.1,
     )
+
+pub returns-clause-ended : goal.returns-clause-ended
+returns-clause-ended g c =
+    let e = ended g (goal.at.returns-clause-ended g c).After-into_badge in
+    let badge : c.into_badge.result.views ≡ c.give_home-place.result.me.0 ∷ [] = search rules in (e.0, e.1, ap known badge ∙ e.2)

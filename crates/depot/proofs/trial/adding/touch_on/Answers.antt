@@ -12,3 +12,9 @@ loop-call-init g c =
       begun-with v w _ _ c.in-Ok.ensures.granted,
       begun-hand (machine_of c.args.seat.now) v w _ _ Touch 0 refl refl c.in-Ok.ensures.granted c.in-Ok.ensures.after,
     )
+
+pub finish-requires-clause-step : goal.finish-requires-clause-step
+finish-requires-clause-step g c = (_, c.loop-call.invariant.2, (refl, λ k. refl))
+
+pub finish-requires-clause-hand : goal.finish-requires-clause-hand
+finish-requires-clause-hand g c = c.loop-call.invariant.3
