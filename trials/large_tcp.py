@@ -21,7 +21,7 @@ from xdr import hyper, words
 FBIG, NOSPC = 27, 28
 ROOT, BLOCK, PIECE = 1, 4096, 65_536
 TEBIBYTE = 1 << 40
-PEERS, DEPTH, SEED = 4, 16, 20261127
+PEERS, DEPTH, SEED = 8, 16, 20261127
 # What stands before the results of a call: its xid, REPLY, accepted, no verifier, SUCCESS.
 HEAD = 24
 ANSWERED = words(1, 0, 0, 0, 0)
@@ -52,33 +52,47 @@ class Peer:
     def __init__(self, address):
         self.socket, self.input = connect(address), bytearray()
 
-    def send(self, first, calls):
-        """Sends calls under xids from a first one on."""
-        records = (wire.record(first + k, NFS, *asked) for k, asked in enumerate(calls))
-        self.socket.sendall(b"".join(records))
+    def send(self, records):
+        self.socket.sendall(records)
 
-    def take(self, first, count):
-        """The xids and results of this many replies, in the order in which they come."""
-        at, seen = 0, set()
-        while len(seen) < count:
-            end = at + 4 + int.from_bytes(self.input[at : at + 4], "big") - (1 << 31)
-            if len(self.input) < at + 4 or len(self.input) < end:
+    def collect(self, count):
+        """The bytes of this many replies, after which there are no more."""
+        at = 0
+        for _ in range(count):
+            end = at + 4
+            while len(self.input) < end or len(self.input) < (end := whole(self.input, at)):
                 part = self.socket.recv(1 << 20)
                 hold(part, "a connection ends early")
                 self.input += part
-                continue
-            record, at = bytes(self.input[at + 4 : end]), end
-            number = int.from_bytes(record[:4], "big")
-            hold(
-                number not in seen
-                and first <= number < first + count
-                and record[4:HEAD] == ANSWERED,
-                f"a reply that answers nothing: {record[:60].hex()}",
-            )
-            seen.add(number)
-            yield number, record[HEAD:]
-        del self.input[:at]
-        hold(not self.input, "more replies than calls")
+            at = end
+        data, self.input = bytes(self.input), bytearray()
+        hold(len(data) == at, "more replies than calls")
+        return data
+
+
+def whole(data, at):
+    """Where a record ends, whose mark is at a place."""
+    return at + 4 + int.from_bytes(data[at : at + 4], "big") - (1 << 31)
+
+
+def records(first, calls):
+    """The records of calls, under xids from a first one on."""
+    return b"".join(wire.record(first + k, NFS, *asked) for k, asked in enumerate(calls))
+
+
+def replies_in(data, first, count):
+    """The xids and results of the replies to this many calls, in the order in which they came."""
+    at, seen = 0, set()
+    while at < len(data):
+        end = whole(data, at)
+        record, at = data[at + 4 : end], end
+        number = int.from_bytes(record[:4], "big")
+        hold(
+            number not in seen and first <= number < first + count and record[4:HEAD] == ANSWERED,
+            f"a reply that answers nothing: {record[:60].hex()}",
+        )
+        seen.add(number)
+        yield number, record[HEAD:]
 
 
 class Client:
@@ -107,14 +121,35 @@ class Client:
             turns = []
             for peer in self.peers:
                 if batch := list(itertools.islice(calls, DEPTH)):
-                    peer.send(place, batch)
+                    peer.send(records(place, batch))
                     turns.append((peer, place, len(batch)))
                     place += len(batch)
             if not turns:
                 return place
             for peer, first, count in turns:
-                for number, results in peer.take(first, count):
+                for number, results in replies_in(peer.collect(count), first, count):
                     look(number, results)
+
+    def cost(self, calls, look):
+        """The microseconds of the server's processor for a call. Each connection gets some calls
+        when those before are answered. All are written before and looked at after, so that the
+        server is never without work."""
+        calls = list(calls)
+        batches = [calls[place : place + DEPTH] for place in range(0, len(calls), DEPTH)]
+        turns = list(zip(itertools.cycle(self.peers), itertools.count(0, DEPTH), batches))
+        written, got = [records(first, batch) for _, first, batch in turns], []
+        begun = self.processor()
+        for (peer, _, _), data in zip(turns[:PEERS], written):
+            peer.send(data)
+        for (peer, _, batch), data in itertools.zip_longest(turns, written[PEERS:]):
+            got.append(peer.collect(len(batch)))
+            if data:
+                peer.send(data)
+        took = self.processor() - begun
+        for (_, first, batch), data in zip(turns, got):
+            for number, results in replies_in(data, first, len(batch)):
+                look(number, results)
+        return 1e6 * took / len(calls)
 
     def one(self, procedure, arguments):
         """The results of a call, its status first."""
@@ -214,24 +249,15 @@ class Names:
         hold(results[:8] == words(OK, 1), f"CREATE {number}: {results[:4].hex()}")
         self.fileids[number] = int.from_bytes(results[16:24], "big")
 
-    def look_up(self, numbers):
-        """Looks files up by their names: each is the one that was made."""
+    def lookups(self, numbers):
+        return ((LOOKUP, self.handle + called(name_of(k))) for k in numbers)
 
-        def look(place, results):
-            fileid = int.from_bytes(results[12:20], "big")
-            hold(
-                results[:4] == words(OK) and fileid == self.fileids[numbers[place]],
-                f"LOOKUP of {numbers[place]}: {results[:20].hex()}",
-            )
-
-        self.client.ask(((LOOKUP, self.handle + called(name_of(k))) for k in numbers), look)
-
-    def change(self, calls):
-        """Makes and removes this many files more, some at a time."""
-        for first in range(self.count, self.count + calls // 2, PEERS * DEPTH):
+    def changes(self, count):
+        """Makes and removes files more, some at a time."""
+        for first in range(self.count, self.count + count // 2, PEERS * DEPTH):
             numbers = range(first, first + PEERS * DEPTH)
-            self.client.ask(self.creations(numbers), status_is(OK, "CREATE"))
-            self.client.ask(self.removals(numbers), status_is(OK, "REMOVE"))
+            yield from self.creations(numbers)
+            yield from self.removals(numbers)
 
     def listed(self):
         """The names and fileids that READDIR lists, page by page."""
@@ -245,15 +271,21 @@ class Names:
             yield from entries
 
     def costs(self, calls):
-        """The microseconds of a processor for a LOOKUP, and for a CREATE or REMOVE."""
+        """The microseconds of a processor for a LOOKUP, which finds the file that was made, and
+        for a CREATE or REMOVE."""
         rng = random.Random(SEED)
         numbers = [rng.randrange(self.count) for _ in range(calls)]
-        begun = self.client.processor()
-        self.look_up(numbers)
-        looked = self.client.processor()
-        self.change(calls)
-        changed = self.client.processor()
-        return [1e6 * (looked - begun) / calls, 1e6 * (changed - looked) / calls]
+
+        def look(place, results):
+            fileid = int.from_bytes(results[12:20], "big")
+            hold(
+                results[:4] == words(OK) and fileid == self.fileids[numbers[place]],
+                f"LOOKUP of {numbers[place]}: {results[:20].hex()}",
+            )
+
+        done = status_is(OK, "CREATE or REMOVE")
+        client = self.client
+        return [client.cost(self.lookups(numbers), look), client.cost(self.changes(calls), done)]
 
 
 def entries_of(data, cookie):
