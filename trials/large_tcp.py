@@ -29,8 +29,8 @@ ATTRIBUTES = 84
 # Bytes of memory for an empty file, with its name of 32 bytes.
 MOST_FOR_A_FILE = 1_000
 # What a call among many names may cost, in costs of one among few, and how fast the last tenth of
-# a file has to be written, in speeds of the first. A tenth's speed is the median of its parts'.
-MOST_COST, LEAST_SPEED, PARTS = 1.5, 0.9, 10
+# a file has to be written, in speeds of the first.
+MOST_COST, LEAST_SPEED = 1.5, 0.9
 # The memory of a volume that is full again, in that of one that is full for the first time: what a
 # large cut leaves is given back as its numbers come into use.
 MOST_AGAIN = 1.05
@@ -356,14 +356,14 @@ def piece(number):
 
 def write_all(client, file, count):
     """Writes this many pieces: the mebibytes a second of each tenth."""
-    speeds, handle, parts = [], client.files.handle(file), 10 * PARTS
-    for k in range(parts):
-        numbers = range(count * k // parts, count * (k + 1) // parts)
+    speeds, handle = [], client.files.handle(file)
+    for k in range(10):
+        numbers = range(count * k // 10, count * (k + 1) // 10)
         calls = ((WRITE, write_arguments(handle, PIECE * n, piece(n))) for n in numbers)
         begun = time.monotonic()
         client.ask(calls, status_is(OK, "WRITE"))
         speeds.append(len(numbers) * PIECE / (1 << 20) / (time.monotonic() - begun))
-    return [median(speeds[k : k + PARTS]) for k in range(0, parts, PARTS)]
+    return speeds
 
 
 def read_all(client, file, count):
@@ -379,16 +379,18 @@ def read_all(client, file, count):
 
 
 def many_bytes(filer, scale, tell):
-    """A file that fills its volume, written, read and compared; then there is no space, and once
-    it is cut there is again, for which no more memory is taken. The second time it is written at
-    one speed. The first time that isn't asked: the server takes its memory from the system then,
-    and a virtual machine may get memory from its host as it is first touched, at any speed."""
+    """A file that fills its volume: written at one speed, read and compared; then there is no
+    space, and once it is cut there is again, for which no more memory is taken."""
     with Client(filer, "--size", str(scale.bytes)) as client:
         file, count = client.made(CREATE, ROOT, "large"), scale.bytes // PIECE
         handle = client.files.handle(file)
         hold(client.space()[0] == (scale.bytes, scale.bytes), f"FSSTAT: {client.space()[0]}")
         speeds = write_all(client, file, count)
         tell("MiB/s of each tenth: " + " ".join(f"{speed:.0f}" for speed in speeds))
+        hold(
+            not scale.judged or speeds[-1] >= LEAST_SPEED * speeds[0],
+            f"the last tenth is written at {speeds[-1]:.0f} MiB/s, the first at {speeds[0]:.0f}",
+        )
         full = client.memory()
         hold(client.size_and_used(file) == (scale.bytes,) * 2, "the file's size")
         hold(client.space()[0] == (scale.bytes, 0), f"FSSTAT: {client.space()[0]}")
@@ -408,10 +410,6 @@ def many_bytes(filer, scale, tell):
         hold(client.space()[0] == (scale.bytes, scale.bytes), f"FSSTAT: {client.space()[0]}")
         again = write_all(client, file, count)
         tell("again, MiB/s of each tenth: " + " ".join(f"{speed:.0f}" for speed in again))
-        hold(
-            not scale.judged or again[-1] >= LEAST_SPEED * again[0],
-            f"the last tenth is written at {again[-1]:.0f} MiB/s, the first at {again[0]:.0f}",
-        )
         now = client.memory()
         tell(f"memory of the full volume: {full >> 20} MiB, again {now >> 20} MiB")
         hold(now <= MOST_AGAIN * full, "the volume takes more memory once it is full again")
