@@ -19,6 +19,7 @@ ghost use Rattle.chunk_maps.specs.Chunks.{page_chunks, page_size, SameAt, Sets};
 
 use crate::chunk::{CHUNK_SIZE, Chunk};
 use crate::page::{PAGE_CHUNKS, PAGE_SIZE, Page, change_on, free_on, item_on, put_on, take_on};
+use crate::reading::{GROUP, chunks_on, sum_of};
 use std::alloc::{AllocError, Global};
 use std::collections::BTreeMap;
 
@@ -54,6 +55,25 @@ impl<C: Chunk> ChunkMap<C> {
             Some(page) => item_on(page, fileid),
             None => None,
         }
+    }
+
+    /// Reads the items of fileids, all pages before the chunks and all chunks before the items, so
+    /// that these reads wait for memory at the same time. Nothing is promised of the result.
+    pub fn read_ahead<F: Fn(C::Item) -> u64>(&self, fileids: &[u64; GROUP], of: F) -> u64
+        requires { F.IsAlwaysCallable of }
+    {
+        let pages = self.pages_of(fileids);
+        let chunks = chunks_on(&pages, fileids);
+        sum_of(&chunks, fileids, of)
+    }
+
+    /// The pages of fileids.
+    fn pages_of(&self, fileids: &[u64; GROUP]) -> [Option<&Page<C>>; GROUP] {
+        let mut pages = [None; GROUP];
+        for at in 0..GROUP {
+            pages[at] = self.pages.get(&(fileids[at] / PAGE_SIZE));
+        }
+        pages
     }
 
     /// Puts an item under a fileid. Memory is needed only where its chunk isn't there.

@@ -4,6 +4,8 @@
 mod chunk;
 mod chunk_map;
 mod page;
+mod reading;
 
 pub use chunk::{Chunk, slot};
 pub use chunk_map::ChunkMap;
+pub use reading::GROUP;

@@ -48,7 +48,7 @@ pub fn place(fileid: u64) -> usize
 }
 
 /// The chunk at a place, if there is one.
-fn chunk_on<C>(page: &[Option<C>], place: usize) -> Option<&C>
+pub fn chunk_on<C>(page: &[Option<C>], place: usize) -> Option<&C>
     ensures { option_copied result ≡ chunk_at page.now place }
 {
     match page.get(place) {

@@ -144,6 +144,23 @@ impl Directory {
         }
     }
 
+    /// A slot that the entry with a name of a hash may be in, in a large directory. Nothing is
+    /// promised of it.
+    pub fn slot_guessed(&self, hash: u32) -> Option<u32> {
+        self.guesses.slot(hash)
+    }
+
+    /// The fileid of the entry in a slot; 0 where it has none.
+    pub fn fileid_guessed(&self, slot: u32) -> Fileid {
+        self.entries.fileid_in(slot)
+    }
+
+    /// Reads where the slot of an entry with a name of a hash is guessed, so that a cache has it.
+    /// Nothing is promised of the result.
+    pub fn read_guesses(&self, hash: u32) -> u32 {
+        self.guesses.first_word(hash)
+    }
+
     /// Adds an entry, which takes the next cookie. Where there is no memory for it nothing
     /// changes, and the name is dropped.
     pub fn add(&mut self, name: Name, fileid: Fileid) -> Result<(), AllocError>

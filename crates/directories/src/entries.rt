@@ -43,7 +43,7 @@ ghost use Rattle.directories.specs.Entries.{
 ghost use Rattle.directories.specs.Slots.{in_slot, in_order, IsOrdered};
 
 use crate::sequences::Sequence;
-use crate::slot::{Slot, entry_in, fileid_in, holds, put, vacate};
+use crate::slot::{Slot, entry_in, fileid_at, fileid_in, holds, put, vacate};
 use nfs_values::answer::DirectoryEntry;
 use nfs_values::{Cookie, Fileid, Name};
 use std::alloc::{AllocError, Global};
@@ -118,6 +118,11 @@ impl Entries {
         ensures { IfSome result (λ f. Some f.0 ≡ fileid_found self.now name.now) }
     {
         fileid_in(&self.slots, slot, name)
+    }
+
+    /// The fileid of the entry in a slot; 0 where it has none.
+    pub fn fileid_in(&self, slot: u32) -> Fileid {
+        fileid_at(&self.slots, slot)
     }
 
     /// Adds an entry under the next cookie, which is the result, with its slot. Where there is no

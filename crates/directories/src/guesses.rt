@@ -80,6 +80,14 @@ impl Guesses {
         None
     }
 
+    /// The first word of the line of a hash, or 0.
+    pub fn first_word(&self, hash: u32) -> u32 {
+        match self.words.get(first_of(hash, self.mask)) {
+            Some(word) => *word,
+            None => 0,
+        }
+    }
+
     /// Guesses an entry with a name of a hash in a slot. Where the hash's words all have guesses,
     /// one of them goes.
     pub fn put(&mut self, hash: u32, slot: u32) {

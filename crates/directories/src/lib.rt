@@ -12,3 +12,4 @@ mod spot;
 
 pub use directory::Directory;
 pub use page::Page;
+pub use search::hash_of;

@@ -61,6 +61,14 @@ pub fn fileid_in(slots: &[Slot], slot: u32, name: &[u8]) -> Option<Fileid>
     }
 }
 
+/// The fileid of the entry in a slot; 0 where it has none. Both ends of the entry are read.
+pub fn fileid_at(slots: &[Slot], slot: u32) -> Fileid {
+    match slots.get(slot as usize) {
+        Some(Slot::Filled(entry)) if entry.cookie.0 > 0 => entry.fileid,
+        _ => Fileid(0),
+    }
+}
+
 /// The fileid of an entry, if it has just this name.
 fn fileid_of(entry: &DirectoryEntry, name: &[u8]) -> Option<Fileid>
     ensures { IfSome result (λ f. IsNamed (Some (entry_of entry.now)) name.now f.0) }

@@ -64,6 +64,7 @@ fn run_on(
         call: &running.message.call,
         credential: running.message.credential,
         moment: running.moment,
+        ahead: None,
     };
     let outcome = desk.work(worker, call);
     recount(alloc, desk, counts, worker);

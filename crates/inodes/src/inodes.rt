@@ -30,6 +30,7 @@ ghost use Rattle.inodes.specs.Inode.{inode_value};
 use crate::created::Created;
 use crate::inode::Inode;
 use crate::table::Table;
+use chunk_maps::GROUP;
 use nfs_values::{Fileid, Moment};
 use std::alloc::{AllocError, Global};
 use std::marker::Model;
@@ -86,6 +87,12 @@ impl Inodes {
         ensures { option_map inode_value result ≡ inode_of self.now fileid.0 }
     {
         self.by_fileid.get(fileid)
+    }
+
+    /// Reads the inodes of fileids side by side, so that a cache has them. Nothing is promised of
+    /// the result.
+    pub fn read_ahead(&self, fileids: &[Fileid; GROUP]) -> u64 {
+        self.by_fileid.read_ahead(fileids)
     }
 
     /// The number of inodes, at most 67,108,864.

@@ -7,6 +7,7 @@ mod inode;
 mod inodes;
 mod table;
 
+pub use chunk_maps::GROUP;
 pub use created::Created;
 pub use inode::{Inode, InodeKind, StoredAttributes};
 pub use inodes::Inodes;

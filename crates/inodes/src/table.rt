@@ -11,7 +11,7 @@ ghost use Rattle.inodes.specs.Inode.{inode_value};
 
 use crate::chunk::InodeChunk;
 use crate::inode::Inode;
-use chunk_maps::ChunkMap;
+use chunk_maps::{ChunkMap, GROUP};
 use nfs_values::{Fileid, Moment};
 use std::alloc::{AllocError, Global};
 use std::marker::Model;
@@ -68,6 +68,13 @@ impl Table {
         ensures { option_map inode_value result ≡ get self.now fileid.0 }
     {
         self.chunks.get(fileid.0)
+    }
+
+    /// Reads the inodes of fileids side by side. Nothing is promised of the result.
+    pub fn read_ahead(&self, fileids: &[Fileid; GROUP]) -> u64 {
+        let filled = |inode: Inode| u64::from(inode.kind.filled());
+        self.chunks
+            .read_ahead(&fileids.map(|fileid| fileid.0), filled)
     }
 
     /// How many inodes there are.

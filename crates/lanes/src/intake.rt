@@ -12,6 +12,7 @@ use nfs_values::{Call, ConnectionNumber, Reply};
 use outboxes::Outboxes;
 use rpc_msg::{HandleForm, tell};
 use scheduler::Message;
+use service::Ahead;
 use statistics::{ReplyCounts, ReplyKind};
 use std::alloc::{AllocError, Global};
 use std::snapshot::Snapshot;
@@ -48,6 +49,8 @@ pub struct Intake<R> {
     pub(crate) leaving: u64,
     /// The replies that were made at once.
     pub(crate) at_once: ReplyCounts,
+    /// The names that calls in the queue look for.
+    pub(crate) ahead: Ahead,
     pub ghost of: { IsOf queue pass },
     pub ghost layout: { layout_known (known pass) ≡ Some (layout_in filer.value) },
     pub ghost takes: { TakesFrom queue worker },
@@ -91,6 +94,7 @@ impl<R: Wait> RecordSink for Intake<R> {
     fn admit(&mut self, message: Message<Call>) -> Result<(), AllocError> {
         let room = message.room;
         let leaving = u64::from(may_leave_blocks(&message));
+        self.ahead.note(&message.call);
         let message = Envelope::new(self.alloc, message)?;
         put_last(
             &self.queue,

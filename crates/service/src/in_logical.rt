@@ -76,6 +76,9 @@ pub fn run_on_logical(
     ensures moved { UnlessReplied (outcome_of result) (held.new ≡ held.old) }
     ensures alike { logical_alike held.old held.new }
 {
+    if let Some(ahead) = run.ahead {
+        ahead.look(volume, held);
+    }
     let fileid = fileid_of_call(layout, run.call);
     let named = Named { volume, fileid };
     match tell(run, held, named) {

@@ -30,5 +30,6 @@ pub use inner::{BatchOutcome, SurveyOutcome, Undone};
 pub use job::{BatchReply, FreeCounts, InnerCall, Job, JobReply, ServedCall};
 pub use machine::Service;
 pub use outcome::Outcome;
+pub use service_names::Ahead;
 pub use task::Run;
 pub use works::{BatchWork, LogicalWork, RangeWork, SurveyWork, put_down};

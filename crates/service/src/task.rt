@@ -14,6 +14,7 @@ use parcels::{
     AggrHeld, LogicalHeld, Parcel, SerialHeld, StripeHeld, VolumeHeld, aggregate_number,
     stripe_number, volume_number,
 };
+use service_names::Ahead;
 use std::alloc::Global;
 
 /// A call to be run under its home or above it, as a task on the parcels of the node.
@@ -25,6 +26,8 @@ pub struct Run<'a> {
     /// Whom it acts for.
     pub credential: Credential,
     pub moment: Moment,
+    /// What calls to come look for, if that is noted.
+    pub ahead: Option<&'a Ahead>,
 }
 
 impl<'a> Task<Parcel<Files>, ParcelKinds> for Run<'a> {

@@ -3,6 +3,7 @@
 #![tactic(auto)]
 
 mod access;
+mod ahead;
 mod as_directory;
 mod attributes;
 mod cards;
@@ -28,6 +29,7 @@ mod sizing;
 pub mod telling;
 mod touches;
 
+pub use ahead::Ahead;
 pub use attributes::attributes_now;
 pub use cards::drop_cards;
 pub use child::{child_at, directory_change, is_dots, is_empty};

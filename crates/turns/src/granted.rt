@@ -74,6 +74,7 @@ pub(crate) fn run_on<N: TaskNode<Parcel<Files>, ParcelKinds>, G: Gate>(
         call,
         credential,
         moment,
+        ahead: gate.ahead(),
     };
     let layout = filer.depot.layout();
     match work_node::<Parcel<Files>, ParcelKinds, N, Run>(layout, grant, run) {

@@ -5,6 +5,7 @@ use crate::envelope::Envelope;
 use affinity::Affinity;
 use depot::Refusal;
 use nfs_values::{ConnectionNumber, Reply};
+use service::Ahead;
 use statistics::Tally;
 
 /// What came of a turn.
@@ -54,6 +55,11 @@ pub trait Gate {
     /// A call was finished by its entry, of which this reply was told. One that moves isn't
     /// finished.
     fn finish(&self, _told: &Reply) {}
+
+    /// What calls to come look for, if that is noted.
+    fn ahead(&self) -> Option<&Ahead> {
+        None
+    }
 }
 
 /// What lets every call pass.

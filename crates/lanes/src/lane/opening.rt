@@ -9,6 +9,7 @@ use affinity::Layout;
 use outboxes::Outboxes;
 use rpc_msg::Offer;
 use scheduler::MOST_WAITING;
+use service::Ahead;
 use slab::Slab;
 use statistics::ReplyCounts;
 use std::alloc::Global;
@@ -77,6 +78,7 @@ impl<D: Device, R> Lane<D, R> {
                 handles: offer.handles(),
                 leaving: 0,
                 at_once: ReplyCounts::new(),
+                ahead: Ahead::new(alloc),
             },
             filer,
             connections: Slab::new(alloc),

@@ -54,6 +54,7 @@ impl<D: Device + Drop, R: Drop> Lane<D, R> {
             handles: _,
             leaving: _,
             at_once: _,
+            ahead: _,
         } = intake;
         LaneParts {
             worker,

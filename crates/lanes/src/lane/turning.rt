@@ -7,16 +7,38 @@ ghost use Rattle.lanes.specs.Queues.{count_kept};
 use crate::device::Device;
 use crate::intake::Intake;
 use crate::lane::Lane;
-use nfs_values::Moment;
+use nfs_values::{Moment, Reply};
 use rpc_msg::HandleForm;
+use service::Ahead;
 use std::sync::Wait;
-use turns::{Chained, Filer, Gate, Hint, Worker};
+use turns::{Chained, Filer, Gate, Hint, Place, Worker};
 
 /// How many messages a worker keeps.
 fn kept_by(worker: &Worker) -> usize
     ensures { result ≡ count_kept (kept_in worker.now) }
 {
     usize::from(worker.keeps_message())
+}
+
+/// A gate, and what calls to come look for.
+#[derive(Drop)]
+struct AheadGate<'a, G> {
+    gate: &'a G,
+    ahead: &'a Ahead,
+}
+
+impl<G: Gate> Gate for AheadGate<'_, G> {
+    fn pass(&self, place: Place) {
+        self.gate.pass(place);
+    }
+
+    fn finish(&self, told: &Reply) {
+        self.gate.finish(told);
+    }
+
+    fn ahead(&self) -> Option<&Ahead> {
+        Some(self.ahead)
+    }
 }
 
 impl<R: Wait> Intake<R> {
@@ -58,12 +80,16 @@ impl<R: Wait> Intake<R> {
         ensures queue { self.new.queue ≡ self.old.queue }
         ensures filer { self.new.filer.value ≡ self.old.filer.value }
     {
+        let gate = AheadGate {
+            gate,
+            ahead: &self.ahead,
+        };
         let chained = self.worker.turns_beside(
             filer,
             &self.queue,
             &mut self.pass,
             &self.rt,
-            gate,
+            &gate,
             hint,
             moment,
             most,
