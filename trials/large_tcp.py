@@ -5,6 +5,7 @@ Calls are made as bytes, some at a time on each of some connections, and each re
 its call by its xid (RFC 5531, RFC 1813 section 3.3, docs/SPECIFICATION.md)."""
 
 import itertools
+import mmap
 import random
 import time
 from collections import namedtuple
@@ -354,12 +355,31 @@ def piece(number):
     return words(number * 2_654_435_761 % (1 << 32)) * (PIECE // 4)
 
 
-def write_all(client, file, count):
+class Lent:
+    """Memory that is touched, and given back in tenths as the server takes as much. A virtual
+    machine may have its memory of its host only when it is first touched, at a third of the speed
+    (docs/PERFORMANCE.md), and how much of it has been touched before depends on what ran before."""
+
+    PAGE = 4096
+
+    def __init__(self, size):
+        pages = size // self.PAGE + 10
+        self.tenth = pages // 10 * self.PAGE
+        self.memory = mmap.mmap(-1, 10 * self.tenth, mmap.MAP_PRIVATE | mmap.MAP_ANONYMOUS)
+        self.memory[:: self.PAGE] = bytes(10 * self.tenth // self.PAGE)
+
+    def give(self, k):
+        self.memory.madvise(mmap.MADV_DONTNEED, self.tenth * k, self.tenth)
+
+
+def write_all(client, file, count, lent=None):
     """Writes this many pieces: the mebibytes a second of each tenth."""
     speeds, handle = [], client.files.handle(file)
     for k in range(10):
         numbers = range(count * k // 10, count * (k + 1) // 10)
         calls = ((WRITE, write_arguments(handle, PIECE * n, piece(n))) for n in numbers)
+        if lent:
+            lent.give(k)
         begun = time.monotonic()
         client.ask(calls, status_is(OK, "WRITE"))
         speeds.append(len(numbers) * PIECE / (1 << 20) / (time.monotonic() - begun))
@@ -385,7 +405,7 @@ def many_bytes(filer, scale, tell):
         file, count = client.made(CREATE, ROOT, "large"), scale.bytes // PIECE
         handle = client.files.handle(file)
         hold(client.space()[0] == (scale.bytes, scale.bytes), f"FSSTAT: {client.space()[0]}")
-        speeds = write_all(client, file, count)
+        speeds = write_all(client, file, count, Lent(scale.bytes // 8 * 9))
         tell("MiB/s of each tenth: " + " ".join(f"{speed:.0f}" for speed in speeds))
         hold(
             not scale.judged or speeds[-1] >= LEAST_SPEED * speeds[0],

@@ -8,7 +8,7 @@ use parcels::LogicalHeld;
 use std::alloc::Global;
 use std::cell::{Cell, RefCell};
 
-/// How many names are kept at most.
+/// How many names are kept at most. One more takes the place of all of them.
 const MOST: usize = 128;
 
 /// How many calls aren't noted after names of which none was guessed, as in small directories.
@@ -62,9 +62,10 @@ impl Ahead {
             return;
         };
         if let Ok(mut names) = self.names.try_borrow_mut() {
-            if names.len() < MOST {
-                let _ = names.push(sought);
+            if names.len() >= MOST {
+                names.clear();
             }
+            let _ = names.push(sought);
         }
     }
 
@@ -78,7 +79,7 @@ impl Ahead {
         if names.len() > 1 && !look_for_all(names, volume, held) {
             self.rest.set(REST);
         }
-        names.clear();
+        names.retain(|sought| sought.volume.0 != volume.0);
     }
 }
 
