@@ -47,6 +47,7 @@ use nfs_values::answer::{
 use nfs_values::{Answer, Call, Named, Reply, Status, Target, VolumeNumber};
 use parcels::LogicalHeld;
 use service_data::{read_in_logical, write_in_logical};
+use service_names::Ahead;
 use service_names::committing::commit;
 use service_names::creating::{create, make_directory};
 use service_names::listing::{PageAsked, read_directory};
@@ -76,14 +77,19 @@ pub fn run_on_logical(
     ensures moved { UnlessReplied (outcome_of result) (held.new ≡ held.old) }
     ensures alike { logical_alike held.old held.new }
 {
-    if let Some(ahead) = run.ahead {
-        ahead.look(volume, held);
-    }
+    look_ahead(run.ahead, volume, held);
     let fileid = fileid_of_call(layout, run.call);
     let named = Named { volume, fileid };
     match tell(run, held, named) {
         Some(outcome) => outcome,
         None => change(run, layout, held, named),
+    }
+}
+
+/// Reads in advance what calls to come look for, if that is noted.
+fn look_ahead(ahead: Option<&Ahead>, volume: VolumeNumber, held: &LogicalHeld<Files>) {
+    if let Some(ahead) = ahead {
+        ahead.look(volume, held);
     }
 }
 
