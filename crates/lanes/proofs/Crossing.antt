@@ -7,6 +7,7 @@ use Rattle.slab.proofs.Slab.TheSendSync as slab
 use Rattle.statistics.proofs.counts.ReplyCounts.TheSendSync as counts
 use Rattle.rpc_msg.proofs.handle_form.HandleForm.TheSendSync as form
 use Rattle.rpc_msg.proofs.offer.Offer.TheSendSync as offer
+use Rattle.service_names.proofs.ahead.Ahead.TheSendSync as ahead
 use Rattle.tcp_front.proofs.stream.Stopped.TheSendSync as stopped
 use Rattle.tcp_front.proofs.stream.Stream.TheSendSync as stream
 use Rattle.outboxes.specs.contracts.record.Record as Record
@@ -84,7 +85,7 @@ intake-send R r = declared_send (Intake.the_type R) (
                     search (due.the_send, sendable) depth 20,
                     (
                       search (form.the_send, sendable) depth 20,
-                      (search sendable depth 20, (search (counts.the_send, sendable) depth 20, tt)),
+                      (search sendable depth 20, (search (counts.the_send, sendable) depth 20, (search (ahead.the_send, sendable) depth 20, tt))),
                     ),
                   ),
                 ),

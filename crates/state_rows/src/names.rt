@@ -1,7 +1,7 @@
 //! Directories of one entry and of a thousand, names of one hash, and pages at their edges.
 
 use crate::same::same;
-use directories::Directory;
+use directories::{Directory, hash_of};
 use nfs_values::answer::DirectoryEntry;
 use nfs_values::{Cookie, Fileid, Name};
 use std::mem;
@@ -215,6 +215,38 @@ fn guessed_names(rt: HostRuntime) {
         &(right, most <= 12, directory.len()),
         &(3000, true, 3000),
     );
+    mem::forget(directory);
+}
+
+/// The fileid of the entry that a name is guessed to have, if one is.
+fn guessed(directory: &Directory, name: &[u8]) -> Option<Fileid> {
+    let slot = directory.slot_guessed(hash_of(name))?;
+    Some(directory.fileid_guessed(slot))
+}
+
+/// Of how many of three thousand names the entry is guessed, and how many lines of guesses have a
+/// first word.
+fn read_ahead(directory: &Directory) -> (u64, u64) {
+    let mut right = 0_u64;
+    let mut words = 0_u64;
+    for number in 0..3000 {
+        let name = digits(number);
+        right = right.wrapping_add(u64::from(guessed(directory, &name) == Some(Fileid(number))));
+        words = words.wrapping_add(u64::from(directory.read_guesses(hash_of(&name)) > 0));
+    }
+    (right, words)
+}
+
+#[test]
+fn names_read_in_advance(rt: HostRuntime) {
+    let mut directory = Directory::new(rt.alloc());
+    same(&rt, &read_ahead(&directory), &(0, 0));
+    for number in 0..3000 {
+        add(&rt, &mut directory, &digits(number), number);
+    }
+    let (right, words) = read_ahead(&directory);
+    same(&rt, &(right >= 2900, words >= 2900), &(true, true));
+    same(&rt, &directory.fileid_guessed(3000), &Fileid(0));
     mem::forget(directory);
 }
 

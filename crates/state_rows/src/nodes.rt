@@ -1,7 +1,7 @@
 //! Inodes made, changed and dropped, and as many as a volume has at most.
 
 use crate::same::same;
-use inodes::{Inode, InodeKind, Inodes, StoredAttributes};
+use inodes::{GROUP, Inode, InodeKind, Inodes, StoredAttributes};
 use nfs_values::{Fileid, Moment, Verifier};
 use std::mem;
 use std::process::Abort;
@@ -79,6 +79,18 @@ fn root(rt: HostRuntime) {
 /// How many inodes there are, and how many blocks are used.
 fn counts(inodes: &Inodes) -> (usize, u64) {
     (inodes.len(), inodes.used())
+}
+
+#[test]
+fn blocks_of_files_read_in_advance(rt: HostRuntime) {
+    let inodes = three(&rt);
+    let mut fileids = [Fileid(0); GROUP];
+    fileids[0] = Fileid(2);
+    fileids[3] = Fileid(99_999);
+    fileids[5] = Fileid(4);
+    fileids[15] = Fileid(3);
+    same(&rt, &inodes.read_ahead(&fileids), &17);
+    mem::forget(inodes);
 }
 
 #[test]
