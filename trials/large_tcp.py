@@ -41,10 +41,11 @@ FEW = 1_000
 MOST_AT_REST, REST_SECONDS, MOST_BUSY = 256, 20, 0.1
 
 # How large: names in one directory, the rounds by which a call's cost is found, the calls of each,
-# bytes of a volume that is filled by one file, and whether speeds are judged and not only told.
-Scale = namedtuple("Scale", "names rounds calls bytes judged")
-LARGE = Scale(1_000_000, 9, 100_000, 4 << 30, True)
-SMALL = Scale(50_000, 1, 20_000, 256 << 20, False)
+# bytes of a volume that is filled by one file, how many servers do that, since the speeds of one
+# differ by a tenth from run to run, and whether speeds are judged and not only told.
+Scale = namedtuple("Scale", "names rounds calls bytes fills judged")
+LARGE = Scale(1_000_000, 9, 100_000, 4 << 30, 5, True)
+SMALL = Scale(50_000, 1, 20_000, 256 << 20, 1, False)
 
 
 class Peer:
@@ -386,6 +387,14 @@ def write_all(client, file, count, lent=None):
     return speeds
 
 
+def fill(client, scale, tell):
+    """A new file that fills the volume, and the speed of the last tenth in that of the first."""
+    file = client.made(CREATE, ROOT, "large")
+    speeds = write_all(client, file, scale.bytes // PIECE, Lent(scale.bytes // 8 * 9))
+    tell("MiB/s of each tenth: " + " ".join(f"{speed:.0f}" for speed in speeds))
+    return file, speeds[-1] / speeds[0]
+
+
 def read_all(client, file, count):
     """Reads this many pieces, and compares them."""
     handle = client.files.handle(file)
@@ -401,16 +410,19 @@ def read_all(client, file, count):
 def many_bytes(filer, scale, tell):
     """A file that fills its volume: written at one speed, read and compared; then there is no
     space, and once it is cut there is again, for which no more memory is taken."""
+    ratios = []
+    for _ in range(scale.fills - 1):
+        with Client(filer, "--size", str(scale.bytes)) as client:
+            ratios.append(fill(client, scale, tell)[1])
     with Client(filer, "--size", str(scale.bytes)) as client:
-        file, count = client.made(CREATE, ROOT, "large"), scale.bytes // PIECE
-        handle = client.files.handle(file)
         hold(client.space()[0] == (scale.bytes, scale.bytes), f"FSSTAT: {client.space()[0]}")
-        speeds = write_all(client, file, count, Lent(scale.bytes // 8 * 9))
-        tell("MiB/s of each tenth: " + " ".join(f"{speed:.0f}" for speed in speeds))
+        file, ratio = fill(client, scale, tell)
+        ratios.append(ratio)
         hold(
-            not scale.judged or speeds[-1] >= LEAST_SPEED * speeds[0],
-            f"the last tenth is written at {speeds[-1]:.0f} MiB/s, the first at {speeds[0]:.0f}",
+            not scale.judged or median(ratios) >= LEAST_SPEED,
+            f"the last tenth is written at {median(ratios):.2f} of the speed of the first",
         )
+        count, handle = scale.bytes // PIECE, client.files.handle(file)
         full = client.memory()
         hold(client.size_and_used(file) == (scale.bytes,) * 2, "the file's size")
         hold(client.space()[0] == (scale.bytes, 0), f"FSSTAT: {client.space()[0]}")
