@@ -1,5 +1,0 @@
-import sys; sys.path.insert(0,'/work/dev/trials'); sys.dont_write_bytecode=True
-import large_tcp as lt
-for p in sys.argv[1:]:
-    try: lt.many_bytes(p, lt.LARGE, lambda s: print('  ',s,flush=True)); print('passed')
-    except Exception as e: print('  ',repr(e)[:200])
