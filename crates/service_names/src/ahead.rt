@@ -3,7 +3,7 @@
 use directories::{Directory, hash_of};
 use filer_state::Files;
 use inodes::GROUP;
-use nfs_values::{Call, Fileid, Target, VolumeNumber};
+use nfs_values::{Call, Fileid, Named, Target, VolumeNumber};
 use parcels::LogicalHeld;
 use std::alloc::Global;
 use std::cell::{Cell, RefCell};
@@ -11,7 +11,8 @@ use std::cell::{Cell, RefCell};
 /// How many names are kept at most. One more takes the place of all of them.
 const MOST: usize = 128;
 
-/// How many calls aren't noted after names of which none was guessed, as in small directories.
+/// How many calls on a volume aren't noted after names of which none was guessed, as in small
+/// directories.
 const REST: u32 = 240;
 
 /// A name that a call to come looks for in a directory, and what was read of it.
@@ -31,14 +32,23 @@ struct Sought {
 /// same time, and a call finds in a cache what it looks for. Nothing rests on it but the time.
 pub struct Ahead {
     names: RefCell<Vec<Sought>>,
-    /// How many calls more aren't noted.
+    /// The volumes that names were noted of, each as a bit.
+    noted: Cell<u64>,
+    /// The volumes of which none was guessed, each as a bit.
+    resting: Cell<u64>,
+    /// How many calls more on volumes that rest aren't noted.
     rest: Cell<u32>,
 }
 
 // By hand, so that crates above have no proof of the drop of each of its parts.
 impl Drop for Ahead {
     fn drop(self) {
-        let Ahead { names: _, rest: _ } = self;
+        let Ahead {
+            names: _,
+            noted: _,
+            resting: _,
+            rest: _,
+        } = self;
     }
 }
 
@@ -47,63 +57,95 @@ impl Ahead {
     pub fn new(alloc: Global) -> Ahead {
         Ahead {
             names: RefCell::new(Vec::new(alloc)),
+            noted: Cell::new(0),
+            resting: Cell::new(0),
             rest: Cell::new(0),
         }
     }
 
     /// Notes the name that a call looks for, if it does. Where there is no memory it isn't noted.
     pub fn note(&self, call: &Call) {
-        let rest = self.rest.get();
-        if rest > 0 {
-            self.rest.set(rest - 1);
-            return;
-        }
-        let Some(sought) = sought_by(call) else {
+        let Some((target, named)) = target_of(call) else {
             return;
         };
-        if let Ok(mut names) = self.names.try_borrow_mut() {
-            if names.len() >= MOST {
-                names.clear();
-            }
-            let _ = names.push(sought);
+        let volume = bit_of(named.volume);
+        if self.rests(volume) {
+            return;
+        }
+        let Ok(mut names) = self.names.try_borrow_mut() else {
+            return;
+        };
+        if names.len() >= MOST {
+            names.clear();
+            self.noted.set(0);
+        }
+        if names.push(sought(target, named)).is_ok() {
+            self.noted.set(self.noted.get() | volume);
         }
     }
 
-    /// Reads what a volume has of the names that were noted, which are gone then.
+    /// Whether a volume rests. Each call that asks is one of those that aren't noted.
+    fn rests(&self, volume: u64) -> bool {
+        if self.resting.get() & volume == 0 {
+            return false;
+        }
+        match self.rest.get() {
+            0 => {
+                self.resting.set(0);
+                false
+            }
+            rest => {
+                self.rest.set(rest - 1);
+                true
+            }
+        }
+    }
+
+    /// Reads what a volume has of the names that were noted of it, which are gone then.
     pub fn look(&self, volume: VolumeNumber, held: &LogicalHeld<Files>) {
+        let bit = bit_of(volume);
+        if self.noted.get() & bit == 0 {
+            return;
+        }
         let Ok(mut names) = self.names.try_borrow_mut() else {
             return;
         };
         let names = &mut *names;
         // (one alone is left to its call)
         if names.len() > 1 && !look_for_all(names, volume, held) {
+            self.resting.set(self.resting.get() | bit);
             self.rest.set(REST);
         }
         names.retain(|sought| sought.volume.0 != volume.0);
+        self.noted.set(self.noted.get() & !bit);
     }
 }
 
-/// The name that a call looks for, if it does.
-fn sought_by(call: &Call) -> Option<Sought> {
-    let target = target_of(call)?;
-    let named = target.directory.named()?;
-    Some(Sought {
-        directory: named.fileid,
-        volume: named.volume,
+/// The bit that a volume has. There are at most eight of them.
+fn bit_of(volume: VolumeNumber) -> u64 {
+    1 << (volume.0 % 64)
+}
+
+/// The name that a call looks for, and its directory, if it does.
+fn target_of(call: &Call) -> Option<(&Target, Named)> {
+    let target = match call {
+        Call::Lookup(target) => target,
+        Call::Create { target, .. } => target,
+        Call::Remove(target) => target,
+        _ => return None,
+    };
+    Some((target, target.directory.named()?))
+}
+
+/// A name that is looked for, of which nothing was read.
+fn sought(target: &Target, directory: Named) -> Sought {
+    Sought {
+        directory: directory.fileid,
+        volume: directory.volume,
         hash: hash_of(target.name.as_bytes()),
         slot: None,
         fileid: Fileid(0),
         read: 0,
-    })
-}
-
-/// The directory and the name of a call that looks for one.
-fn target_of(call: &Call) -> Option<&Target> {
-    match call {
-        Call::Lookup(target) => Some(target),
-        Call::Create { target, .. } => Some(target),
-        Call::Remove(target) => Some(target),
-        _ => None,
     }
 }
 
