@@ -79,7 +79,7 @@ impl Ahead {
             names.clear();
             self.noted.set(0);
         }
-        if names.push(sought(target, named)).is_ok() {
+        if names.push(sought_in(named, target)).is_ok() {
             self.noted.set(self.noted.get() | volume);
         }
     }
@@ -137,8 +137,8 @@ fn target_of(call: &Call) -> Option<(&Target, Named)> {
     Some((target, target.directory.named()?))
 }
 
-/// A name that is looked for, of which nothing was read.
-fn sought(target: &Target, directory: Named) -> Sought {
+/// A name that is looked for in a directory, of which nothing was read.
+fn sought_in(directory: Named, target: &Target) -> Sought {
     Sought {
         directory: directory.fileid,
         volume: directory.volume,
