@@ -6,14 +6,14 @@ use Rattle.std.specs.Prelude.{IfSome}
 use Rattle.slab.specs.Slab.{Slab, get}
 use Rattle.outboxes.specs.Boxes.{Boxes}
 use Rattle.turns.specs.Words.{layout_in}
-use Rattle.lanes.specs.declared.connection.Connection.{Connection}
-use Rattle.lanes.specs.declared.device.Device as devices
+use Rattle.connections.specs.declared.connection.Connection.{Connection}
+use Rattle.connections.specs.declared.device.Device as devices
 use Rattle.lanes.specs.declared.lane.Lane.{Lane}
-use Rattle.lanes.specs.Connections.{now_of, number_of}
+use Rattle.connections.specs.Connections.{now_of, number_of}
 use Rattle.lanes.specs.Lanes.{Closes}
 use Rattle.lanes.specs.Story.{Life, HasLived, number_at, told_to}
 use Rattle.lanes.specs.Words.{boxes_in, connections_in, count_in, filer_in, index_in, offer_in, HasStory}
-use Rattle.lanes.specs.Writing.{Writes}
+use Rattle.connections.specs.Writing.{Writes}
 use Rattle.lane_rows.specs.Written.{WasWritten}
 
 module _ {D R : Type 0} {G : devices.Ghosts D} where

@@ -1,7 +1,7 @@
 -- How many bytes a device in memory moves.
 use Rattle.std.specs.Prelude.{◌≡◌, ◌≤◌, ℕ, ⊤}
-use Rattle.lanes.specs.declared.told.Told.{Told}
-use Rattle.lanes.specs.declared.told.Told.TheVariants.{Moved, Blocked, Failed}
+use Rattle.connections.specs.declared.told.Told.{Told}
+use Rattle.connections.specs.declared.told.Told.TheVariants.{Moved, Blocked, Failed}
 
 -- no more than these, and none only of none
 abbrev pub IsWithin : Told → ℕ → Type 0

@@ -3,10 +3,10 @@ use Rattle.std.specs.Prelude.{◌≡◌, ℕ, ◌++◌, List, Option, Some}
 use Rattle.std.specs.Io.KnownBytes.{Appends}
 use Rattle.slab.specs.Slab.{get}
 use Rattle.tcp_front.specs.Writing.{records_of}
-use Rattle.lanes.specs.declared.connection.Connection.{Connection}
-use Rattle.lanes.specs.declared.device.Device as devices
+use Rattle.connections.specs.declared.connection.Connection.{Connection}
+use Rattle.connections.specs.declared.device.Device as devices
 use Rattle.lanes.specs.declared.lane.Lane.{Lane}
-use Rattle.lanes.specs.Connections.{now_of, number_of}
+use Rattle.connections.specs.Connections.{now_of, number_of}
 use Rattle.lanes.specs.Story.{Ending, told_to, served_in, served_of}
 use Rattle.lanes.specs.Words.{connections_in, offer_in, worker_in}
 use Rattle.turns.specs.Words.{entries_in}

@@ -6,7 +6,7 @@ use crate::opening::MemoryLane;
 use crate::rows::{MANY, device};
 use crate::texts::{FSSTAT, FSSTAT_REPLY, GETATTR, GETATTR_REPLY};
 use affinity::Affinity;
-use lanes::{Came, Sent};
+use connections::{Came, Sent};
 use nfs_values::Moment;
 use std::process::Abort;
 use std::sync::Wait;

@@ -9,7 +9,7 @@ use crate::memory::Flow;
 use crate::opening::{MemoryLane, open_both};
 use crate::rows::{MANY, layout, narrow_device};
 use crate::texts::{GETATTR, GETATTR_REPLY, NULL, NULL_REPLY};
-use lanes::Sent;
+use connections::Sent;
 use nfs_values::Moment;
 use rpc_msg::Offer;
 use server::{FilerEnd, Room, end};

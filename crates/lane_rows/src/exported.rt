@@ -4,7 +4,7 @@ use crate::laned::{close, open, part, read_all, run_all, write_all};
 use crate::opening::open_offering;
 use crate::rows::{MANY, device, layout};
 use crate::texts::GETATTR_REPLY;
-use lanes::{Came, Sent};
+use connections::{Came, Sent};
 use rpc_msg::Offer;
 
 /// Half of the run's verifier, of eight nines.

@@ -11,7 +11,8 @@ use crate::texts::{
     CUT, GETATTR, GETATTR_REPLY, NO_PROGRAM, NO_PROGRAM_REPLY, NULL, NULL_IN_TWO, NULL_REPLY,
     NULL_UNAVAILABLE, TOO_LONG,
 };
-use lanes::{Came, Flags, LaneParts, Sent};
+use connections::{Came, Flags, Sent};
+use lanes::LaneParts;
 use nfs_values::{Moment, Procedure, VolumeNumber};
 use rpc_msg::Offer;
 use std::process::Abort;

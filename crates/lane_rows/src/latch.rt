@@ -5,7 +5,7 @@ use crate::memory::Memory;
 use crate::opening::{MemoryLane, open_lanes};
 use crate::rows::{MANY, device, layout};
 use crate::texts::{create, getattr, read};
-use lanes::Came;
+use connections::Came;
 use std::process::Abort;
 use std::sync::Wait;
 use std::sync::atomic::{AtomicBool, Ordering};

@@ -4,7 +4,7 @@
 ghost use Rattle.std.specs.Prelude.{◌≡◌, ◌≤◌, length, take, drop, vec_len};
 ghost use Rattle.lane_rows.specs.Moving.{IsWithin};
 
-use lanes::{Device, Told};
+use connections::{Device, Told};
 
 /// How often a device is called until it fails. It would wait at each second call.
 #[derive(Drop)]

@@ -9,7 +9,7 @@ use crate::texts::{
     GETATTR, NO_PROGRAM, NO_PROGRAM_REPLY, NULL, NULL_IN_TWO, NULL_REPLY, TOO_LONG,
 };
 use affinity::{AggregateSpec, Layout, VolumeSpec};
-use lanes::{Came, Connection, Sent};
+use connections::{Came, Connection, Sent};
 use nfs_values::ConnectionNumber;
 use rpc_msg::Offer;
 use std::mem;

@@ -2,7 +2,7 @@
 
 use crate::rows::device;
 use crate::texts::NULL;
-use lanes::{Told, Watched, answer_of};
+use connections::{Told, Watched, answer_of};
 use std::io;
 use std::io::ErrorKind;
 

@@ -19,16 +19,16 @@ use Rattle.turns.proofs.crossings.Structs.{struct-send}
 use Rattle.turns.proofs.Crossing.{envelope-send, worker-send, filer-send, filer-sync}
 use Rattle.turns.proofs.shared_waiting.pass.Pass.TheSendSync as pass
 use Rattle.turns.proofs.shared_waiting.pass.SharedWaiting.TheSendSync as waiting
-use Rattle.lanes.proofs.backlog.Backlog.TheSendSync as backlog
-use Rattle.lanes.proofs.connection.Flags.TheSendSync as flags
-use Rattle.lanes.proofs.due.Due.TheSendSync as due
-use Rattle.lanes.proofs.watched.Watched.TheSendSync as watched
-use Rattle.lanes.specs.contracts.connection.Connection as Connection
+use Rattle.connections.proofs.backlog.Backlog.TheSendSync as backlog
+use Rattle.connections.proofs.connection.Flags.TheSendSync as flags
+use Rattle.connections.proofs.due.Due.TheSendSync as due
+use Rattle.connections.proofs.watched.Watched.TheSendSync as watched
+use Rattle.connections.specs.contracts.connection.Connection as Connection
 use Rattle.lanes.specs.contracts.intake.Intake as Intake
 use Rattle.lanes.specs.contracts.lane.Lane as Lane
-use Rattle.lanes.specs.contracts.rest.Rest as Rest
-use Rattle.lanes.specs.contracts.rest.Rest.TheInside as RestInside
-use Rattle.lanes.specs.declared.device.Device as devices
+use Rattle.connections.specs.contracts.rest.Rest as Rest
+use Rattle.connections.specs.contracts.rest.Rest.TheInside as RestInside
+use Rattle.connections.specs.declared.device.Device as devices
 
 numbered-send : IsSend NumberedReply.the_row
 numbered-send = view_send NumberedReplyInside.the_row _ _ _ _

@@ -3,9 +3,6 @@ mod Numbers
 mod Quiet
 pub mod Served
 pub mod Lived
-mod Cut
-mod OneRead
-mod OneWrite
 pub mod Crossing
 pub mod Inside
 pub mod Fitting

@@ -21,13 +21,13 @@ use Rattle.turns.specs.Messages.{Message}
 use Rattle.engine_feed.specs.Seen.{message_of}
 use Rattle.tcp_front.specs.Admitted.{calls_of}
 use Rattle.tcp_front.specs.Arrivals.{Arrival, arrivals}
-use Rattle.lanes.specs.declared.connection.Connection.{Connection}
-use Rattle.lanes.specs.Connections.{number_of}
+use Rattle.connections.specs.declared.connection.Connection.{Connection}
+use Rattle.connections.specs.Connections.{number_of}
 use Rattle.lanes.specs.Intakes.{all_put, answered_of}
-use Rattle.lanes.specs.Reading.{Reads}
+use Rattle.connections.specs.Reading.{Reads}
 use Rattle.lanes.specs.Story.{of_connection, Served, AtOnce, said_by, told_to, served_of, at_once_of, served_in, number_at, IsServed}
 use Rattle.lanes.specs.Story.{Life, Open, Closed, HasLived, Story}
-use Rattle.lanes.specs.Writing.{Writes}
+use Rattle.connections.specs.Writing.{Writes}
 use Rattle.lanes.specs.lemmas.Coming.{calls-append, answered-append}
 use Rattle.lanes.proofs.Lists.{of-append, of-own, of-other, arrivals-append, served-append, at-once-append, entries-append}
 use Rattle.lanes.proofs.Numbers.{numbers-differ, number-next}

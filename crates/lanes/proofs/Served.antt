@@ -13,12 +13,12 @@ use Rattle.nfs_model.specs.volume.lemmas.Numbered.{itself, get-changed_at}
 use Rattle.outboxes.specs.Boxes.{Addressed, Boxes, put, with_last}
 use Rattle.outboxes.specs.Messages.{ReplyMessage}
 use Rattle.tcp_front.specs.Arrivals.{Arrival}
-use Rattle.lanes.specs.declared.connection.Connection.{Connection}
-use Rattle.lanes.specs.Connections.{number_of}
+use Rattle.connections.specs.declared.connection.Connection.{Connection}
+use Rattle.connections.specs.Connections.{number_of}
 use Rattle.lanes.specs.Intakes.{all_put}
 use Rattle.lanes.specs.Story.{of_connection, Ending, AtOnce, said_by, with_reply, replies_to, told_to, IsServed, Life, Open, Closed, HasLived}
-use Rattle.lanes.specs.Writing.{Writes}
-use Rattle.lanes.specs.lemmas.Writing.{writes-put}
+use Rattle.connections.specs.Writing.{Writes}
+use Rattle.connections.specs.lemmas.Writing.{writes-put}
 use Rattle.lanes.proofs.Lists.{replies-append}
 
 -- ---- a reply more

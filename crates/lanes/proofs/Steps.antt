@@ -36,21 +36,21 @@ use Rattle.turns.specs.declared.chained.Chained.{Chained}
 use Rattle.turns.specs.declared.chained.Chained.TheVariants as chains
 use Rattle.turns.specs.declared.worker.Worker.{Worker}
 use Rattle.turns.specs.shared_waiting.Passes.{known}
-use Rattle.lanes.specs.declared.connection.Connection.{Connection}
-use Rattle.lanes.specs.declared.connection.Flags.{Flags}
+use Rattle.connections.specs.declared.connection.Connection.{Connection}
+use Rattle.connections.specs.declared.connection.Flags.{Flags}
 use Rattle.lanes.specs.declared.intake.Intake.{Intake}
-use Rattle.lanes.specs.declared.reading.Came.{Came}
-use Rattle.lanes.specs.declared.writing.Sent.{Sent}
+use Rattle.connections.specs.declared.reading.Came.{Came}
+use Rattle.connections.specs.declared.writing.Sent.{Sent}
 use Rattle.tcp_front.specs.declared.stream.Stream.{Stream}
-use Rattle.lanes.specs.Connections.{flagged, number_of}
+use Rattle.connections.specs.Connections.{due_of, flagged, number_of}
 use Rattle.lanes.specs.Intakes.{HasTakenIn, has_room_in}
 use Rattle.lanes.specs.Lanes.{Closes, Flagged, ReadsOn, ReadsUnder, WritesUnder, owing_in}
 use Rattle.lanes.specs.Queues.{HasBoth}
-use Rattle.lanes.specs.Reading.{HasRead, Reads}
+use Rattle.connections.specs.Reading.{HasRead, Reads}
 use Rattle.lanes.specs.Story.{Served, answer_to, said_by, served_in, with_served, Story}
-use Rattle.lanes.specs.Writing.{HasWritten, Writes}
-use Rattle.lanes.specs.lemmas.Reading.{reads-on, writes-kept}
-use Rattle.lanes.specs.lemmas.Writing.{written-takes, written-same, writes-on, reads-kept}
+use Rattle.connections.specs.Writing.{HasWritten, Writes}
+use Rattle.connections.specs.lemmas.Reading.{reads-on, writes-kept}
+use Rattle.connections.specs.lemmas.Writing.{written-takes, written-same, writes-on, reads-kept}
 use Rattle.lanes.proofs.Lists.{entries-append}
 use Rattle.lanes.proofs.Lived.{story-turns, story-ends, story-opens, story-reads, story-writes, story-shuts}
 
@@ -92,7 +92,7 @@ module _ {D : Type 0} (unread written : D → Option (List ℕ)) (layout : Layou
   -- ---- reading
 
   module _ {R : Type 0} (c : Connection D) (sink sink' : Intake R) (size : ℕ) (result : Came) (between : Connection D)
-      (h : HasRead unread written HasTakenIn has_room_in layout offer c (owing_in c.owed (form_of offer) sink) size result between sink') where
+      (h : HasRead unread written HasTakenIn has_room_in layout offer c (owing_in (due_of c) (form_of offer) sink) size result between sink') where
     read-number : number_of between ≡ number_of c
     read-number = ap (λ n. n.0) h.number
 
@@ -110,10 +110,10 @@ module _ {D : Type 0} (unread written : D → Option (List ℕ)) (layout : Layou
       story-reads unread written layout offer lane lanes entries (known sink.pass).put sink.outboxes (get slab) s (get slab') key c after is
       (sets-at slab slab' key c after is now) number same (known sink'.pass).put h.heard sink'.outboxes h.given.put h.given.boxes_are
       (λ before r. subst (λ (x : Connection D). Reads offer unread c.opened.value x (before ++ h.heard)) (sym on.is)
-      (reads-on unread written HasTakenIn has_room_in layout offer c (owing_in c.owed (form_of offer) sink) size result on.between sink' h
+      (reads-on unread written HasTakenIn has_room_in layout offer c (owing_in (due_of c) (form_of offer) sink) size result on.between sink' h
       c.opened.value before r))
       (λ waiting replies r. subst (λ (x : Connection D). Writes written c.opened.value x waiting replies) (sym on.is)
-      (writes-kept unread written HasTakenIn has_room_in layout offer c (owing_in c.owed (form_of offer) sink) size result on.between sink' h
+      (writes-kept unread written HasTakenIn has_room_in layout offer c (owing_in (due_of c) (form_of offer) sink) size result on.between sink' h
       c.opened.value waiting replies
       r)))
 
@@ -317,9 +317,9 @@ module _ {D : Type 0} (unread written : D → Option (List ℕ)) (layout : Layou
 
 module _ {D R : Type 0} (unread written : D → Option (List ℕ)) (layout : Layout) (offer : Offer) where
   pub read-owing : (c : Connection D) (start sink sink' : Intake R) (size : ℕ) (result : Came) (between : Connection D)
-      → start ≡ owing_in c.owed (form_of offer) sink
+      → start ≡ owing_in (due_of c) (form_of offer) sink
       → HasRead unread written HasTakenIn has_room_in layout offer c start size result between sink'
-      → HasRead unread written HasTakenIn has_room_in layout offer c (owing_in c.owed (form_of offer) sink) size result between sink'
+      → HasRead unread written HasTakenIn has_room_in layout offer c (owing_in (due_of c) (form_of offer) sink) size result between sink'
   read-owing c start sink sink' size result between e h =
       subst (λ (s : Intake R). HasRead unread written HasTakenIn has_room_in layout offer c s size result between sink') e h
 

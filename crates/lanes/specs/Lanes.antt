@@ -6,18 +6,18 @@ use Rattle.rpc_msg.specs.declared.handle_form.HandleForm.{HandleForm}
 use Rattle.rpc_msg.specs.declared.offer.Offer.{Offer}
 use Rattle.rpc_msg.specs.Offer.{form_of}
 use Rattle.outboxes.specs.Boxes.{Boxes, shut, opened}
-use Rattle.lanes.specs.declared.connection.Connection.{Connection}
-use Rattle.lanes.specs.declared.connection.Flags.{Flags}
-use Rattle.lanes.specs.declared.due.Due.{Due}
+use Rattle.connections.specs.declared.connection.Connection.{Connection}
+use Rattle.connections.specs.declared.connection.Flags.{Flags}
+use Rattle.connections.specs.declared.due.Due.{Due}
 use Rattle.lanes.specs.declared.intake.Intake.{Intake}
-use Rattle.lanes.specs.declared.reading.Came.{Came}
-use Rattle.lanes.specs.declared.reading.Came.TheVariants as cames
-use Rattle.lanes.specs.declared.writing.Sent.{Sent}
-use Rattle.lanes.specs.declared.writing.Sent.TheVariants as sents
-use Rattle.lanes.specs.Connections.{flagged, now_of, number_of, owing}
+use Rattle.connections.specs.declared.reading.Came.{Came}
+use Rattle.connections.specs.declared.reading.Came.TheVariants as cames
+use Rattle.connections.specs.declared.writing.Sent.{Sent}
+use Rattle.connections.specs.declared.writing.Sent.TheVariants as sents
+use Rattle.connections.specs.Connections.{due_of, flagged, now_of, number_of, owing}
 use Rattle.lanes.specs.Intakes.{HasTakenIn, has_room_in}
-use Rattle.lanes.specs.Reading.{HasRead}
-use Rattle.lanes.specs.Writing.{HasWritten}
+use Rattle.connections.specs.Reading.{HasRead}
+use Rattle.connections.specs.Writing.{HasWritten}
 
 -- with another count of what is owed to the connection that is read, whose handles are told in this form
 abbrev pub owing_in : {R : Type 0} → Due → HandleForm → Intake R → Intake R
@@ -31,7 +31,7 @@ pub record ReadsOn {D R : Type 0} (unread written : D → Option (List ℕ)) (la
   pub between : Connection D
   pub owed : Due
   pub is : after ≡ owing owed between
-  pub read : HasRead unread written HasTakenIn has_room_in layout offer before (owing_in before.owed (form_of offer) sink) size result between sink'
+  pub read : HasRead unread written HasTakenIn has_room_in layout offer before (owing_in (due_of before) (form_of offer) sink) size result between sink'
 
 -- the connection of a key was, or there is none and nothing changed
 abbrev pub ReadsUnder : {D R : Type 0} → (D → Option (List ℕ)) → (D → Option (List ℕ)) → Layout → Offer → Slab (Connection D)

@@ -1,12 +1,4 @@
-pub mod Told
 pub mod Queues
-pub mod Rests
-pub mod Connections
-pub mod Taking
-pub mod Cutting
-pub mod Reading
-pub mod Joining
-pub mod Writing
 pub mod Intakes
 pub mod Story
 pub mod Lanes

@@ -18,11 +18,11 @@ use Rattle.turns.specs.Messages as workers
 use Rattle.engine_feed.specs.Seen.{message_of}
 use Rattle.tcp_front.specs.Admitted.{calls_of}
 use Rattle.tcp_front.specs.Arrivals.{Arrival, Waits, Answered, arrivals}
-use Rattle.lanes.specs.declared.connection.Connection.{Connection}
-use Rattle.lanes.specs.Connections.{number_of}
+use Rattle.connections.specs.declared.connection.Connection.{Connection}
+use Rattle.connections.specs.Connections.{number_of}
 use Rattle.lanes.specs.Intakes.{answered_of}
-use Rattle.lanes.specs.Reading.{Reads}
-use Rattle.lanes.specs.Writing.{Writes}
+use Rattle.connections.specs.Reading.{Reads}
+use Rattle.connections.specs.Writing.{Writes}
 
 -- ---- what came of one connection
 

@@ -12,8 +12,8 @@ use Rattle.turns.specs.declared.shared_waiting.pass.SharedWaiting.{SharedWaiting
 use Rattle.turns.specs.declared.worker.Worker.{Worker}
 use Rattle.turns.specs.shared_waiting.Passes.{known}
 use Rattle.turns.specs.Words.{entries_in, layout_in}
-use Rattle.lanes.specs.declared.connection.Connection.{Connection}
-use Rattle.lanes.specs.declared.device.Device as devices
+use Rattle.connections.specs.declared.connection.Connection.{Connection}
+use Rattle.connections.specs.declared.device.Device as devices
 use Rattle.lanes.specs.declared.intake.Intake.{Intake}
 use Rattle.lanes.specs.declared.lane.Lane.{Lane}
 use Rattle.lanes.specs.Story.{Story}

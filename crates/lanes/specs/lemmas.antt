@@ -1,4 +1,1 @@
-pub mod Taking
-pub mod Writing
-pub mod Reading
 pub mod Coming

@@ -5,9 +5,9 @@ ghost use Rattle.turns.specs.shared_waiting.Passes.{known, IsOf};
 ghost use Rattle.turns.specs.Words.{layout_in, layout_known, TakesFrom};
 ghost use Rattle.lanes.specs.Queues.{HasBoth, IsCounted};
 
-use crate::due::Due;
 use crate::placing::put_last;
 use affinity::{CallNode, Layout};
+use connections::Due;
 use nfs_values::{Call, ConnectionNumber, Reply};
 use outboxes::Outboxes;
 use rpc_msg::{HandleForm, tell};

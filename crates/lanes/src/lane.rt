@@ -16,9 +16,8 @@ mod tending;
 mod turning;
 mod writing;
 
-use crate::connection::Connection;
-use crate::device::Device;
 use crate::intake::Intake;
+use connections::{Connection, Device};
 pub use parting::LaneParts;
 use rpc_msg::Offer;
 use slab::Slab;

@@ -5,7 +5,7 @@ use Rattle.depot_rule.specs.History.{entries_of}
 use Rattle.depot_rule.specs.Sums.{total}
 use Rattle.nfs_model.specs.Tree as trees
 use Rattle.parcels.specs.Sets.{serial_parcels}
-use Rattle.lanes.specs.declared.device.Device as devices
+use Rattle.connections.specs.declared.device.Device as devices
 use Rattle.lanes.specs.declared.lane.Lane.{Lane}
 use Rattle.turns.specs.Balance.{FilerEntry, Weight}
 use Rattle.turns.specs.Words.{layout_in, verifier_in}

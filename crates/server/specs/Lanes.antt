@@ -3,7 +3,7 @@ use Rattle.std.specs.Prelude.{◌≡◌, ℕ, zero, suc, true, List, [], ◌∷�
 use Rattle.depot_rule.specs.Sums.{total}
 use Rattle.rpc_msg.specs.declared.offer.Offer.{Offer}
 use Rattle.lanes.specs.Words.{filer_in, identity_in, offer_in, place_in, put_in, waiting_in, worker_in, Identity}
-use Rattle.lanes.specs.declared.device.Device as devices
+use Rattle.connections.specs.declared.device.Device as devices
 use Rattle.lanes.specs.declared.lane.Lane.{Lane}
 use Rattle.nfs_model.specs.Events.Refusals.{is_empty_hand}
 use Rattle.workers.specs.declared.tending.Tending.{Tending}

@@ -9,8 +9,9 @@ use crate::socket::Socket;
 use crate::station::Station;
 use crate::visits::{is_due, is_writable};
 use clerk::{Event, Reason};
+use connections::Connection;
 use engine_feed::StreamFault;
-use lanes::{Connection, Lane};
+use lanes::Lane;
 use std::sync::Wait;
 use tcp_front::Stopped;
 
@@ -45,7 +46,7 @@ fn reason_of(connection: &Connection<Socket>, guest: Guest) -> Reason {
 /// Whether nothing more is read of a connection and no reply is owed to it, or its device failed.
 fn has_ended(connection: &Connection<Socket>) -> bool {
     let is_read = connection.is_stopped() || connection.flags().has_ended && !connection.has_kept();
-    connection.is_broken() || is_read && connection.due() == 0 && !connection.has_rest()
+    connection.is_broken() || is_read && connection.due().replies == 0 && !connection.has_rest()
 }
 
 /// Why the connection of a key is over, if it is.
@@ -121,7 +122,7 @@ fn is_idle<R>(lane: &Lane<Socket, R>, guest: Guest, key: usize, idle: IdleTime, 
     match lane.connection(key) {
         Some(connection) => {
             let is_silent = !connection.flags().is_listed;
-            let is_owed = connection.due() > 0 || connection.has_rest();
+            let is_owed = connection.due().replies > 0 || connection.has_rest();
             is_silent && !is_owed && idle.is_over(guest.heard, now)
         }
         None => false,

@@ -8,7 +8,8 @@ ghost use Rattle.server.specs.Rooms.{lanes_for};
 
 use crate::gathering::gather_lanes;
 use crate::room::Room;
-use lanes::{Device, Lane};
+use connections::Device;
+use lanes::Lane;
 use std::sync::{Arc, Wait};
 use turns::Filer;
 use workers::{Ended, Left, close};

@@ -13,7 +13,8 @@ ghost use Rattle.turns.specs.Balance.{FilerEntry, Weight};
 
 use crate::remains::Remains;
 use crate::room::Room;
-use lanes::{Device, Lane, LaneParts};
+use connections::Device;
+use lanes::{Lane, LaneParts};
 use std::sync::Wait;
 use turns::{Filer, WorkerParts};
 use workers::{Left, drain_behind, push_batch, push_kept};

@@ -4,7 +4,8 @@ ghost use Rattle.server.specs.Lanes.{Stays};
 
 use crate::keys::{Keys, list};
 use crate::socket::Socket;
-use lanes::{Flags, Lane};
+use connections::Flags;
+use lanes::Lane;
 use mio::event::Event;
 
 /// What is known of a connection after an event.

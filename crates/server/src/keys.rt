@@ -3,7 +3,8 @@
 ghost use Rattle.server.specs.Lanes.{Stays};
 
 use crate::socket::Socket;
-use lanes::{Flags, Lane};
+use connections::Flags;
+use lanes::Lane;
 use std::alloc::{AllocError, Global};
 
 /// No connection has this key: a lane never has this many.

@@ -1,6 +1,6 @@
 //! Sockets as devices.
 
-use lanes::{Device, Told, answer_of};
+use connections::{Device, Told, answer_of};
 use mio::net::TcpStream;
 use std::io::{Read, Write};
 

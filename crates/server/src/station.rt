@@ -8,7 +8,7 @@ use crate::guests::Guests;
 use crate::keys::Keys;
 use crate::mailbox::{Arrival, Mailbox};
 use crate::pace::Pace;
-use lanes::BUFFER_BYTES;
+use connections::BUFFER_BYTES;
 use mio::{Events, Poll};
 use std::alloc::{AllocError, Global};
 use std::net::Net;

@@ -8,7 +8,8 @@ use crate::mailbox::Arrival;
 use crate::socket::Socket;
 use crate::station::{Buffers, Station};
 use clerk::Event;
-use lanes::{Came, Connection, Flags, Lane, Sent};
+use connections::{Came, Connection, Flags, Sent};
+use lanes::Lane;
 use mio::net::TcpStream;
 use mio::{Interest, Registry, Token};
 use std::net;
@@ -148,7 +149,8 @@ pub(crate) fn read_all<R: Wait>(lane: &mut Lane<Socket, R>, station: &mut Statio
 pub(crate) fn is_writable<R>(lane: &Lane<Socket, R>, key: usize) -> bool {
     match lane.connection(key) {
         Some(connection) => {
-            !connection.flags().is_blocked && (connection.due() > 0 || connection.has_rest())
+            !connection.flags().is_blocked
+                && (connection.due().replies > 0 || connection.has_rest())
         }
         None => false,
     }

@@ -4,9 +4,8 @@ ghost use Rattle.std.specs.Prelude.{◌≡◌, option_copied};
 ghost use Rattle.slab.specs.Slab.{get, slab_len};
 ghost use Rattle.lanes.specs.Lanes.{Closes, Flagged};
 
-use crate::connection::{Connection, Flags};
-use crate::device::Device;
 use crate::lane::Lane;
+use connections::{Connection, Device, Flags};
 use outboxes::Outboxes;
 use slab::Slab;
 

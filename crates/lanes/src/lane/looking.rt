@@ -1,8 +1,8 @@
 //! What a lane's thread asks of it.
 
-use crate::device::Device;
 use crate::intake::MOST_OWED;
 use crate::lane::Lane;
+use connections::Device;
 use statistics::ReplyCounts;
 use turns::{Filer, Worker};
 

@@ -1,11 +1,9 @@
 //! A lane that begins, and connections that are opened.
 
-use crate::connection::Connection;
-use crate::device::Device;
-use crate::due::Due;
 use crate::intake::Intake;
 use crate::lane::Lane;
 use affinity::Layout;
+use connections::{Connection, Device, Due};
 use outboxes::Outboxes;
 use rpc_msg::Offer;
 use scheduler::MOST_WAITING;
@@ -25,7 +23,7 @@ impl<D: Device, R> Lane<D, R> {
     ghost use Rattle.slab.specs.Slab.{get};
     ghost use Rattle.turns.specs.shared_waiting.Passes.{known, IsOf};
     ghost use Rattle.turns.specs.Words.{entries_in, layout_in, layout_known, IsAt};
-    ghost use Rattle.lanes.specs.Connections.{now_of};
+    ghost use Rattle.connections.specs.Connections.{now_of};
     ghost use Rattle.lanes.specs.Lanes.{Opens};
     ghost use Rattle.lanes.specs.Queues.{HasBoth};
     ghost use Rattle.lanes.specs.Words.{boxes_in, connections_in, filer_in, identity_in, pass_in};

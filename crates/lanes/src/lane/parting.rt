@@ -1,9 +1,9 @@
 //! What is left of a lane.
 
-use crate::device::Device;
 use crate::intake::Intake;
 use crate::lane::Lane;
 use affinity::Layout;
+use connections::Device;
 use turns::shared_waiting::{Pass, SharedWaiting};
 use turns::{Envelope, Worker};
 

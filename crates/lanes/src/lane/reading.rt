@@ -6,12 +6,10 @@ ghost use Rattle.slab.specs.Slab.{get};
 ghost use Rattle.turns.specs.Words.{layout_in};
 ghost use Rattle.lanes.specs.Lanes.{ReadsOn, ReadsUnder};
 
-use crate::connection::Connection;
-use crate::device::Device;
 use crate::intake::Intake;
 use crate::lane::Lane;
-use crate::reading::Came;
 use affinity::Layout;
+use connections::{Came, Connection, Device};
 use rpc_msg::Offer;
 use slab::Slab;
 use std::sync::Wait;
@@ -29,7 +27,7 @@ fn read_one<D: Device, R: Wait>(
     ensures { ReadsOn D.unread D.written (layout_of layout.now) offer connection.old
         intake.old (length block.old) result connection.new intake.new }
 {
-    intake.set_owed(connection.owed, offer.handles());
+    intake.set_owed(connection.due(), offer.handles());
     let came = connection.read(intake, layout, offer, block);
     connection.set_owed(intake.owed);
     came

@@ -2,8 +2,8 @@
 
 ghost use Rattle.std.specs.Prelude.{◌≡◌};
 
-use crate::device::Device;
 use crate::lane::Lane;
+use connections::Device;
 use turns::{Tend, TendRefusal, Tended};
 
 impl<D: Device, R> Lane<D, R> {

@@ -4,9 +4,9 @@ ghost use Rattle.std.specs.Prelude.{◌≡◌};
 ghost use Rattle.turns.specs.Tends.{kept_in};
 ghost use Rattle.lanes.specs.Queues.{count_kept};
 
-use crate::device::Device;
 use crate::intake::Intake;
 use crate::lane::Lane;
+use connections::Device;
 use nfs_values::{Moment, Reply};
 use rpc_msg::HandleForm;
 use service::Ahead;

@@ -4,10 +4,8 @@ ghost use Rattle.std.specs.Prelude.{◌≡◌};
 ghost use Rattle.slab.specs.Slab.{get};
 ghost use Rattle.lanes.specs.Lanes.{WritesUnder};
 
-use crate::connection::Connection;
-use crate::device::Device;
 use crate::lane::Lane;
-use crate::writing::Sent;
+use connections::{Connection, Device, Sent};
 use outboxes::Outboxes;
 use slab::Slab;
 

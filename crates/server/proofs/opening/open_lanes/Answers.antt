@@ -9,7 +9,7 @@ use Rattle.turns.specs.Balance.{Passed}
 use Rattle.turns.specs.Words.{seats_in, IsAt}
 use Rattle.rpc_msg.specs.declared.offer.Offer.{Offer}
 use Rattle.lanes.specs.Words.{Identity}
-use Rattle.lanes.specs.declared.device.Device as devices
+use Rattle.connections.specs.declared.device.Device as devices
 use Rattle.lanes.specs.declared.lane.Lane.{Lane}
 use Rattle.server.specs.Lanes.{by_offer, by_place, places, places_below, seats_of, IsLaneOf}
 use Rattle.depot_rule.specs.Sums.{total}

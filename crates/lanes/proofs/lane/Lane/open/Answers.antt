@@ -3,8 +3,8 @@ use Rattle.std.specs.Arc.{arc_value}
 use Rattle.turns.specs.Words.{entries_in, layout_in}
 use Rattle.turns.specs.shared_waiting.Passes.{known}
 use Rattle.slab.specs.Slab.{get}
-use Rattle.lanes.specs.Reading.{Reads}
-use Rattle.lanes.specs.Writing.{Writes}
+use Rattle.connections.specs.Reading.{Reads}
+use Rattle.connections.specs.Writing.{Writes}
 use Rattle.lanes.proofs.Steps.{opens-told, reserved-told}
 use Rattle.lanes.proofs.lane.Lane.open.Goals as goal
 

@@ -1,0 +1,3 @@
+mod Cut
+mod OneRead
+mod OneWrite

@@ -1,0 +1,46 @@
+-- What contracts name of a connection.
+use Rattle.std.specs.Prelude.{ℕ, ⊤, List, Option, Some, None}
+use Rattle.tcp_front.specs.declared.stream.Stopped.{Stopped}
+use Rattle.connections.specs.declared.connection.Connection.{Connection}
+use Rattle.connections.specs.declared.connection.Flags.{Flags}
+use Rattle.connections.specs.declared.due.Due.{Due}
+use Rattle.connections.specs.Told.{device_of, calls_of}
+
+-- its device
+abbrev pub now_of : {D : Type 0} → Connection D → D
+now_of c = device_of c.device
+
+-- how often its device was called, wrapping
+abbrev pub calls_to : {D : Type 0} → Connection D → ℕ
+calls_to c = calls_of c.device
+
+abbrev pub number_of : {D : Type 0} → Connection D → ℕ
+number_of c = c.stream.connection.0
+
+-- the bytes that were read and aren't cut into records yet
+abbrev pub kept_of : {D : Type 0} → Connection D → List ℕ
+kept_of c = c.kept
+
+-- why no more of it is read, if it isn't
+abbrev pub stopped_of : {D : Type 0} → Connection D → Option Stopped
+stopped_of c = c.stopped
+
+abbrev pub has_stopped : Option Stopped → Type 0
+has_stopped None = ⊥
+has_stopped (Some stopped) = ⊤
+
+-- no more of it is read
+abbrev pub IsStopped : {D : Type 0} → Connection D → Type 0
+IsStopped c = has_stopped c.stopped
+
+-- what is owed to it
+abbrev pub due_of : {D : Type 0} → Connection D → Due
+due_of c = c.owed
+
+-- with another count of what is owed
+abbrev pub owing : {D : Type 0} → Due → Connection D → Connection D
+owing owed c = record c { owed = owed }
+
+-- with other flags
+abbrev pub flagged : {D : Type 0} → Flags → Connection D → Connection D
+flagged flags c = record c { flags = flags }

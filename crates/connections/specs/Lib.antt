@@ -1,0 +1,9 @@
+pub mod Told
+pub mod Rests
+pub mod Connections
+pub mod Taking
+pub mod Cutting
+pub mod Reading
+pub mod Joining
+pub mod Writing
+pub mod lemmas
