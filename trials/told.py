@@ -61,6 +61,19 @@ class Told(Server):
     def line(self, wanted):
         return self.line_that(lambda line: line == wanted, repr(wanted))
 
+    def told_to_the_end(self):
+        """All lines behind how to mount it, of a server that ends by itself, and well."""
+        try:
+            self.process.wait(SOON)
+        except subprocess.TimeoutExpired:
+            raise Differs("the server doesn't end") from None
+        self.reader.join(SOON)
+        ended = (self.process.returncode, self.process.stdout.read())
+        hold(ended == (0, "left 0\n"), f"the server ended with {ended}")
+        lines = self.told()
+        first = next(at for at, line in enumerate(lines) if line.startswith("mount "))
+        return lines[first + 1 :]
+
     def mounted(self):
         """A client that knows how the server's handles end."""
         return Client(self.address, service=export_at(self.address))
