@@ -1,14 +1,8 @@
-//! Who may connect to `filer export`, how many and for how long, what it tells of that, and its
-//! command lines.
+//! What `filer export` is asked for, and what it counts and tells.
 
-mod client;
 mod counting;
 mod events;
-mod full;
-mod host;
-mod idle;
 mod lines;
-mod log;
 mod networks;
 mod quotas;
 mod reports;

@@ -1,23 +1,10 @@
-//! Command lines, the programs that they name, and scripts.
+//! What no run of the program shows: values of command lines, lines and counts, devices that fail,
+//! and lists of events.
 #![tactic(auto)]
 
 #[cfg(test)]
-mod admin;
-#[cfg(test)]
-mod calls;
-#[cfg(test)]
-mod client;
-#[cfg(test)]
-mod crowd;
-#[cfg(test)]
 mod export;
 #[cfg(test)]
-mod lines;
-#[cfg(test)]
-mod over_tcp;
-#[cfg(test)]
-mod running;
+mod looking;
 #[cfg(test)]
 mod scripts;
-#[cfg(test)]
-mod texts;

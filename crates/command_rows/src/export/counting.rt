@@ -1,9 +1,9 @@
 //! Rows typed by hand.
 
+use crate::looking::holds;
 use nfs_values::{Answer, AuthFault, Procedure, Refusal, Reply, Status, UnsupportedProcedure};
 use statistics::{Histogram, RefusalKind, ReplyCounts, ReplyKind, Tally, Totals};
-use std::alloc::AllocError;
-use std::test::Fail;
+use std::process::Abort;
 use std::thread;
 
 /// Times and the longest of their buckets, in microseconds: up to 7 each for itself, and then four
@@ -31,12 +31,17 @@ const TOPS: [(u64, u64); 20] = [
     (4_294_967_296, 4_294_967_295),
 ];
 
+/// Looks in which bucket a time is.
+fn has_top(rt: &impl Abort, micros: u64, top: u64) {
+    let mut times = Histogram::new();
+    times.put(micros, 1);
+    assert_eq!(rt; times.percentile(50), top, "{micros}");
+}
+
 #[test]
 fn times_have_buckets(rt: HostRuntime) {
-    for (micros, top) in TOPS {
-        let mut times = Histogram::new();
-        times.put(micros, 1);
-        assert_eq!(rt; times.percentile(50), top, "{micros}");
+    for (micros, top) in &TOPS {
+        has_top(&rt, *micros, *top);
     }
 }
 
@@ -50,22 +55,30 @@ fn hundred() -> Histogram {
     times
 }
 
+/// Percentages of these calls, and the top of the bucket up to which so many are.
+const PERCENTILES: [(u32, u64); 8] = [
+    (0, 0),
+    (1, 11),
+    (50, 11),
+    (90, 11),
+    (91, 111),
+    (99, 111),
+    (100, 1_048_575),
+    (1_000, 1_048_575),
+];
+
+/// Looks at a percentile.
+fn is_at(rt: &impl Abort, times: &Histogram, percent: u32, top: u64) {
+    assert_eq!(rt; times.percentile(percent), top, "{percent}");
+}
+
 #[test]
 fn percentiles_are_tops(rt: HostRuntime) {
     let times = hundred();
-    for (percent, top) in [
-        (0, 0),
-        (1, 11),
-        (50, 11),
-        (90, 11),
-        (91, 111),
-        (99, 111),
-        (100, 1_048_575),
-        (1_000, 1_048_575),
-    ] {
-        assert_eq!(rt; times.percentile(percent), top, "{percent}");
+    for (percent, top) in &PERCENTILES {
+        is_at(&rt, &times, *percent, *top);
     }
-    assert_eq!(rt; Histogram::new().percentile(99), 0);
+    is_at(&rt, &Histogram::new(), 99, 0);
 }
 
 #[test]
@@ -73,10 +86,10 @@ fn times_are_added_and_taken(rt: HostRuntime) {
     let mut times = hundred();
     let before = times;
     times.put(5, 300);
-    assert_eq!(rt; times.percentile(50), 5);
-    assert_eq!(rt; times.since(&before).percentile(100), 5);
+    is_at(&rt, &times, 50, 5);
+    is_at(&rt, &times.since(&before), 100, 5);
     times.add(&before);
-    assert_eq!(rt; times.percentile(80), 11);
+    is_at(&rt, &times, 80, 11);
 }
 
 /// Counts that are at their most begin anew.
@@ -85,7 +98,7 @@ fn counts_wrap(rt: HostRuntime) {
     let mut times = Histogram::new();
     times.put(3, u64::MAX);
     times.put(3, 1);
-    assert_eq!(rt; times.percentile(100), 0);
+    is_at(&rt, &times, 100, 0);
     let mut now = Histogram::new();
     now.put(3, 2);
     let mut earlier = Histogram::new();
@@ -93,8 +106,8 @@ fn counts_wrap(rt: HostRuntime) {
     earlier.put(9, 0);
     let mut since = now.since(&earlier);
     since.put(9, 3);
-    assert_eq!(rt; since.percentile(50), 3);
-    assert_eq!(rt; since.percentile(51), 9);
+    is_at(&rt, &since, 50, 3);
+    is_at(&rt, &since, 51, 9);
 }
 
 /// Replies, and the names of their kinds (RFC 1813 section 3.3, RFC 5531 section 9).
@@ -133,15 +146,20 @@ fn named() -> [(Reply, &'static str); 12] {
     ]
 }
 
+/// Looks at the name of a reply's kind, and whether replies of it are counted.
+fn is_named(rt: &impl Abort, reply: &Reply, name: &str) {
+    let kind = ReplyKind::of(reply);
+    assert_eq!(rt; kind.name(), name);
+    let mut counts = ReplyCounts::new();
+    counts.count(kind);
+    counts.count(kind);
+    assert!(rt; counts.of(kind) == 2, "{name}");
+}
+
 #[test]
 fn replies_have_kinds(rt: HostRuntime) {
-    for (reply, name) in named() {
-        let kind = ReplyKind::of(&reply);
-        assert_eq!(rt; kind.name(), name);
-        let mut counts = ReplyCounts::new();
-        counts.count(kind);
-        counts.count(kind);
-        assert_eq!(rt; counts.of(kind), 2, "{name}");
+    for (reply, name) in &named() {
+        is_named(&rt, reply, name);
     }
 }
 
@@ -167,8 +185,15 @@ fn counted() -> Tally {
     tally
 }
 
+/// Looks at the line of what was counted.
+fn is_told(rt: &(impl Abort + AllocGlobal), totals: &Totals, text: &str) {
+    let line = totals.to_string(rt.alloc()).ok();
+    let line = line.expect(rt, "memory");
+    assert_eq!(rt; line.as_str(), text);
+}
+
 #[test]
-fn a_line_tells_what_was_counted(rt: HostRuntime) -> Result<(), Fail> {
+fn a_line_tells_what_was_counted(rt: HostRuntime) {
     let tally = counted();
     tally.took(12, 1_000);
     tally.took(80, 203);
@@ -177,58 +202,55 @@ fn a_line_tells_what_was_counted(rt: HostRuntime) -> Result<(), Fail> {
     }
     let mut totals = Totals::new();
     totals.add(&tally);
-    assert_eq!(rt; totals.calls(), 1_203);
-    assert_eq!(rt; totals.busy(), 4);
-    assert_eq!(rt; totals.replies(ReplyKind::STARVED), 1);
-    assert_eq!(rt; totals.percentile(50), 13);
-    let line = totals.to_string(rt.alloc())?;
-    assert_eq!(rt;
-        line.as_str(),
+    holds(&rt, totals.calls() == 1_203 && totals.busy() == 4);
+    holds(&rt, totals.replies(ReplyKind::STARVED) == 1);
+    holds(&rt, totals.percentile(50) == 13);
+    is_told(
+        &rt,
+        &totals,
         "calls 1203: NULL 3, GETATTR 800, LOOKUP 400; p50 13 us, p99 95 us; \
-         refused: PROG_UNAVAIL 2; busy 4, starved 1"
+         refused: PROG_UNAVAIL 2; busy 4, starved 1",
     );
-    Ok(())
 }
 
 #[test]
-fn nothing_is_told_shortly(rt: HostRuntime) -> Result<(), AllocError> {
-    let line = Totals::new().to_string(rt.alloc())?;
-    assert_eq!(rt;
-        line.as_str(),
-        "calls 0; p50 0 us, p99 0 us; busy 0, starved 0"
+fn nothing_is_told_shortly(rt: HostRuntime) {
+    is_told(
+        &rt,
+        &Totals::new(),
+        "calls 0; p50 0 us, p99 0 us; busy 0, starved 0",
     );
-    Ok(())
 }
 
-#[test]
-fn two_lanes_make_one_line(rt: HostRuntime) -> Result<(), AllocError> {
-    let tallies = [counted(), counted()];
-    let mut earlier = Totals::new();
-    for tally in &tallies {
-        earlier.add(tally);
+/// Adds what two lanes count.
+fn sum_of(tallies: &[Tally; 2]) -> Totals {
+    let mut totals = Totals::new();
+    for tally in tallies {
+        totals.add(tally);
     }
-    assert_eq!(rt; earlier.calls(), 2_406);
+    totals
+}
+
+#[test]
+fn two_lanes_make_one_line(rt: HostRuntime) {
+    let tallies = [counted(), counted()];
+    let earlier = sum_of(&tallies);
+    holds(&rt, earlier.calls() == 2_406);
     tallies[0].count(&Reply::Success(Answer::Grow(Err(Status::NoSpace))));
     tallies[1].count(&Reply::Success(Answer::ListMounts));
     tallies[0].count(&Reply::Refused(Refusal::GarbageArguments));
     tallies[0].took(7, 1);
-    let mut now = Totals::new();
-    for tally in &tallies {
-        now.add(tally);
-    }
-    let line = now.since(&earlier).to_string(rt.alloc())?;
-    assert_eq!(rt;
-        line.as_str(),
+    is_told(
+        &rt,
+        &sum_of(&tallies).since(&earlier),
         "calls 2: DUMP 1, GROW 1; p50 7 us, p99 7 us; refused: GARBAGE_ARGS 1; \
-         busy 0, starved 0"
+         busy 0, starved 0",
     );
-    Ok(())
 }
 
 #[test]
 fn another_thread_reads(rt: HostRuntime) {
     let tally = Tally::new();
     let (_counted, seen) = thread::join(&rt, || tally.busy(), || tally.read().busy());
-    assert!(rt; seen <= 1);
-    assert_eq!(rt; tally.read().busy(), 1);
+    holds(&rt, seen <= 1 && tally.read().busy() == 1);
 }

@@ -1,90 +1,54 @@
-//! Command lines of `filer export`.
+//! What lawful command lines ask for. `trials/command_lines` has lines that are none.
 
-use filer_commands::{Command, ProgramFault, command, program_told};
-use server::{Peers, WhenFull};
+use crate::looking::holds;
+use filer_commands::{Command, ProgramFault, command};
+use server::{Options, Peers, WhenFull};
+use std::process::Abort;
 
-/// Command lines that are none.
-const REFUSED: [&[&str]; 13] = [
-    &["filer", "export"],
-    &["filer", "export", "--listen", "localhost:2049"],
-    &[
-        "filer",
-        "export",
-        "--listen",
-        "127.0.0.1:0",
-        "--ranges",
-        "17",
-    ],
-    &[
-        "filer",
-        "export",
-        "--listen",
-        "127.0.0.1:0",
-        "--volumes",
-        "9",
-    ],
-    &[
-        "filer",
-        "export",
-        "--listen",
-        "127.0.0.1:0",
-        "--connections",
-        "0",
-    ],
-    &[
-        "filer",
-        "export",
-        "--listen",
-        "127.0.0.1:0",
-        "--allow",
-        "here",
-    ],
-    &["filer", "export", "--listen", "127.0.0.1:0", "--idle", "0"],
-    &[
-        "filer",
-        "export",
-        "--listen",
-        "127.0.0.1:0",
-        "--idle",
-        "86401",
-    ],
-    &["filer", "export", "--listen", "127.0.0.1:0", "--log", "all"],
-    &["filer", "export", "--listen", "127.0.0.1:0", "--stats", "0"],
-    &[
-        "filer",
-        "export",
-        "--listen",
-        "127.0.0.1:0",
-        "--stats",
-        "1441",
-    ],
-    &["filer", "help", "export"],
-    &["filer", "--help", "export"],
-];
+/// The options of a command line of `filer export`.
+pub(crate) fn options_of(rt: &(impl Abort + AllocGlobal), words: &[&str]) -> Options {
+    match command(rt.alloc(), words) {
+        Ok(Command::Export(options)) => options,
+        _ => panic!(rt; "no export"),
+    }
+}
+
+/// No word at all, which no system gives to a program.
+const NO_WORD: [&str; 0] = [];
 
 #[test]
-fn lines_that_are_none(rt: HostRuntime) {
-    for words in &REFUSED {
-        let fault = command(rt.alloc(), words).err();
-        assert!(&rt; fault == Some(ProgramFault::CommandLine));
-    }
+fn no_word_is_no_command(rt: HostRuntime) {
+    let fault = command(rt.alloc(), &NO_WORD).err();
+    holds(&rt, fault == Some(ProgramFault::CommandLine));
+}
+
+/// Looks how many connections of whom a server serves.
+fn serves_as_usual(rt: &impl Abort, options: &Options) {
+    assert!(rt; options.volumes == 1 && options.workers == 4);
+    assert!(rt; options.connections.is_none());
+    assert!(rt; options.admission.most_open == 1_024);
+    assert!(rt; options.admission.when_full == WhenFull::IsClosed);
+    assert!(rt; matches!(options.peers, Peers::Loopback));
+}
+
+/// Looks after how many seconds connections are idle.
+fn is_idle_after(rt: &impl Abort, options: &Options, seconds: u32) {
+    let idle = options.idle.expect(rt, "an idle time");
+    assert!(rt; idle.seconds == seconds);
+}
+
+/// Looks after how many minutes statistics are told.
+fn is_told_after(rt: &impl Abort, options: &Options, minutes: u32) {
+    let period = options.statistics.expect(rt, "a period");
+    assert!(rt; period.minutes == minutes);
 }
 
 #[test]
 fn what_is_so_unless_it_is_said(rt: HostRuntime) {
-    match command(rt.alloc(), &["filer", "export", "--listen", "127.0.0.1:0"]) {
-        Ok(Command::Export(options)) => {
-            assert!(&rt; options.volumes == 1 && options.workers == 4);
-            assert!(&rt; options.connections.is_none());
-            assert!(&rt; options.admission.most_open == 1_024);
-            assert!(&rt; options.admission.when_full == WhenFull::IsClosed);
-            assert!(&rt; matches!(options.peers, Peers::Loopback));
-            assert!(&rt; !options.log && options.statistics.is_none());
-            let idle = options.idle.expect(&rt, "an idle time");
-            assert!(&rt; idle.seconds == 600);
-        }
-        _ => panic!(&rt; "no export"),
-    }
+    let options = options_of(&rt, &["filer", "export", "--listen", "127.0.0.1:0"]);
+    serves_as_usual(&rt, &options);
+    holds(&rt, !options.log && options.statistics.is_none());
+    is_idle_after(&rt, &options, 600);
 }
 
 #[test]
@@ -100,43 +64,8 @@ fn what_is_said(rt: HostRuntime) {
         "--stats",
         "1440",
     ];
-    match command(rt.alloc(), &words) {
-        Ok(Command::Export(options)) => {
-            assert!(&rt; options.log);
-            let period = options.statistics.expect(&rt, "a period");
-            assert!(&rt; period.minutes == 1_440);
-            let idle = options.idle.expect(&rt, "an idle time");
-            assert!(&rt; idle.seconds == 86_400);
-        }
-        _ => panic!(&rt; "no export"),
-    }
-}
-
-#[test]
-fn versions_are_asked(rt: HostRuntime) {
-    match command(rt.alloc(), &["filer", "version"]) {
-        Ok(Command::Version) => {}
-        _ => panic!(&rt; "no version"),
-    }
-}
-
-#[test]
-fn help_is_printed(rt: HostRuntime) {
-    let mut out = Vec::new(rt.alloc());
-    let mut err = Vec::new(rt.alloc());
-    let words = ["filer", "export", "--help"];
-    assert!(&rt; program_told(rt, &words, &mut out, &mut err) == 0);
-    assert!(&rt; out.starts_with(b"Serves clients that mount"));
-    assert!(&rt; err.is_empty());
-    let text = str::from_utf8(&out).ok().expect(&rt, "a text");
-    assert!(&rt; text.contains("Usage: filer export"));
-    assert!(&rt; text.contains("--allow <NETWORK>"));
-    assert!(&rt; text.contains("--size <BYTES>"));
-    assert!(&rt; text.contains("--file-size <BYTES>"));
-    assert!(&rt; text.contains("--inodes <N>"));
-    assert!(&rt; text.contains("--idle <SECONDS>"));
-    assert!(&rt; text.contains("[default: 600]"));
-    assert!(&rt; text.contains("--log "));
-    assert!(&rt; text.contains("--stats <MINUTES>"));
-    assert!(&rt; text.contains("Examples:\n  filer export --listen"));
+    let options = options_of(&rt, &words);
+    holds(&rt, options.log);
+    is_told_after(&rt, &options, 1_440);
+    is_idle_after(&rt, &options, 86_400);
 }

@@ -1,30 +1,11 @@
-//! How large the volumes of `filer export` are.
+//! How large the volumes of `filer export` are. `trials/command_lines` has sizes that are none.
 
-use filer_commands::{Command, Machine, ProgramFault, command, command_told};
+use super::lines::options_of;
+use crate::looking::holds;
+use filer_commands::{Command, Machine, command_told};
 use server::VolumePlan;
 use std::io;
 use std::process::Abort;
-
-/// An option behind `filer export --listen 127.0.0.1:0`, with a value that makes no command.
-const REFUSED: [(&str, &str); 17] = [
-    ("--size", "0"),
-    ("--size", "4194303"),
-    ("--size", "4095K"),
-    ("--size", "1099511627777"),
-    ("--size", "2T"),
-    ("--size", "40g"),
-    ("--size", "G"),
-    ("--size", "1.5G"),
-    ("--size", "-4M"),
-    ("--size", "16777216T"),
-    ("--file-size", "16777215"),
-    ("--file-size", "1099511627777"),
-    ("--file-size", "1025G"),
-    ("--file-size", "all"),
-    ("--inodes", "65535"),
-    ("--inodes", "67108865"),
-    ("--ranges", "0"),
-];
 
 /// An option behind `filer export --listen 127.0.0.1:0`, its value, and what volumes have by it:
 /// ranges, blocks of each, mebibytes of the largest file, inodes and spare ranges.
@@ -75,60 +56,18 @@ fn numbers_of(rt: &impl Abort, plan: &VolumePlan) -> [u32; 5] {
     ]
 }
 
-#[test]
-fn sizes_that_are_none(rt: HostRuntime) {
-    for (option, value) in &REFUSED {
-        let words = [
-            "filer",
-            "export",
-            "--listen",
-            "127.0.0.1:0",
-            *option,
-            *value,
-        ];
-        let fault = command(rt.alloc(), &words).err();
-        assert!(&rt;
-            fault == Some(ProgramFault::CommandLine),
-            "{option} {value}"
-        );
-    }
+/// Looks what volumes have by an option.
+fn have(rt: &(impl Abort + AllocGlobal), option: &str, value: &str, wanted: &[u32; 5]) {
+    let words = ["filer", "export", "--listen", "127.0.0.1:0", option, value];
+    let numbers = numbers_of(rt, &options_of(rt, &words).plan);
+    assert_eq!(rt; numbers, *wanted, "{option} {value}");
 }
 
 #[test]
 fn sizes_that_are_some(rt: HostRuntime) {
     for (option, value, wanted) in &LAWFUL {
-        let words = [
-            "filer",
-            "export",
-            "--listen",
-            "127.0.0.1:0",
-            *option,
-            *value,
-        ];
-        match command(rt.alloc(), &words) {
-            Ok(Command::Export(options)) => {
-                let numbers = numbers_of(&rt, &options.plan);
-                assert_eq!(&rt; numbers, *wanted, "{option} {value}");
-            }
-            _ => panic!(&rt; "no export: {option} {value}"),
-        }
+        have(&rt, option, value, wanted);
     }
-}
-
-#[test]
-fn a_size_or_ranges(rt: HostRuntime) {
-    let words = [
-        "filer",
-        "export",
-        "--listen",
-        "127.0.0.1:0",
-        "--size",
-        "64M",
-        "--ranges",
-        "16",
-    ];
-    let fault = command(rt.alloc(), &words).err();
-    assert!(&rt; fault == Some(ProgramFault::CommandLine));
 }
 
 #[test]
@@ -145,13 +84,8 @@ fn ranges_with_files_and_inodes(rt: HostRuntime) {
         "--ranges",
         "3",
     ];
-    match command(rt.alloc(), &words) {
-        Ok(Command::Export(options)) => {
-            let numbers = numbers_of(&rt, &options.plan);
-            assert_eq!(&rt; numbers, [3, 1_024, 1_024, 100_000, 128]);
-        }
-        _ => panic!(&rt; "no export"),
-    }
+    let numbers = numbers_of(&rt, &options_of(&rt, &words).plan);
+    holds(&rt, numbers == [3, 1_024, 1_024, 100_000, 128]);
 }
 
 /// What two volumes have on a machine with so much memory.
@@ -170,21 +104,24 @@ fn on_a_machine(rt: &(impl Abort + AllocGlobal), memory: Option<u64>) -> [u32; 5
     };
     match command_told(rt.alloc(), &words, machine, &mut io::sink()) {
         Ok(Command::Export(options)) => {
-            assert!(rt; options.workers == 2);
+            holds(rt, options.workers == 2);
             numbers_of(rt, &options.plan)
         }
         _ => panic!(rt; "no export"),
     }
 }
 
+/// So much memory of a machine, and what two volumes have there.
+const MACHINES: [(Option<u64>, [u32; 5]); 4] = [
+    (None, [16, 8_192, 512, 65_536, 0]),
+    (Some(24 << 30), [12, 65_536, 3_072, 196_608, 0]),
+    (Some(1 << 20), [1, 1_024, 16, 65_536, 0]),
+    (Some(1 << 50), [16, 16_777_216, 1_048_576, 67_108_864, 0]),
+];
+
 #[test]
 fn a_quarter_of_the_memory(rt: HostRuntime) {
-    let none = on_a_machine(&rt, None);
-    assert_eq!(&rt; none, [16, 8_192, 512, 65_536, 0]);
-    let large = on_a_machine(&rt, Some(24 << 30));
-    assert_eq!(&rt; large, [12, 65_536, 3_072, 196_608, 0]);
-    let small = on_a_machine(&rt, Some(1 << 20));
-    assert_eq!(&rt; small, [1, 1_024, 16, 65_536, 0]);
-    let huge = on_a_machine(&rt, Some(1 << 50));
-    assert_eq!(&rt; huge, [16, 16_777_216, 1_048_576, 67_108_864, 0]);
+    for (memory, wanted) in &MACHINES {
+        holds(&rt, on_a_machine(&rt, *memory) == *wanted);
+    }
 }

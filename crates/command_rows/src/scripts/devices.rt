@@ -1,6 +1,6 @@
 //! Readers and writers that fail.
 
-use crate::scripts::events::{holds, joined, put, same};
+use crate::looking::{holds, joined, put, same};
 use crate::scripts::texts::LAYOUT;
 use filer_commands::replay::replay;
 use std::io;

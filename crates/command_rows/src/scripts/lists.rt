@@ -1,6 +1,6 @@
 //! Lists of events, given to an engine.
 
-use crate::scripts::events::{holds, same};
+use crate::looking::{holds, same};
 use crate::scripts::texts::{NULL, NULL_REPLY, NULL_UNAVAILABLE};
 use affinity::{AggregateSpec, Layout, VolumeSpec};
 use filer_commands::replay::{ConnectionNumber, Engine, Event, Worker, WorkerNumber, WorkerRun};

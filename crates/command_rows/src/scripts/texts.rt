@@ -1,4 +1,5 @@
-//! Pieces of the scripts and of what they print, typed from the standards. Numbers are in hex.
+//! Pieces of a script, and records with their replies, typed from the standards. Numbers are in
+//! hex.
 
 /// One aggregate with one volume of one range.
 pub(crate) const LAYOUT: &str = "aggregate 1\nvolume 0 1\nstart 1 0102030405060708\n";
@@ -14,14 +15,3 @@ pub(crate) const NULL_REPLY: &str = "8000001800000001000000010000000000000000000
 /// Its reply where it isn't offered, PROC_UNAVAIL.
 pub(crate) const NULL_UNAVAILABLE: &str =
     "80000018000000010000000100000000000000000000000000000003";
-
-/// A GETATTR call of the root, xid 2.
-pub(crate) const GETATTR: &str = "\
-    80000038000000020000000000000002000186a30000000300000001000000000000000000000000\
-    000000000000000c000000000000000000000001";
-
-/// Its reply: the attributes of the root.
-pub(crate) const GETATTR_REPLY: &str = "\
-    800000700000000200000001000000000000000000000000000000000000000000000002000001ed\
-    00000002000000000000000000000000000010000000000000000000000000000000000000000000\
-    000000000000000000000001000000000000000000000000000000000000000000000000";

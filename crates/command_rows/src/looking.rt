@@ -1,6 +1,5 @@
-//! How a script is run, and what it prints is looked at.
+//! Texts that are made, and what is looked at.
 
-use filer_commands::replay::replay;
 use std::process::Abort;
 
 /// Appends a piece of text, this many times.
@@ -17,26 +16,6 @@ pub(crate) fn joined(rt: &(impl Abort + AllocGlobal), pieces: &[&str]) -> String
         put(rt, &mut text, piece, 1);
     }
     text
-}
-
-/// Runs a script, and looks at its status and at all that it prints.
-pub(crate) fn expect(rt: &(impl Abort + AllocGlobal), script: &[u8], status: u8, printed: &str) {
-    let mut reader = script;
-    let mut out = Vec::new(rt.alloc());
-    assert_eq!(rt; replay(rt.alloc(), &mut reader, &mut out), status);
-    same(rt, &out, printed.as_bytes());
-}
-
-/// The same of a script and of lines in pieces.
-pub(crate) fn expect_joined(
-    rt: &(impl Abort + AllocGlobal),
-    script: &[&str],
-    status: u8,
-    printed: &[&str],
-) {
-    let script = joined(rt, script);
-    let printed = joined(rt, printed);
-    expect(rt, script.as_bytes(), status, &printed);
 }
 
 /// Looks whether these are the bytes that are wanted.
