@@ -4,7 +4,7 @@
 //! connections over TCP.
 #![tactic(auto)]
 
-use filer_commands::{ProgramFault, print_fault, program_told};
+use filer_commands::{ProgramFault, print_fault, program};
 use std::alloc::AllocError;
 use std::process::ExitCode;
 use std::{env, io};
@@ -22,7 +22,7 @@ fn main(rt: HostRuntime) -> ExitCode {
     let mut out = io::writer(&rt);
     let mut err = rt.stderr();
     let status = match arguments(&rt) {
-        Ok(words) => program_told(rt, &words, &mut out, &mut err),
+        Ok(words) => program(rt, &words, &mut out, &mut err),
         Err(fault) => {
             print_fault(&mut out, fault);
             fault.status()

@@ -18,5 +18,5 @@ pub use crate::replay::{ProgramFault, print_fault};
 pub use admin_running::Growing;
 pub use choice::Command;
 pub use machine::Machine;
-pub use running::{program, program_told};
+pub use running::program;
 pub use words::{command, command_told};

@@ -13,7 +13,7 @@ use server::{Options, ServerFault, run_now, serve, serve_told};
 use std::alloc::{AllocError, Global};
 use std::convert::AsStr;
 use std::fs::File;
-use std::io::{self, Write};
+use std::io::Write;
 use std::net::{Net, TcpListener, TcpStream};
 use std::rt::{Clock, Files};
 use std::sync::Wait;
@@ -194,21 +194,10 @@ where
 }
 
 /// Runs the command that the words ask for, and answers the exit status: 2 for words that are no
-/// command, 1 for any other fault, a refused event or a failed write, else 0.
-pub fn program<R, S, W>(rt: R, words: &[S], out: &mut W) -> u8
-where
-    R: Files + AllocGlobal + Threads + Wait + Clock,
-    R: Net<Listener = TcpListener, Stream = TcpStream> + Copy + Drop + Send + 'static,
-    S: AsStr,
-    W: Write,
-    ensures { result ≤ 2 }
-{
-    program_told(rt, words, out, &mut io::sink())
-}
-
-/// The same, and tells by a second writer what is for people alone: usage, what is wrong with a
-/// command line, and faults in words.
-pub fn program_told<R, S, W, E>(rt: R, words: &[S], out: &mut W, err: &mut E) -> u8
+/// command, 1 for any other fault, a refused event or a failed write, else 0. What is for people
+/// alone is told by the second writer: usage, what is wrong with a command line, and faults in
+/// words.
+pub fn program<R, S, W, E>(rt: R, words: &[S], out: &mut W, err: &mut E) -> u8
 where
     R: Files + AllocGlobal + Threads + Wait + Clock,
     R: Net<Listener = TcpListener, Stream = TcpStream> + Copy + Drop + Send + 'static,
