@@ -269,7 +269,7 @@ class Names:
             reader = self.client.succeed(READDIR, arguments)
             reader.maybe(lambda: reader.bytes(ATTRIBUTES))
             verifier = reader.bytes(8)
-            entries, cookie, is_end = entries_of(reader.data, cookie)
+            entries, cookie, is_end = entries_of(reader.rest(), cookie)
             yield from entries
 
     def costs(self, calls):

@@ -39,41 +39,51 @@ UNSET = words(0, 0, 0, 0, 0, 0)
 def record(xid, program, procedure, arguments=b""):
     """A call with AUTH_NONE, as a record of one fragment."""
     number, version = program
-    body = words(xid, 0, 2, number, version, procedure, 0, 0, 0, 0) + arguments
-    return words(0x80000000 | len(body)) + body
+    mark = 0x80000000 | (40 + len(arguments))
+    return words(mark, xid, 0, 2, number, version, procedure, 0, 0, 0, 0) + arguments
+
+
+WORD, HYPER, HEAD = struct.Struct(">I"), struct.Struct(">Q"), struct.Struct(">6I")
+# fattr3: type, mode, links, uid, gid, size, used, what a device has and the volume, fileid, times.
+ATTRIBUTES = struct.Struct(">5I2Q16xQ24x")
 
 
 class Reader:
     """Takes what a reply spells from its front."""
 
     def __init__(self, data):
-        self.data = data
+        self.data, self.at = data, 0
+
+    def skip(self, count):
+        """Where the next bytes begin, which are taken."""
+        start = self.at
+        self.at += count
+        if self.at > len(self.data):
+            raise ValueError("a reply ends too early")
+        return start
 
     def bytes(self, count):
-        taken, self.data = self.data[:count], self.data[count:]
-        if len(taken) != count:
-            raise ValueError("a reply ends too early")
-        return taken
+        start = self.skip(count)
+        return self.data[start : self.at]
+
+    def values(self, form):
+        return form.unpack_from(self.data, self.skip(form.size))
 
     def word(self):
-        return struct.unpack(">I", self.bytes(4))[0]
+        return self.values(WORD)[0]
 
     def hyper(self):
-        return struct.unpack(">Q", self.bytes(8))[0]
+        return self.values(HYPER)[0]
 
     def opaque(self):
         size = self.word()
         data = self.bytes(size)
-        self.bytes(-size % 4)
+        self.skip(-size % 4)
         return data
 
     def attributes(self):
         """Attributes: type, size, used and fileid among them."""
-        kind, _mode, links, _uid, _gid = (self.word() for _ in range(5))
-        size, used = self.hyper(), self.hyper()
-        self.bytes(8 + 8)
-        fileid = self.hyper()
-        self.bytes(24)
+        kind, _mode, links, _uid, _gid, size, used, fileid = self.values(ATTRIBUTES)
         return {"type": kind, "links": links, "size": size, "used": used, "fileid": fileid}
 
     def maybe(self, read):
@@ -83,15 +93,18 @@ class Reader:
         """What is told of a changed object: its attributes before and after."""
         return self.maybe(lambda: self.bytes(24)), self.maybe(self.attributes)
 
+    def rest(self):
+        return self.data[self.at :]
+
     def end(self):
-        if self.data:
+        if self.at < len(self.data):
             raise ValueError("bytes are left after a reply")
 
 
 def reply(data):
     """The xid and accept status of a reply, and what follows."""
     reader = Reader(data)
-    xid, kind, accepted, flavor, length, status = (reader.word() for _ in range(6))
+    xid, kind, accepted, flavor, length, status = reader.values(HEAD)
     if (kind, accepted, flavor, length) != (1, 0, 0, 0):
         raise ValueError("no accepted reply")
     return xid, status, reader
