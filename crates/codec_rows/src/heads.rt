@@ -1,4 +1,4 @@
-//! Heads of calls. Whole heads with their replies, and those at fault, stand in `command_rows`.
+//! Heads of calls. Whole heads with their replies, and those at fault, stand in `trials/worked`.
 
 use crate::bytes::{bytes_of, holds};
 use nfs_values::{Call, Refusal};
