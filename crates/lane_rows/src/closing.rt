@@ -2,7 +2,7 @@
 
 ghost use Rattle.std.specs.Prelude.{◌≡◌, ◌≤◌, ◌+◌, [], vec_len, vec_capacity};
 ghost use Rattle.server.specs.Lanes.{AreLanesOf, Stays};
-ghost use Rattle.turns.specs.declared.shared.Filer as filers;
+ghost use Rattle.granted_calls.specs.declared.shared.Filer as filers;
 
 use crate::laned::close_after;
 use crate::memory::Flow;

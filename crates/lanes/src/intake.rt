@@ -1,8 +1,9 @@
 //! Where the records of a lane's connections go.
 
 ghost use Rattle.std.specs.Prelude.{◌≡◌, ◌≤◌, Some};
-ghost use Rattle.turns.specs.shared_waiting.Passes.{known, IsOf};
-ghost use Rattle.turns.specs.Words.{layout_in, layout_known, TakesFrom};
+ghost use Rattle.granted_calls.specs.shared_waiting.Passes.{known, IsOf};
+ghost use Rattle.granted_calls.specs.Filers.{layout_in, layout_known};
+ghost use Rattle.turns.specs.Words.{TakesFrom};
 ghost use Rattle.lanes.specs.Queues.{HasBoth, IsCounted};
 
 use crate::placing::put_last;

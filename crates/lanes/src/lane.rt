@@ -3,8 +3,9 @@
 ghost use Rattle.std.specs.Prelude.{◌≡◌, []};
 ghost use Rattle.slab.specs.Slab.{get};
 ghost use Rattle.std.specs.Arc.{arc_value};
-ghost use Rattle.turns.specs.shared_waiting.Passes.{known};
-ghost use Rattle.turns.specs.Words.{entries_in, layout_in, IsAt};
+ghost use Rattle.granted_calls.specs.shared_waiting.Passes.{known};
+ghost use Rattle.granted_calls.specs.Filers.{layout_in};
+ghost use Rattle.turns.specs.Words.{entries_in, IsAt};
 ghost use Rattle.lanes.specs.Story.{Story};
 
 mod closing;

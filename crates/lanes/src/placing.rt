@@ -2,9 +2,9 @@
 
 ghost use Rattle.std.specs.Prelude.{◌≡◌};
 ghost use Rattle.crossbeam_queue.specs.Fifo.{Held};
-ghost use Rattle.turns.specs.shared_waiting.Balance.{added, both, FitsIn, Leaves};
-ghost use Rattle.turns.specs.shared_waiting.Passes.{known, IsOf};
-ghost use Rattle.turns.specs.Messages.{Fits};
+ghost use Rattle.granted_calls.specs.shared_waiting.Balance.{added, both, FitsIn, Leaves};
+ghost use Rattle.granted_calls.specs.shared_waiting.Passes.{known, IsOf};
+ghost use Rattle.granted_calls.specs.Messages.{Fits};
 ghost use Rattle.turns.specs.Words.{passed, IsSameWorker, TakesFrom};
 
 use affinity::Layout;

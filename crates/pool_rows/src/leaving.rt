@@ -2,7 +2,7 @@
 
 ghost use Rattle.std.specs.Prelude.{◌≡◌, [], ◌∷◌, IfOk};
 ghost use Rattle.std.specs.Arc.{arc_value};
-ghost use Rattle.workers.specs.Gathered.{IsLeftOf};
+ghost use Rattle.tends.specs.Gathered.{IsLeftOf};
 ghost use Rattle.pool_rows.specs.Threads.{AreAlone, IsOpened, IsStill};
 ghost use Rattle.turns.specs.Words.{IsIn};
 

@@ -1,7 +1,7 @@
 //! The outboxes of a filer, and a pass of them.
 
 ghost use Rattle.std.specs.Arc.{arc_value};
-ghost use Rattle.turns.specs.SharedOutboxes.{IsOf};
+ghost use Rattle.granted_calls.specs.SharedOutboxes.{IsOf};
 
 use nfs_values::ConnectionNumber;
 use outboxes::Record;

@@ -3,10 +3,10 @@
 ghost use Rattle.std.specs.Prelude.{◌≡◌, ◌≤◌, IfOk, IfSome};
 ghost use Rattle.pool_rows.specs.Threads.{HasPut, IsReaderOf};
 ghost use Rattle.turns.specs.Running.{IsRun};
-ghost use Rattle.turns.specs.shared_waiting.Balance.{added, FitsIn};
-ghost use Rattle.turns.specs.shared_waiting.Passes.{known, IsOf};
-ghost use Rattle.turns.specs.Messages.{Fits, IsPlaced};
-ghost use Rattle.turns.specs.Words.{layout_in};
+ghost use Rattle.granted_calls.specs.shared_waiting.Balance.{added, FitsIn};
+ghost use Rattle.granted_calls.specs.shared_waiting.Passes.{known, IsOf};
+ghost use Rattle.granted_calls.specs.Messages.{Fits, IsPlaced};
+ghost use Rattle.granted_calls.specs.Filers.{layout_in};
 
 use affinity::Layout;
 use affinity::homes::home_of;

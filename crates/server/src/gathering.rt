@@ -9,7 +9,7 @@ ghost use Rattle.server.specs.Ends.{HaveStopped};
 ghost use Rattle.server.specs.Lanes.{admitted_by, finished_by, seats_of, AreLanesOf};
 ghost use Rattle.server.specs.Lanes.{IsLaneOf};
 ghost use Rattle.server.specs.Remains.{calls_in, AreRemainsIn};
-ghost use Rattle.turns.specs.Balance.{FilerEntry, Weight};
+ghost use Rattle.granted_calls.specs.Balance.{FilerEntry, Weight};
 
 use crate::remains::Remains;
 use crate::room::Room;

@@ -12,7 +12,7 @@ ghost use Rattle.server.specs.Lanes.{by_identity, seats_of, IsLaneOf};
 ghost use Rattle.server.specs.Threads.{identity_for, seats_for, AreOfThreads};
 ghost use Rattle.server.specs.Threads.{AllServe, AreThreadsOf, IsTaskFor};
 ghost use Rattle.server.specs.declared.socket.Socket as sockets;
-ghost use Rattle.turns.specs.declared.shared.Filer as filers;
+ghost use Rattle.granted_calls.specs.declared.shared.Filer as filers;
 
 use crate::common::Common;
 use crate::crew::{Mail, join_all, start_all};

@@ -10,7 +10,7 @@ ghost use Rattle.service.specs.Jobs.{batch_reply_of, inner_of};
 ghost use Rattle.service.specs.Works.{batch_call_of, batch_hand_of};
 ghost use Rattle.turns.specs.Carries.{node_tried, refusal_by, MayCarry, HasCarried, HasRunInner};
 ghost use Rattle.turns.specs.Stocks.{IsLook};
-ghost use Rattle.turns.specs.Words.{layout_in, verifier_in, IsReady};
+ghost use Rattle.granted_calls.specs.Filers.{layout_in, verifier_in, IsReady};
 
 use crate::shared::Filer;
 use crate::stock::{Enough, Look, NoStock, told_by};

@@ -16,10 +16,10 @@ impl Filer {
     ghost use Rattle.std.specs.Prelude.{◌≡◌, Some, IfOk};
     ghost use Rattle.affinity.specs.Layout.{layout_of};
     ghost use Rattle.depot.specs.Words.{view, splits_left, IsSeatHere};
-    ghost use Rattle.turns.specs.shared_waiting.Balance.{IsWhole};
-    ghost use Rattle.turns.specs.shared_waiting.Passes.{known, IsOf};
-    ghost use Rattle.turns.specs.Words.{layout_in, layout_known, verifier_in};
-    ghost use Rattle.turns.specs.Words.{HasDoneNothing, IsReady};
+    ghost use Rattle.granted_calls.specs.shared_waiting.Balance.{IsWhole};
+    ghost use Rattle.granted_calls.specs.shared_waiting.Passes.{known, IsOf};
+    ghost use Rattle.granted_calls.specs.Filers.{layout_in, layout_known, verifier_in};
+    ghost use Rattle.granted_calls.specs.Filers.{HasDoneNothing, IsReady};
 
     /// A filer of a layout, with the write verifier of the run (writeverf3, RFC 1813 section
     /// 3.3.7), and its first seat and pass: each is the only one, and has done nothing.
@@ -63,8 +63,8 @@ impl Worker {
     ghost use Rattle.depot_rule.specs.History.{entries_of, AreHands};
     ghost use Rattle.nfs_model.specs.Parts as parts;
     ghost use Rattle.service.specs.Jobs.{job_takes, job_gives};
-    ghost use Rattle.turns.specs.shared_waiting.Passes.{known};
-    ghost use Rattle.turns.specs.Balance.{IsEven};
+    ghost use Rattle.granted_calls.specs.shared_waiting.Passes.{known};
+    ghost use Rattle.granted_calls.specs.Balance.{IsEven};
     ghost use Rattle.turns.specs.Tends.{stocked_in};
 
     /// A worker with an empty hand that keeps nothing and knows of no stock: whatever its pass

@@ -147,7 +147,8 @@ impl Worker {
     ghost use Rattle.std.specs.Option.{is_some};
     ghost use Rattle.turns.specs.Tends.{hand_in, kept_in, stocked_in};
     ghost use Rattle.turns.specs.Tends.{IsNextTend, Tends, TendsTo};
-    ghost use Rattle.turns.specs.Words.{layout_in, passed, seats_in, IsAt, IsIn};
+    ghost use Rattle.granted_calls.specs.Filers.{layout_in};
+    ghost use Rattle.turns.specs.Words.{passed, seats_in, IsAt, IsIn};
 
     /// What is in the worker's hand.
     pub fn hand(&self) -> &BatchInHand

@@ -1,9 +1,9 @@
 //! A round of a worker's thread.
 
 ghost use Rattle.workers.specs.Heirs.{IsHeir};
-ghost use Rattle.turns.specs.SharedOutboxes.{HasLentShareOf, IsOf};
+ghost use Rattle.granted_calls.specs.SharedOutboxes.{HasLentShareOf, IsOf};
 ghost use Rattle.turns.specs.Words.{IsIn};
-ghost use Rattle.turns.specs.shared_waiting.Passes.{known};
+ghost use Rattle.granted_calls.specs.shared_waiting.Passes.{known};
 
 use crate::patience::Patience;
 use crate::tending::{Found, Tending, tend};

@@ -7,9 +7,9 @@ ghost use Rattle.depot_rule.specs.Sums.{total};
 ghost use Rattle.workers.specs.Heirs.{ServesAt};
 ghost use Rattle.workers.specs.Threads.{lent_share_with, started_with, PutsInto, ServesIn};
 ghost use Rattle.turns.specs.declared.worker.Worker.{Worker};
-ghost use Rattle.turns.specs.shared_waiting.Balance.{part};
-ghost use Rattle.turns.specs.shared_waiting.Passes.{known};
-ghost use Rattle.turns.specs.SharedOutboxes.{IsOf};
+ghost use Rattle.granted_calls.specs.shared_waiting.Balance.{part};
+ghost use Rattle.granted_calls.specs.shared_waiting.Passes.{known};
+ghost use Rattle.granted_calls.specs.SharedOutboxes.{IsOf};
 ghost use Rattle.turns.specs.Words.{IsIn};
 
 use crate::commons::Commons;

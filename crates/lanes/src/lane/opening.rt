@@ -21,8 +21,9 @@ impl<D: Device, R> Lane<D, R> {
     ghost use Rattle.std.specs.Arc.{arc_value};
     ghost use Rattle.outboxes.specs.Boxes.{AreOfLane};
     ghost use Rattle.slab.specs.Slab.{get};
-    ghost use Rattle.turns.specs.shared_waiting.Passes.{known, IsOf};
-    ghost use Rattle.turns.specs.Words.{entries_in, layout_in, layout_known, IsAt};
+    ghost use Rattle.granted_calls.specs.shared_waiting.Passes.{known, IsOf};
+    ghost use Rattle.granted_calls.specs.Filers.{layout_in, layout_known};
+    ghost use Rattle.turns.specs.Words.{entries_in, IsAt};
     ghost use Rattle.connections.specs.Connections.{now_of};
     ghost use Rattle.lanes.specs.Lanes.{Opens};
     ghost use Rattle.lanes.specs.Queues.{HasBoth};

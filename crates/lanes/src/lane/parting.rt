@@ -16,7 +16,7 @@ pub struct LaneParts {
 
 impl<D: Device + Drop, R: Drop> Lane<D, R> {
     ghost use Rattle.std.specs.Prelude.{◌≡◌, []};
-    ghost use Rattle.turns.specs.shared_waiting.Passes.{known, IsOf};
+    ghost use Rattle.granted_calls.specs.shared_waiting.Passes.{known, IsOf};
     ghost use Rattle.turns.specs.Words.{IsAt};
     ghost use Rattle.lanes.specs.Queues.{HasBoth};
     ghost use Rattle.lanes.specs.Words.{filer_in, pass_in, queue_in, worker_in, HasStory};
