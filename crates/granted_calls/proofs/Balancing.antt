@@ -10,7 +10,7 @@ use Rattle.depot_rule.specs.declared.view.Entry.{Entry}
 use Rattle.depot_rule.specs.Sums.{total}
 use Rattle.depot_rule.specs.lemmas.Sums.{total-append}
 use Rattle.depot_rule.specs.lemmas.Histories.{moved-snoc}
-use Rattle.depot_rule.specs.History.{AreHands, entries_of}
+use Rattle.depot_rule.specs.History.{AreHands}
 use Rattle.outboxes.specs.Boxes.{Addressed}
 use Rattle.service.specs.Jobs.{job_takes, job_gives}
 use Rattle.service.specs.declared.job.Job.{Job}

@@ -36,8 +36,7 @@ use Rattle.granted_calls.specs.Chains.{chained_by, each_done}
 use Rattle.granted_calls.specs.Links.{chained_so, kept_of, CanEnd, HasChained, HasEnded, HasGoneSo, HasLinked, HasRunSo}
 use Rattle.granted_calls.specs.Links.{job_in, Stands}
 use Rattle.granted_calls.specs.Runs.{FilerLent}
-use Rattle.granted_calls.specs.Served.{HasNext, WaitsAgain, HasMoved, HasReturnedFrom, Standing, HasDoneFrom, filer_behaviour}
-use Rattle.turns.specs.Turns.{HasPut}
+use Rattle.granted_calls.specs.Served.{filer_behaviour, HasNext, WaitsAgain, HasMoved, HasReturnedFrom, Standing, HasDoneFrom, HasPut}
 use Rattle.granted_calls.specs.Filers.{IsReady}
 use Rattle.granted_calls.specs.shared_waiting.Balance.{Leaves}
 use Rattle.granted_calls.proofs.Replayed.{RoomyBegins, RoomyStays, RepliesFit}

@@ -58,6 +58,11 @@ abbrev pub HasNext : Passed → Option Message → Passed → Option Message →
 HasNext before kept after None = (kept ≡ None) × (after ≡ before) × Held 0 (Leaves before)
 HasNext before kept after (Some m) = IsNext before kept after m
 
+-- what is kept after a message was put, if one was kept
+abbrev pub HasPut : Passed → Option Message → Passed → Option Message → Type 0
+HasPut before None after kept = (kept ≡ None) × (after ≡ before)
+HasPut before (Some m) after kept = WaitsAgain before after kept m
+
 -- ---- calls on the depot
 
 -- a message's call as it is finished, under what the message tried, which ran at a moment

@@ -83,13 +83,6 @@ pub trait Hint {
     fn is_asked(&self, node: Affinity) -> bool;
 }
 
-/// Leaves word where turns ended at a node that was taken.
-pub(crate) fn leave_word<H: Hint>(hint: &H, chained: Chained) {
-    if let Chained::Busy { node, word: _ } = chained {
-        hint.ask(node);
-    }
-}
-
 /// One word for all nodes: the first that looks ends.
 pub struct Wanted {
     asked: AtomicBool,

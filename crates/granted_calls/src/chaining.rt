@@ -32,9 +32,9 @@ use service::Service;
 use std::sync::Wait;
 
 /// What is kept of messages that were tried one after the other, and what came of them.
-pub(crate) struct ServedAll {
-    pub(crate) kept: Option<Envelope>,
-    pub(crate) chained: Chained,
+pub struct ServedAll {
+    pub kept: Option<Envelope>,
+    pub chained: Chained,
 }
 
 /// What is told where the depot refused.
@@ -172,7 +172,7 @@ fn run_messages_on<
 
 /// Begins the call of a message on what it tries, runs it, and ends it; and so with the next
 /// messages under the same grant, while they try the same node.
-pub(crate) fn run_messages<R: Wait, G: Gate, H: Hint, S: AnswerSink>(
+pub fn run_messages<R: Wait, G: Gate, H: Hint, S: AnswerSink>(
     filer: &Filer,
     seat: &mut Seat<Service>,
     queue: &SharedWaiting<Envelope, Layout>,

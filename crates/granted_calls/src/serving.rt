@@ -119,7 +119,7 @@ fn run_message_on<N: TaskNode<Parcel<Files>, ParcelKinds>, G: Gate>(
 }
 
 /// Begins the call of a message on what it tries, runs it, and ends it.
-pub(crate) fn run_message<G: Gate>(
+pub fn run_message<G: Gate>(
     filer: &Filer,
     seat: &mut Seat<Service>,
     message: Envelope,

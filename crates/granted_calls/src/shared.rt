@@ -10,10 +10,10 @@ use std::alloc::Global;
 
 /// A filer: the parcels of a layout, and the messages that wait for its workers.
 pub struct Filer {
-    pub(crate) alloc: Global,
+    pub alloc: Global,
     pub(crate) verifier: Verifier,
-    pub(crate) depot: Depot<Service>,
-    pub(crate) waiting: SharedWaiting<Envelope, Layout>,
+    pub depot: Depot<Service>,
+    pub waiting: SharedWaiting<Envelope, Layout>,
 }
 
 // By hand, so that crates above have no proof of the drop of each of its parts.

@@ -23,7 +23,7 @@ pub enum Turn {
 }
 
 /// What came of a message on a seat. But for an answer there is no entry.
-pub(crate) enum Served {
+pub enum Served {
     Done(Answer),
     /// It has to run elsewhere, as the message says.
     Moved(Envelope),

@@ -10,12 +10,12 @@ use crate::opening::{MemoryLane, open_both};
 use crate::rows::{MANY, layout, narrow_device};
 use crate::texts::{GETATTR, GETATTR_REPLY, NULL, NULL_REPLY};
 use connections::Sent;
+use granted_calls::{Unwatched, Wanted};
 use nfs_values::Moment;
 use rpc_msg::Offer;
 use server::{FilerEnd, Room, end};
 use std::process::Abort;
 use std::sync::Wait;
-use turns::{Unwatched, Wanted};
 
 /// How many bytes the replies have, to a NULL call and to a GETATTR.
 const REPLIES: usize = 144;

@@ -20,10 +20,10 @@ mod writing;
 use crate::intake::Intake;
 use connections::{Connection, Device};
 pub use parting::LaneParts;
+use granted_calls::Filer;
 use rpc_msg::Offer;
 use slab::Slab;
 use std::sync::Arc;
-use turns::Filer;
 
 /// One thread's connections, with the queue of their calls, the worker that runs these, and the
 /// outboxes of the replies. Its type says what it has done in its whole life: what came of the

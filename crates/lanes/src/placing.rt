@@ -8,9 +8,10 @@ ghost use Rattle.granted_calls.specs.Messages.{Fits};
 ghost use Rattle.turns.specs.Words.{passed, IsSameWorker, TakesFrom};
 
 use affinity::Layout;
+use granted_calls::Envelope;
+use granted_calls::shared_waiting::{Pass, SharedWaiting};
 use std::sync::Wait;
-use turns::shared_waiting::{Pass, SharedWaiting};
-use turns::{Envelope, Worker};
+use turns::Worker;
 
 /// Puts a message by one of two passes, which are all that there are. As both know, the queue has
 /// a place.

@@ -8,10 +8,10 @@ ghost use Rattle.pool_rows.specs.Threads.{IsRunning};
 use crate::mail::Mail;
 use crate::putting::FilerPass;
 use crate::running::Running;
+use granted_calls::Filer;
 use std::alloc::{AllocError, Global};
 use std::sync::{Arc, Wait};
 use std::thread::Threads;
-use turns::Filer;
 use workers::{Ended, Left, close};
 
 /// A filer whose workers have ended.

@@ -10,9 +10,10 @@ use crate::mail::Mail;
 use crate::putting::FilerPass;
 use affinity::{AggregateSpec, Layout, VolumeSpec};
 use depot::Seat;
+use granted_calls::{Filer, OutboxesPass, SharedOutboxes};
 use std::alloc::{AllocError, Global};
 use std::sync::{Arc, Wait};
-use turns::{Filer, OutboxesPass, Service, SharedOutboxes, Worker};
+use turns::{Service, Worker};
 
 /// The write verifier of each filer.
 const VERIFIER: [u8; 8] = [9; 8];

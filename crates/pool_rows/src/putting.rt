@@ -10,14 +10,14 @@ ghost use Rattle.granted_calls.specs.Filers.{layout_in};
 
 use affinity::Layout;
 use affinity::homes::home_of;
+use granted_calls::shared_waiting::Pass;
+use granted_calls::{Envelope, Filer};
 use nfs_values::{Call, ConnectionNumber, Credential};
 use rpc_msg::room_of_reply;
 use scheduler::{Message, Origin};
 use std::alloc::{AllocError, Global};
 use std::sync::Wait;
 use std::thread;
-use turns::shared_waiting::Pass;
-use turns::{Envelope, Filer};
 
 /// A pass of a filer's queue.
 pub(crate) type FilerPass = Pass<Envelope, Layout>;

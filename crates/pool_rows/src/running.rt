@@ -9,11 +9,11 @@ ghost use Rattle.granted_calls.specs.SharedOutboxes.{IsOf};
 use crate::mail::Mail;
 use crate::opening::Opened;
 use crate::putting::FilerPass;
+use granted_calls::{Filer, Gate};
 use std::alloc::Global;
 use std::rt::Clock;
 use std::sync::{Arc, Wait};
 use std::thread::Threads;
-use turns::{Filer, Gate};
 use workers::Pool;
 
 /// A filer whose workers run, with the passes of two who put messages, and its outboxes.

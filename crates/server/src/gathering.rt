@@ -14,10 +14,11 @@ ghost use Rattle.granted_calls.specs.Balance.{FilerEntry, Weight};
 use crate::remains::Remains;
 use crate::room::Room;
 use connections::Device;
+use granted_calls::Filer;
 use lanes::{Lane, LaneParts};
 use std::sync::Wait;
-use turns::{Filer, WorkerParts};
-use workers::{Left, drain_behind, push_batch, push_kept};
+use tends::{Left, drain_behind, push_batch, push_kept};
+use turns::WorkerParts;
 
 /// What is left of one lane, as the first that is put together.
 fn begin<D: Device + Drop, R: Wait + Drop>(

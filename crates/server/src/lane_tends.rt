@@ -12,7 +12,7 @@ use crate::pace::Pace;
 use crate::socket::Socket;
 use lanes::Lane;
 use nfs_values::Moment;
-use workers::{Found, found_by};
+use tends::{Found, found_by};
 
 /// Makes the next tend of a lane, and counts it.
 pub(crate) fn tend<R>(lane: &mut Lane<Socket, R>, pace: &mut Pace)

@@ -3,8 +3,9 @@
 ghost use Rattle.std.specs.Prelude.{◌≡◌, ◌≤◌, ◌+◌, ◌++◌, option_to_list, vec_len, vec_capacity};
 ghost use Rattle.filer_state.specs.state.Jobs.{batches_in};
 
+use granted_calls::Envelope;
 use parcels::Hand;
-use turns::{BatchInHand, Envelope};
+use turns::BatchInHand;
 
 /// Puts the batch of a hand, if it has one.
 pub fn push_batch(hands: &mut Vec<BatchInHand>, hand: BatchInHand)

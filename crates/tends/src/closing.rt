@@ -13,8 +13,8 @@ ghost use Rattle.granted_calls.specs.Filers.{layout_in, verifier_in};
 
 use crate::ended::Ended;
 use crate::left::Left;
+use granted_calls::Filer;
 use parcels::SerialNode;
-use turns::Filer;
 
 /// Ends a filer. Its parcels come back, with what its workers left.
 pub fn close(filer: Filer, left: Left) -> Ended

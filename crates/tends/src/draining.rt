@@ -7,9 +7,9 @@ ghost use Rattle.granted_calls.specs.shared_waiting.Passes.{known, IsOf};
 ghost use Rattle.granted_calls.specs.Messages as messages;
 
 use affinity::Layout;
+use granted_calls::Envelope;
+use granted_calls::shared_waiting::{Pass, SharedWaiting};
 use std::sync::Wait;
-use turns::Envelope;
-use turns::shared_waiting::{Pass, SharedWaiting};
 
 /// Picks all messages that wait, by the only pass that is left, behind others.
 pub fn drain_behind<R: Wait>(

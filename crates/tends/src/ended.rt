@@ -1,8 +1,9 @@
 //! What a filer leaves.
 
 use filer_state::Files;
+use granted_calls::Envelope;
 use parcels::SerialHeld;
-use turns::{BatchInHand, Envelope};
+use turns::BatchInHand;
 
 /// What a filer leaves: all its parcels, the batches that were in hands, and the messages that
 /// weren't finished.

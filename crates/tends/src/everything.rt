@@ -15,9 +15,10 @@ use crate::joining::{begin, join_all, join_passes};
 use crate::left::Left;
 use crate::room::Room;
 use affinity::Layout;
+use granted_calls::shared_waiting::Pass;
+use granted_calls::{Envelope, Filer};
 use std::sync::Wait;
-use turns::shared_waiting::Pass;
-use turns::{Envelope, Filer, Worker};
+use turns::Worker;
 
 /// Puts all workers of a filer together, and all passes of those that only put messages, and picks
 /// what waits. The seats are all 64 of the depot, and the shares of the passes are the whole. Each

@@ -8,8 +8,9 @@ ghost use Rattle.granted_calls.specs.shared_waiting.Passes.{known};
 
 use affinity::Layout;
 use depot::Seat;
-use turns::shared_waiting::Pass;
-use turns::{BatchInHand, Envelope, Service};
+use granted_calls::Envelope;
+use granted_calls::shared_waiting::Pass;
+use turns::{BatchInHand, Service};
 
 /// Workers as one: their seats, their passes, the batches in their hands and the messages that they
 /// keep. Each message that the pass picked was finished by the seat, put back by the pass or is

@@ -28,8 +28,9 @@ ghost use Rattle.turns.specs.Words.{passed, seats_in, IsIn};
 use crate::carried::{push_batch, push_kept};
 use crate::gathered::Gathered;
 use affinity::Layout;
-use turns::shared_waiting::{Pass, SharedWaiting};
-use turns::{BatchInHand, Envelope, Filer, Worker, WorkerParts};
+use granted_calls::shared_waiting::{Pass, SharedWaiting};
+use granted_calls::{Envelope, Filer};
+use turns::{BatchInHand, Worker, WorkerParts};
 
 /// One worker, as the first that is put together.
 pub(crate) fn begin(

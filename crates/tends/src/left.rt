@@ -1,7 +1,8 @@
 //! What workers leave.
 
 use depot::Seat;
-use turns::{BatchInHand, Envelope, Service};
+use granted_calls::Envelope;
+use turns::{BatchInHand, Service};
 
 /// What all workers of a filer leave: their seats as one, the batches in their hands, the messages
 /// that they kept, and those that waited.

@@ -2,9 +2,10 @@
 
 ghost use Rattle.std.specs.Prelude.{◌≡◌, ◌≤◌, [], vec_capacity};
 
+use granted_calls::Envelope;
 use scheduler::MOST_WAITING;
 use std::alloc::{AllocError, Global};
-use turns::{BatchInHand, Envelope};
+use turns::BatchInHand;
 
 /// The most workers of a filer.
 pub const MOST_WORKERS: usize = 64;

@@ -1,12 +1,11 @@
 //! What a worker does for no message, and when its thread may sleep.
 
 ghost use Rattle.std.specs.Prelude.{◌≡◌};
-ghost use Rattle.workers.specs.Heirs.{IsHeir};
-ghost use Rattle.tends.specs.Rests.{found_by, may_sleep, HasTended};
+ghost use Rattle.tends.specs.Rests.{found_by, may_sleep};
 ghost use Rattle.granted_calls.specs.Filers.{layout_in};
-ghost use Rattle.turns.specs.Words.{IsIn};
 
-use turns::{Filer, Tend, TendRefusal, Tended, Worker};
+use granted_calls::Filer;
+use turns::{TendRefusal, Tended, Worker};
 
 /// The tends that look at all there is of one volume: at each of its 16 ranges a fetch, with a
 /// cull before it.
@@ -114,20 +113,4 @@ impl Tending {
         let all = filer.depot().layout().volume_count() * TENDS_OF_VOLUME;
         self.unchanged >= all && (self.starved || worker.has_empty_hand())
     }
-}
-
-/// Makes the worker's next tend, and counts it.
-pub(crate) fn tend(filer: &Filer, worker: Worker, tending: &mut Tending) -> (Worker, Found)
-    requires { IsIn filer.now worker }
-    ensures inside { IsIn filer.now result.0 }
-    ensures heir { IsHeir worker result.0 }
-    ensures tended { HasTended (layout_in filer.now)
-        worker tending.old result.1 result.0 tending.new }
-{
-    let mut worker = worker;
-    let empty = worker.has_empty_hand();
-    let next = worker.next_tend(filer, tending.made);
-    let found = found_by(worker.tend_in(filer, filer.waiting(), next));
-    tending.count(empty, found);
-    (worker, found)
 }

@@ -1,5 +1,5 @@
 -- A turn keeps a worker's balance.
-use Rattle.std.proofs.Common.{◌≡◌, ℕ, ◌+◌, List, [], ◌∷◌, ◌++◌, Option, Some, None, inl, inr, ⊎_elim, sym, ap, ◌∙◌, subst, arith}
+use Rattle.std.proofs.Common.{◌≡◌, ◌+◌, List, [], ◌∷◌, ◌++◌, Option, Some, None, inl, inr, ⊎_elim, sym, ap, ◌∙◌, subst, arith}
 use Rattle.std.specs.Prelude.{option_map, IfSome}
 use Rattle.crossbeam_queue.specs.Fifo.{Held}
 use Rattle.nfs_model.specs.Parts.{Hand}
@@ -10,19 +10,14 @@ use Rattle.affinity.specs.Layout.{layout_of}
 use Rattle.affinity.specs.Affinity.{call_affinity}
 use Rattle.depot_rule.specs.declared.view.Entry.{Entry}
 use Rattle.depot_rule.specs.Sums.{total}
-use Rattle.depot_rule.specs.lemmas.Sums.{total-append}
-use Rattle.depot_rule.specs.lemmas.Histories.{moved-snoc}
 use Rattle.depot_rule.specs.History.{AreHands, entries_of}
-use Rattle.outboxes.specs.Boxes.{Addressed}
 use Rattle.service.specs.Jobs.{job_of, job_takes, job_gives}
 use Rattle.service.specs.declared.job.Job.{Job}
 use Rattle.service.specs.declared.job.JobReply.{JobReply}
 use Rattle.granted_calls.specs.shared_waiting.Balance.{Leaves, FitsIn}
 use Rattle.granted_calls.specs.Messages.{IsPlaced, Fits, Message}
-use Rattle.granted_calls.specs.Balance.{Passed, FilerView, FilerEntry, Weight, by_key, by_job, by_entry, by_kept, IsEven}
-use Rattle.granted_calls.specs.Served.{IsNext, HasNext, IsEntryOf, WaitsAgain, HasShareOf}
-use Rattle.turns.specs.Turns.{HasPut}
-use Rattle.granted_calls.specs.Served.{HasFinished, HasMoved, HasServed}
+use Rattle.granted_calls.specs.Balance.{Passed, FilerView, FilerEntry, Weight, by_key, by_kept, IsEven}
+use Rattle.granted_calls.specs.Served.{IsNext, HasNext, WaitsAgain, HasPut, HasFinished, HasMoved, HasServed}
 use Rattle.turns.specs.Turns.{IsTold, HasTried, HasReturned, Did}
 use Rattle.granted_calls.specs.Filers.{layout_known}
 use Rattle.turns.specs.Words.{seat_view, passed, entries_in}

@@ -13,14 +13,8 @@ use Rattle.granted_calls.specs.declared.turned.Served.{Served}
 use Rattle.granted_calls.specs.declared.turned.Served.TheVariants as served
 use Rattle.turns.specs.declared.worker.Worker.{Worker}
 use Rattle.granted_calls.specs.Messages.{Message}
-use Rattle.granted_calls.specs.Balance.{Passed}
-use Rattle.granted_calls.specs.Served.{Standing, HasFinished, HasMoved, HasReturnedFrom, HasDoneFrom, DidFrom, WaitsAgain}
+use Rattle.granted_calls.specs.Served.{Standing, HasFinished, HasMoved, HasReturnedFrom, HasDoneFrom, DidFrom}
 use Rattle.turns.specs.Words.{seat_view, passed, entries_in}
-
--- what is kept after a message was put, if one was kept
-abbrev pub HasPut : Passed → Option Message → Passed → Option Message → Type 0
-HasPut before None after kept = (kept ≡ None) × (after ≡ before)
-HasPut before (Some m) after kept = WaitsAgain before after kept m
 
 -- ---- parts of a turn
 

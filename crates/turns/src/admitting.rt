@@ -1,9 +1,9 @@
 //! Messages that are put by another pass, beside a worker's own.
 
-use crate::envelope::Envelope;
-use crate::shared_waiting::{Pass, SharedWaiting};
 use crate::worker::Worker;
 use affinity::Layout;
+use granted_calls::Envelope;
+use granted_calls::shared_waiting::{Pass, SharedWaiting};
 use std::sync::Wait;
 
 impl Worker {

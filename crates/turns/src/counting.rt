@@ -1,10 +1,9 @@
 //! What waits, as a worker knows it.
 
-use crate::envelope::Envelope;
-use crate::shared::Filer;
-use crate::shared_waiting::{Pass, SharedWaiting};
 use crate::worker::Worker;
 use affinity::Layout;
+use granted_calls::shared_waiting::{Pass, SharedWaiting};
+use granted_calls::{Envelope, Filer};
 use std::sync::Wait;
 
 impl Worker {

@@ -3,13 +3,11 @@
 ghost use Rattle.std.specs.Prelude.{◌≡◌};
 ghost use Rattle.turns.specs.Turns.{turned_by, IsTold};
 
-use crate::envelope::Envelope;
-use crate::shared::Filer;
-use crate::shared_waiting::SharedWaiting;
-use crate::turned::{Gate, Served, Turn};
 use crate::worker::Worker;
 use affinity::Layout;
 use depot::Refusal;
+use granted_calls::shared_waiting::SharedWaiting;
+use granted_calls::{Envelope, Filer, Gate, Served, Turn};
 use nfs_values::Moment;
 use std::sync::Wait;
 

@@ -1,11 +1,10 @@
 //! The first worker of a filer or of a queue.
 
-use crate::envelope::Envelope;
-use crate::shared::Filer;
-use crate::shared_waiting::{Pass, SharedWaiting};
 use crate::worker::Worker;
 use affinity::Layout;
 use depot::Seat;
+use granted_calls::shared_waiting::{Pass, SharedWaiting};
+use granted_calls::{Envelope, Filer};
 use service::Service;
 
 impl Worker {

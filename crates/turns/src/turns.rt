@@ -1,16 +1,19 @@
 //! A worker's turns one after the other.
 
-use crate::chained::{AnswerSink, Chained, Hint, leave_word};
-use crate::chaining::{ServedAll, run_messages};
-use crate::envelope::Envelope;
-use crate::shared::Filer;
-use crate::shared_waiting::{Pass, SharedWaiting};
-use crate::turned::Gate;
 use crate::worker::Worker;
 use affinity::Layout;
+use granted_calls::shared_waiting::{Pass, SharedWaiting};
+use granted_calls::{AnswerSink, Chained, Envelope, Filer, Gate, Hint, ServedAll, run_messages};
 use nfs_values::Moment;
 use rpc_msg::HandleForm;
 use std::sync::Wait;
+
+/// Leaves word where turns ended at a node that was taken.
+fn leave_word<H: Hint>(hint: &H, chained: Chained) {
+    if let Chained::Busy { node, word: _ } = chained {
+        hint.ask(node);
+    }
+}
 
 impl Worker {
     ghost use Rattle.std.specs.Prelude.{◌≡◌};

@@ -10,8 +10,9 @@ ghost use Rattle.granted_calls.specs.declared.shared.Filer.{Filer};
 
 use crate::pool_worker::PoolWorker;
 use crate::task::Thread;
+use granted_calls::{OutboxesPass, SharedOutboxes};
 use std::thread::Threads;
-use turns::{OutboxesPass, SharedOutboxes, Worker};
+use turns::Worker;
 
 /// The workers, and those that the threads give back; and the pass of the outboxes, with those that
 /// they give back joined to it.

@@ -8,22 +8,20 @@ ghost use Rattle.granted_calls.specs.SharedOutboxes.{IsOf};
 
 use crate::collecting::collect;
 use crate::commons::Commons;
-use crate::everything::gather;
-use crate::left::Left;
-use crate::refusal::StartRefusal;
-use crate::room::Room;
 use crate::splits::{first_worker, split_workers};
 use crate::starting::start_all;
 use crate::stop_word::StopWord;
 use crate::task::Thread;
 use affinity::Layout;
 use depot::Seat;
+use granted_calls::shared_waiting::Pass;
+use granted_calls::{Envelope, Filer, Gate, OutboxesPass, SharedOutboxes};
 use std::alloc::{AllocError, Global};
 use std::rt::Clock;
 use std::sync::{Arc, Wait};
 use std::thread::Threads;
-use turns::shared_waiting::Pass;
-use turns::{Envelope, Filer, Gate, OutboxesPass, Service, SharedOutboxes, Worker};
+use tends::{Left, Room, StartRefusal, gather};
+use turns::{Service, Worker};
 
 /// The most threads of a pool.
 const MOST_THREADS: usize = 64;

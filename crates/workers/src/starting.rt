@@ -14,13 +14,14 @@ ghost use Rattle.turns.specs.Words.{IsIn};
 
 use crate::commons::Commons;
 use crate::pool_worker::PoolWorker;
-use crate::refusal::StartRefusal;
 use crate::task::{Task, Thread, start_one};
+use granted_calls::{Gate, OutboxesPass};
 use std::alloc::AllocError;
 use std::rt::Clock;
 use std::sync::Wait;
 use std::thread::Threads;
-use turns::{Gate, OutboxesPass, Worker};
+use tends::StartRefusal;
+use turns::Worker;
 
 /// What a thread has beside its worker.
 fn share<G: Gate + Clone>(commons: &Commons, gate: &G) -> Result<(Commons, G), AllocError>

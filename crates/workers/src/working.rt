@@ -1,18 +1,19 @@
 //! A worker's turn, to the outboxes.
 
 ghost use Rattle.std.specs.Prelude.{◌≡◌};
-ghost use Rattle.granted_calls.specs.SharedOutboxes.{IsOf};
-ghost use Rattle.workers.specs.Works.{HasPutAnswer, IsToldAs};
+ghost use Rattle.granted_calls.specs.SharedOutboxes.{HasLentShareOf, IsOf};
 ghost use Rattle.granted_calls.specs.shared_waiting.Passes.{known};
+ghost use Rattle.granted_calls.specs.Filers.{layout_in};
+ghost use Rattle.granted_calls.specs.Served.{HasShareOf};
+ghost use Rattle.turns.specs.Tends.{stocked_in};
+ghost use Rattle.turns.specs.Words.{passed, seats_in, IsIn};
+ghost use Rattle.workers.specs.Works.{HasPutAnswer, HasWorked, IsToldAs};
 
-use crate::answer::Answer;
-use crate::shared::Filer;
-use crate::shared_outboxes::{OutboxesPass, SharedOutboxes};
-use crate::turned::{Gate, Turn};
 use crate::worked::Worked;
-use crate::worker::Worker;
+use granted_calls::{Answer, Filer, Gate, OutboxesPass, SharedOutboxes, Turn};
 use nfs_values::{ConnectionNumber, Moment};
 use std::sync::Wait;
+use turns::Worker;
 
 /// Puts an answer behind what waits for its connection. Answers which that is.
 fn deliver<R: Wait>(
@@ -51,38 +52,29 @@ fn put_answer<R: Wait>(
     }
 }
 
-impl Worker {
-    ghost use Rattle.granted_calls.specs.SharedOutboxes.{HasLentShareOf};
-    ghost use Rattle.turns.specs.Tends.{stocked_in};
-    ghost use Rattle.granted_calls.specs.Served.{HasShareOf};
-    ghost use Rattle.granted_calls.specs.Filers.{layout_in};
-    ghost use Rattle.turns.specs.Words.{passed, seats_in, IsIn};
-    ghost use Rattle.workers.specs.Works.{HasWorked};
-
-    /// A turn whose answer, if there is one, is put behind what waits for its connection: by the
-    /// pass the outboxes are taken out, and given back with this answer put.
-    pub fn worker_turn<R: Wait, G: Gate>(
-        self,
-        filer: &Filer,
-        outboxes: &SharedOutboxes,
-        pass: &mut OutboxesPass,
-        rt: &R,
-        gate: &G,
-        moment: Moment,
-    ) -> (Worker, Worked)
-        requires inside { IsIn filer.now self }
-        requires of { IsOf outboxes.now pass.old }
-        ensures inside { IsIn filer.now result.0 }
-        ensures of { IsOf outboxes.now pass.new }
-        ensures worked { HasWorked (layout_in filer.now) self moment (known pass.old)
-            result.1 result.0 (known pass.new) }
-        ensures lent { HasLentShareOf (known pass.old) (known pass.new) }
-        ensures share { HasShareOf (passed self) (passed result.0) }
-        ensures seats { seats_in result.0 ≡ seats_in self }
-        ensures hand { result.0.hand ≡ self.hand }
-        ensures stocked { stocked_in result.0 ≡ stocked_in self }
-    {
-        let (worker, turn) = self.turn(filer, rt, gate, moment);
-        (worker, put_answer(outboxes, rt, pass, turn))
-    }
+/// A turn whose answer, if there is one, is put behind what waits for its connection: by the
+/// pass the outboxes are taken out, and given back with this answer put.
+pub fn worker_turn<R: Wait, G: Gate>(
+    worker: Worker,
+    filer: &Filer,
+    outboxes: &SharedOutboxes,
+    pass: &mut OutboxesPass,
+    rt: &R,
+    gate: &G,
+    moment: Moment,
+) -> (Worker, Worked)
+    requires inside { IsIn filer.now worker }
+    requires of { IsOf outboxes.now pass.old }
+    ensures inside { IsIn filer.now result.0 }
+    ensures of { IsOf outboxes.now pass.new }
+    ensures worked { HasWorked (layout_in filer.now) worker moment (known pass.old)
+        result.1 result.0 (known pass.new) }
+    ensures lent { HasLentShareOf (known pass.old) (known pass.new) }
+    ensures share { HasShareOf (passed worker) (passed result.0) }
+    ensures seats { seats_in result.0 ≡ seats_in worker }
+    ensures hand { result.0.hand ≡ worker.hand }
+    ensures stocked { stocked_in result.0 ≡ stocked_in worker }
+{
+    let (worker, turn) = worker.turn(filer, rt, gate, moment);
+    (worker, put_answer(outboxes, rt, pass, turn))
 }

@@ -4,6 +4,8 @@ use crate::intake::Intake;
 use crate::lane::Lane;
 use affinity::Layout;
 use connections::{Connection, Device, Due};
+use granted_calls::shared_waiting::{Pass, SharedWaiting};
+use granted_calls::{Envelope, Filer};
 use outboxes::Outboxes;
 use rpc_msg::Offer;
 use scheduler::MOST_WAITING;
@@ -13,8 +15,7 @@ use statistics::ReplyCounts;
 use std::alloc::Global;
 use std::snapshot::Snapshot;
 use std::sync::Arc;
-use turns::shared_waiting::{Pass, SharedWaiting};
-use turns::{Envelope, Filer, Worker};
+use turns::Worker;
 
 impl<D: Device, R> Lane<D, R> {
     ghost use Rattle.std.specs.Prelude.{◌≡◌, ◌<◌, ◌≤◌, [], None, Some, IfOk, MatchResult};

@@ -4,8 +4,9 @@ use crate::intake::Intake;
 use crate::lane::Lane;
 use affinity::Layout;
 use connections::Device;
-use turns::shared_waiting::{Pass, SharedWaiting};
-use turns::{Envelope, Worker};
+use granted_calls::Envelope;
+use granted_calls::shared_waiting::{Pass, SharedWaiting};
+use turns::Worker;
 
 /// The worker of a lane, its queue, and the pass that only admitted.
 pub struct LaneParts {

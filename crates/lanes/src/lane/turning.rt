@@ -7,11 +7,12 @@ ghost use Rattle.lanes.specs.Queues.{count_kept};
 use crate::intake::Intake;
 use crate::lane::Lane;
 use connections::Device;
+use granted_calls::{Chained, Filer, Gate, Hint, Place};
 use nfs_values::{Moment, Reply};
 use rpc_msg::HandleForm;
 use service::Ahead;
 use std::sync::Wait;
-use turns::{Chained, Filer, Gate, Hint, Place, Worker};
+use turns::Worker;
 
 /// How many messages a worker keeps.
 fn kept_by(worker: &Worker) -> usize

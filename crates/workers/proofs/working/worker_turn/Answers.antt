@@ -7,7 +7,7 @@ pub returns-clause-worked : goal.returns-clause-worked
 returns-clause-worked g c =
     let t = c.turn-worker in
     let p = c.put_answer in
-    has-worked (layout_in c.args.filer.now) c.args.self c.args.moment (known c.args.pass.now) t.result.0 (known p.new.pass) t.result.1 p.result
+    has-worked (layout_in c.args.filer.now) c.args.worker c.args.moment (known c.args.pass.now) t.result.0 (known p.new.pass) t.result.1 p.result
     t.ensures.did p.ensures.told
 
 pub returns-clause-lent : goal.returns-clause-lent
