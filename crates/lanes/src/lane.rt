@@ -19,8 +19,8 @@ mod writing;
 
 use crate::intake::Intake;
 use connections::{Connection, Device};
-pub use parting::LaneParts;
 use granted_calls::Filer;
+pub use parting::LaneParts;
 use rpc_msg::Offer;
 use slab::Slab;
 use std::sync::Arc;

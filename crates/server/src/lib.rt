@@ -57,5 +57,5 @@ pub use plan::{LEAST_VOLUME, MOST_BYTES, VolumePlan};
 pub use room::Room;
 pub use running::{serve, serve_told};
 pub use socket::Socket;
-pub use turns::ENOUGH_STOCKED;
 pub use tends::MOST_WORKERS;
+pub use turns::ENOUGH_STOCKED;
