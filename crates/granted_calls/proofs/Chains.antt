@@ -40,7 +40,7 @@ use Rattle.granted_calls.specs.Served.{filer_behaviour, HasNext, WaitsAgain, Has
 use Rattle.granted_calls.specs.Filers.{IsReady}
 use Rattle.granted_calls.specs.shared_waiting.Balance.{Leaves}
 use Rattle.granted_calls.proofs.Replayed.{RoomyBegins, RoomyStays, RepliesFit}
-use Rattle.granted_calls.proofs.Served.{may-go-back, moves-on, back-entries, back-ready, refused-entries}
+use Rattle.granted_calls.proofs.Finished.{may-go-back, moves-on, back-entries, back-ready, refused-entries}
 use Rattle.granted_calls.proofs.Linked.{unread, can-read, holding-tree, ran-on, may-enter, has-room, is-ready, is-done}
 use Rattle.granted_calls.proofs.Balancing.{finishes, hand-stays, keeps, picks}
 

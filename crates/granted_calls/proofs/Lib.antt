@@ -8,5 +8,5 @@ mod Lent
 mod Linked
 mod Replayed
 mod Runs
-pub mod Served
+pub mod Finished
 pub mod Started

@@ -36,7 +36,7 @@ use Rattle.granted_calls.specs.Served.{filer_behaviour, job_of_message, HasFinis
 use Rattle.granted_calls.specs.Filers.{IsReady}
 use Rattle.granted_calls.proofs.Entered.{entry-answer, entry-can, entry-finished, entry-room}
 use Rattle.granted_calls.proofs.Replayed.{RoomyBegins, RoomyStays, RepliesFit}
-use Rattle.granted_calls.proofs.Served.{may-finish, may-starve, entered, entered-ready, fits, starved-room}
+use Rattle.granted_calls.proofs.Finished.{may-finish, may-starve, entered, entered-ready, fits, starved-room}
 
 -- ---- reads
 

@@ -10,7 +10,7 @@ use Rattle.granted_calls.specs.Chains.{left_standing, HasServedOn}
 use Rattle.granted_calls.specs.Filers.{layout_in, verifier_in}
 use Rattle.granted_calls.proofs.Chains.{can-end, end-placed, end-ready, end-served, picked-kept, refused-served, stands-first}
 use Rattle.granted_calls.proofs.Few.{ended-size, granted-size}
-use Rattle.granted_calls.proofs.Served.{refused-entries, refused-ready}
+use Rattle.granted_calls.proofs.Finished.{refused-entries, refused-ready}
 use Rattle.granted_calls.specs.Balance.{FilerEntry}
 use Rattle.granted_calls.proofs.chaining.run_messages_on.Goals as goal
 

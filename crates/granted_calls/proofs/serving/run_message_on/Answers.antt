@@ -5,8 +5,8 @@ use Rattle.depot.specs.Words.{view}
 use Rattle.desk.specs.Any.{node_lent}
 use Rattle.granted_calls.specs.Filers.{layout_in, verifier_in}
 use Rattle.granted_calls.proofs.Runs.{moved-so, replied-so, starved-so}
-use Rattle.granted_calls.proofs.Served.{may-finish, may-starve, entered, entered-ready, fits, starved-room, may-go-back, moves-on, back-entries, back-ready}
-use Rattle.granted_calls.proofs.Served.{refused-entries, refused-ready}
+use Rattle.granted_calls.proofs.Finished.{may-finish, may-starve, entered, entered-ready, fits, starved-room, may-go-back, moves-on, back-entries, back-ready}
+use Rattle.granted_calls.proofs.Finished.{refused-entries, refused-ready}
 use Rattle.granted_calls.proofs.serving.run_message_on.Goals as goal
 
 -- ---- it didn't begin

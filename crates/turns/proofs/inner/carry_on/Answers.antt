@@ -8,7 +8,7 @@ use Rattle.turns.specs.Carries.{node_tried, IsRefusedFor}
 use Rattle.granted_calls.specs.Filers.{layout_in, verifier_in}
 use Rattle.turns.proofs.Ran.{refused-for, may-finish, made-ready, has-carried, unused-goes-back, is-unused, empty-hand, starved-goes-back}
 use Rattle.turns.proofs.Ran.{left-entries, left-ready}
-use Rattle.granted_calls.proofs.Served.{refused-entries, refused-ready}
+use Rattle.granted_calls.proofs.Finished.{refused-entries, refused-ready}
 use Rattle.turns.proofs.inner.carry_on.Goals as goal
 
 -- ---- it didn't begin
