@@ -2,7 +2,7 @@
 
 ghost use Rattle.std.specs.Prelude.{◌≡◌, ◌≤◌, ◌+◌, [], vec_len, vec_capacity};
 ghost use Rattle.server.specs.Lanes.{AreLanesOf, Stays};
-ghost use Rattle.turns.specs.declared.shared.Filer as filers;
+ghost use Rattle.granted_calls.specs.declared.shared.Filer as filers;
 
 use crate::laned::close_after;
 use crate::memory::Flow;
@@ -10,12 +10,12 @@ use crate::opening::{MemoryLane, open_both};
 use crate::rows::{MANY, layout, narrow_device};
 use crate::texts::{GETATTR, GETATTR_REPLY, NULL, NULL_REPLY};
 use connections::Sent;
+use granted_calls::{Unwatched, Wanted};
 use nfs_values::Moment;
 use rpc_msg::Offer;
 use server::{FilerEnd, Room, end};
 use std::process::Abort;
 use std::sync::Wait;
-use turns::{Unwatched, Wanted};
 
 /// How many bytes the replies have, to a NULL call and to a GETATTR.
 const REPLIES: usize = 144;

@@ -12,13 +12,14 @@ use crate::texts::{
     NULL_UNAVAILABLE, TOO_LONG,
 };
 use connections::{Came, Flags, Sent};
+use granted_calls::{Chained, Gate, Unwatched, Wanted};
 use lanes::LaneParts;
 use nfs_values::{Moment, Procedure, VolumeNumber};
 use rpc_msg::Offer;
 use std::process::Abort;
 use std::sync::Wait;
 use std::thread;
-use turns::{Chained, Gate, Tend, TendRefusal, Tended, Unwatched, Wanted};
+use turns::{Tend, TendRefusal, Tended};
 
 /// The first of two lanes. The other is dropped.
 pub(crate) fn lane<R: Abort + AllocGlobal + Wait + Copy + Drop>(rt: R) -> MemoryLane<R> {

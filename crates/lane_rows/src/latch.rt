@@ -6,12 +6,12 @@ use crate::opening::{MemoryLane, open_lanes};
 use crate::rows::{MANY, device, layout};
 use crate::texts::{create, getattr, read};
 use connections::Came;
+use granted_calls::{Gate, Place, Stage};
 use std::process::Abort;
 use std::sync::Wait;
 use std::sync::atomic::{AtomicBool, Ordering};
 use std::thread;
 use std::thread::Threads;
-use turns::{Gate, Place, Stage};
 
 /// The xid of the READ that is held.
 const HELD: u32 = 7;

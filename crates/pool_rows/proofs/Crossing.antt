@@ -12,11 +12,11 @@ use Rattle.std.specs.contracts.alloc.Global as Global
 use Rattle.affinity.specs.contracts.layout.Layout as Layout
 use Rattle.nfs_values.proofs.number.ConnectionNumber.TheSendSync as number
 use Rattle.nfs_values.specs.contracts.number.ConnectionNumber as ConnectionNumber
-use Rattle.turns.proofs.shared_waiting.pass.Pass.TheSendSync as pass
-use Rattle.turns.specs.contracts.shared_waiting.pass.Pass as Pass
-use Rattle.turns.proofs.Crossing.{envelope-send, filer-sync}
-use Rattle.turns.specs.contracts.envelope.Envelope as Envelope
-use Rattle.turns.specs.contracts.shared.Filer as Filer
+use Rattle.granted_calls.proofs.shared_waiting.pass.Pass.TheSendSync as pass
+use Rattle.granted_calls.specs.contracts.shared_waiting.pass.Pass as Pass
+use Rattle.granted_calls.proofs.Crossing.{envelope-send, filer-sync}
+use Rattle.granted_calls.specs.contracts.envelope.Envelope as Envelope
+use Rattle.granted_calls.specs.contracts.shared.Filer as Filer
 
 abbrev pub FilerPass : RattleType
 FilerPass = Pass.the_row Envelope.the_row Layout.the_row

@@ -7,16 +7,17 @@ use Rattle.affinity.specs.declared.layout.Layout.{Layout}
 use Rattle.affinity.specs.Layout.{layout_of}
 use Rattle.depot_rule.specs.Sums.{total}
 use Rattle.depot_rule.specs.History.{entries_of, AreHands}
-use Rattle.workers.specs.Shares.{share_in, picked_by, FilerPass}
+use Rattle.tends.specs.Shares.{share_in, picked_by, FilerPass}
 use Rattle.workers.specs.Pools.{filer_of, HasAllWith, HasBetween}
 use Rattle.workers.specs.declared.pool.Pool.{Pool}
-use Rattle.turns.specs.shared_waiting.Balance.{left, right, part, IsWhole}
-use Rattle.turns.specs.shared_waiting.Passes.{known, IsOf}
-use Rattle.turns.specs.Balance.{FilerEntry, FilerView, Passed, Weight, by_entry, by_key, IsEven}
+use Rattle.granted_calls.specs.shared_waiting.Balance.{left, right, part, IsWhole}
+use Rattle.granted_calls.specs.shared_waiting.Passes.{known, IsOf}
+use Rattle.granted_calls.specs.Balance.{FilerEntry, FilerView, Passed, Weight, by_entry, by_key, IsEven}
 use Rattle.turns.specs.Jobs.{job_takes, job_gives}
-use Rattle.turns.specs.Turns.{HasShareOf}
-use Rattle.turns.specs.Words.{layout_in, layout_known, verifier_in, passed, seats_in, HasDoneNothing, IsIn, IsReady}
-use Rattle.turns.specs.declared.shared.Filer.{Filer}
+use Rattle.granted_calls.specs.Served.{HasShareOf}
+use Rattle.granted_calls.specs.Filers.{layout_in, layout_known, verifier_in, HasDoneNothing, IsReady}
+use Rattle.turns.specs.Words.{passed, seats_in, IsIn}
+use Rattle.granted_calls.specs.declared.shared.Filer.{Filer}
 use Rattle.turns.specs.declared.worker.Worker.{Worker}
 use Rattle.pool_rows.specs.Threads.{AreAlone, AreWholeWith, HasPut, IsOpened, IsReaderOf, IsRunning, IsStill, IsUnstarted}
 

@@ -5,16 +5,17 @@ use Rattle.depot_rule.specs.Shares.{Has}
 use Rattle.depot_rule.specs.Sums.{total}
 use Rattle.filer_state.specs.state.Parcels.{FilerParcel}
 use Rattle.filer_state.specs.declared.files.Files.{Files}
-use Rattle.workers.specs.Shares.{share_of, share_in, FilerPass}
+use Rattle.tends.specs.Shares.{share_of, share_in, FilerPass}
 use Rattle.workers.specs.Pools.{filer_of, threads_of}
 use Rattle.workers.specs.Threads.{share_with}
 use Rattle.workers.specs.declared.pool.Pool.{Pool}
-use Rattle.turns.specs.shared_waiting.Passes.{known, IsOf}
-use Rattle.turns.specs.Turns.{HasShareOf}
-use Rattle.turns.specs.Balance.{FilerView, IsEven}
+use Rattle.granted_calls.specs.shared_waiting.Passes.{known, IsOf}
+use Rattle.granted_calls.specs.Served.{HasShareOf}
+use Rattle.granted_calls.specs.Balance.{FilerView, IsEven}
 use Rattle.turns.specs.Jobs.{job_takes, job_gives}
-use Rattle.turns.specs.Words.{layout_in, layout_known, verifier_in, passed, seats_in, HasOpened, IsIn}
-use Rattle.turns.specs.declared.shared.Filer.{Filer}
+use Rattle.granted_calls.specs.Filers.{layout_in, layout_known, verifier_in, HasOpened}
+use Rattle.turns.specs.Words.{passed, seats_in, IsIn}
+use Rattle.granted_calls.specs.declared.shared.Filer.{Filer}
 use Rattle.turns.specs.declared.worker.Worker.{Worker}
 
 -- a pass of the filer's queue that has picked nothing

@@ -10,13 +10,13 @@ use crate::opening::{Volumes, open};
 use crate::putting::{FilerPass, put_made, record_of};
 use crate::replies::replies;
 use crate::running::{Running, start};
+use granted_calls::{Filer, Unwatched};
 use nfs_values::ConnectionNumber;
 use std::alloc::Global;
 use std::rt::Clock;
 use std::sync::Wait;
 use std::thread;
 use std::thread::Threads;
-use turns::{Filer, Unwatched};
 
 /// How many messages each of the two puts.
 const EACH: u32 = 1500;

@@ -2,16 +2,16 @@
 
 ghost use Rattle.std.specs.Prelude.{◌≡◌, [], ◌∷◌, IfOk};
 ghost use Rattle.std.specs.Arc.{arc_value};
-ghost use Rattle.workers.specs.Gathered.{IsLeftOf};
+ghost use Rattle.tends.specs.Gathered.{IsLeftOf};
 ghost use Rattle.pool_rows.specs.Threads.{IsRunning};
 
 use crate::mail::Mail;
 use crate::putting::FilerPass;
 use crate::running::Running;
+use granted_calls::Filer;
 use std::alloc::{AllocError, Global};
 use std::sync::{Arc, Wait};
 use std::thread::Threads;
-use turns::Filer;
 use workers::{Ended, Left, close};
 
 /// A filer whose workers have ended.

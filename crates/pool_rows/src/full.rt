@@ -15,6 +15,7 @@ use crate::putting::{FilerPass, put_made, record_of};
 use crate::replies::LOOKS;
 use crate::turned::came::Came;
 use crate::turned::turning::put_answer;
+use granted_calls::{Envelope, Filer, Gate, Place, Stage, Unwatched};
 use nfs_values::{BytesToWrite, Call, ConnectionNumber, Moment};
 use std::alloc::{AllocError, Global};
 use std::process::Abort;
@@ -22,7 +23,7 @@ use std::sync::atomic::{AtomicBool, Ordering};
 use std::sync::{Arc, Wait};
 use std::thread;
 use std::thread::Threads;
-use turns::{Envelope, Filer, Gate, Place, Stage, Unwatched, Worker};
+use turns::Worker;
 use workers::Ended;
 
 /// How many messages the queue has room for.

@@ -9,6 +9,7 @@ use crate::opening::{Volumes, open};
 use crate::putting::{FilerPass, put, put_made, record_of};
 use crate::replies::{LOOKS, awaited, is_ok};
 use crate::running::start;
+use granted_calls::{Filer, Gate, Place, Stage};
 use nfs_values::{Call, ConnectionNumber};
 use outboxes::Record;
 use std::alloc::{AllocError, Global};
@@ -17,7 +18,6 @@ use std::sync::atomic::{AtomicBool, Ordering};
 use std::sync::{Arc, Wait};
 use std::thread;
 use std::thread::Threads;
-use turns::{Filer, Gate, Place, Stage};
 
 /// The xid of the CREATE that comes before.
 const MADE: u32 = 6;

@@ -2,7 +2,7 @@
 
 ghost use Rattle.std.specs.Prelude.{◌≡◌, [], ◌∷◌, IfOk};
 ghost use Rattle.std.specs.Arc.{arc_value};
-ghost use Rattle.workers.specs.Gathered.{IsLeftOf};
+ghost use Rattle.tends.specs.Gathered.{IsLeftOf};
 ghost use Rattle.pool_rows.specs.Threads.{AreAlone, IsOpened, IsStill};
 ghost use Rattle.turns.specs.Words.{IsIn};
 
@@ -10,11 +10,12 @@ use crate::ending::{Stopped, end};
 use crate::opening::{Volumes, open_filer};
 use crate::putting::FilerPass;
 use filer_state::Files;
+use granted_calls::Filer;
 use nfs_values::{BlockNumber, VolumeNumber};
 use parcels::{Hand, SerialHeld};
 use std::alloc::{AllocError, Global};
 use std::sync::{Arc, Wait};
-use turns::{BatchInHand, Filer, Tend, Worker};
+use turns::{BatchInHand, Tend, Worker};
 use workers::{Ended, Room, gather};
 
 /// Gathers what workers leave.

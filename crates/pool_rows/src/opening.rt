@@ -4,15 +4,16 @@ ghost use Rattle.std.specs.Prelude.{IfOk};
 ghost use Rattle.std.specs.Arc.{arc_value};
 ghost use Rattle.depot.specs.Words.{view, splits_left, IsSeatHere};
 ghost use Rattle.pool_rows.specs.Threads.{IsOpened, IsUnstarted};
-ghost use Rattle.turns.specs.SharedOutboxes.{IsOf};
+ghost use Rattle.granted_calls.specs.SharedOutboxes.{IsOf};
 
 use crate::mail::Mail;
 use crate::putting::FilerPass;
 use affinity::{AggregateSpec, Layout, VolumeSpec};
 use depot::Seat;
+use granted_calls::{Filer, OutboxesPass, SharedOutboxes};
 use std::alloc::{AllocError, Global};
 use std::sync::{Arc, Wait};
-use turns::{Filer, OutboxesPass, Service, SharedOutboxes, Worker};
+use turns::{Service, Worker};
 
 /// The write verifier of each filer.
 const VERIFIER: [u8; 8] = [9; 8];

@@ -3,21 +3,21 @@
 ghost use Rattle.std.specs.Prelude.{◌≡◌, ◌≤◌, IfOk, IfSome};
 ghost use Rattle.pool_rows.specs.Threads.{HasPut, IsReaderOf};
 ghost use Rattle.turns.specs.Running.{IsRun};
-ghost use Rattle.turns.specs.shared_waiting.Balance.{added, FitsIn};
-ghost use Rattle.turns.specs.shared_waiting.Passes.{known, IsOf};
-ghost use Rattle.turns.specs.Messages.{Fits, IsPlaced};
-ghost use Rattle.turns.specs.Words.{layout_in};
+ghost use Rattle.granted_calls.specs.shared_waiting.Balance.{added, FitsIn};
+ghost use Rattle.granted_calls.specs.shared_waiting.Passes.{known, IsOf};
+ghost use Rattle.granted_calls.specs.Messages.{Fits, IsPlaced};
+ghost use Rattle.granted_calls.specs.Filers.{layout_in};
 
 use affinity::Layout;
 use affinity::homes::home_of;
+use granted_calls::shared_waiting::Pass;
+use granted_calls::{Envelope, Filer};
 use nfs_values::{Call, ConnectionNumber, Credential};
 use rpc_msg::room_of_reply;
 use scheduler::{Message, Origin};
 use std::alloc::{AllocError, Global};
 use std::sync::Wait;
 use std::thread;
-use turns::shared_waiting::Pass;
-use turns::{Envelope, Filer};
 
 /// A pass of a filer's queue.
 pub(crate) type FilerPass = Pass<Envelope, Layout>;

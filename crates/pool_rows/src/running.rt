@@ -4,16 +4,16 @@ ghost use Rattle.std.specs.Prelude.{◌≤◌, ◌<◌, IfSome};
 ghost use Rattle.std.specs.Arc.{arc_value};
 ghost use Rattle.depot.specs.Words.{view, splits_left, IsSeatHere};
 ghost use Rattle.pool_rows.specs.Threads.{IsRunning, IsUnstarted};
-ghost use Rattle.turns.specs.SharedOutboxes.{IsOf};
+ghost use Rattle.granted_calls.specs.SharedOutboxes.{IsOf};
 
 use crate::mail::Mail;
 use crate::opening::Opened;
 use crate::putting::FilerPass;
+use granted_calls::{Filer, Gate};
 use std::alloc::Global;
 use std::rt::Clock;
 use std::sync::{Arc, Wait};
 use std::thread::Threads;
-use turns::{Filer, Gate};
 use workers::Pool;
 
 /// A filer whose workers run, with the passes of two who put messages, and its outboxes.

@@ -1,8 +1,9 @@
 //! A worker of a filer.
 
 use crate::mail::Mail;
+use granted_calls::Filer;
 use std::marker::Model;
-use turns::{Filer, Worker};
+use turns::Worker;
 
 /// A worker, with the filer that it is of, and its outboxes. Its value is what is in its hand.
 #[derive(Drop)]

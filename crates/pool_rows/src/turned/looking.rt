@@ -3,9 +3,10 @@
 use crate::turned::came::Came;
 use crate::turned::filer_worker::FilerWorker;
 use affinity::Affinity;
+use granted_calls::{Gate, Place, Stage, Unwatched};
 use nfs_values::{Moment, VolumeNumber};
 use std::sync::{Mutex, Wait};
-use turns::{Gate, Place, Stage, Tend, TendRefusal, Unwatched};
+use turns::{Tend, TendRefusal};
 
 /// What a second worker met while the first had a grant.
 #[derive(Clone, Copy, Debug, PartialEq)]

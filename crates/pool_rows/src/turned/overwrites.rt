@@ -11,11 +11,11 @@ use crate::turned::rows::{answered, at, created, open, same, served};
 use crate::turned::starting::{Started, start_workers};
 use crate::turned::texts::{ACCEPTED, mark};
 use affinity::Affinity;
+use granted_calls::Unwatched;
 use nfs_values::{BytesToWrite, Call, ConnectionNumber};
 use std::mem;
 use std::process::Abort;
 use std::sync::{Mutex, Wait};
-use turns::Unwatched;
 
 /// The first byte of the file's second span, which lies in another stripe than the first span.
 const SECOND_SPAN: u64 = 262_144;

@@ -3,7 +3,7 @@
 ghost use Rattle.pool_rows.specs.Threads.{IsReaderOf};
 
 use crate::putting::FilerPass;
-use turns::Filer;
+use granted_calls::Filer;
 
 /// A pass that puts messages into the queue of a filer.
 #[derive(Drop)]

@@ -12,6 +12,7 @@ use crate::turned::reader::Reader;
 use crate::turned::starting::{Started, start_workers};
 use crate::turned::texts::{ACCEPTED, bytes_of, mark, root_shown};
 use affinity::Affinity;
+use granted_calls::Unwatched;
 use nfs_values::{
     BytesToWrite, Call, ConnectionNumber, CreateMode, Moment, Name, SetAttributes, Target,
     VolumeNumber,
@@ -21,7 +22,7 @@ use std::fmt::Debug;
 use std::mem;
 use std::process::Abort;
 use std::sync::{Mutex, Wait};
-use turns::{Tend, Unwatched};
+use turns::Tend;
 
 /// A moment of whole seconds.
 pub(crate) const fn at(seconds: u32) -> Moment {

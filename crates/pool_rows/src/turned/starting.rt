@@ -8,9 +8,10 @@ use crate::opening::open_mails;
 use crate::putting::FilerPass;
 use crate::turned::filer_worker::FilerWorker;
 use crate::turned::reader::Reader;
+use granted_calls::Filer;
 use std::alloc::{AllocError, Global};
 use std::sync::Wait;
-use turns::{Filer, Worker};
+use turns::Worker;
 
 /// Two workers, and who puts messages for them.
 #[derive(Drop)]

@@ -7,11 +7,12 @@ use crate::putting::put;
 use crate::turned::came::Came;
 use crate::turned::filer_worker::FilerWorker;
 use crate::turned::reader::Reader;
+use granted_calls::{Gate, Turn};
 use nfs_values::{Call, Moment};
 use scheduler::Origin;
 use std::alloc::Global;
 use std::sync::Wait;
-use turns::{Gate, Tend, TendRefusal, Turn};
+use turns::{Tend, TendRefusal};
 
 /// Puts the answer of a turn.
 pub(crate) fn put_answer<R: Wait>(rt: &R, mail: &mut Mail, turn: Turn) -> Came {

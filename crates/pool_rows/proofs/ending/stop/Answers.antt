@@ -1,7 +1,7 @@
 use Rattle.std.proofs.Common.{subst}
 use Rattle.std.specs.Arc.{arc_value}
-use Rattle.workers.specs.Gathered.{IsLeftOf}
-use Rattle.turns.specs.declared.shared.Filer.{Filer}
+use Rattle.tends.specs.Gathered.{IsLeftOf}
+use Rattle.granted_calls.specs.declared.shared.Filer.{Filer}
 use Rattle.pool_rows.proofs.Wholes.{passes-of, passes-whole, passes-read}
 use Rattle.pool_rows.proofs.ending.stop.Goals as goal
 

@@ -1,6 +1,6 @@
 use Rattle.std.proofs.Common.{subst}
 use Rattle.std.specs.Arc.{arc_value}
-use Rattle.turns.specs.declared.shared.Filer.{Filer}
+use Rattle.granted_calls.specs.declared.shared.Filer.{Filer}
 use Rattle.pool_rows.specs.Threads.{IsStill}
 use Rattle.pool_rows.proofs.Wholes.{none-put, went-on}
 use Rattle.pool_rows.proofs.full.turn.Goals as goal

@@ -1,7 +1,7 @@
 use Rattle.std.proofs.Common.{sym, subst}
 use Rattle.std.specs.Prelude.{All}
 use Rattle.turns.specs.Words.{IsIn}
-use Rattle.turns.specs.declared.shared.Filer.{Filer}
+use Rattle.granted_calls.specs.declared.shared.Filer.{Filer}
 use Rattle.pool_rows.proofs.leaving.leave.Goals as goal
 
 pub gather-left-requires-clause-workers : goal.gather-left-requires-clause-workers

@@ -1,9 +1,9 @@
 use Rattle.std.proofs.Common.{sym, subst, ap, ◌∙◌, ◌+◌, ℕ}
 use Rattle.affinity.specs.declared.layout.Layout.{Layout}
-use Rattle.turns.specs.shared_waiting.Passes.{known, IsOf}
-use Rattle.turns.specs.declared.shared_waiting.pass.SharedWaiting.{SharedWaiting}
-use Rattle.turns.specs.Messages.{Message}
-use Rattle.turns.specs.declared.shared.Filer.{Filer}
+use Rattle.granted_calls.specs.shared_waiting.Passes.{known, IsOf}
+use Rattle.granted_calls.specs.declared.shared_waiting.pass.SharedWaiting.{SharedWaiting}
+use Rattle.granted_calls.specs.Messages.{Message}
+use Rattle.granted_calls.specs.declared.shared.Filer.{Filer}
 use Rattle.pool_rows.specs.Threads.{IsOpened}
 use Rattle.pool_rows.proofs.Wholes.{opened}
 use Rattle.pool_rows.proofs.opening.open_filer.Goals as goal

@@ -1,6 +1,6 @@
 use Rattle.std.proofs.Common.{sym, subst}
-use Rattle.turns.specs.declared.shared_outboxes.SharedOutboxes.{SharedOutboxes}
-use Rattle.turns.specs.SharedOutboxes.{IsOf}
+use Rattle.granted_calls.specs.declared.shared_outboxes.SharedOutboxes.{SharedOutboxes}
+use Rattle.granted_calls.specs.SharedOutboxes.{IsOf}
 use Rattle.pool_rows.proofs.opening.open_outboxes.Goals as goal
 
 pub returns : goal.returns

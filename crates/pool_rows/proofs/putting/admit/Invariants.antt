@@ -1,6 +1,6 @@
 -- the message waits yet, and the pass has put and picked nothing
 use Rattle.std.proofs.Common.{◌≡◌}
-use Rattle.turns.specs.shared_waiting.Passes.{known, IsOf}
+use Rattle.granted_calls.specs.shared_waiting.Passes.{known, IsOf}
 use Rattle.pool_rows.proofs.putting.admit.Given as goal
 
 abbrev pub invariant-loop : goal.invariant-loop
