@@ -6,7 +6,7 @@ ghost use Rattle.affinity.specs.Layout.{layout_of};
 
 use crate::memory::{Calls, Flow, Memory};
 use crate::placed::Placed;
-use crate::reading::{are_calls, bytes_of, layout, same};
+use crate::reading::{are_calls, bytes_of, layout, same, sink};
 use crate::texts::{
     GETATTR, NO_PROGRAM, NO_PROGRAM_REPLY, NULL, NULL_IN_TWO, NULL_REPLY, TOO_LONG,
 };
@@ -21,11 +21,11 @@ use std::process::Abort;
 const MANY: usize = 2_000;
 
 /// A sink with a connection that is open, number 0.
-fn sink(rt: &(impl Abort + AllocGlobal), layout: &Layout, places: usize) -> Placed
+fn placed(rt: &(impl Abort + AllocGlobal), layout: &Layout, places: usize) -> Placed
     ensures { layout_of result.gathered.layout ≡ layout_of layout.now }
 {
     Placed {
-        gathered: crate::reading::sink(rt, layout),
+        gathered: sink(rt, layout),
         places,
         has_place: places > 0,
     }
@@ -129,7 +129,7 @@ fn was_given(
 /// Reads four records and writes the replies to two.
 fn whole(rt: &(impl Abort + AllocGlobal), size: usize, places: usize, capacity: usize) {
     let layout = layout(rt);
-    let mut sink = sink(rt, &layout, places);
+    let mut sink = placed(rt, &layout, places);
     let stream: [&[u32]; 5] = [&NULL, &GETATTR, &NULL_IN_TWO, &GETATTR, &NO_PROGRAM];
     let mut connection = connection(rt, device(rt, &stream, size, MANY));
     let came = read_all(rt, &mut connection, &mut sink, &layout, places);
@@ -165,7 +165,7 @@ fn each_cut_gives_the_same(rt: HostRuntime) {
 /// A device that fails after this many calls: what was taken is a beginning.
 fn failing(rt: &(impl Abort + AllocGlobal), size: usize, calls: usize) {
     let layout = layout(rt);
-    let mut sink = sink(rt, &layout, 100);
+    let mut sink = placed(rt, &layout, 100);
     let mut connection = connection(rt, device(rt, &[&NULL, &NO_PROGRAM], size, calls));
     let came = read_all(rt, &mut connection, &mut sink, &layout, 100);
     assert!(rt; came == Came::End || came == Came::Failed);
@@ -189,7 +189,7 @@ fn each_failure_leaves_a_beginning(rt: HostRuntime) {
 #[test]
 fn a_fault_ends_the_reading(rt: HostRuntime) {
     let layout = layout(&rt);
-    let mut sink = sink(&rt, &layout, 100);
+    let mut sink = placed(&rt, &layout, 100);
     let device = device(&rt, &[&NULL, &TOO_LONG, &NULL], 50, MANY);
     let mut connection = connection(&rt, device);
     let came = read_all(&rt, &mut connection, &mut sink, &layout, 100);
@@ -210,7 +210,7 @@ const ANSWERED: usize = 56;
 /// would wait for good.
 fn waiting(rt: &(impl Abort + AllocGlobal), gives: usize, takes: usize) {
     let layout = layout(rt);
-    let mut sink = sink(rt, &layout, 100);
+    let mut sink = placed(rt, &layout, 100);
     let (given, taken) = (Flow::until(gives), Flow::until(takes));
     let device = narrow_device(rt, &[&NULL, &NO_PROGRAM], usize::MAX, given, taken);
     let mut connection = connection(rt, device);

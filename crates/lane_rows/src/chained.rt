@@ -30,6 +30,7 @@ fn no_more_run_than_are_asked_for(rt: HostRuntime) {
         &rt,
         &mut lane,
         &[&GETATTR, &GETATTR, &GETATTR, &GETATTR, &GETATTR],
+        usize::MAX,
     );
     let wanted = Wanted::new();
     assert!(&rt; matches!(turns(&rt, &mut lane, &wanted, 3, 3), Chained::Done));
@@ -42,7 +43,7 @@ fn no_more_run_than_are_asked_for(rt: HostRuntime) {
 #[test]
 fn who_is_asked_for_its_node_ends(rt: HostRuntime) {
     let (mut lane, _other) = open_lanes(rt);
-    let one = ask(&rt, &mut lane, &[&GETATTR, &GETATTR, &GETATTR]);
+    let one = ask(&rt, &mut lane, &[&GETATTR, &GETATTR, &GETATTR], usize::MAX);
     let wanted = Wanted::new();
     wanted.ask(Affinity::VolumeLogical(0));
     assert!(&rt; matches!(turns(&rt, &mut lane, &wanted, 3, 1), Chained::Done));
@@ -54,7 +55,7 @@ fn who_is_asked_for_its_node_ends(rt: HostRuntime) {
 #[test]
 fn a_call_of_another_node_is_kept_for_the_next_turn(rt: HostRuntime) {
     let (mut lane, _other) = open_lanes(rt);
-    let one = ask(&rt, &mut lane, &[&GETATTR, &FSSTAT, &GETATTR]);
+    let one = ask(&rt, &mut lane, &[&GETATTR, &FSSTAT, &GETATTR], usize::MAX);
     let wanted = Wanted::new();
     assert!(&rt; matches!(turns(&rt, &mut lane, &wanted, 9, 1), Chained::Done));
     assert!(&rt; lane.worker().keeps_message());

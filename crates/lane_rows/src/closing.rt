@@ -4,8 +4,7 @@ ghost use Rattle.std.specs.Prelude.{◌≡◌, ◌≤◌, ◌+◌, [], vec_len, 
 ghost use Rattle.server.specs.Lanes.{AreLanesOf, Stays};
 ghost use Rattle.turns.specs.declared.shared.Filer as filers;
 
-use crate::laned::close_after;
-use crate::memory::device;
+use crate::laned::{ask, close_after};
 use crate::opening::{MemoryLane, open_both};
 use crate::texts::{GETATTR, GETATTR_REPLY, NULL, NULL_REPLY};
 use connections::Sent;
@@ -18,22 +17,9 @@ use turns::{Unwatched, Wanted};
 /// How many bytes the replies have, to a NULL call and to a GETATTR.
 const REPLIES: usize = 144;
 
-/// Opens a connection that asks for attributes twice, and something at once, over a device that
-/// takes this many bytes and then would wait; reads it whole, and runs the first of its two calls.
-/// Its key.
-fn ask<R: Abort + AllocGlobal + Wait>(rt: &R, lane: &mut MemoryLane<R>, takes: usize) -> usize
-    ensures { Stays lane.old lane.new }
-{
-    let mut block = [0; 256];
-    let device = device(rt, &[&GETATTR, &NULL, &GETATTR], takes);
-    let key = lane.open(device).ok().expect(rt, "an open connection");
-    let _came = lane.read(key, &mut block);
-    let _chained = lane.turns(&Unwatched, &Wanted::new(), Moment::START, 1);
-    key
-}
-
-/// Serves a connection of a lane: its device gets just this many bytes of the replies, also where
-/// it is written again, and is closed then. One call was finished, and one waits.
+/// Serves a connection of a lane that asks for attributes twice, and something at once: the first
+/// of its two calls is run, its device gets just this many bytes of the replies, also where it is
+/// written again, and is closed then. One call was finished, and one waits.
 fn serve<R: Abort + AllocGlobal + Wait>(
     rt: &R,
     mut lane: MemoryLane<R>,
@@ -42,7 +28,8 @@ fn serve<R: Abort + AllocGlobal + Wait>(
     ensures { Stays lane result }
 {
     let mut buffer = Vec::with_capacity(rt.alloc(), 256).expect(rt, "no memory");
-    let key = ask(rt, &mut lane, takes);
+    let key = ask(rt, &mut lane, &[&GETATTR, &NULL, &GETATTR], takes);
+    let _chained = lane.turns(&Unwatched, &Wanted::new(), Moment::START, 1);
     let sent = lane.write(key, &mut buffer);
     let again = lane.write(key, &mut buffer);
     let wanted = if takes < REPLIES {

@@ -14,14 +14,18 @@ use std::process::Abort;
 use std::sync::Wait;
 use turns::{Tend, TendRefusal, Tended};
 
-/// Opens a connection of a lane, and reads these records of it, up to their end. Its key.
+/// Opens a connection of a lane that takes this many bytes and then would wait, and reads these
+/// records of it, up to their end. Its key.
 pub(crate) fn ask<R: Wait>(
     rt: &(impl Abort + AllocGlobal),
     lane: &mut MemoryLane<R>,
     records: &[&[u32]],
-) -> usize {
+    takes: usize,
+) -> usize
+    ensures { Stays lane.old lane.new }
+{
     let key = lane.next_key();
-    let opened = lane.open(device(rt, records, usize::MAX));
+    let opened = lane.open(device(rt, records, takes));
     assert!(rt; opened.ok() == Some(key));
     let mut block = [0; 512];
     assert!(rt; matches!(lane.read(key, &mut block), Came::Read(_)));
@@ -84,7 +88,7 @@ fn part<R: Abort + Wait + Copy + Drop>(rt: R, lane: MemoryLane<R>, waiting: usiz
 #[test]
 fn calls_that_did_not_run_are_left(rt: HostRuntime) {
     let (mut lane, _other) = open_lanes(rt);
-    ask(&rt, &mut lane, &[&GETATTR, &NULL, &GETATTR]);
+    ask(&rt, &mut lane, &[&GETATTR, &NULL, &GETATTR], usize::MAX);
     part(rt, lane, 2);
 }
 

@@ -9,7 +9,7 @@ use std::sync::Wait;
 use std::sync::atomic::{AtomicBool, Ordering};
 use std::thread;
 use std::thread::Threads;
-use turns::{Chained, Gate, Hint, Place, Stage, Wanted};
+use turns::{Chained, Gate, Place, Stage, Wanted};
 
 /// The xid of the READ that is held.
 const HELD: u32 = 7;
@@ -86,10 +86,10 @@ where
         was_beside: AtomicBool::new(false),
     };
     let (mut first, mut second) = open_lanes(rt);
-    ask(&rt, &mut first, &[&create(6, 0x6161_0000)]);
+    ask(&rt, &mut first, &[&create(6, 0x6161_0000)], usize::MAX);
     assert!(&rt; run_all(&mut first, &latch) == 1);
-    ask(&rt, &mut first, &[&read(HELD)]);
-    ask(&rt, &mut second, &[&getattr(BESIDE)]);
+    ask(&rt, &mut first, &[&read(HELD)], usize::MAX);
+    ask(&rt, &mut second, &[&getattr(BESIDE)], usize::MAX);
     let latch = &latch;
     let done = thread::join(
         &rt,
