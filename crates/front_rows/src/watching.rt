@@ -1,6 +1,6 @@
 //! Devices whose calls are counted, and what the answers of the system tell.
 
-use crate::rows::device;
+use crate::connected::device;
 use crate::texts::NULL;
 use connections::{Told, Watched, answer_of};
 use std::io;
