@@ -216,11 +216,7 @@ fn waiting(rt: &(impl Abort + AllocGlobal), gives: usize, takes: usize) {
     let mut connection = connection(rt, device);
     let came = read_all(rt, &mut connection, &mut sink, &layout, 100);
     assert!(rt; (came == Came::End) == (gives >= STREAM));
-    let owed = match gives {
-        0..44 => 0,
-        44..88 => 28,
-        _ => ANSWERED,
-    };
+    let owed = gives.min(STREAM) / 44 * 28;
     let sent = write_all(rt, &mut connection, &mut sink, 100);
     assert!(rt; (sent == Sent::All) == (takes >= owed));
     assert!(rt; connection.has_rest() == (takes < owed));
