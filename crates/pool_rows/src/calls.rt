@@ -77,9 +77,10 @@ pub(crate) fn call_of(rt: &(impl Abort + AllocGlobal), ask: Ask) -> Call
             handle: handle(volume, fileid),
             offset,
             count,
-            bytes: BytesToWrite::all(
-                vec![in rt.alloc(); byte; count as usize].expect(rt, "no memory"),
-            ),
+            bytes: BytesToWrite::all(vec![in rt.alloc(); byte; count as usize].expect(
+                rt,
+                "no memory",
+            )),
         },
         Ask::Status(volume) => Call::FilesystemStatus {
             handle: handle(volume, ROOT),

@@ -104,7 +104,9 @@ impl Running {
         } = self;
         let passes = vec![in rt.alloc(); reader].expect(rt, "no memory");
         let (left, _lent) = pool.stop(rt, passes);
-        let filer = Arc::try_unwrap(filer).ok().expect(rt, "no other has the filer");
+        let filer = Arc::try_unwrap(filer)
+            .ok()
+            .expect(rt, "no other has the filer");
         (close(filer, left), mail)
     }
 }

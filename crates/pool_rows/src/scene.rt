@@ -57,11 +57,7 @@ fn meet<'a, R: Abort + AllocGlobal + Wait>(
         before: Mutex::new(Some(second)),
         after: Mutex::new(None),
     };
-    came(
-        rt,
-        first.turn(rt, &looking, scene.turn.0),
-        scene.turn.1,
-    );
+    came(rt, first.turn(rt, &looking, scene.turn.0), scene.turn.1);
     let Looking {
         rt: _,
         rows: _,

@@ -127,6 +127,7 @@ const SPANS: [Row; 10] = [
 
 /// The overwrite of each span.
 const FIRST: Ask = Ask::Write(0, 2, 0, 1, 0x63);
+
 const SECOND: Ask = Ask::Write(0, 2, SPAN, 1, 0x64);
 
 /// The file's attributes after both overwrites (fattr3, RFC 1813 section 2.5): its size, two
@@ -155,7 +156,11 @@ const CULLED: Row = Row::Cull(0, Came::Busy(NAMES, 1));
 
 /// The second overwrite begins and ends in the midst of the first.
 const IN_ORDER: Scene = Scene {
-    before: &[&MADE, &SPANS, &[Row::Put(4, 5, FIRST), Row::Put(5, 6, SECOND)]],
+    before: &[
+        &MADE,
+        &SPANS,
+        &[Row::Put(4, 5, FIRST), Row::Put(5, 6, SECOND)],
+    ],
     turn: (9, Came::Done(4)),
     midst: &[Row::Turn(5, Came::Done(5)), CULLED],
     second: &[],
@@ -164,7 +169,11 @@ const IN_ORDER: Scene = Scene {
 
 /// The first in the midst of the second.
 const TURNED_ROUND: Scene = Scene {
-    before: &[&MADE, &SPANS, &[Row::Put(4, 5, SECOND), Row::Put(5, 6, FIRST)]],
+    before: &[
+        &MADE,
+        &SPANS,
+        &[Row::Put(4, 5, SECOND), Row::Put(5, 6, FIRST)],
+    ],
     turn: (5, Came::Done(4)),
     midst: &[Row::Turn(9, Came::Done(5)), CULLED],
     second: &[],

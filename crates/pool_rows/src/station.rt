@@ -24,7 +24,7 @@ pub(crate) struct Station<'a> {
 }
 
 impl<'a> Model for Station<'a> {
-    ghost use Rattle.std.specs.Prelude.{ℕ, ◌×◌};
+    ghost use Rattle.std.specs.Prelude.{ℕ};
     ghost use Rattle.pool_rows.specs.Threads.{IsReaderOf};
     ghost use Rattle.turns.specs.Words.{seats_in, IsIn};
 
@@ -105,7 +105,9 @@ impl Station<'_> {
             seconds,
             nanoseconds: 0,
         };
-        let turned = self.worker.turn_in(self.filer, self.filer.waiting(), rt, gate, moment);
+        let turned = self
+            .worker
+            .turn_in(self.filer, self.filer.waiting(), rt, gate, moment);
         match turned {
             Turn::Done(answer) => {
                 let came = Came::Done(answer.xid());
