@@ -1,5 +1,5 @@
 """What the trials of refused memory share: the library that refuses, and a program that is run
-with it."""
+with it; and how such a library is built."""
 
 import atexit
 import mmap
@@ -40,9 +40,9 @@ def scratch():
     return Path(folder)
 
 
-def build_library(folder):
-    """Builds refuse.c in a folder, and answers the path of the library."""
-    library = folder / "refuse.so"
+def build_library(folder, name="refuse"):
+    """Builds a library to preload in a folder, of a file in C, and answers its path."""
+    library = folder / f"{name}.so"
     options = [
         "-O1",
         "-fno-builtin",
@@ -50,7 +50,7 @@ def build_library(folder):
         "-shared",
         "-o",
         str(library),
-        str(HERE / "refuse.c"),
+        str(HERE / f"{name}.c"),
     ]
     subprocess.run(compiler() + options, check=True)
     return library

@@ -32,9 +32,9 @@ SMALL = ("--ranges", "16")
 
 class Server:
     """`filer serve` or `filer export`, for this many connections, or without an end where their
-    number is None."""
+    number is None. `told` takes its standard error."""
 
-    def __init__(self, filer, connections, workers=2, command="serve", options=()):
+    def __init__(self, filer, connections, workers=2, command="serve", options=(), environment=None, told=None):
         volumes = ["--volumes", str(BASIC.volumes)]
         numbers = [*volumes, "--workers", str(workers)]
         numbers += [] if connections is None else ["--connections", str(connections)]
@@ -44,7 +44,8 @@ class Server:
         self.process = subprocess.Popen(
             [filer, command, "--listen", "127.0.0.1:0", *numbers, *options],
             stdout=subprocess.PIPE,
-            stderr=subprocess.DEVNULL if command == "export" else None,
+            stderr=told or (subprocess.DEVNULL if command == "export" else None),
+            env=environment,
             text=True,
         )
         try:

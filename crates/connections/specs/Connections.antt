@@ -1,5 +1,5 @@
 -- What contracts name of a connection.
-use Rattle.std.specs.Prelude.{ℕ, ⊤, List, Option, Some, None}
+use Rattle.std.specs.Prelude.{ℕ, ⊤, ◌+◌, ◌-◌, ◌^◌, List, Option, Some, None, length, min, max}
 use Rattle.tcp_front.specs.declared.stream.Stopped.{Stopped}
 use Rattle.connections.specs.declared.connection.Connection.{Connection}
 use Rattle.connections.specs.declared.connection.Flags.{Flags}
@@ -36,6 +36,22 @@ IsStopped c = has_stopped c.stopped
 -- what is owed to it
 abbrev pub due_of : {D : Type 0} → Connection D → Due
 due_of c = c.owed
+
+-- the largest count
+abbrev pub most_counted : ℕ
+most_counted = 2 ^ 64 - 1
+
+-- nothing is owed
+abbrev pub nothing_due : Due
+nothing_due = record { replies = 0; room = 0 }
+
+-- one reply more is owed; its room is counted as 256 bytes at least
+abbrev pub with_reply : ℕ → Due → Due
+with_reply room due = record { replies = min (due.replies + 1) most_counted; room = min (due.room + max room 256) most_counted }
+
+-- about how much room its replies take, with the bytes that its device had no room for
+abbrev pub room_owed : {D : Type 0} → Connection D → ℕ
+room_owed c = min (c.owed.room + length c.rest) most_counted
 
 -- with another count of what is owed
 abbrev pub owing : {D : Type 0} → Due → Connection D → Connection D

@@ -52,7 +52,7 @@ pub struct Connection<D> {
 
 impl<D> Connection<D> {
     ghost use Rattle.connections.specs.Connections.{due_of, flagged, now_of, number_of, owing};
-    ghost use Rattle.connections.specs.Connections.{stopped_of, IsStopped};
+    ghost use Rattle.connections.specs.Connections.{room_owed, stopped_of, IsStopped};
     ghost use Rattle.std.specs.Prelude.{◌↔◌, [], false, IsTrue};
 
     /// The number of the connection.
@@ -106,7 +106,9 @@ impl<D> Connection<D> {
     }
 
     /// About how much room its replies take, with the bytes that the device had no room for.
-    pub fn owed(&self) -> usize {
+    pub fn owed(&self) -> usize
+        ensures { result ≡ room_owed self.now }
+    {
         self.owed.room.saturating_add(self.rest.len())
     }
 

@@ -1,5 +1,8 @@
 //! What is owed to a connection.
 
+ghost use Rattle.std.specs.Prelude.{◌≡◌};
+ghost use Rattle.connections.specs.Connections.{nothing_due, with_reply};
+
 /// What is owed to a connection for its records: this many replies, and about how much room they
 /// take. It says nothing of the connection's bytes.
 #[derive(Clone, Copy, PartialEq, Eq, Debug)]
@@ -13,7 +16,9 @@ const LEAST_ROOM: usize = 256;
 
 impl Due {
     /// Nothing.
-    pub fn nothing() -> Due {
+    pub fn nothing() -> Due
+        ensures { result ≡ nothing_due }
+    {
         Due {
             replies: 0,
             room: 0,
@@ -21,7 +26,9 @@ impl Due {
     }
 
     /// A record was given on, whose reply has so much room.
-    pub fn add(&mut self, room: usize) {
+    pub fn add(&mut self, room: usize)
+        ensures { self.new ≡ with_reply room self.old }
+    {
         self.replies = self.replies.saturating_add(1);
         self.room = self.room.saturating_add(room.max(LEAST_ROOM));
     }

@@ -1,7 +1,8 @@
 //! What a device had no room for.
 
-ghost use Rattle.std.specs.Prelude.{◌≡◌, ◌≤◌, ◌++◌, ◌↔◌, [], List, ℕ, length, drop, IsTrue};
+ghost use Rattle.std.specs.Prelude.{◌≡◌, ◌≤◌, ◌++◌, ◌↔◌, [], List, ℕ, length, drop, min, IsTrue};
 ghost use Rattle.tcp_front.specs.Writing.{records_of};
+ghost use Rattle.connections.specs.Connections.{most_counted};
 ghost use Rattle.connections.specs.Rests.{list_of};
 
 use crate::backlog::Backlog;
@@ -73,7 +74,9 @@ impl Rest {
     }
 
     /// How many bytes wait.
-    pub(crate) fn len(&self) -> usize {
+    pub(crate) fn len(&self) -> usize
+        ensures { result ≡ min (length self.now) most_counted }
+    {
         match &self.alone {
             Some(_record) => self.joined.len().saturating_add(self.left),
             None => self.joined.len(),

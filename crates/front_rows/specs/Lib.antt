@@ -1,2 +1,3 @@
 pub mod Gathering
 pub mod Leaving
+pub mod Moving

@@ -3,16 +3,24 @@
 #![tactic(auto)]
 
 #[cfg(test)]
+mod connected;
+#[cfg(test)]
 mod devices;
 #[cfg(test)]
 mod failing;
 #[cfg(test)]
 mod gathered;
 #[cfg(test)]
+mod memory;
+#[cfg(test)]
+mod placed;
+#[cfg(test)]
 mod reading;
 #[cfg(test)]
 mod texts;
 #[cfg(test)]
 mod waiting;
+#[cfg(test)]
+mod watching;
 #[cfg(test)]
 mod writing;

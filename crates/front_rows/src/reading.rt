@@ -142,7 +142,7 @@ pub(crate) fn sink(rt: &(impl Abort + AllocGlobal), layout: &Layout) -> Gathered
 }
 
 /// Looks whether just these calls came, each under the home of the root.
-fn are_calls(rt: &impl Abort, sink: &Gathered, calls: &[(usize, u32)]) {
+pub(crate) fn are_calls(rt: &impl Abort, sink: &Gathered, calls: &[(usize, u32)]) {
     assert!(rt; sink.calls.len() == calls.len());
     for (message, (number, xid)) in sink.calls.iter().zip(calls) {
         assert!(rt; message.origin.connection.0 == 0);

@@ -5,7 +5,7 @@ use Rattle.std.proofs.lemmas.Option.{none-some, same_Some}
 use Rattle.std.specs.Prelude.{IfSome}
 use Rattle.slab.specs.Slab.{Slab, get}
 use Rattle.outboxes.specs.Boxes.{Boxes}
-use Rattle.turns.specs.Words.{layout_in}
+use Rattle.granted_calls.specs.Filers.{layout_in}
 use Rattle.connections.specs.declared.connection.Connection.{Connection}
 use Rattle.connections.specs.declared.device.Device as devices
 use Rattle.lanes.specs.declared.lane.Lane.{Lane}

@@ -1,3 +1,1 @@
-pub mod Gathering
-pub mod Moving
 pub mod Written

@@ -2,60 +2,24 @@
 
 ghost use Rattle.std.specs.Prelude.{◌≡◌, ◌≤◌, ◌+◌, [], vec_len, vec_capacity};
 ghost use Rattle.server.specs.Lanes.{AreLanesOf, Stays};
-ghost use Rattle.turns.specs.declared.shared.Filer as filers;
+ghost use Rattle.granted_calls.specs.declared.shared.Filer as filers;
 
-use crate::laned::close_after;
-use crate::memory::Flow;
+use crate::laned::{ask, close_after};
 use crate::opening::{MemoryLane, open_both};
-use crate::rows::{MANY, layout, narrow_device};
 use crate::texts::{GETATTR, GETATTR_REPLY, NULL, NULL_REPLY};
 use connections::Sent;
+use granted_calls::{Unwatched, Wanted};
 use nfs_values::Moment;
-use rpc_msg::Offer;
 use server::{FilerEnd, Room, end};
 use std::process::Abort;
 use std::sync::Wait;
-use turns::{Unwatched, Wanted};
 
 /// How many bytes the replies have, to a NULL call and to a GETATTR.
 const REPLIES: usize = 144;
 
-/// What two writes of the replies come to, where the device takes this many bytes and then would
-/// wait.
-fn sent_of(takes: usize) -> (Sent, Sent) {
-    if takes < REPLIES {
-        (Sent::Blocked, Sent::Blocked)
-    } else {
-        (Sent::More, Sent::All)
-    }
-}
-
-/// Opens a connection that asks for attributes twice, and something at once, over a device that
-/// takes this many bytes and then would wait; reads it whole, and runs the first of its two calls.
-/// Its key.
-fn ask<R: Abort + AllocGlobal + Wait>(rt: &R, lane: &mut MemoryLane<R>, takes: usize) -> usize
-    ensures { Stays lane.old lane.new }
-{
-    let mut block = [0; 256];
-    let (gives, some) = (Flow::by(4096), Flow::until(takes));
-    let device = narrow_device(rt, &[&GETATTR, &NULL, &GETATTR], MANY, gives, some);
-    let key = lane.open(device).ok().expect(rt, "an open connection");
-    let _waits = lane.read(key, &mut block);
-    let _came = lane.read(key, &mut block);
-    let _chained = lane.turns(&Unwatched, &Wanted::new(), Moment::START, 1);
-    key
-}
-
-/// Writes a connection, whose device would wait at the first of two calls.
-fn write<R: Wait>(lane: &mut MemoryLane<R>, key: usize, buffer: &mut Vec<u8>) -> Sent
-    ensures { Stays lane.old lane.new }
-{
-    let _waits = lane.write(key, buffer);
-    lane.write(key, buffer)
-}
-
-/// Serves a connection of a lane: its device gets just this many bytes of the replies, also where
-/// it is written again, and is closed then. One call was finished, and one waits.
+/// Serves a connection of a lane that asks for attributes twice, and something at once: the first
+/// of its two calls is run, its device gets just this many bytes of the replies, also where it is
+/// written again, and is closed then. One call was finished, and one waits.
 fn serve<R: Abort + AllocGlobal + Wait>(
     rt: &R,
     mut lane: MemoryLane<R>,
@@ -64,10 +28,16 @@ fn serve<R: Abort + AllocGlobal + Wait>(
     ensures { Stays lane result }
 {
     let mut buffer = Vec::with_capacity(rt.alloc(), 256).expect(rt, "no memory");
-    let key = ask(rt, &mut lane, takes);
-    let sent = write(&mut lane, key, &mut buffer);
-    let again = write(&mut lane, key, &mut buffer);
-    assert!(rt; (sent, again) == sent_of(takes));
+    let key = ask(rt, &mut lane, &[&GETATTR, &NULL, &GETATTR], takes);
+    let _chained = lane.turns(&Unwatched, &Wanted::new(), Moment::START, 1);
+    let sent = lane.write(key, &mut buffer);
+    let again = lane.write(key, &mut buffer);
+    let wanted = if takes < REPLIES {
+        Sent::Blocked
+    } else {
+        Sent::All
+    };
+    assert!(rt; (sent, again) == (wanted, wanted));
     close_after(rt, &mut lane, key, &[&NULL_REPLY, &GETATTR_REPLY], takes);
     assert!(rt; lane.waiting() == 1);
     lane
@@ -96,7 +66,7 @@ fn serve_each<R: Abort + AllocGlobal + Wait + Drop>(
 /// first bytes of its replies, as many as its device takes; of each lane one call was finished and
 /// one waits, though its connection is closed.
 fn close_both<R: Abort + AllocGlobal + Wait + Copy + Drop>(rt: R, takes: usize) {
-    let (filer, lanes) = open_both(rt, Offer::basic(), layout(&rt, 1));
+    let (filer, lanes) = open_both(rt);
     let served = Vec::with_capacity(rt.alloc(), 2).expect(&rt, "no memory");
     let lanes = serve_each(&rt, lanes, served, takes);
     let room = Room::new(rt.alloc(), 2).expect(&rt, "no memory");

@@ -1,23 +1,24 @@
 //! Two calls of two lanes that don't exclude each other, one in the midst of the other.
 
-use crate::laned::{open, read_all, run_all, run_by};
-use crate::memory::Memory;
+use crate::laned::ask;
 use crate::opening::{MemoryLane, open_lanes};
-use crate::rows::{MANY, device, layout};
 use crate::texts::{create, getattr, read};
-use connections::Came;
+use nfs_values::Moment;
 use std::process::Abort;
 use std::sync::Wait;
 use std::sync::atomic::{AtomicBool, Ordering};
 use std::thread;
 use std::thread::Threads;
-use turns::{Gate, Place, Stage};
+use granted_calls::{Chained, Gate, Place, Stage, Wanted};
 
 /// The xid of the READ that is held.
 const HELD: u32 = 7;
 
 /// The xid of the GETATTR that goes on meanwhile.
 const BESIDE: u32 = 8;
+
+/// More turns than two calls take.
+const MANY: usize = 10_000;
 
 /// How often it is looked whether something has come.
 const LOOKS: usize = 10_000_000;
@@ -55,10 +56,22 @@ impl Gate for Latch {
     }
 }
 
-/// Opens a connection over a device on a lane, and reads it to its end.
-fn take<R: Wait>(rt: &impl Abort, lane: &mut MemoryLane<R>, device: Memory) {
-    let key = open(rt, lane, device);
-    assert!(rt; read_all(lane, key) == Came::End);
+/// Makes turns of a lane until no message waits. How many calls were finished.
+fn run_all<R: Wait>(lane: &mut MemoryLane<R>, latch: &Latch) -> usize {
+    let mut done: usize = 0;
+    for _ in 0..MANY {
+        let before = lane.waiting();
+        let chained = lane.turns(latch, &Wanted::new(), Moment::START, 3);
+        done = done.saturating_add(before.saturating_sub(lane.waiting()));
+        match chained {
+            Chained::Done => {}
+            Chained::Idle => return done,
+            Chained::Moved | Chained::Busy { node: _, word: _ } | Chained::Worn => {
+                thread::yield_now();
+            }
+        }
+    }
+    done
 }
 
 /// Reads a file of volume 0 on one lane, and in the midst of that asks on the other for the
@@ -72,26 +85,18 @@ where
         beside_ended: AtomicBool::new(false),
         was_beside: AtomicBool::new(false),
     };
-    let (mut first, mut second) = open_lanes(rt, layout(&rt, 2));
-    take(
-        &rt,
-        &mut first,
-        device(&rt, &[&create(6, 0x6161_0000)], 100, MANY),
-    );
-    assert!(&rt; run_all(&mut first) == 1);
-    take(&rt, &mut first, device(&rt, &[&read(HELD)], 100, MANY));
-    take(
-        &rt,
-        &mut second,
-        device(&rt, &[&getattr(BESIDE)], 100, MANY),
-    );
+    let (mut first, mut second) = open_lanes(rt);
+    ask(&rt, &mut first, &[&create(6, 0x6161_0000)], usize::MAX);
+    assert!(&rt; run_all(&mut first, &latch) == 1);
+    ask(&rt, &mut first, &[&read(HELD)], usize::MAX);
+    ask(&rt, &mut second, &[&getattr(BESIDE)], usize::MAX);
     let latch = &latch;
     let done = thread::join(
         &rt,
-        move || -> usize { run_by(&mut first, latch) },
+        move || -> usize { run_all(&mut first, latch) },
         move || -> usize {
             comes(&latch.held_begun);
-            run_by(&mut second, latch)
+            run_all(&mut second, latch)
         },
     );
     assert!(&rt; done == (1, 1));

@@ -1,74 +1,10 @@
-//! A device in memory that moves few bytes at once, would wait at each second call and after so
-//! many bytes, and fails. It tells its bytes.
+//! A device in memory that tells its bytes.
 
 ghost use Rattle.std.specs.Prelude.{◌≡◌, ◌≤◌, length, take, drop, vec_len};
-ghost use Rattle.lane_rows.specs.Moving.{IsWithin};
 
+use crate::texts::bytes_of;
 use connections::{Device, Told};
-
-/// How often a device is called until it fails. It would wait at each second call.
-#[derive(Drop)]
-pub(crate) struct Calls {
-    pub(crate) left: usize,
-    /// Whether it would wait at the next call.
-    pub(crate) is_waiting: bool,
-}
-
-impl Calls {
-    /// Whether it fails at this call.
-    fn fails(&mut self) -> bool {
-        if self.left == 0 {
-            return true;
-        }
-        self.left -= 1;
-        false
-    }
-
-    /// Whether it would wait at this call.
-    fn waits(&mut self) -> bool {
-        self.is_waiting = !self.is_waiting;
-        self.is_waiting
-    }
-}
-
-/// How many bytes move one way.
-#[derive(Drop)]
-pub(crate) struct Flow {
-    /// At most this many at once.
-    pub(crate) size: usize,
-    /// This many until it would wait for good.
-    pub(crate) left: usize,
-}
-
-impl Flow {
-    /// This many bytes at once.
-    pub(crate) fn by(size: usize) -> Flow {
-        Flow {
-            size,
-            left: usize::MAX,
-        }
-    }
-
-    /// This many bytes until it would wait for good.
-    pub(crate) fn until(left: usize) -> Flow {
-        Flow {
-            size: usize::MAX,
-            left,
-        }
-    }
-
-    /// Moves what it may of this many bytes.
-    fn take(&mut self, most: usize) -> Told
-        ensures { IsWithin result most }
-    {
-        let size = self.size.min(self.left).min(most);
-        if size == 0 && most > 0 {
-            return Told::Blocked;
-        }
-        self.left -= size;
-        Told::Moved(size)
-    }
-}
+use std::process::Abort;
 
 /// What it gives, and what it took.
 #[derive(Drop)]
@@ -76,10 +12,19 @@ pub(crate) struct Memory {
     pub(crate) stream: Vec<u8>,
     pub(crate) given: usize,
     pub(crate) taken: Vec<u8>,
-    pub(crate) calls: Calls,
-    pub(crate) gives: Flow,
-    pub(crate) takes: Flow,
+    /// It takes this many bytes more, and then would wait for good.
+    pub(crate) room: usize,
     pub(crate) ghost within: { given ≤ vec_len stream },
+}
+
+/// A device that gives these records and takes this many bytes.
+pub(crate) fn device(rt: &(impl Abort + AllocGlobal), records: &[&[u32]], room: usize) -> Memory {
+    Memory {
+        stream: bytes_of(rt, records),
+        given: 0,
+        taken: Vec::new(rt.alloc()),
+        room,
+    }
 }
 
 /// Fills the first bytes of a block with as many of these.
@@ -100,38 +45,22 @@ impl Device for Memory {
     ghost written = { λ m. Some m.taken.items };
 
     fn read_now(&mut self, block: &mut [u8]) -> Told {
-        if self.calls.fails() {
-            return Told::Failed;
-        }
-        if self.calls.waits() {
-            return Told::Blocked;
-        }
         let rest = &self.stream[self.given..];
-        match self.gives.take(block.len().min(rest.len())) {
-            Told::Moved(size) => {
-                fill(block, rest, size);
-                self.given += size;
-                Told::Moved(size)
-            }
-            Told::Blocked => Told::Blocked,
-            Told::Failed => Told::Failed,
-        }
+        let size = block.len().min(rest.len());
+        fill(block, rest, size);
+        self.given += size;
+        Told::Moved(size)
     }
 
     fn write_now(&mut self, bytes: &[u8]) -> Told {
-        if self.calls.fails() {
-            return Told::Failed;
-        }
-        if self.calls.waits() {
+        let size = self.room.min(bytes.len());
+        if size == 0 && bytes.len() > 0 {
             return Told::Blocked;
         }
-        match self.takes.take(bytes.len()) {
-            Told::Moved(size) => match self.taken.extend_from_slice(&bytes[..size]) {
-                Ok(()) => Told::Moved(size),
-                Err(_refused) => Told::Failed,
-            },
-            Told::Blocked => Told::Blocked,
-            Told::Failed => Told::Failed,
+        self.room -= size;
+        match self.taken.extend_from_slice(&bytes[..size]) {
+            Ok(()) => Told::Moved(size),
+            Err(_refused) => Told::Failed,
         }
     }
 }

@@ -1,16 +1,24 @@
 //! Records, as words of four bytes: calls and replies typed from RFC 5531, and from RFC 1813.
 
+use std::process::Abort;
+
+/// Words as bytes, the highest byte first.
+pub(crate) fn bytes_of(rt: &(impl Abort + AllocGlobal), parts: &[&[u32]]) -> Vec<u8> {
+    let mut bytes = Vec::new(rt.alloc());
+    for words in parts {
+        for word in *words {
+            let added = bytes.extend_from_slice(&word.to_be_bytes());
+            added.expect(rt, "no memory");
+        }
+    }
+    bytes
+}
+
 /// A NULL call of NFS version 3, xid 1.
 pub(crate) const NULL: [u32; 11] = [0x8000_0028, 1, 0, 2, 100_003, 3, 0, 0, 0, 0, 0];
 
-/// The same in fragments of 8 and 32 bytes.
-pub(crate) const NULL_IN_TWO: [u32; 12] = [8, 1, 0, 0x8000_0020, 2, 100_003, 3, 0, 0, 0, 0, 0];
-
 /// Its reply.
 pub(crate) const NULL_REPLY: [u32; 7] = [0x8000_0018, 1, 1, 0, 0, 0, 0];
-
-/// Its reply where it isn't offered, PROC_UNAVAIL.
-pub(crate) const NULL_UNAVAILABLE: [u32; 7] = [0x8000_0018, 1, 1, 0, 0, 0, 3];
 
 /// A GETATTR call of the root, xid 2.
 pub(crate) const GETATTR: [u32; 15] = [
@@ -30,15 +38,6 @@ pub(crate) const GETATTR: [u32; 15] = [
     0,
     1,
 ];
-
-/// A call of a program that isn't there, xid 4.
-pub(crate) const NO_PROGRAM: [u32; 11] = [0x8000_0028, 4, 0, 2, 100_005, 3, 0, 0, 0, 0, 0];
-
-/// Its reply, PROG_UNAVAIL.
-pub(crate) const NO_PROGRAM_REPLY: [u32; 7] = [0x8000_0018, 4, 1, 0, 0, 0, 1];
-
-/// A header that brings a record above the limit.
-pub(crate) const TOO_LONG: [u32; 1] = [0x8002_0001];
 
 /// The reply to the GETATTR: a directory of mode 0755 (octal) with two links, fileid 1, whose times
 /// are zero.
@@ -141,9 +140,6 @@ pub(crate) const FSSTAT_REPLY: [u32; 43] = [
     0,
 ];
 
-/// The first words of a GETATTR call.
-pub(crate) const CUT: [u32; 5] = [0x8000_0038, 2, 0, 2, 100_003];
-
 /// A CREATE call in the root of volume 0, unchecked, which sets nothing, of a name of two letters.
 pub(crate) fn create(xid: u32, name: u32) -> [u32; 24] {
     [
@@ -171,29 +167,6 @@ pub(crate) fn create(xid: u32, name: u32) -> [u32; 24] {
         0,
         0,
         0,
-    ]
-}
-
-/// A LOOKUP call of such a name.
-pub(crate) fn lookup(xid: u32, name: u32) -> [u32; 17] {
-    [
-        0x8000_0040,
-        xid,
-        0,
-        2,
-        100_003,
-        3,
-        3,
-        0,
-        0,
-        0,
-        0,
-        12,
-        0,
-        0,
-        1,
-        2,
-        name,
     ]
 }
 

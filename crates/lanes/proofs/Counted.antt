@@ -5,15 +5,16 @@ use Rattle.crossbeam_queue.specs.Fifo.{Held}
 use Rattle.affinity.specs.declared.layout.Layout as layouts
 use Rattle.depot_rule.specs.Sums.{total}
 use Rattle.depot_rule.specs.lemmas.Sums.{total-append}
-use Rattle.turns.specs.Balance.{Passed, Weight, by_key, by_entry, by_kept, FilerEntry, IsEven}
-use Rattle.turns.specs.Turns.{Standing, standing_of}
+use Rattle.granted_calls.specs.Balance.{Passed, Weight, by_key, by_entry, by_kept, FilerEntry, IsEven}
+use Rattle.granted_calls.specs.Served.{Standing}
+use Rattle.turns.specs.Turns.{standing_of}
 use Rattle.turns.specs.Tends.{kept_in}
 use Rattle.turns.specs.Words.{entries_in, passed}
-use Rattle.turns.specs.Messages.{Message}
-use Rattle.turns.specs.declared.shared_waiting.pass.Pass.{Pass}
+use Rattle.granted_calls.specs.Messages.{Message}
+use Rattle.granted_calls.specs.declared.shared_waiting.pass.Pass.{Pass}
 use Rattle.turns.specs.declared.worker.Worker.{Worker}
-use Rattle.turns.specs.shared_waiting.Balance.{IsWhole, Leaves, both}
-use Rattle.turns.specs.shared_waiting.Passes.{known}
+use Rattle.granted_calls.specs.shared_waiting.Balance.{IsWhole, Leaves, both}
+use Rattle.granted_calls.specs.shared_waiting.Passes.{known}
 use Rattle.lanes.specs.Queues.{HasBoth, IsCounted, count_kept}
 use Rattle.lanes.proofs.Idle.{turned-round}
 

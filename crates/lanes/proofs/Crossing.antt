@@ -14,11 +14,12 @@ use Rattle.outboxes.specs.contracts.record.Record as Record
 use Rattle.outboxes.specs.contracts.record.Record.TheInside as RecordInside
 use Rattle.outboxes.specs.contracts.numbered_reply.NumberedReply as NumberedReply
 use Rattle.outboxes.specs.contracts.numbered_reply.NumberedReply.TheInside as NumberedReplyInside
-use Rattle.turns.proofs.crossings.Outboxes.{outboxes-send}
-use Rattle.turns.proofs.crossings.Structs.{struct-send}
-use Rattle.turns.proofs.Crossing.{envelope-send, worker-send, filer-send, filer-sync}
-use Rattle.turns.proofs.shared_waiting.pass.Pass.TheSendSync as pass
-use Rattle.turns.proofs.shared_waiting.pass.SharedWaiting.TheSendSync as waiting
+use Rattle.granted_calls.proofs.crossings.Outboxes.{outboxes-send}
+use Rattle.granted_calls.proofs.crossings.Structs.{struct-send}
+use Rattle.granted_calls.proofs.Crossing.{envelope-send, filer-send, filer-sync}
+use Rattle.turns.proofs.Crossing.{worker-send}
+use Rattle.granted_calls.proofs.shared_waiting.pass.Pass.TheSendSync as pass
+use Rattle.granted_calls.proofs.shared_waiting.pass.SharedWaiting.TheSendSync as waiting
 use Rattle.connections.proofs.backlog.Backlog.TheSendSync as backlog
 use Rattle.connections.proofs.connection.Flags.TheSendSync as flags
 use Rattle.connections.proofs.due.Due.TheSendSync as due

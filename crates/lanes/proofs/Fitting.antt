@@ -9,10 +9,10 @@ use Rattle.affinity.specs.Affinity.{call_node}
 use Rattle.affinity.specs.Layout.{layout_of}
 use Rattle.service.specs.lemmas.Homes.{at-home}
 use Rattle.engine_feed.specs.Sound.{IsAdmitted}
-use Rattle.turns.specs.shared_waiting.Balance.{FitsIn}
-use Rattle.turns.specs.Balance.{Passed}
-use Rattle.turns.specs.Messages.{IsPlaced, Fits, Message}
-use Rattle.turns.specs.Words.{layout_known}
+use Rattle.granted_calls.specs.shared_waiting.Balance.{FitsIn}
+use Rattle.granted_calls.specs.Balance.{Passed}
+use Rattle.granted_calls.specs.Messages.{IsPlaced, Fits, Message}
+use Rattle.granted_calls.specs.Filers.{layout_known}
 
 -- a message that is admitted at the home of its call is placed
 pub placed : (layout : trees.Layout) (m : Message) → IsAdmitted layout m → home layout (call_of m.call) ≡ Some (call_node m.affinity)

@@ -7,17 +7,17 @@ use Rattle.depot_rule.specs.lemmas.Sums.{total-append}
 use Rattle.nfs_model.specs.Tree.{Layout}
 use Rattle.nfs_values.specs.declared.moment.Moment.{Moment}
 use Rattle.outboxes.specs.Boxes.{Addressed}
-use Rattle.turns.specs.Balance.{Passed, Weight, by_entry, by_key, IsEven}
-use Rattle.turns.specs.Chains.{DidAll, HasTurnedOn}
-use Rattle.turns.specs.Turns.{Standing}
-use Rattle.turns.specs.declared.chained.Chained.{Chained}
-use Rattle.turns.specs.declared.chained.Chained.TheVariants as chains
+use Rattle.granted_calls.specs.Balance.{Passed, Weight, by_entry, by_key, IsEven}
+use Rattle.granted_calls.specs.Chains.{DidAll, HasTurnedOn}
+use Rattle.granted_calls.specs.Served.{Standing}
+use Rattle.granted_calls.specs.declared.chained.Chained.{Chained}
+use Rattle.granted_calls.specs.declared.chained.Chained.TheVariants as chains
 use Rattle.turns.specs.Words.{entries_in, passed}
-use Rattle.turns.specs.Messages.{Message}
-use Rattle.turns.specs.declared.shared_waiting.pass.Pass.{Pass}
+use Rattle.granted_calls.specs.Messages.{Message}
+use Rattle.granted_calls.specs.declared.shared_waiting.pass.Pass.{Pass}
 use Rattle.turns.specs.declared.worker.Worker.{Worker}
-use Rattle.turns.specs.shared_waiting.Balance.{IsWhole, Leaves, both}
-use Rattle.turns.specs.shared_waiting.Passes.{known}
+use Rattle.granted_calls.specs.shared_waiting.Balance.{IsWhole, Leaves, both}
+use Rattle.granted_calls.specs.shared_waiting.Passes.{known}
 use Rattle.lanes.specs.Queues.{HasBoth, HasNoneLeft}
 
 none-weighs : (items : List Message) → length items ≡ 0 → (weigh : Message → ℕ) → total weigh items ≡ 0

@@ -14,18 +14,19 @@ use Rattle.nfs_model.specs.Tree.{Affinity, Layout, Serial, Aggregate, Volume, Lo
 use Rattle.affinity.specs.Affinity.{call_node}
 use Rattle.affinity.specs.Tree.{IsNode}
 use Rattle.affinity.specs.declared.layout.Layout as layouts
-use Rattle.turns.specs.declared.shared_waiting.pass.SharedWaiting.{SharedWaiting}
+use Rattle.granted_calls.specs.declared.shared_waiting.pass.SharedWaiting.{SharedWaiting}
 use Rattle.depot.specs.Words.{IsSeatHere}
 use Rattle.depot_rule.specs.History.{listed}
 use Rattle.filer_state.specs.state.Opening.{AreOpening}
 use Rattle.filer_state.specs.state.Parcels.{FilerParcel}
 use Rattle.nfs_values.specs.Call.{call_of}
 use Rattle.turns.specs.Running.{IsOnState, LeadsTo, RunsAbove}
-use Rattle.turns.specs.shared_waiting.Passes.{IsOf}
+use Rattle.granted_calls.specs.shared_waiting.Passes.{IsOf}
 use Rattle.nfs_model.specs.volume.Codes.{coded_range, coded_stripe, coded_logical}
-use Rattle.turns.specs.Messages.{IsPlaced, Message}
-use Rattle.turns.specs.Words.{layout_in, layout_known, verifier_in, seat_view, passed, HasOpened, IsHandIn, IsAt}
-use Rattle.turns.specs.declared.shared.Filer.{Filer}
+use Rattle.granted_calls.specs.Messages.{IsPlaced, Message}
+use Rattle.granted_calls.specs.Filers.{layout_in, layout_known, verifier_in, HasOpened}
+use Rattle.turns.specs.Words.{seat_view, passed, IsHandIn, IsAt}
+use Rattle.granted_calls.specs.declared.shared.Filer.{Filer}
 use Rattle.turns.specs.declared.worker.Worker.{Worker}
 
 -- ---- facts that can be shown in one way

@@ -9,7 +9,7 @@ use Rattle.outboxes.specs.Boxes.{Addressed}
 use Rattle.outboxes.specs.Messages.{ReplyMessage}
 use Rattle.service.specs.declared.job.Job.{Job}
 use Rattle.service.specs.declared.job.Job.TheVariants.{Serve, Inner}
-use Rattle.turns.specs.Balance.{FilerEntry}
+use Rattle.granted_calls.specs.Balance.{FilerEntry}
 use Rattle.tcp_front.specs.Arrivals.{Arrival, placed, arrivals}
 use Rattle.lanes.specs.Story.{comes_of, of_connection, Ending, Served, AtOnce, said_by, with_reply, replies_to}
 use Rattle.lanes.specs.Story.{served_of, at_once_of, with_served, served_in}

@@ -9,15 +9,15 @@ use Rattle.depot_rule.specs.Sums.{total}
 use Rattle.depot_rule.specs.lemmas.Sums.{total-append}
 use Rattle.rpc_msg.specs.declared.offer.Offer.{Offer}
 use Rattle.rpc_msg.specs.Offer.{form_of}
-use Rattle.turns.specs.Telling.{answer_told, message_told}
+use Rattle.granted_calls.specs.Telling.{answer_told, message_told}
 use Rattle.nfs_model.specs.Tree.{Layout}
 use Rattle.nfs_model.specs.World as worlds
 use Rattle.nfs_model.specs.World.{Heard}
 use Rattle.nfs_model.specs.volume.lemmas.Numbered.{itself, get-insert_at}
 use Rattle.outboxes.specs.Boxes.{Addressed, Boxes, opened, put, shut}
 use Rattle.outboxes.specs.Messages.{ReplyMessage}
-use Rattle.turns.specs.Balance.{FilerEntry, Weight, by_entry, by_key}
-use Rattle.turns.specs.Messages.{Message}
+use Rattle.granted_calls.specs.Balance.{FilerEntry, Weight, by_entry, by_key}
+use Rattle.granted_calls.specs.Messages.{Message}
 use Rattle.engine_feed.specs.Seen.{message_of}
 use Rattle.tcp_front.specs.Admitted.{calls_of}
 use Rattle.tcp_front.specs.Arrivals.{Arrival, arrivals}

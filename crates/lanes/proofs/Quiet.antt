@@ -8,9 +8,9 @@ use Rattle.outboxes.specs.Messages.{ReplyMessage}
 use Rattle.filer_state.specs.state.Jobs as jobs
 use Rattle.service.specs.declared.job.Job.{Job}
 use Rattle.service.specs.declared.job.Job.TheVariants.{Serve, Inner}
-use Rattle.turns.specs.Balance.{FilerEntry, Weight, by_entry, by_job, by_key}
+use Rattle.granted_calls.specs.Balance.{FilerEntry, Weight, by_entry, by_job, by_key}
 use Rattle.turns.specs.Jobs.{job_reply_of}
-use Rattle.turns.specs.Messages.{Message}
+use Rattle.granted_calls.specs.Messages.{Message}
 use Rattle.engine_feed.specs.Seen.{message_of}
 use Rattle.tcp_front.specs.Admitted.{calls_of}
 use Rattle.tcp_front.specs.Arrivals.{Arrival, Waits, Answered}

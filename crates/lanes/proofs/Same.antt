@@ -6,12 +6,13 @@ use Rattle.depot.specs.Words as depots
 use Rattle.depot.specs.Words.{IsSeatHere}
 use Rattle.depot_rule.specs.History.{entries_of}
 use Rattle.nfs_model.specs.Parts.{Hand}
-use Rattle.turns.specs.declared.shared.Filer.{Filer}
-use Rattle.turns.specs.declared.shared_waiting.pass.SharedWaiting.{SharedWaiting}
+use Rattle.granted_calls.specs.declared.shared.Filer.{Filer}
+use Rattle.granted_calls.specs.declared.shared_waiting.pass.SharedWaiting.{SharedWaiting}
 use Rattle.turns.specs.declared.worker.Worker.{Worker}
-use Rattle.turns.specs.Balance.{Passed}
-use Rattle.turns.specs.Messages.{IsPlaced, Message}
-use Rattle.turns.specs.Words.{entries_in, layout_in, layout_known, seats_in, verifier_in, HasOpened, IsAt, IsHandIn, IsSameWorker}
+use Rattle.granted_calls.specs.Balance.{Passed}
+use Rattle.granted_calls.specs.Messages.{IsPlaced, Message}
+use Rattle.granted_calls.specs.Filers.{layout_in, layout_known, verifier_in, HasOpened}
+use Rattle.turns.specs.Words.{entries_in, seats_in, IsAt, IsHandIn, IsSameWorker}
 use Rattle.turns.specs.Words.{TakesFrom}
 
 pub same-entries : (w w' : Worker) → IsSameWorker w w' → entries_in w' ≡ entries_in w

@@ -7,7 +7,7 @@ use Rattle.std.proofs.lemmas.Map.Views.{exact_unsigned_eq}
 use Rattle.std.proofs.lemmas.List.{map_push}
 use Rattle.rpc_msg.specs.declared.offer.Offer.{Offer}
 use Rattle.rpc_msg.specs.Offer.{form_of}
-use Rattle.turns.specs.Telling.{answer_told, message_told}
+use Rattle.granted_calls.specs.Telling.{answer_told, message_told}
 use Rattle.nfs_model.specs.Tree.{Layout}
 use Rattle.nfs_model.specs.volume.lemmas.Numbered.{itself, get-changed_at}
 use Rattle.outboxes.specs.Boxes.{Addressed, Boxes, put, with_last}

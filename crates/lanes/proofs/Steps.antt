@@ -6,7 +6,7 @@ use Rattle.std.specs.FinMap as maps
 use Rattle.std.proofs.Math.Logic.{∥∥₁_map}
 use Rattle.rpc_msg.specs.declared.offer.Offer.{Offer}
 use Rattle.rpc_msg.specs.Offer.{form_of}
-use Rattle.turns.specs.Telling.{answer_told, TookTold}
+use Rattle.granted_calls.specs.Telling.{answer_told, TookTold}
 use Rattle.nfs_model.specs.Tree.{Layout}
 use Rattle.affinity.specs.declared.layout.Layout as layouts
 use Rattle.nfs_model.specs.volume.lemmas.Numbered.{get-remove_at}
@@ -26,16 +26,16 @@ use Rattle.turns.specs.Tends.{Answers, Tends, call_of, hand_in}
 use Rattle.turns.specs.declared.tend.Tend.{Tend}
 use Rattle.turns.specs.declared.tend.Tended.{Tended}
 use Rattle.turns.specs.declared.tend.TendRefusal.{TendRefusal}
-use Rattle.turns.specs.Balance.{FilerEntry, Passed, Weight, by_entry, by_key}
-use Rattle.turns.specs.Chains.{puts, DidAll, EndsBy, HasPutAll, HasTurnedOn}
-use Rattle.turns.specs.Turns.{HasDoneFrom, IsEntryOf, Standing, HasShareOf, job_of_message}
+use Rattle.granted_calls.specs.Balance.{FilerEntry, Passed, Weight, by_entry, by_key}
+use Rattle.granted_calls.specs.Chains.{puts, DidAll, EndsBy, HasPutAll, HasTurnedOn}
+use Rattle.granted_calls.specs.Served.{HasDoneFrom, IsEntryOf, Standing, HasShareOf, job_of_message}
 use Rattle.turns.specs.Words.{entries_in, passed, IsSameWorker}
-use Rattle.turns.specs.Messages.{Message}
-use Rattle.turns.specs.declared.shared_waiting.pass.Pass.{Pass}
-use Rattle.turns.specs.declared.chained.Chained.{Chained}
-use Rattle.turns.specs.declared.chained.Chained.TheVariants as chains
+use Rattle.granted_calls.specs.Messages.{Message}
+use Rattle.granted_calls.specs.declared.shared_waiting.pass.Pass.{Pass}
+use Rattle.granted_calls.specs.declared.chained.Chained.{Chained}
+use Rattle.granted_calls.specs.declared.chained.Chained.TheVariants as chains
 use Rattle.turns.specs.declared.worker.Worker.{Worker}
-use Rattle.turns.specs.shared_waiting.Passes.{known}
+use Rattle.granted_calls.specs.shared_waiting.Passes.{known}
 use Rattle.connections.specs.declared.connection.Connection.{Connection}
 use Rattle.connections.specs.declared.connection.Flags.{Flags}
 use Rattle.lanes.specs.declared.intake.Intake.{Intake}

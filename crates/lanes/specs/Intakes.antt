@@ -3,17 +3,17 @@ use Rattle.std.specs.Prelude.{◌≡◌, ℕ, Bool, ◌&&◌, nat_lt, List, [], 
 use Rattle.affinity.specs.declared.layout.Layout.{Layout}
 use Rattle.rpc_msg.specs.declared.handle_form.HandleForm.{HandleForm}
 use Rattle.outboxes.specs.Boxes.{Addressed, Boxes, put}
-use Rattle.turns.specs.Telling.{answer_told}
+use Rattle.granted_calls.specs.Telling.{answer_told}
 use Rattle.engine_feed.specs.Seen.{message_of}
 use Rattle.tcp_front.specs.Admitted.{calls_of}
 use Rattle.tcp_front.specs.Arrivals.{Arrival, Waits, Answered}
-use Rattle.turns.specs.Messages.{Message}
-use Rattle.turns.specs.declared.shared.Filer.{Filer}
-use Rattle.turns.specs.declared.shared_waiting.pass.Pass.{Pass}
-use Rattle.turns.specs.declared.shared_waiting.pass.SharedWaiting.{SharedWaiting}
-use Rattle.turns.specs.shared_waiting.Passes.{known}
+use Rattle.granted_calls.specs.Messages.{Message}
+use Rattle.granted_calls.specs.declared.shared.Filer.{Filer}
+use Rattle.granted_calls.specs.declared.shared_waiting.pass.Pass.{Pass}
+use Rattle.granted_calls.specs.declared.shared_waiting.pass.SharedWaiting.{SharedWaiting}
+use Rattle.granted_calls.specs.shared_waiting.Passes.{known}
 use Rattle.turns.specs.declared.worker.Worker.{Worker}
-use Rattle.turns.specs.Turns.{HasShareOf}
+use Rattle.granted_calls.specs.Served.{HasShareOf}
 use Rattle.turns.specs.Words.{IsSameWorker}
 use Rattle.lanes.specs.declared.intake.Intake.{Intake}
 

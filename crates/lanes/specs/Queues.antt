@@ -2,11 +2,11 @@
 use Rattle.std.specs.Prelude.{◌≡◌, ℕ, ◌+◌, length, Option, Some, None}
 use Rattle.affinity.specs.declared.layout.Layout as layouts
 use Rattle.depot_rule.specs.Sums.{total}
-use Rattle.turns.specs.Messages.{Message}
-use Rattle.turns.specs.declared.shared_waiting.pass.Pass.{Pass}
+use Rattle.granted_calls.specs.Messages.{Message}
+use Rattle.granted_calls.specs.declared.shared_waiting.pass.Pass.{Pass}
 use Rattle.turns.specs.declared.worker.Worker.{Worker}
-use Rattle.turns.specs.shared_waiting.Balance.{IsWhole, both}
-use Rattle.turns.specs.shared_waiting.Passes.{known}
+use Rattle.granted_calls.specs.shared_waiting.Balance.{IsWhole, both}
+use Rattle.granted_calls.specs.shared_waiting.Passes.{known}
 use Rattle.turns.specs.Tends.{kept_in}
 use Rattle.turns.specs.Words.{passed}
 

@@ -6,15 +6,15 @@ use Rattle.nfs_model.specs.Tree.{Layout}
 use Rattle.nfs_model.specs.World.{Heard}
 use Rattle.rpc_msg.specs.declared.offer.Offer.{Offer}
 use Rattle.rpc_msg.specs.Offer.{form_of}
-use Rattle.turns.specs.Telling.{message_told}
+use Rattle.granted_calls.specs.Telling.{message_told}
 use Rattle.outboxes.specs.Boxes.{Addressed, addressed, Boxes}
 use Rattle.outboxes.specs.Messages.{ReplyMessage, message}
 use Rattle.filer_state.specs.state.Jobs as jobs
 use Rattle.service.specs.declared.job.Job.{Job}
 use Rattle.service.specs.declared.job.Job.TheVariants.{Serve, Inner}
 use Rattle.turns.specs.Jobs.{job_reply_of}
-use Rattle.turns.specs.Balance.{FilerEntry, Weight, by_entry, by_key}
-use Rattle.turns.specs.Messages as workers
+use Rattle.granted_calls.specs.Balance.{FilerEntry, Weight, by_entry, by_key}
+use Rattle.granted_calls.specs.Messages as workers
 use Rattle.engine_feed.specs.Seen.{message_of}
 use Rattle.tcp_front.specs.Admitted.{calls_of}
 use Rattle.tcp_front.specs.Arrivals.{Arrival, Waits, Answered, arrivals}

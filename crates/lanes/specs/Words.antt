@@ -5,13 +5,14 @@ use Rattle.slab.specs.Slab.{Slab, get}
 use Rattle.affinity.specs.declared.layout.Layout.{Layout}
 use Rattle.rpc_msg.specs.declared.offer.Offer.{Offer}
 use Rattle.outboxes.specs.Boxes.{Boxes}
-use Rattle.turns.specs.Messages.{Message}
-use Rattle.turns.specs.declared.shared.Filer.{Filer}
-use Rattle.turns.specs.declared.shared_waiting.pass.Pass.{Pass}
-use Rattle.turns.specs.declared.shared_waiting.pass.SharedWaiting.{SharedWaiting}
+use Rattle.granted_calls.specs.Messages.{Message}
+use Rattle.granted_calls.specs.declared.shared.Filer.{Filer}
+use Rattle.granted_calls.specs.declared.shared_waiting.pass.Pass.{Pass}
+use Rattle.granted_calls.specs.declared.shared_waiting.pass.SharedWaiting.{SharedWaiting}
 use Rattle.turns.specs.declared.worker.Worker.{Worker}
-use Rattle.turns.specs.shared_waiting.Passes.{known}
-use Rattle.turns.specs.Words.{entries_in, layout_in}
+use Rattle.granted_calls.specs.shared_waiting.Passes.{known}
+use Rattle.granted_calls.specs.Filers.{layout_in}
+use Rattle.turns.specs.Words.{entries_in}
 use Rattle.connections.specs.declared.connection.Connection.{Connection}
 use Rattle.connections.specs.declared.device.Device as devices
 use Rattle.lanes.specs.declared.intake.Intake.{Intake}

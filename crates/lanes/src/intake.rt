@@ -1,13 +1,16 @@
 //! Where the records of a lane's connections go.
 
 ghost use Rattle.std.specs.Prelude.{◌≡◌, ◌≤◌, Some};
-ghost use Rattle.turns.specs.shared_waiting.Passes.{known, IsOf};
-ghost use Rattle.turns.specs.Words.{layout_in, layout_known, TakesFrom};
+ghost use Rattle.granted_calls.specs.shared_waiting.Passes.{known, IsOf};
+ghost use Rattle.granted_calls.specs.Filers.{layout_in, layout_known};
+ghost use Rattle.turns.specs.Words.{TakesFrom};
 ghost use Rattle.lanes.specs.Queues.{HasBoth, IsCounted};
 
 use crate::placing::put_last;
 use affinity::{CallNode, Layout};
 use connections::Due;
+use granted_calls::shared_waiting::{Pass, SharedWaiting};
+use granted_calls::{Envelope, Filer};
 use nfs_values::{Call, ConnectionNumber, Reply};
 use outboxes::Outboxes;
 use rpc_msg::{HandleForm, tell};
@@ -18,8 +21,7 @@ use std::alloc::{AllocError, Global};
 use std::snapshot::Snapshot;
 use std::sync::Wait;
 use tcp_front::RecordSink;
-use turns::shared_waiting::{Pass, SharedWaiting};
-use turns::{Envelope, Filer, Worker};
+use turns::Worker;
 
 /// The most room of the replies that are owed to one connection while it is read.
 pub(crate) const MOST_OWED: usize = 1_048_576;

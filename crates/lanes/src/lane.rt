@@ -3,8 +3,9 @@
 ghost use Rattle.std.specs.Prelude.{◌≡◌, []};
 ghost use Rattle.slab.specs.Slab.{get};
 ghost use Rattle.std.specs.Arc.{arc_value};
-ghost use Rattle.turns.specs.shared_waiting.Passes.{known};
-ghost use Rattle.turns.specs.Words.{entries_in, layout_in, IsAt};
+ghost use Rattle.granted_calls.specs.shared_waiting.Passes.{known};
+ghost use Rattle.granted_calls.specs.Filers.{layout_in};
+ghost use Rattle.turns.specs.Words.{entries_in, IsAt};
 ghost use Rattle.lanes.specs.Story.{Story};
 
 mod closing;
@@ -18,11 +19,11 @@ mod writing;
 
 use crate::intake::Intake;
 use connections::{Connection, Device};
+use granted_calls::Filer;
 pub use parting::LaneParts;
 use rpc_msg::Offer;
 use slab::Slab;
 use std::sync::Arc;
-use turns::Filer;
 
 /// One thread's connections, with the queue of their calls, the worker that runs these, and the
 /// outboxes of the replies. Its type says what it has done in its whole life: what came of the

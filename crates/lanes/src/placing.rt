@@ -2,15 +2,16 @@
 
 ghost use Rattle.std.specs.Prelude.{◌≡◌};
 ghost use Rattle.crossbeam_queue.specs.Fifo.{Held};
-ghost use Rattle.turns.specs.shared_waiting.Balance.{added, both, FitsIn, Leaves};
-ghost use Rattle.turns.specs.shared_waiting.Passes.{known, IsOf};
-ghost use Rattle.turns.specs.Messages.{Fits};
+ghost use Rattle.granted_calls.specs.shared_waiting.Balance.{added, both, FitsIn, Leaves};
+ghost use Rattle.granted_calls.specs.shared_waiting.Passes.{known, IsOf};
+ghost use Rattle.granted_calls.specs.Messages.{Fits};
 ghost use Rattle.turns.specs.Words.{passed, IsSameWorker, TakesFrom};
 
 use affinity::Layout;
+use granted_calls::Envelope;
+use granted_calls::shared_waiting::{Pass, SharedWaiting};
 use std::sync::Wait;
-use turns::shared_waiting::{Pass, SharedWaiting};
-use turns::{Envelope, Worker};
+use turns::Worker;
 
 /// Puts a message by one of two passes, which are all that there are. As both know, the queue has
 /// a place.

@@ -5,13 +5,13 @@ use Rattle.std.proofs.Math.Nat.{mul_assoc}
 use Rattle.std.specs.Prelude.{Option, Some, option_map}
 use Rattle.affinity.specs.declared.layout.Layout.{Layout}
 use Rattle.affinity.specs.Layout.{layout_of}
-use Rattle.workers.specs.Shares.{FilerPass}
-use Rattle.turns.specs.shared_waiting.Balance.{left, right, part, IsWhole}
-use Rattle.turns.specs.shared_waiting.Passes.{known, IsOf}
-use Rattle.turns.specs.Balance.{FilerView, Passed}
-use Rattle.turns.specs.Turns.{HasShareOf}
-use Rattle.turns.specs.Words.{layout_in, layout_known, verifier_in, HasDoneNothing, IsReady}
-use Rattle.turns.specs.declared.shared.Filer.{Filer}
+use Rattle.tends.specs.Shares.{FilerPass}
+use Rattle.granted_calls.specs.shared_waiting.Balance.{left, right, part, IsWhole}
+use Rattle.granted_calls.specs.shared_waiting.Passes.{known, IsOf}
+use Rattle.granted_calls.specs.Balance.{FilerView, Passed}
+use Rattle.granted_calls.specs.Served.{HasShareOf}
+use Rattle.granted_calls.specs.Filers.{layout_in, layout_known, verifier_in, HasDoneNothing, IsReady}
+use Rattle.granted_calls.specs.declared.shared.Filer.{Filer}
 use Rattle.pool_rows.specs.Threads.{IsHalf, IsReaderOf, IsUnstarted, StaysHalf}
 
 -- ---- halves

@@ -2,14 +2,15 @@
 use Rattle.std.specs.Prelude.{◌≡◌, ◌≤◌, ◌^◌, ◌*◌, ℕ, []}
 use Rattle.std.specs.Prelude.{Some}
 use Rattle.depot_rule.specs.Sums.{total}
-use Rattle.workers.specs.Shares.{FilerPass}
+use Rattle.tends.specs.Shares.{FilerPass}
 use Rattle.workers.specs.Pools.{filer_of, threads_of}
 use Rattle.workers.specs.Threads.{share_with}
 use Rattle.workers.specs.declared.pool.Pool.{Pool}
-use Rattle.turns.specs.shared_waiting.Passes.{known, IsOf}
-use Rattle.turns.specs.Balance.{FilerView, Passed}
-use Rattle.turns.specs.Words.{layout_in, layout_known, verifier_in, passed, seats_in, HasDoneNothing, IsIn, IsReady}
-use Rattle.turns.specs.declared.shared.Filer.{Filer}
+use Rattle.granted_calls.specs.shared_waiting.Passes.{known, IsOf}
+use Rattle.granted_calls.specs.Balance.{FilerView, Passed}
+use Rattle.granted_calls.specs.Filers.{layout_in, layout_known, verifier_in, HasDoneNothing, IsReady}
+use Rattle.turns.specs.Words.{passed, seats_in, IsIn}
+use Rattle.granted_calls.specs.declared.shared.Filer.{Filer}
 use Rattle.turns.specs.declared.worker.Worker.{Worker}
 
 -- a pass of the filer's queue that has picked nothing

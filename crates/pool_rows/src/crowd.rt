@@ -4,11 +4,11 @@ ghost use Rattle.std.specs.Prelude.{◌≤◌, ◌<◌};
 
 use crate::calls::{Ask, ROOT};
 use crate::running::start;
+use granted_calls::Unwatched;
 use std::process::Abort;
 use std::rt::Clock;
 use std::sync::Wait;
 use std::thread::Threads;
-use turns::Unwatched;
 
 /// How many messages are put.
 const MESSAGES: u32 = 3000;

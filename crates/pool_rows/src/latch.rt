@@ -2,13 +2,13 @@
 
 use crate::calls::{Ask, ROOT};
 use crate::running::{LOOKS, Running, start};
+use granted_calls::{Gate, Place, Stage};
 use std::process::Abort;
 use std::rt::Clock;
 use std::sync::atomic::{AtomicBool, Ordering};
 use std::sync::{Arc, Wait};
 use std::thread;
 use std::thread::Threads;
-use turns::{Gate, Place, Stage};
 
 /// The xid of the CREATE that comes before.
 const MADE: u32 = 6;

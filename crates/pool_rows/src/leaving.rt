@@ -1,18 +1,19 @@
 //! What the only worker of a filer leaves without threads: a batch in its hand.
 
 ghost use Rattle.pool_rows.specs.Threads.{IsAlone};
-ghost use Rattle.workers.specs.Gathered.{IsLeftOf};
+ghost use Rattle.tends.specs.Gathered.{IsLeftOf};
 
 use crate::calls::{Ask, ROOT};
 use crate::opening::{Opened, open};
 use crate::putting::{FilerPass, put};
 use filer_state::Files;
+use granted_calls::Filer;
 use nfs_values::{BlockNumber, ConnectionNumber, VolumeNumber};
 use parcels::{Hand, SerialHeld};
 use std::process::Abort;
 use std::sync::Wait;
-use turns::{BatchInHand, Filer, Tend, Worker};
-use workers::{Ended, Left, Room, close, gather};
+use tends::{Ended, Left, Room, close, gather};
+use turns::{BatchInHand, Tend, Worker};
 
 /// Gathers what the only worker of a filer leaves.
 fn leave<R: Abort + AllocGlobal + Wait>(

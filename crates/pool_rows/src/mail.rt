@@ -1,13 +1,13 @@
 //! The outboxes of a filer with one connection, and a pass of them.
 
 ghost use Rattle.std.specs.Arc.{arc_value};
-ghost use Rattle.turns.specs.SharedOutboxes.{IsOf};
+ghost use Rattle.granted_calls.specs.SharedOutboxes.{IsOf};
 
+use granted_calls::{Answer, OutboxesPass, SharedOutboxes};
 use nfs_values::ConnectionNumber;
 use outboxes::Record;
 use std::process::Abort;
 use std::sync::{Arc, Wait};
-use turns::{Answer, OutboxesPass, SharedOutboxes};
 
 /// The outboxes of a filer, with a pass of them, and their only connection.
 #[derive(Drop)]

@@ -6,8 +6,9 @@ ghost use Rattle.pool_rows.specs.Threads.{IsUnstarted};
 use crate::putting::FilerPass;
 use affinity::{AggregateSpec, Layout, VolumeSpec};
 use depot::Seat;
+use granted_calls::Filer;
 use std::process::Abort;
-use turns::{Filer, Service};
+use turns::Service;
 
 /// A filer with its only seat and a pass, before any worker runs, and the pass of who puts
 /// messages.

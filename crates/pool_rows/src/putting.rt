@@ -1,20 +1,20 @@
 //! Messages that are put.
 
 ghost use Rattle.pool_rows.specs.Threads.{HasPut, IsReaderOf};
-ghost use Rattle.turns.specs.Messages.{IsPlaced};
-ghost use Rattle.turns.specs.Words.{layout_in};
+ghost use Rattle.granted_calls.specs.Messages.{IsPlaced};
+ghost use Rattle.granted_calls.specs.Filers.{layout_in};
 
 use crate::calls::{Ask, call_of};
 use affinity::Layout;
 use affinity::homes::home_of;
+use granted_calls::shared_waiting::Pass;
+use granted_calls::{Envelope, Filer};
 use nfs_values::{ConnectionNumber, Credential};
 use rpc_msg::room_of_reply;
 use scheduler::{Message, Origin};
 use std::process::Abort;
 use std::sync::Wait;
 use std::thread;
-use turns::shared_waiting::Pass;
-use turns::{Envelope, Filer};
 
 /// A pass of a filer's queue.
 pub(crate) type FilerPass = Pass<Envelope, Layout>;

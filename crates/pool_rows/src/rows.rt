@@ -2,10 +2,11 @@
 
 use crate::calls::Ask;
 use crate::station::{Came, Station};
+use granted_calls::Unwatched;
 use nfs_values::VolumeNumber;
 use std::process::Abort;
 use std::sync::Wait;
-use turns::{Tend, Unwatched};
+use turns::Tend;
 
 /// One thing that is done, and what comes of it.
 #[derive(Clone, Copy)]

@@ -6,6 +6,7 @@ use crate::calls::Ask;
 use crate::mail::{Mail, open_mail};
 use crate::opening::{Opened, open};
 use crate::putting::{FilerPass, put};
+use granted_calls::{Filer, Gate};
 use outboxes::Record;
 use std::marker::Model;
 use std::process::Abort;
@@ -13,8 +14,8 @@ use std::rt::Clock;
 use std::sync::{Arc, Wait};
 use std::thread;
 use std::thread::Threads;
-use turns::{Filer, Gate};
-use workers::{Ended, Pool, close};
+use tends::{Ended, close};
+use workers::Pool;
 
 /// How often it is looked whether something has come.
 pub(crate) const LOOKS: usize = 10_000_000;

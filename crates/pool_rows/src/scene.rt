@@ -3,10 +3,10 @@
 use crate::opening::{Opened, open};
 use crate::rows::{Row, came, play};
 use crate::station::{Came, Station, open_pair};
+use granted_calls::{Gate, Place, Stage};
 use std::mem;
 use std::process::Abort;
 use std::sync::{Mutex, Wait};
-use turns::{Gate, Place, Stage};
 
 /// What two workers of a filer do.
 pub(crate) struct Scene {

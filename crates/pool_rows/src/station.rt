@@ -8,11 +8,12 @@ use crate::mail::{Mail, open_mail};
 use crate::putting::{FilerPass, put};
 use affinity::Affinity;
 use depot::Seat;
+use granted_calls::{Filer, Gate, Turn};
 use nfs_values::Moment;
 use std::marker::Model;
 use std::process::Abort;
 use std::sync::Wait;
-use turns::{Filer, Gate, Service, Tend, TendRefusal, Turn, Worker};
+use turns::{Service, Tend, TendRefusal, Worker};
 
 /// A worker of a filer, with the passes of who puts messages and takes replies beside it.
 #[derive(Drop)]

@@ -7,15 +7,15 @@ use Rattle.nfs_model.specs.Tree as trees
 use Rattle.parcels.specs.Sets.{serial_parcels}
 use Rattle.connections.specs.declared.device.Device as devices
 use Rattle.lanes.specs.declared.lane.Lane.{Lane}
-use Rattle.turns.specs.Balance.{FilerEntry, Weight}
-use Rattle.turns.specs.Words.{layout_in, verifier_in}
-use Rattle.turns.specs.declared.shared.Filer.{Filer}
-use Rattle.workers.specs.declared.ended.Ended.{Ended}
-use Rattle.workers.specs.declared.left.Left.{Left}
+use Rattle.granted_calls.specs.Balance.{FilerEntry, Weight}
+use Rattle.granted_calls.specs.Filers.{layout_in, verifier_in}
+use Rattle.granted_calls.specs.declared.shared.Filer.{Filer}
+use Rattle.tends.specs.declared.ended.Ended.{Ended}
+use Rattle.tends.specs.declared.left.Left.{Left}
 use Rattle.server.specs.Ends.{HaveStopped, HasClosed}
 use Rattle.server.specs.Lanes.{admitted_by, finished_by}
-use Rattle.workers.specs.Ends.{HasEnded}
-use Rattle.workers.specs.Gathered.{calls_by, IsLeftOf}
+use Rattle.tends.specs.Ends.{HasEnded}
+use Rattle.tends.specs.Gathered.{calls_by, IsLeftOf}
 
 -- what closing it says, whatever was admitted and finished
 abbrev pub Closes : Left → Ended → Filer → Type 0

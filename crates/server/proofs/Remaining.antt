@@ -3,10 +3,10 @@ use Rattle.std.proofs.Common.{◌≡◌, ℕ, ◌+◌, List, [], ◌++◌, Optio
 use Rattle.std.specs.Prelude.{option_to_list}
 use Rattle.depot_rule.specs.Sums.{total}
 use Rattle.depot_rule.specs.lemmas.Sums.{total-append}
-use Rattle.turns.specs.Balance.{FilerEntry, Passed, Weight, by_entry, by_key, by_kept, IsEven}
-use Rattle.turns.specs.Messages.{Message}
-use Rattle.turns.specs.shared_waiting.Balance.{both}
-use Rattle.workers.proofs.Joins.{kept-once}
+use Rattle.granted_calls.specs.Balance.{FilerEntry, Passed, Weight, by_entry, by_key, by_kept, IsEven}
+use Rattle.granted_calls.specs.Messages.{Message}
+use Rattle.granted_calls.specs.shared_waiting.Balance.{both}
+use Rattle.tends.proofs.Joins.{kept-once}
 
 -- What a lane admitted, with what waited before, is what its worker finished and keeps, and what waits then.
 lane-even : (h : Weight) (a v j : Passed) (es : List FilerEntry) (k : Option Message) (before waiting : List Message) → a.picked ≡ []

@@ -3,14 +3,14 @@ use Rattle.std.proofs.Common.{◌≡◌, ℕ, ◌+◌, List, [], All, length, ap
 use Rattle.depot_rule.specs.Sums.{total}
 use Rattle.lanes.specs.declared.lane.Lane.{Lane}
 use Rattle.rpc_msg.specs.declared.offer.Offer.{Offer}
-use Rattle.turns.specs.declared.shared.Filer.{Filer}
+use Rattle.granted_calls.specs.declared.shared.Filer.{Filer}
 use Rattle.server.specs.contracts.socket.SocketDevice.TheImpl.{ghosts}
 use Rattle.server.specs.declared.socket.Socket.{Socket}
 use Rattle.server.specs.declared.task.Task.{Task}
 use Rattle.lanes.specs.Words.{Identity}
 use Rattle.server.specs.Lanes.{by_identity, places, seats_of, AllOffer, AreLanesOf, IsLaneOf}
 use Rattle.server.specs.Threads.{identity_for, identity_with, seats_for, seats_with, AllServe, AreOfThreads, AreThreadsOf, IsTaskFor, ServesFor, Thread}
-use Rattle.workers.proofs.Lists.{all-none, total-none, total-one}
+use Rattle.tends.proofs.Lists.{all-none, total-none, total-one}
 
 -- the same places, taken by others
 same-places : {X Y : Type 0} (f : (Identity → ℕ) → X → ℕ) (g : (Identity → ℕ) → Y → ℕ) (xs : List X) (ys : List Y)

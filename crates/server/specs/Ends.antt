@@ -9,14 +9,14 @@ use Rattle.connections.specs.declared.device.Device as devices
 use Rattle.lanes.specs.declared.lane.Lane.{Lane}
 use Rattle.server.specs.declared.ending.FilerEnd.{FilerEnd}
 use Rattle.server.specs.declared.ending.FilerEnd.TheVariants.{Closed, Shared}
-use Rattle.workers.specs.declared.ended.Ended.{Ended}
-use Rattle.workers.specs.declared.left.Left.{Left}
+use Rattle.tends.specs.declared.ended.Ended.{Ended}
+use Rattle.tends.specs.declared.left.Left.{Left}
 use Rattle.server.specs.Lanes.{admitted_by, finished_by, AreLanesOf}
-use Rattle.workers.specs.Ends.{HasEnded}
-use Rattle.workers.specs.Gathered.{calls_by, IsLeftOf}
-use Rattle.turns.specs.Balance.{FilerEntry, Weight}
-use Rattle.turns.specs.Words.{layout_in, verifier_in}
-use Rattle.turns.specs.declared.shared.Filer.{Filer}
+use Rattle.tends.specs.Ends.{HasEnded}
+use Rattle.tends.specs.Gathered.{calls_by, IsLeftOf}
+use Rattle.granted_calls.specs.Balance.{FilerEntry, Weight}
+use Rattle.granted_calls.specs.Filers.{layout_in, verifier_in}
+use Rattle.granted_calls.specs.declared.shared.Filer.{Filer}
 
 module _ {D R : Type 0} {G : devices.Ghosts D} where
   -- All lanes of a filer have ended: what is left is the filer's. What they admitted is, as often, finished, kept, or waits, each call by

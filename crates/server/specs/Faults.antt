@@ -1,6 +1,6 @@
 -- What ends a server (our profile).
-use Rattle.workers.specs.declared.refusal.StartRefusal.{StartRefusal}
-use Rattle.workers.specs.declared.refusal.StartRefusal.TheVariants as start
+use Rattle.tends.specs.declared.refusal.StartRefusal.{StartRefusal}
+use Rattle.tends.specs.declared.refusal.StartRefusal.TheVariants as start
 use Rattle.server.specs.declared.fault.ServerFault.{ServerFault}
 use Rattle.server.specs.declared.fault.ServerFault.TheVariants as faults
 use Rattle.server.specs.declared.serve_fault.ServeFault.{ServeFault}

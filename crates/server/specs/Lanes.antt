@@ -6,12 +6,13 @@ use Rattle.lanes.specs.Words.{filer_in, identity_in, offer_in, place_in, put_in,
 use Rattle.connections.specs.declared.device.Device as devices
 use Rattle.lanes.specs.declared.lane.Lane.{Lane}
 use Rattle.nfs_model.specs.Events.Refusals.{is_empty_hand}
-use Rattle.workers.specs.declared.tending.Tending.{Tending}
-use Rattle.workers.specs.Rests.{may_sleep}
+use Rattle.tends.specs.declared.tending.Tending.{Tending}
+use Rattle.tends.specs.Rests.{may_sleep}
 use Rattle.turns.specs.Tends.{hand_in}
-use Rattle.turns.specs.declared.shared.Filer.{Filer}
-use Rattle.turns.specs.Balance.{FilerEntry, Weight, by_key}
-use Rattle.turns.specs.Words.{entries_in, layout_in, seats_in}
+use Rattle.granted_calls.specs.declared.shared.Filer.{Filer}
+use Rattle.granted_calls.specs.Balance.{FilerEntry, Weight, by_key}
+use Rattle.granted_calls.specs.Filers.{layout_in}
+use Rattle.turns.specs.Words.{entries_in, seats_in}
 
 -- the places of this many lanes: of each which it is, from 0, and how many there are
 abbrev pub places_below : ℕ → ℕ → List (ℕ × ℕ)

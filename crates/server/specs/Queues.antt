@@ -3,14 +3,15 @@ use Rattle.std.specs.Prelude.{◌≡◌, [], Some}
 use Rattle.affinity.specs.declared.layout.Layout.{Layout}
 use Rattle.lanes.specs.Queues.{HasBoth}
 use Rattle.server.specs.declared.opening.Queue.{Queue}
-use Rattle.turns.specs.Messages.{Message}
-use Rattle.turns.specs.declared.shared.Filer.{Filer}
-use Rattle.turns.specs.declared.shared_waiting.pass.Pass.{Pass}
-use Rattle.turns.specs.declared.shared_waiting.pass.SharedWaiting.{SharedWaiting}
+use Rattle.granted_calls.specs.Messages.{Message}
+use Rattle.granted_calls.specs.declared.shared.Filer.{Filer}
+use Rattle.granted_calls.specs.declared.shared_waiting.pass.Pass.{Pass}
+use Rattle.granted_calls.specs.declared.shared_waiting.pass.SharedWaiting.{SharedWaiting}
 use Rattle.turns.specs.declared.worker.Worker.{Worker}
-use Rattle.turns.specs.Words.{entries_in, layout_in, layout_known, IsAt}
-use Rattle.turns.specs.shared_waiting.Balance.{IsWhole, both}
-use Rattle.turns.specs.shared_waiting.Passes.{known, IsOf}
+use Rattle.granted_calls.specs.Filers.{layout_in, layout_known}
+use Rattle.turns.specs.Words.{entries_in, IsAt}
+use Rattle.granted_calls.specs.shared_waiting.Balance.{IsWhole, both}
+use Rattle.granted_calls.specs.shared_waiting.Passes.{known, IsOf}
 
 -- a pass of a queue of the filer's layout by which nothing was put or picked
 pub record IsNewPass (filer : Filer) (queue : SharedWaiting Message Layout) (pass : Pass Message Layout) : Type 0 where

@@ -4,9 +4,9 @@ use Rattle.depot.specs.Words.{view, IsSeatHere}
 use Rattle.depot_rule.specs.History.{entries_of}
 use Rattle.depot_rule.specs.Sums.{total}
 use Rattle.server.specs.declared.remains.Remains.{Remains}
-use Rattle.turns.specs.Balance.{Weight, by_entry, by_key}
-use Rattle.turns.specs.Words.{layout_in, verifier_in, HasOpened}
-use Rattle.turns.specs.declared.shared.Filer.{Filer}
+use Rattle.granted_calls.specs.Balance.{Weight, by_entry, by_key}
+use Rattle.granted_calls.specs.Filers.{layout_in, verifier_in, HasOpened}
+use Rattle.granted_calls.specs.declared.shared.Filer.{Filer}
 
 -- lanes of this filer left it
 pub record AreRemainsIn (filer : Filer) (r : Remains) : Type 0 where

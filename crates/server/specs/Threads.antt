@@ -7,7 +7,7 @@ use Rattle.lanes.specs.declared.lane.Lane.{Lane}
 use Rattle.server.specs.declared.socket.Socket.{Socket}
 use Rattle.server.specs.declared.task.Serves.{Serves}
 use Rattle.server.specs.declared.task.Task.{Task}
-use Rattle.turns.specs.declared.shared.Filer.{Filer}
+use Rattle.granted_calls.specs.declared.shared.Filer.{Filer}
 use Rattle.rpc_msg.specs.declared.offer.Offer.{Offer}
 use Rattle.lanes.specs.Words.{filer_in, Identity}
 use Rattle.server.specs.Lanes.{by_identity, places, seats_of}

@@ -6,10 +6,10 @@ use crate::ends::Ends;
 use crate::options::Options;
 use crate::untended::Untended;
 use clerk::{Event, Journal};
+use granted_calls::Wanted;
 use statistics::Tally;
 use std::alloc::{AllocError, Global};
 use std::sync::Wait;
-use turns::Wanted;
 
 /// What the threads of a server share.
 pub(crate) struct Common {

@@ -2,11 +2,11 @@
 
 use crate::socket::Socket;
 use clerk::{Journal, Times};
+use granted_calls::{Chained, Gate, Place};
 use lanes::Lane;
 use nfs_values::{Moment, Reply};
 use statistics::{RefusalKind, ReplyCounts, ReplyKind, Tally};
 use std::alloc::{AllocError, Global};
-use turns::{Chained, Gate, Place};
 
 /// The most messages that wait in a lane, so that as many times are enough.
 const MOST_TIMES: usize = 1_024;

@@ -6,7 +6,7 @@ ghost use Rattle.lanes.specs.Words.{Identity};
 ghost use Rattle.server.specs.Lanes.{by_identity, seats_of, IsLaneOf};
 ghost use Rattle.server.specs.Threads.{identity_for, identity_with, seats_for, seats_with};
 ghost use Rattle.server.specs.Threads.{IsTaskFor, ServesFor};
-ghost use Rattle.turns.specs.declared.shared.Filer.{Filer};
+ghost use Rattle.granted_calls.specs.declared.shared.Filer.{Filer};
 
 use crate::common::Common;
 use crate::mailbox::Mailbox;

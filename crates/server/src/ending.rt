@@ -9,10 +9,10 @@ ghost use Rattle.server.specs.Rooms.{lanes_for};
 use crate::gathering::gather_lanes;
 use crate::room::Room;
 use connections::Device;
+use granted_calls::Filer;
 use lanes::Lane;
 use std::sync::{Arc, Wait};
-use turns::Filer;
-use workers::{Ended, Left, close};
+use tends::{Ended, Left, close};
 
 /// What is left of a filer whose lanes have ended.
 #[derive(Drop)]

@@ -6,7 +6,7 @@ ghost use Rattle.server.specs.Faults.{fault_of_start, fault_of_serving};
 use crate::serve_fault::ServeFault;
 use std::alloc::AllocError;
 use std::io::{self, ErrorKind};
-use workers::StartRefusal;
+use tends::StartRefusal;
 
 /// Why a server ends before its work is done.
 #[derive(Clone, Copy, PartialEq, Eq, Debug)]

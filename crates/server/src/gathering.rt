@@ -9,15 +9,16 @@ ghost use Rattle.server.specs.Ends.{HaveStopped};
 ghost use Rattle.server.specs.Lanes.{admitted_by, finished_by, seats_of, AreLanesOf};
 ghost use Rattle.server.specs.Lanes.{IsLaneOf};
 ghost use Rattle.server.specs.Remains.{calls_in, AreRemainsIn};
-ghost use Rattle.turns.specs.Balance.{FilerEntry, Weight};
+ghost use Rattle.granted_calls.specs.Balance.{FilerEntry, Weight};
 
 use crate::remains::Remains;
 use crate::room::Room;
 use connections::Device;
+use granted_calls::Filer;
 use lanes::{Lane, LaneParts};
 use std::sync::Wait;
-use turns::{Filer, WorkerParts};
-use workers::{Left, drain_behind, push_batch, push_kept};
+use tends::{Left, drain_behind, push_batch, push_kept};
+use turns::WorkerParts;
 
 /// What is left of one lane, as the first that is put together.
 fn begin<D: Device + Drop, R: Wait + Drop>(

@@ -1,9 +1,9 @@
 //! When a lane leaves word that it wants what another has.
 
 use affinity::{Affinity, Kind};
+use granted_calls::{Hint, Wanted};
 use std::cell::Cell;
-use turns::{Hint, Wanted};
-use workers::Patience;
+use tends::Patience;
 
 /// The word that a lane leaves where it was refused a node: only once it no longer waits its
 /// refusals out on the processor. Until then who has the node goes on with its own calls, and finds

@@ -6,7 +6,7 @@ use std::mem;
 use std::net::{SocketAddr, TcpStream};
 use std::sync::atomic::{AtomicBool, AtomicU64, Ordering};
 use std::sync::{Mutex, Wait};
-use workers::StartRefusal;
+use tends::StartRefusal;
 
 /// The token of the waker. No connection has it for a key.
 const WAKER: Token = Token(usize::MAX);

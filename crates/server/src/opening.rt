@@ -15,13 +15,14 @@ use crate::fault::ServerFault;
 use crate::plan::VolumePlan;
 use affinity::{AggregateSpec, Layout, MOST_VOLUMES, SizedVolumeSpec, VolumeSpec};
 use connections::Device;
+use granted_calls::shared_waiting::{Pass, SharedWaiting};
+use granted_calls::{Envelope, Filer};
 use lanes::Lane;
 use rpc_msg::{HandleForm, Offer};
 use std::alloc::{AllocError, Global};
 use std::rt::Clock;
 use std::sync::Arc;
-use turns::shared_waiting::{Pass, SharedWaiting};
-use turns::{Envelope, Filer, Worker};
+use turns::Worker;
 
 /// This many volumes of a plan on one aggregate.
 pub(crate) fn layout_of(

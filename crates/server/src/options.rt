@@ -10,7 +10,7 @@ use affinity::MOST_VOLUMES;
 use clerk::Period;
 use rpc_msg::Offer;
 use std::net::SocketAddr;
-use workers::MOST_WORKERS;
+use tends::MOST_WORKERS;
 
 /// Where a server listens, how many volumes (1 to 8) and workers (1 to 64) it has, after how many
 /// connections it ends, if after any, how many may be open, what it offers and to whom, what its

@@ -4,7 +4,7 @@ ghost use Rattle.std.specs.Prelude.{◌<◌};
 
 use nfs_values::Moment;
 use std::rt::Clock;
-use workers::{Patience, Tending, time_now};
+use tends::{Patience, Tending, time_now};
 
 /// How often in a row a call may move before the lane waits as for what another has.
 const MOST_MOVES: u32 = 2;

@@ -5,7 +5,8 @@ ghost use Rattle.depot_rule.specs.History.{entries_of, AreHands};
 ghost use Rattle.turns.specs.Jobs.{job_takes, job_gives};
 
 use depot::Seat;
-use turns::{BatchInHand, Envelope, Service};
+use granted_calls::Envelope;
+use turns::{BatchInHand, Service};
 
 /// What is left of lanes: their seats as one, the batches in their hands, the messages that they
 /// kept and those that waited in their queues. The batches are all that the seat's calls took and

@@ -2,9 +2,10 @@
 
 ghost use Rattle.std.specs.Prelude.{◌≡◌, ◌≤◌, ◌*◌, [], IfOk, vec_capacity};
 
+use granted_calls::Envelope;
 use scheduler::MOST_WAITING;
 use std::alloc::{AllocError, Global};
-use turns::{BatchInHand, Envelope};
+use turns::BatchInHand;
 
 /// Room for all that this many lanes can leave: a batch and a message of each, and the messages
 /// that wait. Who has it puts the lanes together without memory.

@@ -12,7 +12,7 @@ ghost use Rattle.server.specs.Lanes.{by_identity, seats_of, IsLaneOf};
 ghost use Rattle.server.specs.Threads.{identity_for, seats_for, AreOfThreads};
 ghost use Rattle.server.specs.Threads.{AllServe, AreThreadsOf, IsTaskFor};
 ghost use Rattle.server.specs.declared.socket.Socket as sockets;
-ghost use Rattle.turns.specs.declared.shared.Filer as filers;
+ghost use Rattle.granted_calls.specs.declared.shared.Filer as filers;
 
 use crate::common::Common;
 use crate::crew::{Mail, join_all, start_all};
@@ -29,6 +29,7 @@ use crate::station::Station;
 use crate::task::{Task, Thread};
 use clerk::{Clerk, Journal};
 use connections::Device;
+use granted_calls::Filer;
 use lanes::Lane;
 use std::alloc::{AllocError, Global};
 use std::io::{self, Write};
@@ -36,7 +37,6 @@ use std::net::{Net, TcpListener, TcpStream};
 use std::rt::Clock;
 use std::sync::{Arc, Wait};
 use std::thread::Threads;
-use turns::Filer;
 
 /// A filer whose lanes run, and room for the lanes that come back and for what they leave.
 #[derive(Drop)]

@@ -13,7 +13,7 @@ use mio::{Events, Poll};
 use std::alloc::{AllocError, Global};
 use std::net::Net;
 use std::sync::Arc;
-use workers::StartRefusal;
+use tends::StartRefusal;
 
 /// The most events that one poll gives.
 const EVENTS: usize = 128;

@@ -3,16 +3,16 @@
 ghost use Rattle.server.specs.Lanes.{Stays};
 
 use crate::common::Common;
+use crate::lane_tends::{begin_anew, may_rest, put_down, tend};
 use crate::late_word::LateWord;
 use crate::pace::Pace;
 use crate::socket::Socket;
-use crate::tends::{begin_anew, may_rest, put_down, tend};
 use affinity::Kind;
+use granted_calls::{Chained, Unwatched};
 use lanes::Lane;
 use nfs_values::Moment;
 use std::cell::Cell;
 use std::sync::Wait;
-use turns::{Chained, Unwatched};
 
 /// The most turns of a round.
 const MOST_TURNS: usize = 64;

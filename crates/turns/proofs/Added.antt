@@ -17,9 +17,9 @@ use Rattle.filer_state.specs.laws.lemmas.Alike.{filer-same}
 use Rattle.filer_state.specs.laws.lemmas.Lawful.{entry-does}
 use Rattle.filer_state.specs.declared.files.Files.{Files}
 use Rattle.service.specs.Jobs.{job_of, job_reply_of, job_steps, job_takes, job_gives}
-use Rattle.turns.specs.Balance.{FilerView, FilerEntry}
+use Rattle.granted_calls.specs.Balance.{FilerView, FilerEntry}
 use Rattle.turns.specs.Carries.{left_by}
-use Rattle.turns.specs.Turns.{filer_behaviour}
+use Rattle.granted_calls.specs.Served.{filer_behaviour}
 
 -- the last entry of a legal history is a step from what the others left
 legal-last : {P C R : Type 0} (steps : List ℕ → ℕ → C → (ℕ → Option P) → R → (ℕ → Option P) → Type 0) (ps : List ℕ) (f : ℕ → Option P)

@@ -19,17 +19,18 @@ use Rattle.filer_state.specs.laws.lemmas.LayoutSizes.{contents-sized}
 use Rattle.service.specs.Jobs.{job_of, batch_reply_of, job_takes, job_gives}
 use Rattle.service.specs.declared.job.Job.{Job}
 use Rattle.service.specs.declared.job.Job.TheVariants.{Serve, Inner}
-use Rattle.turns.specs.Messages.{Message}
+use Rattle.granted_calls.specs.Messages.{Message}
 use Rattle.turns.specs.declared.tend.Carried.{Carried}
 use Rattle.turns.specs.declared.tend.Carried.TheVariants.{Done, Refused}
 use Rattle.turns.specs.declared.tend.TendRefusal.{TendRefusal}
 use Rattle.turns.specs.declared.tend.Tended.{Tended}
 use Rattle.turns.specs.declared.worker.Worker.{Worker}
-use Rattle.turns.specs.Balance.{Passed, FilerView, FilerEntry, Weight, by_job, by_entry, IsEven}
+use Rattle.granted_calls.specs.Balance.{Passed, FilerView, FilerEntry, Weight, by_job, by_entry, IsEven}
 use Rattle.turns.specs.Carries.{HasCarried, IsToldOf, hand_after, left_by, stock_by}
 use Rattle.turns.specs.Stocks.{stocked_after}
 use Rattle.turns.specs.Tends.{stocked_in, Answers}
-use Rattle.turns.specs.Words.{seat_view, HasOpened, IsHandIn}
+use Rattle.granted_calls.specs.Filers.{HasOpened}
+use Rattle.turns.specs.Words.{seat_view, IsHandIn}
 use Rattle.turns.proofs.Batches.{OfOneRange, hand-in}
 use Rattle.turns.proofs.Sized.{before-sized}
 

@@ -43,14 +43,14 @@ use Rattle.service.specs.declared.works.LogicalWork.TheVariants as logicals
 use Rattle.service.specs.declared.job.Job.TheVariants.{Inner}
 use Rattle.service.specs.declared.job.BatchReply.{BatchReply}
 use Rattle.service.specs.declared.job.JobReply.TheVariants as replies
-use Rattle.turns.specs.Balance.{FilerView, FilerEntry}
+use Rattle.granted_calls.specs.Balance.{FilerView, FilerEntry}
 use Rattle.turns.specs.Carries.{node_tried, refusal_by, IsRefusedFor, MayCarry, Carries, HasRunInner, stock_left}
-use Rattle.turns.specs.Runs.{FilerLent}
+use Rattle.granted_calls.specs.Runs.{FilerLent}
 use Rattle.turns.specs.Stocks.{stock_told}
-use Rattle.turns.specs.Turns.{filer_behaviour}
-use Rattle.turns.specs.Words.{HasOpened, IsReady}
+use Rattle.granted_calls.specs.Served.{filer_behaviour}
+use Rattle.granted_calls.specs.Filers.{HasOpened, IsReady}
 use Rattle.turns.proofs.Added.{added-did}
-use Rattle.turns.proofs.Grants.{as-left}
+use Rattle.granted_calls.proofs.Grants.{as-left}
 use Rattle.turns.proofs.Looked.{told-left}
 use Rattle.turns.proofs.Sized.{log-sized}
 

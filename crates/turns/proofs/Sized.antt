@@ -17,12 +17,12 @@ use Rattle.filer_state.specs.laws.lemmas.Opening.{opening-tree}
 use Rattle.service.specs.Jobs.{job_steps, job_takes, job_gives}
 use Rattle.service.specs.declared.job.Job.{Job}
 use Rattle.service.specs.declared.job.JobReply.{JobReply}
-use Rattle.turns.specs.Balance.{FilerView, FilerEntry}
+use Rattle.granted_calls.specs.Balance.{FilerView, FilerEntry}
 use Rattle.turns.specs.Carries.{left_by}
-use Rattle.turns.specs.Logs.{calls_in}
-use Rattle.turns.specs.Turns.{filer_behaviour}
-use Rattle.turns.specs.Words.{HasOpened}
-use Rattle.turns.specs.lemmas.Logs.{log-replays}
+use Rattle.granted_calls.specs.Logs.{calls_in}
+use Rattle.granted_calls.specs.Served.{filer_behaviour}
+use Rattle.granted_calls.specs.Filers.{HasOpened}
+use Rattle.granted_calls.specs.lemmas.Logs.{log-replays}
 
 -- the entries before the last are legal
 legal-before : {P C R : Type 0} (steps : List ℕ → ℕ → C → (ℕ → Option P) → R → (ℕ → Option P) → Type 0) (ps : List ℕ) (f : ℕ → Option P)

@@ -4,10 +4,10 @@ use Rattle.depot.specs.Words.{view, HasNoGrant}
 use Rattle.depot_rule.specs.History.{entries_of, AreHands}
 use Rattle.filer_state.specs.state.Jobs.{batches_in}
 use Rattle.service.specs.Jobs.{job_takes, job_gives}
-use Rattle.turns.specs.shared_waiting.Passes.{known}
+use Rattle.granted_calls.specs.shared_waiting.Passes.{known}
 use Rattle.turns.specs.declared.parts.WorkerParts.{WorkerParts}
 use Rattle.turns.specs.declared.worker.Worker.{Worker}
-use Rattle.turns.specs.Balance.{IsEven}
+use Rattle.granted_calls.specs.Balance.{IsEven}
 
 -- the parts are the worker's
 pub record AreOf (w : Worker) (p : WorkerParts) : Type 0 where

@@ -29,11 +29,11 @@ use Rattle.turns.specs.declared.tend.TendRefusal.{TendRefusal}
 use Rattle.turns.specs.declared.tend.TendRefusal.TheVariants.{Busy, Worn, NoSuchRange, NoMemory}
 use Rattle.turns.specs.declared.tend.Tended.{Tended}
 use Rattle.turns.specs.declared.tend.Tended.TheVariants as tendeds
-use Rattle.turns.specs.Balance.{FilerView, FilerEntry}
-use Rattle.turns.specs.Runs.{FilerLent}
+use Rattle.granted_calls.specs.Balance.{FilerView, FilerEntry}
+use Rattle.granted_calls.specs.Runs.{FilerLent}
 use Rattle.turns.specs.Stocks.{stock_told}
-use Rattle.turns.specs.Turns.{filer_behaviour}
-use Rattle.turns.specs.Words.{HasOpened}
+use Rattle.granted_calls.specs.Served.{filer_behaviour}
+use Rattle.granted_calls.specs.Filers.{HasOpened}
 
 -- the node under which an inner call runs, as the code has it
 abbrev pub node_tried : InnerCall → codes.Affinity

@@ -6,7 +6,7 @@ use Rattle.nfs_model.specs.Events.Refusals.{is_empty_hand}
 use Rattle.filer_state.specs.state.Jobs as jobs
 use Rattle.filer_state.specs.state.Jobs.{InnerCall, JobReply, inner_volume}
 use Rattle.service.specs.Inner as inner
-use Rattle.turns.specs.Messages.{Message}
+use Rattle.granted_calls.specs.Messages.{Message}
 use Rattle.turns.specs.declared.tend.Tend.{Tend}
 use Rattle.turns.specs.declared.tend.Tend.TheVariants.{Fetch, Cull, PutDown}
 use Rattle.turns.specs.declared.tend.Tended.{Tended}

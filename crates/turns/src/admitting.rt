@@ -1,17 +1,17 @@
 //! Messages that are put by another pass, beside a worker's own.
 
-use crate::envelope::Envelope;
-use crate::shared_waiting::{Pass, SharedWaiting};
 use crate::worker::Worker;
 use affinity::Layout;
+use granted_calls::Envelope;
+use granted_calls::shared_waiting::{Pass, SharedWaiting};
 use std::sync::Wait;
 
 impl Worker {
     ghost use Rattle.std.specs.Prelude.{◌≡◌, MatchResult};
     ghost use Rattle.crossbeam_queue.specs.Fifo.{Held};
-    ghost use Rattle.turns.specs.shared_waiting.Balance.{added, both, FitsIn, Leaves};
-    ghost use Rattle.turns.specs.shared_waiting.Passes.{known, IsOf};
-    ghost use Rattle.turns.specs.Messages.{Fits};
+    ghost use Rattle.granted_calls.specs.shared_waiting.Balance.{added, both, FitsIn, Leaves};
+    ghost use Rattle.granted_calls.specs.shared_waiting.Passes.{known, IsOf};
+    ghost use Rattle.granted_calls.specs.Messages.{Fits};
     ghost use Rattle.turns.specs.Words.{passed, IsSameWorker, TakesFrom};
 
     /// Puts a message into a queue by another pass. It comes back only where 1,024 were there by

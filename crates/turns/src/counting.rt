@@ -1,17 +1,16 @@
 //! What waits, as a worker knows it.
 
-use crate::envelope::Envelope;
-use crate::shared::Filer;
-use crate::shared_waiting::{Pass, SharedWaiting};
 use crate::worker::Worker;
 use affinity::Layout;
+use granted_calls::shared_waiting::{Pass, SharedWaiting};
+use granted_calls::{Envelope, Filer};
 use std::sync::Wait;
 
 impl Worker {
     ghost use Rattle.std.specs.Prelude.{◌≡◌, ◌≤◌};
     ghost use Rattle.crossbeam_queue.specs.Fifo.{Held};
-    ghost use Rattle.turns.specs.shared_waiting.Balance.{both, Leaves};
-    ghost use Rattle.turns.specs.shared_waiting.Passes.{known, IsOf};
+    ghost use Rattle.granted_calls.specs.shared_waiting.Balance.{both, Leaves};
+    ghost use Rattle.granted_calls.specs.shared_waiting.Passes.{known, IsOf};
     ghost use Rattle.turns.specs.Tends.{stocked_in};
     ghost use Rattle.turns.specs.Turns.{standing_of};
     ghost use Rattle.turns.specs.Words.{passed, seats_in, IsAt};

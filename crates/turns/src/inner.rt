@@ -10,15 +10,15 @@ ghost use Rattle.service.specs.Jobs.{batch_reply_of, inner_of};
 ghost use Rattle.service.specs.Works.{batch_call_of, batch_hand_of};
 ghost use Rattle.turns.specs.Carries.{node_tried, refusal_by, MayCarry, HasCarried, HasRunInner};
 ghost use Rattle.turns.specs.Stocks.{IsLook};
-ghost use Rattle.turns.specs.Words.{layout_in, verifier_in, IsReady};
+ghost use Rattle.granted_calls.specs.Filers.{layout_in, verifier_in, IsReady};
 
-use crate::shared::Filer;
 use crate::stock::{Enough, Look, NoStock, told_by};
 use crate::tend::{Carried, TendRefusal};
 use affinity::Affinity;
 use depot::{Refusal, Seat};
 use desk::{NodeGrant, WorkOn, begin_node, finish_node, put_back_node, work_on_node};
 use filer_state::Files;
+use granted_calls::Filer;
 use parcels::{Hand, LogicalNode, Node, Parcel, RangeNode};
 use service::{
     BatchInHand, BatchOutcome, BatchReply, BatchWork, HandWork, InnerCall, LogicalWork, RangeWork,

@@ -1,61 +1,12 @@
-//! Filers and workers, made and taken apart.
+//! Workers, made.
 
-use crate::envelope::Envelope;
-use crate::opening::open;
-use crate::shared::Filer;
-use crate::shared_waiting::{Pass, SharedWaiting};
 use crate::worker::Worker;
 use affinity::Layout;
-use depot::{Depot, Seat};
-use nfs_values::Verifier;
+use depot::Seat;
+use granted_calls::Envelope;
+use granted_calls::shared_waiting::Pass;
 use parcels::Hand;
 use service::{BatchInHand, Service};
-use std::alloc::{AllocError, Global};
-
-impl Filer {
-    ghost use Rattle.std.specs.Prelude.{◌≡◌, Some, IfOk};
-    ghost use Rattle.affinity.specs.Layout.{layout_of};
-    ghost use Rattle.depot.specs.Words.{view, splits_left, IsSeatHere};
-    ghost use Rattle.turns.specs.shared_waiting.Balance.{IsWhole};
-    ghost use Rattle.turns.specs.shared_waiting.Passes.{known, IsOf};
-    ghost use Rattle.turns.specs.Words.{layout_in, layout_known, verifier_in};
-    ghost use Rattle.turns.specs.Words.{HasDoneNothing, IsReady};
-
-    /// A filer of a layout, with the write verifier of the run (writeverf3, RFC 1813 section
-    /// 3.3.7), and its first seat and pass: each is the only one, and has done nothing.
-    pub fn new(
-        alloc: Global,
-        layout: Layout,
-        verifier: [u8; 8],
-    ) -> Result<(Filer, Seat<Service>, Pass<Envelope, Layout>), AllocError>
-        ensures layout { IfOk result (λ made. layout_in made.0 ≡ layout_of layout) }
-        ensures verifier { IfOk result (λ made. verifier_in made.0 ≡ verifier) }
-        ensures seat { IfOk result (λ made. IsSeatHere made.0.depot made.1) }
-        ensures ready { IfOk result (λ made.
-            IsReady (layout_in made.0) (verifier_in made.0) (view made.1)) }
-        ensures only { IfOk result (λ made. splits_left made.1 ≡ 63) }
-        ensures pass { IfOk result (λ made. IsOf made.0.waiting made.2
-            × (layout_known (known made.2) ≡ Some (layout_in made.0))) }
-        ensures whole { IfOk result (λ made. IsWhole (known made.2)) }
-        ensures nothing { IfOk result (λ made. HasDoneNothing (view made.1) (known made.2)) }
-    {
-        open(alloc, layout, Verifier(verifier))
-    }
-
-    /// The depot of its parcels.
-    pub fn depot(&self) -> &Depot<Service>
-        ensures { result.now ≡ self.now.depot }
-    {
-        &self.depot
-    }
-
-    /// The messages that wait for its workers.
-    pub fn waiting(&self) -> &SharedWaiting<Envelope, Layout>
-        ensures { result.now ≡ self.now.waiting }
-    {
-        &self.waiting
-    }
-}
 
 impl Worker {
     ghost use Rattle.std.specs.Prelude.{◌≡◌, [], None};
@@ -63,8 +14,8 @@ impl Worker {
     ghost use Rattle.depot_rule.specs.History.{entries_of, AreHands};
     ghost use Rattle.nfs_model.specs.Parts as parts;
     ghost use Rattle.service.specs.Jobs.{job_takes, job_gives};
-    ghost use Rattle.turns.specs.shared_waiting.Passes.{known};
-    ghost use Rattle.turns.specs.Balance.{IsEven};
+    ghost use Rattle.granted_calls.specs.shared_waiting.Passes.{known};
+    ghost use Rattle.granted_calls.specs.Balance.{IsEven};
     ghost use Rattle.turns.specs.Tends.{stocked_in};
 
     /// A worker with an empty hand that keeps nothing and knows of no stock: whatever its pass

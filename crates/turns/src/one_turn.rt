@@ -3,13 +3,11 @@
 ghost use Rattle.std.specs.Prelude.{◌≡◌};
 ghost use Rattle.turns.specs.Turns.{turned_by, IsTold};
 
-use crate::envelope::Envelope;
-use crate::shared::Filer;
-use crate::shared_waiting::SharedWaiting;
-use crate::turned::{Gate, Served, Turn};
 use crate::worker::Worker;
 use affinity::Layout;
 use depot::Refusal;
+use granted_calls::shared_waiting::SharedWaiting;
+use granted_calls::{Envelope, Filer, Gate, Served, Turn};
 use nfs_values::Moment;
 use std::sync::Wait;
 
@@ -36,8 +34,10 @@ pub(crate) fn told(served: Served) -> (Option<Envelope>, Turn)
 
 impl Worker {
     ghost use Rattle.turns.specs.Tends.{stocked_in};
-    ghost use Rattle.turns.specs.Turns.{Did, HasShareOf};
-    ghost use Rattle.turns.specs.Words.{layout_in, passed, seats_in, IsAt, IsIn};
+    ghost use Rattle.granted_calls.specs.Served.{HasShareOf};
+    ghost use Rattle.turns.specs.Turns.{Did};
+    ghost use Rattle.granted_calls.specs.Filers.{layout_in};
+    ghost use Rattle.turns.specs.Words.{passed, seats_in, IsAt, IsIn};
 
     /// Tries the call of the message that is kept, or else of the one that waits longest in a
     /// queue: begins it on what it tries, runs it, and finishes it or puts it back.

@@ -1,9 +1,9 @@
 //! A worker, taken apart.
 
-use crate::envelope::Envelope;
-use crate::shared_waiting::Pass;
 use affinity::Layout;
 use depot::Seat;
+use granted_calls::Envelope;
+use granted_calls::shared_waiting::Pass;
 use service::{BatchInHand, Service};
 
 /// What a worker was made of: its seat of the depot, its pass of the queue, the batch of block

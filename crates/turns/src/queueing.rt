@@ -3,15 +3,15 @@
 ghost use Rattle.std.specs.Prelude.{◌≡◌, Some, None, IfSome};
 ghost use Rattle.crossbeam_queue.specs.Fifo.{Held};
 ghost use Rattle.nfs_model.specs.Tree as trees;
-ghost use Rattle.turns.specs.shared_waiting.Balance.{both, Leaves};
-ghost use Rattle.turns.specs.shared_waiting.Passes.{known, IsOf};
-ghost use Rattle.turns.specs.Messages.{IsPlaced};
-ghost use Rattle.turns.specs.Turns.{HasNext, HasPut, WaitsAgain, HasShareOf};
-ghost use Rattle.turns.specs.Words.{layout_known};
+ghost use Rattle.granted_calls.specs.shared_waiting.Balance.{both, Leaves};
+ghost use Rattle.granted_calls.specs.shared_waiting.Passes.{known, IsOf};
+ghost use Rattle.granted_calls.specs.Messages.{IsPlaced};
+ghost use Rattle.granted_calls.specs.Served.{HasNext, WaitsAgain, HasShareOf, HasPut};
+ghost use Rattle.granted_calls.specs.Filers.{layout_known};
 
-use crate::envelope::Envelope;
-use crate::shared_waiting::{Pass, SharedWaiting};
 use affinity::Layout;
+use granted_calls::Envelope;
+use granted_calls::shared_waiting::{Pass, SharedWaiting};
 use std::sync::Wait;
 
 /// The message that is kept, or else the one that waits longest.

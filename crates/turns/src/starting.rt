@@ -1,20 +1,21 @@
 //! The first worker of a filer or of a queue.
 
-use crate::envelope::Envelope;
-use crate::shared::Filer;
-use crate::shared_waiting::{Pass, SharedWaiting};
 use crate::worker::Worker;
 use affinity::Layout;
 use depot::Seat;
+use granted_calls::shared_waiting::{Pass, SharedWaiting};
+use granted_calls::{Envelope, Filer};
 use service::Service;
 
 impl Worker {
     ghost use Rattle.std.specs.Prelude.{◌≡◌, ◌+◌, None, Some};
     ghost use Rattle.depot.specs.Words.{view, splits_left, IsSeatHere};
     ghost use Rattle.nfs_model.specs.Parts as parts;
-    ghost use Rattle.turns.specs.shared_waiting.Passes.{known, IsOf};
-    ghost use Rattle.turns.specs.Words.{layout_in, layout_known, passed, seat_view, seats_in};
-    ghost use Rattle.turns.specs.Words.{verifier_in, HasDoneNothing, IsAt, IsIn, IsReady};
+    ghost use Rattle.granted_calls.specs.shared_waiting.Passes.{known, IsOf};
+    ghost use Rattle.granted_calls.specs.Filers.{layout_in, layout_known};
+    ghost use Rattle.turns.specs.Words.{passed, seat_view, seats_in};
+    ghost use Rattle.granted_calls.specs.Filers.{verifier_in, HasDoneNothing, IsReady};
+    ghost use Rattle.turns.specs.Words.{IsAt, IsIn};
 
     /// A worker with a filer's first seat, as `Filer::new` answers it, and a pass of a queue of the
     /// filer's layout. It has done nothing, carries nothing and keeps nothing.

@@ -10,14 +10,13 @@ ghost use Rattle.service.specs.Works.{batch_call_of, batch_hand_of};
 ghost use Rattle.turns.specs.Carries.{hand_after, stock_by, IsToldAs, IsToldOf};
 ghost use Rattle.turns.specs.Tends.{call_of, is_cull};
 
-use crate::envelope::Envelope;
 use crate::inner::{carry, volume_of};
-use crate::shared::Filer;
-use crate::shared_waiting::SharedWaiting;
 use crate::stock::{is_stocked, stocked};
 use crate::tend::{Carried, Tend, TendRefusal, Tended};
 use crate::worker::Worker;
 use affinity::Layout;
+use granted_calls::shared_waiting::SharedWaiting;
+use granted_calls::{Envelope, Filer};
 use nfs_laws::laws::batches_are_of_one_range;
 use nfs_values::VolumeNumber;
 use parcels::Hand;
@@ -147,7 +146,8 @@ impl Worker {
     ghost use Rattle.std.specs.Option.{is_some};
     ghost use Rattle.turns.specs.Tends.{hand_in, kept_in, stocked_in};
     ghost use Rattle.turns.specs.Tends.{IsNextTend, Tends, TendsTo};
-    ghost use Rattle.turns.specs.Words.{layout_in, passed, seats_in, IsAt, IsIn};
+    ghost use Rattle.granted_calls.specs.Filers.{layout_in};
+    ghost use Rattle.turns.specs.Words.{passed, seats_in, IsAt, IsIn};
 
     /// What is in the worker's hand.
     pub fn hand(&self) -> &BatchInHand

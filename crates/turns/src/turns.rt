@@ -1,28 +1,33 @@
 //! A worker's turns one after the other.
 
-use crate::chained::{AnswerSink, Chained, Hint, leave_word};
-use crate::chaining::{ServedAll, run_messages};
-use crate::envelope::Envelope;
-use crate::shared::Filer;
-use crate::shared_waiting::{Pass, SharedWaiting};
-use crate::turned::Gate;
 use crate::worker::Worker;
 use affinity::Layout;
+use granted_calls::shared_waiting::{Pass, SharedWaiting};
+use granted_calls::{AnswerSink, Chained, Envelope, Filer, Gate, Hint, ServedAll, run_messages};
 use nfs_values::Moment;
 use rpc_msg::HandleForm;
 use std::sync::Wait;
 
+/// Leaves word where turns ended at a node that was taken.
+fn leave_word<H: Hint>(hint: &H, chained: Chained) {
+    if let Chained::Busy { node, word: _ } = chained {
+        hint.ask(node);
+    }
+}
+
 impl Worker {
     ghost use Rattle.std.specs.Prelude.{◌≡◌};
     ghost use Rattle.crossbeam_queue.specs.Fifo.{Held};
-    ghost use Rattle.turns.specs.declared.chained.Chained.TheVariants.{Idle};
-    ghost use Rattle.turns.specs.shared_waiting.Balance.{both, Leaves};
-    ghost use Rattle.turns.specs.shared_waiting.Passes.{known, IsOf};
-    ghost use Rattle.turns.specs.Chains.{turns_at_most, HasDoneFew, HasTriedAll, HasTurnedOn};
-    ghost use Rattle.turns.specs.Telling.{TookTold};
+    ghost use Rattle.granted_calls.specs.declared.chained.Chained.TheVariants.{Idle};
+    ghost use Rattle.granted_calls.specs.shared_waiting.Balance.{both, Leaves};
+    ghost use Rattle.granted_calls.specs.shared_waiting.Passes.{known, IsOf};
+    ghost use Rattle.granted_calls.specs.Chains.{turns_at_most, HasDoneFew, HasTriedAll, HasTurnedOn};
+    ghost use Rattle.granted_calls.specs.Telling.{TookTold};
     ghost use Rattle.turns.specs.Tends.{stocked_in};
-    ghost use Rattle.turns.specs.Turns.{standing_of, HasShareOf};
-    ghost use Rattle.turns.specs.Words.{layout_in, passed, seat_view, seats_in, IsAt};
+    ghost use Rattle.granted_calls.specs.Served.{HasShareOf};
+    ghost use Rattle.turns.specs.Turns.{standing_of};
+    ghost use Rattle.granted_calls.specs.Filers.{layout_in};
+    ghost use Rattle.turns.specs.Words.{passed, seat_view, seats_in, IsAt};
 
     /// Tries the message that is kept, if one is, and then those that wait and try the same node,
     /// at most this many. What is kept then: the last where it isn't finished, or else one that was

@@ -4,19 +4,16 @@ ghost use Rattle.filer_state.specs.state.Jobs.{batches_in};
 ghost use Rattle.depot.specs.Words.{view, HasNoGrant};
 ghost use Rattle.depot_rule.specs.History.{entries_of, AreHands};
 ghost use Rattle.service.specs.Jobs.{job_takes, job_gives};
-ghost use Rattle.turns.specs.shared_waiting.Passes.{known};
-ghost use Rattle.turns.specs.Balance.{IsEven};
+ghost use Rattle.granted_calls.specs.shared_waiting.Passes.{known};
+ghost use Rattle.granted_calls.specs.Balance.{IsEven};
 
-use crate::envelope::Envelope;
 use crate::one_turn::told;
 use crate::parts::WorkerParts;
 use crate::queueing::{next, next_beside, put_kept};
-use crate::serving::run_message;
-use crate::shared::Filer;
-use crate::shared_waiting::{Pass, SharedWaiting};
-use crate::turned::{Gate, Turn};
 use affinity::Layout;
 use depot::Seat;
+use granted_calls::shared_waiting::{Pass, SharedWaiting};
+use granted_calls::{Envelope, Filer, Gate, Turn, run_message};
 use nfs_values::Moment;
 use service::{BatchInHand, Service};
 use std::sync::Wait;
@@ -55,12 +52,14 @@ impl Worker {
     ghost use Rattle.std.specs.Prelude.{◌≡◌, ◌<◌, ◌+◌, [], None, Some};
     ghost use Rattle.nfs_model.specs.Parts as parts;
     ghost use Rattle.crossbeam_queue.specs.Fifo.{Held};
-    ghost use Rattle.turns.specs.shared_waiting.Balance.{both, left, right, Leaves};
-    ghost use Rattle.turns.specs.shared_waiting.Passes.{IsOf};
+    ghost use Rattle.granted_calls.specs.shared_waiting.Balance.{both, left, right, Leaves};
+    ghost use Rattle.granted_calls.specs.shared_waiting.Passes.{IsOf};
     ghost use Rattle.turns.specs.Apart.{AreOf, IsSettled};
     ghost use Rattle.turns.specs.Tends.{stocked_in};
-    ghost use Rattle.turns.specs.Turns.{HasNext, HasPut, HasShareOf, HasTried};
-    ghost use Rattle.turns.specs.Words.{entries_in, layout_in, layout_known, passed, seats_in};
+    ghost use Rattle.granted_calls.specs.Served.{HasNext, HasShareOf, HasPut};
+    ghost use Rattle.turns.specs.Turns.{HasTried};
+    ghost use Rattle.granted_calls.specs.Filers.{layout_in, layout_known};
+    ghost use Rattle.turns.specs.Words.{entries_in, passed, seats_in};
     ghost use Rattle.turns.specs.Words.{IsAt, IsIn};
 
     /// Picks the message that waits longest, where none is kept.

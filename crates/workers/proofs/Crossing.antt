@@ -3,9 +3,10 @@ use denote.Param.Send.{IsSend, sendable}
 use denote.Param.SendFields.{declared_send}
 use Rattle.std.proofs.Crossing.{crosses}
 use Rattle.workers.proofs.stop_word.StopWord.TheSendSync as stop
-use Rattle.turns.proofs.shared_waiting.pass.Pass.TheSendSync as pass
-use Rattle.turns.proofs.crossings.Outboxes.{outboxes-send}
-use Rattle.turns.proofs.Crossing.{worker-send, filer-send, filer-sync, shared-outboxes-send, shared-outboxes-sync}
+use Rattle.granted_calls.proofs.shared_waiting.pass.Pass.TheSendSync as pass
+use Rattle.granted_calls.proofs.crossings.Outboxes.{outboxes-send}
+use Rattle.granted_calls.proofs.Crossing.{filer-send, filer-sync, shared-outboxes-send, shared-outboxes-sync}
+use Rattle.turns.proofs.Crossing.{worker-send}
 use Rattle.workers.specs.contracts.commons.Commons as Commons
 use Rattle.workers.specs.contracts.pool_worker.PoolWorker as PoolWorker
 use Rattle.workers.specs.contracts.task.Task as Task

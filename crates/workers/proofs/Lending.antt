@@ -1,8 +1,8 @@
 -- Shares of the right to know the outboxes, as passes are joined and cut.
 use Rattle.std.proofs.Common.{◌≡◌, ℕ, ◌+◌, ◌-◌, ◌*◌, ◌^◌, ◌≤◌, ap, ◌∙◌, arith}
-use Rattle.turns.specs.SharedOutboxes.{Lent, HasLentShareOf}
-use Rattle.turns.specs.shared_waiting.Balance.{part, both, left, right}
-use Rattle.workers.proofs.Portions.{halves, joined}
+use Rattle.granted_calls.specs.SharedOutboxes.{Lent, HasLentShareOf}
+use Rattle.granted_calls.specs.shared_waiting.Balance.{part, both, left, right}
+use Rattle.tends.proofs.Portions.{halves, joined}
 
 pub lent-both : (k : ℕ) (v u w : Lent) → w ≡ both v u → v.halvings + u.halvings ≤ k → part k w ≡ part k v + part k u
 lent-both k v u w is le = ap (part k) is ∙ joined v.share u.share v.halvings u.halvings k le

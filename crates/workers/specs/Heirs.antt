@@ -1,13 +1,13 @@
 -- What stays of a worker while its thread runs it.
 use Rattle.std.specs.Prelude.{◌≡◌}
 use Rattle.workers.specs.declared.pool_worker.PoolWorker.{PoolWorker}
-use Rattle.turns.specs.declared.shared.Filer.{Filer}
-use Rattle.turns.specs.declared.shared_outboxes.SharedOutboxes.{SharedOutboxes}
+use Rattle.granted_calls.specs.declared.shared.Filer.{Filer}
+use Rattle.granted_calls.specs.declared.shared_outboxes.SharedOutboxes.{SharedOutboxes}
 use Rattle.turns.specs.declared.worker.Worker.{Worker}
-use Rattle.turns.specs.Turns.{HasShareOf}
+use Rattle.granted_calls.specs.Served.{HasShareOf}
 use Rattle.turns.specs.Words.{passed, seats_in, IsIn}
-use Rattle.turns.specs.SharedOutboxes.{HasLentShareOf, IsOf}
-use Rattle.turns.specs.shared_waiting.Passes.{known}
+use Rattle.granted_calls.specs.SharedOutboxes.{HasLentShareOf, IsOf}
+use Rattle.granted_calls.specs.shared_waiting.Passes.{known}
 
 -- the worker after has the share of the right to know the queue, and the seats, that the one before had
 abbrev pub IsHeir : Worker → Worker → Type 0

@@ -3,15 +3,15 @@ use Rattle.std.specs.Prelude.{◌≡◌, ◌≤◌, ◌+◌, ◌^◌, ℕ, List,
 use Rattle.std.specs.Arc.{arc_value}
 use Rattle.depot_rule.specs.Sums.{total}
 use Rattle.workers.specs.declared.pool.Pool.{Pool}
-use Rattle.workers.specs.Shares.{FilerPass, entries_by, picks_by, puts_by, share_in}
+use Rattle.tends.specs.Shares.{FilerPass, entries_by, picks_by, puts_by, share_in}
 use Rattle.workers.specs.Threads.{Thread, lent_share_with, seats_with, share_with, started_with, HasLentBack}
-use Rattle.turns.specs.shared_waiting.Balance.{part}
-use Rattle.turns.specs.shared_waiting.Passes.{known}
-use Rattle.turns.specs.Balance.{FilerEntry}
-use Rattle.turns.specs.Messages.{Message}
-use Rattle.turns.specs.declared.shared.Filer.{Filer}
-use Rattle.turns.specs.declared.shared_outboxes.SharedOutboxes.{SharedOutboxes}
-use Rattle.turns.specs.SharedOutboxes.{OutboxesPass}
+use Rattle.granted_calls.specs.shared_waiting.Balance.{part}
+use Rattle.granted_calls.specs.shared_waiting.Passes.{known}
+use Rattle.granted_calls.specs.Balance.{FilerEntry}
+use Rattle.granted_calls.specs.Messages.{Message}
+use Rattle.granted_calls.specs.declared.shared.Filer.{Filer}
+use Rattle.granted_calls.specs.declared.shared_outboxes.SharedOutboxes.{SharedOutboxes}
+use Rattle.granted_calls.specs.SharedOutboxes.{OutboxesPass}
 
 -- its threads
 abbrev pub threads_of : Pool → List Thread

@@ -3,18 +3,16 @@ use Rattle.std.specs.Prelude.{◌≡◌, ◌≤◌, ℕ, ◌+◌, List}
 use Rattle.std.specs.Arc.{arc_value}
 use Rattle.std.specs.declared.thread.PromisedHandle.{PromisedHandle}
 use Rattle.depot_rule.specs.Sums.{total}
-use Rattle.workers.specs.Shares.{share_of}
+use Rattle.tends.specs.Shares.{share_of}
 use Rattle.workers.specs.declared.pool_worker.PoolWorker.{PoolWorker}
-use Rattle.workers.specs.declared.refusal.StartRefusal.{StartRefusal}
-use Rattle.workers.specs.declared.refusal.StartRefusal.TheVariants.{NoThread, NoMemory}
 use Rattle.workers.specs.declared.task.Serves.{Serves}
-use Rattle.turns.specs.declared.shared.Filer.{Filer}
-use Rattle.turns.specs.declared.shared_outboxes.SharedOutboxes.{SharedOutboxes}
+use Rattle.granted_calls.specs.declared.shared.Filer.{Filer}
+use Rattle.granted_calls.specs.declared.shared_outboxes.SharedOutboxes.{SharedOutboxes}
 use Rattle.turns.specs.declared.worker.Worker.{Worker}
-use Rattle.turns.specs.SharedOutboxes.{OutboxesPass}
+use Rattle.granted_calls.specs.SharedOutboxes.{OutboxesPass}
 use Rattle.turns.specs.Words.{seats_in}
-use Rattle.turns.specs.shared_waiting.Balance.{part}
-use Rattle.turns.specs.shared_waiting.Passes.{known}
+use Rattle.granted_calls.specs.shared_waiting.Balance.{part}
+use Rattle.granted_calls.specs.shared_waiting.Passes.{known}
 
 abbrev pub Thread : Type 0
 Thread = PromisedHandle PoolWorker Serves
@@ -47,7 +45,3 @@ lent_share_with k thread = part k (known thread.promise.work.value.pass)
 abbrev pub HasLentBack : OutboxesPass → List Thread → OutboxesPass → Type 0
 HasLentBack before threads after = (level : ℕ)
     × ((k : ℕ) → level ≤ k → part k (known after) ≡ part k (known before) + total (lent_share_with k) threads)
-
-abbrev pub start_refusal_number : StartRefusal → ℕ
-start_refusal_number NoThread = 66
-start_refusal_number NoMemory = 90

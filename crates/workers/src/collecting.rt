@@ -2,16 +2,17 @@
 
 ghost use Rattle.std.specs.Prelude.{◌≡◌, ◌≤◌, ◌+◌, ℕ, All, vec_len, vec_capacity};
 ghost use Rattle.depot_rule.specs.Sums.{total};
-ghost use Rattle.workers.specs.Shares.{share_of};
+ghost use Rattle.tends.specs.Shares.{share_of};
 ghost use Rattle.workers.specs.Threads.{seats_with, share_with, HasLentBack, PutsInto, ServesIn};
-ghost use Rattle.turns.specs.SharedOutboxes.{IsOf};
+ghost use Rattle.granted_calls.specs.SharedOutboxes.{IsOf};
 ghost use Rattle.turns.specs.Words.{seats_in, IsIn};
-ghost use Rattle.turns.specs.declared.shared.Filer.{Filer};
+ghost use Rattle.granted_calls.specs.declared.shared.Filer.{Filer};
 
 use crate::pool_worker::PoolWorker;
 use crate::task::Thread;
+use granted_calls::{OutboxesPass, SharedOutboxes};
 use std::thread::Threads;
-use turns::{OutboxesPass, SharedOutboxes, Worker};
+use turns::Worker;
 
 /// The workers, and those that the threads give back; and the pass of the outboxes, with those that
 /// they give back joined to it.

@@ -1,9 +1,9 @@
 //! What the threads of a pool share.
 
 use crate::stop_word::StopWord;
+use granted_calls::{Filer, SharedOutboxes};
 use std::alloc::AllocError;
 use std::sync::Arc;
-use turns::{Filer, SharedOutboxes};
 
 /// What the threads of a pool share.
 #[derive(Drop)]

@@ -3,22 +3,10 @@
 //! one history.
 #![tactic(auto)]
 
-mod carried;
-mod closing;
 mod collecting;
 mod commons;
-mod draining;
-mod ended;
-mod everything;
-mod gathered;
-mod joining;
-mod left;
-mod moments;
-mod patience;
 mod pool;
 mod pool_worker;
-mod refusal;
-mod room;
 mod round;
 mod serving;
 mod splits;
@@ -26,18 +14,16 @@ mod starting;
 mod stop_word;
 mod task;
 mod tending;
+mod worked;
+mod working;
 
-pub use carried::{push_batch, push_kept};
-pub use closing::close;
-pub use draining::drain_behind;
-pub use ended::Ended;
-pub use everything::gather;
-pub use left::Left;
-pub use moments::{share_millisecond, time_now};
+pub use granted_calls::{Answer, Filer, Gate, Place, Turn, Unwatched};
 pub use outboxes::Outboxes;
-pub use patience::Patience;
 pub use pool::Pool;
-pub use refusal::StartRefusal;
-pub use room::{MOST_WORKERS, Room};
-pub use tending::{Found, Tending, found_by};
-pub use turns::{Answer, Filer, Gate, Place, Turn, Unwatched, Worker};
+pub use tends::{
+    Ended, Found, Left, MOST_WORKERS, Patience, Room, StartRefusal, Tending, close, drain_behind,
+    found_by, gather, push_batch, push_kept, share_millisecond, time_now,
+};
+pub use turns::Worker;
+pub use worked::Worked;
+pub use working::worker_turn;

@@ -4,26 +4,24 @@ ghost use Rattle.std.specs.Prelude.{◌≡◌, ◌≤◌, [], All, IfOk, vec_len
 ghost use Rattle.std.specs.Arc.{arc_value};
 ghost use Rattle.depot_rule.specs.Sums.{total};
 ghost use Rattle.workers.specs.Threads.{seats_with, PutsInto, ServesIn};
-ghost use Rattle.turns.specs.SharedOutboxes.{IsOf};
+ghost use Rattle.granted_calls.specs.SharedOutboxes.{IsOf};
 
 use crate::collecting::collect;
 use crate::commons::Commons;
-use crate::everything::gather;
-use crate::left::Left;
-use crate::refusal::StartRefusal;
-use crate::room::Room;
 use crate::splits::{first_worker, split_workers};
 use crate::starting::start_all;
 use crate::stop_word::StopWord;
 use crate::task::Thread;
 use affinity::Layout;
 use depot::Seat;
+use granted_calls::shared_waiting::Pass;
+use granted_calls::{Envelope, Filer, Gate, OutboxesPass, SharedOutboxes};
 use std::alloc::{AllocError, Global};
 use std::rt::Clock;
 use std::sync::{Arc, Wait};
 use std::thread::Threads;
-use turns::shared_waiting::Pass;
-use turns::{Envelope, Filer, Gate, OutboxesPass, Service, SharedOutboxes, Worker};
+use tends::{Left, Room, StartRefusal, gather};
+use turns::{Service, Worker};
 
 /// The most threads of a pool.
 const MOST_THREADS: usize = 64;
@@ -103,15 +101,15 @@ impl Pool {
     ghost use Rattle.std.specs.Prelude.{◌<◌, None, Some};
     ghost use Rattle.depot.specs.Words.{view, splits_left, HasNoGrant, IsSeatHere};
     ghost use Rattle.depot_rule.specs.History.{entries_of, AreHands};
-    ghost use Rattle.workers.specs.Gathered.{calls_by, IsLeftOf};
+    ghost use Rattle.tends.specs.Gathered.{calls_by, IsLeftOf};
     ghost use Rattle.workers.specs.Pools.{filer_of, outboxes_of, HasBetween, HasAllWith};
     ghost use Rattle.workers.specs.Pools.{HasLentAllOf, HasLentBetween};
-    ghost use Rattle.workers.specs.Shares.{put_by, picked_by};
-    ghost use Rattle.turns.specs.Balance.{IsEven, Weight};
+    ghost use Rattle.tends.specs.Shares.{put_by, picked_by};
+    ghost use Rattle.granted_calls.specs.Balance.{IsEven, Weight};
     ghost use Rattle.turns.specs.Jobs.{job_takes, job_gives};
-    ghost use Rattle.turns.specs.Words.{layout_in, layout_known, verifier_in, HasOpened};
-    ghost use Rattle.turns.specs.shared_waiting.Passes as queues;
-    ghost use Rattle.turns.specs.shared_waiting.Passes.{known};
+    ghost use Rattle.granted_calls.specs.Filers.{layout_in, layout_known, verifier_in, HasOpened};
+    ghost use Rattle.granted_calls.specs.shared_waiting.Passes as queues;
+    ghost use Rattle.granted_calls.specs.shared_waiting.Passes.{known};
 
     /// Starts 1 to 64 threads, each with a worker. Their seats and passes are the seat and the pass
     /// that are handed in, or split from these, and none is left over; so are the passes by which

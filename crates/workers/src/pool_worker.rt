@@ -1,6 +1,7 @@
 //! A worker of a pool.
 
-use turns::{OutboxesPass, Worker};
+use granted_calls::OutboxesPass;
+use turns::Worker;
 
 /// A worker of a pool, with its pass of the outboxes that it puts answers into.
 #[derive(Drop)]

@@ -1,17 +1,20 @@
 //! A round of a worker's thread.
 
 ghost use Rattle.workers.specs.Heirs.{IsHeir};
-ghost use Rattle.turns.specs.SharedOutboxes.{HasLentShareOf, IsOf};
+ghost use Rattle.granted_calls.specs.SharedOutboxes.{HasLentShareOf, IsOf};
 ghost use Rattle.turns.specs.Words.{IsIn};
-ghost use Rattle.turns.specs.shared_waiting.Passes.{known};
+ghost use Rattle.granted_calls.specs.shared_waiting.Passes.{known};
 
-use crate::patience::Patience;
-use crate::tending::{Found, Tending, tend};
+use crate::tending::tend;
+use crate::worked::Worked;
+use crate::working::worker_turn;
+use granted_calls::{Filer, Gate, OutboxesPass, SharedOutboxes};
 use nfs_values::Moment;
 use std::rt::Clock;
 use std::sync::Wait;
 use std::time::Duration;
-use turns::{Filer, Gate, OutboxesPass, SharedOutboxes, Worked, Worker};
+use tends::{Found, Patience, Tending};
+use turns::Worker;
 
 /// How long a thread naps that found nothing to do, in milliseconds.
 const NAP: u64 = 1;
@@ -87,7 +90,7 @@ pub(crate) fn round<R: Wait + Clock, G: Gate>(
     ensures heir { IsHeir worker result }
     ensures lent { HasLentShareOf (known pass.old) (known pass.new) }
 {
-    let (worker, worked) = worker.worker_turn(filer, outboxes, pass, rt, gate, moment);
+    let (worker, worked) = worker_turn(worker, filer, outboxes, pass, rt, gate, moment);
     match worked {
         Worked::Done(_connection) => {
             state.patience = Patience::new();

@@ -2,14 +2,14 @@
 
 ghost use Rattle.workers.specs.Heirs.{IsPoolHeir, ServesAt};
 
-use crate::moments::time_now;
 use crate::pool_worker::PoolWorker;
 use crate::round::{RoundState, round};
 use crate::stop_word::StopWord;
+use granted_calls::{Filer, Gate, SharedOutboxes};
 use nfs_values::Moment;
 use std::rt::Clock;
 use std::sync::Wait;
-use turns::{Filer, Gate, SharedOutboxes};
+use tends::time_now;
 
 /// Runs a worker, round for round, until its thread is told to stop.
 pub(crate) fn run_rounds<R: Wait + Clock, G: Gate>(

@@ -3,21 +3,23 @@
 ghost use Rattle.std.specs.Prelude.{◌≡◌, ◌<◌, ◌≤◌, ◌+◌, ℕ, [], None, Some, All};
 ghost use Rattle.std.specs.Prelude.{vec_len, vec_capacity};
 ghost use Rattle.depot_rule.specs.Sums.{total};
-ghost use Rattle.workers.specs.Shares.{entries_by, picks_by, puts_by, share_of};
-ghost use Rattle.turns.specs.Messages as messages;
-ghost use Rattle.turns.specs.Balance.{FilerEntry};
+ghost use Rattle.tends.specs.Shares.{entries_by, picks_by, puts_by, share_of};
+ghost use Rattle.granted_calls.specs.Messages as messages;
+ghost use Rattle.granted_calls.specs.Balance.{FilerEntry};
 ghost use Rattle.depot.specs.Words.{view, splits_left, HasNoGrant, IsSeatHere};
 ghost use Rattle.depot_rule.specs.History.{entries_of, AreHands};
-ghost use Rattle.turns.specs.Balance.{IsEven};
+ghost use Rattle.granted_calls.specs.Balance.{IsEven};
 ghost use Rattle.turns.specs.Jobs.{job_takes, job_gives};
-ghost use Rattle.turns.specs.Words.{entries_in, layout_in, layout_known, passed, seats_in};
-ghost use Rattle.turns.specs.Words.{verifier_in, HasOpened, IsIn};
-ghost use Rattle.turns.specs.shared_waiting.Passes.{known, IsOf};
+ghost use Rattle.granted_calls.specs.Filers.{layout_in, layout_known, verifier_in, HasOpened};
+ghost use Rattle.turns.specs.Words.{entries_in, passed, seats_in};
+ghost use Rattle.turns.specs.Words.{IsIn};
+ghost use Rattle.granted_calls.specs.shared_waiting.Passes.{known, IsOf};
 
 use affinity::Layout;
 use depot::Seat;
-use turns::shared_waiting::Pass;
-use turns::{Envelope, Filer, Service, Worker};
+use granted_calls::shared_waiting::Pass;
+use granted_calls::{Envelope, Filer};
+use turns::{Service, Worker};
 
 /// The worker of a filer's only seat and a pass of its queue.
 pub(crate) fn first_worker(

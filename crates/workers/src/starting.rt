@@ -7,20 +7,21 @@ ghost use Rattle.depot_rule.specs.Sums.{total};
 ghost use Rattle.workers.specs.Heirs.{ServesAt};
 ghost use Rattle.workers.specs.Threads.{lent_share_with, started_with, PutsInto, ServesIn};
 ghost use Rattle.turns.specs.declared.worker.Worker.{Worker};
-ghost use Rattle.turns.specs.shared_waiting.Balance.{part};
-ghost use Rattle.turns.specs.shared_waiting.Passes.{known};
-ghost use Rattle.turns.specs.SharedOutboxes.{IsOf};
+ghost use Rattle.granted_calls.specs.shared_waiting.Balance.{part};
+ghost use Rattle.granted_calls.specs.shared_waiting.Passes.{known};
+ghost use Rattle.granted_calls.specs.SharedOutboxes.{IsOf};
 ghost use Rattle.turns.specs.Words.{IsIn};
 
 use crate::commons::Commons;
 use crate::pool_worker::PoolWorker;
-use crate::refusal::StartRefusal;
 use crate::task::{Task, Thread, start_one};
+use granted_calls::{Gate, OutboxesPass};
 use std::alloc::AllocError;
 use std::rt::Clock;
 use std::sync::Wait;
 use std::thread::Threads;
-use turns::{Gate, OutboxesPass, Worker};
+use tends::StartRefusal;
+use turns::Worker;
 
 /// What a thread has beside its worker.
 fn share<G: Gate + Clone>(commons: &Commons, gate: &G) -> Result<(Commons, G), AllocError>

@@ -6,14 +6,14 @@ ghost use Rattle.workers.specs.Heirs.{IsPoolHeir, ServesAt};
 
 use crate::commons::Commons;
 use crate::pool_worker::PoolWorker;
-use crate::refusal::StartRefusal;
 use crate::serving::run_rounds;
+use granted_calls::{Filer, Gate, SharedOutboxes};
 use std::rt::Clock;
 use std::snapshot::Snapshot;
 use std::sync::{Arc, Wait};
 use std::thread;
 use std::thread::{Promise, PromisedHandle, Threads};
-use turns::{Filer, Gate, SharedOutboxes};
+use tends::StartRefusal;
 
 /// A worker, and what it shares with others.
 #[derive(Drop)]

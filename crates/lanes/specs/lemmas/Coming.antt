@@ -4,10 +4,10 @@ use Rattle.outboxes.specs.Boxes.{Addressed, Boxes, put}
 use Rattle.engine_feed.specs.Seen.{message_of}
 use Rattle.tcp_front.specs.Admitted.{calls_of}
 use Rattle.tcp_front.specs.Arrivals.{Arrival, Waits, Answered}
-use Rattle.turns.specs.shared_waiting.Passes.{known}
+use Rattle.granted_calls.specs.shared_waiting.Passes.{known}
 use Rattle.lanes.specs.declared.intake.Intake.{Intake}
-use Rattle.turns.specs.Telling.{answer_told}
-use Rattle.turns.specs.lemmas.Telling.{told-append}
+use Rattle.granted_calls.specs.Telling.{answer_told}
+use Rattle.granted_calls.specs.lemmas.Telling.{told-append}
 use Rattle.lanes.specs.Intakes.{answered_of, all_put, HasTakenIn}
 
 pub calls-append : (xs ys : List Arrival) → calls_of (xs ++ ys) ≡ calls_of xs ++ calls_of ys

@@ -38,7 +38,7 @@ fn close_under<D>(
 }
 
 impl<D: Device, R> Lane<D, R> {
-    ghost use Rattle.turns.specs.shared_waiting.Passes.{known};
+    ghost use Rattle.granted_calls.specs.shared_waiting.Passes.{known};
     ghost use Rattle.lanes.specs.Words.{boxes_in, connections_in, filer_in, identity_in};
     ghost use Rattle.lanes.specs.Words.{intake_in, pass_in, waiting_in, worker_in};
 

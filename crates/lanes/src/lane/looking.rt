@@ -3,8 +3,9 @@
 use crate::intake::MOST_OWED;
 use crate::lane::Lane;
 use connections::Device;
+use granted_calls::Filer;
 use statistics::ReplyCounts;
-use turns::{Filer, Worker};
+use turns::Worker;
 
 impl<D: Device, R> Lane<D, R> {
     ghost use Rattle.std.specs.Prelude.{◌≡◌};

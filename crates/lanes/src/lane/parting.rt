@@ -4,8 +4,9 @@ use crate::intake::Intake;
 use crate::lane::Lane;
 use affinity::Layout;
 use connections::Device;
-use turns::shared_waiting::{Pass, SharedWaiting};
-use turns::{Envelope, Worker};
+use granted_calls::Envelope;
+use granted_calls::shared_waiting::{Pass, SharedWaiting};
+use turns::Worker;
 
 /// The worker of a lane, its queue, and the pass that only admitted.
 pub struct LaneParts {
@@ -16,7 +17,7 @@ pub struct LaneParts {
 
 impl<D: Device + Drop, R: Drop> Lane<D, R> {
     ghost use Rattle.std.specs.Prelude.{◌≡◌, []};
-    ghost use Rattle.turns.specs.shared_waiting.Passes.{known, IsOf};
+    ghost use Rattle.granted_calls.specs.shared_waiting.Passes.{known, IsOf};
     ghost use Rattle.turns.specs.Words.{IsAt};
     ghost use Rattle.lanes.specs.Queues.{HasBoth};
     ghost use Rattle.lanes.specs.Words.{filer_in, pass_in, queue_in, worker_in, HasStory};

@@ -3,7 +3,7 @@
 ghost use Rattle.std.specs.Prelude.{◌≡◌, ◌<◌, length};
 ghost use Rattle.affinity.specs.Layout.{layout_of};
 ghost use Rattle.slab.specs.Slab.{get};
-ghost use Rattle.turns.specs.Words.{layout_in};
+ghost use Rattle.granted_calls.specs.Filers.{layout_in};
 ghost use Rattle.lanes.specs.Lanes.{ReadsOn, ReadsUnder};
 
 use crate::intake::Intake;

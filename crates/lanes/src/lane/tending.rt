@@ -9,9 +9,10 @@ use turns::{Tend, TendRefusal, Tended};
 impl<D: Device, R> Lane<D, R> {
     ghost use Rattle.lanes.specs.Words.{boxes_in, connections_in, filer_in, identity_in};
     ghost use Rattle.lanes.specs.Words.{pass_in, worker_in};
-    ghost use Rattle.turns.specs.shared_waiting.Passes.{known};
+    ghost use Rattle.granted_calls.specs.shared_waiting.Passes.{known};
     ghost use Rattle.turns.specs.Tends.{kept_in, Tends};
-    ghost use Rattle.turns.specs.Words.{layout_in, passed, seats_in};
+    ghost use Rattle.granted_calls.specs.Filers.{layout_in};
+    ghost use Rattle.turns.specs.Words.{passed, seats_in};
 
     /// Does something with the batch of block numbers in its worker's hand (`Worker::tend_in`).
     pub fn tend(&mut self, tend: Tend) -> Result<Tended, TendRefusal>

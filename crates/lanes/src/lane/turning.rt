@@ -7,11 +7,12 @@ ghost use Rattle.lanes.specs.Queues.{count_kept};
 use crate::intake::Intake;
 use crate::lane::Lane;
 use connections::Device;
+use granted_calls::{Chained, Filer, Gate, Hint, Place};
 use nfs_values::{Moment, Reply};
 use rpc_msg::HandleForm;
 use service::Ahead;
 use std::sync::Wait;
-use turns::{Chained, Filer, Gate, Hint, Place, Worker};
+use turns::Worker;
 
 /// How many messages a worker keeps.
 fn kept_by(worker: &Worker) -> usize
@@ -44,13 +45,14 @@ impl<G: Gate> Gate for AheadGate<'_, G> {
 impl<R: Wait> Intake<R> {
     ghost use Rattle.std.specs.Prelude.{◌≤◌, []};
     ghost use Rattle.depot_rule.specs.Sums.{total};
-    ghost use Rattle.turns.specs.declared.chained.Chained.TheVariants.{Idle};
-    ghost use Rattle.turns.specs.shared_waiting.Passes.{known};
-    ghost use Rattle.turns.specs.Balance.{Weight, by_entry, by_key};
-    ghost use Rattle.turns.specs.Chains.{turns_at_most, HasDoneFew, HasPutAll, HasTurnedOn};
+    ghost use Rattle.granted_calls.specs.declared.chained.Chained.TheVariants.{Idle};
+    ghost use Rattle.granted_calls.specs.shared_waiting.Passes.{known};
+    ghost use Rattle.granted_calls.specs.Balance.{Weight, by_entry, by_key};
+    ghost use Rattle.granted_calls.specs.Chains.{turns_at_most, HasDoneFew, HasPutAll, HasTurnedOn};
     ghost use Rattle.turns.specs.Turns.{standing_of};
-    ghost use Rattle.turns.specs.Telling.{TookTold};
-    ghost use Rattle.turns.specs.Words.{entries_in, layout_in, seat_view, seats_in, IsAt};
+    ghost use Rattle.granted_calls.specs.Telling.{TookTold};
+    ghost use Rattle.granted_calls.specs.Filers.{layout_in};
+    ghost use Rattle.turns.specs.Words.{entries_in, seat_view, seats_in, IsAt};
     ghost use Rattle.lanes.specs.Queues.{HasNoneLeft};
 
     /// Turns of its worker, whose answers are put into its outboxes, with their handles in a form,
@@ -105,13 +107,14 @@ impl<R: Wait> Intake<R> {
 }
 
 impl<D: Device, R: Wait> Lane<D, R> {
-    ghost use Rattle.turns.specs.declared.chained.Chained.TheVariants.{Idle};
-    ghost use Rattle.turns.specs.shared_waiting.Passes.{known};
-    ghost use Rattle.turns.specs.Chains.{turns_at_most, HasDoneFew, HasPutAll, HasTurnedOn};
+    ghost use Rattle.granted_calls.specs.declared.chained.Chained.TheVariants.{Idle};
+    ghost use Rattle.granted_calls.specs.shared_waiting.Passes.{known};
+    ghost use Rattle.granted_calls.specs.Chains.{turns_at_most, HasDoneFew, HasPutAll, HasTurnedOn};
     ghost use Rattle.turns.specs.Turns.{standing_of};
     ghost use Rattle.rpc_msg.specs.Offer.{form_of};
-    ghost use Rattle.turns.specs.Telling.{TookTold};
-    ghost use Rattle.turns.specs.Words.{layout_in, seat_view, seats_in};
+    ghost use Rattle.granted_calls.specs.Telling.{TookTold};
+    ghost use Rattle.granted_calls.specs.Filers.{layout_in};
+    ghost use Rattle.turns.specs.Words.{seat_view, seats_in};
     ghost use Rattle.lanes.specs.Queues.{HasNoneLeft};
     ghost use Rattle.lanes.specs.Words.{boxes_in, connections_in, filer_in, identity_in};
     ghost use Rattle.lanes.specs.Words.{offer_in, pass_in, worker_in};

@@ -26,7 +26,7 @@ fn write_under<D: Device>(
 }
 
 impl<D: Device, R> Lane<D, R> {
-    ghost use Rattle.turns.specs.shared_waiting.Passes.{known};
+    ghost use Rattle.granted_calls.specs.shared_waiting.Passes.{known};
     ghost use Rattle.lanes.specs.Words.{boxes_in, connections_in, filer_in, identity_in};
     ghost use Rattle.lanes.specs.Words.{pass_in, worker_in};
 

@@ -2,7 +2,7 @@ use Rattle.std.proofs.Common.{◌≡◌, ◌≤◌, ◌+◌, ℕ, All, vec_len, 
 use Rattle.depot_rule.specs.Sums.{total}
 use Rattle.lanes.specs.Words.{Identity}
 use Rattle.server.specs.Lanes.{by_identity, seats_of, IsLaneOf}
-use Rattle.turns.specs.declared.shared.Filer.{Filer}
+use Rattle.granted_calls.specs.declared.shared.Filer.{Filer}
 use Rattle.lane_rows.proofs.closing.serve_each.Given as goal
 
 abbrev pub invariant-loop-lane : goal.invariant-loop-lane

@@ -1,8 +1,8 @@
 -- the message waits yet, and the pass has put and picked nothing
 use Rattle.std.proofs.Common.{◌≡◌}
-use Rattle.turns.specs.Messages.{IsPlaced}
-use Rattle.turns.specs.shared_waiting.Passes.{known, IsOf}
-use Rattle.turns.specs.Words.{layout_in}
+use Rattle.granted_calls.specs.Messages.{IsPlaced}
+use Rattle.granted_calls.specs.shared_waiting.Passes.{known, IsOf}
+use Rattle.granted_calls.specs.Filers.{layout_in}
 use Rattle.pool_rows.proofs.putting.put.Given as goal
 
 abbrev pub invariant-loop : goal.invariant-loop

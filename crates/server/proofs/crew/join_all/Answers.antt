@@ -2,8 +2,8 @@ use Rattle.std.proofs.Common.{◌∙◌, ap, arith}
 use Rattle.depot_rule.specs.Sums.{total}
 use Rattle.server.specs.Lanes.{by_identity, seats_of, IsLaneOf}
 use Rattle.server.specs.Threads.{identity_with, seats_with, ServesFor}
-use Rattle.workers.proofs.Lists.{none-left}
-use Rattle.workers.proofs.Handed.{handed, all-pushed, all-popped}
+use Rattle.tends.proofs.Lists.{none-left}
+use Rattle.tends.proofs.Handed.{handed, all-pushed, all-popped}
 use Rattle.server.proofs.crew.join_all.Goals as goal
 
 pub loop-thread-preserved : goal.loop-thread-preserved

@@ -3,8 +3,8 @@ use Rattle.depot_rule.specs.Sums.{total}
 use Rattle.lanes.specs.Words.{filer_in}
 use Rattle.server.specs.Lanes.{by_identity, seats_of}
 use Rattle.server.specs.Threads.{identity_for, identity_with, seats_for, seats_with, IsTaskFor, ServesFor}
-use Rattle.workers.proofs.Lists.{none-left}
-use Rattle.workers.proofs.Handed.{handed, all-pushed, all-popped}
+use Rattle.tends.proofs.Lists.{none-left}
+use Rattle.tends.proofs.Handed.{handed, all-pushed, all-popped}
 use Rattle.server.proofs.crew.start_all.Goals as goal
 
 pub loop-task-preserved : goal.loop-task-preserved

@@ -1,6 +1,6 @@
 use Rattle.std.proofs.Common.{subst}
 use Rattle.std.specs.Arc.{arc_value}
-use Rattle.turns.specs.declared.shared.Filer.{Filer}
+use Rattle.granted_calls.specs.declared.shared.Filer.{Filer}
 use Rattle.server.specs.Ends.{HaveStopped}
 use Rattle.server.proofs.Ended.{left-there, all-closed}
 use Rattle.server.proofs.ending.end.Goals as goal

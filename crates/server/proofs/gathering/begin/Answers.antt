@@ -3,12 +3,13 @@ use Rattle.depot.specs.Words.{view, IsSeatHere}
 use Rattle.depot_rule.specs.History.{entries_of}
 use Rattle.depot_rule.specs.Sums.{total}
 use Rattle.filer_state.specs.state.Jobs.{batches_in}
-use Rattle.turns.specs.Balance.{by_key}
-use Rattle.turns.specs.Words.{layout_in, verifier_in, HasOpened, IsAt}
-use Rattle.turns.specs.declared.shared.Filer.{Filer}
-use Rattle.turns.specs.shared_waiting.Passes.{known}
+use Rattle.granted_calls.specs.Balance.{by_key}
+use Rattle.granted_calls.specs.Filers.{layout_in, verifier_in, HasOpened}
+use Rattle.turns.specs.Words.{IsAt}
+use Rattle.granted_calls.specs.declared.shared.Filer.{Filer}
+use Rattle.granted_calls.specs.shared_waiting.Passes.{known}
 use Rattle.server.proofs.Remaining.{calls-first}
-use Rattle.workers.proofs.Joins.{hands-first}
+use Rattle.tends.proofs.Joins.{hands-first}
 use Rattle.server.proofs.gathering.begin.Goals as goal
 
 pub returns-clause-calls : goal.returns-clause-calls

@@ -1,7 +1,7 @@
 use Rattle.std.proofs.Common.{ap, arith}
 use Rattle.depot_rule.specs.Sums.{total}
 use Rattle.server.specs.Lanes.{admitted_by, finished_by, seats_of, IsLaneOf}
-use Rattle.workers.proofs.Lists.{all-popped, none-left, total-last}
+use Rattle.tends.proofs.Lists.{all-popped, none-left, total-last}
 use Rattle.server.proofs.gathering.gather_lanes.Goals as goal
 
 pub begin-first-requires-clause-of : goal.begin-first-requires-clause-of

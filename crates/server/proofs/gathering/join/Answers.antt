@@ -3,14 +3,15 @@ use Rattle.depot.specs.Words.{view, IsSeatHere}
 use Rattle.depot_rule.specs.History.{entries_of}
 use Rattle.depot_rule.specs.Sums.{total}
 use Rattle.filer_state.specs.state.Jobs.{batches_in}
-use Rattle.turns.specs.Balance.{by_key}
-use Rattle.turns.specs.Words.{entries_in, layout_in, verifier_in, HasOpened, IsAt}
-use Rattle.turns.specs.declared.shared.Filer.{Filer}
+use Rattle.granted_calls.specs.Balance.{by_key}
+use Rattle.granted_calls.specs.Filers.{layout_in, verifier_in, HasOpened}
+use Rattle.turns.specs.Words.{entries_in, IsAt}
+use Rattle.granted_calls.specs.declared.shared.Filer.{Filer}
 use Rattle.turns.specs.declared.worker.Worker.{Worker}
-use Rattle.turns.specs.shared_waiting.Passes.{known}
+use Rattle.granted_calls.specs.shared_waiting.Passes.{known}
 use Rattle.server.specs.Remains.{calls_in}
 use Rattle.server.proofs.Remaining.{calls-both}
-use Rattle.workers.proofs.Joins.{hands-both, none-both}
+use Rattle.tends.proofs.Joins.{hands-both, none-both}
 use Rattle.server.proofs.gathering.join.Goals as goal
 
 pub join_seat-requires-clause-first : goal.join_seat-requires-clause-first

@@ -2,7 +2,7 @@ use Rattle.std.proofs.Common.{◌≡◌, ◌≤◌, ◌+◌, ◌*◌, ℕ, All, 
 use Rattle.depot.specs.Words.{view, splits_left}
 use Rattle.depot_rule.specs.History.{entries_of}
 use Rattle.depot_rule.specs.Sums.{total}
-use Rattle.turns.specs.Balance.{FilerEntry, Weight}
+use Rattle.granted_calls.specs.Balance.{FilerEntry, Weight}
 use Rattle.server.specs.Lanes.{admitted_by, finished_by, seats_of, IsLaneOf}
 use Rattle.server.specs.Remains.{calls_in, AreRemainsIn}
 use Rattle.server.proofs.gathering.join_all.Given as goal

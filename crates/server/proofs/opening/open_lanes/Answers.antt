@@ -1,11 +1,11 @@
 use Rattle.std.proofs.Common.{◌≡◌, ◌∙◌, ℕ, suc, ◌+◌, List, [], ◌∷◌, ◌++◌, length, ap, arith, subst, sym}
 use Rattle.std.specs.Arc.{arc_value}
 use Rattle.depot.specs.Words.{IsSeatHere}
-use Rattle.turns.specs.declared.shared.Filer.{Filer}
+use Rattle.granted_calls.specs.declared.shared.Filer.{Filer}
 use Rattle.turns.specs.declared.worker.Worker.{Worker}
-use Rattle.turns.specs.shared_waiting.Balance.{both, IsWhole}
-use Rattle.turns.specs.shared_waiting.Passes.{known}
-use Rattle.turns.specs.Balance.{Passed}
+use Rattle.granted_calls.specs.shared_waiting.Balance.{both, IsWhole}
+use Rattle.granted_calls.specs.shared_waiting.Passes.{known}
+use Rattle.granted_calls.specs.Balance.{Passed}
 use Rattle.turns.specs.Words.{seats_in, IsAt}
 use Rattle.rpc_msg.specs.declared.offer.Offer.{Offer}
 use Rattle.lanes.specs.Words.{Identity}
@@ -14,8 +14,8 @@ use Rattle.lanes.specs.declared.lane.Lane.{Lane}
 use Rattle.server.specs.Lanes.{by_offer, by_place, places, places_below, seats_of, IsLaneOf}
 use Rattle.depot_rule.specs.Sums.{total}
 use Rattle.server.specs.Queues.{IsNewQueue}
-use Rattle.workers.proofs.Handed.{all-pushed}
-use Rattle.workers.proofs.Lists.{total-last}
+use Rattle.tends.proofs.Handed.{all-pushed}
+use Rattle.tends.proofs.Lists.{total-last}
 use Rattle.server.proofs.opening.open_lanes.Goals as goal
 
 one-place : (weigh : ℕ × ℕ → ℕ) (count n : ℕ) → total weigh (places_below count (n + 1)) ≡ weigh (n, count) + total weigh (places_below count n)

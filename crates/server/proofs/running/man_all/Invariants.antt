@@ -1,6 +1,6 @@
 use Rattle.std.proofs.Common.{◌≡◌, ◌≤◌, ◌+◌, ℕ, All, vec_len, vec_capacity}
 use Rattle.depot_rule.specs.Sums.{total}
-use Rattle.turns.specs.declared.shared.Filer.{Filer}
+use Rattle.granted_calls.specs.declared.shared.Filer.{Filer}
 use Rattle.lanes.specs.Words.{Identity}
 use Rattle.server.specs.Lanes.{by_identity, seats_of, IsLaneOf}
 use Rattle.server.specs.Threads.{identity_for, seats_for, IsTaskFor}

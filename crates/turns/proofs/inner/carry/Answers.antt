@@ -8,7 +8,7 @@ use Rattle.service.specs.Works.{range_call_of, range_hand_of, logical_call_of, l
 use Rattle.service.specs.declared.works.BatchWork.{BatchWork}
 use Rattle.service.specs.lemmas.Inner.{is-inner}
 use Rattle.turns.specs.Carries.{node_tried, HasCarried, MayCarry}
-use Rattle.turns.specs.Words.{layout_in}
+use Rattle.granted_calls.specs.Filers.{layout_in}
 use Rattle.turns.proofs.Ran.{range-node, logical-node}
 use Rattle.turns.proofs.inner.carry.Goals as goal
 

@@ -5,10 +5,10 @@ use Rattle.desk.specs.Any.{node_lent}
 use Rattle.service.specs.Jobs.{inner_of}
 use Rattle.turns.specs.declared.tend.TendRefusal.{TendRefusal}
 use Rattle.turns.specs.Carries.{node_tried, IsRefusedFor}
-use Rattle.turns.specs.Words.{layout_in, verifier_in}
+use Rattle.granted_calls.specs.Filers.{layout_in, verifier_in}
 use Rattle.turns.proofs.Ran.{refused-for, may-finish, made-ready, has-carried, unused-goes-back, is-unused, empty-hand, starved-goes-back}
 use Rattle.turns.proofs.Ran.{left-entries, left-ready}
-use Rattle.turns.proofs.Served.{refused-entries, refused-ready}
+use Rattle.granted_calls.proofs.Finished.{refused-entries, refused-ready}
 use Rattle.turns.proofs.inner.carry_on.Goals as goal
 
 -- ---- it didn't begin

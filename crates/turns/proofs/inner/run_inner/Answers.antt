@@ -11,8 +11,8 @@ use Rattle.filer_state.specs.state.Jobs.{batches_in, inner_node}
 use Rattle.service.specs.Inner.{InnerHasRun}
 use Rattle.service.specs.Jobs.{batch_reply_of, inner_of}
 use Rattle.turns.specs.Stocks.{told_by, HasLooked}
-use Rattle.turns.specs.Turns.{filer_behaviour}
-use Rattle.turns.specs.Words.{layout_in}
+use Rattle.granted_calls.specs.Served.{filer_behaviour}
+use Rattle.granted_calls.specs.Filers.{layout_in}
 use Rattle.turns.proofs.Looked.{done-still, told-still}
 use Rattle.turns.proofs.Ran.{node-of-call, granted-hand}
 use Rattle.turns.proofs.inner.run_inner.Goals as goal

@@ -1,4 +1,4 @@
-use Rattle.turns.specs.shared_waiting.Passes.{known}
+use Rattle.granted_calls.specs.shared_waiting.Passes.{known}
 use Rattle.turns.proofs.Turning.{placed-by}
 use Rattle.turns.proofs.queueing.look_twice.Goals as goal
 

@@ -1,4 +1,4 @@
-use Rattle.turns.specs.shared_waiting.Passes.{known}
+use Rattle.granted_calls.specs.shared_waiting.Passes.{known}
 use Rattle.turns.proofs.Turning.{fits-by}
 use Rattle.turns.proofs.queueing.wait_again.Goals as goal
 

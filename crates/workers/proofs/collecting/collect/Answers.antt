@@ -1,15 +1,16 @@
 use Rattle.std.proofs.Common.{rules, ◌∙◌, ◌+◌, ap, arith, subst}
 use Rattle.depot_rule.specs.Sums.{total}
-use Rattle.workers.specs.Shares.{share_of}
+use Rattle.tends.specs.Shares.{share_of}
 use Rattle.workers.specs.Threads.{lent_share_with, seats_with, share_with, started_with, PutsInto, ServesIn}
-use Rattle.workers.proofs.Handed.{handed, all-pushed, all-popped, same-share}
+use Rattle.tends.proofs.Handed.{handed, all-pushed, all-popped}
+use Rattle.workers.proofs.Heirs.{same-share}
 use Rattle.workers.proofs.Lending.{lent-both, lent-same}
-use Rattle.workers.proofs.Lists.{none-left, total-last}
-use Rattle.turns.specs.declared.shared.Filer.{Filer}
-use Rattle.turns.specs.declared.shared_outboxes.SharedOutboxes.{SharedOutboxes}
-use Rattle.turns.specs.SharedOutboxes.{IsOf}
+use Rattle.tends.proofs.Lists.{none-left, total-last}
+use Rattle.granted_calls.specs.declared.shared.Filer.{Filer}
+use Rattle.granted_calls.specs.declared.shared_outboxes.SharedOutboxes.{SharedOutboxes}
+use Rattle.granted_calls.specs.SharedOutboxes.{IsOf}
 use Rattle.turns.specs.Words.{seats_in, IsIn}
-use Rattle.turns.specs.shared_waiting.Passes.{known}
+use Rattle.granted_calls.specs.shared_waiting.Passes.{known}
 use Rattle.workers.proofs.collecting.collect.Goals as goal
 
 pub join_pass-pass-requires : goal.join_pass-pass-requires

@@ -1,12 +1,12 @@
 use Rattle.std.proofs.Common.{◌≡◌, ◌≤◌, ◌+◌, ℕ, All, vec_len, vec_capacity}
 use Rattle.depot_rule.specs.Sums.{total}
-use Rattle.workers.specs.Shares.{share_of}
+use Rattle.tends.specs.Shares.{share_of}
 use Rattle.workers.specs.Threads.{lent_share_with, seats_with, share_with, PutsInto, ServesIn}
-use Rattle.turns.specs.SharedOutboxes.{IsOf}
+use Rattle.granted_calls.specs.SharedOutboxes.{IsOf}
 use Rattle.turns.specs.Words.{seats_in, IsIn}
-use Rattle.turns.specs.declared.shared.Filer.{Filer}
-use Rattle.turns.specs.shared_waiting.Balance.{part}
-use Rattle.turns.specs.shared_waiting.Passes.{known}
+use Rattle.granted_calls.specs.declared.shared.Filer.{Filer}
+use Rattle.granted_calls.specs.shared_waiting.Balance.{part}
+use Rattle.granted_calls.specs.shared_waiting.Passes.{known}
 use Rattle.workers.proofs.collecting.collect.Given as goal
 
 abbrev pub invariant-loop-thread : goal.invariant-loop-thread

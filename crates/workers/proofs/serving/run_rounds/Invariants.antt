@@ -1,8 +1,8 @@
 use Rattle.std.proofs.Common.{◌<◌}
 use Rattle.workers.specs.Heirs.{IsHeir}
-use Rattle.turns.specs.SharedOutboxes.{HasLentShareOf, IsOf}
+use Rattle.granted_calls.specs.SharedOutboxes.{HasLentShareOf, IsOf}
 use Rattle.turns.specs.Words.{IsIn}
-use Rattle.turns.specs.shared_waiting.Passes.{known}
+use Rattle.granted_calls.specs.shared_waiting.Passes.{known}
 use Rattle.workers.proofs.serving.run_rounds.Given as goal
 
 abbrev pub invariant-loop : goal.invariant-loop

@@ -1,10 +1,10 @@
 use Rattle.std.proofs.Common.{rules, ap, arith}
-use Rattle.turns.specs.Balance.{Passed}
+use Rattle.granted_calls.specs.Balance.{Passed}
 use Rattle.turns.specs.Words.{passed, seats_in, IsIn}
 use Rattle.depot_rule.specs.Sums.{total}
-use Rattle.workers.specs.Shares.{entries_by, picks_by, puts_by, share_of}
-use Rattle.workers.proofs.Lists.{all-pushed, total-last}
-use Rattle.workers.proofs.Sharing.{halved}
+use Rattle.tends.specs.Shares.{entries_by, picks_by, puts_by, share_of}
+use Rattle.tends.proofs.Lists.{all-pushed, total-last}
+use Rattle.tends.proofs.Sharing.{halved}
 use Rattle.workers.proofs.splits.split_workers.Goals as goal
 
 pub loop-preserved : goal.loop-preserved

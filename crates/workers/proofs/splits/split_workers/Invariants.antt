@@ -1,9 +1,9 @@
 use Rattle.std.proofs.Common.{◌≡◌, ◌≤◌, ◌+◌, ℕ, All, vec_len, vec_capacity}
 use Rattle.depot_rule.specs.Sums.{total}
 use Rattle.turns.specs.Words.{passed, seats_in, IsIn}
-use Rattle.workers.specs.Shares.{entries_by, picks_by, puts_by, share_of}
-use Rattle.turns.specs.Balance.{FilerEntry}
-use Rattle.turns.specs.Messages.{Message}
+use Rattle.tends.specs.Shares.{entries_by, picks_by, puts_by, share_of}
+use Rattle.granted_calls.specs.Balance.{FilerEntry}
+use Rattle.granted_calls.specs.Messages.{Message}
 use Rattle.workers.proofs.splits.split_workers.Given as goal
 
 abbrev pub invariant-loop : goal.invariant-loop

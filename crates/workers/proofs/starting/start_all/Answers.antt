@@ -2,14 +2,14 @@ use Rattle.std.proofs.Common.{◌∙◌, ap, arith, subst}
 use Rattle.std.specs.Arc.{arc_value}
 use Rattle.workers.specs.Threads.{lent_share_with, started_with, PutsInto, ServesIn}
 use Rattle.workers.specs.declared.pool_worker.PoolWorker.{PoolWorker}
-use Rattle.workers.proofs.Handed.{handed, all-pushed, all-popped}
+use Rattle.tends.proofs.Handed.{handed, all-pushed, all-popped}
 use Rattle.workers.proofs.Lending.{lent-halves}
-use Rattle.workers.proofs.Lists.{total-last}
-use Rattle.turns.specs.declared.shared_outboxes.SharedOutboxes.{SharedOutboxes}
-use Rattle.turns.specs.SharedOutboxes.{Lent, IsOf}
+use Rattle.tends.proofs.Lists.{total-last}
+use Rattle.granted_calls.specs.declared.shared_outboxes.SharedOutboxes.{SharedOutboxes}
+use Rattle.granted_calls.specs.SharedOutboxes.{Lent, IsOf}
 use Rattle.turns.specs.Words.{IsIn}
-use Rattle.turns.specs.shared_waiting.Balance.{part}
-use Rattle.turns.specs.shared_waiting.Passes.{known}
+use Rattle.granted_calls.specs.shared_waiting.Balance.{part}
+use Rattle.granted_calls.specs.shared_waiting.Passes.{known}
 use Rattle.workers.proofs.starting.start_all.Goals as goal
 
 pub loop-worker-preserved : goal.loop-worker-preserved

@@ -3,10 +3,10 @@ use Rattle.std.specs.Arc.{arc_value}
 use Rattle.depot_rule.specs.Sums.{total}
 use Rattle.workers.specs.Threads.{lent_share_with, started_with, PutsInto, ServesIn}
 use Rattle.turns.specs.declared.worker.Worker.{Worker}
-use Rattle.turns.specs.SharedOutboxes.{IsOf}
+use Rattle.granted_calls.specs.SharedOutboxes.{IsOf}
 use Rattle.turns.specs.Words.{IsIn}
-use Rattle.turns.specs.shared_waiting.Balance.{part}
-use Rattle.turns.specs.shared_waiting.Passes.{known}
+use Rattle.granted_calls.specs.shared_waiting.Balance.{part}
+use Rattle.granted_calls.specs.shared_waiting.Passes.{known}
 use Rattle.workers.proofs.starting.start_all.Given as goal
 
 abbrev pub invariant-loop-worker : goal.invariant-loop-worker

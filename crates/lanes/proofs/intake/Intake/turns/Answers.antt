@@ -2,13 +2,15 @@ use Rattle.std.proofs.Common.{◌≡◌, ◌≤◌, refl, sym, ap, subst, ◌∙
 use Rattle.crossbeam_queue.specs.Fifo.{Held}
 use Rattle.depot_rule.specs.History.{entries_of}
 use Rattle.depot_rule.specs.Sums.{total}
-use Rattle.turns.specs.Balance.{Passed, Weight, by_entry, by_key}
-use Rattle.turns.specs.Chains.{turns_at_most, HasDoneFew, HasPutAll, HasTurnedOn}
-use Rattle.turns.specs.Telling.{TookTold}
-use Rattle.turns.specs.Turns.{HasShareOf, Standing, standing_of}
-use Rattle.turns.specs.Words.{layout_in, layout_known, passed, seat_view}
-use Rattle.turns.specs.shared_waiting.Balance.{both, Leaves}
-use Rattle.turns.specs.shared_waiting.Passes.{known}
+use Rattle.granted_calls.specs.Balance.{Passed, Weight, by_entry, by_key}
+use Rattle.granted_calls.specs.Chains.{turns_at_most, HasDoneFew, HasPutAll, HasTurnedOn}
+use Rattle.granted_calls.specs.Telling.{TookTold}
+use Rattle.granted_calls.specs.Served.{HasShareOf, Standing}
+use Rattle.turns.specs.Turns.{standing_of}
+use Rattle.granted_calls.specs.Filers.{layout_in, layout_known}
+use Rattle.turns.specs.Words.{passed, seat_view}
+use Rattle.granted_calls.specs.shared_waiting.Balance.{both, Leaves}
+use Rattle.granted_calls.specs.shared_waiting.Passes.{known}
 use Rattle.lanes.proofs.Counted.{counted-anew}
 use Rattle.lanes.proofs.Idle.{finished-once, idle-same, none-left}
 use Rattle.lanes.proofs.Steps.{both-kept, same-share}

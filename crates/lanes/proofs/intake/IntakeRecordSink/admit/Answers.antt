@@ -1,9 +1,9 @@
 use Rattle.std.proofs.Common.{◌<◌, sym, subst, rules}
-use Rattle.turns.specs.Balance.{Passed}
-use Rattle.turns.specs.shared_waiting.Balance.{FitsIn}
-use Rattle.turns.specs.Messages.{Fits, Message}
-use Rattle.turns.specs.shared_waiting.Passes.{known}
-use Rattle.turns.specs.Words.{layout_in}
+use Rattle.granted_calls.specs.Balance.{Passed}
+use Rattle.granted_calls.specs.shared_waiting.Balance.{FitsIn}
+use Rattle.granted_calls.specs.Messages.{Fits, Message}
+use Rattle.granted_calls.specs.shared_waiting.Passes.{known}
+use Rattle.granted_calls.specs.Filers.{layout_in}
 use Rattle.lanes.proofs.Counted.{not-full}
 use Rattle.lanes.proofs.Fitting.{fits-by, placed}
 use Rattle.lanes.proofs.intake.IntakeRecordSink.admit.Goals as goal

@@ -1,6 +1,6 @@
 use Rattle.std.proofs.Common.{rules}
 use Rattle.turns.specs.Words.{entries_in}
-use Rattle.turns.specs.shared_waiting.Passes.{known}
+use Rattle.granted_calls.specs.shared_waiting.Passes.{known}
 use Rattle.lanes.proofs.Lived.{story-begins}
 use Rattle.lanes.proofs.Counted.{counted-none}
 use Rattle.lanes.proofs.lane.Lane.new.Goals as goal

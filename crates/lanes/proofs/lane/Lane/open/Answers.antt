@@ -1,7 +1,8 @@
 use Rattle.std.proofs.Common.{refl, sym, ap, subst, ◌∙◌, []}
 use Rattle.std.specs.Arc.{arc_value}
-use Rattle.turns.specs.Words.{entries_in, layout_in}
-use Rattle.turns.specs.shared_waiting.Passes.{known}
+use Rattle.granted_calls.specs.Filers.{layout_in}
+use Rattle.turns.specs.Words.{entries_in}
+use Rattle.granted_calls.specs.shared_waiting.Passes.{known}
 use Rattle.slab.specs.Slab.{get}
 use Rattle.connections.specs.Reading.{Reads}
 use Rattle.connections.specs.Writing.{Writes}

@@ -3,11 +3,12 @@ use Rattle.std.proofs.Math.Logic.{∥∥₁_map}
 use Rattle.std.specs.Arc.{arc_value}
 use Rattle.affinity.specs.declared.layout.Layout.{Layout}
 use Rattle.slab.specs.Slab.{get}
-use Rattle.turns.specs.Balance.{FilerEntry}
-use Rattle.turns.specs.Words.{entries_in, layout_in}
-use Rattle.turns.specs.shared_waiting.Passes.{known}
-use Rattle.turns.specs.Messages.{Message}
-use Rattle.turns.specs.declared.shared_waiting.pass.SharedWaiting.{SharedWaiting}
+use Rattle.granted_calls.specs.Balance.{FilerEntry}
+use Rattle.granted_calls.specs.Filers.{layout_in}
+use Rattle.turns.specs.Words.{entries_in}
+use Rattle.granted_calls.specs.shared_waiting.Passes.{known}
+use Rattle.granted_calls.specs.Messages.{Message}
+use Rattle.granted_calls.specs.declared.shared_waiting.pass.SharedWaiting.{SharedWaiting}
 use Rattle.lanes.specs.Story.{Story}
 use Rattle.lanes.proofs.Same.{same-entries, same-inside, same-seats}
 use Rattle.lanes.proofs.Steps.{reads-keep, reads-told}

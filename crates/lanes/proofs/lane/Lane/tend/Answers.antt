@@ -1,9 +1,10 @@
 use Rattle.std.proofs.Common.{◌≡◌, refl, sym, ap, subst, rules}
 use Rattle.std.specs.Arc.{arc_value}
 use Rattle.turns.specs.Tends.{Tends}
-use Rattle.turns.specs.Words.{layout_in, IsAt}
-use Rattle.turns.specs.shared_waiting.Passes.{known}
-use Rattle.turns.specs.declared.shared.Filer.{Filer}
+use Rattle.granted_calls.specs.Filers.{layout_in}
+use Rattle.turns.specs.Words.{IsAt}
+use Rattle.granted_calls.specs.shared_waiting.Passes.{known}
+use Rattle.granted_calls.specs.declared.shared.Filer.{Filer}
 use Rattle.lanes.proofs.Counted.{counted-same}
 use Rattle.lanes.proofs.Inside.{at-inside}
 use Rattle.lanes.proofs.Steps.{both-kept, tends-told}

@@ -1,15 +1,16 @@
 use Rattle.std.proofs.Common.{◌≡◌, sym, ap, subst, ◌∙◌, rules}
 use Rattle.std.specs.Arc.{arc_value}
 use Rattle.affinity.specs.declared.layout.Layout.{Layout}
-use Rattle.turns.specs.Chains.{HasPutAll, HasTurnedOn}
+use Rattle.granted_calls.specs.Chains.{HasPutAll, HasTurnedOn}
 use Rattle.rpc_msg.specs.Offer.{form_of}
-use Rattle.turns.specs.Telling.{TookTold}
+use Rattle.granted_calls.specs.Telling.{TookTold}
 use Rattle.turns.specs.Turns.{standing_of}
-use Rattle.turns.specs.Words.{entries_in, layout_in, IsAt}
-use Rattle.turns.specs.shared_waiting.Passes.{known}
-use Rattle.turns.specs.Messages.{Message}
-use Rattle.turns.specs.declared.shared.Filer.{Filer}
-use Rattle.turns.specs.declared.shared_waiting.pass.SharedWaiting.{SharedWaiting}
+use Rattle.granted_calls.specs.Filers.{layout_in}
+use Rattle.turns.specs.Words.{entries_in, IsAt}
+use Rattle.granted_calls.specs.shared_waiting.Passes.{known}
+use Rattle.granted_calls.specs.Messages.{Message}
+use Rattle.granted_calls.specs.declared.shared.Filer.{Filer}
+use Rattle.granted_calls.specs.declared.shared_waiting.pass.SharedWaiting.{SharedWaiting}
 use Rattle.lanes.proofs.Inside.{at-inside}
 use Rattle.lanes.proofs.Steps.{put-kept, turns-told}
 use Rattle.lanes.proofs.lane.Lane.turns.Goals as goal

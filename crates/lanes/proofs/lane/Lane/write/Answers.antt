@@ -1,6 +1,7 @@
 use Rattle.std.specs.Arc.{arc_value}
-use Rattle.turns.specs.Words.{entries_in, layout_in}
-use Rattle.turns.specs.shared_waiting.Passes.{known}
+use Rattle.granted_calls.specs.Filers.{layout_in}
+use Rattle.turns.specs.Words.{entries_in}
+use Rattle.granted_calls.specs.shared_waiting.Passes.{known}
 use Rattle.lanes.proofs.Steps.{writes-told}
 use Rattle.lanes.proofs.lane.Lane.write.Goals as goal
 

@@ -1,7 +1,7 @@
 use Rattle.depot.specs.Words.{view}
 use Rattle.depot_rule.specs.History.{entries_of}
-use Rattle.turns.specs.shared_waiting.Passes.{known}
-use Rattle.turns.proofs.Turning.{picks}
+use Rattle.granted_calls.specs.shared_waiting.Passes.{known}
+use Rattle.granted_calls.proofs.Balancing.{picks}
 use Rattle.turns.proofs.worker.Worker.pick_beside.Goals as goal
 
 pub invariant_of-self : goal.invariant_of-self

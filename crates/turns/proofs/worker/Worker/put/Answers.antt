@@ -1,6 +1,6 @@
 use Rattle.depot.specs.Words.{view}
 use Rattle.depot_rule.specs.History.{entries_of}
-use Rattle.turns.specs.shared_waiting.Passes.{known}
+use Rattle.granted_calls.specs.shared_waiting.Passes.{known}
 use Rattle.turns.proofs.Turning.{puts}
 use Rattle.turns.proofs.worker.Worker.put.Goals as goal
 

@@ -2,11 +2,12 @@ use Rattle.std.proofs.Common.{◌∙◌, Option, sym, ap, subst}
 use Rattle.std.specs.Prelude.{IfSome}
 use Rattle.nfs_model.specs.Parts.{Hand}
 use Rattle.depot.specs.Words.{view, IsSeatHere}
-use Rattle.turns.specs.shared_waiting.Passes.{known, IsOf}
-use Rattle.turns.specs.Balance.{FilerView}
-use Rattle.turns.specs.Messages.{IsPlaced, Message}
-use Rattle.turns.specs.Words.{layout_in, layout_known, verifier_in, HasOpened, IsHandIn}
-use Rattle.turns.proofs.Started.{fresh-none, fresh-even}
+use Rattle.granted_calls.specs.shared_waiting.Passes.{known, IsOf}
+use Rattle.granted_calls.specs.Balance.{FilerView}
+use Rattle.granted_calls.specs.Messages.{IsPlaced, Message}
+use Rattle.granted_calls.specs.Filers.{layout_in, layout_known, verifier_in, HasOpened}
+use Rattle.turns.specs.Words.{IsHandIn}
+use Rattle.granted_calls.proofs.Started.{fresh-none, fresh-even}
 use Rattle.turns.proofs.worker.Worker.split_with.Goals as goal
 
 pub new-requires-clause-balance : goal.new-requires-clause-balance

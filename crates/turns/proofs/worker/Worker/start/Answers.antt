@@ -2,9 +2,10 @@ use Rattle.std.proofs.Common.{◌∙◌, Option, sym, ap, subst}
 use Rattle.std.specs.Prelude.{IfSome}
 use Rattle.nfs_model.specs.Parts.{Hand}
 use Rattle.depot.specs.Words.{view, IsSeatHere}
-use Rattle.turns.specs.shared_waiting.Passes.{known, IsOf}
-use Rattle.turns.specs.Messages.{IsPlaced, Message}
-use Rattle.turns.specs.Words.{layout_in, layout_known, verifier_in, HasOpened, IsHandIn}
+use Rattle.granted_calls.specs.shared_waiting.Passes.{known, IsOf}
+use Rattle.granted_calls.specs.Messages.{IsPlaced, Message}
+use Rattle.granted_calls.specs.Filers.{layout_in, layout_known, verifier_in, HasOpened}
+use Rattle.turns.specs.Words.{IsHandIn}
 use Rattle.turns.proofs.worker.Worker.start.Goals as goal
 
 pub returns-clause-inside : goal.returns-clause-inside

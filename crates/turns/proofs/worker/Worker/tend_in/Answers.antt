@@ -5,11 +5,12 @@ use Rattle.depot_rule.specs.History.{entries_of, AreHands}
 use Rattle.filer_state.specs.state.Jobs.{InnerCall, batches_in}
 use Rattle.service.specs.Jobs.{inner_of, job_takes, job_gives}
 use Rattle.service.specs.Works.{batch_hand_of}
-use Rattle.turns.specs.shared_waiting.Passes.{known}
+use Rattle.granted_calls.specs.shared_waiting.Passes.{known}
 use Rattle.turns.specs.Carries.{HasCarried, MayCarry}
 use Rattle.turns.specs.Stocks.{stocked_after}
 use Rattle.turns.specs.Tends.{call_of, stocked_in}
-use Rattle.turns.specs.Words.{layout_in, verifier_in, IsHandIn}
+use Rattle.granted_calls.specs.Filers.{layout_in, verifier_in}
+use Rattle.turns.specs.Words.{IsHandIn}
 use Rattle.turns.proofs.Called.{fits-hand, tends-by}
 use Rattle.turns.proofs.Carrying.{still-even, hand-after-it, hand-inside, answers-it}
 use Rattle.turns.proofs.worker.Worker.tend_in.Goals as goal

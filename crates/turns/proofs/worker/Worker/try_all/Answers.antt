@@ -1,12 +1,12 @@
 use Rattle.depot.specs.Words.{view}
 use Rattle.filer_state.specs.state.Jobs.{batches_in}
-use Rattle.turns.specs.Telling.{TookTold}
-use Rattle.turns.specs.shared_waiting.Passes.{known}
-use Rattle.turns.specs.Chains.{left_standing}
+use Rattle.granted_calls.specs.Telling.{TookTold}
+use Rattle.granted_calls.specs.shared_waiting.Passes.{known}
+use Rattle.granted_calls.specs.Chains.{left_standing}
 use Rattle.turns.specs.Turns.{standing_of}
-use Rattle.turns.specs.Words.{layout_in}
-use Rattle.turns.proofs.Chains.{picked-kept, served-even, served-hand, tried-all}
-use Rattle.turns.proofs.Turning.{known-still}
+use Rattle.granted_calls.specs.Filers.{layout_in}
+use Rattle.granted_calls.proofs.Chains.{picked-kept, served-even, served-hand, tried-all}
+use Rattle.granted_calls.proofs.Balancing.{known-still}
 use Rattle.turns.proofs.worker.Worker.try_all.Goals as goal
 
 pub invariant_of-self-2 : goal.invariant_of-self-2

@@ -3,10 +3,10 @@ use Rattle.std.specs.Prelude.{IfSome}
 use Rattle.depot.specs.Words.{view}
 use Rattle.depot_rule.specs.History.{entries_of}
 use Rattle.filer_state.specs.state.Jobs.{batches_in}
-use Rattle.turns.specs.shared_waiting.Passes.{known}
-use Rattle.turns.specs.Balance.{IsEven}
-use Rattle.turns.specs.Messages.{IsPlaced, Message}
-use Rattle.turns.specs.Words.{layout_in}
+use Rattle.granted_calls.specs.shared_waiting.Passes.{known}
+use Rattle.granted_calls.specs.Balance.{IsEven}
+use Rattle.granted_calls.specs.Messages.{IsPlaced, Message}
+use Rattle.granted_calls.specs.Filers.{layout_in}
 use Rattle.turns.proofs.Turning.{tried-even, tried-hand, tried-placed, has-tried}
 use Rattle.turns.proofs.worker.Worker.try_kept.Goals as goal
 

@@ -1,6 +1,6 @@
 use Rattle.depot.specs.Words.{view}
-use Rattle.turns.specs.shared_waiting.Passes.{known}
-use Rattle.turns.specs.Words.{layout_in}
+use Rattle.granted_calls.specs.shared_waiting.Passes.{known}
+use Rattle.granted_calls.specs.Filers.{layout_in}
 use Rattle.turns.proofs.Turning.{turn-did}
 use Rattle.turns.proofs.worker.Worker.turn_in.Goals as goal
 

@@ -1,11 +1,11 @@
 use Rattle.depot.specs.Words.{view}
 use Rattle.std.proofs.Common.{◌≡◌, true, false, rules}
-use Rattle.turns.specs.Telling.{TookTold}
-use Rattle.turns.specs.lemmas.Telling.{told_none}
-use Rattle.turns.specs.Chains.{each_done}
+use Rattle.granted_calls.specs.Telling.{TookTold}
+use Rattle.granted_calls.specs.lemmas.Telling.{told_none}
+use Rattle.granted_calls.specs.Chains.{each_done}
 use Rattle.turns.specs.Turns.{standing_of}
-use Rattle.turns.specs.Words.{layout_in}
-use Rattle.turns.proofs.Chains.{all-done, not-all, none-kept}
+use Rattle.granted_calls.specs.Filers.{layout_in}
+use Rattle.granted_calls.proofs.Chains.{all-done, not-all, none-kept}
 use Rattle.turns.proofs.worker.Worker.turns_beside.Goals as goal
 
 pub returns-then-is_done-clause-turned : goal.returns-then-is_done-clause-turned

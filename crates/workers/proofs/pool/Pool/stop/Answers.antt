@@ -3,11 +3,11 @@ use Rattle.std.proofs.lemmas.List.Elements.{All-nil}
 use Rattle.std.specs.Prelude.{All}
 use Rattle.std.specs.Arc.{arc_value}
 use Rattle.depot_rule.specs.Sums.{total}
-use Rattle.workers.specs.Gathered.{IsLeftOf}
-use Rattle.workers.specs.Shares.{share_of}
+use Rattle.tends.specs.Gathered.{IsLeftOf}
+use Rattle.tends.specs.Shares.{share_of}
 use Rattle.turns.specs.Words.{seats_in, IsIn}
-use Rattle.turns.specs.shared_waiting.Passes.{IsOf}
-use Rattle.turns.specs.declared.shared.Filer.{Filer}
+use Rattle.granted_calls.specs.shared_waiting.Passes.{IsOf}
+use Rattle.granted_calls.specs.declared.shared.Filer.{Filer}
 use Rattle.workers.proofs.pool.Pool.stop.Goals as goal
 
 pub gather-requires-clause-workers : goal.gather-requires-clause-workers

@@ -1,0 +1,12 @@
+pub mod Messages
+pub mod Balance
+pub mod Filers
+pub mod Served
+pub mod Chains
+pub mod Runs
+pub mod Links
+pub mod Telling
+pub mod Logs
+pub mod lemmas
+pub mod shared_waiting
+pub mod SharedOutboxes

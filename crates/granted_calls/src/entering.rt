@@ -1,0 +1,65 @@
+//! Entries that are to be made, and the answers that follow.
+
+ghost use Rattle.std.specs.Prelude.{◌≡◌, ℕ};
+ghost use Rattle.nfs_values.specs.Reply.{reply_of};
+ghost use Rattle.outboxes.specs.Boxes.{addressed};
+ghost use Rattle.outboxes.specs.Messages as replies;
+ghost use Rattle.granted_calls.specs.Links.{HasRoom, IsEntryFor};
+ghost use Rattle.granted_calls.specs.Messages.{message_of_call};
+ghost use Rattle.granted_calls.specs.Telling.{answer_told};
+ghost use Rattle.granted_calls.specs.Served.{served_of_message};
+
+use crate::answer::Answer;
+use crate::envelope::Envelope;
+use crate::telling::let_go;
+use nfs_values::{Moment, Reply};
+use outboxes::Room;
+use rpc_msg::{HandleForm, tell};
+use scheduler::Origin;
+use service::ServedCall;
+
+/// The call of an entry, and what its answer needs.
+pub(crate) struct Entry {
+    pub(crate) origin: Origin,
+    pub(crate) served: Box<ServedCall>,
+    pub(crate) room: Room,
+}
+
+/// When an entry's call ran, and whether memory ran out.
+fn stamp(served: &mut ServedCall, moment: Moment, starved: bool)
+    ensures { (room : ℕ)
+        → served.new ≡ served_of_message (message_of_call served.old room) moment starved }
+{
+    served.moment = moment;
+    served.starved = starved;
+}
+
+/// The entry of a message's call.
+pub(crate) fn enter(message: Envelope, moment: Moment, starved: bool) -> Entry
+    ensures { IsEntryFor message moment starved result }
+{
+    let origin = message.origin();
+    let Envelope { mut served, room } = message;
+    stamp(&mut *served, moment, starved);
+    Entry {
+        origin,
+        served,
+        room,
+    }
+}
+
+/// The answer of an entry, of which this reply was told, with its handles in a form.
+pub(crate) fn answered(entry: Entry, told: &mut Reply, handles: HandleForm) -> Answer
+    requires { HasRoom entry told.old }
+    ensures { result ≡ answer_told handles (addressed entry.origin.connection.0
+        (replies.message entry.origin.xid (reply_of told.old))) }
+{
+    let Entry {
+        origin,
+        served,
+        room,
+    } = entry;
+    let_go(served);
+    tell(told, handles);
+    Answer::new(origin.connection, origin.xid, told, room)
+}

@@ -1,0 +1,126 @@
+//! Messages in memory of their own.
+
+ghost use Rattle.std.specs.Prelude.{◌≡◌, ◌≤◌, IfOk};
+ghost use Rattle.affinity.specs.Affinity.{call_affinity};
+ghost use Rattle.outboxes.specs.Boxes.{most_bytes};
+ghost use Rattle.granted_calls.specs.Messages.{readdressed};
+
+use crate::shared_waiting::Fitting;
+use affinity::{Affinity, CallNode, Layout};
+use nfs_values::{Call, Credential, Moment};
+use outboxes::Room;
+use scheduler::{Message, Origin};
+use service::ServedCall;
+use std::alloc::{AllocError, Global};
+use std::marker::Model;
+
+/// A message. What it asks stands in memory of its own, as the entry of its call will have it: it
+/// is never moved from there, and what travels through queues and turns is small.
+#[derive(Drop)]
+pub struct Envelope {
+    pub(crate) served: Box<ServedCall>,
+    pub(crate) room: Room,
+}
+
+impl Model for Envelope {
+    ghost use Rattle.granted_calls.specs.Messages.{message_of_call, Message};
+
+    ghost Value = { Message };
+
+    ghost view = { λ e. message_of_call e.served.value e.room };
+}
+
+impl Fitting<Layout> for Envelope {
+    ghost use Rattle.granted_calls.specs.Messages.{Fits};
+
+    ghost fits = { Fits };
+}
+
+impl Envelope {
+    /// A message in memory of its own, with room for its reply.
+    pub fn new(alloc: Global, message: Message<Call>) -> Result<Envelope, AllocError>
+        requires { message.room ≤ most_bytes }
+        ensures { IfOk result (λ envelope. envelope ≡ message) }
+    {
+        match Room::new(alloc, message.room) {
+            Ok(room) => Envelope::in_room(alloc, message, room),
+            Err(refused) => {
+                drop(message);
+                Err(refused)
+            }
+        }
+    }
+
+    /// A message in memory of its own, with this room for its reply.
+    fn in_room(alloc: Global, message: Message<Call>, room: Room) -> Result<Envelope, AllocError>
+        requires { room ≡ message.room }
+        ensures { IfOk result (λ envelope. envelope ≡ message) }
+    {
+        let Message {
+            origin,
+            call,
+            credential,
+            affinity,
+            room: _,
+        } = message;
+        let served = ServedCall {
+            connection: origin.connection,
+            number: origin.number,
+            xid: origin.xid,
+            call,
+            credential,
+            affinity,
+            moment: Moment::START,
+            starved: false,
+        };
+        match Box::new(alloc, served) {
+            Ok(served) => Ok(Envelope { served, room }),
+            Err(refused) => {
+                drop(refused);
+                Err(AllocError)
+            }
+        }
+    }
+
+    /// The record that its call came in.
+    pub fn origin(&self) -> Origin
+        ensures { result ≡ self.now.origin }
+    {
+        let served = &*self.served;
+        Origin {
+            connection: served.connection,
+            number: served.number,
+            xid: served.xid,
+        }
+    }
+
+    /// What it tries.
+    pub(crate) fn affinity(&self) -> CallNode
+        ensures { result ≡ self.now.affinity }
+    {
+        self.served.affinity
+    }
+
+    /// What it tries, as one of all nodes of the tree.
+    pub(crate) fn node(&self) -> Affinity
+        ensures { result ≡ call_affinity self.now.affinity }
+    {
+        self.served.affinity.node()
+    }
+
+    /// Its call, and whom that acts for.
+    pub(crate) fn asked(&self) -> (&Call, Credential)
+        ensures call { result.0.now ≡ self.now.call }
+        ensures credential { result.1 ≡ self.now.credential }
+    {
+        let served = &*self.served;
+        (&served.call, served.credential)
+    }
+
+    /// It tries another node.
+    pub(crate) fn readdress(&mut self, to: CallNode)
+        ensures { self.new ≡ readdressed to self.old }
+    {
+        self.served.affinity = to;
+    }
+}

@@ -1,0 +1,145 @@
+//! Calls on grants of nodes of one kind.
+
+ghost use Rattle.std.specs.Prelude.{◌≡◌, IfOk, IfErr};
+ghost use Rattle.depot.specs.Grants.{IsRefused};
+ghost use Rattle.depot.specs.Words.{view, splits_left, IsNodeOf, IsSeatHere};
+ghost use Rattle.desk.specs.Any.{node_lent};
+ghost use Rattle.desk.specs.laws.Backing.{IsGranted};
+ghost use Rattle.parcels.specs.Exact.{kind_in};
+ghost use Rattle.affinity.specs.Affinity.{call_affinity, call_node};
+ghost use Rattle.granted_calls.specs.Messages.{IsPlaced};
+ghost use Rattle.granted_calls.specs.Runs.{HasRunTo, HasRunInto, IsLentFor};
+ghost use Rattle.granted_calls.specs.Served.{filer_behaviour};
+ghost use Rattle.granted_calls.specs.Filers.{layout_in};
+
+use crate::envelope::Envelope;
+use crate::shared::Filer;
+use crate::telling::{tell, tell_starved};
+use crate::turned::{Gate, Place, Stage};
+use affinity::CallNode;
+use depot::{Refusal, Seat};
+use desk::{NodeGrant, ParcelKinds, TaskNode, begin_node, work_node};
+use filer_state::Files;
+use nfs_values::{Moment, Reply};
+use parcels::Parcel;
+use scheduler::Origin;
+use service::{Outcome, Run, Service};
+
+/// The call of a record at a stage.
+pub(crate) fn place_of(origin: Origin, stage: Stage) -> Place {
+    Place {
+        connection: origin.connection,
+        xid: origin.xid,
+        stage,
+    }
+}
+
+/// What was granted, and what a call that ran on it came to.
+pub(crate) struct Ran<G, O> {
+    pub(crate) grant: G,
+    pub(crate) outcome: O,
+}
+
+/// What a call came to that ran: an `Outcome` whose reply was put elsewhere.
+#[derive(Clone, Copy)]
+pub(crate) enum Ended {
+    /// Its reply was told.
+    Replied,
+    /// Memory ran out, and that was told.
+    Starved,
+    /// It has to run on this node.
+    Moved(CallNode),
+}
+
+/// Runs the call of a message on what was granted of what it tries, and tells its reply.
+pub(crate) fn run_on<N: TaskNode<Parcel<Files>, ParcelKinds>, G: Gate>(
+    filer: &Filer,
+    grant: &mut NodeGrant<Parcel<Files>, N>,
+    envelope: &Envelope,
+    moment: Moment,
+    gate: &G,
+    told: &mut Reply,
+) -> Ended
+    requires placed { IsPlaced (layout_in filer.now) envelope.now }
+    requires lent { let L = layout_in filer.now in
+        IsLentFor L envelope.now (node_lent L grant.old) }
+    ensures ran { let L = layout_in filer.now in
+        HasRunTo L envelope.now moment (node_lent L grant.old) result told.new
+        (node_lent L grant.new) }
+{
+    let place = place_of(envelope.origin(), Stage::Run);
+    let (call, credential) = envelope.asked();
+    let run = Run {
+        alloc: filer.alloc,
+        call,
+        credential,
+        moment,
+        ahead: gate.ahead(),
+    };
+    let layout = filer.depot.layout();
+    match work_node::<Parcel<Files>, ParcelKinds, N, Run>(layout, grant, run) {
+        Outcome::Replied(reply) => {
+            tell(told, reply);
+            gate.pass(place);
+            Ended::Replied
+        }
+        Outcome::Starved => {
+            tell_starved(told);
+            gate.pass(place);
+            Ended::Starved
+        }
+        Outcome::Moved(affinity) => {
+            gate.pass(place);
+            Ended::Moved(affinity)
+        }
+    }
+}
+
+/// Begins the call of a message on what it tries, a node of this kind, and runs it there.
+pub(crate) fn run<N: TaskNode<Parcel<Files>, ParcelKinds>, G: Gate>(
+    filer: &Filer,
+    seat: &mut Seat<Service>,
+    envelope: &Envelope,
+    moment: Moment,
+    gate: &G,
+    told: &mut Reply,
+) -> Result<Ran<NodeGrant<Parcel<Files>, N>, Ended>, Refusal>
+    requires seat { IsSeatHere filer.now.depot seat.old }
+    requires placed { IsPlaced (layout_in filer.now) envelope.now }
+    requires kind { IsNodeOf (layout_in filer.now) N.KIND
+        (call_affinity envelope.now.affinity) }
+    ensures seat { IsSeatHere filer.now.depot seat.new }
+    ensures splits { splits_left seat.new ≡ splits_left seat.old }
+    ensures ran { let L = layout_in filer.now in IfOk result (λ ran.
+        HasRunInto L (view seat.old) envelope.now moment ran.outcome told.new
+        (node_lent L ran.grant) (view seat.new)) }
+    ensures refused { IfErr result (λ refusal. IsRefused (layout_in filer.now)
+        (view seat.old) (call_affinity envelope.now.affinity) refusal (view seat.new)) }
+{
+    let mut grant = begin_on::<N, G>(filer, seat, envelope, gate)?;
+    let outcome = run_on::<N, G>(filer, &mut grant, envelope, moment, gate, told);
+    Ok(Ran { grant, outcome })
+}
+
+/// Begins the call of a message on what it tries, a node of this kind.
+pub(crate) fn begin_on<N: TaskNode<Parcel<Files>, ParcelKinds>, G: Gate>(
+    filer: &Filer,
+    seat: &mut Seat<Service>,
+    envelope: &Envelope,
+    gate: &G,
+) -> Result<NodeGrant<Parcel<Files>, N>, Refusal>
+    requires seat { IsSeatHere filer.now.depot seat.old }
+    requires kind { IsNodeOf (layout_in filer.now) N.KIND
+        (call_affinity envelope.now.affinity) }
+    ensures seat { IsSeatHere filer.now.depot seat.new }
+    ensures splits { splits_left seat.new ≡ splits_left seat.old }
+    ensures granted { let L = layout_in filer.now in IfOk result (λ grant.
+        IsGranted kind_in filer_behaviour L (view seat.old) (call_node envelope.now.affinity)
+        (node_lent L grant) (view seat.new)) }
+    ensures refused { IfErr result (λ refusal. IsRefused (layout_in filer.now)
+        (view seat.old) (call_affinity envelope.now.affinity) refusal (view seat.new)) }
+{
+    let grant = begin_node::<Service, N>(&filer.depot, seat, envelope.node())?;
+    gate.pass(place_of(envelope.origin(), Stage::Begun));
+    Ok(grant)
+}

@@ -1,9 +1,0 @@
-use Rattle.std.proofs.Common.{◌≡◌, ◌<◌, length}
-use Rattle.affinity.specs.Layout.{layout_of}
-use Rattle.lane_rows.proofs.rows.read_all.Given as goal
-
-abbrev pub invariant-loop : goal.invariant-loop
-invariant-loop g l = record {
-  same : layout_of l.sink.layout ≡ layout_of l.layout;
-  some : 0 < length l.block.items;
-}

@@ -1,0 +1,7 @@
+pub mod Handed
+pub mod Lists
+pub mod Portions
+mod Drained
+pub mod Joins
+pub mod Sharing
+mod Closes

@@ -1,5 +1,0 @@
-use Rattle.turns.proofs.shared_waiting.Keeps.{begins}
-use Rattle.turns.proofs.shared_waiting.pass.SharedWaiting.new.Goals as goal
-
-pub ruled-requires-clause-rule : goal.ruled-requires-clause-rule
-ruled-requires-clause-rule g c = begins _ _ g.T.Fitting.fits
