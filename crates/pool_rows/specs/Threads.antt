@@ -1,6 +1,5 @@
 -- What workers of a filer have, and who puts messages for them: each a half of the right to know its queue.
-use Rattle.std.specs.Prelude.{◌≡◌, ◌≤◌, ◌^◌, ◌*◌, ℕ, []}
-use Rattle.std.specs.Prelude.{Some}
+use Rattle.std.specs.Prelude.{◌≡◌, ◌≤◌, ◌^◌, ◌*◌, ℕ, [], Some}
 use Rattle.depot_rule.specs.Sums.{total}
 use Rattle.tends.specs.Shares.{FilerPass}
 use Rattle.workers.specs.Pools.{filer_of, threads_of}
@@ -40,7 +39,7 @@ pub record IsUnstarted (filer : Filer) (v : FilerView) (splits : ℕ) (pass read
   pub of : IsOf filer.waiting pass
   pub layout : layout_known (known pass) ≡ Some (layout_in filer)
   pub half : IsHalf (known pass)
-  pub reader : IsReaderOf filer reader
+  pub one : IsReaderOf filer reader
   pub other : IsHalf (known reader)
 
 -- the filer's only worker has all its seats; who puts messages has the rest
@@ -48,7 +47,7 @@ pub record IsAlone (filer : Filer) (worker : Worker) (reader : FilerPass) : Type
   pub inside : IsIn filer worker
   pub seats : seats_in worker ≡ 64
   pub half : IsHalf (passed worker)
-  pub reader : IsReaderOf filer reader
+  pub one : IsReaderOf filer reader
   pub other : IsHalf (known reader)
 
 -- so have the workers of a pool
@@ -56,5 +55,5 @@ pub record IsRunning (filer : Filer) (pool : Pool) (reader : FilerPass) : Type 0
   pub same : filer_of pool ≡ filer
   pub level : ℕ
   pub half : (k : ℕ) → level ≤ k → 2 * total (share_with k) (threads_of pool) ≡ 2 ^ k
-  pub reader : IsReaderOf filer reader
+  pub one : IsReaderOf filer reader
   pub other : IsHalf (known reader)
