@@ -5,15 +5,17 @@ use Rattle.std.proofs.lemmas.Nat.{pow-add}
 use Rattle.std.proofs.Math.Nat.{mul_assoc}
 use Rattle.std.specs.Prelude.{Option, None, Some, option_map}
 use Rattle.affinity.specs.declared.layout.Layout.{Layout}
+use Rattle.nfs_model.specs.Tree as trees
 use Rattle.affinity.specs.Layout.{layout_of}
 use Rattle.depot_rule.specs.Sums.{total}
 use Rattle.depot_rule.specs.History.{entries_of, AreHands}
 use Rattle.tends.specs.Shares.{share_in, picked_by, AreAll, FilerPass}
 use Rattle.workers.specs.Pools.{filer_of, HasAllWith, HasBetween}
 use Rattle.workers.specs.declared.pool.Pool.{Pool}
-use Rattle.granted_calls.specs.shared_waiting.Balance.{left, right, part, IsWhole}
+use Rattle.granted_calls.specs.shared_waiting.Balance.{left, right, part, FitsIn, IsWhole}
 use Rattle.granted_calls.specs.shared_waiting.Passes.{known, IsOf}
 use Rattle.granted_calls.specs.Balance.{FilerEntry, FilerView, Passed, Weight, by_entry, by_key, IsEven}
+use Rattle.granted_calls.specs.Messages.{Fits, IsPlaced, Message}
 use Rattle.granted_calls.specs.Served.{HasShareOf}
 use Rattle.granted_calls.specs.Filers.{layout_in, layout_known, verifier_in, HasDoneNothing, IsReady}
 use Rattle.granted_calls.specs.declared.shared.Filer.{Filer}
@@ -21,6 +23,16 @@ use Rattle.turns.specs.Jobs.{job_takes, job_gives}
 use Rattle.turns.specs.Words.{passed, seats_in, IsIn}
 use Rattle.turns.specs.declared.worker.Worker.{Worker}
 use Rattle.pool_rows.specs.Threads.{IsAlone, IsHalf, IsReaderOf, IsRunning, IsUnstarted}
+
+-- ---- putting
+
+-- what is placed in a layout fits a queue of that layout
+pub fits-by : (layout : trees.Layout) (v : Passed) (m : Message) → layout_known v ≡ Some layout → IsPlaced layout m → FitsIn Fits v.key m
+fits-by layout v m known placed = by v.key known
+  where
+    by : (key : Option Layout) → option_map layout_of key ≡ Some layout → FitsIn Fits key m
+    by None e = let no : ⊥ = cc in absurd no
+    by (Some key) e = subst (λ (x : trees.Layout). IsPlaced x m) (let same : layout ≡ layout_of key = cc in same) placed
 
 -- ---- halves
 
