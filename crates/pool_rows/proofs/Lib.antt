@@ -1,2 +1,1 @@
-mod Crossing
 mod Wholes

@@ -1,22 +1,35 @@
 //! Calls of many kinds.
 
-ghost use Rattle.std.specs.Prelude.{IfOk};
 ghost use Rattle.turns.specs.Running.{IsRun};
 
 use nfs_values::{
     BytesToWrite, Call, CreateMode, FileHandle, Fileid, Name, Named, SetAttributes, SetTime,
     Target, VolumeNumber,
 };
-use std::alloc::{AllocError, Global};
+use std::process::Abort;
 
 /// The root of each volume.
 pub(crate) const ROOT: u64 = 1;
 
-/// The bytes of each WRITE: more than one block.
-const WRITTEN: usize = 5000;
+/// A call, as a table has it. The first number is its volume's; a name is a number too.
+#[derive(Clone, Copy)]
+pub(crate) enum Ask {
+    /// Of a file, by its fileid.
+    Attributes(u32, u64),
+    /// Of a name in the root.
+    Lookup(u32, u8),
+    Create(u32, u8),
+    Remove(u32, u8),
+    /// Of a file, by its fileid: from an offset, so many bytes.
+    Read(u32, u64, u64, u32),
+    /// Of a file, by its fileid: from an offset, so many bytes, each of which is this one.
+    Write(u32, u64, u64, u32, u8),
+    Status(u32),
+    Census,
+}
 
 /// Nothing is set.
-pub(crate) const UNSET: SetAttributes = SetAttributes {
+const UNSET: SetAttributes = SetAttributes {
     mode: None,
     uid: None,
     gid: None,
@@ -26,67 +39,52 @@ pub(crate) const UNSET: SetAttributes = SetAttributes {
 };
 
 /// The handle of a file or directory.
-pub(crate) fn handle(volume: u32, fileid: u64) -> FileHandle {
+fn handle(volume: u32, fileid: u64) -> FileHandle {
     FileHandle::naming(Named {
         volume: VolumeNumber(volume),
         fileid: Fileid(fileid),
     })
 }
 
-/// A name in the root of a volume, of two letters.
-fn target(alloc: Global, volume: u32, number: u32) -> Result<Target, AllocError> {
-    let first = b'a' + (number / 8 % 8) as u8;
-    let second = b'a' + (number % 8) as u8;
-    Ok(Target {
+/// A name in the root of a volume: one byte, by its number.
+fn target(rt: &(impl Abort + AllocGlobal), volume: u32, name: u8) -> Target {
+    Target {
         directory: handle(volume, ROOT),
-        name: Name::new(vec![in alloc; first, second]?),
-    })
+        name: Name::new(vec![in rt.alloc(); 0x40 | name].expect(rt, "no memory")),
+    }
 }
 
-/// A CREATE of a file, by its number.
-pub(crate) fn create(alloc: Global, volume: u32, number: u32) -> Result<Call, AllocError>
-    ensures { IfOk result IsRun }
+/// The call.
+pub(crate) fn call_of(rt: &(impl Abort + AllocGlobal), ask: Ask) -> Call
+    ensures { IsRun result }
 {
-    Ok(Call::Create {
-        target: target(alloc, volume, number)?,
-        mode: CreateMode::Unchecked(UNSET),
-    })
-}
-
-/// A WRITE into one of 16 files of a volume.
-fn write(alloc: Global, volume: u32, number: u32) -> Result<Call, AllocError>
-    ensures { IfOk result IsRun }
-{
-    Ok(Call::Write {
-        handle: handle(volume, 2 + u64::from(number % 16)),
-        offset: u64::from(number % 3 * 4096),
-        count: WRITTEN as u32,
-        bytes: BytesToWrite::all(vec![in alloc; 7; WRITTEN]?),
-    })
-}
-
-/// One of eight kinds of calls, in turn, on two volumes.
-pub(crate) fn call(alloc: Global, number: u32) -> Result<Call, AllocError>
-    ensures { IfOk result IsRun }
-{
-    let volume = number / 8 % 2;
-    let file = number / 16;
-    match number % 8 {
-        0 => create(alloc, volume, file % 32),
-        1 => Ok(Call::Lookup(target(alloc, volume, file % 64)?)),
-        2 => Ok(Call::GetAttributes {
+    match ask {
+        Ask::Attributes(volume, fileid) => Call::GetAttributes {
+            handle: handle(volume, fileid),
+        },
+        Ask::Lookup(volume, name) => Call::Lookup(target(rt, volume, name)),
+        Ask::Create(volume, name) => Call::Create {
+            target: target(rt, volume, name),
+            mode: CreateMode::Unchecked(UNSET),
+        },
+        Ask::Remove(volume, name) => Call::Remove(target(rt, volume, name)),
+        Ask::Read(volume, fileid, offset, count) => Call::Read {
+            handle: handle(volume, fileid),
+            offset,
+            count,
+        },
+        Ask::Write(volume, fileid, offset, count, byte) => Call::Write {
+            handle: handle(volume, fileid),
+            offset,
+            count,
+            bytes: BytesToWrite::all(vec![in rt.alloc(); byte; count as usize].expect(
+                rt,
+                "no memory",
+            )),
+        },
+        Ask::Status(volume) => Call::FilesystemStatus {
             handle: handle(volume, ROOT),
-        }),
-        3 => write(alloc, volume, file),
-        4 => Ok(Call::Read {
-            handle: handle(volume, 2 + u64::from(file % 16)),
-            offset: 0,
-            count: 8192,
-        }),
-        5 => Ok(Call::FilesystemStatus {
-            handle: handle(volume, ROOT),
-        }),
-        6 => Ok(Call::Remove(target(alloc, volume, file % 16)?)),
-        _ => Ok(Call::Census),
+        },
+        Ask::Census => Call::Census,
     }
 }

@@ -8,10 +8,6 @@ mod calls;
 #[cfg(test)]
 mod crowd;
 #[cfg(test)]
-mod ending;
-#[cfg(test)]
-mod full;
-#[cfg(test)]
 mod latch;
 #[cfg(test)]
 mod leaving;
@@ -22,8 +18,12 @@ mod opening;
 #[cfg(test)]
 mod putting;
 #[cfg(test)]
-mod replies;
+mod rows;
 #[cfg(test)]
 mod running;
 #[cfg(test)]
-mod turned;
+mod scene;
+#[cfg(test)]
+mod scenes;
+#[cfg(test)]
+mod station;
