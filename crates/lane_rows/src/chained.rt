@@ -4,10 +4,10 @@ use crate::laned::{ask, end};
 use crate::opening::{MemoryLane, open_lanes};
 use crate::texts::{FSSTAT, FSSTAT_REPLY, GETATTR, GETATTR_REPLY};
 use affinity::Affinity;
+use granted_calls::{Chained, Hint, Unwatched, Wanted};
 use nfs_values::Moment;
 use std::process::Abort;
 use std::sync::Wait;
-use granted_calls::{Chained, Hint, Unwatched, Wanted};
 
 /// Makes at most this many turns, which finish this many calls. What the last came to.
 fn turns<R: Wait>(

@@ -3,13 +3,13 @@
 use crate::laned::ask;
 use crate::opening::{MemoryLane, open_lanes};
 use crate::texts::{create, getattr, read};
+use granted_calls::{Chained, Gate, Place, Stage, Wanted};
 use nfs_values::Moment;
 use std::process::Abort;
 use std::sync::Wait;
 use std::sync::atomic::{AtomicBool, Ordering};
 use std::thread;
 use std::thread::Threads;
-use granted_calls::{Chained, Gate, Place, Stage, Wanted};
 
 /// The xid of the READ that is held.
 const HELD: u32 = 7;

@@ -6,11 +6,11 @@ ghost use Rattle.server.specs.Lanes.{AreLanesOf};
 
 use crate::memory::Memory;
 use affinity::{AggregateSpec, Layout, VolumeSpec};
+use granted_calls::Filer;
 use lanes::Lane;
 use rpc_msg::Offer;
 use std::process::Abort;
 use std::sync::Arc;
-use granted_calls::Filer;
 
 /// A lane of devices in memory.
 pub(crate) type MemoryLane<R> = Lane<Memory, R>;
