@@ -76,23 +76,22 @@ class Result:
 class Divider:
     """A process that runs a plan's script without a refusal, and stands at calls of the allocator (`divides` in refuse.c). A
     child of it in which the call is refused, and which goes on with what stands in the script by then, is a run like any
-    other, but what comes before the call was run once for all of them."""
+    other, but what comes before the call is run once for all of them."""
 
-    def __init__(self, plan, words, environment, page, folder):
-        # the call that is asked for, and that at which it stands: none at first, infinity once it has ended
-        self.plan, self.page, self.refused, self.at = plan, page, 0, 0
-        self.files = [tempfile.TemporaryFile(buffering=0, dir=folder) for _ in ("output", "errors")]
+    def __init__(self, plan, words, environment, page, folder, refused):
+        self.plan, self.page = plan, page
+        self.files = [tempfile.TemporaryFile(buffering=0, dir=folder) for _ in range(2)]
         self.link, orders = socket.socketpair()
         self.link.settimeout(PATIENCE)
+        page.set(counting=1, refused=refused, divides=1)
         output, errors = self.files
-        page.set(counting=1, divides=1)
         self.process = subprocess.Popen(words, env=environment, stdin=orders, stdout=output, stderr=errors)
         orders.close()
+        self.wait()
 
-    def order(self, order):
-        """Gives an order, and waits until the process stands at a call, or ends."""
+    def wait(self):
+        """Waits until it stands at a call, or has ended. It stands late where the script isn't read whole before."""
         try:
-            self.link.sendall(order)
             stands = self.link.recv(1)
         except TimeoutError:
             self.end()
@@ -103,24 +102,24 @@ class Divider:
             self.end()
 
     def stands_at(self, refused):
-        """Goes on up to a call, and tells whether it stands there. It doesn't where the script isn't read whole by then."""
+        """Goes on to a call, unless it is behind it, and tells whether it stands there."""
         if self.at < refused:
             self.page.put(REFUSED_CALL, refused)
-            # at the start it takes no order
-            self.order(GO_ON if self.at else b"")
-        self.refused = refused
+            self.link.sendall(GO_ON)
+            self.wait()
         return self.at == refused
 
     def run(self, same, all_after):
-        """Makes a child, whose script begins with so many bytes of this process's."""
+        """Makes a child. So many bytes of its script are as in this process's."""
         ends = [file.tell() for file in self.files]
         self.page.put(REFUSED_CALL, self.at, all_after)
         self.page.put(REFUSALS, 0)
         self.page.put(SCRIPT_FROM, same, self.plan.length)
-        self.order(DIVIDE)
+        self.link.sendall(DIVIDE)
+        self.wait()
         written = []
         for file, end in zip(self.files, ends):
-            # the child has written behind what this process has, and that is taken back
+            # what the child wrote stands behind what this process has written, and is taken back
             written.append(os.pread(file.fileno(), file.tell(), 0))
             file.truncate(end)
             file.seek(end)
@@ -153,7 +152,9 @@ class Runner:
         self.divider = None
 
     def write(self, script, events, length):
-        """Writes a script with these events, of this many bytes in all."""
+        """Writes a script with these events, of this many bytes in all, unless it stands there."""
+        if self.written is events:
+            return
         lines = [line.encode() + b"\n" for line in script.layout] + [event.spelled for event in events]
         padding = length - sum(map(len, lines))
         assert padding >= 2, f"{script.name}: no room for the padding"
@@ -163,8 +164,7 @@ class Runner:
         self.written = events
 
     def run(self, script, events, length, refused=0, all_after=0):
-        if self.written is not events:
-            self.write(script, events, length)
+        self.write(script, events, length)
         self.page.set(counting=1, refused=refused, all_after=all_after)
         try:
             done = subprocess.run(
@@ -179,22 +179,21 @@ class Runner:
         return Result(done.returncode, done.stdout, done.stderr, self.page.refusals)
 
     def run_divided(self, plan, events, refused, all_after=0):
-        """A run of a plan's script, or of one that differs behind the event that meets the refusal, as a child of a process
-        that runs the plan's, or by itself where that process doesn't stand at the call."""
-        divider = self.divider
-        if divider is None or divider.plan is not plan or refused < divider.refused:
-            if divider:
-                divider.end()
+        """A run of a plan's script, or of one that differs from it behind the event that meets the refusal: as a child of a
+        process that stands at the call, or by itself where none can. Calls come in their order, or a process begins anew."""
+        if self.divider is None or self.divider.plan is not plan or refused < self.refused:
+            if self.divider:
+                self.divider.end()
             self.write(plan.script, plan.events, plan.length)
-            divider = Divider(plan, self.words, self.its_environment, self.its_page, self.folder)
-            self.divider = divider
-        if not divider.stands_at(refused):
+            program = self.words, self.its_environment, self.its_page, self.folder
+            self.divider = Divider(plan, *program, refused)
+        self.refused = refused
+        if not self.divider.stands_at(refused):
             return self.run(plan.script, events, plan.length, refused, all_after)
-        if events is plan.events:
-            return divider.run(plan.length, all_after)
-        if self.written is not events:
+        same = plan.same_bytes(events)
+        if same < plan.length:
             self.write(plan.script, events, plan.length)
-        return divider.run(plan.same_bytes(events), all_after)
+        return self.divider.run(same, all_after)
 
 
 def blocks_of(events, lines):
@@ -263,7 +262,9 @@ class Plan:
         self.learn(runner)
 
     def same_bytes(self, events):
-        """Of a script with other events: how many bytes it has as this one before the first that differs."""
+        """How many bytes a script of these events has as this one, up to the first event that differs."""
+        if events is self.events:
+            return self.length
         same = itertools.takewhile(lambda pair: pair[0] is pair[1], zip(events, self.events))
         return sum(len(line) + 1 for line in self.script.layout) + sum(len(event.spelled) for event, _ in same)
 
@@ -357,7 +358,7 @@ class Trial:
     def check_one(self):
         plan = self.plan
         if plan.last is not None:
-            # mostly the refusal is met where the one before was
+            # mostly the refusal is met where the one before was; else that event has printed something else
             result = self.runner.run_divided(plan, plan.last.events, self.refused)
             if result.refusals == 1 and plan.last.mismatch(result) is None:
                 return
