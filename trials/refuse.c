@@ -15,9 +15,9 @@ enum {
     ALL_AFTER,       /* 1: all calls after that one are refused too */
     CALLS,           /* how many calls were counted */
     REFUSALS,        /* how many were refused */
-    DIVIDES,         /* 1: the program stands at the call that would be refused, and takes orders; see `divides` */
-    SCRIPT_FROM,     /* where a child begins to read the script again, and how long the script is */
-    SCRIPT_SIZE,
+    DIVIDES,         /* 1: the program, a `replay`, stands at the call that would be refused and takes orders; see `divides` */
+    SCRIPT_FROM,     /* from which byte on a child reads the script again */
+    SCRIPT_SIZE,     /* how many bytes the script has */
     CHILD_STATUS,    /* how the last child ended, as waitpid tells it */
     PAGE_WORDS
 };
@@ -60,10 +60,10 @@ __attribute__((constructor)) static void find_page(void) {
     page = mapped;
 }
 
-/* Stands at a call, if it is the one to be refused or behind it: tells the driver so, through the standard input, a socket,
- * and for each order to divide makes a child in which the call is refused. So what comes before the call is run once for all of
- * them. A child takes the rest of its script from the file as it is by then, and writes behind what this process has written.
- * Answers whether this is a child. The program has to have one thread, and the script to be read whole. */
+/* Stands at a call, if it is the one to be refused or behind it and the script was read whole: tells the driver so, through the
+ * standard input, a socket, and for each order to divide makes a child in which the call is refused, and waits for its end. So
+ * what comes before the call is run once for all of them. A child takes the rest of its script from the file as it is by then,
+ * and writes behind what this process has written. Answers whether this is a child. The program has to have one thread. */
 static int divides(word number) {
     char order;
     if (number < page[REFUSED_CALL] || !script_end) return 0;
@@ -116,7 +116,7 @@ int posix_memalign(void **result, size_t alignment, size_t size) {
 
 ssize_t read(int file, void *to, size_t size) {
     ssize_t got = syscall(READ, file, to, size);
-    if (got == 0) {
+    if (got == 0 && page && page[DIVIDES]) {
         script = file;
         script_end = to;
     }
