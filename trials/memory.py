@@ -17,7 +17,10 @@ HERE = Path(__file__).resolve().parent
 WORDS = re.compile(rb"(error|filer (replay|serve|export) [^\n]+): [^\n]+\n")
 
 # Words of the page, as in refuse.c.
-COUNTING, FROM_ACCEPT, REFUSED_CALL, ALL_AFTER, CALLS, REFUSALS, PAGE_WORDS = range(7)
+(
+    COUNTING, FROM_ACCEPT, REFUSED_CALL, ALL_AFTER, CALLS, REFUSALS, DIVIDES, SCRIPT_FROM,
+    SCRIPT_SIZE, CHILD_STATUS, PAGE_WORDS,
+) = range(11)  # fmt: skip
 
 
 def compiler():
@@ -65,15 +68,20 @@ class Page:
         with open(self.path, "r+b") as file:
             self.words = mmap.mmap(file.fileno(), 8 * PAGE_WORDS)
 
-    def set(self, counting=0, from_accept=0, refused=0, all_after=0):
+    def set(self, counting=0, from_accept=0, refused=0, all_after=0, divides=0):
         """What the next run counts and refuses."""
-        self.words[:] = struct.pack("<6Q", counting, from_accept, refused, all_after, 0, 0)
+        told = counting, from_accept, refused, all_after, 0, 0, divides, 0, 0, 0
+        self.words[:] = struct.pack(f"<{PAGE_WORDS}Q", *told)
 
     def word(self, index):
         return struct.unpack_from("<Q", self.words, 8 * index)[0]
 
+    def put(self, index, *words):
+        """Words from an index on."""
+        struct.pack_into(f"<{len(words)}Q", self.words, 8 * index, *words)
+
     def refuse_no_more(self):
-        struct.pack_into("<2Q", self.words, 8 * REFUSED_CALL, 0, 0)
+        self.put(REFUSED_CALL, 0, 0)
 
     @property
     def calls(self):

@@ -1,11 +1,15 @@
 """`filer replay` with one allocation refused."""
 
+import itertools
+import math
 import os
 import re
 import signal
+import socket
 import subprocess
+import tempfile
 
-from memory import WORDS, Page, environment
+from memory import CHILD_STATUS, REFUSALS, REFUSED_CALL, SCRIPT_FROM, WORDS, Page, environment
 from scripts import Event, Script, feed, is_as_typed, spelled
 
 # The scripts, each with what it is about.
@@ -36,6 +40,9 @@ PATIENCE = 60
 LONG = 100
 FEW = 24
 
+# Orders of refuse.c.
+GO_ON, DIVIDE = b"g", b"d"
+
 # Procedures of NFS version 3 (RFC 1813).
 LOOKUP, READ, WRITE, CREATE, MKDIR, REMOVE, RMDIR, RENAME, READDIR = 3, 6, 7, 8, 9, 12, 13, 14, 16
 NAMED = (LOOKUP, WRITE, CREATE, MKDIR, REMOVE, RMDIR, RENAME)
@@ -48,14 +55,84 @@ class Wrong(Exception):
     """What a run shows isn't what it should."""
 
 
+class Late(Wrong):
+    def __init__(self):
+        super().__init__(f"the program doesn't end within {PATIENCE} seconds")
+
+
 class Result:
     """What a run came to."""
 
-    def __init__(self, status, text, calls, refusals):
+    def __init__(self, status, output, errors, refusals):
+        if status < 0:
+            raise Wrong(f"the program is killed by {signal.Signals(-status).name}")
+        if errors and (status == 0 or not WORDS.fullmatch(errors)):
+            raise Wrong(f"the program writes to its error output: {errors[:200]!r}")
         self.status = status
-        self.lines = text.split("\n")[:-1]
-        self.calls = calls
+        self.lines = output.decode().split("\n")[:-1]
         self.refusals = refusals
+
+
+class Divider:
+    """A process that runs a plan's script without a refusal, and stands at calls of the allocator (`divides` in refuse.c). A
+    child of it in which the call is refused, and which goes on with what stands in the script by then, is a run like any
+    other, but what comes before the call is run once for all of them."""
+
+    def __init__(self, plan, words, environment, page, folder, refused):
+        self.plan, self.page = plan, page
+        self.files = [tempfile.TemporaryFile(buffering=0, dir=folder) for _ in range(2)]
+        self.link, orders = socket.socketpair()
+        self.link.settimeout(PATIENCE)
+        page.set(counting=1, refused=refused, divides=1)
+        output, errors = self.files
+        self.process = subprocess.Popen(words, env=environment, stdin=orders, stdout=output, stderr=errors)
+        orders.close()
+        self.wait()
+
+    def wait(self):
+        """Waits until it stands at a call, or has ended. It stands late where the script isn't read whole before."""
+        try:
+            stands = self.link.recv(1)
+        except TimeoutError:
+            self.end()
+            raise Late from None
+        if stands:
+            self.at = self.page.calls
+        else:
+            self.end()
+
+    def stands_at(self, refused):
+        """Goes on to a call, unless it is behind it, and tells whether it stands there."""
+        if self.at < refused:
+            self.page.put(REFUSED_CALL, refused)
+            self.link.sendall(GO_ON)
+            self.wait()
+        return self.at == refused
+
+    def run(self, same, all_after):
+        """Makes a child. So many bytes of its script are as in this process's."""
+        ends = [file.tell() for file in self.files]
+        self.page.put(REFUSED_CALL, self.at, all_after)
+        self.page.put(REFUSALS, 0)
+        self.page.put(SCRIPT_FROM, same, self.plan.length)
+        self.link.sendall(DIVIDE)
+        self.wait()
+        written = []
+        for file, end in zip(self.files, ends):
+            # what the child wrote stands behind what this process has written, and is taken back
+            written.append(os.pread(file.fileno(), file.tell(), 0))
+            file.truncate(end)
+            file.seek(end)
+        return Result(os.waitstatus_to_exitcode(self.page.word(CHILD_STATUS)), *written, self.page.refusals)
+
+    def end(self):
+        """Ends the process, and its child with it."""
+        self.at = math.inf
+        self.process.kill()
+        self.process.wait()
+        self.link.close()
+        for file in self.files:
+            file.close()
 
 
 class Runner:
@@ -63,14 +140,21 @@ class Runner:
     allocations, so that the number of a call stays what it is where only later lines of a script differ."""
 
     def __init__(self, filer, library, folder):
-        self.filer = filer
+        self.folder = folder
         self.page = Page(folder, f"page-{os.getpid()}")
-        self.path = folder / f"script-{os.getpid()}"
         self.environment = environment(library, self.page)
+        self.path = folder / f"script-{os.getpid()}"
+        self.words = [filer, "replay", str(self.path)]
         self.written = None
+        # of the process that divides
+        self.its_page = Page(folder, f"page-{os.getpid()}-divided")
+        self.its_environment = environment(library, self.its_page)
+        self.divider = None
 
     def write(self, script, events, length):
-        """Writes a script with these events, of this many bytes in all."""
+        """Writes a script with these events, of this many bytes in all, unless it stands there."""
+        if self.written is events:
+            return
         lines = [line.encode() + b"\n" for line in script.layout] + [event.spelled for event in events]
         padding = length - sum(map(len, lines))
         assert padding >= 2, f"{script.name}: no room for the padding"
@@ -80,24 +164,36 @@ class Runner:
         self.written = events
 
     def run(self, script, events, length, refused=0, all_after=0):
-        if self.written is not events:
-            self.write(script, events, length)
+        self.write(script, events, length)
         self.page.set(counting=1, refused=refused, all_after=all_after)
         try:
             done = subprocess.run(
-                [self.filer, "replay", str(self.path)],
+                self.words,
                 env=self.environment,
                 stdout=subprocess.PIPE,
                 stderr=subprocess.PIPE,
                 timeout=PATIENCE,
             )
         except subprocess.TimeoutExpired:
-            raise Wrong(f"the program doesn't end within {PATIENCE} seconds")
-        if done.returncode < 0:
-            raise Wrong(f"the program is killed by {signal.Signals(-done.returncode).name}")
-        if done.stderr and (done.returncode == 0 or not WORDS.fullmatch(done.stderr)):
-            raise Wrong(f"the program writes to its error output: {done.stderr[:200]!r}")
-        return Result(done.returncode, done.stdout.decode(), self.page.calls, self.page.refusals)
+            raise Late from None
+        return Result(done.returncode, done.stdout, done.stderr, self.page.refusals)
+
+    def run_divided(self, plan, events, refused, all_after=0):
+        """A run of a plan's script, or of one that differs from it behind the event that meets the refusal: as a child of a
+        process that stands at the call, or by itself where none can. Calls come in their order, or a process begins anew."""
+        if self.divider is None or self.divider.plan is not plan or refused < self.refused:
+            if self.divider:
+                self.divider.end()
+            self.write(plan.script, plan.events, plan.length)
+            program = self.words, self.its_environment, self.its_page, self.folder
+            self.divider = Divider(plan, *program, refused)
+        self.refused = refused
+        if not self.divider.stands_at(refused):
+            return self.run(plan.script, events, plan.length, refused, all_after)
+        same = plan.same_bytes(events)
+        if same < plan.length:
+            self.write(plan.script, events, plan.length)
+        return self.divider.run(same, all_after)
 
 
 def blocks_of(events, lines):
@@ -165,6 +261,13 @@ class Plan:
         self.last = None
         self.learn(runner)
 
+    def same_bytes(self, events):
+        """How many bytes a script of these events has as this one, up to the first event that differs."""
+        if events is self.events:
+            return self.length
+        same = itertools.takewhile(lambda pair: pair[0] is pair[1], zip(events, self.events))
+        return sum(len(line) + 1 for line in self.script.layout) + sum(len(event.spelled) for event, _ in same)
+
     def learn(self, runner):
         """Runs the script without a refusal, and compares with what is typed."""
         result = runner.run(self.script, self.events, self.length)
@@ -175,7 +278,7 @@ class Plan:
             if not is_as_typed(block, event.prints):
                 raise Wrong(f"without a refusal: `{event.line[:60]}` prints {clip(block)}, not {clip(event.prints)}")
         self.lines = result.lines
-        self.calls = result.calls
+        self.calls = runner.page.calls
         self.trace()
 
     def trace(self):
@@ -235,7 +338,7 @@ class Trial:
     def check_all_after(self):
         """Where all calls from one on are refused, events go on that take no memory, and the others tell it."""
         plan = self.plan
-        result = self.runner.run(plan.script, plan.events, plan.length, self.refused, all_after=1)
+        result = self.runner.run_divided(plan, plan.events, self.refused, all_after=1)
         blocks, rest = blocks_of(plan.events, result.lines)
         if rest or result.status not in (0, 1) and (result.status, result.lines) != (2, ["fault 60"]):
             raise Wrong(f"with all calls refused from then on the program ends with status {result.status}")
@@ -255,11 +358,11 @@ class Trial:
     def check_one(self):
         plan = self.plan
         if plan.last is not None:
-            # mostly the refusal is met where the one before was
-            result = self.runner.run(plan.script, plan.last.events, plan.length, self.refused)
+            # mostly the refusal is met where the one before was; else that event has printed something else
+            result = self.runner.run_divided(plan, plan.last.events, self.refused)
             if result.refusals == 1 and plan.last.mismatch(result) is None:
                 return
-        result = self.runner.run(plan.script, plan.events, plan.length, self.refused)
+        result = self.runner.run_divided(plan, plan.events, self.refused)
         if self.refused > plan.calls:
             if result.refusals or result.lines != plan.lines or result.status:
                 raise Wrong("without a refusal the output differs")
@@ -468,7 +571,7 @@ class Trial:
             connection = plan.events[message[0]].number
             blocks.append([f"out {connection} {self.starved_output(plan.record(message))}"])
         plan.last = Case(events, blocks + wanted)
-        result = self.runner.run(plan.script, events, plan.length, self.refused)
+        result = self.runner.run_divided(plan, events, self.refused)
         if result.refusals != 1:
             self.fail(f"then {result.refusals} calls are refused")
         wrong = plan.last.mismatch(result)
