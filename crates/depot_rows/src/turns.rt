@@ -8,11 +8,12 @@ ghost use Rattle.desk.specs.laws.Calls.{AreIdle, MayPutBack};
 ghost use Rattle.desk.specs.Words.{books, IsKept};
 
 use crate::adder::Adder;
-use affinity::CallNode;
+use affinity::{Affinity, CallNode};
 use depot::trial::adding::{Adding, Change, all_of, volumes};
 use depot_rule::machine::Machine;
 use desk::{Desk, NodeKinds, ParcelKinds};
-use parcels::Node;
+use parcels::{Node, Numbers, SerialHeld};
+use std::mem;
 use std::process::Abort;
 
 /// A desk of numbers that calls add to.
@@ -20,11 +21,7 @@ pub(crate) type Counters = Desk<Adding, ParcelKinds>;
 
 /// What came of a call that was asked for in the midst of another, the number of its refusal if it
 /// was refused, and of the other, the sum where it had one.
-#[derive(Clone, Copy)]
-pub(crate) struct Turn {
-    pub(crate) beside: Option<u32>,
-    pub(crate) sum: Option<u64>,
-}
+pub(crate) type Turn = (Option<u32>, Option<u64>);
 
 /// A desk with two volumes in which each parcel is 0, and this many idle workers.
 pub(crate) fn open(rt: &(impl Abort + AllocGlobal), workers: usize) -> Counters
@@ -36,7 +33,7 @@ pub(crate) fn open(rt: &(impl Abort + AllocGlobal), workers: usize) -> Counters
 }
 
 /// Whether a worker is idle and the layout has a node.
-pub(crate) fn is_ready<M: Machine, K: NodeKinds<M::Parcel>>(
+fn is_ready<M: Machine, K: NodeKinds<M::Parcel>>(
     desk: &Desk<M, K>,
     worker: usize,
     home: CallNode,
@@ -48,6 +45,33 @@ pub(crate) fn is_ready<M: Machine, K: NodeKinds<M::Parcel>>(
         return false;
     }
     desk.layout().contains(home.node())
+}
+
+/// A call that a worker begins, if it is idle and the layout has the node. Whether it began.
+pub(crate) fn hold<M: Machine, K: NodeKinds<M::Parcel>>(
+    desk: &mut Desk<M, K>,
+    worker: usize,
+    home: CallNode,
+) -> bool
+    requires kept { IsKept desk.old }
+    ensures kept { IsKept desk.new }
+    ensures fresh { result ≡ true → MayPutBack (books desk.new) worker }
+{
+    if !is_ready(desk, worker, home) {
+        return false;
+    }
+    match desk.begin(worker, home) {
+        Ok(()) => true,
+        Err(_) => false,
+    }
+}
+
+/// Whether there are this many workers, and nothing was lent to any of them.
+pub(crate) fn is_free<M: Machine, K: NodeKinds<M::Parcel>>(
+    desk: &Desk<M, K>,
+    workers: usize,
+) -> bool {
+    desk.worker_count() == workers && !desk.is_taken(Affinity::Serial)
 }
 
 /// A call that begins and is put back. The number of its refusal, if it was refused.
@@ -132,7 +156,7 @@ pub(crate) fn take_turn(
     let [home, asked] = homes;
     let beside = begin_beside(desk, worker, home, other, asked)?;
     let sum = add(desk, worker, number);
-    Some(Turn { beside, sum })
+    Some((beside, sum))
 }
 
 /// Whether all workers are idle.
@@ -148,7 +172,7 @@ fn are_idle<M: Machine, K: NodeKinds<M::Parcel>>(desk: &Desk<M, K>) -> bool
 }
 
 /// Ends a desk whose workers are idle. All parcels come back.
-pub(crate) fn close<M: Machine, K: NodeKinds<M::Parcel>>(
+fn close<M: Machine, K: NodeKinds<M::Parcel>>(
     rt: &impl Abort,
     desk: Desk<M, K>,
 ) -> <K::Serial as Node<M::Parcel>>::Held
@@ -156,4 +180,24 @@ pub(crate) fn close<M: Machine, K: NodeKinds<M::Parcel>>(
 {
     assert!(rt; are_idle(&desk));
     desk.close()
+}
+
+/// The same of a desk of numbers: those of volume 0's block numbers, of its range 0 and of its
+/// stripe 2.
+pub(crate) fn numbers_left(rt: &impl Abort, desk: Counters) -> Option<[u64; 3]>
+    requires kept { IsKept desk }
+{
+    let held = close(rt, desk);
+    let numbers = numbers_of(&held);
+    mem::forget(held);
+    numbers
+}
+
+/// The numbers of volume 0's block numbers, of its range 0 and of its stripe 2.
+fn numbers_of(held: &SerialHeld<Numbers>) -> Option<[u64; 3]> {
+    let aggregate = held.aggregates.at[0].as_ref()?;
+    let volume = aggregate.volumes.at[0].as_ref()?;
+    let range = volume.vbn.ranges.at[0].as_ref()?;
+    let stripe = volume.logical.stripes.at[2].as_ref()?;
+    Some([volume.vbn.own, range.own, stripe.own])
 }
