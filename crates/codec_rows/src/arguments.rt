@@ -1,13 +1,12 @@
 //! Arguments, each of those that take memory once where memory is there.
 
-use crate::bytes::{holds, is_handle, same, spelled};
+use crate::bytes::{are_equal, holds, is_handle, spelled};
 use nfs_types::{Bad, decode_args, decode_call, decode_in_place};
 use nfs_values::{
     Call, CreateMode, MOUNT_PROGRAM, Moment, MountCall, NFS_PROGRAM, Procedure, SetAttributes,
     SetTime, Target,
 };
 use std::mem;
-use std::process::Abort;
 
 /// The handle 7.
 const HANDLE: [u32; 2] = [1, 0x0700_0000];
@@ -103,48 +102,41 @@ const CALLS: [(&str, Procedure, &[&[u32]]); 26] = [
     ("UMNTALL", Procedure::UnmountAll, &[]),
 ];
 
-/// Looks whether this is the handle 7 or 8 with this name.
-fn is_target(rt: &impl Abort, row: &str, target: &Target, handle: u8, name: &[u8]) {
-    is_handle(rt, row, &target.directory, &[handle]);
-    same(rt, row, target.name.as_bytes(), name);
+/// Whether this is the handle 7 and the name `ab`.
+fn is_target(target: &Target) -> bool {
+    is_handle(&target.directory, &[7]) && are_equal(target.name.as_bytes(), b"ab")
 }
 
-/// Looks whether a call on names asks what the rows spell, and gives its procedure.
-fn look_at(rt: &impl Abort, row: &str, call: &Call) -> Procedure {
+/// Whether this is the handle 8 and the name `xyz`.
+fn is_other_target(target: &Target) -> bool {
+    is_handle(&target.directory, &[8]) && are_equal(target.name.as_bytes(), b"xyz")
+}
+
+/// Whether a call on names asks what the rows spell, and its procedure.
+fn look_at(call: &Call) -> (bool, Procedure) {
     match call {
-        Call::Lookup(target) => {
-            is_target(rt, row, target, 7, b"ab");
-            Procedure::Lookup
-        }
-        Call::Remove(target) => {
-            is_target(rt, row, target, 7, b"ab");
-            Procedure::Remove
-        }
-        Call::RemoveDirectory(target) => {
-            is_target(rt, row, target, 7, b"ab");
-            Procedure::RemoveDirectory
-        }
+        Call::Lookup(target) => (is_target(target), Procedure::Lookup),
+        Call::Remove(target) => (is_target(target), Procedure::Remove),
+        Call::RemoveDirectory(target) => (is_target(target), Procedure::RemoveDirectory),
         Call::Rename { from, to } => {
-            is_target(rt, row, from, 7, b"ab");
-            is_target(rt, row, to, 8, b"xyz");
-            Procedure::Rename
+            let are_both = is_target(from) && is_other_target(to);
+            (are_both, Procedure::Rename)
         }
         Call::Create { target, mode } => {
-            is_target(rt, row, target, 7, b"ab");
-            holds(rt, row, *mode == CreateMode::Guarded(ASKED));
-            Procedure::Create
+            let is_asked = is_target(target) && *mode == CreateMode::Guarded(ASKED);
+            (is_asked, Procedure::Create)
         }
         Call::MakeDirectory { target, set } => {
-            is_target(rt, row, target, 7, b"ab");
-            holds(rt, row, *set == ASKED);
-            Procedure::MakeDirectory
+            let is_asked = is_target(target) && *set == ASKED;
+            (is_asked, Procedure::MakeDirectory)
         }
-        _ => look_at_other(rt, row, call),
+        Call::Mount(asked) => look_at_mount(asked),
+        _ => look_at_handle(call),
     }
 }
 
-/// The same of other calls.
-fn look_at_other(rt: &impl Abort, row: &str, call: &Call) -> Procedure {
+/// The same of a call on a handle.
+fn look_at_handle(call: &Call) -> (bool, Procedure) {
     match call {
         Call::Write {
             handle,
@@ -152,33 +144,18 @@ fn look_at_other(rt: &impl Abort, row: &str, call: &Call) -> Procedure {
             count,
             bytes,
         } => {
-            is_handle(rt, row, handle, &[7]);
-            holds(rt, row, *offset == 8 && *count == 3);
-            same(rt, row, bytes.as_slice(), &[1, 2, 3]);
-            Procedure::Write
+            let are_bytes = are_equal(bytes.as_slice(), &[1, 2, 3]);
+            let is_asked = is_handle(handle, &[7]) && *offset == 8 && *count == 3;
+            (are_bytes && is_asked, Procedure::Write)
         }
-        Call::CheckAccess { handle, asked } => {
-            is_handle(rt, row, handle, &[7]);
-            holds(rt, row, *asked == 0x8000_003F);
-            Procedure::CheckAccess
-        }
-        Call::FilesystemInfo { handle } => {
-            is_handle(rt, row, handle, &[7]);
-            Procedure::FilesystemInfo
-        }
+        Call::CheckAccess { handle, asked } => (
+            is_handle(handle, &[7]) && *asked == 0x8000_003F,
+            Procedure::CheckAccess,
+        ),
+        Call::FilesystemInfo { handle } => (is_handle(handle, &[7]), Procedure::FilesystemInfo),
         Call::PathConfiguration { handle } => {
-            is_handle(rt, row, handle, &[7]);
-            Procedure::PathConfiguration
+            (is_handle(handle, &[7]), Procedure::PathConfiguration)
         }
-        Call::Unsupported(which) => which.procedure(),
-        Call::Mount(asked) => look_at_mount(rt, row, asked),
-        _ => look_at_page(rt, row, call),
-    }
-}
-
-/// The same of a page that is asked for.
-fn look_at_page(rt: &impl Abort, row: &str, call: &Call) -> Procedure {
-    match call {
         Call::ReadDirectoryPlus {
             directory,
             cookie,
@@ -186,29 +163,25 @@ fn look_at_page(rt: &impl Abort, row: &str, call: &Call) -> Procedure {
             names_count,
             count,
         } => {
-            is_handle(rt, row, directory, &[7]);
-            same(rt, row, &verifier.0, &[1, 2, 3, 4, 5, 6, 7, 8]);
-            holds(
-                rt,
-                row,
-                cookie.0 == 3 && *names_count == 512 && *count == 8192,
-            );
-            Procedure::ReadDirectoryPlus
+            let is_verifier = are_equal(&verifier.0, &[1, 2, 3, 4, 5, 6, 7, 8]);
+            let is_page = is_verifier && cookie.0 == 3 && *names_count == 512 && *count == 8192;
+            (
+                is_handle(directory, &[7]) && is_page,
+                Procedure::ReadDirectoryPlus,
+            )
         }
-        _ => panic!(rt; "{row}: another call"),
+        Call::Unsupported(which) => (true, which.procedure()),
+        _ => (false, Procedure::Null),
     }
 }
 
 /// The same of a call of MOUNT. UMNT and UMNTALL are heard as one.
-fn look_at_mount(rt: &impl Abort, row: &str, call: &MountCall) -> Procedure {
+fn look_at_mount(call: &MountCall) -> (bool, Procedure) {
     match call {
-        MountCall::Mount { path } => {
-            same(rt, row, path.as_bytes(), b"/vol0");
-            Procedure::Mount
-        }
-        MountCall::ListMounts => Procedure::ListMounts,
-        MountCall::ListExports => Procedure::ListExports,
-        MountCall::Unmount => Procedure::Unmount,
+        MountCall::Mount { path } => (are_equal(path.as_bytes(), b"/vol0"), Procedure::Mount),
+        MountCall::ListMounts => (true, Procedure::ListMounts),
+        MountCall::ListExports => (true, Procedure::ListExports),
+        MountCall::Unmount => (true, Procedure::Unmount),
     }
 }
 
@@ -225,22 +198,35 @@ fn calls_are_made(rt: HostRuntime) {
     for (row, procedure, parts) in &CALLS {
         let arguments = spelled(&rt, parts);
         let call = decode_call(rt.alloc(), *procedure, &arguments).expect(&rt, row);
-        let found = look_at(&rt, row, &call);
+        let (is_asked, found) = look_at(&call);
         mem::forget((arguments, call));
-        holds(&rt, row, found as u32 == heard_as(*procedure) as u32);
+        holds(
+            &rt,
+            row,
+            is_asked && found as u32 == heard_as(*procedure) as u32,
+        );
     }
 }
 
+/// Five bytes, and then the arguments of the WRITE.
+const RECORD: [u8; 37] = [
+    9, 9, 9, 9, 9, 0, 0, 0, 1, 7, 0, 0, 0, 0, 0, 0, 0, 0, 0, 0, 8, 0, 0, 0, 3, 0, 0, 0, 2, 0, 0, 0,
+    3, 1, 2, 3, 0,
+];
+
 #[test]
 fn data_stays_in_its_record(rt: HostRuntime) {
-    let mut record = Vec::from_slice(rt.alloc(), &[9; 5]).expect(&rt, "no memory");
-    let added = record.extend_from_slice(&spelled(&rt, &[&WRITE]));
-    added.expect(&rt, "no memory");
+    let record = Vec::from_slice(rt.alloc(), &RECORD).expect(&rt, "no memory");
     assert!(rt; record.len() == 37);
     let decoded = decode_in_place(rt.alloc(), Procedure::Write, record, 5);
     let call = decoded.expect(&rt, "no call");
-    look_at_other(&rt, "WRITE", &call);
+    let (is_asked, found) = look_at_handle(&call);
     mem::forget(call);
+    holds(
+        &rt,
+        "WRITE",
+        is_asked && found as u32 == Procedure::Write as u32,
+    );
 }
 
 /// The handle of a root, and the length of the name `abc`.

@@ -13,14 +13,19 @@ pub(crate) fn holds(rt: &impl Abort, row: &str, is_so: bool) {
     assert!(rt; is_so, "{row}");
 }
 
-/// Looks whether these are the bytes that a row wants.
-pub(crate) fn same(rt: &impl Abort, row: &str, bytes: &[u8], wanted: &[u8]) {
-    holds(rt, row, bytes == wanted);
+/// Whether these are the bytes that are wanted.
+pub(crate) fn are_equal(bytes: &[u8], wanted: &[u8]) -> bool {
+    bytes == wanted
 }
 
-/// Looks whether these are the bytes of a handle.
-pub(crate) fn is_handle(rt: &impl Abort, row: &str, handle: &FileHandle, wanted: &[u8]) {
-    same(rt, row, handle.bytes_in(&mut [0; HANDLE_BYTES]), wanted);
+/// Looks whether these are the bytes that a row wants.
+pub(crate) fn same(rt: &impl Abort, row: &str, bytes: &[u8], wanted: &[u8]) {
+    holds(rt, row, are_equal(bytes, wanted));
+}
+
+/// Whether these are the bytes of a handle.
+pub(crate) fn is_handle(handle: &FileHandle, wanted: &[u8]) -> bool {
+    are_equal(handle.bytes_in(&mut [0; HANDLE_BYTES]), wanted)
 }
 
 /// Parts of words, one after the other, as bytes: of each word the highest byte first.

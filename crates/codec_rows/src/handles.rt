@@ -1,6 +1,6 @@
 //! Handles of a run, of volume and fileid and then the run's verifier, heard and told.
 
-use crate::bytes::{is_handle, spelled, spells};
+use crate::bytes::{holds, is_handle, spelled, spells};
 use nfs_values::{Answer, Call, FileHandle, Fileid, MountResults, Named, Reply, VolumeNumber};
 use rpc_msg::{HandleForm, Offer, Request, read_record_of, tell, write_reply_record};
 use std::mem;
@@ -42,27 +42,29 @@ const PLAIN: [(&str, &[u32], &[u8]); 2] = [
 /// A GETATTR call of NFS, as far as its handle.
 const GETATTR: [u32; 10] = [9, 0, 2, 0x000186a3, 3, 1, 0, 0, 0, 0];
 
-/// Reads GETATTR of handles by an offer, and looks which bytes the server has of them.
-fn hears(rt: &(impl Abort + AllocGlobal), offer: Offer, rows: &[(&str, &[u32], &[u8])]) {
-    for (row, handle, wanted) in rows {
-        let record = spelled(rt, &[&GETATTR, handle]);
-        let heard = read_record_of(rt.alloc(), record, offer).ok();
-        let heard = heard.expect(rt, row);
-        match &heard.request {
-            Request::Call {
-                call: Call::GetAttributes { handle },
-                ..
-            } => is_handle(rt, row, handle, wanted),
-            _ => panic!(rt; "no GETATTR"),
-        }
-        mem::forget(heard);
-    }
+/// Whether of the handle in a GETATTR that is heard by an offer the server has these bytes.
+fn hears(rt: &(impl Abort + AllocGlobal), offer: Offer, handle: &[u32], wanted: &[u8]) -> bool {
+    let heard = read_record_of(rt.alloc(), spelled(rt, &[&GETATTR, handle]), offer).ok();
+    let heard = heard.expect(rt, "a fault");
+    let is_had = match &heard.request {
+        Request::Call {
+            call: Call::GetAttributes { handle },
+            ..
+        } => is_handle(handle, wanted),
+        _ => false,
+    };
+    mem::forget(heard);
+    is_had
 }
 
 #[test]
 fn handles_are_heard(rt: HostRuntime) {
-    hears(&rt, Offer::export(RUN), &OF_RUN);
-    hears(&rt, Offer::basic(), &PLAIN);
+    for (row, handle, wanted) in &OF_RUN {
+        holds(&rt, row, hears(&rt, Offer::export(RUN), handle, wanted));
+    }
+    for (row, handle, wanted) in &PLAIN {
+        holds(&rt, row, hears(&rt, Offer::basic(), handle, wanted));
+    }
 }
 
 /// SUCCESS, MNT3_OK, 20 bytes of handle, and two flavors.

@@ -130,31 +130,23 @@ fn led(rt: &impl AllocGlobal, step: Step) -> Leads {
     }
 }
 
-/// Looks what bytes would lead to, feeds them, and looks what they lead to.
-fn feed(
+/// Whether bytes would lead to this, and lead to it when they are fed.
+fn feeds(
     rt: &(impl Abort + AllocGlobal),
-    row: &str,
     reassembler: &mut Reassembler,
     bytes: &[u8],
     taken: usize,
     wanted: Leads,
-) {
+) -> bool {
     let (looked, look) = reassembler.look(bytes);
     let (took, step) = fed(rt, reassembler, bytes);
-    holds(rt, row, looked == taken && took == taken);
-    holds(
-        rt,
-        row,
-        look.number() == wanted.number() && step.number() == wanted.number(),
-    );
-    let is_record = matches!(look, Look::Record);
+    let number = wanted.number();
+    let is_told = look.number() == number && step.number() == number;
+    let is_record = matches!(wanted, Leads::Null | Leads::NoCall | Leads::Garbage);
+    let is_seen = matches!(look, Look::Record) == is_record;
     let found = led(rt, step);
-    holds(rt, row, found as u8 == wanted as u8);
-    holds(
-        rt,
-        row,
-        is_record == matches!(wanted, Leads::Null | Leads::NoCall | Leads::Garbage),
-    );
+    let is_taken = looked == taken && took == taken;
+    is_taken && is_told && is_seen && found as u8 == wanted as u8
 }
 
 /// Feeds the pieces of a stream.
@@ -163,8 +155,9 @@ fn play(rt: &(impl Abort + AllocGlobal), row: &str, pieces: &[Piece]) {
     for (head, size, taken, wanted) in pieces {
         let mut bytes = Vec::from_slice(rt.alloc(), head).expect(rt, "no memory");
         bytes.resize(*size, 0).expect(rt, "no memory");
-        feed(rt, row, &mut reassembler, &bytes, *taken, *wanted);
+        let is_so = feeds(rt, &mut reassembler, &bytes, *taken, *wanted);
         mem::forget(bytes);
+        holds(rt, row, is_so);
     }
     mem::forget(reassembler);
 }
@@ -181,22 +174,24 @@ fn bytes_come_one_by_one(rt: HostRuntime) {
     let mut reassembler = Reassembler::new(rt.alloc());
     for (place, byte) in FRAGMENTS.iter().enumerate() {
         let wanted = if place < 55 { Leads::More } else { Leads::Null };
-        feed(&rt, "one by one", &mut reassembler, &[*byte], 1, wanted);
+        let is_so = feeds(&rt, &mut reassembler, &[*byte], 1, wanted);
+        holds(&rt, "one by one", is_so);
     }
     mem::forget(reassembler);
 }
 
-/// The header of a record of 40 bytes.
-const HEADER: [u8; 4] = [0x80, 0, 0, 0x28];
+/// The call as a record of one fragment.
+const FRAMED: [u8; 44] = [
+    0x80, 0, 0, 0x28, 0, 0, 0, 1, 0, 0, 0, 0, 0, 0, 0, 2, 0, 1, 0x86, 0xa3, 0, 0, 0, 3, 0, 0, 0, 0,
+    0, 0, 0, 0, 0, 0, 0, 0, 0, 0, 0, 0, 0, 0, 0, 0,
+];
 
 #[test]
 fn frames_a_record(rt: HostRuntime) {
     let framed = frame(rt.alloc(), &NULL_CALL).expect(&rt, "no memory");
-    let (header, record) = framed.split_at_checked(4).expect(&rt, "no header");
-    same(&rt, "header", header, &HEADER);
-    same(&rt, "record", record, &NULL_CALL);
+    same(&rt, "record", &framed, &FRAMED);
     let mut out = Vec::new(rt.alloc());
     put_header(&mut out, 40).expect(&rt, "no memory");
-    same(&rt, "header alone", &out, &HEADER);
+    same(&rt, "header", &out, &[0x80, 0, 0, 0x28]);
     mem::forget((framed, out));
 }

@@ -217,6 +217,9 @@ const ACCESS: AccessResults = AccessResults {
     given: 0x1F,
 };
 
+/// NFS3_OK and the directory, and then the bits that are given.
+const GIVEN: [&[u32]; 4] = [&[0], &DIRECTORY_TOLD, &[0; 20], &[0x1F]];
+
 const FILESYSTEM: FilesystemInfoResults = FilesystemInfoResults {
     root: DIRECTORY,
     largest: 0x0400_0000,
@@ -239,8 +242,7 @@ const PATH_TOLD: [&[u32]; 4] = [&[0], &DIRECTORY_TOLD, &[0; 20], &[1, 0xFF, 1, 0
 #[test]
 fn directories_are_told(rt: HostRuntime) {
     is_told(&rt, "RENAME", Answer::Rename(Ok(RENAMED)), &RENAMED_TOLD);
-    let given: [&[u32]; 4] = [&[0], &DIRECTORY_TOLD, &[0; 20], &[0x1F]];
-    is_told(&rt, "ACCESS", Answer::CheckAccess(Ok(ACCESS)), &given);
+    is_told(&rt, "ACCESS", Answer::CheckAccess(Ok(ACCESS)), &GIVEN);
     let told = Answer::FilesystemInfo(Ok(FILESYSTEM));
     is_told(&rt, "FSINFO", told, &FILESYSTEM_TOLD);
     let told = PathConfigurationResults { object: DIRECTORY };

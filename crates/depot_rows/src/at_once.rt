@@ -8,7 +8,7 @@ ghost use Rattle.depot_rows.specs.Counting.{Counts};
 
 use crate::counters::{Counter, One};
 use crate::trial::same;
-use crate::turns::{Counters, hold, numbers_left, open};
+use crate::turns::{Counters, finish, hold, numbers_left, open};
 use affinity::{Affinity, CallNode, Kind, Layout};
 use depot::trial::adding::Change;
 use depot_rule::machine::Machine;
@@ -101,7 +101,7 @@ fn refuse<N: Node<Parcel<Numbers>>, C: Counter<N> + Copy>(
     match make::<N, C>(desk, other, affinity, count) {
         Ok(_) => None,
         Err(refused) => {
-            desk.finish(worker, &Change::Touch, &0_u64);
+            finish(desk, worker, &Change::Touch, 0);
             Some(refused)
         }
     }
@@ -131,7 +131,7 @@ fn made_at_once(rt: HostRuntime) {
         let on_vbn = make::<VbnNode, One>(&mut desk, 0, VBN, *count);
         same(&rt, row, &on_vbn.ok(), &Some(*outcome));
     }
-    same(&rt, "left", &numbers_left(&rt, desk), &Some([3, 3, 0]));
+    same(&rt, "left", &numbers_left(&rt, desk, 1), &Some([3, 3, 0]));
 }
 
 /// Looks whether a call of worker 0 on a node of volume 0 is refused while worker 1 has the volume,
@@ -159,5 +159,5 @@ fn refused_at_once(rt: HostRuntime) {
     let mut desk = open(&rt, 2);
     look_at_refused::<RangeNode, One>(&rt, "range", &mut desk, RANGE, One);
     look_at_refused::<VbnNode, One>(&rt, "block numbers", &mut desk, VBN, One);
-    same(&rt, "left", &numbers_left(&rt, desk), &Some([1, 1, 0]));
+    same(&rt, "left", &numbers_left(&rt, desk, 2), &Some([1, 1, 0]));
 }

@@ -1,7 +1,7 @@
 //! Calls on nodes of each kind, and what other calls find in their midst.
 
 use crate::trial::same;
-use crate::turns::{Turn, is_free, numbers_left, open, take_turn};
+use crate::turns::{Turn, numbers_left, open, take_turn};
 use affinity::CallNode;
 
 const STRIPE: CallNode = CallNode::Stripe {
@@ -62,8 +62,7 @@ fn turns(rt: HostRuntime) {
     for (row, workers, homes, wanted) in &ROWS {
         let turn = take_turn(&mut desk, *workers, *homes, 5);
         same(&rt, row, &turn, wanted);
-        assert!(rt; is_free(&desk, 3), "{row}");
     }
-    let left = numbers_left(&rt, desk);
+    let left = numbers_left(&rt, desk, 3);
     same(&rt, "left", &left, &Some([0, 0, 10]));
 }

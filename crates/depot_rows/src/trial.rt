@@ -122,14 +122,30 @@ pub enum Who {
 /// Which seat claims a node for good, and what comes of it.
 pub type Claim = (Who, Affinity, Found);
 
+/// Claims a node for good by one of two seats.
+fn claim_by(
+    depot: &Depot<Adding>,
+    one: &mut Seat<Adding>,
+    other: &mut Seat<Adding>,
+    who: Who,
+    affinity: Affinity,
+) -> Found
+    requires one { IsSeatHere depot.now one.old }
+    requires other { IsSeatHere depot.now other.old }
+    ensures one { IsSeatHere depot.now one.new }
+    ensures other { IsSeatHere depot.now other.new }
+{
+    match who {
+        Who::One => claim_any(depot, one, affinity),
+        Who::Other => claim_any(depot, other, affinity),
+    }
+}
+
 /// Claims nodes of a new depot, one after the other, and looks what comes of each.
 pub fn claim_all(rt: &(impl Abort + AllocGlobal), row: &str, claims: &[Claim]) {
     let (depot, mut one, mut other) = two_seats(rt);
     for (who, affinity, wanted) in claims {
-        let found = match who {
-            Who::One => claim_any(&depot, &mut one, *affinity),
-            Who::Other => claim_any(&depot, &mut other, *affinity),
-        };
+        let found = claim_by(&depot, &mut one, &mut other, *who, *affinity);
         same(rt, row, &found, wanted);
     }
     mem::forget((depot, one, other));

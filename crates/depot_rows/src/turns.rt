@@ -4,8 +4,8 @@ ghost use Rattle.std.specs.Prelude.{◌≡◌, ◌≢◌, ◌↔◌, ℕ, true, 
 ghost use Rattle.affinity.specs.Affinity.{call_node};
 ghost use Rattle.affinity.specs.Tree.{IsNode};
 ghost use Rattle.desk.specs.laws.Books.{IsIdle};
-ghost use Rattle.desk.specs.laws.Calls.{AreIdle, MayPutBack};
-ghost use Rattle.desk.specs.Words.{books, IsKept};
+ghost use Rattle.desk.specs.laws.Calls.{AreIdle, MayFinish, MayPutBack};
+ghost use Rattle.desk.specs.Words.{books, machine_in, IsKept};
 
 use crate::adder::Adder;
 use affinity::{Affinity, CallNode};
@@ -66,14 +66,6 @@ pub(crate) fn hold<M: Machine, K: NodeKinds<M::Parcel>>(
     }
 }
 
-/// Whether there are this many workers, and nothing was lent to any of them.
-pub(crate) fn is_free<M: Machine, K: NodeKinds<M::Parcel>>(
-    desk: &Desk<M, K>,
-    workers: usize,
-) -> bool {
-    desk.worker_count() == workers && !desk.is_taken(Affinity::Serial)
-}
-
 /// A call that begins and is put back. The number of its refusal, if it was refused.
 fn ask<M: Machine, K: NodeKinds<M::Parcel>>(
     desk: &mut Desk<M, K>,
@@ -97,9 +89,9 @@ fn ask<M: Machine, K: NodeKinds<M::Parcel>>(
     }
 }
 
-/// A call that a worker begins, and what comes of another's that is asked for in its midst: the
-/// number of its refusal, if it is refused. Nothing where a worker isn't idle, a node isn't there,
-/// or the first call is refused.
+/// A call that a worker begins while nothing is lent, and what comes of another's that is asked for
+/// in its midst: the number of its refusal, if it is refused. Nothing where something is lent, a
+/// worker isn't idle, a node isn't there, or the first call is refused.
 fn begin_beside<M: Machine, K: NodeKinds<M::Parcel>>(
     desk: &mut Desk<M, K>,
     worker: usize,
@@ -111,6 +103,9 @@ fn begin_beside<M: Machine, K: NodeKinds<M::Parcel>>(
     ensures kept { IsKept desk.new }
     ensures fresh { IfSome result (λ _. MayPutBack (books desk.new) worker) }
 {
+    if desk.is_taken(Affinity::Serial) {
+        return None;
+    }
     if worker == other || !is_ready(desk, worker, home) || !is_ready(desk, other, asked) {
         return None;
     }
@@ -122,6 +117,15 @@ fn begin_beside<M: Machine, K: NodeKinds<M::Parcel>>(
     Some(beside)
 }
 
+/// Ends a worker's call by an entry.
+pub(crate) fn finish(desk: &mut Counters, worker: usize, change: &Change, sum: u64)
+    requires kept { IsKept desk.old }
+    requires may { MayFinish (machine_in desk.old) (books desk.old) worker change.now sum }
+    ensures kept { IsKept desk.new }
+{
+    desk.finish(worker, change, &sum);
+}
+
 /// Adds to the number of a stripe that a worker was lent, and finishes its call. What is of another
 /// kind is put back.
 fn add(desk: &mut Counters, worker: usize, number: u64) -> Option<u64>
@@ -131,7 +135,7 @@ fn add(desk: &mut Counters, worker: usize, number: u64) -> Option<u64>
 {
     match desk.work(worker, Adder { number }) {
         Some(sum) => {
-            desk.finish(worker, &Change::Add(number), &sum);
+            finish(desk, worker, &Change::Add(number), sum);
             Some(sum)
         }
         None => {
@@ -142,7 +146,7 @@ fn add(desk: &mut Counters, worker: usize, number: u64) -> Option<u64>
 }
 
 /// A call that adds to a stripe's number, in whose midst another worker asks for a node. Nothing
-/// where a worker isn't idle, a node isn't there, or the call is refused.
+/// where something is lent, a worker isn't idle, a node isn't there, or the call is refused.
 pub(crate) fn take_turn(
     desk: &mut Counters,
     workers: [usize; 2],
@@ -171,23 +175,25 @@ fn are_idle<M: Machine, K: NodeKinds<M::Parcel>>(desk: &Desk<M, K>) -> bool
     true
 }
 
-/// Ends a desk whose workers are idle. All parcels come back.
+/// Ends a desk of this many workers, which are idle. All parcels come back.
 fn close<M: Machine, K: NodeKinds<M::Parcel>>(
     rt: &impl Abort,
     desk: Desk<M, K>,
+    workers: usize,
 ) -> <K::Serial as Node<M::Parcel>>::Held
     requires kept { IsKept desk }
 {
+    assert!(rt; desk.worker_count() == workers);
     assert!(rt; are_idle(&desk));
     desk.close()
 }
 
 /// The same of a desk of numbers: those of volume 0's block numbers, of its range 0 and of its
 /// stripe 2.
-pub(crate) fn numbers_left(rt: &impl Abort, desk: Counters) -> Option<[u64; 3]>
+pub(crate) fn numbers_left(rt: &impl Abort, desk: Counters, workers: usize) -> Option<[u64; 3]>
     requires kept { IsKept desk }
 {
-    let held = close(rt, desk);
+    let held = close(rt, desk, workers);
     let numbers = numbers_of(&held);
     mem::forget(held);
     numbers
