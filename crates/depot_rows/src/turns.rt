@@ -103,10 +103,10 @@ fn begin_beside<M: Machine, K: NodeKinds<M::Parcel>>(
     ensures kept { IsKept desk.new }
     ensures fresh { IfSome result (λ _. MayPutBack (books desk.new) worker) }
 {
-    if desk.is_taken(Affinity::Serial) {
+    if worker == other || desk.is_taken(Affinity::Serial) {
         return None;
     }
-    if worker == other || !is_ready(desk, worker, home) || !is_ready(desk, other, asked) {
+    if !is_ready(desk, worker, home) || !is_ready(desk, other, asked) {
         return None;
     }
     match desk.begin(worker, home) {
@@ -183,8 +183,7 @@ fn close<M: Machine, K: NodeKinds<M::Parcel>>(
 ) -> <K::Serial as Node<M::Parcel>>::Held
     requires kept { IsKept desk }
 {
-    assert!(rt; desk.worker_count() == workers);
-    assert!(rt; are_idle(&desk));
+    assert!(rt; desk.worker_count() == workers && are_idle(&desk));
     desk.close()
 }
 
