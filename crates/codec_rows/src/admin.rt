@@ -1,21 +1,37 @@
 //! What no run of the program shows of calls of the admin program and their replies, typed by hand
 //! (RFC 5531 sections 9 and 11, and our profile). What it shows stands in `trials/admin_replies`.
 
-use crate::bytes::{bytes_of, holds, same};
+use crate::bytes::{holds, spelled, spells};
 use admin_client::{
     AdminCall, AdminFault, CallRefusal, call_record, census, next_record, read_census, read_growth,
 };
 use nfs_values::VolumeNumber;
 use std::io::{self, ErrorKind, Read, Write};
+use std::mem;
 use std::process::Abort;
 use xdr::Fault;
 
-/// CENSUS: one fragment of 40 bytes; the xid 7, a call, RPC version 2, program 0x20000001,
-/// version 1, procedure 1, and no credential or verifier.
-const CENSUS: [u32; 11] = [0x8000_0028, 7, 0, 2, 0x2000_0001, 1, 1, 0, 0, 0, 0];
-
-/// GROW, procedure 2, of volume 3 by 5 ranges.
-const GROW: [u32; 13] = [0x8000_0030, 8, 0, 2, 0x2000_0001, 1, 2, 0, 0, 0, 0, 3, 5];
+/// Calls by their xid, and their records.
+const CALLS: [(&str, u32, AdminCall, &[u32]); 2] = [
+    // one fragment of 40 bytes; the xid 7, a call, RPC version 2, program 0x20000001, version 1,
+    // procedure 1, and no credential or verifier
+    (
+        "CENSUS",
+        7,
+        AdminCall::Census,
+        &[0x8000_0028, 7, 0, 2, 0x2000_0001, 1, 1, 0, 0, 0, 0],
+    ),
+    // procedure 2, of volume 3 by 5 ranges
+    (
+        "GROW",
+        8,
+        AdminCall::Grow {
+            volume: VolumeNumber(3),
+            ranges: 5,
+        },
+        &[0x8000_0030, 8, 0, 2, 0x2000_0001, 1, 2, 0, 0, 0, 0, 3, 5],
+    ),
+];
 
 /// The reply to a CENSUS of two volumes, with a verifier of flavor 6 and 5 bytes.
 const VERIFIED: [u32; 19] = [
@@ -40,50 +56,112 @@ const VERIFIED: [u32; 19] = [
     0,
 ];
 
-/// Replies that refuse a call of xid 1 by numbers.
-const REFUSED: [(&[u32], CallRefusal); 5] = [
+/// Replies that refuse a call of xid 1 by numbers, or are none with results of either procedure.
+const NONE: [(&str, &[u32], AdminFault); 17] = [
     (
+        "PROG_MISMATCH",
         &[1, 1, 0, 0, 0, 2, 2, 3],
-        CallRefusal::ProgramMismatch { low: 2, high: 3 },
+        AdminFault::Refused(CallRefusal::ProgramMismatch { low: 2, high: 3 }),
     ),
     (
+        "RPC_MISMATCH",
         &[1, 1, 1, 0, 3, 4],
-        CallRefusal::RpcMismatch { low: 3, high: 4 },
+        AdminFault::Refused(CallRefusal::RpcMismatch { low: 3, high: 4 }),
     ),
-    (&[1, 1, 1, 1, 1], CallRefusal::AuthError { number: 1 }),
-    (&[1, 1, 1, 1, 5], CallRefusal::AuthError { number: 5 }),
-    (&[1, 1, 1, 1, 0], CallRefusal::AuthError { number: 0 }),
-];
-
-/// What is no reply with results of either procedure, and by which fault.
-const NONE: [(&[u32], Fault); 12] = [
-    (&[], Fault::Short),
-    (&[1], Fault::Short),
-    (&[1, 0, 2], Fault::BadEnum),
-    (&[1, 2, 0], Fault::BadEnum),
-    (&[1, 1, 2], Fault::BadEnum),
-    (&[1, 1, 0, 0, 0, 6], Fault::BadEnum),
-    (&[1, 1, 1, 2, 0], Fault::BadEnum),
-    (&[1, 1, 0, 0, 404, 0], Fault::TooLong),
-    (&[1, 1, 0, 0, 3, 1, 0], Fault::BadPad),
-    (&[1, 1, 0, 0, 0, 0], Fault::Short),
-    (&[1, 1, 0, 0, 0, 2, 2], Fault::Short),
-    (&[1, 1, 0, 0, 0, 1, 0], Fault::LeftOver),
+    (
+        "AUTH_ERROR 1",
+        &[1, 1, 1, 1, 1],
+        AdminFault::Refused(CallRefusal::AuthError { number: 1 }),
+    ),
+    (
+        "AUTH_ERROR 5",
+        &[1, 1, 1, 1, 5],
+        AdminFault::Refused(CallRefusal::AuthError { number: 5 }),
+    ),
+    (
+        "AUTH_ERROR 0",
+        &[1, 1, 1, 1, 0],
+        AdminFault::Refused(CallRefusal::AuthError { number: 0 }),
+    ),
+    ("no xid", &[], AdminFault::Malformed(Fault::Short)),
+    ("an xid alone", &[1], AdminFault::Malformed(Fault::Short)),
+    ("a call", &[1, 0, 2], AdminFault::Malformed(Fault::BadEnum)),
+    (
+        "message type 2",
+        &[1, 2, 0],
+        AdminFault::Malformed(Fault::BadEnum),
+    ),
+    (
+        "reply_stat 2",
+        &[1, 1, 2],
+        AdminFault::Malformed(Fault::BadEnum),
+    ),
+    (
+        "accept_stat 6",
+        &[1, 1, 0, 0, 0, 6],
+        AdminFault::Malformed(Fault::BadEnum),
+    ),
+    (
+        "reject_stat 2",
+        &[1, 1, 1, 2, 0],
+        AdminFault::Malformed(Fault::BadEnum),
+    ),
+    (
+        "a verifier of 404 bytes",
+        &[1, 1, 0, 0, 404, 0],
+        AdminFault::Malformed(Fault::TooLong),
+    ),
+    (
+        "a verifier with padding that isn't zero",
+        &[1, 1, 0, 0, 3, 1, 0],
+        AdminFault::Malformed(Fault::BadPad),
+    ),
+    (
+        "no results",
+        &[1, 1, 0, 0, 0, 0],
+        AdminFault::Malformed(Fault::Short),
+    ),
+    (
+        "PROG_MISMATCH without the highest",
+        &[1, 1, 0, 0, 0, 2, 2],
+        AdminFault::Malformed(Fault::Short),
+    ),
+    (
+        "PROG_UNAVAIL and more",
+        &[1, 1, 0, 0, 0, 1, 0],
+        AdminFault::Malformed(Fault::LeftOver),
+    ),
 ];
 
 /// Replies to a GROW whose results are none.
-const NOT_GROWN: [(&[u32], Fault); 4] = [
-    (&[1, 1, 0, 0, 0, 0, 0, 0], Fault::Short),
-    (&[1, 1, 0, 0, 0, 0, 0, 0, 5_120, 0], Fault::LeftOver),
-    (&[1, 1, 0, 0, 0, 0, 28, 0], Fault::LeftOver),
-    (&[1, 1, 0, 0, 0, 0, 70], Fault::BadEnum),
+const NOT_GROWN: [(&str, &[u32], AdminFault); 4] = [
+    (
+        "NFS3_OK with half a number",
+        &[1, 1, 0, 0, 0, 0, 0, 0],
+        AdminFault::Malformed(Fault::Short),
+    ),
+    (
+        "NFS3_OK and more",
+        &[1, 1, 0, 0, 0, 0, 0, 0, 5_120, 0],
+        AdminFault::Malformed(Fault::LeftOver),
+    ),
+    (
+        "NFS3ERR_NOSPC and more",
+        &[1, 1, 0, 0, 0, 0, 28, 0],
+        AdminFault::Malformed(Fault::LeftOver),
+    ),
+    (
+        "NFS3ERR_STALE",
+        &[1, 1, 0, 0, 0, 0, 70],
+        AdminFault::Malformed(Fault::BadEnum),
+    ),
 ];
 
 /// Errors of a stream, and what a call comes to by each.
-const FAILURES: [(ErrorKind, AdminFault); 3] = [
-    (ErrorKind::BrokenPipe, AdminFault::Stream),
-    (ErrorKind::WouldBlock, AdminFault::Late),
-    (ErrorKind::TimedOut, AdminFault::Late),
+const FAILURES: [(&str, ErrorKind, AdminFault); 3] = [
+    ("EPIPE", ErrorKind::BrokenPipe, AdminFault::Stream),
+    ("EWOULDBLOCK", ErrorKind::WouldBlock, AdminFault::Late),
+    ("ETIMEDOUT", ErrorKind::TimedOut, AdminFault::Late),
 ];
 
 /// A stream that answers each read and each write with an error.
@@ -113,60 +191,55 @@ fn no_counts(rt: &impl AllocGlobal, reply: &[u8]) -> Option<AdminFault> {
     read_census(rt.alloc(), 1, reply).err()
 }
 
-/// Looks whether this is no reply to a GROW of xid 1, by this fault.
-fn is_no_growth(rt: &(impl Abort + AllocGlobal), words: &[u32], fault: AdminFault) {
-    let reply = bytes_of(rt, words);
-    holds(rt, read_growth(1, &reply).err() == Some(fault));
-}
-
-/// The same of a CENSUS.
-fn is_no_census(rt: &(impl Abort + AllocGlobal), words: &[u32], fault: AdminFault) {
-    let reply = bytes_of(rt, words);
-    holds(rt, no_counts(rt, &reply) == Some(fault));
+/// Looks whether these are no replies to a GROW of xid 1, and maybe none to a CENSUS, by what
+/// faults.
+fn are_none(rt: &(impl Abort + AllocGlobal), rows: &[(&str, &[u32], AdminFault)], of_either: bool) {
+    for (row, words, fault) in rows {
+        let reply = spelled(rt, &[words]);
+        holds(rt, row, read_growth(1, &reply).err() == Some(*fault));
+        if of_either {
+            holds(rt, row, no_counts(rt, &reply) == Some(*fault));
+        }
+        mem::forget(reply);
+    }
 }
 
 #[test]
 fn calls_of_any_xid(rt: HostRuntime) {
-    let record = call_record(rt.alloc(), 7, AdminCall::Census).expect(&rt, "no memory");
-    same(&rt, &record, &bytes_of(&rt, &CENSUS));
-    let volume = VolumeNumber(3);
-    let call = AdminCall::Grow { volume, ranges: 5 };
-    let record = call_record(rt.alloc(), 8, call).expect(&rt, "no memory");
-    same(&rt, &record, &bytes_of(&rt, &GROW));
+    for (row, xid, call, words) in &CALLS {
+        let record = call_record(rt.alloc(), *xid, *call).expect(&rt, "no memory");
+        spells(&rt, row, &record, &[words]);
+        mem::forget(record);
+    }
 }
 
 #[test]
 fn numbers_of_refusals_and_faults(rt: HostRuntime) {
-    for (words, refusal) in &REFUSED {
-        is_no_growth(&rt, words, AdminFault::Refused(*refusal));
-        is_no_census(&rt, words, AdminFault::Refused(*refusal));
-    }
-    for (words, fault) in &NONE {
-        is_no_growth(&rt, words, AdminFault::Malformed(*fault));
-        is_no_census(&rt, words, AdminFault::Malformed(*fault));
-    }
-    for (words, fault) in &NOT_GROWN {
-        is_no_growth(&rt, words, AdminFault::Malformed(*fault));
-    }
+    are_none(&rt, &NONE, true);
+    are_none(&rt, &NOT_GROWN, false);
 }
 
 #[test]
 fn replies_that_are_cut(rt: HostRuntime) {
-    let reply = bytes_of(&rt, &VERIFIED);
+    let reply = spelled(&rt, &[&VERIFIED]);
     for size in 0..reply.len() {
         let fault = no_counts(&rt, &reply[..size]);
-        holds(&rt, fault == Some(AdminFault::Malformed(Fault::Short)));
+        let is_short = fault == Some(AdminFault::Malformed(Fault::Short));
+        holds(&rt, "cut", is_short);
     }
+    mem::forget(reply);
 }
 
 #[test]
 fn streams_that_fail(rt: HostRuntime) {
-    for (kind, fault) in &FAILURES {
+    for (row, kind, fault) in &FAILURES {
         let mut stream = Broken { kind: *kind };
+        let found = next_record(rt.alloc(), &mut stream).err();
+        holds(&rt, row, found == Some(*fault));
         holds(
             &rt,
-            next_record(rt.alloc(), &mut stream).err() == Some(*fault),
+            row,
+            census(&mut stream, rt.alloc()).err() == Some(*fault),
         );
-        holds(&rt, census(&mut stream, rt.alloc()).err() == Some(*fault));
     }
 }

@@ -8,38 +8,41 @@ use nfs_values::answer::ReadResults;
 use nfs_values::{Answer, BytesRead, FileHandle, HANDLE_BYTES, room_to_read};
 use std::process::Abort;
 
-/// Looks whether this is so.
-pub(crate) fn holds(rt: &impl Abort, is_so: bool) {
-    assert!(rt; is_so);
+/// Looks whether this is so, as a row of this name has it.
+pub(crate) fn holds(rt: &impl Abort, row: &str, is_so: bool) {
+    assert!(rt; is_so, "{row}");
 }
 
-/// Looks whether these are the bytes that are wanted.
-pub(crate) fn same(rt: &impl Abort, bytes: &[u8], wanted: &[u8]) {
-    assert!(rt; bytes == wanted);
+/// Whether these are the bytes that are wanted.
+pub(crate) fn are_equal(bytes: &[u8], wanted: &[u8]) -> bool {
+    bytes == wanted
 }
 
-/// Looks whether these are the bytes of a handle.
-pub(crate) fn is_handle(rt: &impl Abort, handle: &FileHandle, wanted: &[u8]) {
-    same(rt, handle.bytes_in(&mut [0; HANDLE_BYTES]), wanted);
+/// Looks whether these are the bytes that a row wants.
+pub(crate) fn same(rt: &impl Abort, row: &str, bytes: &[u8], wanted: &[u8]) {
+    holds(rt, row, are_equal(bytes, wanted));
 }
 
-/// Parts, one after the other.
-pub(crate) fn joined(rt: &(impl Abort + AllocGlobal), parts: &[&[u8]]) -> Vec<u8> {
-    let mut all = Vec::new(rt.alloc());
-    for part in parts {
-        all.extend_from_slice(part).expect(rt, "no memory");
-    }
-    all
+/// Whether these are the bytes of a handle.
+pub(crate) fn is_handle(handle: &FileHandle, wanted: &[u8]) -> bool {
+    are_equal(handle.bytes_in(&mut [0; HANDLE_BYTES]), wanted)
 }
 
-/// Words as bytes, the highest byte first.
-pub(crate) fn bytes_of(rt: &(impl Abort + AllocGlobal), words: &[u32]) -> Vec<u8> {
+/// Parts of words, one after the other, as bytes: of each word the highest byte first.
+pub(crate) fn spelled(rt: &(impl Abort + AllocGlobal), parts: &[&[u32]]) -> Vec<u8> {
     let mut bytes = Vec::new(rt.alloc());
-    for word in words {
-        let added = bytes.extend_from_slice(&word.to_be_bytes());
-        added.expect(rt, "no memory");
+    for words in parts {
+        for word in *words {
+            let added = bytes.extend_from_slice(&word.to_be_bytes());
+            added.expect(rt, "no memory");
+        }
     }
     bytes
+}
+
+/// Looks whether these are bytes that parts of words spell.
+pub(crate) fn spells(rt: &(impl Abort + AllocGlobal), row: &str, bytes: &[u8], parts: &[&[u32]]) {
+    same(rt, row, bytes, &spelled(rt, parts));
 }
 
 /// The answer of a READ that gives these bytes, the last of a file.

@@ -1,6 +1,6 @@
 //! Handles of a run, of volume and fileid and then the run's verifier, heard and told.
 
-use crate::bytes::{bytes_of, is_handle, same};
+use crate::bytes::{holds, is_handle, spelled, spells};
 use nfs_values::{Answer, Call, FileHandle, Fileid, MountResults, Named, Reply, VolumeNumber};
 use rpc_msg::{HandleForm, Offer, Request, read_record_of, tell, write_reply_record};
 use std::mem;
@@ -9,50 +9,68 @@ use std::process::Abort;
 /// The number of the run.
 const RUN: u64 = 0x0102_0304_0506_0708;
 
-/// Reads GETATTR of a handle by an offer, and looks whether the server has these bytes of it.
-fn hears(rt: &(impl Abort + AllocGlobal), offer: Offer, handle: &[u32], wanted: &[u8]) {
-    let mut record = bytes_of(rt, &[9, 0, 2, 0x000186a3, 3, 1, 0, 0, 0, 0]);
-    record
-        .extend_from_slice(&bytes_of(rt, handle))
-        .expect(rt, "no memory");
-    let heard = read_record_of(rt.alloc(), record, offer).ok();
+/// Handles of this run's export, and the bytes that the server has of each.
+const OF_RUN: [(&str, &[u32], &[u8]); 4] = [
+    (
+        "of this run",
+        &[20, 3, 0, 5, 0x01020304, 0x05060708],
+        &[0, 0, 0, 3, 0, 0, 0, 0, 0, 0, 0, 5],
+    ),
+    (
+        "of another run, which keeps its volume alone",
+        &[20, 3, 0, 5, 0x01020304, 0x05060709],
+        &[0, 0, 0, 3, 0, 0, 0, 0, 0, 0, 0, 0],
+    ),
+    (
+        "without a verifier, which is no handle",
+        &[12, 3, 0, 5],
+        &[],
+    ),
+    ("too long", &[24, 3, 0, 5, 0x01020304, 0x05060708, 0], &[]),
+];
+
+/// Handles that stay as they are.
+const PLAIN: [(&str, &[u32], &[u8]); 2] = [
+    (
+        "of 12 bytes",
+        &[12, 3, 0, 5],
+        &[0, 0, 0, 3, 0, 0, 0, 0, 0, 0, 0, 5],
+    ),
+    ("of 4 bytes", &[4, 7], &[0, 0, 0, 7]),
+];
+
+/// A GETATTR call of NFS, as far as its handle.
+const GETATTR: [u32; 10] = [9, 0, 2, 0x000186a3, 3, 1, 0, 0, 0, 0];
+
+/// Whether of the handle in a GETATTR that is heard by an offer the server has these bytes.
+fn hears(rt: &(impl Abort + AllocGlobal), offer: Offer, handle: &[u32], wanted: &[u8]) -> bool {
+    let heard = read_record_of(rt.alloc(), spelled(rt, &[&GETATTR, handle]), offer).ok();
     let heard = heard.expect(rt, "a fault");
-    match &heard.request {
+    let is_had = match &heard.request {
         Request::Call {
             call: Call::GetAttributes { handle },
             ..
-        } => is_handle(rt, handle, wanted),
-        _ => panic!(rt; "no GETATTR"),
-    }
+        } => is_handle(handle, wanted),
+        _ => false,
+    };
     mem::forget(heard);
+    is_had
 }
 
 #[test]
 fn handles_are_heard(rt: HostRuntime) {
-    let export = Offer::export(RUN);
-    // the handle of this run
-    let own = [20, 3, 0, 5, 0x01020304, 0x05060708];
-    hears(&rt, export, &own, &[0, 0, 0, 3, 0, 0, 0, 0, 0, 0, 0, 5]);
-    // that of another run keeps its volume alone
-    let other = [20, 3, 0, 5, 0x01020304, 0x05060709];
-    hears(&rt, export, &other, &[0, 0, 0, 3, 0, 0, 0, 0, 0, 0, 0, 0]);
-    // and one without a verifier is no handle, nor is one that is too long
-    hears(&rt, export, &[12, 3, 0, 5], &[]);
-    let long = [24, 3, 0, 5, 0x01020304, 0x05060708, 0];
-    hears(&rt, export, &long, &[]);
+    for (row, handle, wanted) in &OF_RUN {
+        holds(&rt, row, hears(&rt, Offer::export(RUN), handle, wanted));
+    }
+    for (row, handle, wanted) in &PLAIN {
+        holds(&rt, row, hears(&rt, Offer::basic(), handle, wanted));
+    }
 }
 
-#[test]
-fn plain_handles_stay(rt: HostRuntime) {
-    let basic = Offer::basic();
-    hears(
-        &rt,
-        basic,
-        &[12, 3, 0, 5],
-        &[0, 0, 0, 3, 0, 0, 0, 0, 0, 0, 0, 5],
-    );
-    hears(&rt, basic, &[4, 7], &[0, 0, 0, 7]);
-}
+/// SUCCESS, MNT3_OK, 20 bytes of handle, and two flavors.
+const TOLD: [u32; 17] = [
+    0x80000040, 9, 1, 0, 0, 0, 0, 0, 20, 3, 0, 1, 0x01020304, 0x05060708, 2, 1, 0,
+];
 
 #[test]
 fn handles_are_told(rt: HostRuntime) {
@@ -65,9 +83,5 @@ fn handles_are_told(rt: HostRuntime) {
     let mut out = Vec::new(rt.alloc());
     write_reply_record(&mut out, 9, &reply).expect(&rt, "no memory");
     mem::forget(reply);
-    // SUCCESS, MNT3_OK, 20 bytes of handle, and two flavors
-    let words = [
-        0x80000040, 9, 1, 0, 0, 0, 0, 0, 20, 3, 0, 1, 0x01020304, 0x05060708, 2, 1, 0,
-    ];
-    same(&rt, &out, &bytes_of(&rt, &words));
+    spells(&rt, "told", &out, &[&TOLD]);
 }

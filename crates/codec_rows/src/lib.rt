@@ -12,8 +12,6 @@ mod handles;
 #[cfg(test)]
 mod heads;
 #[cfg(test)]
-mod mounting;
-#[cfg(test)]
 mod records;
 #[cfg(test)]
 mod replies;

@@ -1,6 +1,6 @@
 //! Records out of a stream, and a record's frame.
 
-use crate::bytes::{bytes_of, holds, same};
+use crate::bytes::{holds, same};
 use nfs_values::Refusal;
 use rpc_msg::{RecordFault, Request, read_record};
 use rpc_record::{Look, Reassembler, Step, frame, put_header};
@@ -19,6 +19,80 @@ const FRAGMENTS: [u8; 56] = [
     0x17, 0, 0, 3, 0, 0, 0, 0, 0, 0, 0, 0, 0, 0, 0, 0, 0, 0, 0, 0, 0, 0, 0, 0, 0x80, 0, 0, 0,
 ];
 
+/// A GETATTR call of a root, xid 1, without its header.
+const GETATTR: [u8; 56] = [
+    0, 0, 0, 1, 0, 0, 0, 0, 0, 0, 0, 2, 0, 1, 0x86, 0xa3, 0, 0, 0, 3, 0, 0, 0, 1, 0, 0, 0, 0, 0, 0,
+    0, 0, 0, 0, 0, 0, 0, 0, 0, 0, 0, 0, 0, 12, 0, 0, 0, 0, 0, 0, 0, 0, 0, 0, 0, 1,
+];
+
+/// The most bytes of data that a record may have.
+const MOST: usize = 131_072;
+
+/// What bytes lead to.
+#[derive(Clone, Copy)]
+enum Leads {
+    /// No whole record yet.
+    More,
+    /// A record that would be above the limit.
+    Fault,
+    /// The NULL call.
+    Null,
+    /// A record that is no call.
+    NoCall,
+    /// A call of xid 1 whose arguments are no spelling.
+    Garbage,
+    Other,
+}
+
+impl Leads {
+    /// The number by which it is told.
+    fn number(self) -> Option<u32> {
+        match self {
+            Leads::Fault => Some(11),
+            _ => None,
+        }
+    }
+}
+
+/// What comes to a reassembler at once: these bytes and zeros up to a size; how many are taken, and
+/// what they lead to.
+type Piece = (&'static [u8], usize, usize, Leads);
+
+/// Streams, by what comes of them at once.
+const STREAMS: [(&str, &[Piece]); 6] = [
+    ("fragments are joined", &[(&FRAGMENTS, 56, 56, Leads::Null)]),
+    (
+        "a fault is told again",
+        &[
+            (&[0x80, 2, 0, 1], 5, 4, Leads::Fault),
+            (&[0x80, 2, 0, 1], 5, 0, Leads::Fault),
+        ],
+    ),
+    (
+        "no byte fits beside the longest fragment",
+        &[
+            (&[0, 2], 4, 4, Leads::More),
+            (&[], MOST, MOST, Leads::More),
+            (&[0x80, 0, 0, 1], 5, 4, Leads::Fault),
+        ],
+    ),
+    (
+        "a fragment may be too long by itself",
+        &[(&[0xff; 4], 4, 4, Leads::Fault)],
+    ),
+    (
+        "an empty record is no call",
+        &[(&[0x80], 4, 4, Leads::NoCall)],
+    ),
+    (
+        "the longest record has zeros behind its call",
+        &[
+            (&[0x80, 2], 4, 4, Leads::More),
+            (&GETATTR, MOST, MOST, Leads::Garbage),
+        ],
+    ),
+];
+
 /// Feeds once more where there was no memory, which must have taken nothing.
 fn fed(rt: &impl Abort, reassembler: &mut Reassembler, bytes: &[u8]) -> (usize, Step) {
     let (taken, step) = reassembler.feed(bytes);
@@ -26,140 +100,98 @@ fn fed(rt: &impl Abort, reassembler: &mut Reassembler, bytes: &[u8]) -> (usize, 
         return (taken, step);
     }
     mem::forget(step);
-    holds(rt, taken == 0);
+    holds(rt, "no memory", taken == 0);
     reassembler.feed(bytes)
 }
 
-#[test]
-fn joins_fragments(rt: HostRuntime) {
-    let mut reassembler = Reassembler::new(rt.alloc());
-    let look = reassembler.look(&FRAGMENTS);
-    holds(&rt, matches!(look, (56, Look::Record)));
-    let (taken, step) = reassembler.feed(&FRAGMENTS);
-    holds(&rt, taken == 56);
-    is_call(&rt, &step);
-    mem::forget((reassembler, step));
+/// What a record is.
+fn heard(rt: &impl AllocGlobal, record: Vec<u8>) -> Leads {
+    let heard = read_record(rt.alloc(), record);
+    let leads = match &heard {
+        Err(RecordFault::BadHeader) => Leads::NoCall,
+        Ok(heard) => match &heard.request {
+            Request::Refused(Refusal::GarbageArguments) if heard.xid == 1 => Leads::Garbage,
+            _ => Leads::Other,
+        },
+        Err(_) => Leads::Other,
+    };
+    mem::forget(heard);
+    leads
 }
 
-/// Looks whether bytes led to the call.
-fn is_call(rt: &impl Abort, step: &Step) {
+/// What a step comes to.
+fn led(rt: &impl AllocGlobal, step: Step) -> Leads {
     match step {
-        Step::Record(made) => same(rt, made, &NULL_CALL),
-        _ => panic!(rt; "no record"),
+        Step::More => Leads::More,
+        Step::Fault => Leads::Fault,
+        Step::Record(record) if &record[..] == &NULL_CALL[..] => Leads::Null,
+        Step::Record(record) => heard(rt, record),
+        Step::NoMemory => Leads::Other,
+    }
+}
+
+/// Whether bytes would lead to this, and lead to it when they are fed.
+fn feeds(
+    rt: &(impl Abort + AllocGlobal),
+    reassembler: &mut Reassembler,
+    bytes: &[u8],
+    taken: usize,
+    wanted: Leads,
+) -> bool {
+    let (looked, look) = reassembler.look(bytes);
+    let (took, step) = fed(rt, reassembler, bytes);
+    let number = wanted.number();
+    let is_told = look.number() == number && step.number() == number;
+    let is_record = matches!(wanted, Leads::Null | Leads::NoCall | Leads::Garbage);
+    let is_seen = matches!(look, Look::Record) == is_record;
+    let found = led(rt, step);
+    let is_taken = looked == taken && took == taken;
+    is_taken && is_told && is_seen && found as u8 == wanted as u8
+}
+
+/// Feeds the pieces of a stream.
+fn play(rt: &(impl Abort + AllocGlobal), row: &str, pieces: &[Piece]) {
+    let mut reassembler = Reassembler::new(rt.alloc());
+    for (head, size, taken, wanted) in pieces {
+        let mut bytes = Vec::from_slice(rt.alloc(), head).expect(rt, "no memory");
+        bytes.resize(*size, 0).expect(rt, "no memory");
+        let is_so = feeds(rt, &mut reassembler, &bytes, *taken, *wanted);
+        mem::forget(bytes);
+        holds(rt, row, is_so);
+    }
+    mem::forget(reassembler);
+}
+
+#[test]
+fn streams(rt: HostRuntime) {
+    for (row, pieces) in &STREAMS {
+        play(&rt, row, pieces);
     }
 }
 
 #[test]
-fn joins_bytes_that_come_one_by_one(rt: HostRuntime) {
+fn bytes_come_one_by_one(rt: HostRuntime) {
     let mut reassembler = Reassembler::new(rt.alloc());
-    let mut records = 0;
-    for byte in &FRAGMENTS {
-        let (taken, step) = fed(&rt, &mut reassembler, &[*byte]);
-        holds(&rt, taken == 1);
-        if !matches!(&step, Step::More) {
-            is_call(&rt, &step);
-            records = 1u8;
-        }
-        mem::forget(step);
+    for (place, byte) in FRAGMENTS.iter().enumerate() {
+        let wanted = if place < 55 { Leads::More } else { Leads::Null };
+        let is_so = feeds(&rt, &mut reassembler, &[*byte], 1, wanted);
+        holds(&rt, "one by one", is_so);
     }
     mem::forget(reassembler);
-    holds(&rt, records == 1);
 }
 
-#[test]
-fn tells_a_fault_again(rt: HostRuntime) {
-    let header = [0x80, 2, 0, 1, 0];
-    let mut reassembler = Reassembler::new(rt.alloc());
-    for wanted in [4, 0] {
-        let (looked, look) = reassembler.look(&header);
-        holds(&rt, looked == wanted && look.number() == Some(11));
-        let (taken, step) = reassembler.feed(&header);
-        let is_fault = step.number() == Some(11);
-        mem::forget(step);
-        holds(&rt, taken == wanted && is_fault);
-    }
-    mem::forget(reassembler);
-}
+/// The call as a record of one fragment.
+const FRAMED: [u8; 44] = [
+    0x80, 0, 0, 0x28, 0, 0, 0, 1, 0, 0, 0, 0, 0, 0, 0, 2, 0, 1, 0x86, 0xa3, 0, 0, 0, 3, 0, 0, 0, 0,
+    0, 0, 0, 0, 0, 0, 0, 0, 0, 0, 0, 0, 0, 0, 0, 0,
+];
 
 #[test]
 fn frames_a_record(rt: HostRuntime) {
     let framed = frame(rt.alloc(), &NULL_CALL).expect(&rt, "no memory");
-    let parts = framed.split_at_checked(4);
-    let (header, record) = parts.expect(&rt, "no header");
-    same(&rt, header, &[0x80, 0, 0, 0x28]);
-    same(&rt, record, &NULL_CALL);
+    same(&rt, "record", &framed, &FRAMED);
     let mut out = Vec::new(rt.alloc());
     put_header(&mut out, 40).expect(&rt, "no memory");
-    same(&rt, &out, &[0x80, 0, 0, 0x28]);
-}
-
-/// The data of the longest record.
-fn longest(rt: &(impl Abort + AllocGlobal)) -> Vec<u8> {
-    vec![in rt.alloc(); 0; 131_072].expect(rt, "no memory")
-}
-
-#[test]
-fn no_byte_fits_beside_the_longest_fragment(rt: HostRuntime) {
-    let data = longest(&rt);
-    let mut reassembler = Reassembler::new(rt.alloc());
-    let (taken, step) = fed(&rt, &mut reassembler, &[0, 2, 0, 0]);
-    holds(&rt, taken == 4 && matches!(&step, Step::More));
-    mem::forget(step);
-    let (taken, step) = fed(&rt, &mut reassembler, &data);
-    holds(&rt, taken == 131_072 && matches!(&step, Step::More));
-    mem::forget(step);
-    let (taken, step) = fed(&rt, &mut reassembler, &[0x80, 0, 0, 1, 0]);
-    holds(&rt, taken == 4 && matches!(&step, Step::Fault));
-    mem::forget((data, reassembler, step));
-}
-
-#[test]
-fn a_fragment_may_be_too_long_by_itself(rt: HostRuntime) {
-    let mut reassembler = Reassembler::new(rt.alloc());
-    let (taken, step) = reassembler.feed(&[0xff, 0xff, 0xff, 0xff]);
-    holds(&rt, taken == 4 && matches!(&step, Step::Fault));
-    mem::forget((reassembler, step));
-}
-
-#[test]
-fn an_empty_record_is_no_call(rt: HostRuntime) {
-    let mut reassembler = Reassembler::new(rt.alloc());
-    let (taken, step) = fed(&rt, &mut reassembler, &[0x80, 0, 0, 0]);
-    let is_fault = match step {
-        Step::Record(made) => matches!(read_record(rt.alloc(), made), Err(RecordFault::BadHeader)),
-        _ => false,
-    };
-    holds(&rt, taken == 4 && is_fault);
-    mem::forget(reassembler);
-}
-
-/// A GETATTR call of a root, xid 1, without its header.
-const GETATTR: [u32; 14] = [1, 0, 2, 100_003, 3, 1, 0, 0, 0, 0, 12, 0, 0, 1];
-
-#[test]
-fn the_longest_record_has_zeros_behind_its_call(rt: HostRuntime) {
-    let mut record = bytes_of(&rt, &GETATTR);
-    let grown = record.resize(131_072, 0);
-    grown.expect(&rt, "no memory");
-    let mut reassembler = Reassembler::new(rt.alloc());
-    let (taken, step) = fed(&rt, &mut reassembler, &[0x80, 2, 0, 0]);
-    holds(&rt, taken == 4 && matches!(&step, Step::More));
-    mem::forget(step);
-    let (taken, step) = fed(&rt, &mut reassembler, &record);
-    holds(&rt, taken == 131_072);
-    is_garbage(&rt, step);
-    mem::forget((record, reassembler));
-}
-
-/// Looks whether bytes led to a call whose arguments are no spelling.
-fn is_garbage(rt: &(impl Abort + AllocGlobal), step: Step) {
-    let heard = match step {
-        Step::Record(made) => read_record(rt.alloc(), made).ok(),
-        _ => None,
-    };
-    let heard = heard.expect(rt, "no call");
-    holds(rt, heard.xid == 1);
-    let is_refused = matches!(&heard.request, Request::Refused(Refusal::GarbageArguments));
-    mem::forget(heard);
-    holds(rt, is_refused);
+    same(&rt, "header", &out, &[0x80, 0, 0, 0x28]);
+    mem::forget((framed, out));
 }

@@ -1,6 +1,6 @@
 //! Records of replies, and the room that they take.
 
-use crate::bytes::{bytes_of, holds, read_answer, same};
+use crate::bytes::{holds, read_answer, same, spells};
 use nfs_values::{
     Answer, AuthFault, BytesToWrite, Call, Cookie, CreateMode, FileHandle, Fileid, Name, Named,
     Refusal, Reply, Target, UnsupportedProcedure, Verifier, VolumeNumber,
@@ -10,29 +10,50 @@ use std::alloc::Global;
 use std::mem;
 use std::process::Abort;
 
+/// Refusals, and the record of the reply that is each under an xid.
+const REFUSALS: [(&str, Refusal, u32, &[u32]); 3] = [
+    (
+        "AUTH_ERROR, AUTH_BADCRED",
+        Refusal::AuthError(AuthFault::BadCredential),
+        9,
+        &[0x80000014, 9, 1, 1, 1, 1],
+    ),
+    (
+        "SYSTEM_ERR",
+        Refusal::SystemError,
+        9,
+        &[0x80000018, 9, 1, 0, 0, 0, 5],
+    ),
+    (
+        "RPC_MISMATCH",
+        Refusal::RpcMismatch { low: 2, high: 2 },
+        3,
+        &[0x80000018, 3, 1, 1, 0, 2, 2],
+    ),
+];
+
 #[test]
-fn records_of_replies(rt: HostRuntime) {
-    let mut out = Vec::new(rt.alloc());
-    let null = Reply::Success(Answer::Null);
-    write_reply_record(&mut out, 9, &null).expect(&rt, "no memory");
-    let refused = Reply::Refused(Refusal::AuthError(AuthFault::BadCredential));
-    write_reply_record(&mut out, 9, &refused).expect(&rt, "no memory");
-    let starved = Reply::Refused(Refusal::SystemError);
-    write_reply_record(&mut out, 9, &starved).expect(&rt, "no memory");
-    mem::forget((null, refused, starved));
-    let words = [
-        0x80000018, 9, 1, 0, 0, 0, 0, 0x80000014, 9, 1, 1, 1, 1, 0x80000018, 9, 1, 0, 0, 0, 5,
-    ];
-    same(&rt, &out, &bytes_of(&rt, &words));
+fn refusals(rt: HostRuntime) {
+    for (row, refusal, xid, words) in &REFUSALS {
+        let reply = Reply::Refused(*refusal);
+        let mut out = Vec::new(rt.alloc());
+        write_reply_record(&mut out, *xid, &reply).expect(&rt, "no memory");
+        spells(&rt, row, &out, &[words]);
+        let mut bare = Vec::new(rt.alloc());
+        write_reply(&mut bare, *xid, &reply).expect(&rt, "no memory");
+        let (_, told) = out.split_at_checked(4).expect(&rt, row);
+        same(&rt, row, &bare, told);
+        mem::forget((reply, out, bare));
+    }
 }
 
 #[test]
-fn bare_replies(rt: HostRuntime) {
-    let mut bare = Vec::new(rt.alloc());
-    let mismatch = Reply::Refused(Refusal::RpcMismatch { low: 2, high: 2 });
-    write_reply(&mut bare, 3, &mismatch).expect(&rt, "no memory");
-    mem::forget(mismatch);
-    same(&rt, &bare, &bytes_of(&rt, &[3, 1, 1, 0, 2, 2]));
+fn nothing_is_told(rt: HostRuntime) {
+    let mut out = Vec::new(rt.alloc());
+    let null = Reply::Success(Answer::Null);
+    write_reply_record(&mut out, 9, &null).expect(&rt, "no memory");
+    mem::forget(null);
+    spells(&rt, "NULL", &out, &[&[0x80000018, 9, 1, 0, 0, 0, 0]]);
 }
 
 #[test]
@@ -43,7 +64,7 @@ fn bytes_of_a_read_are_moved(rt: HostRuntime) {
         write_reply_record(&mut wanted, 9, &reply).expect(&rt, "no memory");
         let mut moved = Vec::new(rt.alloc());
         move_reply_record(&mut moved, 9, &mut reply).expect(&rt, "no memory");
-        same(&rt, &moved, &wanted);
+        same(&rt, "moved", &moved, &wanted);
         mem::forget((reply, wanted, moved));
     }
 }
@@ -65,30 +86,45 @@ fn target(alloc: Global) -> Target {
 }
 
 /// Looks whether this is the room of the reply to a call, where there are two volumes.
-fn takes(rt: &impl Abort, call: Call, room: usize) {
-    holds(rt, room_of_reply(&call, 2) == room);
+fn takes(rt: &impl Abort, row: &str, call: Call, room: usize) {
+    holds(rt, row, room_of_reply(&call, 2) == room);
     mem::forget(call);
 }
 
 #[test]
 fn rooms_are_reached(rt: HostRuntime) {
-    takes(&rt, Call::Null, 28);
-    takes(&rt, Call::GetAttributes { handle: root() }, 116);
-    takes(&rt, Call::FilesystemStatus { handle: root() }, 172);
-    takes(&rt, Call::Census, 72);
+    takes(&rt, "NULL", Call::Null, 28);
+    takes(&rt, "GETATTR", Call::GetAttributes { handle: root() }, 116);
+    takes(
+        &rt,
+        "FSSTAT",
+        Call::FilesystemStatus { handle: root() },
+        172,
+    );
+    takes(&rt, "CENSUS", Call::Census, 72);
     let access = Call::CheckAccess {
         handle: root(),
         asked: 63,
     };
-    takes(&rt, access, 124);
-    takes(&rt, Call::FilesystemInfo { handle: root() }, 168);
-    takes(&rt, Call::PathConfiguration { handle: root() }, 144);
-    takes(&rt, Call::Unsupported(UnsupportedProcedure::MakeLink), 44);
+    takes(&rt, "ACCESS", access, 124);
+    takes(&rt, "FSINFO", Call::FilesystemInfo { handle: root() }, 168);
+    takes(
+        &rt,
+        "PATHCONF",
+        Call::PathConfiguration { handle: root() },
+        144,
+    );
+    takes(
+        &rt,
+        "LINK",
+        Call::Unsupported(UnsupportedProcedure::MakeLink),
+        44,
+    );
     let grow = Call::Grow {
         volume: VolumeNumber(0),
         ranges: 1,
     };
-    takes(&rt, grow, 40);
+    takes(&rt, "GROW", grow, 40);
 }
 
 #[test]
@@ -99,17 +135,17 @@ fn rooms_of_writes(rt: HostRuntime) {
         count: 4,
         bytes: BytesToWrite::all(Vec::new(rt.alloc())),
     };
-    takes(&rt, write, 56);
+    takes(&rt, "WRITE", write, 56);
     let create = Call::Create {
         target: target(rt.alloc()),
         mode: CreateMode::Exclusive(Verifier([0; 8])),
     };
-    takes(&rt, create, 264);
+    takes(&rt, "CREATE", create, 264);
     let rename = Call::Rename {
         from: target(rt.alloc()),
         to: target(rt.alloc()),
     };
-    takes(&rt, rename, 264);
+    takes(&rt, "RENAME", rename, 264);
 }
 
 #[test]
@@ -120,7 +156,7 @@ fn rooms_go_by_counts(rt: HostRuntime) {
             offset: 0,
             count,
         };
-        takes(&rt, read, room);
+        takes(&rt, "READ", read, room);
     }
     for (count, room) in [(3, 36), (160, 192), (65_537, 65_568)] {
         let list = Call::ReadDirectory {
@@ -129,7 +165,7 @@ fn rooms_go_by_counts(rt: HostRuntime) {
             verifier: Verifier([0; 8]),
             count,
         };
-        takes(&rt, list, room);
+        takes(&rt, "READDIR", list, room);
         // dircount counts for nothing
         let plus = Call::ReadDirectoryPlus {
             directory: root(),
@@ -138,6 +174,6 @@ fn rooms_go_by_counts(rt: HostRuntime) {
             names_count: 1,
             count,
         };
-        takes(&rt, plus, room);
+        takes(&rt, "READDIRPLUS", plus, room);
     }
 }

@@ -4,30 +4,18 @@ ghost use Rattle.std.specs.Prelude.{◌≤◌, length};
 ghost use Rattle.nfs_values.specs.Answer.{answer_of};
 ghost use Rattle.nfs_types.specs.Results.{answer_bytes};
 
-use crate::bytes::{bytes_of, joined, read_answer, same};
+use crate::bytes::{read_answer, spells};
 use nfs_types::encode_result;
 use nfs_values::answer::{
     AccessResults, DirectoryEntry, DirectoryEntryPlus, FilesystemInfoResults,
     PathConfigurationResults, ReadDirectoryPlusResults, ReadDirectoryResults, RenameResults,
 };
 use nfs_values::{
-    Answer, Attributes, Change, Cookie, FileHandle, FileKind, Fileid, Moment, Name,
-    PriorAttributes, Status, UnsupportedProcedure,
+    Answer, Attributes, Change, Cookie, Exports, FileHandle, FileKind, Fileid, Moment,
+    MountResults, Name, Named, PriorAttributes, Status, UnsupportedProcedure, VolumeNumber,
 };
 use std::mem;
 use std::process::Abort;
-
-#[test]
-fn results_are_written(rt: HostRuntime) {
-    let read = read_answer(&rt, &[1, 2, 3]);
-    let mut out = Vec::new(rt.alloc());
-    encode_result(&mut out, &read).expect(&rt, "no memory");
-    mem::forget(read);
-    let wanted = [
-        0, 0, 0, 0, 0, 0, 0, 0, 0, 0, 0, 3, 0, 0, 0, 1, 0, 0, 0, 3, 1, 2, 3, 0,
-    ];
-    same(&rt, &out, &wanted);
-}
 
 const ZERO: Moment = Moment {
     seconds: 0,
@@ -50,38 +38,8 @@ const DIRECTORY: Attributes = Attributes {
     ctime: ZERO,
 };
 
-#[test]
-fn entries_are_chained(rt: HostRuntime) {
-    let mut entries = Vec::new(rt.alloc());
-    let name = b"a".to_vec(rt.alloc()).expect(&rt, "no memory");
-    let entry = DirectoryEntry {
-        fileid: Fileid(5),
-        name: Name::new(name),
-        cookie: Cookie(3),
-    };
-    entries.push(entry).expect(&rt, "no memory");
-    let listed = Answer::ReadDirectory(Ok(ReadDirectoryResults {
-        directory: DIRECTORY,
-        entries,
-        eof: true,
-    }));
-    let mut out = Vec::new(rt.alloc());
-    encode_result(&mut out, &listed).expect(&rt, "no memory");
-    mem::forget(listed);
-    let wanted = joined(
-        &rt,
-        &[
-            &[0, 0, 0, 0, 0, 0, 0, 1, 0, 0, 0, 2],
-            &[0; 80],
-            &[0; 8],
-            &[0, 0, 0, 1, 0, 0, 0, 0, 0, 0, 0, 5],
-            &[0, 0, 0, 1, b'a', 0, 0, 0],
-            &[0, 0, 0, 0, 0, 0, 0, 3],
-            &[0, 0, 0, 0, 0, 0, 0, 1],
-        ],
-    );
-    same(&rt, &out, &wanted);
-}
+/// What tells it, behind TRUE: its kind, and then zeros.
+const DIRECTORY_TOLD: [u32; 2] = [1, 2];
 
 /// A file of two bytes with all else zero.
 const FILE: Attributes = Attributes {
@@ -99,34 +57,58 @@ const FILE: Attributes = Attributes {
     ctime: ZERO,
 };
 
-/// Its fattr3.
-fn file_bytes(rt: &(impl Abort + AllocGlobal)) -> Vec<u8> {
-    joined(
-        rt,
-        &[
-            // type, mode and nlink
-            &[0, 0, 0, 1, 0, 0, 1, 0xA4, 0, 0, 0, 1],
-            // uid and gid, size
-            &[0; 8],
-            &[0, 0, 0, 0, 0, 0, 0, 2],
-            // used, rdev and fsid, fileid
-            &[0; 24],
-            &[0, 0, 0, 0, 0, 0, 0, 5],
-            // atime, mtime and ctime
-            &[0; 24],
-        ],
-    )
-}
+/// Its fattr3: type, mode and nlink; uid and gid, size; used, rdev and fsid; fileid; atime, mtime
+/// and ctime.
+const FILE_TOLD: [u32; 21] = [
+    1, 0o644, 1, 0, 0, 0, 2, 0, 0, 0, 0, 0, 0, 0, 5, 0, 0, 0, 0, 0, 0,
+];
 
-/// Looks whether an answer is told by these bytes.
-fn is_told(rt: &(impl Abort + AllocGlobal), answer: Answer, wanted: &[u8])
+/// Looks whether an answer is told by these words.
+fn is_told(rt: &(impl Abort + AllocGlobal), row: &str, answer: Answer, words: &[&[u32]])
     requires { length (answer_bytes (answer_of answer)) ≤ 400 }
 {
     let mut out = Vec::new(rt.alloc());
     encode_result(&mut out, &answer).expect(rt, "no memory");
     mem::forget(answer);
-    same(rt, &out, wanted);
+    spells(rt, row, &out, words);
 }
+
+/// A page with the entry of fileid 5, name `a` and cookie 3, the last of its directory.
+const PAGE: [&[u32]; 4] = [
+    &[0],
+    &DIRECTORY_TOLD,
+    &[0; 22],
+    &[1, 0, 5, 1, 0x6100_0000, 0, 3, 0, 1],
+];
+
+#[test]
+fn entries_are_chained(rt: HostRuntime) {
+    let mut entries = Vec::new(rt.alloc());
+    let name = b"a".to_vec(rt.alloc()).expect(&rt, "no memory");
+    let entry = DirectoryEntry {
+        fileid: Fileid(5),
+        name: Name::new(name),
+        cookie: Cookie(3),
+    };
+    entries.push(entry).expect(&rt, "no memory");
+    let page = ReadDirectoryResults {
+        directory: DIRECTORY,
+        entries,
+        eof: true,
+    };
+    is_told(&rt, "READDIR", Answer::ReadDirectory(Ok(page)), &PAGE);
+}
+
+/// A page with that entry, name_attributes and name_handle, and no entry more; not the end.
+const CHAINED: [&[u32]; 7] = [
+    &[0],
+    &DIRECTORY_TOLD,
+    &[0; 22],
+    &[1, 0, 5, 1, 0x6100_0000, 0, 3],
+    &[1],
+    &FILE_TOLD,
+    &[1, 12, 1, 0, 5, 0, 0],
+];
 
 #[test]
 fn attributes_and_handles_are_chained(rt: HostRuntime) {
@@ -142,32 +124,27 @@ fn attributes_and_handles_are_chained(rt: HostRuntime) {
         handle: FileHandle::new(&[0, 0, 0, 1, 0, 0, 0, 0, 0, 0, 0, 5]),
     };
     entries.push(entry).expect(&rt, "no memory");
-    let file = file_bytes(&rt);
-    let wanted = joined(
-        &rt,
-        &[
-            &[0, 0, 0, 0, 0, 0, 0, 1, 0, 0, 0, 2],
-            &[0; 80],
-            &[0; 8],
-            // fileid, name and cookie, name_attributes, name_handle
-            &[0, 0, 0, 1, 0, 0, 0, 0, 0, 0, 0, 5],
-            &[0, 0, 0, 1, b'a', 0, 0, 0],
-            &[0, 0, 0, 0, 0, 0, 0, 3],
-            &[0, 0, 0, 1],
-            &file,
-            &[0, 0, 0, 1, 0, 0, 0, 12, 0, 0, 0, 1],
-            &[0, 0, 0, 0, 0, 0, 0, 5],
-            // no entry more, and not the end
-            &[0, 0, 0, 0, 0, 0, 0, 0],
-        ],
-    );
     let page = ReadDirectoryPlusResults {
         directory: DIRECTORY,
         entries,
         eof: false,
     };
-    is_told(&rt, Answer::ReadDirectoryPlus(Ok(page)), &wanted);
+    is_told(
+        &rt,
+        "READDIRPLUS",
+        Answer::ReadDirectoryPlus(Ok(page)),
+        &CHAINED,
+    );
 }
+
+/// A page with the entry of fileid 6, an empty name and cookie 4, FALSE for name_attributes, TRUE
+/// for name_handle, no entry more, and the end.
+const LEFT_OUT: [&[u32]; 4] = [
+    &[0],
+    &DIRECTORY_TOLD,
+    &[0; 22],
+    &[1, 0, 6, 0, 0, 4, 0, 1, 1, 0x0800_0000, 0, 1],
+];
 
 #[test]
 fn attributes_of_an_entry_are_left_out(rt: HostRuntime) {
@@ -182,34 +159,17 @@ fn attributes_of_an_entry_are_left_out(rt: HostRuntime) {
         handle: FileHandle::new(&[8]),
     };
     entries.push(entry).expect(&rt, "no memory");
-    let wanted = joined(
-        &rt,
-        &[
-            &[0, 0, 0, 0, 0, 0, 0, 1, 0, 0, 0, 2],
-            &[0; 80],
-            &[0; 8],
-            &[0, 0, 0, 1, 0, 0, 0, 0, 0, 0, 0, 6],
-            &[0, 0, 0, 0],
-            &[0, 0, 0, 0, 0, 0, 0, 4],
-            // FALSE for name_attributes, TRUE for name_handle
-            &[0, 0, 0, 0, 0, 0, 0, 1, 0, 0, 0, 1, 8, 0, 0, 0],
-            // no entry more, and the end
-            &[0, 0, 0, 0, 0, 0, 0, 1],
-        ],
-    );
     let page = ReadDirectoryPlusResults {
         directory: DIRECTORY,
         entries,
         eof: true,
     };
-    is_told(&rt, Answer::ReadDirectoryPlus(Ok(page)), &wanted);
-}
-
-#[test]
-fn pages_that_fail_leave_the_directory_out(rt: HostRuntime) {
-    // NFS3ERR_TOOSMALL, and no attributes of the directory
-    let failed = Answer::ReadDirectoryPlus(Err(Status::TooSmall));
-    is_told(&rt, failed, &bytes_of(&rt, &[10005, 0]));
+    is_told(
+        &rt,
+        "no attributes",
+        Answer::ReadDirectoryPlus(Ok(page)),
+        &LEFT_OUT,
+    );
 }
 
 /// The directory that a name leaves, and the one that it comes to.
@@ -237,119 +197,115 @@ const REACHED: Change = Change {
     after: DIRECTORY,
 };
 
+const RENAMED: RenameResults = RenameResults {
+    from: LEFT,
+    to: REACHED,
+};
+
+/// Both directories, each before and after.
+const RENAMED_TOLD: [&[u32]; 6] = [
+    &[0, 1, 0, 4096, 1, 2, 3, 4],
+    &DIRECTORY_TOLD,
+    &[0; 20],
+    &[1, 0, 8192, 0, 0, 0, 0],
+    &DIRECTORY_TOLD,
+    &[0; 20],
+];
+
+const ACCESS: AccessResults = AccessResults {
+    object: DIRECTORY,
+    given: 0x1F,
+};
+
+/// NFS3_OK and the directory, and then the bits that are given.
+const GIVEN: [&[u32]; 4] = [&[0], &DIRECTORY_TOLD, &[0; 20], &[0x1F]];
+
+const FILESYSTEM: FilesystemInfoResults = FilesystemInfoResults {
+    root: DIRECTORY,
+    largest: 0x0400_0000,
+};
+
+/// NFS3_OK and the directory, and then rtmax, rtpref, rtmult; wtmax, wtpref, wtmult; dtpref,
+/// maxfilesize; time_delta, properties.
+const FILESYSTEM_TOLD: [&[u32]; 5] = [
+    &[0],
+    &DIRECTORY_TOLD,
+    &[0; 20],
+    &[0x1_0000, 0x1_0000, 0x1000, 0x1_0000, 0x1_0000, 0x1000],
+    &[0x1_0000, 0, 0x0400_0000, 0, 1, 0x18],
+];
+
+/// NFS3_OK and the directory, and then linkmax, name_max; no_trunc, chown_restricted,
+/// case_insensitive, case_preserving.
+const PATH_TOLD: [&[u32]; 4] = [&[0], &DIRECTORY_TOLD, &[0; 20], &[1, 0xFF, 1, 0, 0, 1]];
+
 #[test]
-fn both_directories_are_told(rt: HostRuntime) {
-    let renamed = Answer::Rename(Ok(RenameResults {
-        from: LEFT,
-        to: REACHED,
-    }));
-    let mut out = Vec::new(rt.alloc());
-    encode_result(&mut out, &renamed).expect(&rt, "no memory");
-    mem::forget(renamed);
-    let wanted = joined(
+fn directories_are_told(rt: HostRuntime) {
+    is_told(&rt, "RENAME", Answer::Rename(Ok(RENAMED)), &RENAMED_TOLD);
+    is_told(&rt, "ACCESS", Answer::CheckAccess(Ok(ACCESS)), &GIVEN);
+    let told = Answer::FilesystemInfo(Ok(FILESYSTEM));
+    is_told(&rt, "FSINFO", told, &FILESYSTEM_TOLD);
+    let told = PathConfigurationResults { object: DIRECTORY };
+    is_told(
         &rt,
-        &[
-            &[0, 0, 0, 0, 0, 0, 0, 1, 0, 0, 0, 0, 0, 0, 0x10, 0],
-            &[0, 0, 0, 1, 0, 0, 0, 2, 0, 0, 0, 3, 0, 0, 0, 4],
-            &[0, 0, 0, 1, 0, 0, 0, 2],
-            &[0; 80],
-            &[0, 0, 0, 1, 0, 0, 0, 0, 0, 0, 0x20, 0],
-            &[0; 16],
-            &[0, 0, 0, 1, 0, 0, 0, 2],
-            &[0; 80],
-        ],
+        "PATHCONF",
+        Answer::PathConfiguration(Ok(told)),
+        &PATH_TOLD,
     );
-    same(&rt, &out, &wanted);
 }
 
 #[test]
 fn failures_leave_parts_out(rt: HostRuntime) {
-    // NFS3ERR_XDEV, and no attributes before and after of either directory
-    let failed = Answer::Rename(Err(Status::CrossVolume));
-    let mut out = Vec::new(rt.alloc());
-    encode_result(&mut out, &failed).expect(&rt, "no memory");
-    mem::forget(failed);
-    let wanted = [0, 0, 0, 18, 0, 0, 0, 0, 0, 0, 0, 0, 0, 0, 0, 0, 0, 0, 0, 0];
-    same(&rt, &out, &wanted);
+    // no attributes of the directory
+    let small = Answer::ReadDirectoryPlus(Err(Status::TooSmall));
+    is_told(&rt, "NFS3ERR_TOOSMALL", small, &[&[10005, 0]]);
+    // and none before and after of either
+    let crossing = Answer::Rename(Err(Status::CrossVolume));
+    is_told(&rt, "NFS3ERR_XDEV", crossing, &[&[18, 0, 0, 0, 0]]);
+    let long = Answer::Mount(Err(Status::NameTooLong));
+    is_told(&rt, "MNT3ERR_NAMETOOLONG", long, &[&[63]]);
 }
 
-/// NFS3_OK, and the attributes of the directory as far as its kind.
-const OK_AND_DIRECTORY: [u8; 12] = [0, 0, 0, 0, 0, 0, 0, 1, 0, 0, 0, 2];
-
-#[test]
-fn bits_are_given(rt: HostRuntime) {
-    let checked = Answer::CheckAccess(Ok(AccessResults {
-        object: DIRECTORY,
-        given: 0x1F,
-    }));
-    let mut out = Vec::new(rt.alloc());
-    encode_result(&mut out, &checked).expect(&rt, "no memory");
-    mem::forget(checked);
-    let wanted = joined(&rt, &[&OK_AND_DIRECTORY, &[0; 80], &[0, 0, 0, 0x1F]]);
-    same(&rt, &out, &wanted);
-}
-
-#[test]
-fn filesystems_are_told(rt: HostRuntime) {
-    let told = Answer::FilesystemInfo(Ok(FilesystemInfoResults {
-        root: DIRECTORY,
-        largest: 0x0400_0000,
-    }));
-    let mut out = Vec::new(rt.alloc());
-    encode_result(&mut out, &told).expect(&rt, "no memory");
-    mem::forget(told);
-    let wanted = joined(
-        &rt,
-        &[
-            &OK_AND_DIRECTORY,
-            &[0; 80],
-            // rtmax, rtpref, rtmult
-            &[0, 1, 0, 0, 0, 1, 0, 0, 0, 0, 0x10, 0],
-            // wtmax, wtpref, wtmult
-            &[0, 1, 0, 0, 0, 1, 0, 0, 0, 0, 0x10, 0],
-            // dtpref, maxfilesize
-            &[0, 1, 0, 0, 0, 0, 0, 0, 4, 0, 0, 0],
-            // time_delta, properties
-            &[0, 0, 0, 0, 0, 0, 0, 1, 0, 0, 0, 0x18],
-        ],
-    );
-    same(&rt, &out, &wanted);
-}
-
-#[test]
-fn paths_are_told(rt: HostRuntime) {
-    let told = Answer::PathConfiguration(Ok(PathConfigurationResults { object: DIRECTORY }));
-    let mut out = Vec::new(rt.alloc());
-    encode_result(&mut out, &told).expect(&rt, "no memory");
-    mem::forget(told);
-    let wanted = joined(
-        &rt,
-        &[
-            &OK_AND_DIRECTORY,
-            &[0; 80],
-            // linkmax, name_max
-            &[0, 0, 0, 1, 0, 0, 0, 0xFF],
-            // no_trunc, chown_restricted, case_insensitive, case_preserving
-            &[0, 0, 0, 1, 0, 0, 0, 0, 0, 0, 0, 0, 0, 0, 0, 1],
-        ],
-    );
-    same(&rt, &out, &wanted);
-}
-
-/// Looks whether the results of a procedure that isn't supported are these words.
-fn leaves_out(rt: &(impl Abort + AllocGlobal), which: UnsupportedProcedure, words: &[u32]) {
-    let failed = Answer::Unsupported(which);
-    let mut out = Vec::new(rt.alloc());
-    encode_result(&mut out, &failed).expect(rt, "no memory");
-    mem::forget(failed);
-    same(rt, &out, &bytes_of(rt, words));
-}
+/// NFS3ERR_NOTSUPP, and each optional part absent.
+const NOT_SUPPORTED: [(&str, UnsupportedProcedure, &[u32]); 4] = [
+    ("READLINK", UnsupportedProcedure::ReadLink, &[10004, 0]),
+    (
+        "SYMLINK",
+        UnsupportedProcedure::MakeSymbolicLink,
+        &[10004, 0, 0],
+    ),
+    ("MKNOD", UnsupportedProcedure::MakeDevice, &[10004, 0, 0]),
+    ("LINK", UnsupportedProcedure::MakeLink, &[10004, 0, 0, 0]),
+];
 
 #[test]
 fn what_is_not_supported_says_so(rt: HostRuntime) {
-    // NFS3ERR_NOTSUPP, and each optional part absent
-    leaves_out(&rt, UnsupportedProcedure::ReadLink, &[10004, 0]);
-    leaves_out(&rt, UnsupportedProcedure::MakeSymbolicLink, &[10004, 0, 0]);
-    leaves_out(&rt, UnsupportedProcedure::MakeDevice, &[10004, 0, 0]);
-    leaves_out(&rt, UnsupportedProcedure::MakeLink, &[10004, 0, 0, 0]);
+    for (row, which, words) in &NOT_SUPPORTED {
+        is_told(&rt, row, Answer::Unsupported(*which), &[words]);
+    }
+}
+
+/// Each path behind TRUE, without groups: `/vol0` and `/vol1`.
+const EXPORTED: [u32; 11] = [
+    1, 5, 0x2f766f6c, 0x30000000, 0, 1, 5, 0x2f766f6c, 0x31000000, 0, 0,
+];
+
+#[test]
+fn volumes_are_told(rt: HostRuntime) {
+    let handle = FileHandle::naming(Named {
+        volume: VolumeNumber(1),
+        fileid: Fileid(1),
+    });
+    let mounted = Answer::Mount(Ok(MountResults { handle }));
+    // MNT3_OK, 12 bytes of handle, and two flavors: AUTH_SYS and AUTH_NONE
+    is_told(&rt, "MNT", mounted, &[&[0, 12, 1, 0, 1, 2, 1, 0]]);
+    is_told(&rt, "DUMP", Answer::ListMounts, &[&[0]]);
+    let listed = Answer::ListExports(Exports { volumes: 2 });
+    is_told(&rt, "EXPORT", listed, &[&EXPORTED]);
+}
+
+#[test]
+fn bytes_are_told(rt: HostRuntime) {
+    let read = read_answer(&rt, &[1, 2, 3]);
+    is_told(&rt, "READ", read, &[&[0, 0, 3, 1, 3, 0x0102_0300]]);
 }

@@ -13,8 +13,8 @@ use parcels::SerialNode;
 use std::alloc::{AllocError, Global};
 use std::process::Abort;
 use std::sync::atomic::{AtomicU64, Ordering};
-use std::thread;
 use std::thread::Threads;
+use std::{mem, thread};
 
 /// How many seats there are, each on a thread of its own.
 const SEATS: u64 = 64;
@@ -201,14 +201,10 @@ struct Counted {
     replies: u64,
 }
 
-/// As many nodes as there are, and one, without calls.
-fn no_calls(rt: &(impl Abort + AllocGlobal)) -> Vec<Counted> {
-    let none = Counted {
-        calls: 0,
-        replies: 0,
-    };
-    vec![in rt.alloc(); none; NODES + 1].expect(rt, "no memory")
-}
+const NONE: Counted = Counted {
+    calls: 0,
+    replies: 0,
+};
 
 /// Counts the calls of a thread by their nodes. Whether each added 1, and the replies from each
 /// node rise.
@@ -231,26 +227,22 @@ fn count_calls(nodes: &mut [Counted], latest: &mut [u64], made: &[Made]) -> bool
 }
 
 /// Counts the calls of all threads by their nodes.
-fn count_all(rt: &(impl Abort + AllocGlobal), done: &[Option<Done>]) -> Vec<Counted> {
-    let mut nodes = no_calls(rt);
+fn count_all(rt: &impl Abort, nodes: &mut [Counted], done: &[Option<Done>]) {
     for thread in done {
-        let Some(thread) = thread else {
-            panic!(rt; "no memory");
-        };
-        let mut latest = vec![in rt.alloc(); 0; NODES + 1].expect(rt, "no memory");
-        assert!(rt; count_calls(&mut nodes, &mut latest, &thread.made));
+        let thread = thread.as_ref().expect(rt, "no memory");
+        let mut latest = [0; NODES + 1];
+        assert!(rt; count_calls(nodes, &mut latest, &thread.made));
     }
-    nodes
 }
 
 /// Looks whether the number of a node is how many calls on it were finished, by one more call on
 /// it; and whether the replies of those were all numbers up to that one.
 fn look_at(rt: &impl Abort, found: Option<Made>, number: usize, counted: &Counted) {
     let (node, added, sum) = found.expect(rt, "refused");
-    same(rt, &(node, added), &(number as u64, 1));
-    same(rt, &sum, &counted.calls.wrapping_add(1));
+    let wanted = (number as u64, 1, counted.calls.wrapping_add(1));
+    same(rt, "one more call", &(node, added, sum), &wanted);
     let replies = counted.calls.wrapping_mul(sum) / 2;
-    same(rt, &counted.replies, &replies);
+    same(rt, "replies", &counted.replies, &replies);
 }
 
 /// Looks at the number of each node, by a seat that is left.
@@ -261,7 +253,7 @@ fn look_at_all(rt: &impl Abort, left: Done, nodes: &[Counted]) {
         made: _,
     } = left;
     let layout = depot.layout();
-    same(rt, &layout.node_count(), &NODES);
+    same(rt, "nodes", &layout.node_count(), &NODES);
     for number in 1..NODES + 1 {
         assert!(rt; number <= layout.node_count());
         let counted = nodes.get(number).copied().expect(rt, "no such node");
@@ -276,8 +268,11 @@ fn sixty_four_threads(rt: HostRuntime) {
     let came = AtomicU64::new(0);
     let jobs = jobs_of(&rt, rt.alloc(), &depot, &came, seat);
     let mut done = run_all(&rt, jobs).expect(&rt, "no memory");
-    same(&rt, &done.len(), &64);
-    let nodes = count_all(&rt, &done);
+    same(&rt, "threads", &done.len(), &64);
+    let mut nodes = [NONE; NODES + 1];
+    count_all(&rt, &mut nodes, &done);
     let left = done.pop().flatten().expect(&rt, "no memory");
     look_at_all(&rt, left, &nodes);
+    mem::forget(done);
+    mem::forget(depot);
 }

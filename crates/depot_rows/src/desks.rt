@@ -1,9 +1,8 @@
 //! Calls on nodes of each kind, and what other calls find in their midst.
 
-use crate::turns::{Turn, close, open, take_turn};
-use affinity::{Affinity, CallNode};
-use parcels::{Numbers, SerialHeld};
-use std::mem;
+use crate::trial::same;
+use crate::turns::{Turn, numbers_left, open, take_turn};
+use affinity::CallNode;
 
 const STRIPE: CallNode = CallNode::Stripe {
     volume: 0,
@@ -15,45 +14,55 @@ const OTHER_STRIPE: CallNode = CallNode::Stripe {
     stripe: 3,
 };
 
-/// Where a call adds 5, what another asks for in its midst, the number of that one's refusal, and
-/// the sum.
-const ROWS: [(CallNode, CallNode, Option<u32>, Option<u64>); 6] = [
-    (STRIPE, CallNode::Volume(0), Some(21), Some(5)),
-    (STRIPE, OTHER_STRIPE, None, Some(10)),
-    (CallNode::Logical(0), CallNode::Logical(1), None, None),
-    (CallNode::Volume(0), STRIPE, Some(21), None),
-    (CallNode::Aggregate(0), CallNode::Logical(0), Some(21), None),
-    (CallNode::Serial, STRIPE, Some(21), None),
+/// A worker and where its call adds 5, another and what it asks for in the midst of that, and what
+/// comes of both: the number of the second one's refusal, and the sum.
+const ROWS: [(&str, [usize; 2], [CallNode; 2], Option<Turn>); 7] = [
+    (
+        "a volume beside its stripe",
+        [2, 0],
+        [STRIPE, CallNode::Volume(0)],
+        Some((Some(21), Some(5))),
+    ),
+    (
+        "two stripes",
+        [2, 0],
+        [STRIPE, OTHER_STRIPE],
+        Some((None, Some(10))),
+    ),
+    (
+        "the names of two volumes",
+        [2, 0],
+        [CallNode::Logical(0), CallNode::Logical(1)],
+        Some((None, None)),
+    ),
+    (
+        "a stripe beside its volume",
+        [2, 0],
+        [CallNode::Volume(0), STRIPE],
+        Some((Some(21), None)),
+    ),
+    (
+        "names beside their aggregate",
+        [2, 0],
+        [CallNode::Aggregate(0), CallNode::Logical(0)],
+        Some((Some(21), None)),
+    ),
+    (
+        "a stripe beside the root",
+        [2, 0],
+        [CallNode::Serial, STRIPE],
+        Some((Some(21), None)),
+    ),
+    ("no such worker", [2, 3], [STRIPE, STRIPE], None),
 ];
-
-/// The number of volume 0's stripe 2.
-fn number_of(held: &SerialHeld<Numbers>) -> Option<u64> {
-    let aggregate = held.aggregates.at[0].as_ref()?;
-    let volume = aggregate.volumes.at[0].as_ref()?;
-    let stripe = volume.logical.stripes.at[2].as_ref()?;
-    Some(stripe.own)
-}
-
-/// What came of a turn, as a row has it.
-fn told(turn: Option<Turn>) -> Option<(Option<u32>, Option<u64>)> {
-    match turn {
-        Some(turn) => Some((turn.beside, turn.sum)),
-        None => None,
-    }
-}
 
 #[test]
 fn turns(rt: HostRuntime) {
     let mut desk = open(&rt, 3);
-    assert_eq!(rt; desk.worker_count(), 3);
-    for (home, asked, beside, sum) in &ROWS {
-        let turn = take_turn(&mut desk, [2, 0], [*home, *asked], 5);
-        assert_eq!(rt; told(turn), Some((*beside, *sum)));
-        assert!(rt; !desk.is_taken(Affinity::Serial));
+    for (row, workers, homes, wanted) in &ROWS {
+        let turn = take_turn(&mut desk, *workers, *homes, 5);
+        same(&rt, row, &turn, wanted);
     }
-    let refused = take_turn(&mut desk, [2, 3], [STRIPE, STRIPE], 1);
-    assert_eq!(rt; told(refused), None);
-    let held = close(&rt, desk);
-    assert_eq!(rt; number_of(&held), Some(10));
-    mem::forget(held);
+    let left = numbers_left(&rt, desk, 3);
+    same(&rt, "left", &left, &Some([0, 0, 10]));
 }

@@ -3,7 +3,7 @@
 ghost use Rattle.depot.specs.Words.{IsSeatHere};
 
 use affinity::{Affinity, Kind};
-use depot::trial::adding::{Adding, all_of, open, split, volumes};
+use depot::trial::adding::{Adding, all_of, open, split, touches, volumes};
 use depot::{Depot, Refusal, Seat};
 use parcels::{
     LogicalNode, Node, Numbers, Parcel, RangeNode, SerialNode, StripeNode, VbnNode, VolumeNode,
@@ -22,9 +22,9 @@ pub enum Found {
     Other,
 }
 
-/// Looks whether this is what is wanted.
-pub fn same<T: PartialEq>(rt: &impl Abort, found: &T, wanted: &T) {
-    assert!(rt; found == wanted);
+/// Looks whether this is what a row of this name wants.
+pub fn same<T: PartialEq>(rt: &impl Abort, row: &str, found: &T, wanted: &T) {
+    assert!(rt; found == wanted, "{row}");
 }
 
 /// A depot with four volumes in which each parcel is 0, and its first seat.
@@ -112,19 +112,43 @@ pub fn claim_any(depot: &Depot<Adding>, seat: &mut Seat<Adding>, affinity: Affin
     }
 }
 
-/// Claims nodes for good, one after the other, and looks what comes of each.
-pub fn claim_all(
-    rt: &impl Abort,
+/// One of two seats.
+#[derive(Clone, Copy)]
+pub enum Who {
+    One,
+    Other,
+}
+
+/// Which seat claims a node for good, and what comes of it.
+pub type Claim = (Who, Affinity, Found);
+
+/// Claims a node for good by one of two seats.
+fn claim_by(
     depot: &Depot<Adding>,
-    seat: &mut Seat<Adding>,
-    rows: &[(Affinity, Found)],
-)
-    requires seat { IsSeatHere depot.now seat.old }
-    ensures seat { IsSeatHere depot.now seat.new }
+    one: &mut Seat<Adding>,
+    other: &mut Seat<Adding>,
+    who: Who,
+    affinity: Affinity,
+) -> Found
+    requires one { IsSeatHere depot.now one.old }
+    requires other { IsSeatHere depot.now other.old }
+    ensures one { IsSeatHere depot.now one.new }
+    ensures other { IsSeatHere depot.now other.new }
 {
-    for (affinity, wanted) in rows {
-        same(rt, &claim_any(depot, seat, *affinity), wanted);
+    match who {
+        Who::One => claim_any(depot, one, affinity),
+        Who::Other => claim_any(depot, other, affinity),
     }
+}
+
+/// Claims nodes of a new depot, one after the other, and looks what comes of each.
+pub fn claim_all(rt: &(impl Abort + AllocGlobal), row: &str, claims: &[Claim]) {
+    let (depot, mut one, mut other) = two_seats(rt);
+    for (who, affinity, wanted) in claims {
+        let found = claim_by(&depot, &mut one, &mut other, *who, *affinity);
+        same(rt, row, &found, wanted);
+    }
+    mem::forget((depot, one, other));
 }
 
 /// The parcel of a stripe, by a call that ends without an entry.
@@ -151,21 +175,8 @@ pub fn look(depot: &Depot<Adding>, seat: &mut Seat<Adding>, affinity: Affinity) 
 /// How often a thread looks for the other's flag.
 const LOOKS: u32 = 10_000_000;
 
-/// Claims a stripe for good, and then waits for the other thread to have claimed its own.
-pub fn holds_beside(
-    depot: &Depot<Adding>,
-    mut seat: Seat<Adding>,
-    affinity: Affinity,
-    mine: &AtomicBool,
-    other: &AtomicBool,
-) -> bool
-    requires seat { IsSeatHere depot.now seat }
-{
-    let found = claim::<StripeNode>(depot, &mut seat, affinity);
-    mem::forget(seat);
-    if found != Found::Granted {
-        return false;
-    }
+/// Whether another thread comes too.
+fn meets(mine: &AtomicBool, other: &AtomicBool) -> bool {
     mine.store(true, Ordering::SeqCst);
     for _ in 0..LOOKS {
         if other.load(Ordering::SeqCst) {
@@ -173,4 +184,21 @@ pub fn holds_beside(
         }
     }
     false
+}
+
+/// Claims a stripe for good, and waits for the other thread to have claimed its own; then makes
+/// calls on another stripe. Whether the other came, and how many calls were granted.
+pub fn holds_beside(
+    depot: &Depot<Adding>,
+    mut seat: Seat<Adding>,
+    stripes: [Affinity; 2],
+    mine: &AtomicBool,
+    other: &AtomicBool,
+) -> (bool, u32)
+    requires seat { IsSeatHere depot.now seat }
+{
+    let [held, called] = stripes;
+    let found = claim::<StripeNode>(depot, &mut seat, held);
+    let is_met = found == Found::Granted && meets(mine, other);
+    (is_met, touches::<StripeNode>(depot, seat, called, 10))
 }

@@ -4,15 +4,16 @@ ghost use Rattle.std.specs.Prelude.{◌≡◌, ◌≢◌, ◌↔◌, ℕ, true, 
 ghost use Rattle.affinity.specs.Affinity.{call_node};
 ghost use Rattle.affinity.specs.Tree.{IsNode};
 ghost use Rattle.desk.specs.laws.Books.{IsIdle};
-ghost use Rattle.desk.specs.laws.Calls.{AreIdle, MayPutBack};
-ghost use Rattle.desk.specs.Words.{books, IsKept};
+ghost use Rattle.desk.specs.laws.Calls.{AreIdle, MayFinish, MayPutBack};
+ghost use Rattle.desk.specs.Words.{books, machine_in, IsKept};
 
 use crate::adder::Adder;
-use affinity::CallNode;
+use affinity::{Affinity, CallNode};
 use depot::trial::adding::{Adding, Change, all_of, volumes};
 use depot_rule::machine::Machine;
 use desk::{Desk, NodeKinds, ParcelKinds};
-use parcels::Node;
+use parcels::{Node, Numbers, SerialHeld};
+use std::mem;
 use std::process::Abort;
 
 /// A desk of numbers that calls add to.
@@ -20,11 +21,7 @@ pub(crate) type Counters = Desk<Adding, ParcelKinds>;
 
 /// What came of a call that was asked for in the midst of another, the number of its refusal if it
 /// was refused, and of the other, the sum where it had one.
-#[derive(Clone, Copy)]
-pub(crate) struct Turn {
-    pub(crate) beside: Option<u32>,
-    pub(crate) sum: Option<u64>,
-}
+pub(crate) type Turn = (Option<u32>, Option<u64>);
 
 /// A desk with two volumes in which each parcel is 0, and this many idle workers.
 pub(crate) fn open(rt: &(impl Abort + AllocGlobal), workers: usize) -> Counters
@@ -36,7 +33,7 @@ pub(crate) fn open(rt: &(impl Abort + AllocGlobal), workers: usize) -> Counters
 }
 
 /// Whether a worker is idle and the layout has a node.
-pub(crate) fn is_ready<M: Machine, K: NodeKinds<M::Parcel>>(
+fn is_ready<M: Machine, K: NodeKinds<M::Parcel>>(
     desk: &Desk<M, K>,
     worker: usize,
     home: CallNode,
@@ -48,6 +45,25 @@ pub(crate) fn is_ready<M: Machine, K: NodeKinds<M::Parcel>>(
         return false;
     }
     desk.layout().contains(home.node())
+}
+
+/// A call that a worker begins, if it is idle and the layout has the node. Whether it began.
+pub(crate) fn hold<M: Machine, K: NodeKinds<M::Parcel>>(
+    desk: &mut Desk<M, K>,
+    worker: usize,
+    home: CallNode,
+) -> bool
+    requires kept { IsKept desk.old }
+    ensures kept { IsKept desk.new }
+    ensures fresh { result ≡ true → MayPutBack (books desk.new) worker }
+{
+    if !is_ready(desk, worker, home) {
+        return false;
+    }
+    match desk.begin(worker, home) {
+        Ok(()) => true,
+        Err(_) => false,
+    }
 }
 
 /// A call that begins and is put back. The number of its refusal, if it was refused.
@@ -73,9 +89,9 @@ fn ask<M: Machine, K: NodeKinds<M::Parcel>>(
     }
 }
 
-/// A call that a worker begins, and what comes of another's that is asked for in its midst: the
-/// number of its refusal, if it is refused. Nothing where a worker isn't idle, a node isn't there,
-/// or the first call is refused.
+/// A call that a worker begins while nothing is lent, and what comes of another's that is asked for
+/// in its midst: the number of its refusal, if it is refused. Nothing where something is lent, a
+/// worker isn't idle, a node isn't there, or the first call is refused.
 fn begin_beside<M: Machine, K: NodeKinds<M::Parcel>>(
     desk: &mut Desk<M, K>,
     worker: usize,
@@ -87,7 +103,10 @@ fn begin_beside<M: Machine, K: NodeKinds<M::Parcel>>(
     ensures kept { IsKept desk.new }
     ensures fresh { IfSome result (λ _. MayPutBack (books desk.new) worker) }
 {
-    if worker == other || !is_ready(desk, worker, home) || !is_ready(desk, other, asked) {
+    if worker == other || desk.is_taken(Affinity::Serial) {
+        return None;
+    }
+    if !is_ready(desk, worker, home) || !is_ready(desk, other, asked) {
         return None;
     }
     match desk.begin(worker, home) {
@@ -96,6 +115,15 @@ fn begin_beside<M: Machine, K: NodeKinds<M::Parcel>>(
     }
     let beside = ask(desk, other, asked);
     Some(beside)
+}
+
+/// Ends a worker's call by an entry.
+pub(crate) fn finish(desk: &mut Counters, worker: usize, change: &Change, sum: u64)
+    requires kept { IsKept desk.old }
+    requires may { MayFinish (machine_in desk.old) (books desk.old) worker change.now sum }
+    ensures kept { IsKept desk.new }
+{
+    desk.finish(worker, change, &sum);
 }
 
 /// Adds to the number of a stripe that a worker was lent, and finishes its call. What is of another
@@ -107,7 +135,7 @@ fn add(desk: &mut Counters, worker: usize, number: u64) -> Option<u64>
 {
     match desk.work(worker, Adder { number }) {
         Some(sum) => {
-            desk.finish(worker, &Change::Add(number), &sum);
+            finish(desk, worker, &Change::Add(number), sum);
             Some(sum)
         }
         None => {
@@ -118,7 +146,7 @@ fn add(desk: &mut Counters, worker: usize, number: u64) -> Option<u64>
 }
 
 /// A call that adds to a stripe's number, in whose midst another worker asks for a node. Nothing
-/// where a worker isn't idle, a node isn't there, or the call is refused.
+/// where something is lent, a worker isn't idle, a node isn't there, or the call is refused.
 pub(crate) fn take_turn(
     desk: &mut Counters,
     workers: [usize; 2],
@@ -132,7 +160,7 @@ pub(crate) fn take_turn(
     let [home, asked] = homes;
     let beside = begin_beside(desk, worker, home, other, asked)?;
     let sum = add(desk, worker, number);
-    Some(Turn { beside, sum })
+    Some((beside, sum))
 }
 
 /// Whether all workers are idle.
@@ -147,13 +175,34 @@ fn are_idle<M: Machine, K: NodeKinds<M::Parcel>>(desk: &Desk<M, K>) -> bool
     true
 }
 
-/// Ends a desk whose workers are idle. All parcels come back.
-pub(crate) fn close<M: Machine, K: NodeKinds<M::Parcel>>(
+/// Ends a desk of this many workers, which are idle. All parcels come back.
+fn close<M: Machine, K: NodeKinds<M::Parcel>>(
     rt: &impl Abort,
     desk: Desk<M, K>,
+    workers: usize,
 ) -> <K::Serial as Node<M::Parcel>>::Held
     requires kept { IsKept desk }
 {
-    assert!(rt; are_idle(&desk));
+    assert!(rt; desk.worker_count() == workers && are_idle(&desk));
     desk.close()
+}
+
+/// The same of a desk of numbers: those of volume 0's block numbers, of its range 0 and of its
+/// stripe 2.
+pub(crate) fn numbers_left(rt: &impl Abort, desk: Counters, workers: usize) -> Option<[u64; 3]>
+    requires kept { IsKept desk }
+{
+    let held = close(rt, desk, workers);
+    let numbers = numbers_of(&held);
+    mem::forget(held);
+    numbers
+}
+
+/// The numbers of volume 0's block numbers, of its range 0 and of its stripe 2.
+fn numbers_of(held: &SerialHeld<Numbers>) -> Option<[u64; 3]> {
+    let aggregate = held.aggregates.at[0].as_ref()?;
+    let volume = aggregate.volumes.at[0].as_ref()?;
+    let range = volume.vbn.ranges.at[0].as_ref()?;
+    let stripe = volume.logical.stripes.at[2].as_ref()?;
+    Some([volume.vbn.own, range.own, stripe.own])
 }

@@ -2,5 +2,5 @@ use Rattle.desk.specs.Words.{IsKept}
 use Rattle.depot_rows.proofs.desks.turns.Given as goal
 
 -- the desk's seat backs its books
-abbrev pub invariant-loop-home : goal.invariant-loop-home
-invariant-loop-home g l = IsKept l.desk
+abbrev pub invariant-loop-row : goal.invariant-loop-row
+invariant-loop-row g l = IsKept l.desk
