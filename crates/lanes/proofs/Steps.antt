@@ -167,8 +167,7 @@ module _ {D : Type 0} (unread written : D → Option (List ℕ)) (layout : Layou
       → Opens slab boxes device result slab' boxes' → IfOk result (λ key. get slab key ≡ None)
       → IfOk result (λ key. IfSome (get slab' key) (HasBegun unread written)) → Told messages boxes slab → Told messages boxes' slab'
   opens-told slab slab' device (Ok key) messages boxes boxes' (_, is, (c, updates, _, number)) vacant begins t =
-      let begun : HasBegun unread written c =
-          subst (λ (o : Option (Connection D)). IfSome o (HasBegun unread written)) updates.changed begins in
+      let begun : HasBegun unread written c = subst (λ (o : Option (Connection D)). IfSome o (HasBegun unread written)) updates.changed begins in
       subst (λ (b : Boxes). Told messages b slab') (sym is)
       (∥∥₁_map t (λ s. story-opens unread written layout offer lane lanes entries messages boxes (get slab) s (get slab') key c vacant
       (updates.changed, updates.others) number (begun.reads offer) begun.writes))
