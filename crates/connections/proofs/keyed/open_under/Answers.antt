@@ -1,9 +1,5 @@
-use Rattle.std.proofs.Common.{◌∙◌, sym, ap, subst, []}
-use Rattle.std.specs.Prelude.{IfSome}
+use Rattle.std.proofs.Common.{◌∙◌, ap}
 use Rattle.slab.specs.Slab.{get}
-use Rattle.connections.specs.Keyed.{HasBegun}
-use Rattle.connections.specs.Reading.{Reads}
-use Rattle.connections.specs.Writing.{Writes}
 use Rattle.connections.proofs.keyed.open_under.Goals as goal
 
 pub returns-clause-opens : goal.returns-clause-opens
@@ -19,16 +15,3 @@ returns-clause-opens g c =
         c.new-connection.ensures.number ∙ c.in-Ok.ensures.number,
       ),
     )
-
-pub returns-clause-vacant : goal.returns-clause-vacant
-returns-clause-vacant g c =
-    sym (ap (λ s. get s c.insert_reserved.result) c.reserve.ensures.rest_kept) ∙ c.insert_reserved.ensures.was_vacant
-
-pub returns-clause-begins : goal.returns-clause-begins
-returns-clause-begins g c =
-    let new = c.new-connection in
-    subst (λ o. IfSome o (HasBegun g.D.Device.unread g.D.Device.written)) (sym c.insert_reserved.ensures.updates.changed)
-    (record {
-      reads = λ offer. subst (λ x. Reads offer g.D.Device.unread x new.result []) (sym new.ensures.opened) (new.ensures.reads offer);
-      writes = subst (λ x. Writes g.D.Device.written x new.result [] []) (sym new.ensures.opened) new.ensures.writes;
-    })
