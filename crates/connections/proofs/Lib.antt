@@ -1,3 +1,4 @@
 mod Cut
 mod OneRead
 mod OneWrite
+mod UnderKeys

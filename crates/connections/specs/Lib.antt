@@ -6,4 +6,5 @@ pub mod Cutting
 pub mod Reading
 pub mod Joining
 pub mod Writing
+pub mod Keyed
 pub mod lemmas

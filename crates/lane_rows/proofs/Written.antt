@@ -10,7 +10,7 @@ use Rattle.connections.specs.declared.connection.Connection.{Connection}
 use Rattle.connections.specs.declared.device.Device as devices
 use Rattle.lanes.specs.declared.lane.Lane.{Lane}
 use Rattle.connections.specs.Connections.{now_of, number_of}
-use Rattle.lanes.specs.Lanes.{Closes}
+use Rattle.connections.specs.Keyed.{Closes}
 use Rattle.lanes.specs.Story.{Life, HasLived, number_at, told_to}
 use Rattle.lanes.specs.Words.{boxes_in, connections_in, count_in, filer_in, index_in, offer_in, HasStory}
 use Rattle.connections.specs.Writing.{Writes}

@@ -1,7 +1,7 @@
 -- What each call of a lane leaves: its story, and both passes.
 use Rattle.std.proofs.Common.{◌≡◌, ◌≢◌, ◌≤◌, ℕ, ◌+◌, ◌*◌, ◌^◌, List, [], ◌∷◌, ◌++◌, map, Option, Some, None, Result, Ok, Err, refl, sym, ap}
 use Rattle.std.proofs.Common.{subst, ◌∙◌, append-nil, cond, ne_eqb, arith}
-use Rattle.std.specs.Prelude.{IsSome}
+use Rattle.std.specs.Prelude.{IfOk, IfSome, IsSome}
 use Rattle.std.specs.FinMap as maps
 use Rattle.std.proofs.Math.Logic.{∥∥₁_map}
 use Rattle.rpc_msg.specs.declared.offer.Offer.{Offer}
@@ -17,7 +17,7 @@ use Rattle.depot_rule.specs.Sums.{total}
 use Rattle.depot_rule.specs.lemmas.Sums.{total-append}
 use Rattle.slab.specs.Slab.{Slab, get, Updates, with_value}
 use Rattle.slab.proofs.SlabLemmas.{Updates-with_value}
-use Rattle.outboxes.specs.Boxes.{Addressed, addressed, Boxes, put, shut, opened}
+use Rattle.outboxes.specs.Boxes.{Addressed, addressed, Boxes, put, shut}
 use Rattle.outboxes.specs.Messages.{ReplyMessage, message}
 use Rattle.service.specs.declared.job.Job.{Job}
 use Rattle.service.specs.declared.job.Job.TheVariants.{Serve, Inner}
@@ -44,11 +44,12 @@ use Rattle.connections.specs.declared.writing.Sent.{Sent}
 use Rattle.tcp_front.specs.declared.stream.Stream.{Stream}
 use Rattle.connections.specs.Connections.{due_of, flagged, number_of}
 use Rattle.lanes.specs.Intakes.{HasTakenIn, has_room_in}
-use Rattle.lanes.specs.Lanes.{Closes, Flagged, ReadsOn, ReadsUnder, WritesUnder, owing_in}
+use Rattle.connections.specs.Keyed.{Closes, Flagged, HasBegun, Opens, WritesUnder}
+use Rattle.lanes.specs.Lanes.{ReadsOn, ReadsUnder, owing_in}
 use Rattle.lanes.specs.Queues.{HasBoth}
 use Rattle.connections.specs.Reading.{HasRead, Reads}
 use Rattle.lanes.specs.Story.{Served, answer_to, said_by, served_in, with_served, Story}
-use Rattle.connections.specs.Writing.{HasWritten, Writes}
+use Rattle.connections.specs.Writing.{Writes}
 use Rattle.connections.specs.lemmas.Reading.{reads-on, writes-kept}
 use Rattle.connections.specs.lemmas.Writing.{written-takes, written-same, writes-on, reads-kept}
 use Rattle.lanes.proofs.Lists.{entries-append}
@@ -162,22 +163,18 @@ module _ {D : Type 0} (unread written : D → Option (List ℕ)) (layout : Layou
 
   -- ---- opening and closing
 
-  pub opens-told : (slab between slab' : Slab (Connection D)) (key : ℕ) (c : Connection D) (messages : List Message) (boxes boxes' : Boxes)
-      → between ≡ record slab { capacity = between.capacity } → get between key ≡ None → Updates between slab' key (Some c)
-      → boxes' ≡ opened boxes → number_of c ≡ boxes.next → Reads offer unread c.opened.value c [] → Writes written c.opened.value c [] []
-      → Told messages boxes slab → Told messages boxes' slab'
-  opens-told slab between slab' key c messages boxes boxes' reserved vacant updates is number reads writes t =
+  pub opens-told : (slab slab' : Slab (Connection D)) (device : D) (result : Result ℕ D) (messages : List Message) (boxes boxes' : Boxes)
+      → Opens slab boxes device result slab' boxes' → IfOk result (λ key. get slab key ≡ None)
+      → IfOk result (λ key. IfSome (get slab' key) (HasBegun unread written)) → Told messages boxes slab → Told messages boxes' slab'
+  opens-told slab slab' device (Ok key) messages boxes boxes' (_, is, (c, updates, _, number)) vacant begins t =
+      let begun : HasBegun unread written c = subst (λ (o : Option (Connection D)). IfSome o (HasBegun unread written)) updates.changed begins in
       subst (λ (b : Boxes). Told messages b slab') (sym is)
-      (∥∥₁_map t (λ s. story-opens unread written layout offer lane lanes entries messages boxes (get slab) s (get slab') key c
-      (sym (ap (λ (x : Slab (Connection D)). get x key) reserved) ∙ vacant)
-      (updates.changed, (λ other n. updates.others other n ∙ ap (λ (x : Slab (Connection D)). get x other) reserved)) number reads writes))
-
-  pub reserved-told : (slab slab' : Slab (Connection D)) (messages : List Message) (boxes boxes' : Boxes)
-      → slab' ≡ record slab { capacity = slab'.capacity } → boxes' ≡ boxes → Told messages boxes slab → Told messages boxes' slab'
-  reserved-told slab slab' messages boxes boxes' reserved is t =
+      (∥∥₁_map t (λ s. story-opens unread written layout offer lane lanes entries messages boxes (get slab) s (get slab') key c vacant
+      (updates.changed, updates.others) number (begun.reads offer) begun.writes))
+  opens-told slab slab' device (Err back) messages boxes boxes' (_, same, is) vacant begins t =
       subst (λ (b : Boxes). Told messages b slab') (sym is)
       (subst (λ (s : ℕ → Option (Connection D)). ∥ Story unread written layout offer lane lanes entries messages boxes s ∥₁)
-      (sym (ap (λ (x : Slab (Connection D)). get x) reserved)) t)
+      (λ i. λ key. sym (same key) i) t)
 
   closes-told : (slab slab' : Slab (Connection D)) (key : ℕ) (c : Connection D) (messages : List Message) (boxes boxes' : Boxes)
       → get slab key ≡ Some c → Updates slab slab' key None → boxes' ≡ shut (number_of c) boxes
@@ -357,10 +354,3 @@ module _ {D R : Type 0} (unread written : D → Option (List ℕ)) (layout : Lay
       → (sink'.filer.value ≡ sink.filer.value) × (sink'.queue ≡ sink.queue) × ((known sink'.pass).picked ≡ (known sink.pass).picked)
       × HasShareOf (known sink.pass) (known sink'.pass) × IsSameWorker sink.worker sink'.worker
   reads-keep slab slab' key sink sink' size result h = keep-under slab slab' key (get slab key) sink sink' size result h
-
-module _ {D : Type 0} (unread written : D → Option (List ℕ)) where
-  pub writes-under : (slab slab' : Slab (Connection D)) (key : ℕ) (o : Option (Connection D)) (before after : Connection D) (boxes boxes' : Boxes)
-      (result : Sent) → Some before ≡ o → slab' ≡ with_value slab key after → HasWritten unread written before boxes result after boxes'
-      → WritesUnder unread written slab key o boxes result slab' boxes'
-  writes-under slab slab' key o before after boxes boxes' result is now on =
-      subst (λ (x : Option (Connection D)). WritesUnder unread written slab key x boxes result slab' boxes') is (after, now, on)

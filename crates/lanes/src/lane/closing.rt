@@ -1,43 +1,12 @@
 //! Connections that are looked at and closed.
 
-ghost use Rattle.std.specs.Prelude.{◌≡◌, option_copied};
-ghost use Rattle.slab.specs.Slab.{get, slab_len};
-ghost use Rattle.lanes.specs.Lanes.{Closes, Flagged};
-
 use crate::lane::Lane;
-use connections::{Connection, Device, Flags};
-use outboxes::Outboxes;
-use slab::Slab;
-
-/// Keeps what a thread keeps of the connection of a key.
-fn flag_under<D>(connections: &mut Slab<Connection<D>>, key: usize, flags: Flags)
-    ensures { Flagged connections.old key (get connections.old key) flags connections.new }
-{
-    match connections.get_mut(key) {
-        Some(connection) => connection.set_flags(flags),
-        None => {}
-    }
-}
-
-/// Closes the connection of a key, and its outbox.
-fn close_under<D>(
-    connections: &mut Slab<Connection<D>>,
-    key: usize,
-    outboxes: &mut Outboxes,
-) -> Option<D>
-    ensures { Closes connections.old key outboxes.old (get connections.old key) result
-        connections.new outboxes.new }
-{
-    match connections.try_remove(key) {
-        Some(connection) => {
-            outboxes.shut(connection.number());
-            Some(connection.into_device())
-        }
-        None => None,
-    }
-}
+use connections::{Connection, Device, Flags, close_under, flag_under};
 
 impl<D: Device, R> Lane<D, R> {
+    ghost use Rattle.std.specs.Prelude.{◌≡◌, option_copied};
+    ghost use Rattle.slab.specs.Slab.{get, slab_len};
+    ghost use Rattle.connections.specs.Keyed.{Closes, Flagged};
     ghost use Rattle.granted_calls.specs.shared_waiting.Passes.{known};
     ghost use Rattle.lanes.specs.Words.{boxes_in, connections_in, filer_in, identity_in};
     ghost use Rattle.lanes.specs.Words.{intake_in, pass_in, waiting_in, worker_in};

@@ -3,7 +3,7 @@
 use crate::intake::Intake;
 use crate::lane::Lane;
 use affinity::Layout;
-use connections::{Connection, Device, Due};
+use connections::{Device, Due, open_under};
 use granted_calls::shared_waiting::{Pass, SharedWaiting};
 use granted_calls::{Envelope, Filer};
 use outboxes::Outboxes;
@@ -26,7 +26,7 @@ impl<D: Device, R> Lane<D, R> {
     ghost use Rattle.granted_calls.specs.Filers.{layout_in, layout_known};
     ghost use Rattle.turns.specs.Words.{entries_in, IsAt};
     ghost use Rattle.connections.specs.Connections.{now_of};
-    ghost use Rattle.lanes.specs.Lanes.{Opens};
+    ghost use Rattle.connections.specs.Keyed.{Opens};
     ghost use Rattle.lanes.specs.Queues.{HasBoth};
     ghost use Rattle.lanes.specs.Words.{boxes_in, connections_in, filer_in, identity_in, pass_in};
     ghost use Rattle.lanes.specs.Words.{worker_in};
@@ -102,14 +102,11 @@ impl<D: Device, R> Lane<D, R> {
         ensures filer { filer_in self.new ≡ filer_in self.old }
         ensures identity { identity_in self.new ≡ identity_in self.old }
     {
-        if self.connections.reserve(1).is_err() {
-            return Err(device);
-        }
-        let number = match self.intake.outboxes.open() {
-            Ok(number) => number,
-            Err(_refused) => return Err(device),
-        };
-        let connection = Connection::new(self.intake.alloc, device, number);
-        Ok(self.connections.insert_reserved(connection))
+        open_under(
+            &mut self.connections,
+            self.intake.alloc,
+            &mut self.intake.outboxes,
+            device,
+        )
     }
 }

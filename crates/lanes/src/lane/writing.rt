@@ -1,31 +1,12 @@
 //! Connections that are written.
 
-ghost use Rattle.std.specs.Prelude.{◌≡◌};
-ghost use Rattle.slab.specs.Slab.{get};
-ghost use Rattle.lanes.specs.Lanes.{WritesUnder};
-
 use crate::lane::Lane;
-use connections::{Connection, Device, Sent};
-use outboxes::Outboxes;
-use slab::Slab;
-
-/// Goes on writing the connection of a key.
-fn write_under<D: Device>(
-    connections: &mut Slab<Connection<D>>,
-    key: usize,
-    outboxes: &mut Outboxes,
-    buffer: &mut Vec<u8>,
-) -> Sent
-    ensures { WritesUnder D.unread D.written connections.old key (get connections.old key)
-        outboxes.old result connections.new outboxes.new }
-{
-    match connections.get_mut(key) {
-        Some(connection) => connection.write(outboxes, buffer),
-        None => Sent::Failed,
-    }
-}
+use connections::{Device, Sent, write_under};
 
 impl<D: Device, R> Lane<D, R> {
+    ghost use Rattle.std.specs.Prelude.{◌≡◌};
+    ghost use Rattle.slab.specs.Slab.{get};
+    ghost use Rattle.connections.specs.Keyed.{WritesUnder};
     ghost use Rattle.granted_calls.specs.shared_waiting.Passes.{known};
     ghost use Rattle.lanes.specs.Words.{boxes_in, connections_in, filer_in, identity_in};
     ghost use Rattle.lanes.specs.Words.{pass_in, worker_in};

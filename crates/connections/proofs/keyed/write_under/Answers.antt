@@ -1,6 +1,6 @@
 use Rattle.std.proofs.Common.{refl}
-use Rattle.lanes.proofs.Steps.{writes-under}
-use Rattle.lanes.proofs.lane.writing.write_under.Goals as goal
+use Rattle.connections.proofs.UnderKeys.{writes-under}
+use Rattle.connections.proofs.keyed.write_under.Goals as goal
 
 pub returns-in-Some : goal.returns-in-Some
 returns-in-Some g c =
