@@ -150,7 +150,7 @@ fn attempts(
     let mut made = Vec::new(alloc);
     for attempt in 0..ATTEMPTS {
         let affinity = node_of(depot, thread, attempt);
-        if let Some(call) = attempt_any(depot, seat, affinity) {
+        if let Ok(call) = attempt_any(depot, seat, affinity, false) {
             made.push(call)?;
         }
     }
@@ -257,8 +257,8 @@ fn look_at_all(rt: &impl Abort, left: Done, nodes: &[Counted]) {
     for number in 1..NODES + 1 {
         assert!(rt; number <= layout.node_count());
         let counted = nodes.get(number).copied().expect(rt, "no such node");
-        let found = attempt_any(depot, &mut seat, layout.affinity_at(number));
-        look_at(rt, found, number, &counted);
+        let found = attempt_any(depot, &mut seat, layout.affinity_at(number), false);
+        look_at(rt, found.ok(), number, &counted);
     }
 }
 

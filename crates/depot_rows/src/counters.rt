@@ -1,6 +1,6 @@
 //! Calls that add 1 to the number of their node, of whichever kind that is.
 
-ghost use Rattle.std.specs.Prelude.{◌≡◌, ◌++◌, [], ◌∷◌, None, IfSome};
+ghost use Rattle.std.specs.Prelude.{◌≡◌, ◌++◌, [], ◌∷◌, IfOk, IfErr};
 ghost use Rattle.nfs_model.specs.Tree as trees;
 ghost use Rattle.parcels.specs.Exact.{HasExactly, kind_in};
 ghost use Rattle.depot.specs.Words.{IsSeatHere};
@@ -8,7 +8,7 @@ ghost use Rattle.depot_rows.specs.Counting.{AddsOne, HasSeenAsMuch, made_by};
 
 use affinity::{Affinity, Kind};
 use depot::trial::adding::{Adding, Change};
-use depot::{Depot, Seat};
+use depot::{Depot, Refusal, Seat};
 use parcels::{
     AggrHeld, AggregateNode, LogicalHeld, LogicalNode, Node, Numbers, Parcel, RangeHeld, RangeNode,
     SerialHeld, SerialNode, StripeHeld, StripeNode, VbnHeld, VbnNode, VolumeHeld, VolumeNode,
@@ -17,6 +17,15 @@ use std::thread;
 
 /// A call that is finished: the number of its node, what it added, and the sum.
 pub(crate) type Made = (u64, u64, u64);
+
+/// What came of a call that wasn't finished.
+#[derive(Clone, Copy, PartialEq, Eq)]
+pub(crate) enum Found {
+    Granted,
+    /// The node whose word refused.
+    Busy(Affinity),
+    Other,
+}
 
 /// Counts up the number of a kind of node.
 pub(crate) trait Counter<N: Node<Parcel<Numbers>>> {
@@ -83,33 +92,38 @@ impl Counter<SerialNode> for One {
     }
 }
 
-/// A call on a node of a kind. Other threads may run in its midst. Nothing where it was refused, or
-/// where there is no such node: the seat has then seen and made what it had.
-fn attempt<N: Node<Parcel<Numbers>>, C: Counter<N>>(
+/// A call on a node of a kind, in whose midst other threads may run. Where its grant is kept for
+/// good, it was refused, or there is no such node, the seat has then seen and made what it had.
+pub(crate) fn attempt<N: Node<Parcel<Numbers>>, C: Counter<N>>(
     depot: &Depot<Adding>,
     seat: &mut Seat<Adding>,
     affinity: Affinity,
-) -> Option<Made>
+    is_kept: bool,
+) -> Result<Made, Found>
     requires seat { IsSeatHere depot.now seat.old }
     ensures seat { IsSeatHere depot.now seat.new }
-    ensures made { IfSome result (λ made. made_by seat.new ≡ made_by seat.old ++ made ∷ []) }
-    ensures refused { result ≡ None → HasSeenAsMuch seat.old seat.new }
+    ensures made { IfOk result (λ made. made_by seat.new ≡ made_by seat.old ++ made ∷ []) }
+    ensures refused { IfErr result (λ _. HasSeenAsMuch seat.old seat.new) }
 {
     if affinity.kind() != N::KIND {
-        return None;
+        return Err(Found::Other);
     }
     if !depot.layout().contains(affinity) {
-        return None;
+        return Err(Found::Other);
     }
     match depot.begin::<N>(seat, affinity) {
         Ok(mut grant) => {
+            if is_kept {
+                return Err(Found::Granted);
+            }
             thread::yield_now();
             let sum = C::add_one(grant.held());
             depot.finish(seat, grant, &Change::Add(1), &sum);
             let node = depot.layout().number_of(affinity) as u64;
-            Some((node, 1, sum))
+            Ok((node, 1, sum))
         }
-        Err(_refusal) => None,
+        Err(Refusal::Busy { node, word: _ }) => Err(Found::Busy(node)),
+        Err(Refusal::Worn) => Err(Found::Other),
     }
 }
 
@@ -118,19 +132,20 @@ pub(crate) fn attempt_any(
     depot: &Depot<Adding>,
     seat: &mut Seat<Adding>,
     affinity: Affinity,
-) -> Option<Made>
+    is_kept: bool,
+) -> Result<Made, Found>
     requires seat { IsSeatHere depot.now seat.old }
     ensures seat { IsSeatHere depot.now seat.new }
-    ensures made { IfSome result (λ made. made_by seat.new ≡ made_by seat.old ++ made ∷ []) }
-    ensures refused { result ≡ None → HasSeenAsMuch seat.old seat.new }
+    ensures made { IfOk result (λ made. made_by seat.new ≡ made_by seat.old ++ made ∷ []) }
+    ensures refused { IfErr result (λ _. HasSeenAsMuch seat.old seat.new) }
 {
     match affinity.kind() {
-        Kind::Range => attempt::<RangeNode, One>(depot, seat, affinity),
-        Kind::VolumeVbn => attempt::<VbnNode, One>(depot, seat, affinity),
-        Kind::Stripe => attempt::<StripeNode, One>(depot, seat, affinity),
-        Kind::VolumeLogical => attempt::<LogicalNode, One>(depot, seat, affinity),
-        Kind::Volume => attempt::<VolumeNode, One>(depot, seat, affinity),
-        Kind::Aggregate => attempt::<AggregateNode, One>(depot, seat, affinity),
-        Kind::Serial => attempt::<SerialNode, One>(depot, seat, affinity),
+        Kind::Range => attempt::<RangeNode, One>(depot, seat, affinity, is_kept),
+        Kind::VolumeVbn => attempt::<VbnNode, One>(depot, seat, affinity, is_kept),
+        Kind::Stripe => attempt::<StripeNode, One>(depot, seat, affinity, is_kept),
+        Kind::VolumeLogical => attempt::<LogicalNode, One>(depot, seat, affinity, is_kept),
+        Kind::Volume => attempt::<VolumeNode, One>(depot, seat, affinity, is_kept),
+        Kind::Aggregate => attempt::<AggregateNode, One>(depot, seat, affinity, is_kept),
+        Kind::Serial => attempt::<SerialNode, One>(depot, seat, affinity, is_kept),
     }
 }

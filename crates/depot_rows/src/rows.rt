@@ -1,8 +1,9 @@
 //! Grants of a depot: what excludes what, how many seats there are, and what one call leaves to the
 //! next.
 
+use crate::counters::Found;
 use crate::trial::{
-    Claim, Found, Who, claim_all, close_joined, holds_beside, look, opened, same, splits, two_seats,
+    Claim, Who, claim_all, close_joined, holds_beside, look, opened, same, splits, two_seats,
 };
 use affinity::Affinity;
 use depot::trial::adding::{add, read, touch_on};

@@ -2,25 +2,15 @@
 
 ghost use Rattle.depot.specs.Words.{IsSeatHere};
 
+use crate::counters::{Found, One, attempt, attempt_any};
 use affinity::{Affinity, Kind};
 use depot::trial::adding::{Adding, all_of, open, split, touches, volumes};
-use depot::{Depot, Refusal, Seat};
-use parcels::{
-    LogicalNode, Node, Numbers, Parcel, RangeNode, SerialNode, StripeNode, VbnNode, VolumeNode,
-};
+use depot::{Depot, Seat};
+use parcels::{SerialNode, StripeNode};
 use std::alloc::Global;
 use std::mem;
 use std::process::Abort;
 use std::sync::atomic::{AtomicBool, Ordering};
-
-/// What came of a claim.
-#[derive(Clone, Copy, PartialEq, Eq)]
-pub enum Found {
-    Granted,
-    /// The node whose word refused.
-    Busy(Affinity),
-    Other,
-}
 
 /// Looks whether this is what a row of this name wants.
 pub fn same<T: PartialEq>(rt: &impl Abort, row: &str, found: &T, wanted: &T) {
@@ -74,53 +64,15 @@ pub fn splits(depot: &Depot<Adding>, mut seat: Seat<Adding>, most: usize) -> (us
     (most, 0)
 }
 
-/// Claims a node for good.
-pub fn claim<N: Node<Parcel<Numbers>>>(
-    depot: &Depot<Adding>,
-    seat: &mut Seat<Adding>,
-    affinity: Affinity,
-) -> Found
-    requires seat { IsSeatHere depot.now seat.old }
-    ensures seat { IsSeatHere depot.now seat.new }
-{
-    if affinity.kind() != N::KIND {
-        return Found::Other;
-    }
-    if !depot.layout().contains(affinity) {
-        return Found::Other;
-    }
-    match depot.begin::<N>(seat, affinity) {
-        Ok(_grant) => Found::Granted,
-        Err(Refusal::Busy { node, word: _ }) => Found::Busy(node),
-        Err(Refusal::Worn) => Found::Other,
-    }
-}
-
-/// Claims a node that is no aggregate, for good.
-pub fn claim_any(depot: &Depot<Adding>, seat: &mut Seat<Adding>, affinity: Affinity) -> Found
-    requires seat { IsSeatHere depot.now seat.old }
-    ensures seat { IsSeatHere depot.now seat.new }
-{
-    match affinity.kind() {
-        Kind::Stripe => claim::<StripeNode>(depot, seat, affinity),
-        Kind::VolumeLogical => claim::<LogicalNode>(depot, seat, affinity),
-        Kind::VolumeVbn => claim::<VbnNode>(depot, seat, affinity),
-        Kind::Range => claim::<RangeNode>(depot, seat, affinity),
-        Kind::Volume => claim::<VolumeNode>(depot, seat, affinity),
-        Kind::Serial => claim::<SerialNode>(depot, seat, affinity),
-        Kind::Aggregate => Found::Other,
-    }
-}
-
 /// One of two seats.
 #[derive(Clone, Copy)]
-pub enum Who {
+pub(crate) enum Who {
     One,
     Other,
 }
 
 /// Which seat claims a node for good, and what comes of it.
-pub type Claim = (Who, Affinity, Found);
+pub(crate) type Claim = (Who, Affinity, Found);
 
 /// Claims a node for good by one of two seats.
 fn claim_by(
@@ -129,24 +81,24 @@ fn claim_by(
     other: &mut Seat<Adding>,
     who: Who,
     affinity: Affinity,
-) -> Found
+) -> Option<Found>
     requires one { IsSeatHere depot.now one.old }
     requires other { IsSeatHere depot.now other.old }
     ensures one { IsSeatHere depot.now one.new }
     ensures other { IsSeatHere depot.now other.new }
 {
     match who {
-        Who::One => claim_any(depot, one, affinity),
-        Who::Other => claim_any(depot, other, affinity),
+        Who::One => attempt_any(depot, one, affinity, true).err(),
+        Who::Other => attempt_any(depot, other, affinity, true).err(),
     }
 }
 
 /// Claims nodes of a new depot, one after the other, and looks what comes of each.
-pub fn claim_all(rt: &(impl Abort + AllocGlobal), row: &str, claims: &[Claim]) {
+pub(crate) fn claim_all(rt: &(impl Abort + AllocGlobal), row: &str, claims: &[Claim]) {
     let (depot, mut one, mut other) = two_seats(rt);
     for (who, affinity, wanted) in claims {
         let found = claim_by(&depot, &mut one, &mut other, *who, *affinity);
-        same(rt, row, &found, wanted);
+        same(rt, row, &found, &Some(*wanted));
     }
     mem::forget((depot, one, other));
 }
@@ -198,7 +150,7 @@ pub fn holds_beside(
     requires seat { IsSeatHere depot.now seat }
 {
     let [held, called] = stripes;
-    let found = claim::<StripeNode>(depot, &mut seat, held);
-    let is_met = found == Found::Granted && meets(mine, other);
+    let claimed = attempt::<StripeNode, One>(depot, &mut seat, held, true);
+    let is_met = matches!(claimed, Err(Found::Granted)) && meets(mine, other);
     (is_met, touches::<StripeNode>(depot, seat, called, 10))
 }

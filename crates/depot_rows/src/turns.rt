@@ -183,7 +183,8 @@ fn close<M: Machine, K: NodeKinds<M::Parcel>>(
 ) -> <K::Serial as Node<M::Parcel>>::Held
     requires kept { IsKept desk }
 {
-    assert!(rt; desk.worker_count() == workers && are_idle(&desk));
+    assert!(rt; desk.worker_count() == workers);
+    assert!(rt; are_idle(&desk));
     desk.close()
 }
 
