@@ -59,9 +59,9 @@ fn may_make<M: Machine, K: NodeKinds<M::Parcel>>(
     desk.layout().contains(affinity)
 }
 
-/// A call that is made at once: the sum, or that it wasn't done. Where it is refused, the work comes
-/// back with the number of the refusal; without one where the worker isn't idle or there is no such
-/// node.
+/// A call that is made at once: the sum, or that it wasn't done. Where it is refused, the work
+/// comes back with the number of the refusal; without one where the worker isn't idle or there is
+/// no such node.
 fn make<N: Node<Parcel<Numbers>>, C: Counter<N> + Copy>(
     desk: &mut Counters,
     worker: usize,
