@@ -2,7 +2,6 @@
 
 ghost use Rattle.std.specs.Prelude.{◌≡◌};
 ghost use Rattle.xdr.specs.Reading.{Gives, read};
-ghost use Rattle.rpc_msg.specs.Replies.{auth_shape};
 ghost use Rattle.admin_client.specs.Telling.{accepted_shape, accepted_value, body_shape};
 ghost use Rattle.admin_client.specs.Telling.{body_value, rejected_shape, rejected_value};
 ghost use Rattle.admin_client.specs.Telling.{head_shape, head_value, refusal_in};

@@ -1,6 +1,6 @@
 //! What holds of every call and of every reply.
 
-ghost use Rattle.std.specs.Prelude.{◌≡◌, ◌≢◌, ◌<◌, ◌^◌, ◌++◌, ℕ, true, List, Ok, Err, Some, map};
+ghost use Rattle.std.specs.Prelude.{◌≡◌, ◌<◌, ◌^◌, ◌++◌, ℕ, true, List, Ok, Err, map};
 ghost use Rattle.xdr.specs.Shape.{Shape, Value, Fits, spelling};
 ghost use Rattle.nfs_model.specs.Types as model;
 ghost use Rattle.nfs_types.specs.Results.{census_shape, count_value};

@@ -1,6 +1,6 @@
 //! The nodes of a layout by number.
 
-ghost use Rattle.std.specs.Prelude.{◌≡◌, ◌+◌, ◌*◌, ◌<◌, ◌≤◌, ◌↔◌, length, slice_index, IsTrue};
+ghost use Rattle.std.specs.Prelude.{◌≡◌, ◌+◌, ◌<◌, ◌≤◌, ◌↔◌, length, slice_index, IsTrue};
 ghost use Rattle.nfs_model.specs.Tree.{stripes_of};
 ghost use Rattle.affinity.specs.Affinity.{affinity_of};
 ghost use Rattle.affinity.specs.Layout.{layout_of};

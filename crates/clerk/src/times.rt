@@ -1,6 +1,6 @@
 //! When calls came that aren't finished yet.
 
-ghost use Rattle.std.specs.Prelude.{◌≡◌, ◌<◌, ℕ};
+ghost use Rattle.std.specs.Prelude.{◌≡◌, ◌<◌};
 
 use std::alloc::{AllocError, Global};
 use std::collections::VecDeque;

@@ -1,6 +1,6 @@
 //! Bytes that are cut into records, and those that are kept.
 
-ghost use Rattle.std.specs.Prelude.{◌≡◌, ◌<◌, [], None, length};
+ghost use Rattle.std.specs.Prelude.{◌≡◌, ◌<◌, [], None};
 ghost use Rattle.affinity.specs.Layout.{layout_of};
 ghost use Rattle.tcp_front.specs.Arrivals.{most_records};
 ghost use Rattle.connections.specs.Cutting.{HasCut};

@@ -1,6 +1,6 @@
 //! 64 seats on 64 threads, each of which makes 1,000 attempts at nodes of the whole tree.
 
-ghost use Rattle.std.specs.Prelude.{◌≡◌, [], All, IfOk, IfSome};
+ghost use Rattle.std.specs.Prelude.{◌≡◌, [], IfOk, IfSome};
 ghost use Rattle.depot.specs.Words.{IsSeatHere};
 ghost use Rattle.depot_rows.specs.Counting.{made_by};
 

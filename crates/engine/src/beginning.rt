@@ -1,6 +1,5 @@
 //! Messages that workers begin.
 
-ghost use Rattle.std.specs.Prelude.{◌≡◌};
 ghost use Rattle.nfs_model.specs.Events.Refusals as event;
 ghost use Rattle.nfs_values.specs.Moment.{moment_of};
 ghost use Rattle.engine.specs.Sound.{IsSoundEngine};

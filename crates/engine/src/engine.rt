@@ -1,6 +1,6 @@
 //! The engine: connections, calls on their way, workers, and the parcels that calls run on.
 
-ghost use Rattle.std.specs.Prelude.{◌≡◌, ◌≤◌, List, ℕ, [], ◌∷◌, length, map, option_map};
+ghost use Rattle.std.specs.Prelude.{◌≡◌, ◌≤◌, [], ◌∷◌, map, option_map};
 ghost use Rattle.std.specs.Prelude.{slice_get, IfOk};
 ghost use Rattle.nfs_model.specs.World.{counts_of};
 ghost use Rattle.nfs_model.specs.Headline.{opening_world};

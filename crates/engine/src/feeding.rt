@@ -1,6 +1,5 @@
 //! Bytes that come on a connection.
 
-ghost use Rattle.std.specs.Prelude.{◌≡◌};
 ghost use Rattle.nfs_model.specs.Events.Refusals as event;
 ghost use Rattle.slab.specs.Slab.{ContainsKey};
 ghost use Rattle.engine.specs.Receiving.{ReceivesUnder};

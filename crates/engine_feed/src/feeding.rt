@@ -1,7 +1,6 @@
 //! Bytes that are fed: taken up to the end of each record, and the records admitted.
 
 ghost use Rattle.std.specs.Prelude.{◌≡◌, ◌≤◌, ◌<◌, true, false, length, None, OnOk};
-ghost use Rattle.rpc_record.specs.Machine.{outcome};
 ghost use Rattle.engine_feed.specs.Seen.{pending};
 ghost use Rattle.engine_feed.specs.Sound.{IsSoundConnection, AreSound, TakesIn, IsFree, MayGoOn};
 ghost use Rattle.engine_feed.specs.Sound.{HasRoomToReply, HaveRoomToAdmit};

@@ -1,6 +1,6 @@
 //! What the definitions say, where they say it in two ways: for every offer.
 
-ghost use Rattle.std.specs.Prelude.{◌≡◌, List, ℕ};
+ghost use Rattle.std.specs.Prelude.{List, ℕ};
 ghost use Rattle.nfs_model.specs.World.{IsScan};
 ghost use Rattle.rpc_record.specs.Stream.{AreBytes};
 ghost use Rattle.rpc_msg.specs.declared.offer.Offer.{Offer};

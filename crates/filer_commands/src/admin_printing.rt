@@ -1,9 +1,9 @@
 //! What `census` and `grow` print.
 
-use crate::replay::ProgramFault;
 use admin_client::{AdminFault, BlockTotals, CallRefusal, Census, Growth};
 use nfs_values::VolumeNumber;
 use nfs_values::answer::VolumeCount;
+use scripts::ProgramFault;
 use std::io::{self, Write};
 
 /// A write that failed.

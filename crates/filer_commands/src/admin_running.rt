@@ -3,8 +3,8 @@
 ghost use Rattle.std.specs.Prelude.{◌≤◌, IfOk};
 
 use crate::admin_printing::{print_census, print_growth, tell_fault};
-use crate::replay::ProgramFault;
 use nfs_values::VolumeNumber;
+use scripts::ProgramFault;
 use std::io::{self, ErrorKind, Read, Write};
 use std::net::{Net, SocketAddr, TcpListener, TcpStream};
 use std::rt::Clock;

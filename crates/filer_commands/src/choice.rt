@@ -1,7 +1,7 @@
 //! What a command line may ask for.
 
 use crate::admin_running::Growing;
-use server::Options;
+use server_options::Options;
 use std::net::SocketAddr;
 
 /// A command, with its arguments.

@@ -4,7 +4,8 @@ ghost use Rattle.std.specs.Prelude.{◌+◌, ◌*◌, ◌≤◌};
 
 use affinity::MEBIBYTE;
 use nfs_values::BLOCK_BYTES;
-use server::{ENOUGH_STOCKED, Options, VolumePlan};
+use server::ENOUGH_STOCKED;
+use server_options::{Options, VolumePlan};
 use std::io::Write;
 use std::net::SocketAddr;
 

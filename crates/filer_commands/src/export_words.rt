@@ -7,7 +7,7 @@ use crate::limits::{
 };
 use crate::machine::Machine;
 use clap::{Arg, ArgAction, ArgMatches, value_parser};
-use server::{
+use server_options::{
     Admission, IdleTime, LEAST_VOLUME, MOST_BYTES, MOST_NETWORKS, Network, Options, Peers, Period,
     VolumePlan, WhenFull,
 };

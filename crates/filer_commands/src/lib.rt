@@ -1,4 +1,4 @@
-//! The program's command line, and the commands that it names: `replay` runs a script of events.
+//! The program's command line, and the commands that it names.
 #![tactic(auto)]
 
 mod admin_printing;
@@ -10,13 +10,12 @@ mod export_printing;
 mod export_words;
 mod limits;
 mod machine;
-pub mod replay;
 mod running;
 mod words;
 
-pub use crate::replay::{ProgramFault, print_fault};
 pub use admin_running::Growing;
 pub use choice::Command;
 pub use machine::Machine;
 pub use running::program;
+pub use scripts::{ProgramFault, print_fault};
 pub use words::{command, command_told};

@@ -4,7 +4,7 @@
 pub(crate) const MOST_VOLUMES: i64 = affinity::MOST_VOLUMES as i64;
 
 /// The most workers of a server.
-pub(crate) const MOST_WORKERS: i64 = server::MOST_WORKERS as i64;
+pub(crate) const MOST_WORKERS: i64 = server_options::MOST_WORKERS as i64;
 
 /// The most workers of `export` where no number is named.
 pub(crate) const USUAL_WORKERS: usize = 4;
@@ -22,7 +22,7 @@ pub(crate) const MOST_INODES: i64 = affinity::MOST_INODES as i64;
 pub(crate) const MOST_CONNECTIONS: i64 = 1_000_000;
 
 /// The most seconds after which a connection may be taken for idle.
-pub(crate) const MOST_IDLE: i64 = server::MOST_IDLE_SECONDS as i64;
+pub(crate) const MOST_IDLE: i64 = server_options::MOST_IDLE_SECONDS as i64;
 
 /// The most minutes between two lines of statistics.
-pub(crate) const MOST_MINUTES: i64 = server::MOST_MINUTES as i64;
+pub(crate) const MOST_MINUTES: i64 = server_options::MOST_MINUTES as i64;

@@ -1,6 +1,5 @@
 //! What waits for a connection.
 
-ghost use Rattle.std.specs.Prelude.{◌≡◌};
 ghost use Rattle.front_rows.specs.Leaving.{HasLeft, IsEmpty, left_none, left_more};
 
 use nfs_values::ConnectionNumber;

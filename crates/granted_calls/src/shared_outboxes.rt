@@ -3,7 +3,8 @@
 ghost use Rattle.std.specs.Prelude.{◌≡◌, [], ◌∷◌, IfOk, OnOk, OnErr};
 ghost use Rattle.outboxes.specs.Boxes.{none_open, oldest, opened, put, shut, taken};
 ghost use Rattle.outboxes.specs.Boxes.{Boxes};
-ghost use Rattle.granted_calls.specs.shared_waiting.Balance.{added, left, right, both, FitsIn, IsWhole};
+ghost use Rattle.granted_calls.specs.shared_waiting.Balance.{added, left, right, both};
+ghost use Rattle.granted_calls.specs.shared_waiting.Balance.{FitsIn, IsWhole};
 ghost use Rattle.granted_calls.specs.shared_waiting.Balance as queues;
 ghost use Rattle.granted_calls.specs.shared_waiting.Passes as passes;
 ghost use Rattle.granted_calls.specs.shared_waiting.Passes.{known};

@@ -80,7 +80,7 @@ impl InodeKind {
 impl Inode {
     ghost use Rattle.std.specs.Option.{option_map};
     ghost use Rattle.nfs_values.specs.Moment.{moment_of};
-    ghost use Rattle.nfs_model.specs.volume.Inodes.{attributes_held, settled_inode, root_inode};
+    ghost use Rattle.nfs_model.specs.volume.Inodes.{attributes_held, settled_inode};
     ghost use Rattle.inodes.specs.Inode.{attributes_value, inode_value};
 
     /// The root directory as a volume begins: mode 0755 (octal), uid and gid 0, all times at the

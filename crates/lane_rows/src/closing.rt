@@ -1,16 +1,16 @@
 //! The lanes of a filer over devices in memory, which are put together and closed.
 
 ghost use Rattle.std.specs.Prelude.{◌≡◌, ◌≤◌, ◌+◌, [], vec_len, vec_capacity};
-ghost use Rattle.server.specs.Lanes.{AreLanesOf, Stays};
+ghost use Rattle.filer_lanes.specs.Lanes.{AreLanesOf, Stays};
 ghost use Rattle.granted_calls.specs.declared.shared.Filer as filers;
 
 use crate::laned::{ask, close_after};
 use crate::opening::{MemoryLane, open_both};
 use crate::texts::{GETATTR, GETATTR_REPLY, NULL, NULL_REPLY};
 use connections::Sent;
+use filer_lanes::{FilerEnd, Room, end};
 use granted_calls::{Unwatched, Wanted};
 use nfs_values::Moment;
-use server::{FilerEnd, Room, end};
 use std::process::Abort;
 use std::sync::Wait;
 

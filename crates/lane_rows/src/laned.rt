@@ -1,7 +1,7 @@
 //! A lane, call by call in one thread.
 
 ghost use Rattle.std.specs.Prelude.{Some, IfSome};
-ghost use Rattle.server.specs.Lanes.{Stays};
+ghost use Rattle.filer_lanes.specs.Lanes.{Stays};
 ghost use Rattle.lane_rows.specs.Written.{WasWritten};
 
 use crate::memory::{Memory, device};

@@ -2,7 +2,7 @@
 
 ghost use Rattle.std.specs.Prelude.{◌≡◌, vec_len};
 ghost use Rattle.std.specs.Arc.{arc_value};
-ghost use Rattle.server.specs.Lanes.{AreLanesOf};
+ghost use Rattle.filer_lanes.specs.Lanes.{AreLanesOf};
 
 use crate::memory::Memory;
 use affinity::{AggregateSpec, Layout, VolumeSpec};
@@ -32,7 +32,7 @@ where
 {
     let room = Vec::with_capacity(rt.alloc(), 2).expect(&rt, "no memory");
     let layout = layout(&rt);
-    match server::open_lanes(rt, rt.alloc(), Offer::basic(), layout, [9; 8], 2, 64, room) {
+    match filer_lanes::open_lanes(rt, rt.alloc(), Offer::basic(), layout, [9; 8], 2, 64, room) {
         Ok(opened) => opened,
         Err(_refused) => panic!(&rt; "no memory"),
     }

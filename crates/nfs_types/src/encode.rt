@@ -8,7 +8,7 @@ ghost use Rattle.xdr.specs.Shape.{counted, padded, spelling};
 ghost use Rattle.nfs_values.specs.Attributes.{kind_of, kind_word, shown_of, before_of, change_of};
 ghost use Rattle.nfs_values.specs.Moment.{moment_of};
 ghost use Rattle.nfs_types.specs.Shapes.{handle_shape, any_bytes, verifier_shape, moment_shape};
-ghost use Rattle.nfs_types.specs.Shapes.{moment_value, kind_shape, device_shape, attributes_shape};
+ghost use Rattle.nfs_types.specs.Shapes.{moment_value, kind_shape, attributes_shape};
 ghost use Rattle.nfs_types.specs.Shapes.{attributes_value, prior_shape, prior_value, change_shape};
 ghost use Rattle.nfs_types.specs.Shapes.{change_value};
 

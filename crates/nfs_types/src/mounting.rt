@@ -1,13 +1,12 @@
 //! Results of MOUNT (RFC 1813 appendix I).
 
-ghost use Rattle.std.specs.Prelude.{◌≡◌, ◌+◌, ◌*◌, ◌≤◌, ◌++◌, length, map};
+ghost use Rattle.std.specs.Prelude.{◌≡◌, ◌+◌, ◌*◌, ◌≤◌, ◌++◌, map};
 ghost use Rattle.std.specs.Prelude.{vec_len, vec_capacity};
 ghost use Rattle.std.specs.List.{range_with_len};
-ghost use Rattle.xdr.specs.Shape.{Chain, spelling};
+ghost use Rattle.xdr.specs.Shape.{spelling};
 ghost use Rattle.nfs_model.specs.Serial.Mount.{volume_path};
 ghost use Rattle.nfs_types.specs.Results.{mounted_shape, mounted_value, export_shape};
 ghost use Rattle.nfs_types.specs.Results.{export_value, exports_shape};
-ghost use Rattle.nfs_types.specs.Shapes.{any_bytes};
 
 use crate::encode::{Encode, write_absent};
 use nfs_values::{Exports, MountResults, export_path};

@@ -1,6 +1,6 @@
 //! Numbers of connections, by lanes.
 
-ghost use Rattle.std.specs.Prelude.{◌≡◌, ◌≢◌, ℕ};
+ghost use Rattle.std.specs.Prelude.{◌≢◌, ℕ};
 ghost use Rattle.outboxes.specs.Boxes.{IsNumberOf};
 
 /// No two of the lanes of one run have a number in common.

@@ -1,6 +1,6 @@
 //! A shelf in memory.
 
-ghost use Rattle.std.specs.Prelude.{◌≡◌, ◌<◌, ℕ, None, length, slice_index_or, IfOk, replicate};
+ghost use Rattle.std.specs.Prelude.{◌≡◌, ◌<◌, None, length, slice_index_or, IfOk, replicate};
 ghost use Rattle.std.proofs.Common.{refl, sym, ◌∙◌, subst};
 
 use crate::shelf::Shelf;

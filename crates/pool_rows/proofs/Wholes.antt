@@ -2,33 +2,17 @@
 use Rattle.std.proofs.Common.{◌≡◌, ◌≤◌, ◌∙◌, ℕ, ◌+◌, ◌*◌, ◌-◌, ◌^◌, List, [], ◌∷◌, ap, sym, subst, arith}
 use Rattle.std.proofs.lemmas.Nat.{pow-add}
 use Rattle.std.proofs.Math.Nat.{mul_assoc}
-use Rattle.std.specs.Prelude.{Option, None, Some, option_map}
-use Rattle.affinity.specs.declared.layout.Layout.{Layout}
-use Rattle.nfs_model.specs.Tree as trees
-use Rattle.affinity.specs.Layout.{layout_of}
 use Rattle.depot_rule.specs.Sums.{total}
 use Rattle.tends.specs.Shares.{share_in, AreAll, FilerPass}
 use Rattle.workers.specs.Pools.{filer_of, HasAllWith, HasBetween}
 use Rattle.workers.specs.declared.pool.Pool.{Pool}
-use Rattle.granted_calls.specs.shared_waiting.Balance.{part, FitsIn}
+use Rattle.granted_calls.specs.shared_waiting.Balance.{part}
 use Rattle.granted_calls.specs.shared_waiting.Passes.{known}
 use Rattle.granted_calls.specs.Balance.{FilerEntry, FilerView, Passed}
-use Rattle.granted_calls.specs.Messages.{Fits, IsPlaced, Message}
-use Rattle.granted_calls.specs.Filers.{layout_known}
 use Rattle.granted_calls.specs.declared.shared.Filer.{Filer}
 use Rattle.turns.specs.Words.{passed}
 use Rattle.turns.specs.declared.worker.Worker.{Worker}
 use Rattle.pool_rows.specs.Threads.{IsAlone, IsHalf, IsRunning, IsUnstarted}
-
--- ---- putting
-
--- what is placed in a layout fits a queue of that layout
-pub fits-by : (layout : trees.Layout) (v : Passed) (m : Message) → layout_known v ≡ Some layout → IsPlaced layout m → FitsIn Fits v.key m
-fits-by layout v m known placed = by v.key known
-  where
-    by : (key : Option Layout) → option_map layout_of key ≡ Some layout → FitsIn Fits key m
-    by None e = let no : ⊥ = cc in absurd no
-    by (Some key) e = subst (λ (x : trees.Layout). IsPlaced x m) (let same : layout ≡ layout_of key = cc in same) placed
 
 -- ---- halves
 

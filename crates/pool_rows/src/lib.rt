@@ -26,4 +26,6 @@ mod scene;
 #[cfg(test)]
 mod scenes;
 #[cfg(test)]
+mod shutting;
+#[cfg(test)]
 mod station;

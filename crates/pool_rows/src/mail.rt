@@ -36,6 +36,16 @@ pub(crate) fn open_mail<R: Abort + AllocGlobal + Wait>(rt: &R) -> (Mail, Outboxe
 }
 
 impl Mail {
+    /// Opens another connection.
+    pub(crate) fn open<R: Wait>(&mut self, rt: &R) -> Option<ConnectionNumber> {
+        self.outboxes.open(rt, &mut self.pass).ok()
+    }
+
+    /// Shuts a connection.
+    pub(crate) fn shut<R: Wait>(&mut self, rt: &R, connection: ConnectionNumber) {
+        self.outboxes.shut(rt, &mut self.pass, connection);
+    }
+
     /// Takes the record that waits longest.
     pub(crate) fn take<R: Wait>(&mut self, rt: &R) -> Option<Record> {
         self.outboxes.take(rt, &mut self.pass, self.connection)

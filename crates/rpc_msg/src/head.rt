@@ -1,9 +1,7 @@
 //! Heads of calls (RFC 5531 section 9).
 
 ghost use Rattle.std.specs.Prelude.{◌≡◌};
-ghost use Rattle.xdr.specs.Shape.{Word, Pair};
 ghost use Rattle.xdr.specs.Reading.{read};
-ghost use Rattle.nfs_values.specs.Credential.{credential_of};
 ghost use Rattle.rpc_msg.specs.Replies.{auth_shape};
 ghost use Rattle.rpc_msg.specs.Heads.{body_by, head_by, head_of, numbers_shape, procedure_by};
 ghost use Rattle.rpc_msg.specs.Heads.{version_at, version_by, whole, xid_at};

@@ -1,25 +1,11 @@
 //! Messages in cells, beside the lines that the cells are in.
 
-ghost use Rattle.std.specs.Prelude.{
-  ◌≡◌,
-  ◌<◌,
-  ◌≤◌,
-  [],
-  ◌∷◌,
-  ◌++◌,
-  length,
-  map,
-  take,
-  Some,
-  None,
-  slice_set,
-  vec_len,
-  vec_capacity,
-};
+ghost use Rattle.std.specs.Prelude.{◌≡◌, ◌<◌, ◌≤◌, [], ◌∷◌, ◌++◌, length, map, take, Some, None};
+ghost use Rattle.std.specs.Prelude.{slice_set, vec_capacity};
 ghost use Rattle.std.specs.List.{slice_get};
 ghost use Rattle.affinity.specs.Affinity.{call_node};
 ghost use Rattle.scheduler.specs.QueueNumber.{HasQueue};
-ghost use Rattle.scheduler.specs.Kept.{present, line_of, lines_of, HaveQueues};
+ghost use Rattle.scheduler.specs.Kept.{present, lines_of, HaveQueues};
 ghost use Rattle.scheduler.specs.Kept.{HasMessage};
 
 use crate::lines::{CELLS, Lines};

@@ -1,22 +1,7 @@
 //! Queues in one table of cells, linked by cell numbers.
 
-ghost use Rattle.std.specs.Prelude.{
-  ◌≡◌,
-  ◌+◌,
-  ◌<◌,
-  ◌≤◌,
-  ℕ,
-  [],
-  ◌∷◌,
-  ◌++◌,
-  length,
-  Some,
-  None,
-  IfOk,
-  OnOk,
-  slice_set,
-};
-ghost use Rattle.std.specs.List.{slice_get};
+ghost use Rattle.std.specs.Prelude.{◌≡◌, ◌+◌, ◌<◌, ◌≤◌, ℕ, [], ◌∷◌, ◌++◌, length, Some, None, IfOk};
+ghost use Rattle.std.specs.Prelude.{slice_set};
 ghost use Rattle.scheduler.specs.Lines.{IsIn, IsFirstFrom, IsLastBelow, IsLinked};
 ghost use Rattle.scheduler.specs.Lines.{IsEnded, entry};
 

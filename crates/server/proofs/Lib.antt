@@ -1,6 +1,3 @@
-mod Remaining
-mod Ended
 mod Started
 mod Crossing
-mod Doubled
 mod Planned

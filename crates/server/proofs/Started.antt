@@ -8,7 +8,7 @@ use Rattle.server.specs.contracts.socket.SocketDevice.TheImpl.{ghosts}
 use Rattle.server.specs.declared.socket.Socket.{Socket}
 use Rattle.server.specs.declared.task.Task.{Task}
 use Rattle.lanes.specs.Words.{Identity}
-use Rattle.server.specs.Lanes.{by_identity, places, seats_of, AllOffer, AreLanesOf, IsLaneOf}
+use Rattle.filer_lanes.specs.Lanes.{by_identity, places, seats_of, AllOffer, AreLanesOf, IsLaneOf}
 use Rattle.server.specs.Threads.{identity_for, identity_with, seats_for, seats_with, AllServe, AreOfThreads, AreThreadsOf, IsTaskFor, ServesFor, Thread}
 use Rattle.tends.proofs.Lists.{all-none, total-none, total-one}
 

@@ -1,12 +1,4 @@
 pub mod Faults
-pub mod Lanes
-pub mod Networks
-pub mod Peers
-pub mod Queues
-pub mod Remains
-pub mod Rooms
 pub mod Threads
-pub mod Ends
-pub mod Asked
 pub mod Numbers
 pub mod Planned

@@ -1,7 +1,7 @@
 -- The layout of a server's volumes.
 use Rattle.std.specs.Prelude.{◌≡◌, ℕ, [], ◌∷◌, replicate}
 use Rattle.nfs_model.specs.Tree as trees
-use Rattle.server.specs.declared.plan.VolumePlan.{VolumePlan}
+use Rattle.server_options.specs.declared.plan.VolumePlan.{VolumePlan}
 
 -- a volume of a plan, on the first aggregate
 abbrev pub volume_planned : VolumePlan → trees.VolumeLayout

@@ -10,7 +10,7 @@ use Rattle.server.specs.declared.task.Task.{Task}
 use Rattle.granted_calls.specs.declared.shared.Filer.{Filer}
 use Rattle.rpc_msg.specs.declared.offer.Offer.{Offer}
 use Rattle.lanes.specs.Words.{filer_in, Identity}
-use Rattle.server.specs.Lanes.{by_identity, places, seats_of}
+use Rattle.filer_lanes.specs.Lanes.{by_identity, places, seats_of}
 
 -- the thread of a lane
 abbrev pub Thread : (R : Type 0) → devices.Ghosts Socket → Type 0

@@ -1,11 +1,10 @@
 //! Connections that are accepted.
 
-use crate::admission::WhenFull;
 use crate::common::Common;
 use crate::mailbox::{Arrival, Mailbox};
-use crate::options::Options;
 use crate::serve_fault::ServeFault;
 use clerk::Event;
+use server_options::{Options, WhenFull};
 use std::io;
 use std::net::{SocketAddr, TcpListener, TcpStream};
 use std::rt::Clock;

@@ -1,9 +1,8 @@
 //! Connections that are closed.
 
-ghost use Rattle.server.specs.Lanes.{Stays};
+ghost use Rattle.filer_lanes.specs.Lanes.{Stays};
 
 use crate::guests::Guest;
-use crate::idle::IdleTime;
 use crate::keys::unlist;
 use crate::socket::Socket;
 use crate::station::Station;
@@ -12,6 +11,7 @@ use clerk::{Event, Reason};
 use connections::Connection;
 use engine_feed::StreamFault;
 use lanes::Lane;
+use server_options::IdleTime;
 use std::sync::Wait;
 use tcp_front::Stopped;
 

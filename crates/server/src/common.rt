@@ -3,10 +3,10 @@
 use crate::counting::Counter;
 use crate::crowd::Crowd;
 use crate::ends::Ends;
-use crate::options::Options;
 use crate::untended::Untended;
 use clerk::{Event, Journal};
 use granted_calls::Wanted;
+use server_options::Options;
 use statistics::Tally;
 use std::alloc::{AllocError, Global};
 use std::sync::Wait;

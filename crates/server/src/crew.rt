@@ -3,7 +3,7 @@
 ghost use Rattle.std.specs.Prelude.{◌≡◌, ◌≤◌, ◌+◌, ℕ, All, true, vec_len, vec_capacity};
 ghost use Rattle.depot_rule.specs.Sums.{total};
 ghost use Rattle.lanes.specs.Words.{Identity};
-ghost use Rattle.server.specs.Lanes.{by_identity, seats_of, IsLaneOf};
+ghost use Rattle.filer_lanes.specs.Lanes.{by_identity, seats_of, IsLaneOf};
 ghost use Rattle.server.specs.Threads.{identity_for, identity_with, seats_for, seats_with};
 ghost use Rattle.server.specs.Threads.{IsTaskFor, ServesFor};
 ghost use Rattle.granted_calls.specs.declared.shared.Filer.{Filer};

@@ -1,6 +1,6 @@
 //! Word that connections find no place.
 
-use crate::idle::IdleTime;
+use server_options::IdleTime;
 use std::sync::atomic::{AtomicU64, Ordering};
 
 /// Word that a connection found no place, upon which each lane closes those that are idle.

@@ -1,6 +1,6 @@
 //! What the system tells of the sockets of a lane's connections. It tells of each change once.
 
-ghost use Rattle.server.specs.Lanes.{Stays};
+ghost use Rattle.filer_lanes.specs.Lanes.{Stays};
 
 use crate::keys::{Keys, list};
 use crate::socket::Socket;

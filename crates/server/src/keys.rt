@@ -1,6 +1,6 @@
 //! The connections of a lane that have something to do.
 
-ghost use Rattle.server.specs.Lanes.{Stays};
+ghost use Rattle.filer_lanes.specs.Lanes.{Stays};
 
 use crate::socket::Socket;
 use connections::Flags;

@@ -2,7 +2,7 @@
 
 ghost use Rattle.std.specs.Prelude.{◌≡◌};
 ghost use Rattle.lanes.specs.Words.{filer_in, worker_in};
-ghost use Rattle.server.specs.Lanes.{Stays};
+ghost use Rattle.filer_lanes.specs.Lanes.{Stays};
 ghost use Rattle.tends.specs.declared.tending.Found as found;
 ghost use Rattle.tends.specs.Rests.{may_sleep, HasTended};
 ghost use Rattle.granted_calls.specs.Filers.{layout_in};

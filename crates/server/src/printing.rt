@@ -1,7 +1,7 @@
 //! The lines of a server on standard output.
 
-use crate::ending::FilerEnd;
 use crate::fault::ServerFault;
+use filer_lanes::FilerEnd;
 use std::io::Write;
 use std::net::{SocketAddr, TcpListener};
 

@@ -1,7 +1,7 @@
 //! A round of a lane's thread.
 
 ghost use Rattle.std.specs.Prelude.{IfNone};
-ghost use Rattle.server.specs.Lanes.{IsAtRest, Stays};
+ghost use Rattle.filer_lanes.specs.Lanes.{IsAtRest, Stays};
 
 use crate::closing::{close_ended, close_idle};
 use crate::counting::count_round;

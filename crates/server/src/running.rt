@@ -1,14 +1,14 @@
 //! A server, from its start to what is left.
 
 ghost use Rattle.std.specs.Prelude.{◌≡◌, ◌≤◌, ◌+◌, ℕ, [], List, length};
-ghost use Rattle.std.specs.Prelude.{All, IfOk, OnOk, IfSome};
+ghost use Rattle.std.specs.Prelude.{All, IfOk, OnOk};
 ghost use Rattle.std.specs.Prelude.{vec_len, vec_capacity};
 ghost use Rattle.std.specs.Arc.{arc_value};
 ghost use Rattle.depot_rule.specs.Sums.{total};
 ghost use Rattle.lanes.specs.declared.lane.Lane as laned;
-ghost use Rattle.server.specs.Ends.{IsEndOf};
+ghost use Rattle.filer_lanes.specs.Ends.{IsEndOf};
 ghost use Rattle.lanes.specs.Words.{Identity};
-ghost use Rattle.server.specs.Lanes.{by_identity, seats_of, IsLaneOf};
+ghost use Rattle.filer_lanes.specs.Lanes.{by_identity, seats_of, IsLaneOf};
 ghost use Rattle.server.specs.Threads.{identity_for, seats_for, AreOfThreads};
 ghost use Rattle.server.specs.Threads.{AllServe, AreThreadsOf, IsTaskFor};
 ghost use Rattle.server.specs.declared.socket.Socket as sockets;
@@ -16,21 +16,20 @@ ghost use Rattle.granted_calls.specs.declared.shared.Filer as filers;
 
 use crate::common::Common;
 use crate::crew::{Mail, join_all, start_all};
-use crate::ending::{FilerEnd, end};
 use crate::entrance::{Scribe, accept};
 use crate::fault::{ServerFault, of_clerk, of_start};
 use crate::mailbox::Mailbox;
-use crate::opening::{layout_of, open_lanes, verifier_for};
-use crate::options::Options;
+use crate::opening::{layout_of, verifier_for};
 use crate::printing::{print_address, print_left};
-use crate::room::Room;
 use crate::socket::Socket;
 use crate::station::Station;
 use crate::task::{Task, Thread};
 use clerk::{Clerk, Journal};
 use connections::Device;
+use filer_lanes::{FilerEnd, Room, end, open_lanes};
 use granted_calls::Filer;
 use lanes::Lane;
+use server_options::Options;
 use std::alloc::{AllocError, Global};
 use std::io::{self, Write};
 use std::net::{Net, TcpListener, TcpStream};

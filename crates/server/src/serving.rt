@@ -1,6 +1,6 @@
 //! The loop of a lane's thread.
 
-ghost use Rattle.server.specs.Lanes.{Stays};
+ghost use Rattle.filer_lanes.specs.Lanes.{Stays};
 
 use crate::round::round;
 use crate::socket::Socket;

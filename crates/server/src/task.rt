@@ -1,6 +1,6 @@
 //! The thread of a lane.
 
-ghost use Rattle.server.specs.Lanes.{Stays};
+ghost use Rattle.filer_lanes.specs.Lanes.{Stays};
 ghost use Rattle.server.specs.Threads.{started_with};
 ghost use Rattle.std.specs.Prelude.{◌≡◌, IfOk};
 
@@ -29,7 +29,7 @@ pub struct Serves<L> {
 }
 
 impl<R> Promise<Lane<Socket, R>> for Serves<Lane<Socket, R>> {
-    ghost use Rattle.server.specs.Lanes.{Stays};
+    ghost use Rattle.filer_lanes.specs.Lanes.{Stays};
 
     ghost kept_by = { λ p lane. Stays p.lane.value lane };
 }

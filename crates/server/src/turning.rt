@@ -1,6 +1,6 @@
 //! The turns of a round, and the tends between them.
 
-ghost use Rattle.server.specs.Lanes.{Stays};
+ghost use Rattle.filer_lanes.specs.Lanes.{Stays};
 
 use crate::common::Common;
 use crate::lane_tends::{begin_anew, may_rest, put_down, tend};

@@ -1,6 +1,6 @@
 //! The connections of a lane, read and written.
 
-ghost use Rattle.server.specs.Lanes.{Stays};
+ghost use Rattle.filer_lanes.specs.Lanes.{Stays};
 
 use crate::guests::Guests;
 use crate::keys::Keys;

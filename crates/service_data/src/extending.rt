@@ -14,7 +14,7 @@ ghost use Rattle.std.specs.Prelude.{
 ghost use Rattle.nfs_model.specs.Server.{most_bytes};
 ghost use Rattle.nfs_model.specs.Home.{span_bytes};
 ghost use Rattle.nfs_values.specs.Moment.{moment_of};
-ghost use Rattle.inodes.specs.Inode.{inode_value, kind_value};
+ghost use Rattle.inodes.specs.Inode.{kind_value};
 ghost use Rattle.parcels.specs.Filled.{logical_alike, volume_alike};
 ghost use Rattle.nfs_model.specs.volume.Inodes.{filled_blocks};
 ghost use Rattle.filer_state.specs.state.Sets.{

@@ -11,7 +11,6 @@ ghost use Rattle.std.specs.Prelude.{
   OnOk,
   OnErr,
 };
-ghost use Rattle.nfs_model.specs.Server.{block_size};
 ghost use Rattle.nfs_model.specs.Home.{span_bytes};
 ghost use Rattle.nfs_values.specs.Moment.{moment_of};
 ghost use Rattle.nfs_model.specs.volume.Stripes.{

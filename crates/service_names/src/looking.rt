@@ -1,6 +1,6 @@
 //! LOOKUP.
 
-ghost use Rattle.std.specs.Prelude.{◌≡◌, []};
+ghost use Rattle.std.specs.Prelude.{[]};
 ghost use Rattle.filer_state.specs.state.Lenses.{logical_lens};
 ghost use Rattle.filer_state.specs.state.Promises.{HasVolume};
 ghost use Rattle.filer_state.specs.state.Sets.{logical_before};

@@ -1,29 +1,8 @@
 //! A span of a file: 64 blocks that follow one another, some of them filled.
 
-ghost use Rattle.std.specs.Prelude.{
-  ◌≡◌,
-  ◌+◌,
-  ◌*◌,
-  ◌/◌,
-  ◌%◌,
-  ◌≤◌,
-  ◌<◌,
-  ◌^◌,
-  ◌++◌,
-  ℕ,
-  length,
-  map,
-  false,
-  [],
-  ◌-◌,
-  IsTrue,
-  is_some,
-  replicate,
-  None,
-  IfOk,
-  IfSome,
-  IfNone,
-};
+ghost use Rattle.std.specs.Prelude.{◌≡◌, ◌+◌, ◌*◌, ◌/◌, ◌%◌, ◌≤◌, ◌<◌, ◌^◌, ◌++◌, length, map};
+ghost use Rattle.std.specs.Prelude.{false, [], ◌-◌, IsTrue, is_some, replicate, None, IfOk, IfSome};
+ghost use Rattle.std.specs.Prelude.{IfNone};
 ghost use Rattle.std.specs.List.{range_with_len, list_all};
 ghost use Rattle.std.specs.Option.{option_map};
 ghost use Rattle.std.specs.Vec.{vec_len, vec_capacity};

@@ -1,36 +1,8 @@
 //! Spans of files, by fileids and numbers.
 
-ghost use Rattle.std.specs.Prelude.{
-  ◌≡◌,
-  ◌+◌,
-  ◌*◌,
-  ◌^◌,
-  ◌/◌,
-  ◌%◌,
-  ◌<◌,
-  ◌≤◌,
-  ◌++◌,
-  ◌∷◌,
-  [],
-  ℕ,
-  length,
-  map,
-  true,
-  false,
-  Some,
-  None,
-  IsTrue,
-  IsSome,
-  IfSome,
-  IfNone,
-  OnOk,
-  OnErr,
-};
-ghost use Rattle.std.specs.FinMap.{empty};
-ghost use Rattle.std.specs.List.{range_with_len, list_all};
-ghost use Rattle.std.specs.Vec.{vec_len, vec_capacity};
+ghost use Rattle.std.specs.Prelude.{◌≡◌, ◌+◌, ◌*◌, ◌^◌, ◌/◌, ◌%◌, ◌<◌, ◌≤◌, ℕ, length, true, false};
+ghost use Rattle.std.specs.Prelude.{Some, None, IsTrue, IsSome, IfSome, IfNone, OnOk, OnErr};
 ghost use Rattle.nfs_model.specs.Home.{span_bytes};
-ghost use Rattle.nfs_model.specs.Serial.Write.{blocks_met};
 ghost use Rattle.nfs_model.specs.volume.Stripes.{span_blocks};
 ghost use Rattle.stripes.specs.Spans.{
   span_at,

@@ -1,23 +1,7 @@
 //! A stripe.
 
-ghost use Rattle.std.specs.Prelude.{
-  ◌≡◌,
-  ◌+◌,
-  ◌%◌,
-  ◌<◌,
-  ◌≤◌,
-  ◌++◌,
-  ◌∷◌,
-  [],
-  length,
-  true,
-  false,
-  IsTrue,
-  IsOk,
-  IsSome,
-  OnOk,
-  OnErr,
-};
+ghost use Rattle.std.specs.Prelude.{◌≡◌, ◌+◌, ◌%◌, ◌<◌, ◌≤◌, ◌++◌, [], length, true, false, IsTrue};
+ghost use Rattle.std.specs.Prelude.{IsOk, IsSome, OnOk, OnErr};
 ghost use Rattle.std.specs.FinMap.{get};
 ghost use Rattle.std.specs.Option.{option_map};
 ghost use Rattle.std.specs.Vec.{vec_len, vec_capacity};

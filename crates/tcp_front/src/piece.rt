@@ -1,7 +1,7 @@
 //! Bytes that are written whole.
 
-ghost use Rattle.std.specs.Prelude.{◌≡◌, ◌<◌, length};
-ghost use Rattle.tcp_front.specs.Counts.{may_fail, device_of};
+ghost use Rattle.std.specs.Prelude.{◌<◌};
+ghost use Rattle.tcp_front.specs.Counts.{may_fail};
 ghost use Rattle.tcp_front.specs.Writing.{IsWritten};
 
 use crate::counted::Counted;

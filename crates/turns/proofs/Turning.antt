@@ -42,14 +42,6 @@ placed-by layout v m known fits = by v.key known fits
     by None e f = absurd f
     by (Some key) e f = subst (λ (x : trees.Layout). IsPlaced x m) (let same : layout_of key ≡ layout = cc in same) f
 
--- and the other way round
-pub fits-by : (layout : trees.Layout) (v : Passed) (m : Message) → layout_known v ≡ Some layout → IsPlaced layout m → FitsIn Fits v.key m
-fits-by layout v m known placed = by v.key known
-  where
-    by : (key : Option Layout) → option_map layout_of key ≡ Some layout → FitsIn Fits key m
-    by None e = let no : ⊥ = cc in absurd no
-    by (Some key) e = subst (λ (x : trees.Layout). IsPlaced x m) (let same : layout ≡ layout_of key = cc in same) placed
-
 -- ---- the balance
 
 weighs-again : (h : Weight) (v w : Passed) (kept : Option Message) (m : Message) → WaitsAgain v w kept m

@@ -87,11 +87,6 @@ abbrev pub blocks_moved : Tended → ℕ
 blocks_moved (tendeds.InHand count) = count
 blocks_moved (tendeds.PutDown count) = count
 
--- what a tend did by the count that it answers: this many blocks are in the hand, or were put down
-abbrev pub TendsTo : Layout → Worker → Tend → Result ℕ TendRefusal → Worker → Type 0
-TendsTo layout before tend (Ok count) after = (tended : Tended) × Tends layout before tend (Ok tended) after × (count ≡ blocks_moved tended)
-TendsTo layout before tend (Err refusal) after = Tends layout before tend (Err refusal) after
-
 abbrev pub tend_refusal_number : TendRefusal → ℕ
 tend_refusal_number (Busy at word) = 21
 tend_refusal_number Worn = 22

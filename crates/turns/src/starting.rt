@@ -1,4 +1,4 @@
-//! The first worker of a filer or of a queue.
+//! The first worker of a queue.
 
 use crate::worker::Worker;
 use affinity::Layout;
@@ -15,7 +15,7 @@ impl Worker {
     ghost use Rattle.granted_calls.specs.Filers.{layout_in, layout_known};
     ghost use Rattle.turns.specs.Words.{passed, seat_view, seats_in};
     ghost use Rattle.granted_calls.specs.Filers.{verifier_in, HasDoneNothing, IsReady};
-    ghost use Rattle.turns.specs.Words.{IsAt, IsIn};
+    ghost use Rattle.turns.specs.Words.{IsAt};
 
     /// A worker with a filer's first seat, as `Filer::new` answers it, and a pass of a queue of the
     /// filer's layout. It has done nothing, carries nothing and keeps nothing.
@@ -38,23 +38,5 @@ impl Worker {
         ensures kept { result.kept ≡ None }
     {
         Worker::new(seat, pass)
-    }
-
-    /// A worker with a filer's first seat and pass, as `Filer::new` answers them. It has done
-    /// nothing, carries nothing and keeps nothing.
-    pub fn first(filer: &Filer, seat: Seat<Service>, pass: Pass<Envelope, Layout>) -> Worker
-        requires seat { IsSeatHere filer.now.depot seat }
-        requires ready { IsReady (layout_in filer.now) (verifier_in filer.now) (view seat) }
-        requires pass { IsOf filer.now.waiting pass }
-        requires layout { layout_known (known pass) ≡ Some (layout_in filer.now) }
-        requires nothing { HasDoneNothing (view seat) (known pass) }
-        ensures inside { IsIn filer.now result }
-        ensures seat { seat_view result ≡ view seat }
-        ensures seats { seats_in result ≡ splits_left seat + 1 }
-        ensures pass { passed result ≡ known pass }
-        ensures hand { result.hand ≡ parts.Empty }
-        ensures kept { result.kept ≡ None }
-    {
-        Worker::start(filer, &filer.waiting, seat, pass)
     }
 }

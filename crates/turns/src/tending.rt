@@ -145,9 +145,9 @@ fn is_cull(made: u64, volume: u32, stocked: Option<u32>) -> bool
 impl Worker {
     ghost use Rattle.std.specs.Option.{is_some};
     ghost use Rattle.turns.specs.Tends.{hand_in, kept_in, stocked_in};
-    ghost use Rattle.turns.specs.Tends.{IsNextTend, Tends, TendsTo};
+    ghost use Rattle.turns.specs.Tends.{IsNextTend, Tends};
     ghost use Rattle.granted_calls.specs.Filers.{layout_in};
-    ghost use Rattle.turns.specs.Words.{passed, seats_in, IsAt, IsIn};
+    ghost use Rattle.turns.specs.Words.{passed, seats_in, IsAt};
 
     /// What is in the worker's hand.
     pub fn hand(&self) -> &BatchInHand
@@ -219,23 +219,6 @@ impl Worker {
                 self.hand = hand;
                 Err(refusal)
             }
-        }
-    }
-
-    /// A tend of a worker of the filer's own queue. Answers how many blocks are in the hand then,
-    /// or were put down.
-    pub fn tend_turn(self, filer: &Filer, tend: Tend) -> (Worker, Result<u32, TendRefusal>)
-        requires { IsIn filer.now self }
-        ensures inside { IsIn filer.now result.0 }
-        ensures tends { TendsTo (layout_in filer.now) self tend result.1 result.0 }
-        ensures pass { passed result.0 ≡ passed self }
-        ensures kept { kept_in result.0 ≡ kept_in self }
-        ensures seats { seats_in result.0 ≡ seats_in self }
-    {
-        let mut worker = self;
-        match worker.tend_in(filer, &filer.waiting, tend) {
-            Ok(tended) => (worker, Ok(tended.count())),
-            Err(refusal) => (worker, Err(refusal)),
         }
     }
 }

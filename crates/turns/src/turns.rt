@@ -21,7 +21,8 @@ impl Worker {
     ghost use Rattle.granted_calls.specs.declared.chained.Chained.TheVariants.{Idle};
     ghost use Rattle.granted_calls.specs.shared_waiting.Balance.{both, Leaves};
     ghost use Rattle.granted_calls.specs.shared_waiting.Passes.{known, IsOf};
-    ghost use Rattle.granted_calls.specs.Chains.{turns_at_most, HasDoneFew, HasTriedAll, HasTurnedOn};
+    ghost use Rattle.granted_calls.specs.Chains.{turns_at_most, HasDoneFew};
+    ghost use Rattle.granted_calls.specs.Chains.{HasTriedAll, HasTurnedOn};
     ghost use Rattle.granted_calls.specs.Telling.{TookTold};
     ghost use Rattle.turns.specs.Tends.{stocked_in};
     ghost use Rattle.granted_calls.specs.Served.{HasShareOf};

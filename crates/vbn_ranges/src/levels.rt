@@ -1,30 +1,8 @@
 //! Sets of numbers as the bits of many words, with summaries above them.
 
-ghost use Rattle.std.specs.Prelude.{
-  ◌≡◌,
-  ◌==◌,
-  ◌||◌,
-  ◌+◌,
-  ◌-◌,
-  ◌*◌,
-  ◌/◌,
-  ◌^◌,
-  ◌<◌,
-  ◌≤◌,
-  ℕ,
-  true,
-  false,
-  not,
-  take,
-  drop,
-  min,
-  length,
-  replicate,
-  slice_index,
-  slice_set,
-  if◌then◌else◌,
-  IfOk,
-};
+ghost use Rattle.std.specs.Prelude.{◌≡◌, ◌==◌, ◌||◌, ◌+◌, ◌-◌, ◌*◌, ◌/◌, ◌^◌, ◌<◌, ◌≤◌, ℕ, true};
+ghost use Rattle.std.specs.Prelude.{false, take, drop, min, length, replicate, slice_index};
+ghost use Rattle.std.specs.Prelude.{slice_set, if◌then◌else◌, IfOk};
 ghost use Rattle.nfs_model.specs.Parts.{most_carried};
 ghost use Rattle.vbn_ranges.specs.Summary.{IsSummary};
 ghost use Rattle.vbn_ranges.specs.Words.{members, has_bit};

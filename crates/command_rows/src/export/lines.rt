@@ -2,7 +2,7 @@
 
 use crate::looking::holds;
 use filer_commands::{Command, ProgramFault, command};
-use server::{Options, Peers, WhenFull};
+use server_options::{Options, Peers, WhenFull};
 use std::process::Abort;
 
 /// The options of a command line of `filer export`.

@@ -1,7 +1,7 @@
 //! Networks and peers (RFC 4632 section 3.1). `trials/command_lines` has texts that are no network.
 
 use crate::looking::holds;
-use server::{Network, Peers};
+use server_options::{Network, Peers};
 use std::net::IpAddr;
 use std::process::Abort;
 

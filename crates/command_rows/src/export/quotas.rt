@@ -2,7 +2,7 @@
 
 use crate::looking::holds;
 use clerk::Quota;
-use server::IdleTime;
+use server_options::IdleTime;
 use std::process::Abort;
 
 /// Looks how many are told of at a time.

@@ -3,7 +3,7 @@
 use super::lines::options_of;
 use crate::looking::holds;
 use filer_commands::{Command, Machine, command_told};
-use server::VolumePlan;
+use server_options::VolumePlan;
 use std::io;
 use std::process::Abort;
 

@@ -2,7 +2,7 @@
 
 use crate::looking::{holds, joined, put, same};
 use crate::scripts::texts::LAYOUT;
-use filer_commands::replay::replay;
+use scripts::replay;
 use std::io;
 use std::io::{Read, Write};
 use std::process::Abort;

@@ -3,8 +3,8 @@
 use crate::looking::{holds, same};
 use crate::scripts::texts::{NULL, NULL_REPLY, NULL_UNAVAILABLE};
 use affinity::{AggregateSpec, Layout, VolumeSpec};
-use filer_commands::replay::{ConnectionNumber, Engine, Event, Worker, WorkerNumber, WorkerRun};
-use nfs_values::Procedure;
+use engine::{Engine, Event, Worker, WorkerRun};
+use nfs_values::{ConnectionNumber, Procedure, WorkerNumber};
 use rpc_msg::Offer;
 use std::process::Abort;
 

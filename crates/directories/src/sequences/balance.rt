@@ -1,6 +1,6 @@
 //! Trees balanced anew.
 
-ghost use Rattle.std.specs.Prelude.{◌≡◌, ◌+◌, ◌<◌, ◌≤◌, ◌^◌, length};
+ghost use Rattle.std.specs.Prelude.{◌≡◌, ◌+◌, ◌<◌, ◌^◌, length};
 ghost use Rattle.directories.specs.sequences.Values.{DifferByAtMost, IsHeightOver, MayRise};
 ghost use Rattle.directories.specs.sequences.Opened.{chunk_of, all_of};
 

@@ -14,7 +14,7 @@ ghost use Rattle.std.specs.Prelude.{
   Some,
 };
 ghost use Rattle.std.specs.List.{slice_get, insert, remove};
-ghost use Rattle.directories.specs.sequences.Values.{DifferByAtMost, IsHeightOver, MayRise};
+ghost use Rattle.directories.specs.sequences.Values.{DifferByAtMost, MayRise};
 ghost use Rattle.directories.specs.sequences.Opened.{IsFirst};
 
 use crate::sequences::chunk::{put, split};

@@ -1,6 +1,6 @@
 //! Memory that is taken before a change.
 
-ghost use Rattle.std.specs.Prelude.{◌≡◌, ◌<◌, [], length};
+ghost use Rattle.std.specs.Prelude.{◌≡◌, ◌<◌, []};
 ghost use Rattle.std.specs.Vec.{vec_capacity};
 
 use crate::sequences::tree::Node;

@@ -1,6 +1,5 @@
 //! Counts taken anew, of the volumes that a worker holds.
 
-ghost use Rattle.std.specs.Prelude.{◌≡◌};
 
 use crate::counts::counting::{recount_aggregate, recount_all, recount_logical, recount_volume};
 use crate::counts::counts::VolumeCounts;

@@ -1,6 +1,6 @@
 //! Calls of who has two passes of a queue. For the call the first has what both have.
 
-ghost use Rattle.std.specs.Prelude.{◌≡◌, ◌<◌, ◌≤◌, [], MatchOption, MatchResult};
+ghost use Rattle.std.specs.Prelude.{◌≡◌, ◌<◌, ◌≤◌, MatchOption, MatchResult};
 ghost use Rattle.crossbeam_queue.specs.Fifo.{Held};
 ghost use Rattle.crossbeam_queue.specs.Passes.{view, ruled_capacity, IsPassOf};
 ghost use Rattle.granted_calls.specs.shared_waiting.Balance.{added, taken, both, spent, grown};

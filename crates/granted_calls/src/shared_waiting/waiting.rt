@@ -2,9 +2,8 @@
 
 ghost use Rattle.std.specs.Prelude.{◌≡◌, ◌≤◌, List, Some, IfOk, MatchResult, MatchOption};
 ghost use Rattle.crossbeam_queue.specs.Fifo.{Held};
-ghost use Rattle.granted_calls.specs.shared_waiting.Balance.{added, taken, opening, keyed, left, right};
-ghost use Rattle.granted_calls.specs.shared_waiting.Balance.{both};
-ghost use Rattle.granted_calls.specs.shared_waiting.Balance.{Leaves, FitsIn};
+ghost use Rattle.granted_calls.specs.shared_waiting.Balance.{added, both, keyed, left, opening};
+ghost use Rattle.granted_calls.specs.shared_waiting.Balance.{right, taken, FitsIn, Leaves};
 ghost use Rattle.granted_calls.specs.shared_waiting.Passes.{known, IsOf};
 
 use crate::shared_waiting::beside::{admit_by, count_by, pick_by};

@@ -18,14 +18,12 @@ use std::sync::Arc;
 use turns::Worker;
 
 impl<D: Device, R> Lane<D, R> {
-    ghost use Rattle.std.specs.Prelude.{◌≡◌, ◌<◌, ◌≤◌, [], None, Some, IfOk, MatchResult};
+    ghost use Rattle.std.specs.Prelude.{◌≡◌, ◌<◌, ◌≤◌, [], Some};
     ghost use Rattle.std.specs.Arc.{arc_value};
     ghost use Rattle.outboxes.specs.Boxes.{AreOfLane};
-    ghost use Rattle.slab.specs.Slab.{get};
     ghost use Rattle.granted_calls.specs.shared_waiting.Passes.{known, IsOf};
     ghost use Rattle.granted_calls.specs.Filers.{layout_in, layout_known};
     ghost use Rattle.turns.specs.Words.{entries_in, IsAt};
-    ghost use Rattle.connections.specs.Connections.{now_of};
     ghost use Rattle.connections.specs.Keyed.{Opens};
     ghost use Rattle.lanes.specs.Queues.{HasBoth};
     ghost use Rattle.lanes.specs.Words.{boxes_in, connections_in, filer_in, identity_in, pass_in};

@@ -1,7 +1,7 @@
 use Rattle.std.proofs.Common.{◌≡◌, ◌∙◌, length, ap, arith}
 use Rattle.depot_rule.specs.Sums.{total}
 use Rattle.lanes.specs.Words.{Identity}
-use Rattle.server.specs.Lanes.{by_identity, places, seats_of, IsLaneOf}
+use Rattle.filer_lanes.specs.Lanes.{by_identity, places, seats_of, IsLaneOf}
 use Rattle.tends.proofs.Lists.{all-popped, all-pushed, none-left, total-last, total-none}
 use Rattle.lane_rows.proofs.closing.serve_each.Goals as goal
 

@@ -1,7 +1,7 @@
 use Rattle.std.proofs.Common.{◌≡◌, ◌≤◌, ◌+◌, ℕ, All, vec_len, vec_capacity}
 use Rattle.depot_rule.specs.Sums.{total}
 use Rattle.lanes.specs.Words.{Identity}
-use Rattle.server.specs.Lanes.{by_identity, seats_of, IsLaneOf}
+use Rattle.filer_lanes.specs.Lanes.{by_identity, seats_of, IsLaneOf}
 use Rattle.granted_calls.specs.declared.shared.Filer.{Filer}
 use Rattle.lane_rows.proofs.closing.serve_each.Given as goal
 

@@ -1,7 +1,7 @@
 use Rattle.std.proofs.Common.{refl}
 use Rattle.granted_calls.specs.Filers.{layout_in}
 use Rattle.granted_calls.specs.shared_waiting.Passes.{known}
-use Rattle.pool_rows.proofs.Wholes.{fits-by}
+use Rattle.granted_calls.specs.lemmas.Fitting.{fits-by}
 use Rattle.pool_rows.proofs.putting.put.Goals as goal
 
 pub loop-init : goal.loop-init

@@ -1,6 +1,6 @@
 use Rattle.std.proofs.Common.{◌∙◌, ap, arith}
 use Rattle.depot_rule.specs.Sums.{total}
-use Rattle.server.specs.Lanes.{by_identity, seats_of, IsLaneOf}
+use Rattle.filer_lanes.specs.Lanes.{by_identity, seats_of, IsLaneOf}
 use Rattle.server.specs.Threads.{identity_with, seats_with, ServesFor}
 use Rattle.tends.proofs.Lists.{none-left}
 use Rattle.tends.proofs.Handed.{handed, all-pushed, all-popped}

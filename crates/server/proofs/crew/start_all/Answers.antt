@@ -1,7 +1,7 @@
 use Rattle.std.proofs.Common.{◌∙◌, ap, arith}
 use Rattle.depot_rule.specs.Sums.{total}
 use Rattle.lanes.specs.Words.{filer_in}
-use Rattle.server.specs.Lanes.{by_identity, seats_of}
+use Rattle.filer_lanes.specs.Lanes.{by_identity, seats_of}
 use Rattle.server.specs.Threads.{identity_for, identity_with, seats_for, seats_with, IsTaskFor, ServesFor}
 use Rattle.tends.proofs.Lists.{none-left}
 use Rattle.tends.proofs.Handed.{handed, all-pushed, all-popped}

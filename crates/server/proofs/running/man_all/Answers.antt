@@ -1,6 +1,6 @@
 use Rattle.std.proofs.Common.{ap, ◌∙◌, refl, arith}
 use Rattle.depot_rule.specs.Sums.{total}
-use Rattle.server.specs.Lanes.{by_identity, seats_of, IsLaneOf}
+use Rattle.filer_lanes.specs.Lanes.{by_identity, seats_of, IsLaneOf}
 use Rattle.server.specs.Threads.{identity_for, seats_for, IsTaskFor}
 use Rattle.tends.proofs.Handed.{handed, all-pushed, all-popped}
 use Rattle.tends.proofs.Lists.{none-left}

@@ -2,7 +2,7 @@ use Rattle.std.proofs.Common.{◌≡◌, ◌≤◌, ◌+◌, ℕ, All, vec_len, 
 use Rattle.depot_rule.specs.Sums.{total}
 use Rattle.granted_calls.specs.declared.shared.Filer.{Filer}
 use Rattle.lanes.specs.Words.{Identity}
-use Rattle.server.specs.Lanes.{by_identity, seats_of, IsLaneOf}
+use Rattle.filer_lanes.specs.Lanes.{by_identity, seats_of, IsLaneOf}
 use Rattle.server.specs.Threads.{identity_for, seats_for, IsTaskFor}
 use Rattle.server.proofs.running.man_all.Given as goal
 

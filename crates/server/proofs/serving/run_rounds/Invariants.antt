@@ -1,6 +1,6 @@
 use Rattle.std.proofs.Common.{◌≡◌}
 use Rattle.lanes.specs.Words.{filer_in, identity_in}
-use Rattle.server.specs.Lanes.{seats_of}
+use Rattle.filer_lanes.specs.Lanes.{seats_of}
 use Rattle.server.proofs.serving.run_rounds.Given as goal
 
 abbrev pub invariant-loop : goal.invariant-loop

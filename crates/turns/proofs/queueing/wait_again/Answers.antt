@@ -1,5 +1,5 @@
 use Rattle.granted_calls.specs.shared_waiting.Passes.{known}
-use Rattle.turns.proofs.Turning.{fits-by}
+use Rattle.granted_calls.specs.lemmas.Fitting.{fits-by}
 use Rattle.turns.proofs.queueing.wait_again.Goals as goal
 
 pub admit-requires-clause-fits : goal.admit-requires-clause-fits

@@ -5,7 +5,8 @@ use Rattle.granted_calls.specs.Messages.{Fits, Message}
 use Rattle.granted_calls.specs.shared_waiting.Passes.{known}
 use Rattle.granted_calls.specs.Filers.{layout_in}
 use Rattle.lanes.proofs.Counted.{not-full}
-use Rattle.lanes.proofs.Fitting.{fits-by, placed}
+use Rattle.granted_calls.specs.lemmas.Fitting.{fits-by}
+use Rattle.lanes.proofs.Fitting.{placed}
 use Rattle.lanes.proofs.intake.IntakeRecordSink.admit.Goals as goal
 
 pub put_last-requires-clause-key : goal.put_last-requires-clause-key

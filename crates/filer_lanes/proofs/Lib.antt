@@ -1,0 +1,2 @@
+mod Remaining
+mod Ended

@@ -1,0 +1,5 @@
+pub mod Lanes
+pub mod Queues
+pub mod Remains
+pub mod Rooms
+pub mod Ends

@@ -1,0 +1,3 @@
+pub mod Networks
+pub mod Peers
+pub mod Asked

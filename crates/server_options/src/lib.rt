@@ -1,0 +1,18 @@
+//! What a server is asked to do: where it listens, whom it serves, and what its volumes have.
+#![tactic(auto)]
+
+mod admission;
+mod idle;
+mod network;
+mod options;
+mod peers;
+mod plan;
+
+pub use admission::{Admission, WhenFull};
+pub use clerk::{MOST_MINUTES, Period};
+pub use idle::{IdleTime, MOST_IDLE_SECONDS};
+pub use network::Network;
+pub use options::Options;
+pub use peers::{MOST_NETWORKS, Peers};
+pub use plan::{LEAST_VOLUME, MOST_BYTES, VolumePlan};
+pub use tends::MOST_WORKERS;

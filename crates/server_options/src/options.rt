@@ -1,0 +1,147 @@
+//! What a server is asked to do.
+
+ghost use Rattle.std.specs.Prelude.{◌≤◌, ◌<◌};
+
+use crate::admission::{Admission, MOST_OPEN, WhenFull};
+use crate::idle::IdleTime;
+use crate::peers::Peers;
+use crate::plan::VolumePlan;
+use affinity::MOST_VOLUMES;
+use clerk::Period;
+use rpc_msg::Offer;
+use std::net::SocketAddr;
+use tends::MOST_WORKERS;
+
+/// Where a server listens, how many volumes (1 to 8) and workers (1 to 64) it has, after how many
+/// connections it ends, if after any, how many may be open, what it offers and to whom, what its
+/// volumes have at the start, after how long a connection is idle, if ever, whether each connection
+/// is told of, and how often statistics are, if they are.
+#[derive(Clone, Copy)]
+pub struct Options {
+    pub address: SocketAddr,
+    pub volumes: usize,
+    pub workers: usize,
+    pub connections: Option<u64>,
+    pub admission: Admission,
+    pub offer: Offer,
+    pub peers: Peers,
+    pub plan: VolumePlan,
+    pub idle: Option<IdleTime>,
+    pub log: bool,
+    pub statistics: Option<Period>,
+    pub ghost some_volume: { 0 < volumes },
+    pub ghost volumes_fit: { volumes ≤ 8 },
+    pub ghost some_worker: { 0 < workers },
+    pub ghost workers_fit: { workers ≤ 64 },
+}
+
+impl Options {
+    ghost use Rattle.std.specs.Prelude.{◌≡◌, IfNone, IfSome, None, false};
+    ghost use Rattle.rpc_msg.specs.Offer.{basic};
+    ghost use Rattle.server_options.specs.Asked.{IsBasic, IsInRange, IsUsual};
+    ghost use Rattle.server_options.specs.declared.peers.Peers.TheVariants.{All};
+
+    /// These options, where the numbers are in their ranges, and else none. The offer and the plan
+    /// are the basic ones, everybody is served, at most 64 connections are open, for which others
+    /// wait, none is ever idle, none is told of, and no statistics are.
+    pub fn new(
+        address: SocketAddr,
+        volumes: usize,
+        workers: usize,
+        connections: Option<u64>,
+    ) -> Option<Options>
+        ensures given { IfSome result (λ options. options.address ≡ address
+            × options.volumes ≡ volumes × options.workers ≡ workers
+            × options.connections ≡ connections × IsUsual options.admission
+            × options.offer ≡ basic × IsBasic options.plan × options.peers ≡ All
+            × options.idle ≡ None × options.log ≡ false × options.statistics ≡ None) }
+        ensures in_range { IfSome result (λ options. IsInRange volumes workers) }
+        ensures refused { IfNone result (IsInRange volumes workers → ⊥) }
+    {
+        if volumes == 0 || volumes > MOST_VOLUMES {
+            return None;
+        }
+        if workers == 0 || workers > MOST_WORKERS {
+            return None;
+        }
+        Some(Options {
+            address,
+            volumes,
+            workers,
+            connections,
+            admission: Admission {
+                most_open: MOST_OPEN,
+                when_full: WhenFull::Waits,
+            },
+            offer: Offer::basic(),
+            peers: Peers::All,
+            plan: VolumePlan::basic(),
+            idle: None,
+            log: false,
+            statistics: None,
+        })
+    }
+
+    /// The same options with another offer.
+    pub fn with_offer(self, offer: Offer) -> Options
+        ensures { result ≡ record self { offer = offer } }
+    {
+        let mut options = self;
+        options.offer = offer;
+        options
+    }
+
+    /// The same options, with connections let in otherwise.
+    pub fn with_admission(self, admission: Admission) -> Options
+        ensures { result ≡ record self { admission = admission } }
+    {
+        let mut options = self;
+        options.admission = admission;
+        options
+    }
+
+    /// The same options, to serve these peers alone.
+    pub fn with_peers(self, peers: Peers) -> Options
+        ensures { result ≡ record self { peers = peers } }
+    {
+        let mut options = self;
+        options.peers = peers;
+        options
+    }
+
+    /// The same options, with volumes of another plan.
+    pub fn with_plan(self, plan: VolumePlan) -> Options
+        ensures { result ≡ record self { plan = plan } }
+    {
+        let mut options = self;
+        options.plan = plan;
+        options
+    }
+
+    /// The same options, with connections that are idle after so long.
+    pub fn with_idle(self, idle: IdleTime) -> Options
+        ensures { result ≡ record self { idle = Some idle } }
+    {
+        let mut options = self;
+        options.idle = Some(idle);
+        options
+    }
+
+    /// The same options, where each connection is told of or not.
+    pub fn with_log(self, log: bool) -> Options
+        ensures { result ≡ record self { log = log } }
+    {
+        let mut options = self;
+        options.log = log;
+        options
+    }
+
+    /// The same options, with statistics that are told so often.
+    pub fn with_statistics(self, period: Period) -> Options
+        ensures { result ≡ record self { statistics = Some period } }
+    {
+        let mut options = self;
+        options.statistics = Some(period);
+        options
+    }
+}

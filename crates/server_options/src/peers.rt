@@ -1,0 +1,78 @@
+//! Whose connections are served.
+
+ghost use Rattle.std.specs.Prelude.{◌↔◌, Any, IsTrue};
+ghost use Rattle.server_options.specs.Peers.{IsNamed, Serves};
+
+use crate::network::Network;
+use std::fmt;
+use std::net::IpAddr;
+
+/// The most networks that may be named.
+pub const MOST_NETWORKS: usize = 16;
+
+/// Whose connections are served.
+#[derive(Clone, Copy)]
+pub enum Peers {
+    /// Everybody's.
+    All,
+    /// Those from the own machine.
+    Loopback,
+    /// Those from these networks.
+    Networks([Option<Network>; MOST_NETWORKS]),
+}
+
+/// Whether an address is in a network, if that was named.
+fn is_named(network: &Option<Network>, address: &IpAddr) -> bool
+    ensures { IsTrue result ↔ IsNamed address.now network.now }
+{
+    match network {
+        Some(network) => network.has(address),
+        None => false,
+    }
+}
+
+/// Whether an address is in a network that was named.
+fn is_in_some(networks: &[Option<Network>], address: &IpAddr) -> bool
+    ensures { IsTrue result ↔ Any (IsNamed address.now) networks.now }
+{
+    networks.iter().any(|network| is_named(network, address))
+}
+
+impl Peers {
+    /// Whether connections from an address are served.
+    pub fn has(&self, address: &IpAddr) -> bool
+        ensures { IsTrue result ↔ Serves self.now address.now }
+    {
+        match self {
+            Peers::All => true,
+            Peers::Loopback => address.is_loopback(),
+            Peers::Networks(networks) => is_in_some(networks, address),
+        }
+    }
+}
+
+/// Tells networks, each after a comma but the first.
+fn write_networks<W: fmt::Write>(
+    f: &mut fmt::Formatter<W>,
+    networks: &[Option<Network>],
+) -> fmt::Result {
+    let mut is_first = true;
+    for network in networks.iter().flatten() {
+        if !is_first {
+            f.write_str(", ")?;
+        }
+        is_first = false;
+        write!(f, "{network}")?;
+    }
+    Ok(())
+}
+
+impl fmt::Display for Peers {
+    fn fmt<W: fmt::Write>(&self, f: &mut fmt::Formatter<W>) -> fmt::Result {
+        match self {
+            Peers::All => f.write_str("everybody"),
+            Peers::Loopback => f.write_str("this machine alone"),
+            Peers::Networks(networks) => write_networks(f, networks),
+        }
+    }
+}
