@@ -1,6 +1,5 @@
 //! Counts taken anew, of the volumes that a worker holds.
 
-
 use crate::counts::counting::{recount_aggregate, recount_all, recount_logical, recount_volume};
 use crate::counts::counts::VolumeCounts;
 use crate::counts::nodes::{aggregate_of, volume_around, volume_of_logical};
