@@ -7,4 +7,4 @@ mod export;
 #[cfg(test)]
 mod looking;
 #[cfg(test)]
-mod scripts;
+mod replaying;

@@ -1,7 +1,7 @@
 //! Readers and writers that fail.
 
 use crate::looking::{holds, joined, put, same};
-use crate::scripts::texts::LAYOUT;
+use crate::replaying::texts::LAYOUT;
 use scripts::replay;
 use std::io;
 use std::io::{Read, Write};

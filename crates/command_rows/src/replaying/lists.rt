@@ -1,7 +1,7 @@
 //! Lists of events, given to an engine.
 
 use crate::looking::{holds, same};
-use crate::scripts::texts::{NULL, NULL_REPLY, NULL_UNAVAILABLE};
+use crate::replaying::texts::{NULL, NULL_REPLY, NULL_UNAVAILABLE};
 use affinity::{AggregateSpec, Layout, VolumeSpec};
 use engine::{Engine, Event, Worker, WorkerRun};
 use nfs_values::{ConnectionNumber, Procedure, WorkerNumber};
