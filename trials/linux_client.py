@@ -19,7 +19,7 @@ PROGRAMS, PACKAGES = (EMULATOR, "cpio", "dpkg-deb"), ("qemu-system-x86", "cpio")
 GUEST_SECONDS = 600
 # What the guest's checks go by: the MiB of an image, the pieces that are written into it, the files of a tree, and how many seconds
 # a check may take. And those checks that are of any size.
-SMALL = {"image": 256, "pieces": 60, "files": 500, "limit": 120}
+SMALL = {"image": 256, "pieces": 60, "files": 500, "limit": 300}
 SIZED = ("mounts", "writes_an_image", "makes_many_files")
 SEED = 20261127
 LINE = re.compile(r"check (\w+) (passed|failed: .*)")
