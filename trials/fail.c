@@ -2,8 +2,9 @@
  * fail, be interrupted, say that it would wait, or move few bytes; or all calls from one on.
  *
  * The program is told so through a page of numbers that it shares with the driver: the file that FAIL_PAGE names. Its
- * connections are the sockets that it accepts. Where a call moves less than it could, the socket is put into its epoll once
- * more, which tells again that it is ready, as the system does once it is. No header is included, so that a compiler without
+ * connections are the sockets that it accepts. Where a call would wait, or a write moves less than it could, the socket is put
+ * into its epoll once more, which tells again that it is ready, as the system does once it is. Where a call is interrupted, or
+ * a read moves less than it could, nothing is told: the program has to make the call once more by itself. No header is included, so that a compiler without
  * the system's headers builds it. x86-64 Linux with glibc. */
 
 typedef unsigned long size_t;
@@ -93,15 +94,15 @@ static ssize_t move(int file, struct connection *its, word kind, void *bytes, si
     int changes = is_changed(file, its, kind);
     word error = changes ? page[ERROR] : 0;
     if (error) {
-        if (error == INTERRUPTED || error == WOULD_WAIT) tell_again(file, its);
-        else drain(file);
+        if (error == WOULD_WAIT) tell_again(file, its);
+        else if (error != INTERRUPTED) drain(file);
         *__errno_location() = (int)error;
         return -1;
     }
     if (changes && size > page[MOST]) size = page[MOST];
     ssize_t moved = syscall(kind == READS ? RECEIVE_FROM : SEND_TO, file, bytes, size, flags, 0, 0);
     if (moved > 0) its->moved[kind] += moved;
-    if (changes) tell_again(file, its);
+    if (changes && kind == WRITES) tell_again(file, its);
     return moved;
 }
 

@@ -38,7 +38,7 @@ MOST_INODES = 65536
 
 # What `export` tells people as it starts, and then of connections and calls.
 TOLD = re.compile(
-    rb"(exported: [^\n]+\n)*(may connect: [^\n]+\n)?(mount [^\n]+\n)?"
+    rb"(exported: [^\n]+\n)*(may connect: [^\n]+\n)?(mount [^\n]+\n)*"
     rb"((connection \d+ (opened|closed)|can't be served|can't be accepted|refused): [^\n]+\n"
     rb"|(out of memory for calls|lines that were left out): \d+\n|calls \d+[:;] [^\n]+\n)*"
 )

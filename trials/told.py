@@ -14,10 +14,10 @@ class Told(Server):
     """`filer export` with options; `reads` says whether its standard error is read at all from
     the start on."""
 
-    def __init__(self, filer, *options, reads=True):
+    def __init__(self, filer, *options, reads=True, environment=None):
         words = [filer, "export", "--listen", "127.0.0.1:0", "--workers", "2", *options]
         self.process = subprocess.Popen(
-            words, stdout=subprocess.PIPE, stderr=subprocess.PIPE, text=True
+            words, stdout=subprocess.PIPE, stderr=subprocess.PIPE, env=environment, text=True
         )
         try:
             self.address = self.listening()
@@ -29,7 +29,6 @@ class Told(Server):
         self.reader = threading.Thread(target=self.read, daemon=True)
         if reads:
             self.reader.start()
-            # what is exported is told before the address is
             self.line_that(lambda line: line.startswith("mount "), "how to mount it")
 
     def read(self):

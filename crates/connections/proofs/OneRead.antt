@@ -1,8 +1,8 @@
 -- One read of a connection, by its answer.
 use Rattle.std.proofs.Common.{◌≡◌, ◌<◌, ℕ, Bool, true, false, List, [], ◌++◌, length, take, Option, Some, None, refl, sym, ap, subst}
 use Rattle.std.proofs.Common.{append-nil, arith}
-use Rattle.std.proofs.KnownBytes.{Consumes-kept, Consumes-nil, Keeps-refl}
-use Rattle.std.specs.Io.KnownBytes.{Consumes, Keeps}
+use Rattle.std.proofs.KnownBytes.{Keeps-refl}
+use Rattle.std.specs.Io.KnownBytes.{Keeps}
 use Rattle.rpc_msg.specs.declared.offer.Offer.{Offer}
 use Rattle.nfs_model.specs.Tree.{Layout}
 use Rattle.tcp_front.specs.declared.stream.Stopped.{Stopped}
@@ -13,13 +13,15 @@ use Rattle.connections.specs.declared.reading.Came.{Came}
 use Rattle.connections.specs.declared.reading.Came.TheVariants as cames
 use Rattle.connections.specs.declared.told.Told.TheVariants as tolds
 use Rattle.connections.specs.declared.watched.Watched.{Watched}
+use Rattle.connections.specs.Incoming.{Incoming, Gives, GivesNone}
 use Rattle.connections.specs.Told.{HasCalled}
+use Rattle.connections.specs.lemmas.Incoming.{gives-kept, gives-none}
 use Rattle.connections.specs.Connections.{has_stopped, kept_of, now_of}
 use Rattle.connections.specs.Cutting.{HasCut}
 use Rattle.connections.specs.Reading.{Cuts, HasRead, HasSameWriting, IsTold}
 use Rattle.connections.proofs.Cut.{adds-nothing}
 
-module _ {D S : Type 0} (unread written : D → Option (List ℕ)) (came : S → List Arrival → S → Type 0) (room : S → Bool)
+module _ {D S : Type 0} (unread : D → Incoming) (written : D → Option (List ℕ)) (came : S → List Arrival → S → Type 0) (room : S → Bool)
     (layout : Layout) (offer : Offer) (old : Connection D) (sink : S) (size : ℕ) where
   cuts-stopped : (o : Option Stopped) (s : Stream) (kept : List ℕ) → has_stopped o → came sink [] sink
       → Cuts came room layout offer o s sink kept [] [] o s sink kept
@@ -32,7 +34,7 @@ module _ {D S : Type 0} (unread written : D → Option (List ℕ)) (came : S →
   read-stopped none h = record {
     read = [];
     heard = [];
-    taken = Consumes-nil (unread (now_of old));
+    taken = gives-none (unread (now_of old));
     apart = Keeps-refl (written (now_of old));
     given = none;
     cuts = cuts-stopped old.stopped old.stream old.kept h none;
@@ -64,7 +66,7 @@ module _ {D S : Type 0} (unread written : D → Option (List ℕ)) (came : S →
 
   -- nothing is cut, whatever the device told
   pub read-nothing : (new : Connection D) (result : Came) → old.stopped ≡ None → (0 < length (kept_of old) → room sink ≡ false)
-      → came sink [] sink → Consumes (unread (now_of old)) (unread (now_of new)) [] → Keeps (written (now_of old)) (written (now_of new))
+      → came sink [] sink → Gives (unread (now_of old)) (unread (now_of new)) [] → Keeps (written (now_of old)) (written (now_of new))
       → IsTold unread (room sink) size result old new
       → new.stream ≡ old.stream → new.kept ≡ old.kept → new.stopped ≡ old.stopped → HasSameWriting old new
       → HasRead unread written came room layout offer old sink size result new sink
@@ -92,7 +94,7 @@ module _ {D S : Type 0} (unread written : D → Option (List ℕ)) (came : S →
   -- what was read is cut, with what was kept
   read-cut : (new : Connection D) (sink' : S) (result : Came) (read : List ℕ) → old.stopped ≡ None
       → (h : HasCut came room layout offer old.stream sink (kept_of old ++ read) new.stopped new.stream sink' (kept_of new))
-      → Consumes (unread (now_of old)) (unread (now_of new)) read → Keeps (written (now_of old)) (written (now_of new))
+      → Gives (unread (now_of old)) (unread (now_of new)) read → Keeps (written (now_of old)) (written (now_of new))
       → IsTold unread (room sink) size result old new → HasSameWriting old new
       → HasRead unread written came room layout offer old sink size result new sink'
   read-cut new sink' result read none h taken apart told same = record {
@@ -113,15 +115,15 @@ module _ {D S : Type 0} (unread written : D → Option (List ℕ)) (came : S →
   read-kept new sink' none roomy some device h same =
       read-cut new sink' cames.Cut [] none
       (subst (λ (l : List ℕ). HasCut came room layout offer old.stream sink l new.stopped new.stream sink' (kept_of new)) (sym (append-nil old.kept)) h)
-      (subst (λ (x : D). Consumes (unread (now_of old)) (unread x) []) (ap (λ (x : Watched D). x.device) (sym device))
-      (Consumes-nil (unread (now_of old))))
+      (subst (λ (x : D). Gives (unread (now_of old)) (unread x) []) (ap (λ (x : Watched D). x.device) (sym device))
+      (gives-none (unread (now_of old))))
       (subst (λ (x : D). Keeps (written (now_of old)) (written x)) (ap (λ (x : Watched D). x.device) (sym device))
       (Keeps-refl (written (now_of old))))
       (none, roomy, some, device) same
 
   pub read-new : (new : Connection D) (sink' : S) (n : ℕ) (read : List ℕ) → old.stopped ≡ None → room sink ≡ true → old.kept ≡ [] → 0 < n
       → HasCut came room layout offer old.stream sink read new.stopped new.stream sink' (kept_of new)
-      → Consumes (unread (now_of old)) (unread (now_of new)) read → Keeps (written (now_of old)) (written (now_of new))
+      → Gives (unread (now_of old)) (unread (now_of new)) read → Keeps (written (now_of old)) (written (now_of new))
       → HasCalled old.device size (tolds.Moved n) new.device → HasSameWriting old new
       → HasRead unread written came room layout offer old sink size (cames.Read n) new sink'
   read-new new sink' n read none roomy empty some h taken apart called same =
@@ -129,11 +131,11 @@ module _ {D S : Type 0} (unread written : D → Option (List ℕ)) (came : S →
       (subst (λ (l : List ℕ). HasCut came room layout offer old.stream sink (l ++ read) new.stopped new.stream sink' (kept_of new)) (sym empty) h)
       taken apart ((none, empty), roomy, called, some) same
 
-pub took-none : (a b : Option (List ℕ)) → Keeps a b → Consumes a b []
-took-none a b k = Consumes-kept a a b [] (Consumes-nil a) k
+pub took-none : (a b : Incoming) → GivesNone a b → Gives a b []
+took-none a b k = gives-kept a a b [] (gives-none a) k
 
-pub took-zero : (a b : Option (List ℕ)) (n : ℕ) (block : List ℕ) → n ≡ 0 → Consumes a b (take n block) → Consumes a b []
-took-zero a b n block e h = subst (λ (k : ℕ). Consumes a b (take k block)) e h
+pub took-zero : (a b : Incoming) (n : ℕ) (block : List ℕ) → n ≡ 0 → Gives a b (take n block) → Gives a b []
+took-zero a b n block e h = subst (λ (k : ℕ). Gives a b (take k block)) e h
 
 -- none of some
 pub none-some : (xs : List ℕ) (b : Bool) → xs ≡ [] → 0 < length xs → b ≡ false

@@ -9,6 +9,7 @@ use Rattle.std.specs.Io.KnownBytes.{Appends, Keeps}
 use Rattle.outboxes.specs.Boxes.{Boxes, oldest, taken}
 use Rattle.outboxes.specs.Messages.{ReplyMessage, record_of}
 use Rattle.tcp_front.specs.Writing.{records_of}
+use Rattle.connections.specs.declared.due.Due.{Due}
 use Rattle.connections.specs.declared.told.Told.{Told}
 use Rattle.connections.specs.declared.told.Told.TheVariants as tolds
 use Rattle.connections.specs.declared.watched.Watched.{Watched}
@@ -16,9 +17,13 @@ use Rattle.connections.specs.declared.writing.Sent.{Sent}
 use Rattle.connections.specs.declared.writing.Sent.TheVariants as sents
 use Rattle.connections.specs.Told.{device_of, HasCalled, HasGiven, MovesAtMost}
 use Rattle.connections.specs.Rests.{list_of}
+use Rattle.connections.specs.Incoming.{Incoming, GivesNone}
 use Rattle.connections.specs.Taking.{Takes}
+use Rattle.connections.specs.Connections.{without_reply}
 use Rattle.connections.specs.Joining.{HasJoined}
+use Rattle.connections.specs.Owing.{Pays}
 use Rattle.connections.specs.Writing.{ComesTo, HasSent, HasWrittenParts, IsOutcome, Tells}
+use Rattle.connections.specs.lemmas.Owing.{pays-first, pays-more}
 use Rattle.connections.specs.lemmas.Taking.{takes-first, takes-more, takes-none, takes-out}
 use Rattle.connections.specs.lemmas.Writing.{record-some, records-append}
 
@@ -45,8 +50,8 @@ empty-is xs (y ∷ ys) others b is some e =
 
 -- ---- the device's answer
 
-module _ {D : Type 0} (unread written : D → Option (List ℕ)) (old new : Watched D) (waiting piece behind : List ℕ)
-    (is : waiting ≡ piece ++ behind) (apart : Keeps (unread (device_of old)) (unread (device_of new))) (some : 0 < length piece)
+module _ {D : Type 0} (unread : D → Incoming) (written : D → Option (List ℕ)) (old new : Watched D) (waiting piece behind : List ℕ)
+    (is : waiting ≡ piece ++ behind) (apart : GivesNone (unread (device_of old)) (unread (device_of new))) (some : 0 < length piece)
     (moved : ℕ) (rest' : List ℕ) (rest_is : rest' ≡ drop moved piece ++ behind) where
   -- some went out
   split-at : waiting ≡ take moved piece ++ rest'
@@ -135,9 +140,9 @@ module _ {D : Type 0} (unread written : D → Option (List ℕ)) (old new : Watc
 
 -- ---- what is taken, and written once
 
-module _ {D : Type 0} (unread written : D → Option (List ℕ)) (number : ℕ) (old new : Watched D) (boxes boxes' : Boxes)
-    (alone : Option ReplyMessage) (before buffer : List ℕ) (rest rest' : List ℕ)
-    (h : HasJoined number boxes before alone boxes' buffer) (blank : before ≡ []) (none : rest ≡ []) where
+module _ {D : Type 0} (unread : D → Incoming) (written : D → Option (List ℕ)) (number : ℕ) (old new : Watched D) (boxes boxes' : Boxes)
+    (owed owed' : Due) (alone : Option ReplyMessage) (before buffer : List ℕ) (rest rest' : List ℕ)
+    (h : HasJoined number boxes before owed alone boxes' buffer owed') (blank : before ≡ []) (none : rest ≡ []) where
   all-joined : rest ++ records_of (h.joined ++ list_of alone) ≡ buffer ++ records_of (list_of alone)
   all-joined =
       ap (λ (l : List ℕ). l ++ records_of (h.joined ++ list_of alone)) none ∙ records-append h.joined (list_of alone)
@@ -152,11 +157,12 @@ module _ {D : Type 0} (unread written : D → Option (List ℕ)) (number : ℕ) 
 
   pub parts : (result : Sent) (waiting : List ℕ) → waiting ≡ buffer ++ records_of (list_of alone)
       → HasSent unread written old waiting result new rest' → (result ≡ sents.All → ⊥)
-      → HasWrittenParts unread written number old rest boxes result new rest' boxes'
+      → HasWrittenParts unread written number old rest boxes owed result new rest' boxes' owed'
   parts result waiting w s n = record {
     taken = h.joined ++ list_of alone;
     sent = s.sent;
     takes = h.takes;
+    pays = h.pays;
     split = all-joined ∙ sym w ∙ s.split;
     went_out = s.went_out;
     apart = s.apart;
@@ -172,13 +178,14 @@ some-waits rest buffer m e =
     omega (arith, first, size, record_size)
 
 -- what waited already
-pub parts-rest : {D : Type 0} (unread written : D → Option (List ℕ)) (number : ℕ) (old new : Watched D) (boxes : Boxes)
-    (rest rest' : List ℕ) (result : Sent) → HasSent unread written old rest result new rest' → (result ≡ sents.All → ⊥)
-    → HasWrittenParts unread written number old rest boxes result new rest' boxes
-parts-rest unread written number old new boxes rest rest' result s n = record {
+pub parts-rest : {D : Type 0} (unread : D → Incoming) (written : D → Option (List ℕ)) (number : ℕ) (old new : Watched D) (boxes : Boxes)
+    (owed : Due) (rest rest' : List ℕ) (result : Sent) → HasSent unread written old rest result new rest' → (result ≡ sents.All → ⊥)
+    → HasWrittenParts unread written number old rest boxes owed result new rest' boxes owed
+parts-rest unread written number old new boxes owed rest rest' result s n = record {
   taken = [];
   sent = s.sent;
   takes = takes-none number boxes;
+  pays = refl;
   split = append-nil rest ∙ s.split;
   went_out = s.went_out;
   apart = s.apart;
@@ -193,8 +200,8 @@ parts-rest unread written number old new boxes rest rest' result s n = record {
 
 -- ---- records that are joined
 
-module _ (number : ℕ) (first last : Boxes) (before mid : List ℕ) (ms : List ReplyMessage) (so : Takes number ms first last)
-    (are : mid ≡ before ++ records_of ms) where
+module _ (number : ℕ) (first last : Boxes) (before mid : List ℕ) (owed due : Due) (ms : List ReplyMessage) (so : Takes number ms first last)
+    (paid : Pays ms owed due) (are : mid ≡ before ++ records_of ms) where
   pub joined-more : (m : ReplyMessage) (bytes new : List ℕ) → Some m ≡ oldest number last → bytes ≡ record_of m → new ≡ mid ++ bytes
       → Takes number (ms ++ m ∷ []) first (taken number last) × (new ≡ before ++ records_of (ms ++ m ∷ []))
   joined-more m bytes new e b n = (
@@ -204,18 +211,26 @@ module _ (number : ℕ) (first last : Boxes) (before mid : List ℕ) (ms : List 
         ∙ ap (λ (l : List ℕ). before ++ l) (sym (records-append ms (m ∷ []))),
   )
 
-  pub joined-alone : (m : ReplyMessage) → Some m ≡ oldest number last → HasJoined number first before (Some m) (taken number last) mid
-  joined-alone m e = record {
+  -- the room of a record is paid with it
+  pub paid-more : (m : ReplyMessage) (room : ℕ) (due' : Due) → length (record_of m) ≤ room → due' ≡ without_reply room due
+      → Pays (ms ++ m ∷ []) owed due'
+  paid-more m room due' fits e = pays-more ms (m ∷ []) owed due due' paid (pays-first m room due due' fits e)
+
+  pub joined-alone : (m : ReplyMessage) (room : ℕ) (due' : Due) → Some m ≡ oldest number last → length (record_of m) ≤ room
+      → due' ≡ without_reply room due → HasJoined number first before owed (Some m) (taken number last) mid due'
+  joined-alone m room due' e fits less = record {
     joined = ms;
+    pays = paid-more m room due' fits less;
     takes = takes-more number ms (m ∷ []) first last (taken number last) so (takes-first number last m e);
     bytes_are = are;
     out = tt;
   }
 
-  pub joined-all : None ≡ oldest number last → HasJoined number first before None (taken number last) mid
+  pub joined-all : None ≡ oldest number last → HasJoined number first before owed None (taken number last) mid due
   joined-all e =
       let o = takes-out number last e in record {
         joined = ms;
+        pays = pays-more ms [] owed due due paid refl;
         takes = takes-more number ms [] first last (taken number last) so o.0;
         bytes_are = are;
         out = o.1;

@@ -6,8 +6,9 @@ use Rattle.connections.specs.declared.connection.Connection.{Connection}
 use Rattle.connections.specs.declared.writing.Sent.{Sent}
 use Rattle.connections.specs.Keyed.{WritesUnder}
 use Rattle.connections.specs.Writing.{HasWritten}
+use Rattle.connections.specs.Incoming.{Incoming}
 
-module _ {D : Type 0} (unread written : D → Option (List ℕ)) where
+module _ {D : Type 0} (unread : D → Incoming) (written : D → Option (List ℕ)) where
   pub writes-under : (slab slab' : Slab (Connection D)) (key : ℕ) (o : Option (Connection D)) (before after : Connection D) (boxes boxes' : Boxes)
       (result : Sent) → Some before ≡ o → slab' ≡ with_value slab key after → HasWritten unread written before boxes result after boxes'
       → WritesUnder unread written slab key o boxes result slab' boxes'

@@ -1,5 +1,5 @@
 -- What contracts name of a connection.
-use Rattle.std.specs.Prelude.{ℕ, ⊤, ◌+◌, ◌-◌, ◌^◌, List, Option, Some, None, length, min, max}
+use Rattle.std.specs.Prelude.{ℕ, ⊤, ◌+◌, ◌-◌, ◌^◌, ◌==◌, List, Option, Some, None, length, min, max, if◌then◌else◌}
 use Rattle.tcp_front.specs.declared.stream.Stopped.{Stopped}
 use Rattle.connections.specs.declared.connection.Connection.{Connection}
 use Rattle.connections.specs.declared.connection.Flags.{Flags}
@@ -16,6 +16,10 @@ calls_to c = calls_of c.device
 
 abbrev pub number_of : {D : Type 0} → Connection D → ℕ
 number_of c = c.stream.connection.0
+
+-- how many records of it were given on
+abbrev pub records_of : {D : Type 0} → Connection D → ℕ
+records_of c = c.stream.records
 
 -- the bytes that were read and aren't cut into records yet
 abbrev pub kept_of : {D : Type 0} → Connection D → List ℕ
@@ -48,6 +52,11 @@ nothing_due = record { replies = 0; room = 0 }
 -- one reply more is owed; its room is counted as 256 bytes at least
 abbrev pub with_reply : ℕ → Due → Due
 with_reply room due = record { replies = min (due.replies + 1) most_counted; room = min (due.room + max room 256) most_counted }
+
+-- a reply less is owed, whose record had this much room; where none is owed any more, no room is
+abbrev pub without_reply : ℕ → Due → Due
+without_reply room due =
+    record { replies = due.replies - 1; room = if due.replies - 1 == 0 then 0 else due.room - max room 256 }
 
 -- about how much room its replies take, with the bytes that its device had no room for
 abbrev pub room_owed : {D : Type 0} → Connection D → ℕ

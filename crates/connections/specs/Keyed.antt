@@ -7,7 +7,8 @@ use Rattle.connections.specs.declared.connection.Connection.{Connection}
 use Rattle.connections.specs.declared.connection.Flags.{Flags}
 use Rattle.connections.specs.declared.writing.Sent.{Sent}
 use Rattle.connections.specs.declared.writing.Sent.TheVariants as sents
-use Rattle.connections.specs.Connections.{flagged, now_of, number_of}
+use Rattle.connections.specs.Connections.{due_of, flagged, nothing_due, now_of, number_of}
+use Rattle.connections.specs.Incoming.{Incoming}
 use Rattle.connections.specs.Reading.{Reads}
 use Rattle.connections.specs.Writing.{HasWritten, Writes}
 
@@ -22,15 +23,16 @@ Opens {D} slab boxes device (Ok key) slab' boxes' =
 Opens {D} slab boxes device (Err back) slab' boxes' =
     (back ≡ device) × ((key : ℕ) → get slab' key ≡ get slab key) × (boxes' ≡ boxes)
 
--- since this connection was opened, nothing came of it, by any offer, and nothing was to be written to it
-pub record HasBegun {D : Type 0} (unread written : D → Option (List ℕ)) (c : Connection D) : Type 0 where
+-- since this connection was opened, nothing came of it, by any offer, nothing was to be written to it, and nothing is owed to it
+pub record HasBegun {D : Type 0} (unread : D → Incoming) (written : D → Option (List ℕ)) (c : Connection D) : Type 0 where
   pub reads : (offer : Offer) → Reads offer unread c.opened.value c []
   pub writes : Writes written c.opened.value c [] []
+  pub owed : due_of c ≡ nothing_due
 
 -- ---- writing
 
 -- the connection of a key was written, or there is none and nothing changed
-abbrev pub WritesUnder : {D : Type 0} → (D → Option (List ℕ)) → (D → Option (List ℕ)) → Slab (Connection D) → ℕ
+abbrev pub WritesUnder : {D : Type 0} → (D → Incoming) → (D → Option (List ℕ)) → Slab (Connection D) → ℕ
     → Option (Connection D) → Boxes → Sent → Slab (Connection D) → Boxes → Type 0
 WritesUnder unread written slab key None boxes result slab' boxes' =
     (result ≡ sents.Failed) × (slab' ≡ slab) × (boxes' ≡ boxes)

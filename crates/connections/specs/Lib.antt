@@ -1,6 +1,8 @@
+pub mod Incoming
 pub mod Told
 pub mod Rests
 pub mod Connections
+pub mod Owing
 pub mod Taking
 pub mod Cutting
 pub mod Reading

@@ -1,6 +1,6 @@
 -- How the reading of a connection stands, and what one call does to it.
 use Rattle.std.specs.Prelude.{◌≡◌, ℕ, ◌<◌, Bool, true, false, List, [], ◌++◌, length, Option, Some, None}
-use Rattle.std.specs.Io.KnownBytes.{Consumes, IsAtEnd, Keeps}
+use Rattle.std.specs.Io.KnownBytes.{Keeps}
 use Rattle.nfs_model.specs.Tree.{Layout}
 use Rattle.nfs_model.specs.World.{Heard}
 use Rattle.rpc_msg.specs.declared.offer.Offer.{Offer}
@@ -16,6 +16,7 @@ use Rattle.connections.specs.declared.connection.Connection.{Connection}
 use Rattle.connections.specs.declared.reading.Came.{Came}
 use Rattle.connections.specs.declared.reading.Came.TheVariants as cames
 use Rattle.connections.specs.declared.told.Told.TheVariants as tolds
+use Rattle.connections.specs.Incoming.{Incoming, Gives, IsAllRead}
 use Rattle.connections.specs.Told.{HasCalled}
 use Rattle.connections.specs.Connections.{kept_of, now_of, number_of, IsStopped}
 use Rattle.connections.specs.Cutting.{HasCut}
@@ -31,17 +32,17 @@ Stands offer (Some stops.NumbersUsed) at records read heard = AreFirst offer hea
 
 -- Of what the device had when it was opened these bytes were read, these records of theirs were given on, and what was
 -- read besides is kept, unless the reading stopped.
-pub record IsReadFrom {D : Type 0} (offer : Offer) (unread : D → Option (List ℕ)) (opened now : D) (stream : Stream) (kept : List ℕ)
+pub record IsReadFrom {D : Type 0} (offer : Offer) (unread : D → Incoming) (opened now : D) (stream : Stream) (kept : List ℕ)
     (stopped : Option Stopped) (heard : List Heard) : Type 0 where
   pub read : List ℕ
   pub lost : List ℕ
-  pub taken : Consumes (unread opened) (unread now) (read ++ (kept ++ lost))
+  pub taken : Gives (unread opened) (unread now) (read ++ (kept ++ lost))
   pub stands : Stands offer stopped stream.reassembler stream.records read heard
   pub count : stream.records ≡ length heard
   pub none_lost : stopped ≡ None → lost ≡ []
 
 -- Of the device of this connection, opened as this, these records were given on.
-abbrev pub Reads : {D : Type 0} → Offer → (D → Option (List ℕ)) → D → Connection D → List Heard → Type 0
+abbrev pub Reads : {D : Type 0} → Offer → (D → Incoming) → D → Connection D → List Heard → Type 0
 Reads offer unread opened c heard = IsReadFrom offer unread opened (now_of c) c.stream c.kept c.stopped heard
 
 -- ---- one call
@@ -52,13 +53,13 @@ IsReady c = (c.stopped ≡ None) × (c.kept ≡ [])
 
 -- What a call did to the device, by its answer: it was called once, with a block of this size, and answered just that;
 -- or it wasn't called, since the reading had stopped, the sink had no room, or there were kept bytes to be cut.
-abbrev pub IsTold : {D : Type 0} → (D → Option (List ℕ)) → Bool → ℕ → Came → Connection D → Connection D → Type 0
+abbrev pub IsTold : {D : Type 0} → (D → Incoming) → Bool → ℕ → Came → Connection D → Connection D → Type 0
 IsTold unread room size (cames.Read n) old new = IsReady old × (room ≡ true) × HasCalled old.device size (tolds.Moved n) new.device × (0 < n)
 IsTold unread room size cames.Cut old new = (old.stopped ≡ None) × (room ≡ true) × (0 < length (kept_of old)) × (new.device ≡ old.device)
 IsTold unread room size cames.Full old new = (old.stopped ≡ None) × (room ≡ false) × (new ≡ old)
 IsTold unread room size cames.Blocked old new = IsReady old × (room ≡ true) × HasCalled old.device size tolds.Blocked new.device
 IsTold unread room size cames.End old new =
-    IsReady old × (room ≡ true) × HasCalled old.device size (tolds.Moved 0) new.device × IsAtEnd (unread (now_of new))
+    IsReady old × (room ≡ true) × HasCalled old.device size (tolds.Moved 0) new.device × IsAllRead (unread (now_of new))
 IsTold unread room size cames.Failed old new = IsReady old × (room ≡ true) × HasCalled old.device size tolds.Failed new.device
 IsTold unread room size cames.Stopped old new = IsStopped old × (new ≡ old)
 
@@ -79,12 +80,12 @@ Cuts came room layout offer (Some stop) s sink kept read heard stopped s' sink' 
 -- One call: these bytes were read; with those that were kept they were cut, as far as the sink has room, and these records
 -- of theirs were given on under the numbers that follow. The device was asked as the answer tells, and the writing is as
 -- it was.
-pub record HasRead {D S : Type 0} (unread written : D → Option (List ℕ)) (came : S → List Arrival → S → Type 0)
+pub record HasRead {D S : Type 0} (unread : D → Incoming) (written : D → Option (List ℕ)) (came : S → List Arrival → S → Type 0)
     (room : S → Bool) (layout : Layout) (offer : Offer) (old : Connection D) (sink : S) (size : ℕ) (result : Came) (new : Connection D)
     (sink' : S) : Type 0 where
   pub read : List ℕ
   pub heard : List Heard
-  pub taken : Consumes (unread (now_of old)) (unread (now_of new)) read
+  pub taken : Gives (unread (now_of old)) (unread (now_of new)) read
   pub apart : Keeps (written (now_of old)) (written (now_of new))
   pub given : came sink (arrivals layout (number_of old) old.stream.records heard) sink'
   pub cuts : Cuts came room layout offer old.stopped old.stream sink (kept_of old) read heard new.stopped new.stream sink'

@@ -1,18 +1,21 @@
 -- How the writing of a connection stands, and what one call does to it.
 use Rattle.std.specs.Prelude.{◌≡◌, ℕ, ◌<◌, ◌≤◌, ◌++◌, ◌⊎◌, Bool, true, false, List, [], length, Option}
 use Rattle.std.specs.FinMap.{get}
-use Rattle.std.specs.Io.KnownBytes.{Appends, Keeps}
+use Rattle.std.specs.Io.KnownBytes.{Appends}
 use Rattle.outboxes.specs.Boxes.{Boxes}
 use Rattle.outboxes.specs.Messages.{ReplyMessage}
 use Rattle.tcp_front.specs.Writing.{records_of}
 use Rattle.connections.specs.declared.connection.Connection.{Connection}
+use Rattle.connections.specs.declared.due.Due.{Due}
 use Rattle.connections.specs.declared.told.Told.{Told}
 use Rattle.connections.specs.declared.told.Told.TheVariants as tolds
 use Rattle.connections.specs.declared.watched.Watched.{Watched}
 use Rattle.connections.specs.declared.writing.Sent.{Sent}
 use Rattle.connections.specs.declared.writing.Sent.TheVariants as sents
+use Rattle.connections.specs.Incoming.{Incoming, GivesNone}
 use Rattle.connections.specs.Told.{device_of, HasCalled}
 use Rattle.connections.specs.Connections.{now_of, number_of}
+use Rattle.connections.specs.Owing.{Pays}
 use Rattle.connections.specs.Taking.{IsOut, Takes}
 
 -- ---- from the first reply on
@@ -69,12 +72,12 @@ all_of sents.Blocked = sents.Blocked
 all_of sents.Failed = sents.Failed
 
 -- A beginning of what waits went out, and the others wait still.
-pub record HasSent {D : Type 0} (unread written : D → Option (List ℕ)) (old : Watched D) (waiting : List ℕ) (result : Sent)
+pub record HasSent {D : Type 0} (unread : D → Incoming) (written : D → Option (List ℕ)) (old : Watched D) (waiting : List ℕ) (result : Sent)
     (new : Watched D) (waiting' : List ℕ) : Type 0 where
   pub sent : List ℕ
   pub split : waiting ≡ sent ++ waiting'
   pub went_out : Appends (written (device_of old)) (written (device_of new)) sent
-  pub apart : Keeps (unread (device_of old)) (unread (device_of new))
+  pub apart : GivesNone (unread (device_of old)) (unread (device_of new))
   pub comes_to : ComesTo result old sent waiting' new
 
 -- What a call came to: nothing was there, or there was one write; and what an answer says of the outbox.
@@ -86,15 +89,17 @@ Tells sents.More old sent left waiting new = ComesTo sents.More old sent left ne
 Tells sents.Blocked old sent left waiting new = ComesTo sents.Blocked old sent left new
 Tells sents.Failed old sent left waiting new = ComesTo sents.Failed old sent left new
 
--- These replies were taken, and a beginning of the rest and of their records went out.
-pub record HasWrittenParts {D : Type 0} (unread written : D → Option (List ℕ)) (number : ℕ) (old : Watched D)
-    (rest : List ℕ) (boxes : Boxes) (result : Sent) (new : Watched D) (rest' : List ℕ) (boxes' : Boxes) : Type 0 where
+-- These replies were taken, and are owed no more; and a beginning of the rest and of their records went out.
+pub record HasWrittenParts {D : Type 0} (unread : D → Incoming) (written : D → Option (List ℕ)) (number : ℕ) (old : Watched D)
+    (rest : List ℕ) (boxes : Boxes) (owed : Due) (result : Sent) (new : Watched D) (rest' : List ℕ) (boxes' : Boxes)
+    (owed' : Due) : Type 0 where
   pub taken : List ReplyMessage
   pub sent : List ℕ
   pub takes : Takes number taken boxes boxes'
+  pub pays : Pays taken owed owed'
   pub split : rest ++ records_of taken ≡ sent ++ rest'
   pub went_out : Appends (written (device_of old)) (written (device_of new)) sent
-  pub apart : Keeps (unread (device_of old)) (unread (device_of new))
+  pub apart : GivesNone (unread (device_of old)) (unread (device_of new))
   pub tells : Tells result old sent rest' (get boxes'.waiting number) new
 
 -- whether nothing more is written after an answer
@@ -105,13 +110,13 @@ breaks sents.Blocked = false
 breaks sents.Failed = true
 
 -- One call: nothing where the device failed before, and else this.
-abbrev pub HasWrittenAs : {D : Type 0} → Bool → (D → Option (List ℕ)) → (D → Option (List ℕ)) → Connection D → Boxes → Sent
+abbrev pub HasWrittenAs : {D : Type 0} → Bool → (D → Incoming) → (D → Option (List ℕ)) → Connection D → Boxes → Sent
     → Connection D → Boxes → Type 0
 HasWrittenAs true unread written old boxes result new boxes' = (result ≡ sents.Failed) × (new ≡ old) × (boxes' ≡ boxes)
 HasWrittenAs false unread written old boxes result new boxes' =
-    HasWrittenParts unread written (number_of old) old.device old.rest boxes result new.device new.rest boxes'
+    HasWrittenParts unread written (number_of old) old.device old.rest boxes old.owed result new.device new.rest boxes' new.owed
     × (new ≡ record old { device = new.device; rest = new.rest; is_broken = breaks result; owed = new.owed })
 
-abbrev pub HasWritten : {D : Type 0} → (D → Option (List ℕ)) → (D → Option (List ℕ)) → Connection D → Boxes → Sent
+abbrev pub HasWritten : {D : Type 0} → (D → Incoming) → (D → Option (List ℕ)) → Connection D → Boxes → Sent
     → Connection D → Boxes → Type 0
 HasWritten unread written old boxes result new boxes' = HasWrittenAs old.is_broken unread written old boxes result new boxes'

@@ -1,3 +1,5 @@
+pub mod Incoming
+pub mod Owing
 pub mod Taking
 pub mod Writing
 pub mod Reading

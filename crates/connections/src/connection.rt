@@ -52,8 +52,9 @@ pub struct Connection<D> {
 
 impl<D> Connection<D> {
     ghost use Rattle.connections.specs.Connections.{due_of, flagged, now_of, number_of, owing};
-    ghost use Rattle.connections.specs.Connections.{room_owed, stopped_of, IsStopped};
-    ghost use Rattle.std.specs.Prelude.{◌↔◌, [], false, IsTrue};
+    ghost use Rattle.connections.specs.Connections.{most_counted, records_of, room_owed};
+    ghost use Rattle.connections.specs.Connections.{stopped_of, IsStopped};
+    ghost use Rattle.std.specs.Prelude.{◌↔◌, ◌≤◌, [], false, IsTrue};
 
     /// The number of the connection.
     pub fn number(&self) -> ConnectionNumber
@@ -114,8 +115,11 @@ impl<D> Connection<D> {
 
     /// So much is owed.
     pub fn set_owed(&mut self, owed: Due)
-        ensures { self.new ≡ owing owed self.old }
+        ensures owed { self.new ≡ owing owed self.old }
+        ensures records { records_of self.new ≤ most_counted }
     {
+        // That they fit their type is known of what is read.
+        let _records = self.stream.records;
         self.owed = owed;
     }
 
@@ -155,7 +159,7 @@ impl<D> Connection<D> {
 impl<D: Device> Connection<D> {
     ghost use Rattle.std.specs.Prelude.{[]};
     ghost use Rattle.rpc_msg.specs.declared.offer.Offer.{Offer};
-    ghost use Rattle.connections.specs.Connections.{calls_to, now_of, number_of};
+    ghost use Rattle.connections.specs.Connections.{calls_to, due_of, nothing_due, now_of, number_of};
     ghost use Rattle.connections.specs.Reading.{Reads};
     ghost use Rattle.connections.specs.Writing.{Writes};
 
@@ -167,6 +171,7 @@ impl<D: Device> Connection<D> {
         ensures calls { calls_to result ≡ 0 }
         ensures reads { (offer : Offer) → Reads offer D.unread device result [] }
         ensures writes { Writes D.written device result [] [] }
+        ensures owed { due_of result ≡ nothing_due }
     {
         let opened = Snapshot::of(&device);
         Connection {

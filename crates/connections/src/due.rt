@@ -1,7 +1,7 @@
 //! What is owed to a connection.
 
 ghost use Rattle.std.specs.Prelude.{◌≡◌};
-ghost use Rattle.connections.specs.Connections.{nothing_due, with_reply};
+ghost use Rattle.connections.specs.Connections.{nothing_due, with_reply, without_reply};
 
 /// What is owed to a connection for its records: this many replies, and about how much room they
 /// take. It says nothing of the connection's bytes.
@@ -34,7 +34,9 @@ impl Due {
     }
 
     /// A reply of so much room was taken to be written.
-    pub(crate) fn take(&mut self, room: usize) {
+    pub(crate) fn take(&mut self, room: usize)
+        ensures { self.new ≡ without_reply room self.old }
+    {
         self.replies = self.replies.saturating_sub(1);
         self.room = self.room.saturating_sub(room.max(LEAST_ROOM));
         if self.replies == 0 {

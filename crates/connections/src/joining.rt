@@ -26,8 +26,8 @@ pub(crate) fn join(
     buffer: &mut Vec<u8>,
     owed: &mut Due,
 ) -> Option<Record>
-    ensures { HasJoined connection.0 outboxes.old buffer.old.items result
-        outboxes.new buffer.new.items }
+    ensures { HasJoined connection.0 outboxes.old buffer.old.items owed.old result
+        outboxes.new buffer.new.items owed.new }
 {
     while let Some(record) = outboxes.take(connection) {
         owed.take(record.room());

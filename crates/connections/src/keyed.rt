@@ -1,7 +1,8 @@
 //! Connections under keys, each with its outbox.
 
-ghost use Rattle.std.specs.Prelude.{◌≡◌, None, IfOk, IfSome};
+ghost use Rattle.std.specs.Prelude.{◌≡◌, None, option_map, IfOk, IfSome};
 ghost use Rattle.slab.specs.Slab.{get};
+ghost use Rattle.connections.specs.Connections.{now_of};
 ghost use Rattle.connections.specs.Keyed.{Closes, Flagged, HasBegun, Opens, WritesUnder};
 
 use crate::connection::{Connection, Flags};
@@ -63,20 +64,21 @@ pub fn flag_under<D>(connections: &mut Slab<Connection<D>>, key: usize, flags: F
     }
 }
 
-/// Closes the connection of a key, and its outbox, and gives its device back. What waits for it is
-/// lost.
+/// Closes the connection of a key, and its outbox, and gives the connection back. What waits for it
+/// is lost.
 pub fn close_under<D>(
     connections: &mut Slab<Connection<D>>,
     key: usize,
     outboxes: &mut Outboxes,
-) -> Option<D>
-    ensures { Closes connections.old key outboxes.old (get connections.old key) result
-        connections.new outboxes.new }
+) -> Option<Connection<D>>
+    ensures closes { Closes connections.old key outboxes.old (get connections.old key)
+        (option_map now_of result) connections.new outboxes.new }
+    ensures connection { result ≡ get connections.old key }
 {
     match connections.try_remove(key) {
         Some(connection) => {
             outboxes.shut(connection.number());
-            Some(connection.into_device())
+            Some(connection)
         }
         None => None,
     }

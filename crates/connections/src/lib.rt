@@ -20,6 +20,6 @@ pub use device::{Device, answer_of};
 pub use due::Due;
 pub use keyed::{close_under, flag_under, open_under, write_under};
 pub use reading::Came;
-pub use told::Told;
+pub use told::{DeviceCall, Told};
 pub use watched::Watched;
 pub use writing::{BUFFER_BYTES, Sent};

@@ -1,4 +1,4 @@
-//! What a device answers.
+//! What a device is asked, and what it answers.
 
 /// What a device answered to one call.
 #[derive(Clone, Copy, PartialEq, Eq, Debug)]
@@ -9,4 +9,12 @@ pub enum Told {
     Blocked,
     /// None did, and the device failed.
     Failed,
+}
+
+/// A call of a device, with what it answered: a read with room for this many bytes, or a write of
+/// this many.
+#[derive(Clone, Copy, PartialEq, Eq, Debug)]
+pub enum DeviceCall {
+    Read(usize, Told),
+    Write(usize, Told),
 }

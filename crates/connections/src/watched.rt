@@ -2,8 +2,11 @@
 
 ghost use Rattle.std.specs.Prelude.{◌≡◌, length};
 ghost use Rattle.std.specs.Io.KnownBytes.{Keeps};
+ghost use Rattle.connections.specs.Incoming.{GivesNone};
 ghost use Rattle.connections.specs.Told.{device_of, calls_of};
 ghost use Rattle.connections.specs.Told.{HasCalled, MovesAtMost, HasGiven, HasGot};
+ghost use Rattle.connections.specs.Told.{IsAsked};
+ghost use Rattle.connections.specs.declared.told.DeviceCall.TheVariants.{Read, Write};
 
 use crate::device::Device;
 use crate::told::Told;
@@ -47,12 +50,14 @@ impl<D> Watched<D> {
 }
 
 impl<D: Device> Watched<D> {
-    /// Reads once.
+    /// Reads once: the device is asked just once, whatever it answers.
     pub fn read_once(&mut self, block: &mut [u8]) -> Told
         ensures bound { MovesAtMost result block.new }
         ensures bytes { HasGot (D.unread (device_of self.old)) (D.unread (device_of self.new))
             result block.new }
         ensures apart { Keeps (D.written (device_of self.old)) (D.written (device_of self.new)) }
+        ensures asked { IsAsked (D.asked (device_of self.old)) (D.asked (device_of self.new))
+            (Read (length block.old) result) }
         ensures called { HasCalled self.old (length block.old) result self.new }
     {
         self.calls = self.calls.wrapping_add(1);
@@ -61,12 +66,14 @@ impl<D: Device> Watched<D> {
         self.last
     }
 
-    /// Writes once.
+    /// Writes once: the device is asked just once, whatever it answers.
     pub fn write_once(&mut self, bytes: &[u8]) -> Told
         ensures bound { MovesAtMost result bytes.now }
         ensures bytes { HasGiven (D.written (device_of self.old)) (D.written (device_of self.new))
             result bytes.now }
-        ensures apart { Keeps (D.unread (device_of self.old)) (D.unread (device_of self.new)) }
+        ensures apart { GivesNone (D.unread (device_of self.old)) (D.unread (device_of self.new)) }
+        ensures asked { IsAsked (D.asked (device_of self.old)) (D.asked (device_of self.new))
+            (Write (length bytes.now) result) }
         ensures called { HasCalled self.old (length bytes.now) result self.new }
     {
         self.calls = self.calls.wrapping_add(1);

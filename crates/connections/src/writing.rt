@@ -131,7 +131,7 @@ fn write_some<D: Device>(
     buffer: &mut Vec<u8>,
 ) -> Sent
     ensures { HasWrittenParts D.unread D.written connection.0 device.old rest.old outboxes.old
-        result device.new rest.new outboxes.new }
+        owed.old result device.new rest.new outboxes.new owed.new }
 {
     if !rest.is_empty() {
         return write_rest(device, rest);

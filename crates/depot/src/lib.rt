@@ -15,6 +15,7 @@ mod grants;
 mod hold;
 mod homing;
 pub mod laws;
+mod looking_back;
 mod meeting;
 mod path;
 mod plays;

@@ -12,6 +12,8 @@ pub mod Joining
 pub mod Opening
 pub mod Following
 pub mod Looking
+pub mod LookingBack
+pub mod Placing
 pub mod Stamping
 pub mod Renewing
 pub mod Current

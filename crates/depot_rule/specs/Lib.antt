@@ -7,5 +7,7 @@ pub mod Plays
 pub mod History
 pub mod Machine
 pub mod Laws
+pub mod LookingBack
+pub mod Placed
 pub mod Completions
 pub mod lemmas

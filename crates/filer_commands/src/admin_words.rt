@@ -2,15 +2,16 @@
 
 use crate::admin_running::Growing;
 use crate::choice::Command;
+use crate::export_words::{USUAL_ADDRESS, address_in};
+use crate::wrong_value::{NUMBER, WrongValue, wrong};
 use clap::{Arg, ArgAction, ArgMatches, value_parser};
 use nfs_values::VolumeNumber;
 use std::alloc::{AllocError, Global};
-use std::net::SocketAddr;
 
 /// What stands behind the help of `census`.
 const CENSUS_EXAMPLE: &str = "\
 Example:
-  filer census --server 127.0.0.1:2049
+  filer census
 
 It prints a row for each volume: its number, how many blocks of 4,096 bytes it has, how many of
 them are in files, and how many are not.";
@@ -18,7 +19,7 @@ them are in files, and how many are not.";
 /// What stands behind the help of `grow`.
 const GROW_EXAMPLE: &str = "\
 Example:
-  filer grow --volume 0 --ranges 1 --server 127.0.0.1:2049
+  filer grow --volume 0 --ranges 1
 
 A range has 1,024 blocks of 4,096 bytes. A volume has at most 16 ranges, and those that are added
 are taken from the spare ones of the server.";
@@ -35,12 +36,9 @@ fn option<'a>(alloc: Global, name: &'a str, value: &'a str, help: &'a str) -> Ar
 
 /// `--server ADDR`.
 fn server<'a>(alloc: Global) -> Arg<'a> {
-    option(
-        alloc,
-        "server",
-        "ADDR",
-        "Where it listens, as 127.0.0.1:2049",
-    )
+    option(alloc, "server", "ADDR", "Where it listens")
+        .required(false)
+        .default_value(USUAL_ADDRESS)
 }
 
 /// An option with a number of 32 bits.
@@ -48,7 +46,7 @@ fn number<'a>(alloc: Global, name: &'a str, value: &'a str, help: &'a str) -> Ar
     option(alloc, name, value, help).value_parser(value_parser!(u32))
 }
 
-/// `census --server ADDR`.
+/// `census [--server ADDR]`.
 pub(crate) fn census<'a>(alloc: Global) -> Result<clap::Command<'a>, AllocError> {
     clap::Command::new(alloc, "census")
         .about("Prints how many blocks the volumes of a running server have")
@@ -56,7 +54,7 @@ pub(crate) fn census<'a>(alloc: Global) -> Result<clap::Command<'a>, AllocError>
         .arg(server(alloc))
 }
 
-/// `grow --volume V --ranges N --server ADDR`, in any order.
+/// `grow --volume V --ranges N [--server ADDR]`, in any order.
 pub(crate) fn grow<'a>(alloc: Global) -> Result<clap::Command<'a>, AllocError> {
     clap::Command::new(alloc, "grow")
         .about("Adds ranges to a volume of a running server")
@@ -66,25 +64,24 @@ pub(crate) fn grow<'a>(alloc: Global) -> Result<clap::Command<'a>, AllocError> {
         .arg(server(alloc))
 }
 
-/// The server's address.
-fn server_in(matches: &ArgMatches<'_>) -> Option<SocketAddr> {
-    matches.get_str("server")?.parse::<SocketAddr>().ok()
-}
-
 /// What `census` asks for.
-pub(crate) fn census_in<'a>(matches: &ArgMatches<'a>) -> Option<Command<'a>> {
-    let server = server_in(matches)?;
-    Some(Command::Census { server })
+pub(crate) fn census_in<'a>(matches: &ArgMatches<'a>) -> Result<Command<'a>, WrongValue<'a>> {
+    let server = address_in(matches, "server")?;
+    Ok(Command::Census { server })
 }
 
 /// What `grow` asks for.
-pub(crate) fn grow_in<'a>(matches: &ArgMatches<'a>) -> Option<Command<'a>> {
-    let server = server_in(matches)?;
-    let volume = VolumeNumber(matches.get_one::<u32>("volume")?);
-    let ranges = matches.get_one::<u32>("ranges")?;
-    Some(Command::Grow(Growing {
-        server,
-        volume,
-        ranges,
-    }))
+pub(crate) fn grow_in<'a>(matches: &ArgMatches<'a>) -> Result<Command<'a>, WrongValue<'a>> {
+    let server = address_in(matches, "server")?;
+    match (
+        matches.get_one::<u32>("volume"),
+        matches.get_one::<u32>("ranges"),
+    ) {
+        (Some(volume), Some(ranges)) => Ok(Command::Grow(Growing {
+            server,
+            volume: VolumeNumber(volume),
+            ranges,
+        })),
+        _ => Err(wrong("ranges", "", NUMBER)),
+    }
 }

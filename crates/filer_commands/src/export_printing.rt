@@ -2,12 +2,13 @@
 
 ghost use Rattle.std.specs.Prelude.{◌+◌, ◌*◌, ◌≤◌};
 
-use affinity::MEBIBYTE;
+use affinity::{MEBIBYTE, MOST_VOLUMES};
 use nfs_values::BLOCK_BYTES;
 use server::ENOUGH_STOCKED;
 use server_options::{Options, VolumePlan};
-use std::io::Write;
-use std::net::SocketAddr;
+use std::alloc::Global;
+use std::fmt;
+use std::net::{IpAddr, SocketAddr};
 
 /// The bytes of a block's number.
 const NUMBER: u64 = 4;
@@ -46,27 +47,103 @@ fn kibibytes_at_start(plan: &VolumePlan) -> u64 {
     (2 * 16 * marks_of(plan.range_blocks) + numbers).div_ceil(1_024)
 }
 
-/// Tells people what is exported, to whom, and how to mount it.
-pub(crate) fn tell_exports<E: Write>(err: &mut E, options: &Options, address: &SocketAddr) {
-    let (ip, port) = (address.ip(), address.port());
+/// How clients name a server that listens at an address, and by which protocol they reach it: by
+/// its address, or by the machine's name where it listens at all of the machine's addresses.
+#[derive(Drop)]
+struct Reached<'a> {
+    address: SocketAddr,
+    host: Option<&'a str>,
+}
+
+impl fmt::Display for Reached<'_> {
+    fn fmt<W: fmt::Write>(&self, f: &mut fmt::Formatter<W>) -> fmt::Result {
+        if let Some(host) = self.host {
+            if self.address.ip().is_unspecified() {
+                return f.write_str(host);
+            }
+        }
+        match self.address.ip() {
+            IpAddr::V4(own) => write!(f, "{own}"),
+            IpAddr::V6(own) => write!(f, "[{own}]"),
+        }
+    }
+}
+
+impl Reached<'_> {
+    /// The protocol, as options of a mount have it.
+    fn protocol(&self) -> &'static str {
+        match self.address.ip() {
+            IpAddr::V6(own) if !own.is_unspecified() => "tcp6",
+            _ => "tcp",
+        }
+    }
+}
+
+/// A line for each volume: its sizes.
+fn write_volumes<W: fmt::Write>(lines: &mut W, options: &Options) -> fmt::Result {
     let plan = &options.plan;
     let (size, files, inodes) = (plan.bytes() / MEBIBYTE, plan.mib, plan.inodes);
     let taken = kibibytes_at_start(plan);
     for volume in 0..options.volumes {
-        let _told = writeln!(
-            err,
+        writeln!(
+            lines,
             "exported: /vol{volume}, {size} MiB, files of at most {files} MiB, at most {inodes} \
              files and directories; lists of its blocks take {taken} KiB"
-        );
+        )?;
     }
+    Ok(())
+}
+
+/// How to mount each volume; of 8 the first, and what to put in place of its number.
+fn write_mounts<W: fmt::Write>(
+    lines: &mut W,
+    volumes: usize,
+    reached: &Reached<'_>,
+) -> fmt::Result {
+    let (protocol, port) = (reached.protocol(), reached.address.port());
+    let shown = if volumes < MOST_VOLUMES { volumes } else { 1 };
+    for volume in 0..shown {
+        writeln!(
+            lines,
+            "mount -t nfs -o vers=3,proto={protocol},port={port},mountport={port},\
+             mountproto={protocol},nolock {reached}:/vol{volume} /mnt"
+        )?;
+    }
+    if shown < volumes {
+        let last = volumes.saturating_sub(1);
+        writeln!(lines, "and so on, up to {reached}:/vol{last}")?;
+    }
+    Ok(())
+}
+
+/// What is exported, to whom, and how to mount it.
+fn write_exports<W: fmt::Write>(
+    lines: &mut W,
+    options: &Options,
+    reached: &Reached<'_>,
+) -> fmt::Result {
+    write_volumes(lines, options)?;
     let peers = &options.peers;
-    let _told = writeln!(
-        err,
+    writeln!(
+        lines,
         "may connect: {peers}; modes are told and guard nothing"
-    );
-    let _told = writeln!(
-        err,
-        "mount -t nfs -o vers=3,proto=tcp,port={port},mountport={port},mountproto=tcp,nolock \
-         {ip}:/vol0 /mnt"
-    );
+    )?;
+    write_mounts(lines, options.volumes, reached)
+}
+
+/// The lines that tell people what is exported, to whom, and how to mount it, as far as there is
+/// memory for them.
+pub(crate) fn exports_told(
+    alloc: Global,
+    options: &Options,
+    address: &SocketAddr,
+    host: Option<&str>,
+) -> String {
+    let mut lines = String::new(alloc);
+    let reached = Reached {
+        address: *address,
+        host,
+    };
+    let _told = write_exports(&mut lines, options, &reached);
+    lines
 }

@@ -6,6 +6,9 @@ use crate::limits::{
     MOST_VOLUMES, MOST_WORKERS, USUAL_WORKERS,
 };
 use crate::machine::Machine;
+use crate::wrong_value::{
+    ADDRESS, FILE_SIZE, NETWORK, NETWORKS, NUMBER, OWED, VOLUME_SIZE, WrongValue, wrong,
+};
 use clap::{Arg, ArgAction, ArgMatches, value_parser};
 use server_options::{
     Admission, IdleTime, LEAST_VOLUME, MOST_BYTES, MOST_NETWORKS, Network, Options, Peers, Period,
@@ -24,10 +27,16 @@ const ADMISSION: Admission = Admission {
 /// can't be read.
 const USUAL_BYTES: u64 = 1_073_741_824;
 
+/// Where a server of clients that mount listens where nothing else is said, and is asked.
+pub(crate) const USUAL_ADDRESS: &str = "127.0.0.1:2049";
+
+/// The fewest bytes of replies that may be owed to all connections together: 64 MiB.
+const LEAST_OWED: u64 = 67_108_864;
+
 /// What stands behind the help of `export`.
 const EXAMPLE: &str = "\
 Examples:
-  filer export --listen 127.0.0.1:2049
+  filer export
   filer export --listen 127.0.0.1:2049 --size 40G --inodes 1000000
   filer export --listen 192.0.2.1:2049 --volumes 2 --workers 4 --allow 192.0.2.0/24
   mount -t nfs -o vers=3,proto=tcp,port=2049,mountport=2049,mountproto=tcp,nolock \
@@ -79,7 +88,13 @@ fn with_guests<'a>(
     )
     .value_parser(value_parser!(u64).range(1..=MOST_IDLE))
     .default_value("600");
-    command.arg(connections)?.arg(allow)?.arg(idle)
+    let owed = optional(
+        alloc,
+        "owed",
+        "BYTES",
+        "Most bytes of replies that peers haven't taken [an eighth of all volumes, at least 64M]",
+    );
+    command.arg(connections)?.arg(allow)?.arg(idle)?.arg(owed)
 }
 
 /// Options that say how large the volumes are.
@@ -99,7 +114,8 @@ fn with_sizes<'a>(
         alloc,
         "size",
         "BYTES",
-        "Most bytes a volume, 4M to 1T [an even share of a quarter of the memory]",
+        "Most bytes a volume, 4M to 1T [an even share of a quarter of the memory, or of half of \
+what the control group may take]",
     );
     let files = optional(
         alloc,
@@ -136,16 +152,11 @@ fn with_lines<'a>(
     command.arg(log)?.arg(statistics)
 }
 
-/// `export --listen ADDR [--volumes N] [--workers N] [--size BYTES | --ranges N]
-/// [--file-size BYTES] [--inodes N] [--connections N] [--allow NETWORK].. [--idle SECONDS] [--log]
-/// [--stats MINUTES]`, in any order.
+/// `export [--listen ADDR] [--volumes N] [--workers N] [--size BYTES | --ranges N]
+/// [--file-size BYTES] [--inodes N] [--connections N] [--allow NETWORK].. [--idle SECONDS]
+/// [--owed BYTES] [--log] [--stats MINUTES]`, in any order.
 pub(crate) fn export<'a>(alloc: Global) -> Result<clap::Command<'a>, AllocError> {
-    let listen = optional(
-        alloc,
-        "listen",
-        "ADDR",
-        "Address and port, as 127.0.0.1:2049",
-    );
+    let listen = optional(alloc, "listen", "ADDR", "Address and port").default_value(USUAL_ADDRESS);
     let workers = optional(
         alloc,
         "workers",
@@ -156,79 +167,163 @@ pub(crate) fn export<'a>(alloc: Global) -> Result<clap::Command<'a>, AllocError>
     let command = clap::Command::new(alloc, "export")
         .about("Serves clients that mount, until it is ended")
         .after_help(EXAMPLE)
-        .arg(listen.required(true))?
+        .arg(listen)?
         .arg(number(alloc, "volumes", MOST_VOLUMES, "1", "Volumes, 1 to 8"))?
         .arg(workers)?;
     with_lines(alloc, with_guests(alloc, with_sizes(alloc, command)?)?)
 }
 
-/// Whose connections are served: of the own machine, where no network is named.
-fn peers_in(matches: &ArgMatches<'_>) -> Option<Peers> {
-    let Some(texts) = matches.get_strs("allow") else {
-        return Some(Peers::Loopback);
-    };
-    if texts.len() > MOST_NETWORKS {
-        return None;
+/// The value of an option that is a number.
+fn number_in<'a>(matches: &ArgMatches<'a>, option: &'static str) -> Result<u64, WrongValue<'a>> {
+    match matches.get_one::<u64>(option) {
+        Some(number) => Ok(number),
+        None => Err(wrong(option, "", NUMBER)),
     }
-    let mut networks = [None; MOST_NETWORKS];
-    for (network, text) in networks.iter_mut().zip(texts) {
-        *network = Some(Network::read(text)?);
-    }
-    Some(Peers::Networks(networks))
 }
 
-/// The bytes of each of this many volumes where no size is named: an even share of a quarter of the
-/// machine's memory.
-fn usual_bytes(volumes: u64, machine: Machine) -> u64 {
-    let all = match machine.memory {
-        Some(memory) => memory / 4,
-        None => USUAL_BYTES,
+/// Whose connections are served: of the own machine, where no network is named.
+fn peers_in<'a>(matches: &ArgMatches<'a>) -> Result<Peers, WrongValue<'a>> {
+    let Some(texts) = matches.get_strs("allow") else {
+        return Ok(Peers::Loopback);
     };
+    let mut networks = [None; MOST_NETWORKS];
+    let mut named = 0usize;
+    for text in texts {
+        let Some(place) = networks.get_mut(named) else {
+            return Err(wrong("allow", text, NETWORKS));
+        };
+        match Network::read(text) {
+            Some(network) => *place = Some(network),
+            None => return Err(wrong("allow", text, NETWORK)),
+        }
+        named = named.saturating_add(1);
+    }
+    Ok(Peers::Networks(networks))
+}
+
+/// The bytes of each of this many volumes where no size is named: an even share of what a machine
+/// has for them.
+fn usual_bytes(volumes: u64, machine: Machine) -> u64 {
+    let all = machine.usual_bytes().unwrap_or(USUAL_BYTES);
     (all / volumes.max(1)).clamp(LEAST_VOLUME, MOST_BYTES)
 }
 
-/// What each of this many volumes has at the start, on a machine.
-fn plan_in(matches: &ArgMatches<'_>, volumes: u64, machine: Machine) -> Option<VolumePlan> {
-    let mut plan = match (matches.get_one::<u64>("ranges"), matches.get_str("size")) {
-        (Some(ranges), _) => VolumePlan::export(u32::try_from(ranges).ok()?)?,
-        (None, Some(size)) => VolumePlan::sized(bytes_in(size)?)?,
-        (None, None) => VolumePlan::sized(usual_bytes(volumes, machine))?,
+/// A plan of volumes of a size that a text names.
+fn sized<'a>(text: &'a str) -> Result<VolumePlan, WrongValue<'a>> {
+    match bytes_in(text).and_then(VolumePlan::sized) {
+        Some(plan) => Ok(plan),
+        None => Err(wrong("size", text, VOLUME_SIZE)),
+    }
+}
+
+/// What each of this many volumes has at the start, on a machine, but for its files and inodes.
+fn space_in<'a>(
+    matches: &ArgMatches<'a>,
+    volumes: u64,
+    machine: Machine,
+) -> Result<VolumePlan, WrongValue<'a>> {
+    if let Some(text) = matches.get_str("size") {
+        return sized(text);
+    }
+    let plan = match matches.get_one::<u64>("ranges") {
+        Some(ranges) => u32::try_from(ranges).ok().and_then(VolumePlan::export),
+        None => VolumePlan::sized(usual_bytes(volumes, machine)),
     };
-    if let Some(size) = matches.get_str("file-size") {
-        plan = plan.with_files(bytes_in(size)?)?;
+    plan.ok_or(wrong("ranges", "", NUMBER))
+}
+
+/// What each of this many volumes has at the start, on a machine.
+fn plan_in<'a>(
+    matches: &ArgMatches<'a>,
+    volumes: u64,
+    machine: Machine,
+) -> Result<VolumePlan, WrongValue<'a>> {
+    let mut plan = space_in(matches, volumes, machine)?;
+    if let Some(text) = matches.get_str("file-size") {
+        plan = match bytes_in(text).and_then(|bytes| plan.with_files(bytes)) {
+            Some(plan) => plan,
+            None => return Err(wrong("file-size", text, FILE_SIZE)),
+        };
     }
     if let Some(inodes) = matches.get_one::<u64>("inodes") {
-        plan = plan.with_inodes(u32::try_from(inodes).ok()?)?;
+        let inodes = u32::try_from(inodes).ok();
+        plan = match inodes.and_then(|inodes| plan.with_inodes(inodes)) {
+            Some(plan) => plan,
+            None => return Err(wrong("inodes", "", NUMBER)),
+        };
     }
-    Some(plan)
+    Ok(plan)
+}
+
+/// How many bytes of replies may be owed to all connections together: an eighth of what all of this
+/// many volumes of a plan have, where nothing else is said.
+fn most_owed_in<'a>(
+    matches: &ArgMatches<'a>,
+    volumes: u64,
+    plan: &VolumePlan,
+) -> Result<u64, WrongValue<'a>> {
+    let Some(text) = matches.get_str("owed") else {
+        return Ok((plan.bytes() / 8).saturating_mul(volumes).max(LEAST_OWED));
+    };
+    match bytes_in(text) {
+        Some(bytes) if bytes >= LEAST_OWED => Ok(bytes),
+        _ => Err(wrong("owed", text, OWED)),
+    }
+}
+
+/// An address and port that an option names.
+pub(crate) fn address_in<'a>(
+    matches: &ArgMatches<'a>,
+    option: &'static str,
+) -> Result<SocketAddr, WrongValue<'a>> {
+    let text = matches.get_str(option).unwrap_or("");
+    text.parse::<SocketAddr>()
+        .map_err(|_unread| wrong(option, text, ADDRESS))
+}
+
+/// After how long a connection is idle.
+fn idle_in<'a>(matches: &ArgMatches<'a>) -> Result<IdleTime, WrongValue<'a>> {
+    let seconds = u32::try_from(number_in(matches, "idle")?).ok();
+    seconds
+        .and_then(IdleTime::new)
+        .ok_or(wrong("idle", "", NUMBER))
+}
+
+/// How often statistics are told, if they are.
+fn period_in(matches: &ArgMatches<'_>) -> Option<Period> {
+    let minutes = matches.get_one::<u64>("stats")?;
+    Period::new(u32::try_from(minutes).ok()?)
 }
 
 /// What a server that clients mount is asked to do, on a machine, but for what it offers, which is
 /// of its run: without a number of connections it goes on until it is ended.
-pub(crate) fn options_in(matches: &ArgMatches<'_>, machine: Machine) -> Option<Options> {
-    let address = matches.get_str("listen")?.parse::<SocketAddr>().ok()?;
-    let volumes = matches.get_one::<u64>("volumes")?;
+pub(crate) fn options_in<'a>(
+    matches: &ArgMatches<'a>,
+    machine: Machine,
+) -> Result<Options, WrongValue<'a>> {
+    let address = address_in(matches, "listen")?;
+    let volumes = number_in(matches, "volumes")?;
     let workers = match matches.get_one::<u64>("workers") {
         Some(workers) => workers as usize,
         None => machine.processors.clamp(1, USUAL_WORKERS),
     };
     let connections = matches.get_one::<u64>("connections");
-    let idle = matches.get_one::<u64>("idle")?;
-    let idle = IdleTime::new(u32::try_from(idle).ok()?)?;
     let plan = plan_in(matches, volumes, machine)?;
     let peers = peers_in(matches)?;
-    let options = Options::new(address, volumes as usize, workers, connections)?;
+    let idle = idle_in(matches)?;
+    let most_owed = most_owed_in(matches, volumes, &plan)?;
+    let Some(options) = Options::new(address, volumes as usize, workers, connections) else {
+        return Err(wrong("volumes", "", NUMBER));
+    };
     let options = options
         .with_admission(ADMISSION)
         .with_peers(peers)
         .with_plan(plan)
         .with_idle(idle)
+        .with_most_owed(most_owed)
         .with_log(matches.get_flag("log"));
-    match matches.get_one::<u64>("stats") {
-        Some(minutes) => {
-            let period = Period::new(u32::try_from(minutes).ok()?)?;
-            Some(options.with_statistics(period))
-        }
-        None => Some(options),
+    match period_in(matches) {
+        Some(period) => Ok(options.with_statistics(period)),
+        None => Ok(options),
     }
 }

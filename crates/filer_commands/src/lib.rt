@@ -12,6 +12,7 @@ mod limits;
 mod machine;
 mod running;
 mod words;
+mod wrong_value;
 
 pub use admin_running::Growing;
 pub use choice::Command;

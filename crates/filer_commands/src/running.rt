@@ -4,8 +4,8 @@ ghost use Rattle.std.specs.Prelude.{◌≤◌, IfOk};
 
 use crate::admin_running::{run_census, run_grow};
 use crate::choice::Command;
-use crate::export_printing::tell_exports;
-use crate::machine::Machine;
+use crate::export_printing::exports_told;
+use crate::machine::{Machine, host_name};
 use crate::words::{command_told, print_help};
 use rpc_msg::Offer;
 use scripts::{ProgramFault, print_fault, replay};
@@ -15,7 +15,7 @@ use std::alloc::{AllocError, Global};
 use std::convert::AsStr;
 use std::fs::File;
 use std::io::Write;
-use std::net::{Net, TcpListener, TcpStream};
+use std::net::{Net, SocketAddr, TcpListener, TcpStream};
 use std::rt::{Clock, Files};
 use std::sync::Wait;
 use std::thread::Threads;
@@ -31,16 +31,25 @@ fn of_server(fault: ServerFault) -> ProgramFault {
     }
 }
 
-/// Runs the script in a file.
-fn run_script<R: Files + AllocGlobal, W: Write>(
+/// Runs the script in a file, and tells the system's reason where that can't be opened.
+fn run_script<R: Files + AllocGlobal, W: Write, E: Write>(
     rt: &R,
     path: &str,
     out: &mut W,
+    err: &mut E,
 ) -> Result<u8, ProgramFault>
     ensures { IfOk result (λ status. status ≤ 1) }
 {
-    let mut file = File::open(rt, path).map_err(|error| ProgramFault::of_file(&error))?;
-    Ok(replay(rt.alloc(), &mut file, out))
+    match File::open(rt, path) {
+        Ok(mut file) => Ok(replay(rt.alloc(), &mut file, out)),
+        Err(error) => {
+            let fault = ProgramFault::of_file(&error);
+            if fault == ProgramFault::File {
+                let _told = writeln!(err, "filer replay {path}: the file can't be read: {error}");
+            }
+            Err(fault)
+        }
+    }
 }
 
 /// How much memory a server takes and gives back as it starts.
@@ -54,21 +63,47 @@ fn keep_freed_memory(alloc: Global) {
     drop(room);
 }
 
+/// A listener at an address of a command, and tells the system's reason where it can't be had.
+fn listen<R, E>(
+    rt: &R,
+    address: SocketAddr,
+    command: &str,
+    err: &mut E,
+) -> Result<TcpListener, ProgramFault>
+where
+    R: Net<Listener = TcpListener, Stream = TcpStream>,
+    E: Write,
+{
+    match TcpListener::bind(rt, address) {
+        Ok(listener) => Ok(listener),
+        Err(error) => {
+            let _told = writeln!(
+                err,
+                "filer {command} --listen {address}: the address can't be listened at: {error}"
+            );
+            Err(ProgramFault::Listen)
+        }
+    }
+}
+
 /// Listens, and serves.
-fn run_server<R, W>(rt: R, options: &Options, out: &mut W) -> Result<u8, ProgramFault>
+fn run_server<R, W, E>(
+    rt: R,
+    options: &Options,
+    out: &mut W,
+    err: &mut E,
+) -> Result<u8, ProgramFault>
 where
     R: AllocGlobal + Threads + Wait + Clock + Net<Listener = TcpListener, Stream = TcpStream>,
     R: Copy + Drop + Send + 'static,
     W: Write,
+    E: Write,
     ensures { IfOk result (λ status. status ≤ 1) }
 {
-    let listener = match TcpListener::bind(&rt, options.address) {
-        Ok(listener) => listener,
-        Err(_failed) => return Err(ProgramFault::Listen),
-    };
+    let listener = listen(&rt, options.address, "serve", err)?;
     keep_freed_memory(rt.alloc());
     match serve(rt, rt.alloc(), &listener, options, out) {
-        Ok(()) => Ok(0),
+        Ok(_left) => Ok(0),
         Err(fault) => Err(of_server(fault)),
     }
 }
@@ -95,16 +130,16 @@ fn help_out<S: AsStr, W: Write>(alloc: Global, words: &[S], out: &mut W) -> Resu
     }
 }
 
-/// What a fault is, for people; what the command line is lacking was told before, and why a running
-/// server doesn't answer.
+/// What a fault is, for people; told before was what the command line is lacking, why a file can't
+/// be opened or an address listened at, and why a running server doesn't answer.
 fn describe(fault: ProgramFault) -> Option<&'static str> {
     match fault {
         ProgramFault::CommandLine
+        | ProgramFault::File
+        | ProgramFault::Listen
         | ProgramFault::Connect
         | ProgramFault::Reply
         | ProgramFault::CallRefused => None,
-        ProgramFault::File => Some("the file can't be read"),
-        ProgramFault::Listen => Some("the address can't be listened at"),
         ProgramFault::Accept => Some("a connection can't be accepted"),
         ProgramFault::Thread => Some("a thread can't be started"),
         ProgramFault::NoMemory => Some("out of memory"),
@@ -147,28 +182,34 @@ fn run_export<R, W, E>(
     err: &mut E,
 ) -> Result<u8, ProgramFault>
 where
-    R: AllocGlobal + Threads + Wait + Clock + Net<Listener = TcpListener, Stream = TcpStream>,
+    R: Files + AllocGlobal + Threads + Wait + Clock,
+    R: Net<Listener = TcpListener, Stream = TcpStream>,
     R: Copy + Drop + Send + 'static,
     W: Write,
     E: Write,
     ensures { IfOk result (λ status. status ≤ 1) }
 {
-    let listener = match TcpListener::bind(&rt, options.address) {
-        Ok(listener) => listener,
-        Err(_failed) => return Err(ProgramFault::Listen),
-    };
+    let listener = listen(&rt, options.address, "export", err)?;
     keep_freed_memory(rt.alloc());
     let address = listener.local_addr().map_err(|_| ProgramFault::Listen)?;
     let options = &options.with_offer(Offer::export(run_now(&rt)));
-    tell_exports(err, options, &address);
-    match serve_told(rt, rt.alloc(), &listener, options, out, err) {
-        Ok(()) => Ok(0),
+    let mut name = [0; 256];
+    let host = host_name(&rt, &mut name);
+    let opening = exports_told(rt.alloc(), options, &address, host);
+    match serve_told(rt, rt.alloc(), &listener, options, &opening, out, err) {
+        Ok(_left) => Ok(0),
         Err(fault) => Err(of_server(fault)),
     }
 }
 
-/// Runs the command that the words ask for.
-fn run<R, S, W, E>(rt: R, words: &[S], out: &mut W, err: &mut E) -> Result<u8, ProgramFault>
+/// Runs a command, of which the words were parsed.
+fn run<R, S, W, E>(
+    rt: R,
+    command: Command<'_>,
+    words: &[S],
+    out: &mut W,
+    err: &mut E,
+) -> Result<u8, ProgramFault>
 where
     R: Files + AllocGlobal + Threads + Wait + Clock,
     R: Net<Listener = TcpListener, Stream = TcpStream> + Copy + Drop + Send + 'static,
@@ -177,27 +218,21 @@ where
     E: Write,
     ensures { IfOk result (λ status. status ≤ 1) }
 {
-    let machine = Machine::read(&rt);
-    let command = command_told(rt.alloc(), words, machine, err)?;
-    let ended = match command {
-        Command::Replay { path } => run_script(&rt, path, out),
-        Command::Serve(options) => run_server(rt, &options, out),
+    match command {
+        Command::Replay { path } => run_script(&rt, path, out, err),
+        Command::Serve(options) => run_server(rt, &options, out, err),
         Command::Export(options) => run_export(rt, &options, out, err),
         Command::Census { server } => run_census(&rt, server, out, err),
         Command::Grow(growing) => run_grow(&rt, growing, out, err),
         Command::Help => help_out(rt.alloc(), words, out),
         Command::Version => print_version(out),
-    };
-    if let Err(fault) = &ended {
-        tell(err, command, *fault);
     }
-    ended
 }
 
-/// Runs the command that the words ask for, and answers the exit status: 2 for words that are no
-/// command, 1 for any other fault, a refused event or a failed write, else 0. What is for people
-/// alone is told by the second writer: usage, what is wrong with a command line, and faults in
-/// words.
+/// Runs the command that the words ask for, and answers the exit status: 2 for words
+/// that are no command, 1 for any other fault, a refused event or a failed write, else 0. What is
+/// for people alone is told by the second writer: usage, what is wrong with a command line, and
+/// faults in words.
 pub fn program<R, S, W, E>(rt: R, words: &[S], out: &mut W, err: &mut E) -> u8
 where
     R: Files + AllocGlobal + Threads + Wait + Clock,
@@ -207,8 +242,16 @@ where
     E: Write,
     ensures { result ≤ 2 }
 {
-    match run(rt, words, out, err) {
-        Ok(status) => status,
+    let machine = Machine::read(&rt, rt.alloc());
+    match command_told(rt.alloc(), words, machine, err) {
+        Ok(command) => match run(rt, command, words, out, err) {
+            Ok(status) => status,
+            Err(fault) => {
+                tell(err, command, fault);
+                print_fault(out, fault);
+                fault.status()
+            }
+        },
         Err(fault) => {
             print_fault(out, fault);
             fault.status()

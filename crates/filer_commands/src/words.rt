@@ -2,9 +2,10 @@
 
 use crate::admin_words::{self, census, grow};
 use crate::choice::Command;
-use crate::export_words::{self, export};
+use crate::export_words::{self, address_in, export};
 use crate::limits::{MOST_CONNECTIONS, MOST_VOLUMES, MOST_WORKERS, USUAL_WORKERS};
 use crate::machine::Machine;
+use crate::wrong_value::{NUMBER, WrongValue, wrong};
 use clap::error::ErrorKind;
 use clap::{Arg, ArgAction, ArgMatches, Error, value_parser};
 use scripts::ProgramFault;
@@ -12,16 +13,15 @@ use server_options::Options;
 use std::alloc::{AllocError, Global};
 use std::convert::AsStr;
 use std::io::{self, Write};
-use std::net::SocketAddr;
 
 /// What stands behind the help of `filer`, of `replay` and of `serve`.
 const EXAMPLES: &str = "\
 Examples:
   filer replay script.txt
   filer serve --listen 127.0.0.1:2049 --volumes 1 --workers 2 --connections 1
-  filer export --listen 127.0.0.1:2049
-  filer census --server 127.0.0.1:2049
-  filer grow --volume 0 --ranges 1 --server 127.0.0.1:2049";
+  filer export
+  filer census
+  filer grow --volume 0 --ranges 1";
 
 const REPLAY_EXAMPLE: &str = "\
 Example:
@@ -33,7 +33,7 @@ Example:
 
 Whoever can reach the address may do everything: bind to 127.0.0.1 or a private network.";
 
-/// What is told where an address, a network or a size can't be read.
+/// What `serve` tells where its address can't be read. Its lines are fixed.
 const VALUE_HELP: &str = "\
 error: the value for '--listen <ADDR>' is no address, or that for '--server <ADDR>', or one for
 '--allow <NETWORK>' is no network, or that for '--size <BYTES>' or '--file-size <BYTES>' no size:
@@ -116,39 +116,35 @@ fn declared<'a>(alloc: Global) -> Result<clap::Command<'a>, AllocError> {
 }
 
 /// The script's path.
-fn path_in<'a>(matches: &ArgMatches<'a>) -> Option<Command<'a>> {
-    let path = matches.get_str("FILE")?;
-    Some(Command::Replay { path })
+fn path_in<'a>(matches: &ArgMatches<'a>) -> Command<'a> {
+    let path = matches.get_str("FILE").unwrap_or("");
+    Command::Replay { path }
 }
 
-/// What a server is asked to do.
-fn options_in<'a>(matches: &ArgMatches<'a>) -> Option<Command<'a>> {
-    let address = matches.get_str("listen")?.parse::<SocketAddr>().ok()?;
-    let volumes = matches.get_one::<u64>("volumes")?;
-    let workers = matches.get_one::<u64>("workers")?;
-    let connections = matches.get_one::<u64>("connections")?;
-    let options = Options::new(
-        address,
-        volumes as usize,
-        workers as usize,
-        Some(connections),
-    )?;
-    Some(Command::Serve(options))
+/// What `serve` is asked to do. The parse gives all of its numbers, each in its range.
+fn options_in<'a>(matches: &ArgMatches<'a>) -> Result<Command<'a>, WrongValue<'a>> {
+    let address = address_in(matches, "listen")?;
+    let volumes = matches.get_one::<u64>("volumes").unwrap_or(0);
+    let workers = matches.get_one::<u64>("workers").unwrap_or(0);
+    let connections = matches.get_one::<u64>("connections");
+    match Options::new(address, volumes as usize, workers as usize, connections) {
+        Some(options) => Ok(Command::Serve(options)),
+        None => Err(wrong("volumes", "", NUMBER)),
+    }
 }
 
 /// What was parsed, as a command on a machine.
-fn chosen<'a>(matches: &ArgMatches<'a>, machine: Machine) -> Option<Command<'a>> {
+fn chosen<'a>(matches: &ArgMatches<'a>, machine: Machine) -> Result<Command<'a>, WrongValue<'a>> {
     match matches.subcommand() {
-        Some(("replay", inner)) => path_in(inner),
+        Some(("replay", inner)) => Ok(path_in(inner)),
         Some(("serve", inner)) => options_in(inner),
         Some(("export", inner)) => {
             let options = export_words::options_in(inner, machine)?;
-            Some(Command::Export(options))
+            Ok(Command::Export(options))
         }
         Some(("census", inner)) => admin_words::census_in(inner),
         Some(("grow", inner)) => admin_words::grow_in(inner),
-        Some(("version", _)) => Some(Command::Version),
-        _ => None,
+        _ => Ok(Command::Version),
     }
 }
 
@@ -159,13 +155,19 @@ fn fault_of(error: &Error) -> ProgramFault {
     }
 }
 
-/// Whether the words ask for the help of `export`, `census` or `grow`, which was found so.
-fn asks_command_help<S: AsStr>(words: &[S], error: &Error) -> bool {
-    match (error.kind(), words.get(1)) {
-        (ErrorKind::DisplayHelp, Some(word)) => {
-            matches!(word.as_str(), "export" | "census" | "grow")
-        }
-        _ => false,
+/// Whether the words are about a server or a script whose lines are fixed: its help is no command.
+fn is_fixed<S: AsStr>(words: &[S]) -> bool {
+    match words.get(1) {
+        Some(word) => matches!(word.as_str(), "replay" | "serve"),
+        None => false,
+    }
+}
+
+/// Whether the words ask for the version by an option.
+fn asks_version<S: AsStr>(words: &[S]) -> bool {
+    match words.get(1) {
+        Some(word) => words.len() == 2 && matches!(word.as_str(), "--version" | "-V"),
+        None => false,
     }
 }
 
@@ -176,52 +178,64 @@ pub(crate) fn print_help<'a, S: AsStr, W: Write>(
     out: &mut W,
 ) -> Result<(), ProgramFault> {
     let declared = declared(alloc)?;
-    match declared.try_get_matches_from(words) {
+    let alone = words.len() <= 1;
+    let parsed = if alone {
+        declared.try_get_matches_from(&["filer", "--help"])
+    } else {
+        declared.try_get_matches_from(words)
+    };
+    match parsed {
         Ok(_matches) => Ok(()),
         Err(error) => write!(out, "{error}").map_err(|_failed| ProgramFault::Output),
     }
 }
 
-/// Tells that an address, a network or a size of a command line is none: all else that a parse
-/// admits is a command.
-fn tell_of_value<E: Write>(err: &mut E) {
-    let _told = err.write_all(VALUE_HELP.as_bytes());
-}
-
 /// The command that the words ask for; the first word is the program's name. Where no number of
 /// workers is named, `export` has four; where no size, its volumes have 1 GiB between them.
 ///
-/// `CommandLine` where the words are no command or ask for help, but of `export`, `census` and
-/// `grow`, `NoMemory` where memory ran out.
+/// `CommandLine` where the words are no command or ask for the help of `replay` or `serve`,
+/// `NoMemory` where memory ran out.
 pub fn command<'a, S: AsStr>(alloc: Global, words: &'a [S]) -> Result<Command<'a>, ProgramFault> {
     let machine = Machine {
         processors: USUAL_WORKERS,
         memory: None,
+        limit: None,
     };
     command_told(alloc, words, machine, &mut io::sink())
 }
 
 /// The same on a machine: where no number of workers is named, `export` has as many as processors,
-/// but at most four; where no size, its volumes have a quarter of the memory between them. Where
-/// the words are no command it tells for people what is wrong with them and how they would be
-/// right, or the help that they ask for.
+/// but at most four; where no size, its volumes have a quarter of the memory between them, or half
+/// of what a control group of the process may take, where that is less. Where the words are no
+/// command it tells for people what is wrong with them and how they would be right, or the help
+/// that they ask for.
 pub fn command_told<'a, S: AsStr, E: Write>(
     alloc: Global,
     words: &'a [S],
     machine: Machine,
     err: &mut E,
 ) -> Result<Command<'a>, ProgramFault> {
+    if words.len() <= 1 {
+        return Ok(Command::Help);
+    }
+    if asks_version(words) {
+        return Ok(Command::Version);
+    }
     let declared = declared(alloc)?;
     match declared.try_get_matches_from(words) {
         Ok(matches) => match chosen(&matches, machine) {
-            Some(command) => Ok(command),
-            None => {
-                tell_of_value(err);
+            Ok(command) => Ok(command),
+            Err(wrong) => {
+                let _told = if is_fixed(words) {
+                    err.write_all(VALUE_HELP.as_bytes())
+                } else {
+                    writeln!(err, "{wrong}")
+                };
                 Err(ProgramFault::CommandLine)
             }
         },
         Err(error) => {
-            if asks_command_help(words, &error) {
+            if error.kind() == ErrorKind::DisplayHelp && !is_fixed(words) {
                 return Ok(Command::Help);
             }
             let _told = write!(err, "{error}");

@@ -1,2 +1,3 @@
 mod Remaining
 mod Ended
+mod Headline

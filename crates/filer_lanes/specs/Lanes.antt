@@ -43,9 +43,13 @@ module _ {D R : Type 0} {G : devices.Ghosts D} where
   abbrev pub admitted_by : Weight → Lane D R G → ℕ
   admitted_by weight lane = total (by_key weight) (put_in lane)
 
-  -- the calls that its worker finished, weighed
+  -- the calls that its worker finished, in their order
+  abbrev pub entries_by : Lane D R G → List FilerEntry
+  entries_by lane = entries_in (worker_in lane)
+
+  -- these weighed
   abbrev pub finished_by : (FilerEntry → ℕ) → Lane D R G → ℕ
-  finished_by weight lane = total weight (entries_in (worker_in lane))
+  finished_by weight lane = total weight (entries_by lane)
 
   -- the lane is of this filer
   abbrev pub IsLaneOf : Filer → Lane D R G → Type 0

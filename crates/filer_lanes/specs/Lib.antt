@@ -3,3 +3,4 @@ pub mod Queues
 pub mod Remains
 pub mod Rooms
 pub mod Ends
+pub mod ThreadedHeadline

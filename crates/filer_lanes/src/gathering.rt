@@ -1,13 +1,14 @@
 //! All lanes of a filer, put together.
 
 ghost use Rattle.std.specs.Prelude.{◌≡◌, ◌<◌, ◌≤◌, ◌+◌, ◌*◌, ℕ, All};
-ghost use Rattle.std.specs.Prelude.{vec_len, vec_capacity};
+ghost use Rattle.std.specs.Prelude.{◌∷◌, ◌++◌, [], List, map, vec_len, vec_capacity};
 ghost use Rattle.depot.specs.Words.{splits_left, view};
 ghost use Rattle.depot_rule.specs.History.{entries_of};
+ghost use Rattle.depot_rule.specs.Placed.{HasPlaced};
 ghost use Rattle.depot_rule.specs.Sums.{total};
 ghost use Rattle.filer_lanes.specs.Ends.{HaveStopped};
-ghost use Rattle.filer_lanes.specs.Lanes.{admitted_by, finished_by, seats_of, AreLanesOf};
-ghost use Rattle.filer_lanes.specs.Lanes.{IsLaneOf};
+ghost use Rattle.filer_lanes.specs.Lanes.{admitted_by, entries_by, finished_by, seats_of};
+ghost use Rattle.filer_lanes.specs.Lanes.{AreLanesOf, IsLaneOf};
 ghost use Rattle.filer_lanes.specs.Remains.{calls_in, AreRemainsIn};
 ghost use Rattle.granted_calls.specs.Balance.{FilerEntry, Weight};
 
@@ -34,6 +35,7 @@ fn begin<D: Device + Drop, R: Wait + Drop>(
     ensures calls { (weight : Weight) → calls_in weight result ≡ admitted_by weight lane }
     ensures entries { (weight : FilerEntry → ℕ)
         → total weight (entries_of (view result.seat)) ≡ finished_by weight lane }
+    ensures placed { HasPlaced (view result.seat) (entries_by lane ∷ []) }
     ensures len { (vec_len result.hands ≤ 1) × (vec_len result.kept ≤ 1)
         × (vec_len result.waiting ≤ 1024) }
     ensures room { (room.lanes ≤ vec_capacity result.hands)
@@ -52,11 +54,12 @@ fn begin<D: Device + Drop, R: Wait + Drop>(
         pass,
     } = lane.into_parts();
     let WorkerParts {
-        seat,
+        mut seat,
         pass: picks,
         hand,
         kept: message,
     } = worker.into_parts();
+    filer.depot().look_back(&mut seat);
     push_batch(&mut hands, hand);
     push_kept(&mut kept, message);
     let waiting = drain_behind(&queue, rt, queue.join_pass(pass, picks), waiting);
@@ -87,6 +90,8 @@ fn join<D: Device + Drop, R: Wait + Drop>(
     ensures entries { (weight : FilerEntry → ℕ)
         → total weight (entries_of (view result.seat))
         ≡ total weight (entries_of (view remains.seat)) + finished_by weight lane }
+    ensures placed { (lists : List (List FilerEntry)) → HasPlaced (view remains.seat) lists
+        → HasPlaced (view result.seat) (entries_by lane ∷ lists) }
     ensures len { (vec_len result.hands ≤ vec_len remains.hands + 1)
         × (vec_len result.kept ≤ vec_len remains.kept + 1)
         × (vec_len result.waiting ≤ vec_len remains.waiting + 1024) }
@@ -106,11 +111,12 @@ fn join<D: Device + Drop, R: Wait + Drop>(
         pass,
     } = lane.into_parts();
     let WorkerParts {
-        seat: other,
+        seat: mut other,
         pass: picks,
         hand,
         kept: message,
     } = worker.into_parts();
+    filer.depot().look_back(&mut other);
     push_batch(&mut hands, hand);
     push_kept(&mut kept, message);
     let waiting = drain_behind(&queue, rt, queue.join_pass(pass, picks), waiting);
@@ -143,6 +149,8 @@ fn join_all<D: Device + Drop, R: Wait + Drop>(
         → total weight (entries_of (view result.seat))
         ≡ total weight (entries_of (view remains.seat))
         + total (finished_by weight) lanes.items }
+    ensures placed { (lists : List (List FilerEntry)) → HasPlaced (view remains.seat) lists
+        → HasPlaced (view result.seat) (map entries_by lanes.items ++ lists) }
 {
     while let Some(lane) = lanes.pop() {
         remains = join(filer, rt, remains, lane);

@@ -2,6 +2,8 @@
 
 ghost use Rattle.std.specs.Prelude.{◌≡◌, ◌≤◌, ◌<◌, [], IfOk, vec_len, vec_capacity};
 ghost use Rattle.std.specs.Arc.{arc_value};
+ghost use Rattle.affinity.specs.Layout.{layout_of};
+ghost use Rattle.granted_calls.specs.Filers.{layout_in, verifier_in};
 ghost use Rattle.lanes.specs.Words.{identity_in, worker_in};
 ghost use Rattle.filer_lanes.specs.Lanes.{AllOffer, AreLanesOf, IsLaneOf};
 ghost use Rattle.filer_lanes.specs.Queues.{IsNewQueue, IsReadyLane};
@@ -67,8 +69,9 @@ where
     ))
 }
 
-/// All lanes of a filer, this many, which read by what is offered, with their connections over
-/// devices of one type, of which each lane has at most this many.
+/// All lanes of a filer of this layout, whose writes have this verifier: so many lanes, which read
+/// by what is offered, with their connections over devices of one type, of which each lane has at
+/// most this many.
 pub fn open_lanes<D, R>(
     rt: R,
     alloc: Global,
@@ -85,6 +88,8 @@ where
     requires count { (0 < count) × (count ≤ 64) }
     requires none { lanes.items ≡ [] }
     requires room { count ≤ vec_capacity lanes }
+    ensures layout { IfOk result (λ made. layout_in (arc_value made.0) ≡ layout_of layout) }
+    ensures verifier { IfOk result (λ made. verifier_in (arc_value made.0) ≡ verifier) }
     ensures lanes { IfOk result (λ made. AreLanesOf (arc_value made.0) made.1.items) }
     ensures offer { IfOk result (λ made. AllOffer offer made.1.items) }
     ensures count { IfOk result (λ made. vec_len made.1 ≡ count) }

@@ -12,7 +12,7 @@ use filer_lanes::{FilerEnd, Room, end};
 use granted_calls::{Unwatched, Wanted};
 use nfs_values::Moment;
 use std::process::Abort;
-use std::sync::Wait;
+use std::sync::{Arc, Wait};
 
 /// How many bytes the replies have, to a NULL call and to a GETATTR.
 const REPLIES: usize = 144;
@@ -73,6 +73,23 @@ fn close_both<R: Abort + AllocGlobal + Wait + Copy + Drop>(rt: R, takes: usize) 
     let end = end(&rt, filer, lanes, room);
     assert!(&rt; end.unfinished() == 2);
     assert!(&rt; matches!(end, FilerEnd::Closed(_)));
+}
+
+/// Both lanes of a filer are put together while someone else has it still: all its parcels are
+/// granted.
+fn hold_both<R: Abort + AllocGlobal + Wait + Copy + Drop>(rt: R) {
+    let (filer, lanes) = open_both(rt);
+    let other = Arc::try_clone(&filer).expect(&rt, "no memory");
+    let room = Room::new(rt.alloc(), 2).expect(&rt, "no memory");
+    let end = end(&rt, filer, lanes, room);
+    assert!(&rt; end.unfinished() == 0);
+    assert!(&rt; matches!(end, FilerEnd::Held(_)));
+    drop(other);
+}
+
+#[test]
+fn a_filer_that_is_shared_is_held(rt: HostRuntime) {
+    hold_both(rt);
 }
 
 #[test]

@@ -2,7 +2,7 @@
 
 ghost use Rattle.std.specs.Prelude.{Some, IfSome};
 ghost use Rattle.filer_lanes.specs.Lanes.{Stays};
-ghost use Rattle.lane_rows.specs.Written.{WasWritten};
+ghost use Rattle.lanes.specs.Written.{WasWritten};
 
 use crate::memory::{Memory, device};
 use crate::opening::{MemoryLane, open_lanes};

@@ -39,8 +39,9 @@ fn fill(block: &mut [u8], bytes: &[u8], size: usize)
 
 impl Device for Memory {
     ghost use Rattle.std.specs.Prelude.{Some};
+    ghost use Rattle.connections.specs.Incoming.{Unread};
 
-    ghost unread = { λ m. Some (drop m.given m.stream.items) };
+    ghost unread = { λ m. Unread (drop m.given m.stream.items) };
 
     ghost written = { λ m. Some m.taken.items };
 

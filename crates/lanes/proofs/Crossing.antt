@@ -4,6 +4,7 @@ use denote.Param.Send.{IsSend, sendable, view_send}
 use denote.Param.SendFields.{declared_send}
 use Rattle.std.proofs.Crossing.{crosses, send, frees}
 use Rattle.slab.proofs.Slab.TheSendSync as slab
+use Rattle.histories.proofs.history.History.TheSendSync as history
 use Rattle.statistics.proofs.counts.ReplyCounts.TheSendSync as counts
 use Rattle.rpc_msg.proofs.handle_form.HandleForm.TheSendSync as form
 use Rattle.rpc_msg.proofs.offer.Offer.TheSendSync as offer
@@ -110,7 +111,7 @@ lane-send D R G d r = declared_send (Lane.the_type D R G) (
         search (filer-send, filer-sync, crosses, sendable) depth 20,
         (
           search (intake-send, r, sendable) depth 20,
-          (slab.the_send _ _ _ (connection-send D d) send frees, tt),
+          (slab.the_send _ _ _ (connection-send D d) send frees, (history.the_send (Connection.the_row D), tt)),
         ),
       ),
     ),

@@ -1,9 +1,10 @@
 -- The story of a lane, call by call.
-use Rattle.std.proofs.Common.{◌≡◌, ◌≢◌, ◌==◌, ◌<◌, ◌≤◌, ℕ, ◌+◌, Bool, true, false, if◌then◌else◌, List, [], ◌∷◌, ◌++◌, map, Option}
+use Rattle.std.proofs.Common.{◌≡◌, ◌≢◌, ◌==◌, ◌<◌, ◌≤◌, ℕ, ◌+◌, Bool, true, false, if◌then◌else◌, List, [], ◌∷◌, ◌++◌, length, map, Option}
 use Rattle.std.proofs.Common.{Some, None, refl, sym, ap, subst, ◌∙◌, append-nil, cond, ne_eqb, arith}
 use Rattle.std.specs.FinMap.{get}
 use Rattle.std.proofs.Math.Arith.{lt_of_le-ne}
 use Rattle.std.proofs.lemmas.Bool.{eqb-false}
+use Rattle.std.proofs.lemmas.List.{length_push}
 use Rattle.std.proofs.lemmas.Map.Views.{exact_unsigned_eq}
 use Rattle.depot_rule.specs.Sums.{total}
 use Rattle.depot_rule.specs.lemmas.Sums.{total-append}
@@ -21,18 +22,19 @@ use Rattle.granted_calls.specs.Messages.{Message}
 use Rattle.engine_feed.specs.Seen.{message_of}
 use Rattle.tcp_front.specs.Admitted.{calls_of}
 use Rattle.tcp_front.specs.Arrivals.{Arrival, arrivals}
+use Rattle.connections.specs.Incoming.{Incoming}
 use Rattle.connections.specs.declared.connection.Connection.{Connection}
 use Rattle.connections.specs.Connections.{number_of}
 use Rattle.lanes.specs.Intakes.{all_put, answered_of}
 use Rattle.connections.specs.Reading.{Reads}
 use Rattle.lanes.specs.Story.{of_connection, Served, AtOnce, said_by, told_to, served_of, at_once_of, served_in, number_at, IsServed}
-use Rattle.lanes.specs.Story.{Life, Open, Closed, HasLived, Story}
+use Rattle.lanes.specs.Story.{Life, Open, Closed, HasLived, IsClosedAt, Story}
 use Rattle.connections.specs.Writing.{Writes}
 use Rattle.lanes.specs.lemmas.Coming.{calls-append, answered-append}
 use Rattle.lanes.proofs.Lists.{of-append, of-own, of-other, arrivals-append, served-append, at-once-append, entries-append}
 use Rattle.lanes.proofs.Numbers.{numbers-differ, number-next}
 use Rattle.lanes.proofs.Quiet.{total-seen, total-served, unheard, weigh_seen}
-use Rattle.lanes.proofs.Served.{lived-put, lived-at-once, lived-beside}
+use Rattle.lanes.proofs.Served.{get-last, lived-put, lived-at-once, lived-beside, lived-shut}
 
 -- ---- lists of replies at once
 
@@ -81,22 +83,21 @@ module _ {X : Type 0} where
 
 -- ---- one life changes
 
-module _ {D : Type 0} where
-  -- the lives with another at one place
-  abbrev changed : (ℕ → Life D) → ℕ → Life D → ℕ → Life D
-  changed lives at life k = if k == at then life else lives k
+-- the lives with another at one place
+abbrev changed : (ℕ → Life) → ℕ → Life → ℕ → Life
+changed lives at life k = if k == at then life else lives k
 
-  changed-here : (lives : ℕ → Life D) (at : ℕ) (life : Life D) → changed lives at life at ≡ life
-  changed-here lives at life = ap (λ (b : Bool). if b then life else lives at) (itself at)
+changed-here : (lives : ℕ → Life) (at : ℕ) (life : Life) → changed lives at life at ≡ life
+changed-here lives at life = ap (λ (b : Bool). if b then life else lives at) (itself at)
 
-  changed-there : (lives : ℕ → Life D) (at : ℕ) (life : Life D) (k : ℕ) → k ≢ at → changed lives at life k ≡ lives k
-  changed-there lives at life k d = ap (λ (b : Bool). if b then life else lives k) (ne_eqb k at d)
+changed-there : (lives : ℕ → Life) (at : ℕ) (life : Life) (k : ℕ) → k ≢ at → changed lives at life k ≡ lives k
+changed-there lives at life k d = ap (λ (b : Bool). if b then life else lives k) (ne_eqb k at d)
 
-  abbrev key_of : Life D → ℕ
-  key_of (Open key) = key
-  key_of (Closed last waiting ended) = 0
+abbrev key_of : Life → ℕ
+key_of (Open key) = key
+key_of (Closed at waiting ended) = 0
 
-module _ {D : Type 0} (unread written : D → Option (List ℕ)) (layout : Layout) (offer : Offer) (lane lanes : ℕ) where
+module _ {D : Type 0} (unread : D → Incoming) (written : D → Option (List ℕ)) (layout : Layout) (offer : Offer) (lane lanes : ℕ) where
   abbrev Slots : Type 0
   Slots = ℕ → Option (Connection D)
 
@@ -106,10 +107,10 @@ module _ {D : Type 0} (unread written : D → Option (List ℕ)) (layout : Layou
 
   -- ---- the beginning
 
-  pub story-begins : (entries : List FilerEntry) (messages : List Message) (boxes : Boxes) (slots : Slots) → entries ≡ [] → messages ≡ []
-      → lane < lanes → boxes.step ≡ lanes → boxes.next ≡ lane
-      → ((key : ℕ) → slots key ≡ None) → Story unread written layout offer lane lanes entries messages boxes slots
-  story-begins entries messages boxes slots none no_message within step next vacant = record {
+  pub story-begins : (entries : List FilerEntry) (messages : List Message) (boxes : Boxes) (slots : Slots) (closed : List (Connection D))
+      → entries ≡ [] → messages ≡ [] → lane < lanes → boxes.step ≡ lanes → boxes.next ≡ lane
+      → ((key : ℕ) → slots key ≡ None) → closed ≡ [] → Story unread written layout offer lane lanes entries messages boxes slots closed
+  story-begins entries messages boxes slots closed none no_message within step next vacant no_closed = record {
     came = [];
     endings = [];
     admitted = ap (map message_of) no_message;
@@ -123,16 +124,17 @@ module _ {D : Type 0} (unread written : D → Option (List ℕ)) (layout : Layou
     next = omega (arith, next);
     each = λ k few. absurd (omega (arith, few));
     known = λ key c is. absurd (none-is c (sym (vacant key) ∙ is));
+    gone = λ at few. let e = ap (λ (l : List (Connection D)). length l) no_closed in absurd (omega (arith, few, e));
     only = λ n h. refl;
   }
 
   module _ (entries : List FilerEntry) (messages : List Message) (boxes : Boxes) (slots : Slots)
-      (s : Story unread written layout offer lane lanes entries messages boxes slots) where
+      (closed : List (Connection D)) (s : Story unread written layout offer lane lanes entries messages boxes slots closed) where
     -- ---- no connection changes
 
     -- entries that answer no call
     pub story-turns : (entries' : List FilerEntry) → served_in entries' ≡ served_in entries
-        → Story unread written layout offer lane lanes entries' messages boxes slots
+        → Story unread written layout offer lane lanes entries' messages boxes slots closed
     story-turns entries' same = record {
       came = s.came;
       endings = s.endings;
@@ -151,13 +153,14 @@ module _ {D : Type 0} (unread written : D → Option (List ℕ)) (layout : Layou
       next = s.next;
       each = s.each;
       known = s.known;
+      gone = s.gone;
       only = s.only;
     }
 
     -- one call ended, and its reply was put
     pub story-ends : (e : FilerEntry) (a : Addressed) → said_by (Served e) ≡ Some a → served_in (e ∷ []) ≡ e ∷ []
         → ((h : Weight) → total (by_entry h) (entries ++ e ∷ []) ≤ total (by_key h) messages)
-        → Story unread written layout offer lane lanes (entries ++ e ∷ []) messages (put (answer_told (form_of offer) a) boxes) slots
+        → Story unread written layout offer lane lanes (entries ++ e ∷ []) messages (put (answer_told (form_of offer) a) boxes) slots closed
     story-ends e a said is once = record {
       came = s.came;
       endings = s.endings ++ Served e ∷ [];
@@ -171,8 +174,9 @@ module _ {D : Type 0} (unread written : D → Option (List ℕ)) (layout : Layou
       within = s.within;
       step = s.step;
       next = s.next;
-      each = λ k few. lived-put unread written layout offer boxes slots s.came s.endings (Served e) a said (number_at lane lanes k) (s.lives k) (s.each k few);
+      each = λ k few. lived-put unread written layout offer boxes slots closed s.came s.endings (Served e) a said (number_at lane lanes k) (s.lives k) (s.each k few);
       known = s.known;
+      gone = s.gone;
       only = s.only;
     }
 
@@ -187,7 +191,7 @@ module _ {D : Type 0} (unread written : D → Option (List ℕ)) (layout : Layou
 
     pub story-opens : (slots' : Slots) (key : ℕ) (c : Connection D) → slots key ≡ None → Sets slots key (Some c) slots' → number_of c ≡ boxes.next
         → Reads offer unread c.opened.value c [] → Writes written c.opened.value c [] []
-        → Story unread written layout offer lane lanes entries messages (opened boxes) slots'
+        → Story unread written layout offer lane lanes entries messages (opened boxes) slots' closed
     story-opens slots' key c vacant sets number reads writes = record {
       came = s.came;
       endings = s.endings;
@@ -200,8 +204,8 @@ module _ {D : Type 0} (unread written : D → Option (List ℕ)) (layout : Layou
       within = s.within;
       step = s.step;
       next = ap (λ n. n + boxes.step) s.next ∙ ap (λ n. number_at lane lanes s.opened + n) s.step ∙ number-next lane lanes s.opened;
-      each = λ k few. either k s.opened (HasLived unread written layout offer s.came s.endings (opened boxes) slots' (number_at lane lanes k) (lives' k))
-          (λ e. subst (λ j. HasLived unread written layout offer s.came s.endings (opened boxes) slots' (number_at lane lanes j) (lives' j)) (sym e) here)
+      each = λ k few. either k s.opened (HasLived unread written layout offer s.came s.endings (opened boxes) slots' closed (number_at lane lanes k) (lives' k))
+          (λ e. subst (λ j. HasLived unread written layout offer s.came s.endings (opened boxes) slots' closed (number_at lane lanes j) (lives' j)) (sym e) here)
           (λ d. there k (lt_of_le-ne (omega (arith, few)) d) d);
       known = λ other d at. either other key ((k : ℕ) × (k < s.opened + 1) × (lives' k ≡ Open other))
           (λ e. (s.opened, omega arith, changed-here s.lives s.opened (Open key) ∙ ap Open (sym e)))
@@ -210,10 +214,16 @@ module _ {D : Type 0} (unread written : D → Option (List ℕ)) (layout : Layou
             (let few = f.1 in omega (arith, few)),
             changed-there s.lives s.opened (Open key) f.0 (λ e. let few = f.1 in absurd (omega (arith, few, e))) ∙ f.2,
           ));
+      gone = λ at few. let f = s.gone at few in (
+        f.0,
+        (let less = f.1 in omega (arith, less)),
+        subst (λ (x : Life). IsClosedAt at x)
+            (sym (changed-there s.lives s.opened (Open key) f.0 (λ e. let less = f.1 in absurd (omega (arith, less, e))))) f.2,
+      );
       only = λ n h. s.only n (λ k few. h k (omega (arith, few)));
     }
       where
-        lives' : ℕ → Life D
+        lives' : ℕ → Life
         lives' = changed s.lives s.opened (Open key)
 
         own : number_of c ≡ number_at lane lanes s.opened
@@ -222,8 +232,8 @@ module _ {D : Type 0} (unread written : D → Option (List ℕ)) (layout : Layou
         box : (n : ℕ) → get (opened boxes).waiting n ≡ cond (n == boxes.next) (Some []) (get boxes.waiting n)
         box n = get-insert_at boxes.waiting boxes.next [] n
 
-        here : HasLived unread written layout offer s.came s.endings (opened boxes) slots' (number_at lane lanes s.opened) (lives' s.opened)
-        here = subst (λ (x : Life D). HasLived unread written layout offer s.came s.endings (opened boxes) slots' (number_at lane lanes s.opened) x)
+        here : HasLived unread written layout offer s.came s.endings (opened boxes) slots' closed (number_at lane lanes s.opened) (lives' s.opened)
+        here = subst (λ (x : Life). HasLived unread written layout offer s.came s.endings (opened boxes) slots' closed (number_at lane lanes s.opened) x)
             (sym (changed-here s.lives s.opened (Open key))) (
               c,
               [],
@@ -245,11 +255,11 @@ module _ {D : Type 0} (unread written : D → Option (List ℕ)) (layout : Layou
             )
 
         there : (k : ℕ) → k < s.opened → k ≢ s.opened
-            → HasLived unread written layout offer s.came s.endings (opened boxes) slots' (number_at lane lanes k) (lives' k)
+            → HasLived unread written layout offer s.came s.endings (opened boxes) slots' closed (number_at lane lanes k) (lives' k)
         there k few d =
-            subst (λ (x : Life D). HasLived unread written layout offer s.came s.endings (opened boxes) slots' (number_at lane lanes k) x)
+            subst (λ (x : Life). HasLived unread written layout offer s.came s.endings (opened boxes) slots' closed (number_at lane lanes k) x)
             (sym (changed-there s.lives s.opened (Open key) k d))
-            (lived-beside unread written layout offer s.came s.came s.endings boxes (opened boxes) slots slots' (number_at lane lanes k) (s.lives k) refl
+            (lived-beside unread written layout offer s.came s.came s.endings boxes (opened boxes) slots slots' closed (number_at lane lanes k) (s.lives k) refl
             (box (number_at lane lanes k) ∙ ap (λ b. cond b (Some []) (get boxes.waiting (number_at lane lanes k)))
             (ne_eqb (number_at lane lanes k) boxes.next (λ e. next-new k few (sym s.next ∙ sym e))))
             (λ other d at is. sets.1 other (λ e. none-is d (sym vacant ∙ ap slots (sym e) ∙ at)) ∙ at) (s.each k few))
@@ -267,8 +277,8 @@ module _ {D : Type 0} (unread written : D → Option (List ℕ)) (layout : Layou
       is-open : s.lives place ≡ Open key
       is-open = (s.known key c was).2
 
-      own-life : HasLived unread written layout offer s.came s.endings boxes slots (number_at lane lanes place) (Open key)
-      own-life = subst (λ (x : Life D). HasLived unread written layout offer s.came s.endings boxes slots (number_at lane lanes place) x) is-open
+      own-life : HasLived unread written layout offer s.came s.endings boxes slots closed (number_at lane lanes place) (Open key)
+      own-life = subst (λ (x : Life). HasLived unread written layout offer s.came s.endings boxes slots closed (number_at lane lanes place) x) is-open
           (s.each place placed)
 
       own-same : own-life.0 ≡ c
@@ -309,16 +319,16 @@ module _ {D : Type 0} (unread written : D → Option (List ℕ)) (layout : Layou
 
       -- each connection that the lane had, by this one and the others
       each-by : (came' : List Arrival) (boxes' : Boxes)
-          → HasLived unread written layout offer came' s.endings boxes' slots' (number_at lane lanes (place key c was)) (Open key)
+          → HasLived unread written layout offer came' s.endings boxes' slots' closed (number_at lane lanes (place key c was)) (Open key)
           → ((n : ℕ) → n ≢ number_of c → of_connection n came' ≡ of_connection n s.came)
           → ((n : ℕ) → n ≢ number_of c → get boxes'.waiting n ≡ get boxes.waiting n)
-          → (k : ℕ) → k < s.opened → HasLived unread written layout offer came' s.endings boxes' slots' (number_at lane lanes k) (s.lives k)
+          → (k : ℕ) → k < s.opened → HasLived unread written layout offer came' s.endings boxes' slots' closed (number_at lane lanes k) (s.lives k)
       each-by came' boxes' here quiet waits k few =
-          either k (place key c was) (HasLived unread written layout offer came' s.endings boxes' slots' (number_at lane lanes k) (s.lives k))
-          (λ e. subst (λ j. HasLived unread written layout offer came' s.endings boxes' slots' (number_at lane lanes j) (s.lives j)) (sym e)
-          (subst (λ (x : Life D). HasLived unread written layout offer came' s.endings boxes' slots' (number_at lane lanes (place key c was)) x)
+          either k (place key c was) (HasLived unread written layout offer came' s.endings boxes' slots' closed (number_at lane lanes k) (s.lives k))
+          (λ e. subst (λ j. HasLived unread written layout offer came' s.endings boxes' slots' closed (number_at lane lanes j) (s.lives j)) (sym e)
+          (subst (λ (x : Life). HasLived unread written layout offer came' s.endings boxes' slots' closed (number_at lane lanes (place key c was)) x)
           (sym (is-open key c was)) here))
-          (λ n. lived-beside unread written layout offer s.came came' s.endings boxes boxes' slots slots' (number_at lane lanes k) (s.lives k)
+          (λ n. lived-beside unread written layout offer s.came came' s.endings boxes boxes' slots slots' closed (number_at lane lanes k) (s.lives k)
           (quiet (number_at lane lanes k) (others-differ key c was k n)) (waits (number_at lane lanes k) (others-differ key c was k n))
           (λ other d at is. sets.1 other (other-key key c was k other d n at is) ∙ at) (s.each k few))
 
@@ -327,9 +337,9 @@ module _ {D : Type 0} (unread written : D → Option (List ℕ)) (layout : Layou
           → boxes' ≡ all_put (map (answer_told (form_of offer)) (answered_of (arrivals layout (number_of c) c.stream.records heard))) boxes
           → ((before : List Heard) → Reads offer unread c.opened.value c before → Reads offer unread c.opened.value c' (before ++ heard))
           → ((waiting replies : List ReplyMessage) → Writes written c.opened.value c waiting replies → Writes written c.opened.value c' waiting replies)
-          → Story unread written layout offer lane lanes entries messages' boxes' slots'
+          → Story unread written layout offer lane lanes entries messages' boxes' slots' closed
       story-reads messages' heard boxes' admitted put reads writes =
-          subst (λ (b : Boxes). Story unread written layout offer lane lanes entries messages' b slots') (sym put) all
+          subst (λ (b : Boxes). Story unread written layout offer lane lanes entries messages' b slots' closed) (sym put) all
         where
           xs : List Arrival
           xs = arrivals layout (number_of c) c.stream.records heard
@@ -356,7 +366,7 @@ module _ {D : Type 0} (unread written : D → Option (List ℕ)) (layout : Layou
                 (writes (own-waiting key c was) (told_to offer (number_of c) s.endings) old.writes));
           }
 
-          here : HasLived unread written layout offer (s.came ++ xs) s.endings boxes slots' (number_at lane lanes (place key c was)) (Open key)
+          here : HasLived unread written layout offer (s.came ++ xs) s.endings boxes slots' closed (number_at lane lanes (place key c was)) (Open key)
           here = (
             c',
             own-waiting key c was,
@@ -366,7 +376,7 @@ module _ {D : Type 0} (unread written : D → Option (List ℕ)) (layout : Layou
             served,
           )
 
-          all : Story unread written layout offer lane lanes entries messages' (all_put (map (answer_told (form_of offer)) answers) boxes) slots'
+          all : Story unread written layout offer lane lanes entries messages' (all_put (map (answer_told (form_of offer)) answers) boxes) slots' closed
           all = record {
             came = s.came ++ xs;
             endings = s.endings ++ map AtOnce answers;
@@ -381,9 +391,10 @@ module _ {D : Type 0} (unread written : D → Option (List ℕ)) (layout : Layou
             within = s.within;
             step = put-step (map (answer_told (form_of offer)) answers) boxes ∙ s.step;
             next = put-next (map (answer_told (form_of offer)) answers) boxes ∙ s.next;
-            each = λ k few. lived-at-once unread written layout offer answers boxes slots' (s.came ++ xs) s.endings (number_at lane lanes k) (s.lives k)
+            each = λ k few. lived-at-once unread written layout offer answers boxes slots' closed (s.came ++ xs) s.endings (number_at lane lanes k) (s.lives k)
                 (each-by (s.came ++ xs) boxes here quiet (λ n d. refl) k few);
             known = known-still;
+            gone = s.gone;
             only = λ n h. quiet n (λ e. h (place key c was) (placed key c was) (e ∙ own-number key c was)) ∙ s.only n h;
           }
 
@@ -392,7 +403,7 @@ module _ {D : Type 0} (unread written : D → Option (List ℕ)) (layout : Layou
           → ((heard : List Heard) → Reads offer unread c.opened.value c heard → Reads offer unread c.opened.value c' heard)
           → ((waiting replies : List ReplyMessage) → get boxes.waiting (number_of c) ≡ Some waiting → Writes written c.opened.value c waiting replies
           → (waiting' : List ReplyMessage) × (get boxes'.waiting (number_of c) ≡ Some waiting') × Writes written c.opened.value c' waiting' replies)
-          → Story unread written layout offer lane lanes entries messages boxes' slots'
+          → Story unread written layout offer lane lanes entries messages boxes' slots' closed
       story-writes boxes' next step others reads writes = record {
         came = s.came;
         endings = s.endings;
@@ -407,6 +418,7 @@ module _ {D : Type 0} (unread written : D → Option (List ℕ)) (layout : Layou
         next = next ∙ s.next;
         each = each-by s.came boxes' here (λ n d. refl) others;
         known = known-still;
+        gone = s.gone;
         only = s.only;
       }
         where
@@ -414,7 +426,7 @@ module _ {D : Type 0} (unread written : D → Option (List ℕ)) (layout : Layou
               × Writes written c.opened.value c' waiting' (told_to offer (number_of c) s.endings)
           left = writes (own-waiting key c was) (told_to offer (number_of c) s.endings) (own-box key c was) old.writes
 
-          here : HasLived unread written layout offer s.came s.endings boxes' slots' (number_at lane lanes (place key c was)) (Open key)
+          here : HasLived unread written layout offer s.came s.endings boxes' slots' closed (number_at lane lanes (place key c was)) (Open key)
           here = (
             c',
             left.0,
@@ -434,7 +446,7 @@ module _ {D : Type 0} (unread written : D → Option (List ℕ)) (layout : Layou
 
     pub story-shuts : (slots' : Slots) (key : ℕ) (c : Connection D) → slots key ≡ Some c → Sets slots key None slots'
         → ((n : ℕ) → n ≢ number_of c → get (shut (number_of c) boxes).waiting n ≡ get boxes.waiting n)
-        → Story unread written layout offer lane lanes entries messages (shut (number_of c) boxes) slots'
+        → Story unread written layout offer lane lanes entries messages (shut (number_of c) boxes) slots' (closed ++ c ∷ [])
     story-shuts slots' key c was sets others = record {
       came = s.came;
       endings = s.endings;
@@ -447,16 +459,25 @@ module _ {D : Type 0} (unread written : D → Option (List ℕ)) (layout : Layou
       within = s.within;
       step = s.step;
       next = s.next;
-      each = λ k few. either k at (HasLived unread written layout offer s.came s.endings boxes' slots' (number_at lane lanes k) (lives' k))
-          (λ e. subst (λ j. HasLived unread written layout offer s.came s.endings boxes' slots' (number_at lane lanes j) (lives' j)) (sym e) here)
+      each = λ k few. either k at (HasLived unread written layout offer s.came s.endings boxes' slots' closed' (number_at lane lanes k) (lives' k))
+          (λ e. subst (λ j. HasLived unread written layout offer s.came s.endings boxes' slots' closed' (number_at lane lanes j) (lives' j)) (sym e) here)
           (λ n. there k few n);
       known = λ other d is. either other key ((k : ℕ) × (k < s.opened) × (lives' k ≡ Open other))
           (λ e. absurd (none-is d (sym sets.0 ∙ ap slots' (sym e) ∙ is)))
           (λ n. let f = s.known other d (sym (sets.1 other n) ∙ is) in (
             f.0,
             f.1,
-            changed-there s.lives at closed f.0
+            changed-there s.lives at shut-life f.0
                 (λ e. n (ap key_of (sym f.2 ∙ ap s.lives e ∙ is-open key c was))) ∙ f.2,
+          ));
+      gone = λ place few. either place (length closed) ((k : ℕ) × (k < s.opened) × IsClosedAt place (lives' k))
+          (λ e. (at, placed key c was, subst (λ (x : Life). IsClosedAt place x) (sym (changed-here s.lives at shut-life)) (sym e)))
+          (λ n. let f = s.gone place (lt_of_le-ne (let l = length_push closed c in omega (arith, few, l)) n) in (
+            f.0,
+            f.1,
+            subst (λ (x : Life). IsClosedAt place x)
+                (sym (changed-there s.lives at shut-life f.0
+                (λ e. subst (λ (x : Life). IsClosedAt place x) (ap s.lives e ∙ is-open key c was) f.2))) f.2,
           ));
       only = s.only;
     }
@@ -467,21 +488,25 @@ module _ {D : Type 0} (unread written : D → Option (List ℕ)) (layout : Layou
         boxes' : Boxes
         boxes' = shut (number_of c) boxes
 
-        closed : Life D
-        closed = Closed c (own-waiting key c was) s.endings
+        closed' : List (Connection D)
+        closed' = closed ++ c ∷ []
 
-        lives' : ℕ → Life D
-        lives' = changed s.lives at closed
+        shut-life : Life
+        shut-life = Closed (length closed) (own-waiting key c was) s.endings
 
-        here : HasLived unread written layout offer s.came s.endings boxes' slots' (number_at lane lanes at) (lives' at)
-        here = subst (λ (x : Life D). HasLived unread written layout offer s.came s.endings boxes' slots' (number_at lane lanes at) x)
-            (sym (changed-here s.lives at closed))
-            ([], sym (append-nil s.endings), own-number key c was, own-served key c was)
+        lives' : ℕ → Life
+        lives' = changed s.lives at shut-life
 
-        there : (k : ℕ) → k < s.opened → k ≢ at → HasLived unread written layout offer s.came s.endings boxes' slots' (number_at lane lanes k) (lives' k)
+        here : HasLived unread written layout offer s.came s.endings boxes' slots' closed' (number_at lane lanes at) (lives' at)
+        here = subst (λ (x : Life). HasLived unread written layout offer s.came s.endings boxes' slots' closed' (number_at lane lanes at) x)
+            (sym (changed-here s.lives at shut-life))
+            (c, [], get-last closed c, own-number key c was, sym (append-nil s.endings), own-served key c was)
+
+        there : (k : ℕ) → k < s.opened → k ≢ at → HasLived unread written layout offer s.came s.endings boxes' slots' closed' (number_at lane lanes k) (lives' k)
         there k few n =
-            subst (λ (x : Life D). HasLived unread written layout offer s.came s.endings boxes' slots' (number_at lane lanes k) x)
-            (sym (changed-there s.lives at closed k n))
-            (lived-beside unread written layout offer s.came s.came s.endings boxes boxes' slots slots' (number_at lane lanes k) (s.lives k) refl
+            subst (λ (x : Life). HasLived unread written layout offer s.came s.endings boxes' slots' closed' (number_at lane lanes k) x)
+            (sym (changed-there s.lives at shut-life k n))
+            (lived-shut unread written layout offer s.came s.endings boxes' slots' closed c (number_at lane lanes k) (s.lives k)
+            (lived-beside unread written layout offer s.came s.came s.endings boxes boxes' slots slots' closed (number_at lane lanes k) (s.lives k) refl
             (others (number_at lane lanes k) (others-differ key c was k n))
-            (λ other d on is. sets.1 other (other-key key c was k other d n on is) ∙ on) (s.each k few))
+            (λ other d on is. sets.1 other (other-key key c was k other d n on is) ∙ on) (s.each k few)))

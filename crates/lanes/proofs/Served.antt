@@ -1,6 +1,7 @@
 -- What is known of one connection, as the lane goes on.
-use Rattle.std.proofs.Common.{◌≡◌, ◌≢◌, ◌==◌, ℕ, Bool, true, false, if◌then◌else◌, List, [], ◌∷◌, ◌++◌, map, Option, Some}
+use Rattle.std.proofs.Common.{◌≡◌, ◌≢◌, ◌==◌, ℕ, zero, suc, Bool, true, false, if◌then◌else◌, List, [], ◌∷◌, ◌++◌, length, map, Option, Some}
 use Rattle.std.proofs.Common.{option_map, refl, sym, ap, subst, ◌∙◌, append_assoc, append-nil, ne_eqb}
+use Rattle.std.specs.List.{slice_get}
 use Rattle.std.specs.FinMap.{get}
 use Rattle.std.proofs.lemmas.Bool.{eqb-false}
 use Rattle.std.proofs.lemmas.Map.Views.{exact_unsigned_eq}
@@ -13,6 +14,7 @@ use Rattle.nfs_model.specs.volume.lemmas.Numbered.{itself, get-changed_at}
 use Rattle.outboxes.specs.Boxes.{Addressed, Boxes, put, with_last}
 use Rattle.outboxes.specs.Messages.{ReplyMessage}
 use Rattle.tcp_front.specs.Arrivals.{Arrival}
+use Rattle.connections.specs.Incoming.{Incoming}
 use Rattle.connections.specs.declared.connection.Connection.{Connection}
 use Rattle.connections.specs.Connections.{number_of}
 use Rattle.lanes.specs.Intakes.{all_put}
@@ -20,6 +22,20 @@ use Rattle.lanes.specs.Story.{of_connection, Ending, AtOnce, said_by, with_reply
 use Rattle.connections.specs.Writing.{Writes}
 use Rattle.connections.specs.lemmas.Writing.{writes-put}
 use Rattle.lanes.proofs.Lists.{replies-append}
+
+-- ---- a list with one more
+
+module _ {X : Type 0} where
+  -- what was in the list
+  pub get-before : (xs : List X) (x : X) (at : ℕ) (y : X) → slice_get xs at ≡ Some y → slice_get (xs ++ x ∷ []) at ≡ Some y
+  get-before [] x at y h = let no : ⊥ = cc in absurd no
+  get-before (z ∷ zs) x zero y h = h
+  get-before (z ∷ zs) x (suc at) y h = get-before zs x at y h
+
+  -- the one more
+  pub get-last : (xs : List X) (x : X) → slice_get (xs ++ x ∷ []) (length xs) ≡ Some x
+  get-last [] x = refl
+  get-last (z ∷ zs) x = get-last zs x
 
 -- ---- a reply more
 
@@ -34,7 +50,7 @@ no-reply n x a said d =
     ap (λ (o : Option Addressed). with_reply n o []) said
     ∙ ap (λ (b : Bool). if b then a.message ∷ [] else []) (ne_eqb a.connection n (λ e. d (sym e)))
 
-module _ {D : Type 0} (unread written : D → Option (List ℕ)) (layout : Layout) (offer : Offer) where
+module _ {D : Type 0} (unread : D → Incoming) (written : D → Option (List ℕ)) (layout : Layout) (offer : Offer) where
   abbrev pub Slots : Type 0
   Slots = ℕ → Option (Connection D)
 
@@ -87,28 +103,28 @@ module _ {D : Type 0} (unread written : D → Option (List ℕ)) (layout : Layou
             s.writes)
 
   -- so it is of each connection that the lane had
-  pub lived-put : (boxes : Boxes) (slots : Slots) (came : List Arrival) (endings : List Ending) (x : Ending) (a : Addressed) → said_by x ≡ Some a
-      → (number : ℕ) (life : Life D) → HasLived unread written layout offer came endings boxes slots number life
-      → HasLived unread written layout offer came (endings ++ x ∷ []) (put (answer_told (form_of offer) a) boxes) slots number life
-  lived-put boxes slots came endings x a said number (Open key) h =
+  pub lived-put : (boxes : Boxes) (slots : Slots) (closed : List (Connection D)) (came : List Arrival) (endings : List Ending) (x : Ending) (a : Addressed) → said_by x ≡ Some a
+      → (number : ℕ) (life : Life) → HasLived unread written layout offer came endings boxes slots closed number life
+      → HasLived unread written layout offer came (endings ++ x ∷ []) (put (answer_told (form_of offer) a) boxes) slots closed number life
+  lived-put boxes slots closed came endings x a said number (Open key) h =
       let c = h.0 in
       let p = served-put boxes came endings c h.1 (ap (λ n. get boxes.waiting n) h.3 ∙ h.4) x a said h.5 in
       (c, p.0, h.2, h.3, ap (λ n. get (put (answer_told (form_of offer) a) boxes).waiting n) (sym h.3) ∙ p.1, p.2)
-  lived-put boxes slots came endings x a said number (Closed last waiting ended) h =
-      (h.0 ++ x ∷ [], ap (λ (l : List Ending). l ++ x ∷ []) h.1 ∙ append_assoc ended h.0 (x ∷ []), h.2, h.3)
+  lived-put boxes slots closed came endings x a said number (Closed at waiting ended) h =
+      (h.0, h.1 ++ x ∷ [], h.2, h.3, ap (λ (l : List Ending). l ++ x ∷ []) h.4 ∙ append_assoc ended h.1 (x ∷ []), h.5)
 
   -- replies at once, all put
-  pub lived-at-once : (xs : List Addressed) (boxes : Boxes) (slots : Slots) (came : List Arrival) (endings : List Ending) (number : ℕ) (life : Life D)
-      → HasLived unread written layout offer came endings boxes slots number life
-      → HasLived unread written layout offer came (endings ++ map AtOnce xs) (all_put (map (answer_told (form_of offer)) xs) boxes) slots number life
-  lived-at-once [] boxes slots came endings number life h =
-      subst (λ (l : List Ending). HasLived unread written layout offer came l boxes slots number life) (sym (append-nil endings)) h
-  lived-at-once (x ∷ xs) boxes slots came endings number life h =
+  pub lived-at-once : (xs : List Addressed) (boxes : Boxes) (slots : Slots) (closed : List (Connection D)) (came : List Arrival) (endings : List Ending) (number : ℕ) (life : Life)
+      → HasLived unread written layout offer came endings boxes slots closed number life
+      → HasLived unread written layout offer came (endings ++ map AtOnce xs) (all_put (map (answer_told (form_of offer)) xs) boxes) slots closed number life
+  lived-at-once [] boxes slots closed came endings number life h =
+      subst (λ (l : List Ending). HasLived unread written layout offer came l boxes slots closed number life) (sym (append-nil endings)) h
+  lived-at-once (x ∷ xs) boxes slots closed came endings number life h =
       subst (λ (l : List Ending). HasLived unread written layout offer came l
-      (all_put (map (answer_told (form_of offer)) xs) (put (answer_told (form_of offer) x) boxes)) slots number life)
+      (all_put (map (answer_told (form_of offer)) xs) (put (answer_told (form_of offer) x) boxes)) slots closed number life)
       (append_assoc endings (AtOnce x ∷ []) (map AtOnce xs))
-      (lived-at-once xs (put (answer_told (form_of offer) x) boxes) slots came (endings ++ AtOnce x ∷ []) number life
-      (lived-put boxes slots came endings (AtOnce x) x refl number life h))
+      (lived-at-once xs (put (answer_told (form_of offer) x) boxes) slots closed came (endings ++ AtOnce x ∷ []) number life
+      (lived-put boxes slots closed came endings (AtOnce x) x refl number life h))
 
   -- ---- another connection goes on
 
@@ -119,11 +135,12 @@ module _ {D : Type 0} (unread written : D → Option (List ℕ)) (layout : Layou
       record { heard = s.heard; arrived = same ∙ s.arrived; reads = s.reads; writes = s.writes }
 
   -- nothing came of it, and what waits for it is as it was, and so is itself
-  pub lived-beside : (came came' : List Arrival) (endings : List Ending) (boxes boxes' : Boxes) (slots slots' : Slots) (number : ℕ) (life : Life D)
+  pub lived-beside : (came came' : List Arrival) (endings : List Ending) (boxes boxes' : Boxes) (slots slots' : Slots) (closed : List (Connection D)) (number : ℕ) (life : Life)
       → of_connection number came' ≡ of_connection number came → get boxes'.waiting number ≡ get boxes.waiting number
       → ((key : ℕ) (c : Connection D) → slots key ≡ Some c → number_of c ≡ number → slots' key ≡ Some c)
-      → HasLived unread written layout offer came endings boxes slots number life → HasLived unread written layout offer came' endings boxes' slots' number life
-  lived-beside came came' endings boxes boxes' slots slots' number (Open key) same box there h =
+      → HasLived unread written layout offer came endings boxes slots closed number life
+      → HasLived unread written layout offer came' endings boxes' slots' closed number life
+  lived-beside came came' endings boxes boxes' slots slots' closed number (Open key) same box there h =
       let c = h.0 in (
         c,
         h.1,
@@ -133,5 +150,21 @@ module _ {D : Type 0} (unread written : D → Option (List ℕ)) (layout : Layou
         still-arrived came came' endings h.1 c
             (subst (λ n. of_connection n came' ≡ of_connection n came) (sym h.3) same) h.5,
       )
-  lived-beside came came' endings boxes boxes' slots slots' number (Closed last waiting ended) same box there h =
-      (h.0, h.1, h.2, still-arrived came came' ended waiting last (subst (λ n. of_connection n came' ≡ of_connection n came) (sym h.2) same) h.3)
+  lived-beside came came' endings boxes boxes' slots slots' closed number (Closed at waiting ended) same box there h =
+      let last = h.0 in (
+        last,
+        h.1,
+        h.2,
+        h.3,
+        h.4,
+        still-arrived came came' ended waiting last (subst (λ n. of_connection n came' ≡ of_connection n came) (sym h.3) same) h.5,
+      )
+
+  -- ---- another connection is closed
+
+  pub lived-shut : (came : List Arrival) (endings : List Ending) (boxes : Boxes) (slots : Slots) (closed : List (Connection D)) (c : Connection D)
+      (number : ℕ) (life : Life) → HasLived unread written layout offer came endings boxes slots closed number life
+      → HasLived unread written layout offer came endings boxes slots (closed ++ c ∷ []) number life
+  lived-shut came endings boxes slots closed c number (Open key) h = h
+  lived-shut came endings boxes slots closed c number (Closed at waiting ended) h =
+      (h.0, h.1, get-before closed c at h.0 h.2, h.3, h.4, h.5)

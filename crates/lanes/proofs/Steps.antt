@@ -36,6 +36,7 @@ use Rattle.granted_calls.specs.declared.chained.Chained.{Chained}
 use Rattle.granted_calls.specs.declared.chained.Chained.TheVariants as chains
 use Rattle.turns.specs.declared.worker.Worker.{Worker}
 use Rattle.granted_calls.specs.shared_waiting.Passes.{known}
+use Rattle.connections.specs.Incoming.{Incoming}
 use Rattle.connections.specs.declared.connection.Connection.{Connection}
 use Rattle.connections.specs.declared.connection.Flags.{Flags}
 use Rattle.lanes.specs.declared.intake.Intake.{Intake}
@@ -48,7 +49,7 @@ use Rattle.connections.specs.Keyed.{Closes, Flagged, HasBegun, Opens, WritesUnde
 use Rattle.lanes.specs.Lanes.{ReadsOn, ReadsUnder, owing_in}
 use Rattle.lanes.specs.Queues.{HasBoth}
 use Rattle.connections.specs.Reading.{HasRead, Reads}
-use Rattle.lanes.specs.Story.{Served, answer_to, said_by, served_in, with_served, Story}
+use Rattle.lanes.specs.Story.{Served, answer_to, said_by, served_in, with_closed, with_served, Story}
 use Rattle.connections.specs.Writing.{Writes}
 use Rattle.connections.specs.lemmas.Reading.{reads-on, writes-kept}
 use Rattle.connections.specs.lemmas.Writing.{written-takes, written-same, writes-on, reads-kept}
@@ -85,10 +86,11 @@ module _ {D : Type 0} where
       (Updates-with_value slab key c' (subst (λ (o : Option (Connection D)). IsSome o) (sym was) refl)) in
       (u.changed, u.others)
 
-module _ {D : Type 0} (unread written : D → Option (List ℕ)) (layout : Layout) (offer : Offer) (lane lanes : ℕ) (entries : List FilerEntry) where
+module _ {D : Type 0} (unread : D → Incoming) (written : D → Option (List ℕ)) (layout : Layout) (offer : Offer) (lane lanes : ℕ) (entries : List FilerEntry)
+    (closed : List (Connection D)) where
   -- what a lane's type keeps
   abbrev pub Told : List Message → Boxes → Slab (Connection D) → Type 0
-  Told messages boxes slab = ∥ Story unread written layout offer lane lanes entries messages boxes (get slab) ∥₁
+  Told messages boxes slab = ∥ Story unread written layout offer lane lanes entries messages boxes (get slab) closed ∥₁
 
   -- ---- reading
 
@@ -108,7 +110,7 @@ module _ {D : Type 0} (unread written : D → Option (List ℕ)) (layout : Layou
       let h = on.read in
       let number : number_of after ≡ number_of c = ap (λ (x : Connection D). number_of x) on.is ∙ read-number c sink sink' size result on.between h in
       let same : after.opened.value ≡ c.opened.value = ap (λ (x : Connection D). x.opened.value) on.is ∙ ap (λ x. x.value) h.same.2 in
-      story-reads unread written layout offer lane lanes entries (known sink.pass).put sink.outboxes (get slab) s (get slab') key c after is
+      story-reads unread written layout offer lane lanes entries (known sink.pass).put sink.outboxes (get slab) closed s (get slab') key c after is
       (sets-at slab slab' key c after is now) number same (known sink'.pass).put h.heard sink'.outboxes h.given.put h.given.boxes_are
       (λ before r. subst (λ (x : Connection D). Reads offer unread c.opened.value x (before ++ h.heard)) (sym on.is)
       (reads-on unread written HasTakenIn has_room_in layout offer c (owing_in (due_of c) (form_of offer) sink) size result on.between sink' h
@@ -137,7 +139,7 @@ module _ {D : Type 0} (unread written : D → Option (List ℕ)) (layout : Layou
       ∥∥₁_map t (λ s.
       let kept = written-same unread written c boxes result after boxes' h in
       let takes = written-takes unread written c boxes result after boxes' h in
-      story-writes unread written layout offer lane lanes entries messages boxes (get slab) s (get slab') key c after is (sets-at slab slab' key c after is now)
+      story-writes unread written layout offer lane lanes entries messages boxes (get slab) closed s (get slab') key c after is (sets-at slab slab' key c after is now)
       (ap (λ (x : Stream). x.connection.0) kept.0) (ap (λ x. x.value) kept.3)
       boxes' takes.1.next takes.1.step takes.1.others (reads-kept unread written c boxes result after boxes' h offer c.opened.value)
       (λ waiting replies e r. let w = writes-on unread written c boxes result after boxes' h c.opened.value waiting replies e r in (w.0, w.1.0, w.1.1)))
@@ -153,7 +155,7 @@ module _ {D : Type 0} (unread written : D → Option (List ℕ)) (layout : Layou
   flag-told slab slab' key None is messages boxes flags same t = subst (λ (s : Slab (Connection D)). Told messages boxes s) (sym same) t
   flag-told slab slab' key (Some c) is messages boxes flags now t =
       ∥∥₁_map t (λ s.
-      story-writes unread written layout offer lane lanes entries messages boxes (get slab) s (get slab') key c (flagged flags c) is
+      story-writes unread written layout offer lane lanes entries messages boxes (get slab) closed s (get slab') key c (flagged flags c) is
       (sets-at slab slab' key c (flagged flags c) is now) refl refl boxes refl refl (λ other n. refl) (λ heard r. r)
       (λ waiting replies e r. (waiting, e, r)))
 
@@ -169,51 +171,63 @@ module _ {D : Type 0} (unread written : D → Option (List ℕ)) (layout : Layou
   opens-told slab slab' device (Ok key) messages boxes boxes' (_, is, (c, updates, _, number)) vacant begins t =
       let begun : HasBegun unread written c = subst (λ (o : Option (Connection D)). IfSome o (HasBegun unread written)) updates.changed begins in
       subst (λ (b : Boxes). Told messages b slab') (sym is)
-      (∥∥₁_map t (λ s. story-opens unread written layout offer lane lanes entries messages boxes (get slab) s (get slab') key c vacant
+      (∥∥₁_map t (λ s. story-opens unread written layout offer lane lanes entries messages boxes (get slab) closed s (get slab') key c vacant
       (updates.changed, updates.others) number (begun.reads offer) begun.writes))
   opens-told slab slab' device (Err back) messages boxes boxes' (_, same, is) vacant begins t =
       subst (λ (b : Boxes). Told messages b slab') (sym is)
-      (subst (λ (s : ℕ → Option (Connection D)). ∥ Story unread written layout offer lane lanes entries messages boxes s ∥₁)
+      (subst (λ (s : ℕ → Option (Connection D)). ∥ Story unread written layout offer lane lanes entries messages boxes s closed ∥₁)
       (λ i. λ key. sym (same key) i) t)
 
   closes-told : (slab slab' : Slab (Connection D)) (key : ℕ) (c : Connection D) (messages : List Message) (boxes boxes' : Boxes)
       → get slab key ≡ Some c → Updates slab slab' key None → boxes' ≡ shut (number_of c) boxes
-      → Told messages boxes slab → Told messages boxes' slab'
+      → Told messages boxes slab
+      → ∥ Story unread written layout offer lane lanes entries messages boxes' (get slab') (closed ++ c ∷ []) ∥₁
   closes-told slab slab' key c messages boxes boxes' was updates is t =
-      subst (λ (b : Boxes). Told messages b slab') (sym is)
-      (∥∥₁_map t (λ s. story-shuts unread written layout offer lane lanes entries messages boxes (get slab) s (get slab') key c was (
+      subst (λ (b : Boxes). ∥ Story unread written layout offer lane lanes entries messages b (get slab') (closed ++ c ∷ []) ∥₁) (sym is)
+      (∥∥₁_map t (λ s. story-shuts unread written layout offer lane lanes entries messages boxes (get slab) closed s (get slab') key c was (
         updates.changed,
         updates.others,
       )
       (λ n d. get-remove_at boxes.waiting (number_of c) n ∙ ap (λ b. cond b None (get-of boxes n)) (ne_eqb n (number_of c) d))))
 
-module _ {D : Type 0} (unread written : D → Option (List ℕ)) (layout : Layout) (offer : Offer) (lane lanes : ℕ) (entries : List FilerEntry) where
+module _ {D : Type 0} (unread : D → Incoming) (written : D → Option (List ℕ)) (layout : Layout) (offer : Offer) (lane lanes : ℕ) (entries : List FilerEntry) where
   close-told : (slab slab' : Slab (Connection D)) (key : ℕ) (o : Option (Connection D)) → get slab key ≡ o → (messages : List Message)
-      (boxes boxes' : Boxes) (device : Option D) → Closes slab key boxes o device slab' boxes'
-      → ∥ Story unread written layout offer lane lanes entries messages boxes (get slab) ∥₁
-      → ∥ Story unread written layout offer lane lanes entries messages boxes' (get slab') ∥₁
-  close-told slab slab' key None is messages boxes boxes' device (_, same, boxes_same) t =
-      subst (λ (s : Slab (Connection D)). ∥ Story unread written layout offer lane lanes entries messages boxes' (get s) ∥₁) (sym same)
-      (subst (λ (b : Boxes). ∥ Story unread written layout offer lane lanes entries messages b (get slab) ∥₁) (sym boxes_same) t)
-  close-told slab slab' key (Some c) is messages boxes boxes' device (_, updates, boxes_is) t =
-      closes-told unread written layout offer lane lanes entries slab slab' key c messages boxes boxes' is updates boxes_is t
+      (boxes boxes' : Boxes) (closed : List (Connection D)) (device : Option D) → Closes slab key boxes o device slab' boxes'
+      → ∥ Story unread written layout offer lane lanes entries messages boxes (get slab) closed ∥₁
+      → ∥ Story unread written layout offer lane lanes entries messages boxes' (get slab') (with_closed o closed) ∥₁
+  close-told slab slab' key None is messages boxes boxes' closed device (_, same, boxes_same) t =
+      subst (λ (s : Slab (Connection D)). ∥ Story unread written layout offer lane lanes entries messages boxes' (get s) closed ∥₁) (sym same)
+      (subst (λ (b : Boxes). ∥ Story unread written layout offer lane lanes entries messages b (get slab) closed ∥₁) (sym boxes_same) t)
+  close-told slab slab' key (Some c) is messages boxes boxes' closed device (_, updates, boxes_is) t =
+      closes-told unread written layout offer lane lanes entries closed slab slab' key c messages boxes boxes' is updates boxes_is t
 
-  pub closed-told : (slab slab' : Slab (Connection D)) (key : ℕ) (messages : List Message) (boxes boxes' : Boxes) (device : Option D)
-      → Closes slab key boxes (get slab key) device slab' boxes'
-      → ∥ Story unread written layout offer lane lanes entries messages boxes (get slab) ∥₁
-      → ∥ Story unread written layout offer lane lanes entries messages boxes' (get slab') ∥₁
-  closed-told slab slab' key messages boxes boxes' device h t = close-told slab slab' key (get slab key) refl messages boxes boxes' device h t
+  pub closed-told : (slab slab' : Slab (Connection D)) (key : ℕ) (messages : List Message) (boxes boxes' : Boxes) (closed : List (Connection D))
+      (device : Option D) → Closes slab key boxes (get slab key) device slab' boxes'
+      → ∥ Story unread written layout offer lane lanes entries messages boxes (get slab) closed ∥₁
+      → ∥ Story unread written layout offer lane lanes entries messages boxes' (get slab') (with_closed (get slab key) closed) ∥₁
+  closed-told slab slab' key messages boxes boxes' closed device h t =
+      close-told slab slab' key (get slab key) refl messages boxes boxes' closed device h t
+
+  -- one was open, and is the last that was closed
+  pub closed-one : (slab slab' : Slab (Connection D)) (key : ℕ) (messages : List Message) (boxes boxes' : Boxes) (closed closed' : List (Connection D))
+      (device : Option D) (c : Connection D) → Closes slab key boxes (get slab key) device slab' boxes' → Some c ≡ get slab key
+      → closed' ≡ closed ++ c ∷ [] → ∥ Story unread written layout offer lane lanes entries messages boxes (get slab) closed ∥₁
+      → ∥ Story unread written layout offer lane lanes entries messages boxes' (get slab') closed' ∥₁
+  closed-one slab slab' key messages boxes boxes' closed closed' device c h was is t =
+      subst (λ (l : List (Connection D)). ∥ Story unread written layout offer lane lanes entries messages boxes' (get slab') l ∥₁)
+      (ap (λ (o : Option (Connection D)). with_closed o closed) (sym was) ∙ sym is)
+      (closed-told slab slab' key messages boxes boxes' closed device h t)
 
 -- ---- turns
 
 -- a pass by which nothing was put
-pub put-kept : {D : Type 0} (unread written : D → Option (List ℕ)) (layout : Layout) (offer : Offer) (lane lanes : ℕ) (entries : List FilerEntry)
+pub put-kept : {D : Type 0} (unread : D → Incoming) (written : D → Option (List ℕ)) (layout : Layout) (offer : Offer) (lane lanes : ℕ) (entries : List FilerEntry)
     (boxes : Boxes)
-    (slots : ℕ → Option (Connection D)) (p p' : Pass Message layouts.Layout) → known p' ≡ known p
-    → ∥ Story unread written layout offer lane lanes entries (known p).put boxes slots ∥₁
-    → ∥ Story unread written layout offer lane lanes entries (known p').put boxes slots ∥₁
-put-kept unread written layout offer lane lanes entries boxes slots p p' e t =
-    subst (λ (v : Passed). ∥ Story unread written layout offer lane lanes entries v.put boxes slots ∥₁) (sym e) t
+    (slots : ℕ → Option (Connection D)) (closed : List (Connection D)) (p p' : Pass Message layouts.Layout) → known p' ≡ known p
+    → ∥ Story unread written layout offer lane lanes entries (known p).put boxes slots closed ∥₁
+    → ∥ Story unread written layout offer lane lanes entries (known p').put boxes slots closed ∥₁
+put-kept unread written layout offer lane lanes entries boxes slots closed p p' e t =
+    subst (λ (v : Passed). ∥ Story unread written layout offer lane lanes entries v.put boxes slots closed ∥₁) (sym e) t
 
 -- how often a call is finished, at most as often as it was put
 abbrev Once : List Message → List FilerEntry → Type 0
@@ -223,7 +237,7 @@ once-before : (messages : List Message) (entries more : List FilerEntry) → Onc
 once-before messages entries more once h =
     let a = once h in let b = total-append (by_entry h) entries more in omega (arith, a, b)
 
-module _ {D : Type 0} (unread written : D → Option (List ℕ)) (layout : Layout) (offer : Offer) (lane lanes : ℕ) where
+module _ {D : Type 0} (unread : D → Incoming) (written : D → Option (List ℕ)) (layout : Layout) (offer : Offer) (lane lanes : ℕ) where
   replied : (m : Message) (moment : Moment) (a : Addressed) (e : FilerEntry) → IsEntryOf m moment a e → said_by (Served e) ≡ Some a
   replied m moment a e i =
       ap (λ (j : Job). answer_to j (job_reply_of e.reply)) i.call ∙ ap (λ r. answer_to (job_of_message m moment i.starved) r) i.reply
@@ -233,21 +247,21 @@ module _ {D : Type 0} (unread written : D → Option (List ℕ)) (layout : Layou
   served-one : (m : Message) (moment : Moment) (a : Addressed) (e : FilerEntry) → IsEntryOf m moment a e → served_in (e ∷ []) ≡ e ∷ []
   served-one m moment a e i = ap (λ (j : Job). with_served e j []) i.call
 
-  module _ (messages : List Message) (slots : ℕ → Option (Connection D)) (moment : Moment) where
+  module _ (messages : List Message) (slots : ℕ → Option (Connection D)) (closed : List (Connection D)) (moment : Moment) where
     abbrev Known : Standing → Boxes → Type 0
-    Known s boxes = ∥ Story unread written layout offer lane lanes (entries_of s.view) messages boxes slots ∥₁
+    Known s boxes = ∥ Story unread written layout offer lane lanes (entries_of s.view) messages boxes slots closed ∥₁
 
     same-told : (s t : Standing) (boxes : Boxes) → entries_of t.view ≡ entries_of s.view → Known s boxes → Known t boxes
     same-told s t boxes e k =
-        subst (λ (es : List FilerEntry). ∥ Story unread written layout offer lane lanes es messages boxes slots ∥₁) (sym e) k
+        subst (λ (es : List FilerEntry). ∥ Story unread written layout offer lane lanes es messages boxes slots closed ∥₁) (sym e) k
 
     done-told : (s t : Standing) (boxes : Boxes) (a : Addressed) → HasDoneFrom s moment a t → Once messages (entries_of t.view)
         → Known s boxes → Known t (put (answer_told (form_of offer) a) boxes)
     done-told s t boxes a d once k =
         let f = d.finished in
-        subst (λ (es : List FilerEntry). ∥ Story unread written layout offer lane lanes es messages (put (answer_told (form_of offer) a) boxes) slots ∥₁)
+        subst (λ (es : List FilerEntry). ∥ Story unread written layout offer lane lanes es messages (put (answer_told (form_of offer) a) boxes) slots closed ∥₁)
         (sym f.entries)
-        (∥∥₁_map k (λ y. story-ends unread written layout offer lane lanes (entries_of s.view) messages boxes slots y f.entry a
+        (∥∥₁_map k (λ y. story-ends unread written layout offer lane lanes (entries_of s.view) messages boxes slots closed y f.entry a
         (replied d.message moment a f.entry f.is) (served-one d.message moment a f.entry f.is) (subst (Once messages) f.entries once)))
 
     -- what was finished before is among what is finished
@@ -287,12 +301,12 @@ inner-none : (e : FilerEntry) (job : Job) (call : jobs.InnerCall) → job_of job
 inner-none e (Serve served) call h = let no : ⊥ = cc in absurd no
 inner-none e (Inner inner) call h = refl
 
-module _ {D : Type 0} (unread written : D → Option (List ℕ)) (layout : Layout) (offer : Offer) (lane lanes : ℕ) (messages : List Message) (boxes : Boxes)
-    (slots : ℕ → Option (Connection D)) (before after : Worker) where
+module _ {D : Type 0} (unread : D → Incoming) (written : D → Option (List ℕ)) (layout : Layout) (offer : Offer) (lane lanes : ℕ)
+    (messages : List Message) (boxes : Boxes) (slots : ℕ → Option (Connection D)) (closed : List (Connection D)) (before after : Worker) where
   tended-told : (entries entries' : List FilerEntry) → served_in entries' ≡ served_in entries
-      → ∥ Story unread written layout offer lane lanes entries messages boxes slots ∥₁
-      → ∥ Story unread written layout offer lane lanes entries' messages boxes slots ∥₁
-  tended-told entries entries' e t = ∥∥₁_map t (λ s. story-turns unread written layout offer lane lanes entries messages boxes slots s entries' e)
+      → ∥ Story unread written layout offer lane lanes entries messages boxes slots closed ∥₁
+      → ∥ Story unread written layout offer lane lanes entries' messages boxes slots closed ∥₁
+  tended-told entries entries' e t = ∥∥₁_map t (λ s. story-turns unread written layout offer lane lanes entries messages boxes slots closed s entries' e)
 
   answers-told : (inner : Result jobs.InnerCall TendRefusal) (answer : Result Tended TendRefusal) → Answers layout before inner answer after
       → served_in (entries_in after) ≡ served_in (entries_in before)
@@ -305,14 +319,14 @@ module _ {D : Type 0} (unread written : D → Option (List ℕ)) (layout : Layou
   answers-told (Err why) answer h = ap (λ v. served_in (entries_of v)) h.1
 
   pub tends-told : (tend : Tend) (answer : Result Tended TendRefusal) → Tends layout before tend answer after
-      → ∥ Story unread written layout offer lane lanes (entries_in before) messages boxes slots ∥₁
-      → ∥ Story unread written layout offer lane lanes (entries_in after) messages boxes slots ∥₁
+      → ∥ Story unread written layout offer lane lanes (entries_in before) messages boxes slots closed ∥₁
+      → ∥ Story unread written layout offer lane lanes (entries_in after) messages boxes slots closed ∥₁
   tends-told tend answer h t =
       tended-told (entries_in before) (entries_in after) (answers-told (call_of layout tend (hand_in before)) answer h) t
 
 -- ---- under a key
 
-module _ {D R : Type 0} (unread written : D → Option (List ℕ)) (layout : Layout) (offer : Offer) where
+module _ {D R : Type 0} (unread : D → Incoming) (written : D → Option (List ℕ)) (layout : Layout) (offer : Offer) where
   pub read-owing : (c : Connection D) (start sink sink' : Intake R) (size : ℕ) (result : Came) (between : Connection D)
       → start ≡ owing_in (due_of c) (form_of offer) sink
       → HasRead unread written HasTakenIn has_room_in layout offer c start size result between sink'
@@ -329,7 +343,7 @@ module _ {D R : Type 0} (unread written : D → Option (List ℕ)) (layout : Lay
   keep-under : (slab slab' : Slab (Connection D)) (key : ℕ) (o : Option (Connection D)) (sink sink' : Intake R) (size : ℕ) (result : Came)
       → ReadsUnder unread written layout offer slab key o sink size result slab' sink'
       → (sink'.filer.value ≡ sink.filer.value) × (sink'.queue ≡ sink.queue) × ((known sink'.pass).picked ≡ (known sink.pass).picked)
-      × HasShareOf (known sink.pass) (known sink'.pass) × IsSameWorker sink.worker sink'.worker
+      × HasShareOf (known sink.pass) (known sink'.pass) × IsSameWorker sink.worker sink'.worker × (sink'.most ≡ sink.most)
   keep-under slab slab' key None sink sink' size result h = (
     ap (λ (s : Intake R). s.filer.value) h.2,
     ap (λ (s : Intake R). s.queue) h.2,
@@ -345,12 +359,13 @@ module _ {D R : Type 0} (unread written : D → Option (List ℕ)) (layout : Lay
       hand = ap (λ (s : Intake R). s.worker.hand) h.2;
       kept = ap (λ (s : Intake R). s.worker.kept) h.2;
     },
+    ap (λ (s : Intake R). s.most) h.2,
   )
   keep-under slab slab' key (Some c) sink sink' size result (after, now, on) =
-      let k = on.read.given in (k.filer_is, k.queue_is, k.picked, k.share, k.same)
+      let k = on.read.given in (k.filer_is, k.queue_is, k.picked, k.share, k.same, k.most_is)
 
   pub reads-keep : (slab slab' : Slab (Connection D)) (key : ℕ) (sink sink' : Intake R) (size : ℕ) (result : Came)
       → ReadsUnder unread written layout offer slab key (get slab key) sink size result slab' sink'
       → (sink'.filer.value ≡ sink.filer.value) × (sink'.queue ≡ sink.queue) × ((known sink'.pass).picked ≡ (known sink.pass).picked)
-      × HasShareOf (known sink.pass) (known sink'.pass) × IsSameWorker sink.worker sink'.worker
+      × HasShareOf (known sink.pass) (known sink'.pass) × IsSameWorker sink.worker sink'.worker × (sink'.most ≡ sink.most)
   reads-keep slab slab' key sink sink' size result h = keep-under slab slab' key (get slab key) sink sink' size result h

@@ -1,5 +1,5 @@
 -- The whole life of a lane: what came, what ended, and what is known of each connection that it ever had.
-use Rattle.std.specs.Prelude.{◌≡◌, ◌≢◌, ◌==◌, ℕ, ◌<◌, ◌≤◌, ◌+◌, ◌*◌, List, [], ◌∷◌, ◌++◌, map, Option, Some, None, if◌then◌else◌}
+use Rattle.std.specs.Prelude.{◌≡◌, ◌≢◌, ◌==◌, ℕ, ◌<◌, ◌≤◌, ◌+◌, ◌*◌, List, [], ◌∷◌, ◌++◌, length, map, slice_get, Option, Some, None, if◌then◌else◌}
 use Rattle.std.specs.FinMap.{get}
 use Rattle.depot_rule.specs.Sums.{total}
 use Rattle.nfs_model.specs.Tree.{Layout}
@@ -18,6 +18,7 @@ use Rattle.granted_calls.specs.Messages as workers
 use Rattle.engine_feed.specs.Seen.{message_of}
 use Rattle.tcp_front.specs.Admitted.{calls_of}
 use Rattle.tcp_front.specs.Arrivals.{Arrival, Waits, Answered, arrivals}
+use Rattle.connections.specs.Incoming.{Incoming}
 use Rattle.connections.specs.declared.connection.Connection.{Connection}
 use Rattle.connections.specs.Connections.{number_of}
 use Rattle.lanes.specs.Intakes.{answered_of}
@@ -89,27 +90,38 @@ served_in (e ∷ es) = with_served e e.call (served_in es)
 -- A connection, as it is or as it was when it was closed: the records of the bytes that were read of it, from its opening on, are
 -- by what is offered just what came of it, all in all; and the bytes that were given to its device are a beginning of the records of all replies to it
 -- among what had ended, as what is offered tells them, in that order. The others waited.
-pub record IsServed {D : Type 0} (unread written : D → Option (List ℕ)) (layout : Layout) (offer : Offer) (came : List Arrival)
+pub record IsServed {D : Type 0} (unread : D → Incoming) (written : D → Option (List ℕ)) (layout : Layout) (offer : Offer) (came : List Arrival)
     (ended : List Ending) (waiting : List ReplyMessage) (c : Connection D) : Type 0 where
   pub heard : List Heard
   pub arrived : of_connection (number_of c) came ≡ arrivals layout (number_of c) 0 heard
   pub reads : Reads offer unread c.opened.value c heard
   pub writes : Writes written c.opened.value c waiting (told_to offer (number_of c) ended)
 
--- What became of a connection: it is open under a key; or it was closed, when it was so, this waited for it, and this had ended.
-pub data Life (D : Type 0) : Type 0 where
-  Open : (key : ℕ) → Life D
-  Closed : (last : Connection D) → (waiting : List ReplyMessage) → (ended : List Ending) → Life D
+-- What became of a connection: it is open under a key; or it is among those that were closed, at this place, and when it was closed,
+-- this waited for it, and this had ended.
+pub data Life : Type 0 where
+  Open : (key : ℕ) → Life
+  Closed : (at : ℕ) → (waiting : List ReplyMessage) → (ended : List Ending) → Life
 
 -- The connection of a number is served by what came and what ended, those that had ended when it was closed.
-abbrev pub HasLived : {D : Type 0} → (D → Option (List ℕ)) → (D → Option (List ℕ)) → Layout → Offer → List Arrival → List Ending → Boxes
-    → (ℕ → Option (Connection D)) → ℕ → Life D → Type 0
-HasLived {D} unread written layout offer came endings boxes slots number (Open key) =
+abbrev pub HasLived : {D : Type 0} → (D → Incoming) → (D → Option (List ℕ)) → Layout → Offer → List Arrival → List Ending → Boxes
+    → (ℕ → Option (Connection D)) → List (Connection D) → ℕ → Life → Type 0
+HasLived {D} unread written layout offer came endings boxes slots closed number (Open key) =
     (c : Connection D) × (waiting : List ReplyMessage) × (slots key ≡ Some c) × (number_of c ≡ number)
     × (get boxes.waiting number ≡ Some waiting) × IsServed unread written layout offer came endings waiting c
-HasLived unread written layout offer came endings boxes slots number (Closed last waiting ended) =
-    (later : List Ending) × (endings ≡ ended ++ later) × (number_of last ≡ number)
-    × IsServed unread written layout offer came ended waiting last
+HasLived {D} unread written layout offer came endings boxes slots closed number (Closed at waiting ended) =
+    (last : Connection D) × (later : List Ending) × (slice_get closed at ≡ Some last) × (number_of last ≡ number)
+    × (endings ≡ ended ++ later) × IsServed unread written layout offer came ended waiting last
+
+-- it is the closed one at this place
+abbrev pub IsClosedAt : ℕ → Life → Type 0
+IsClosedAt at (Open key) = ⊥
+IsClosedAt at (Closed place waiting ended) = place ≡ at
+
+-- those that were closed, and then this one, if it is one
+abbrev pub with_closed : {D : Type 0} → Option (Connection D) → List (Connection D) → List (Connection D)
+with_closed None closed = closed
+with_closed (Some c) closed = closed ++ c ∷ []
 
 -- the number of a lane's connection, of which there were this many before: the lane's own at first, and each larger by the count of lanes
 abbrev pub number_at : ℕ → ℕ → ℕ → ℕ
@@ -121,9 +133,9 @@ number_at lane lanes before = lane + before * lanes
 -- admitted, in order and each once; the lane's entries are just those that ended, and so are the replies at once that came; no call
 -- was finished more often than it was admitted, each by its connection, its number there, its xid, and what it asks. This many
 -- connections were opened, each under a number of its own, and it is known what became of each; those that are open are among
--- them, and nothing came under another number.
-pub record Story {D : Type 0} (unread written : D → Option (List ℕ)) (layout : Layout) (offer : Offer) (lane lanes : ℕ) (entries : List FilerEntry)
-    (put : List workers.Message) (boxes : Boxes) (slots : ℕ → Option (Connection D)) : Type 0 where
+-- them, and so are those that were closed, each as it was then; and nothing came under another number.
+pub record Story {D : Type 0} (unread : D → Incoming) (written : D → Option (List ℕ)) (layout : Layout) (offer : Offer) (lane lanes : ℕ) (entries : List FilerEntry)
+    (put : List workers.Message) (boxes : Boxes) (slots : ℕ → Option (Connection D)) (closed : List (Connection D)) : Type 0 where
   pub came : List Arrival
   pub endings : List Ending
   pub admitted : map message_of put ≡ calls_of came
@@ -131,10 +143,11 @@ pub record Story {D : Type 0} (unread written : D → Option (List ℕ)) (layout
   pub at_once : at_once_of endings ≡ answered_of came
   pub once : (weight : Weight) → total (by_entry weight) entries ≤ total (by_key weight) put
   pub opened : ℕ
-  pub lives : ℕ → Life D
+  pub lives : ℕ → Life
   pub within : lane < lanes
   pub step : boxes.step ≡ lanes
   pub next : boxes.next ≡ number_at lane lanes opened
-  pub each : (k : ℕ) → k < opened → HasLived unread written layout offer came endings boxes slots (number_at lane lanes k) (lives k)
+  pub each : (k : ℕ) → k < opened → HasLived unread written layout offer came endings boxes slots closed (number_at lane lanes k) (lives k)
   pub known : (key : ℕ) (c : Connection D) → slots key ≡ Some c → (k : ℕ) × (k < opened) × (lives k ≡ Open key)
+  pub gone : (at : ℕ) → at < length closed → (k : ℕ) × (k < opened) × IsClosedAt at (lives k)
   pub only : (number : ℕ) → ((k : ℕ) → k < opened → number ≢ number_at lane lanes k) → of_connection number came ≡ []

@@ -13,10 +13,12 @@ use Rattle.turns.specs.declared.worker.Worker.{Worker}
 use Rattle.granted_calls.specs.shared_waiting.Passes.{known}
 use Rattle.granted_calls.specs.Filers.{layout_in}
 use Rattle.turns.specs.Words.{entries_in}
+use Rattle.connections.specs.Incoming.{Incoming}
 use Rattle.connections.specs.declared.connection.Connection.{Connection}
 use Rattle.connections.specs.declared.device.Device as devices
 use Rattle.lanes.specs.declared.intake.Intake.{Intake}
 use Rattle.lanes.specs.declared.lane.Lane.{Lane}
+use Rattle.lanes.specs.Owed.{AreOwed}
 use Rattle.lanes.specs.Story.{Story}
 
 -- a place among this many lanes, what is offered, and a queue
@@ -67,6 +69,10 @@ module _ {D R : Type 0} {G : devices.Ghosts D} where
   abbrev pub put_in : Lane D R G → List Message
   put_in lane = (known lane.intake.pass).put
 
+  -- its share: how many messages it may have
+  abbrev pub share_in : Lane D R G → ℕ
+  share_in lane = lane.intake.most
+
   -- what waits to be written
   abbrev pub boxes_in : Lane D R G → Boxes
   boxes_in lane = lane.intake.outboxes
@@ -79,7 +85,15 @@ module _ {D R : Type 0} {G : devices.Ghosts D} where
   abbrev pub connections_in : Lane D R G → Slab (Connection D)
   connections_in lane = lane.connections
 
+  -- the connections that were closed, each as it was then, in that order
+  abbrev pub closed_in : Lane D R G → List (Connection D)
+  closed_in lane = lane.closed.items
+
   -- its whole life, over devices that tell their bytes
-  abbrev pub HasStory : (D → Option (List ℕ)) → (D → Option (List ℕ)) → Lane D R G → Type 0
+  abbrev pub HasStory : (D → Incoming) → (D → Option (List ℕ)) → Lane D R G → Type 0
   HasStory unread written lane = Story unread written (layout_in (filer_in lane)) (offer_in lane) (index_in lane) (count_in lane)
-      (entries_in (worker_in lane)) (put_in lane) (boxes_in lane) (get (connections_in lane))
+      (entries_in (worker_in lane)) (put_in lane) (boxes_in lane) (get (connections_in lane)) (closed_in lane)
+
+  -- what is owed to its connections that are open
+  abbrev pub OwesEach : Lane D R G → Type 0
+  OwesEach lane = AreOwed (entries_in (worker_in lane)) (put_in lane) (boxes_in lane) (get (connections_in lane))

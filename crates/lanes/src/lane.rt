@@ -6,6 +6,8 @@ ghost use Rattle.std.specs.Arc.{arc_value};
 ghost use Rattle.granted_calls.specs.shared_waiting.Passes.{known};
 ghost use Rattle.granted_calls.specs.Filers.{layout_in};
 ghost use Rattle.turns.specs.Words.{entries_in, IsAt};
+ghost use Rattle.lanes.specs.Intakes.{share_of};
+ghost use Rattle.lanes.specs.Owed.{AreOwed};
 ghost use Rattle.lanes.specs.Story.{Story};
 
 mod closing;
@@ -20,6 +22,7 @@ mod writing;
 use crate::intake::Intake;
 use connections::{Connection, Device};
 use granted_calls::Filer;
+use histories::History;
 pub use parting::LaneParts;
 use rpc_msg::Offer;
 use slab::Slab;
@@ -38,10 +41,15 @@ pub struct Lane<D: Device, R> {
     pub(crate) filer: Arc<Filer>,
     pub(crate) intake: Intake<R>,
     pub(crate) connections: Slab<Connection<D>>,
+    /// The connections that were closed, each as it was then. No bytes are kept of them.
+    pub(crate) closed: History<Connection<D>>,
     pub ghost filer_is: { intake.filer.value ≡ arc_value filer },
     pub ghost inside: { ∥ IsAt (arc_value filer) intake.queue intake.worker ∥₁ },
     pub ghost picked: { (known intake.pass).picked ≡ [] },
+    pub ghost share: { intake.most ≡ share_of count },
     pub ghost story: { ∥ Story D.unread D.written (layout_in (arc_value filer)) offer index
         count (entries_in intake.worker) (known intake.pass).put intake.outboxes
-        (get connections) ∥₁ },
+        (get connections) closed.items ∥₁ },
+    pub ghost owes: { ∥ AreOwed (entries_in intake.worker) (known intake.pass).put
+        intake.outboxes (get connections) ∥₁ },
 }

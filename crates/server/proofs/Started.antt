@@ -74,3 +74,8 @@ module _ {R : Type 0} (filer : Filer) where
     seats = let a = are.seats in let b = total-none seats_of none no-lane in omega (arith, a, b, seats);
     each = same-places identity_with by_identity threads lanes (all-back threads none lanes no-lane back) count are.each;
   }
+
+-- they offer what their threads were started with
+pub lanes-offer : {R : Type 0} (offer : Offer) (threads : List (Thread R ghosts)) (lanes : List (Lane Socket R ghosts)) → AreOfThreads threads lanes
+    → AllServe offer threads → AllOffer offer lanes
+lanes-offer offer threads lanes back serve weigh = back (λ i. weigh i.1) ∙ serve weigh ∙ sym (back (λ _. weigh offer))

@@ -2,3 +2,4 @@ pub mod Faults
 pub mod Threads
 pub mod Numbers
 pub mod Planned
+pub mod Served

@@ -2,6 +2,7 @@
 
 use crate::common::Common;
 use crate::mailbox::{Arrival, Mailbox};
+use crate::seconds::second_now;
 use crate::serve_fault::ServeFault;
 use clerk::Event;
 use server_options::{Options, WhenFull};
@@ -19,14 +20,6 @@ const PAUSE: u64 = 100;
 pub(crate) fn is_prepared(stream: &TcpStream) -> bool {
     let _set = stream.set_nodelay(true);
     stream.set_nonblocking(true).is_ok()
-}
-
-/// The second of the clock, or 0 where it can't be read.
-fn second_now<R: Clock>(rt: &R) -> u64 {
-    match rt.since_1970() {
-        Ok(time) => time.as_secs(),
-        Err(_failed) => 0,
-    }
 }
 
 /// Where connections come in: what is asked of them, the lanes that they go to, and how many came.
@@ -103,7 +96,7 @@ impl<'a> Door<'a> {
         if let Some(journal) = &self.common.journal {
             journal.turn_away();
         }
-        if self.common.crowd.leave(second_now(rt)) {
+        if self.common.crowd.leave(second_now(rt).into()) {
             for mailbox in self.mailboxes {
                 mailbox.wake();
             }
@@ -111,14 +104,17 @@ impl<'a> Door<'a> {
     }
 
     /// Lets a connection in that comes from a peer that is served and has a place. Any other is
-    /// closed before a byte is read, and counts as ended.
+    /// closed before a byte is read, and counts as ended; one of a peer that isn't served doesn't
+    /// count.
     fn let_in<R: Wait + Clock>(&mut self, rt: &R, stream: TcpStream, peer: SocketAddr) {
+        if !self.options.peers.has(&peer.ip()) {
+            self.common.note(rt, Event::NotAllowed { peer });
+            return;
+        }
         let is_full = self.is_full();
         self.came = self.came.wrapping_add(1);
         self.common.ends.come();
-        if !self.options.peers.has(&peer.ip()) {
-            self.common.note(rt, Event::NotAllowed { peer });
-        } else if is_full {
+        if is_full {
             self.turn_away(rt);
         } else if self.hand_over(rt, stream, peer) {
             return;

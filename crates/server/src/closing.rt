@@ -4,6 +4,7 @@ ghost use Rattle.filer_lanes.specs.Lanes.{Stays};
 
 use crate::guests::Guest;
 use crate::keys::unlist;
+use crate::owed::Owed;
 use crate::socket::Socket;
 use crate::station::Station;
 use crate::visits::{is_due, is_writable};
@@ -83,6 +84,7 @@ fn close<R: Wait>(
             };
             station.common.note(rt, event);
         }
+        station.common.owed.change(station.guests.at(key).owed, 0);
         // Its place is free before its peer is told.
         let _device = lane.close(key);
         station.common.ends.add();
@@ -91,8 +93,8 @@ fn close<R: Wait>(
 
 /// Whether a connection has something to do without word of the system: to read or to cut, where it
 /// may be read, or to write, where replies are due.
-fn is_busy<R>(lane: &Lane<Socket, R>, key: usize) -> bool {
-    is_due(lane, key) || is_writable(lane, key)
+fn is_busy<R>(lane: &Lane<Socket, R>, key: usize, all: &Owed) -> bool {
+    is_due(lane, key, all) || is_writable(lane, key)
 }
 
 /// Closes the connections that are over, and lists those no longer that have nothing to do: a
@@ -106,7 +108,7 @@ pub(crate) fn close_ended<R: Wait>(lane: &mut Lane<Socket, R>, station: &mut Sta
         let key = station.keys.at(place);
         if let Some(reason) = end_of(lane, station, key) {
             close(lane, station, rt, key, reason);
-        } else if is_busy(lane, key) {
+        } else if is_busy(lane, key, &station.common.owed) {
             station.keys.put(kept, key);
             kept = kept.saturating_add(1);
         } else {
@@ -116,14 +118,15 @@ pub(crate) fn close_ended<R: Wait>(lane: &mut Lane<Socket, R>, station: &mut Sta
     station.keys.truncate(kept);
 }
 
-/// Whether the connection of a key is idle in a second: it isn't listed, nothing is owed to it, and
-/// nothing was heard of it for so long.
+/// Whether the connection of a key is idle in a second: it isn't listed, and nothing was heard of it
+/// for so long, or, where something is owed to it, it took nothing for so long.
 fn is_idle<R>(lane: &Lane<Socket, R>, guest: Guest, key: usize, idle: IdleTime, now: u32) -> bool {
     match lane.connection(key) {
         Some(connection) => {
             let is_silent = !connection.flags().is_listed;
             let is_owed = connection.due().replies > 0 || connection.has_rest();
-            is_silent && !is_owed && idle.is_over(guest.heard, now)
+            let since = if is_owed { guest.taken } else { guest.heard };
+            is_silent && idle.is_over(since, now)
         }
         None => false,
     }

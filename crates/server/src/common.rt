@@ -3,6 +3,7 @@
 use crate::counting::Counter;
 use crate::crowd::Crowd;
 use crate::ends::Ends;
+use crate::owed::Owed;
 use crate::untended::Untended;
 use clerk::{Event, Journal};
 use granted_calls::Wanted;
@@ -19,6 +20,8 @@ pub(crate) struct Common {
     pub(crate) wanted: Wanted,
     /// Whether calls may have left blocks to tend.
     pub(crate) untended: Untended,
+    /// What is owed to all connections together.
+    pub(crate) owed: Owed,
     /// Word that connections find no place.
     pub(crate) crowd: Crowd,
     /// What is left for the clerk, where there is one.
@@ -34,6 +37,7 @@ impl Drop for Common {
             ends: _,
             wanted: _,
             untended: _,
+            owed: _,
             crowd: _,
             journal: _,
             tallies: _,
@@ -64,6 +68,7 @@ impl Common {
             ends: Ends::new(),
             wanted: Wanted::new(),
             untended: Untended::new(),
+            owed: Owed::new(options.most_owed),
             crowd: Crowd::new(options.idle),
             journal,
             tallies: new_tallies(alloc, lanes)?,

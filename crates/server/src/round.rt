@@ -7,10 +7,11 @@ use crate::closing::{close_ended, close_idle};
 use crate::counting::count_round;
 use crate::hearing::hear;
 use crate::lane_tends::{begin_anew, may_rest, put_down, tend};
+use crate::seconds::second_now;
 use crate::socket::Socket;
 use crate::station::Station;
 use crate::turning::run_calls;
-use crate::visits::{any_is_due, open, read_all, write_all};
+use crate::visits::{any_is_due, open, read_all, read_doubted, write_all};
 use lanes::Lane;
 use nfs_values::Moment;
 use std::rt::Clock;
@@ -32,7 +33,7 @@ fn longest_wait<R>(lane: &Lane<Socket, R>, station: &Station) -> Option<Duration
     if station.is_writing || lane.waiting() > 0 {
         return Some(Duration::ZERO);
     }
-    if !may_rest(lane, &station.pace) || any_is_due(lane, &station.keys) {
+    if !may_rest(lane, &station.pace) || any_is_due(lane, &station.keys, &station.common.owed) {
         return Some(Duration::ZERO);
     }
     if !lane.worker().has_empty_hand() {
@@ -45,11 +46,15 @@ fn longest_wait<R>(lane: &Lane<Socket, R>, station: &Station) -> Option<Duration
     None
 }
 
-/// Waits until something is to be done, and notes what is told of the sockets.
+/// Waits until something is to be done, and notes what is told of the sockets. It doesn't sleep
+/// while a connection is in doubt.
 fn wait<R: Wait + Clock>(rt: &R, lane: &mut Lane<Socket, R>, station: &mut Station)
     ensures { Stays lane.old lane.new }
 {
     let longest = longest_wait(lane, station);
+    if longest != Some(Duration::ZERO) && read_doubted(lane, station) {
+        return;
+    }
     match station.poll.poll(&mut station.events, longest) {
         Ok(()) => {
             for event in &station.events {
@@ -78,18 +83,20 @@ fn take_mail<R: Wait>(lane: &mut Lane<Socket, R>, station: &mut Station, rt: &R,
     }
 }
 
-/// Takes what was left and reads each listed connection once. Answers how many messages wait then.
+/// Takes what was left and reads each listed connection once, in a round that began at a moment and
+/// in a second. Answers how many messages wait then.
 fn read_round<R: Wait>(
     lane: &mut Lane<Socket, R>,
     station: &mut Station,
     rt: &R,
     moment: Moment,
+    second: u32,
 ) -> usize
     ensures { Stays lane.old lane.new }
 {
-    take_mail(lane, station, rt, moment.seconds);
+    take_mail(lane, station, rt, second);
     let before = lane.waiting();
-    read_all(lane, station, moment.seconds);
+    read_all(lane, station, second);
     let waiting = lane.waiting();
     if let Some(counting) = &mut station.counting {
         counting.put(moment, waiting.saturating_sub(before));
@@ -125,16 +132,16 @@ pub(crate) fn round<R: Wait + Clock>(rt: &R, lane: &mut Lane<Socket, R>, station
 {
     wait(rt, lane, station);
     station.pace.patience.give_way(rt);
-    let moment = station.pace.time(rt);
-    let waiting = read_round(lane, station, rt, moment);
+    let (moment, second) = (station.pace.time(rt), second_now(rt));
+    let waiting = read_round(lane, station, rt, moment, second);
     if waiting == 0 {
         begin_anew(&mut station.pace, &station.common, moment);
     }
     let is_idle = run_calls(lane, &mut station.pace, &station.common, moment);
-    station.is_writing = write_all(lane, &station.keys, &mut station.buffers);
+    station.is_writing = write_all(lane, station, second);
     count(lane, station, rt, waiting, moment);
     close_ended(lane, station, rt);
-    close_idle(lane, station, rt, moment.seconds);
+    close_idle(lane, station, rt, second);
     if is_idle {
         begin_anew(&mut station.pace, &station.common, moment);
         tend(lane, &mut station.pace);

@@ -6,7 +6,15 @@ ghost use Rattle.std.specs.Prelude.{vec_len, vec_capacity};
 ghost use Rattle.std.specs.Arc.{arc_value};
 ghost use Rattle.depot_rule.specs.Sums.{total};
 ghost use Rattle.lanes.specs.declared.lane.Lane as laned;
-ghost use Rattle.filer_lanes.specs.Ends.{IsEndOf};
+ghost use Rattle.filer_lanes.specs.Ends.{unfinished_in, IsEndOf};
+ghost use Rattle.filer_lanes.specs.ThreadedHeadline.{ThreadedHeadline};
+ghost use Rattle.rpc_msg.specs.HandleForm.{verifier_of};
+ghost use Rattle.rpc_msg.specs.Offer.{form_of};
+ghost use Rattle.rpc_msg.specs.declared.handle_form.HandleForm.TheVariants.{OfRun};
+ghost use Rattle.rpc_msg.specs.declared.offer.Offer as offers;
+ghost use Rattle.granted_calls.specs.Filers.{layout_in, verifier_in};
+ghost use Rattle.server.specs.Planned.{IsLaidOut};
+ghost use Rattle.server.specs.Served.{left_line, EndsWith, HasServed};
 ghost use Rattle.lanes.specs.Words.{Identity};
 ghost use Rattle.filer_lanes.specs.Lanes.{by_identity, seats_of, IsLaneOf};
 ghost use Rattle.server.specs.Threads.{identity_for, seats_for, AreOfThreads};
@@ -16,11 +24,11 @@ ghost use Rattle.granted_calls.specs.declared.shared.Filer as filers;
 
 use crate::common::Common;
 use crate::crew::{Mail, join_all, start_all};
-use crate::entrance::{Scribe, accept};
+use crate::entrance::{Scribe, take_all};
 use crate::fault::{ServerFault, of_clerk, of_start};
 use crate::mailbox::Mailbox;
 use crate::opening::{layout_of, verifier_for};
-use crate::printing::{print_address, print_left};
+use crate::printing::print_left;
 use crate::socket::Socket;
 use crate::station::Station;
 use crate::task::{Task, Thread};
@@ -122,6 +130,10 @@ fn start<R>(
 ) -> Result<Running<R>, ServerFault>
 where
     R: Threads + Wait + Clock + Net + Copy + Drop + Send + 'static,
+    ensures layout { IfOk result (λ r. IsLaidOut options.now.volumes options.now.plan
+        (layout_in (arc_value r.filer))) }
+    ensures verifier { IfOk result (λ r. (run : ℕ) → form_of options.now.offer ≡ OfRun run
+        → verifier_in (arc_value r.filer) ≡ verifier_of run) }
     ensures threads { IfOk result (λ r. AreThreadsOf (arc_value r.filer) r.threads.items) }
     ensures offer { IfOk result (λ r. AllServe options.now.offer r.threads.items) }
     ensures count { IfOk result (λ r. length r.threads.items ≡ options.now.workers) }
@@ -155,26 +167,6 @@ where
     })
 }
 
-/// Prints where a server listens, takes the connections that are asked for, and waits for their
-/// ends, while a clerk writes what happens, if there is one.
-fn take_all<R, W, E>(
-    rt: &R,
-    mail: &Mail,
-    listener: &TcpListener,
-    options: &Options,
-    out: &mut W,
-    scribe: Option<Scribe<'_, E>>,
-) -> Result<(), ServerFault>
-where
-    R: Threads + Wait + Clock + Copy + Send,
-    R: Net<Listener = TcpListener, Stream = TcpStream>,
-    W: Write,
-    E: Write,
-{
-    print_address(listener, out)?;
-    accept(rt, mail, listener, options, scribe)
-}
-
 /// Serves as many connections of a listener as the options say to their ends, and stops the lanes.
 /// Where one can't be accepted no more are, and those that are open are closed. What comes back is
 /// what is left of a filer that was served to its end, by the lanes that its threads were started
@@ -185,7 +177,7 @@ fn run<R, W, E>(
     options: &Options,
     running: Running<R>,
     out: &mut W,
-    scribe: Option<Scribe<'_, E>>,
+    scribe: Option<Scribe<'_, '_, E>>,
 ) -> Result<FilerEnd, ServerFault>
 where
     R: Threads + Wait + Clock + Copy + Drop + Send,
@@ -193,10 +185,13 @@ where
     W: Write,
     E: Write,
     requires { AreThreadsOf (arc_value running.filer) running.threads.items }
-    ensures { IfOk result (λ left. (lanes : List (laned.Lane sockets.Socket R
-        ⟦<Socket as Device>⟧))
+    ensures { let F = arc_value running.filer in IfOk result (λ left.
+        (lanes : List (laned.Lane sockets.Socket R ⟦<Socket as Device>⟧))
         × AreOfThreads running.threads.items lanes
-        × IsEndOf (arc_value running.filer) lanes left) }
+        × IsEndOf F lanes left
+        × length lanes ≡ length running.threads.items
+        × ((offer : offers.Offer) → AllServe offer running.threads.items
+        → ∥ ThreadedHeadline (layout_in F) (verifier_in F) offer lanes left ∥₁)) }
 {
     let Running {
         filer,
@@ -217,48 +212,67 @@ where
 /// Serves the connections of a listener: prints `listening` and the address that it is bound to,
 /// takes as many connections as the options say, waits for their ends, stops the lanes, and closes
 /// the filer, and prints `left` and how many messages weren't finished. Where the options name no
-/// number of connections it goes on for as long as the program runs.
+/// number of connections it goes on for as long as the program runs. What is left comes back, of a
+/// filer with the volumes, the verifier and the lanes that the options say: the headline with
+/// threads holds of it.
 pub fn serve<R, W>(
     rt: R,
     alloc: Global,
     listener: &TcpListener,
     options: &Options,
     out: &mut W,
-) -> Result<(), ServerFault>
+) -> Result<FilerEnd, ServerFault>
 where
     R: Threads + Wait + Clock + Net<Listener = TcpListener, Stream = TcpStream>,
     R: Copy + Drop + Send + 'static,
     W: Write,
+    ensures headline { IfOk result
+        (HasServed R ⟦<Socket as Device>⟧ options.now) }
+    ensures printed { IfOk result (λ left.
+        EndsWith W.contents out.new (left_line (unfinished_in left))) }
 {
     let running = start(rt, alloc, options, None)?;
-    let none: Option<Scribe<'_, io::Sink>> = None;
+    let none: Option<Scribe<'_, '_, io::Sink>> = None;
     let end = run(&rt, listener, options, running, out, none)?;
-    print_left(&end, out)
+    print_left(&end, out)?;
+    Ok(end)
 }
 
-/// The same, and tells by a second writer what people want to know of connections: as the options
-/// say, and always where connections are closed for want of a place or can't be accepted. Whatever
-/// becomes of that writer, the connections are served.
+/// The same, and tells by a second writer the lines of the start that are given, and then what
+/// people want to know of connections: as the options say, and always where connections are closed
+/// for want of a place or can't be accepted. Whatever becomes of that writer, the connections are
+/// served.
 pub fn serve_told<R, W, E>(
     rt: R,
     alloc: Global,
     listener: &TcpListener,
     options: &Options,
+    opening: &str,
     out: &mut W,
     err: &mut E,
-) -> Result<(), ServerFault>
+) -> Result<FilerEnd, ServerFault>
 where
     R: Threads + Wait + Clock + Net<Listener = TcpListener, Stream = TcpStream>,
     R: Copy + Drop + Send + 'static,
     W: Write,
     E: Write,
+    ensures headline { IfOk result
+        (HasServed R ⟦<Socket as Device>⟧ options.now) }
+    ensures printed { IfOk result (λ left.
+        EndsWith W.contents out.new (left_line (unfinished_in left))) }
 {
     let clerk = Clerk::new(alloc, &rt).map_err(|error| of_clerk(&error))?;
     let journal = clerk
         .journal(alloc, options.log)
         .map_err(|error| of_clerk(&error))?;
     let running = start(rt, alloc, options, Some(journal))?;
-    let scribe = Some(Scribe { clerk, err, alloc });
+    let scribe = Some(Scribe {
+        clerk,
+        opening,
+        err,
+        alloc,
+    });
     let end = run(&rt, listener, options, running, out, scribe)?;
-    print_left(&end, out)
+    print_left(&end, out)?;
+    Ok(end)
 }

@@ -3,8 +3,9 @@
 ghost use Rattle.filer_lanes.specs.Lanes.{Stays};
 
 use crate::guests::Guests;
-use crate::keys::Keys;
+use crate::keys::{Keys, list};
 use crate::mailbox::Arrival;
+use crate::owed::Owed;
 use crate::socket::Socket;
 use crate::station::{Buffers, Station};
 use clerk::Event;
@@ -28,9 +29,9 @@ fn register<R>(
     ensures { Stays lane.old lane.new }
 {
     let token = Token(lane.next_key());
-    let mut socket = Socket(TcpStream::from_std(stream));
+    let mut socket = Socket::new(TcpStream::from_std(stream));
     let both = Interest::READABLE | Interest::WRITABLE;
-    if registry.register(&mut socket.0, token, both).is_err() {
+    if registry.register(&mut socket.stream, token, both).is_err() {
         return None;
     }
     lane.open(socket).ok()
@@ -71,20 +72,25 @@ fn has_more(connection: &Connection<Socket>) -> bool {
     connection.has_kept() || flags.is_readable && !flags.has_ended
 }
 
-/// Whether a connection has something to read or to cut, and may be read.
-pub(crate) fn is_due<R>(lane: &Lane<Socket, R>, key: usize) -> bool {
+/// Whether a connection has something to read or to cut, and may be read: less is owed to it than
+/// may be, and nothing is, or less than may be to all together.
+pub(crate) fn is_due<R>(lane: &Lane<Socket, R>, key: usize, all: &Owed) -> bool {
     match lane.connection(key) {
         Some(connection) => {
-            has_more(connection) && !connection.is_stopped() && lane.may_owe(connection.owed())
+            let owed = connection.owed();
+            has_more(connection)
+                && !connection.is_stopped()
+                && lane.may_owe(owed)
+                && (owed == 0 || !all.is_over())
         }
         None => false,
     }
 }
 
 /// Whether a connection of a lane has something to read or to cut, and may be read.
-pub(crate) fn any_is_due<R>(lane: &Lane<Socket, R>, keys: &Keys) -> bool {
+pub(crate) fn any_is_due<R>(lane: &Lane<Socket, R>, keys: &Keys, all: &Owed) -> bool {
     for place in 0..keys.len() {
-        if is_due(lane, keys.at(place)) {
+        if is_due(lane, keys.at(place), all) {
             return true;
         }
     }
@@ -121,8 +127,14 @@ fn read<R: Wait>(lane: &mut Lane<Socket, R>, key: usize, guests: &mut Guests, bu
     ensures { Stays lane.old lane.new }
 {
     let came = lane.read(key, &mut buffers.block);
-    if came == Came::Failed {
-        guests.fail(key);
+    match came {
+        Came::Failed => guests.fail(key),
+        Came::Read(size) => {
+            if size < buffers.block.len() {
+                guests.doubt(key);
+            }
+        }
+        _ => {}
     }
     if let Some(connection) = lane.connection(key) {
         let flags = after_read(connection.flags(), came, buffers.block.len());
@@ -139,10 +151,37 @@ pub(crate) fn read_all<R: Wait>(lane: &mut Lane<Socket, R>, station: &mut Statio
     for others in 0..station.keys.len() {
         let key = station.keys.visited(others);
         station.guests.hear(key, now);
-        if is_due(lane, key) {
+        if is_due(lane, key, &station.common.owed) {
             read(lane, key, &mut station.guests, &mut station.buffers);
         }
     }
+}
+
+/// Has the connection of a key read once more, in the next round.
+fn read_again<R>(lane: &mut Lane<Socket, R>, keys: &mut Keys, key: usize)
+    ensures { Stays lane.old lane.new }
+{
+    if let Some(connection) = lane.connection(key) {
+        let flags = Flags {
+            is_readable: true,
+            ..connection.flags()
+        };
+        lane.set_flags(key, flags);
+        list(lane, keys, key);
+    }
+}
+
+/// Has each connection in doubt read once more, in the next round. Answers whether there was one.
+pub(crate) fn read_doubted<R>(lane: &mut Lane<Socket, R>, station: &mut Station) -> bool
+    ensures { Stays lane.old lane.new }
+{
+    let doubts = station.guests.doubts();
+    for _ in 0..doubts {
+        if let Some(key) = station.guests.take_doubt() {
+            read_again(lane, &mut station.keys, key);
+        }
+    }
+    doubts > 0
 }
 
 /// Whether replies may wait for a connection, and its socket may have room.
@@ -181,15 +220,44 @@ fn write<R>(lane: &mut Lane<Socket, R>, key: usize, buffers: &mut Buffers) -> bo
     true
 }
 
-/// Writes the replies of each listed connection that may have some. Answers whether there may be
-/// more.
-pub(crate) fn write_all<R>(lane: &mut Lane<Socket, R>, keys: &Keys, buffers: &mut Buffers) -> bool
+/// How much is owed to the connection of a key.
+fn owed_to<R>(lane: &Lane<Socket, R>, key: usize) -> usize {
+    match lane.connection(key) {
+        Some(connection) => connection.owed(),
+        None => 0,
+    }
+}
+
+/// Writes the replies of a connection, and notes how much is owed to it then, and whether it took
+/// something in this second. Answers whether there may be more.
+fn write_and_note<R>(
+    lane: &mut Lane<Socket, R>,
+    station: &mut Station,
+    key: usize,
+    now: u32,
+) -> bool
+    ensures { Stays lane.old lane.new }
+{
+    let before = owed_to(lane, key);
+    let is_left = is_writable(lane, key) && write(lane, key, &mut station.buffers);
+    let owed = owed_to(lane, key);
+    if owed < before {
+        station.guests.take(key, now);
+    }
+    let told = station.guests.owe(key, owed, now);
+    station.common.owed.change(told, owed);
+    is_left
+}
+
+/// Writes the replies of each listed connection that may have some, in a second. Answers whether
+/// there may be more.
+pub(crate) fn write_all<R>(lane: &mut Lane<Socket, R>, station: &mut Station, now: u32) -> bool
     ensures { Stays lane.old lane.new }
 {
     let mut is_left = false;
-    for place in 0..keys.len() {
-        let key = keys.at(place);
-        if is_writable(lane, key) && write(lane, key, buffers) {
+    for place in 0..station.keys.len() {
+        let key = station.keys.at(place);
+        if write_and_note(lane, station, key, now) {
             is_left = true;
         }
     }

@@ -1,19 +1,24 @@
 -- Whose connections are served (our profile).
-use Rattle.std.specs.Prelude.{⊤, Option, Some, None, Any}
-use Rattle.std.specs.Net.Addr.{IsLoopbackV4, IsLoopbackV6, MatchIp}
+use Rattle.std.specs.Prelude.{◌≡◌, ℕ, ◌/◌, ◌^◌, ◌⊎◌, ⊤, Option, Some, None, Any}
+use Rattle.std.specs.Net.Addr.{ipv6_bits, IsLoopbackV4, IsLoopbackV6, MatchIp}
+use Rattle.std.specs.declared.net.ipv6_addr.Ipv6Addr.{Ipv6Addr}
 use Rattle.std.specs.declared.net.ip_addr.IpAddr.{IpAddr}
 use Rattle.server_options.specs.declared.network.Network.{Network}
 use Rattle.server_options.specs.declared.peers.Peers.{Peers}
 use Rattle.server_options.specs.declared.peers.Peers.TheVariants.{All, Loopback, Networks}
-use Rattle.server_options.specs.Networks.{IsIn}
+use Rattle.server_options.specs.Networks.{mapped_in, IsIn, IsMapped}
 
 -- it is in a network that was named
 abbrev pub IsNamed : IpAddr → Option Network → Type 0
 IsNamed address None = ⊥
 IsNamed address (Some network) = IsIn network.address network.bits address
 
+-- an address of the own machine in IPv6: ::1, or one of 127.0.0.0/8 in IPv6's form
+abbrev pub IsOwnV6 : Ipv6Addr → Type 0
+IsOwnV6 ip = IsLoopbackV6 ip ⊎ (IsMapped (ipv6_bits ip) × (mapped_in (ipv6_bits ip) / 2 ^ 24 ≡ 127))
+
 -- connections from an address are served: everybody's, those of the own machine, or those of some of the networks
 abbrev pub Serves : Peers → IpAddr → Type 0
 Serves All address = ⊤
-Serves Loopback address = MatchIp address IsLoopbackV4 IsLoopbackV6
+Serves Loopback address = MatchIp address IsLoopbackV4 IsOwnV6
 Serves (Networks named) address = Any (IsNamed address) named

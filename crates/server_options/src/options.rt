@@ -14,8 +14,9 @@ use tends::MOST_WORKERS;
 
 /// Where a server listens, how many volumes (1 to 8) and workers (1 to 64) it has, after how many
 /// connections it ends, if after any, how many may be open, what it offers and to whom, what its
-/// volumes have at the start, after how long a connection is idle, if ever, whether each connection
-/// is told of, and how often statistics are, if they are.
+/// volumes have at the start, after how long a connection is idle, if ever, how many bytes of replies
+/// may be owed to all connections together, if that is bounded, whether each connection is told of,
+/// and how often statistics are, if they are.
 #[derive(Clone, Copy)]
 pub struct Options {
     pub address: SocketAddr,
@@ -27,6 +28,7 @@ pub struct Options {
     pub peers: Peers,
     pub plan: VolumePlan,
     pub idle: Option<IdleTime>,
+    pub most_owed: Option<u64>,
     pub log: bool,
     pub statistics: Option<Period>,
     pub ghost some_volume: { 0 < volumes },
@@ -54,7 +56,7 @@ impl Options {
             × options.volumes ≡ volumes × options.workers ≡ workers
             × options.connections ≡ connections × IsUsual options.admission
             × options.offer ≡ basic × IsBasic options.plan × options.peers ≡ All
-            × options.idle ≡ None × options.log ≡ false × options.statistics ≡ None) }
+            × options.idle ≡ None × options.most_owed ≡ None × options.log ≡ false × options.statistics ≡ None) }
         ensures in_range { IfSome result (λ options. IsInRange volumes workers) }
         ensures refused { IfNone result (IsInRange volumes workers → ⊥) }
     {
@@ -77,6 +79,7 @@ impl Options {
             peers: Peers::All,
             plan: VolumePlan::basic(),
             idle: None,
+            most_owed: None,
             log: false,
             statistics: None,
         })
@@ -124,6 +127,15 @@ impl Options {
     {
         let mut options = self;
         options.idle = Some(idle);
+        options
+    }
+
+    /// The same options, where all connections together may be owed so many bytes of replies.
+    pub fn with_most_owed(self, bytes: u64) -> Options
+        ensures { result ≡ record self { most_owed = Some bytes } }
+    {
+        let mut options = self;
+        options.most_owed = Some(bytes);
         options
     }
 

@@ -1,11 +1,11 @@
 //! Whose connections are served.
 
 ghost use Rattle.std.specs.Prelude.{◌↔◌, Any, IsTrue};
-ghost use Rattle.server_options.specs.Peers.{IsNamed, Serves};
+ghost use Rattle.server_options.specs.Peers.{IsNamed, IsOwnV6, Serves};
 
-use crate::network::Network;
+use crate::network::{Network, is_mapped, mapped_in};
 use std::fmt;
-use std::net::IpAddr;
+use std::net::{IpAddr, Ipv6Addr};
 
 /// The most networks that may be named.
 pub const MOST_NETWORKS: usize = 16;
@@ -38,14 +38,27 @@ fn is_in_some(networks: &[Option<Network>], address: &IpAddr) -> bool
     networks.iter().any(|network| is_named(network, address))
 }
 
+/// Whether an address of IPv6 is of the own machine: `::1`, or an IPv4 address of it in IPv6's
+/// form.
+fn is_own_of_six(address: &Ipv6Addr) -> bool
+    ensures { IsTrue result ↔ IsOwnV6 address.now }
+{
+    let number = address.to_bits();
+    address.is_loopback() || is_mapped(number) && mapped_in(number) >> 24 == 127
+}
+
 impl Peers {
-    /// Whether connections from an address are served.
+    /// Whether connections from an address are served. An IPv4 address in IPv6's form is that IPv4
+    /// address.
     pub fn has(&self, address: &IpAddr) -> bool
         ensures { IsTrue result ↔ Serves self.now address.now }
     {
         match self {
             Peers::All => true,
-            Peers::Loopback => address.is_loopback(),
+            Peers::Loopback => match address {
+                IpAddr::V4(own) => own.is_loopback(),
+                IpAddr::V6(own) => is_own_of_six(own),
+            },
             Peers::Networks(networks) => is_in_some(networks, address),
         }
     }

@@ -5,3 +5,4 @@ mod Drained
 pub mod Joins
 pub mod Sharing
 mod Closes
+mod Holds

@@ -1,4 +1,5 @@
 pub mod Works
+pub mod Counts
 pub mod Heirs
 pub mod Threads
 pub mod Pools

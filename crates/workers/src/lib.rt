@@ -5,8 +5,10 @@
 
 mod collecting;
 mod commons;
+mod one_tend;
 mod pool;
 mod pool_worker;
+mod putting_back;
 mod round;
 mod serving;
 mod splits;
@@ -18,8 +20,10 @@ mod worked;
 mod working;
 
 pub use granted_calls::{Answer, Filer, Gate, Place, Turn, Unwatched};
+pub use one_tend::tend_turn;
 pub use outboxes::Outboxes;
 pub use pool::Pool;
+pub use putting_back::put_back;
 pub use tends::{
     Ended, Found, Left, MOST_WORKERS, Patience, Room, StartRefusal, Tending, close, drain_behind,
     found_by, gather, push_batch, push_kept, share_millisecond, time_now,

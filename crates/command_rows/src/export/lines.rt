@@ -1,7 +1,7 @@
 //! What lawful command lines ask for. `trials/command_lines` has lines that are none.
 
 use crate::looking::holds;
-use filer_commands::{Command, ProgramFault, command};
+use filer_commands::{Command, command};
 use server_options::{Options, Peers, WhenFull};
 use std::process::Abort;
 
@@ -17,9 +17,11 @@ pub(crate) fn options_of(rt: &(impl Abort + AllocGlobal), words: &[&str]) -> Opt
 const NO_WORD: [&str; 0] = [];
 
 #[test]
-fn no_word_is_no_command(rt: HostRuntime) {
-    let fault = command(rt.alloc(), &NO_WORD).err();
-    holds(&rt, fault == Some(ProgramFault::CommandLine));
+fn no_word_asks_for_help(rt: HostRuntime) {
+    holds(
+        &rt,
+        matches!(command(rt.alloc(), &NO_WORD), Ok(Command::Help)),
+    );
 }
 
 /// Looks how many connections of whom a server serves.

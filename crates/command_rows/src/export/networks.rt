@@ -17,7 +17,7 @@ fn is_in(rt: &impl Abort, network: &str, peer: &str) -> bool {
 }
 
 /// A network, an address, and whether that is in it.
-const ROWS: [(&str, &str, bool); 10] = [
+const ROWS: [(&str, &str, bool); 17] = [
     ("127.0.0.1", "127.0.0.1", true),
     ("127.0.0.1", "127.0.0.2", false),
     ("10.0.0.0/8", "10.255.0.1", true),
@@ -28,6 +28,14 @@ const ROWS: [(&str, &str, bool); 10] = [
     ("0.0.0.0/0", "::1", false),
     ("2001:db8::/32", "2001:db8:ffff::1", true),
     ("2001:db8::/32", "2001:db9::1", false),
+    // IPv4 addresses in IPv6's form (RFC 4291 section 2.5.5.2)
+    ("10.0.0.0/8", "::ffff:10.1.2.3", true),
+    ("10.0.0.0/8", "::ffff:11.1.2.3", false),
+    ("10.0.0.0/8", "::10.1.2.3", false),
+    ("::/0", "::ffff:10.1.2.3", false),
+    ("::/0", "2001:db8::1", true),
+    ("::ffff:10.0.0.0/104", "10.1.2.3", true),
+    ("::ffff:10.0.0.0/104", "::ffff:11.1.2.3", false),
 ];
 
 #[test]
@@ -36,6 +44,16 @@ fn addresses_by_their_first_bits(rt: HostRuntime) {
         holds(&rt, is_in(&rt, network, peer) == *is_so);
     }
 }
+
+/// An address of IPv6, and whether it is of the own machine.
+const OF_SIX: [(&str, bool); 6] = [
+    ("::1", true),
+    ("::ffff:127.0.0.1", true),
+    ("::ffff:127.9.9.9", true),
+    ("::2", false),
+    ("::ffff:192.0.2.7", false),
+    ("::127.0.0.1", false),
+];
 
 #[test]
 fn peers_of_the_own_machine(rt: HostRuntime) {
@@ -46,4 +64,7 @@ fn peers_of_the_own_machine(rt: HostRuntime) {
         Peers::Loopback.has(&here) && !Peers::Loopback.has(&there),
     );
     holds(&rt, Peers::All.has(&there));
+    for (peer, is_own) in &OF_SIX {
+        holds(&rt, Peers::Loopback.has(&address(&rt, peer)) == *is_own);
+    }
 }

@@ -88,8 +88,13 @@ fn ranges_with_files_and_inodes(rt: HostRuntime) {
     holds(&rt, numbers == [3, 1_024, 1_024, 100_000, 128]);
 }
 
-/// What two volumes have on a machine with so much memory.
-fn on_a_machine(rt: &(impl Abort + AllocGlobal), memory: Option<u64>) -> [u32; 5] {
+/// What two volumes have on a machine with so much memory, where a control group of the process may
+/// take so much.
+fn on_a_machine(
+    rt: &(impl Abort + AllocGlobal),
+    memory: Option<u64>,
+    limit: Option<u64>,
+) -> [u32; 5] {
     let words = [
         "filer",
         "export",
@@ -101,6 +106,7 @@ fn on_a_machine(rt: &(impl Abort + AllocGlobal), memory: Option<u64>) -> [u32; 5
     let machine = Machine {
         processors: 2,
         memory,
+        limit,
     };
     match command_told(rt.alloc(), &words, machine, &mut io::sink()) {
         Ok(Command::Export(options)) => {
@@ -122,6 +128,16 @@ const MACHINES: [(Option<u64>, [u32; 5]); 4] = [
 #[test]
 fn a_quarter_of_the_memory(rt: HostRuntime) {
     for (memory, wanted) in &MACHINES {
-        holds(&rt, on_a_machine(&rt, *memory) == *wanted);
+        holds(&rt, on_a_machine(&rt, *memory, None) == *wanted);
     }
+}
+
+#[test]
+fn no_more_than_half_of_a_control_group(rt: HostRuntime) {
+    let memory = Some(24 << 30);
+    let wanted = [16, 8_192, 512, 65_536, 0];
+    holds(&rt, on_a_machine(&rt, memory, Some(2 << 30)) == wanted);
+    holds(&rt, on_a_machine(&rt, None, Some(2 << 30)) == wanted);
+    let whole = on_a_machine(&rt, memory, None);
+    holds(&rt, on_a_machine(&rt, memory, Some(24 << 30)) == whole);
 }

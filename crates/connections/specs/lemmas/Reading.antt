@@ -1,8 +1,7 @@
 -- The reading of a connection, call after call.
-use Rattle.std.proofs.Common.{◌≡◌, ℕ, Bool, List, ◌++◌, length-append, Option, Some, None, refl, sym, ap, subst, ◌∙◌}
+use Rattle.std.proofs.Common.{◌≡◌, ℕ, ◌+◌, Bool, List, ◌++◌, length, length-append, Option, Some, None, refl, sym, ap, subst, ◌∙◌}
 use Rattle.std.proofs.Common.{append_assoc, append-nil, arith}
-use Rattle.std.proofs.KnownBytes.{Appends-kept, Consumes-trans}
-use Rattle.std.specs.Io.KnownBytes.{Consumes}
+use Rattle.std.proofs.KnownBytes.{Appends-kept}
 use Rattle.nfs_model.specs.Tree.{Layout}
 use Rattle.nfs_model.specs.World.{Heard, Scanned}
 use Rattle.outboxes.specs.Messages.{ReplyMessage}
@@ -20,6 +19,8 @@ use Rattle.connections.specs.Connections.{now_of}
 use Rattle.connections.specs.Cutting.{HasCut}
 use Rattle.connections.specs.Reading.{Cuts, HasRead, IsReadFrom, Reads, Stands}
 use Rattle.connections.specs.Writing.{IsWrittenTo, Writes}
+use Rattle.connections.specs.Incoming.{Incoming, Gives}
+use Rattle.connections.specs.lemmas.Incoming.{gives-more}
 
 -- ---- what bytes more come to
 
@@ -50,9 +51,9 @@ stands-more offer (Some (stops.Fault fault)) s s' records read cut before heard 
 stands-more offer (Some stops.NoMemory) s s' records read cut before heard g h = first-more offer s records read cut before heard g h
 stands-more offer (Some stops.NumbersUsed) s s' records read cut before heard g h = (first-more offer s records read cut before heard g h.0, h.1)
 
-module _ {D S : Type 0} (unread : D → Option (List ℕ)) (opened now now' : D) (came : S → List Arrival → S → Type 0)
+module _ {D S : Type 0} (unread : D → Incoming) (opened now now' : D) (came : S → List Arrival → S → Type 0)
     (room : S → Bool) (layout : Layout) (offer : Offer) (s s' : Stream) (sink sink' : S) (kept kept' read : List ℕ) (stopped : Option Stopped)
-    (before : List Heard) (consumed : Consumes (unread now) (unread now') read) where
+    (before : List Heard) (consumed : Gives (unread now) (unread now') read) where
   reads-more : IsReadFrom offer unread opened now s kept None before
       → (h : HasCut came room layout offer s sink (kept ++ read) stopped s' sink' kept')
       → IsReadFrom offer unread opened now' s' kept' stopped (before ++ h.taken.heard)
@@ -67,8 +68,8 @@ module _ {D S : Type 0} (unread : D → Option (List ℕ)) (opened now now' : D)
       record {
         read = g.read ++ h.cut;
         lost = h.lost;
-        taken = subst (Consumes (unread opened) (unread now')) all
-            (Consumes-trans (unread opened) (unread now) (unread now') _ read g.taken consumed);
+        taken = subst (Gives (unread opened) (unread now')) all
+            (gives-more (unread opened) (unread now) (unread now') _ read g.taken consumed);
         stands = stands-more offer stopped s s' s.records g.read h.cut before h.taken.heard g.stands h.taken.stops;
         count = omega (arith, first, second, both);
         none_lost = h.none_lost;
@@ -87,8 +88,8 @@ module _ {D S : Type 0} (unread : D → Option (List ℕ)) (opened now now' : D)
       let moved : IsReadFrom offer unread opened now' s kept' (Some stop) before = record {
         read = g.read;
         lost = g.lost;
-        taken = subst (Consumes (unread opened) (unread now')) all
-            (Consumes-trans (unread opened) (unread now) (unread now') _ read g.taken consumed);
+        taken = subst (Gives (unread opened) (unread now')) all
+            (gives-more (unread opened) (unread now) (unread now') _ read g.taken consumed);
         stands = g.stands;
         count = g.count;
         none_lost = g.none_lost;
@@ -99,7 +100,7 @@ module _ {D S : Type 0} (unread : D → Option (List ℕ)) (opened now now' : D)
 
 -- ---- one call
 
-module _ {D S : Type 0} (unread written : D → Option (List ℕ)) (came : S → List Arrival → S → Type 0) (room : S → Bool)
+module _ {D S : Type 0} (unread : D → Incoming) (written : D → Option (List ℕ)) (came : S → List Arrival → S → Type 0) (room : S → Bool)
     (layout : Layout) (offer : Offer) (old : Connection D) (sink : S) (size : ℕ) (result : Came) (new : Connection D) (sink' : S)
     (h : HasRead unread written came room layout offer old sink size result new sink') (opened : D) where
   -- its records go on
@@ -107,6 +108,18 @@ module _ {D S : Type 0} (unread written : D → Option (List ℕ)) (came : S →
   reads-on before g =
       cuts-on unread opened (now_of old) (now_of new) came room layout offer old.stream new.stream sink sink' old.kept new.kept h.read
       new.stopped before h.taken old.stopped h.heard g h.cuts
+
+  -- so many more were given on
+  pub read-count : new.stream.records ≡ old.stream.records + length h.heard
+  read-count = by old.stopped h.heard h.cuts
+    where
+      by : (o : Option Stopped) (heard : List Heard)
+          → Cuts came room layout offer o old.stream sink old.kept h.read heard new.stopped new.stream sink' new.kept
+          → new.stream.records ≡ old.stream.records + length heard
+      by None heard (k, e) = k.taken.count ∙ ap (λ (l : List Heard). old.stream.records + length l) e
+      by (Some stop) heard (given, none, unread_none, is, same, kept_is) =
+          let e : length heard ≡ 0 = ap (λ (l : List Heard). length l) none in
+          let f : new.stream.records ≡ old.stream.records = ap (λ (s : Stream). s.records) same in omega (arith, e, f)
 
   -- the writing stands as it did
   pub writes-kept : (waiting replies : List ReplyMessage) → Writes written opened old waiting replies

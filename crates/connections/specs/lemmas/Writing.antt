@@ -1,9 +1,11 @@
 -- The writing of a connection, call after call.
 use Rattle.std.proofs.Common.{◌≡◌, ◌+◌, ◌<◌, ℕ, Bool, true, false, List, [], ◌∷◌, ◌++◌, length, Option, Some, None, refl, sym, ap, subst}
 use Rattle.std.proofs.Common.{◌∙◌, append_assoc, arith}
-use Rattle.std.proofs.KnownBytes.{Appends-trans, Consumes-kept, Keeps-refl}
+use Rattle.std.proofs.KnownBytes.{Appends-trans}
 use Rattle.std.specs.FinMap.{get}
-use Rattle.std.specs.Io.KnownBytes.{Appends, Keeps}
+use Rattle.std.specs.Io.KnownBytes.{Appends}
+use Rattle.connections.specs.Incoming.{Incoming, GivesNone}
+use Rattle.connections.specs.lemmas.Incoming.{gives-kept, gives-none-still}
 use Rattle.rpc_msg.specs.declared.offer.Offer.{Offer}
 use Rattle.rpc_msg.specs.Replies.{reply_record, reply_bytes}
 use Rattle.outboxes.specs.Boxes.{Boxes}
@@ -15,9 +17,10 @@ use Rattle.connections.specs.declared.writing.Sent.{Sent}
 use Rattle.tcp_front.specs.declared.stream.Stopped.{Stopped}
 use Rattle.tcp_front.specs.declared.stream.Stream.{Stream}
 use Rattle.nfs_model.specs.World.{Heard}
-use Rattle.connections.specs.Connections.{now_of, number_of}
+use Rattle.connections.specs.Connections.{due_of, now_of, number_of}
 use Rattle.connections.specs.Reading.{IsReadFrom, Reads}
 use Rattle.connections.specs.lemmas.Taking.{takes-none}
+use Rattle.connections.specs.Owing.{Pays}
 use Rattle.connections.specs.Taking.{Takes, TakesOf}
 use Rattle.connections.specs.Writing.{HasWritten, HasWrittenAs, IsWrittenTo, Writes}
 
@@ -73,7 +76,7 @@ left-of None o' taken w e h = absurd cc
 left-of (Some v) None taken w e h = absurd h
 left-of (Some v) (Some u) taken w e h = let same : w ≡ v = cc in (u, (refl, same ∙ h))
 
-module _ {D : Type 0} (unread written : D → Option (List ℕ)) (old : Connection D) (boxes : Boxes) (result : Sent) (new : Connection D)
+module _ {D : Type 0} (unread : D → Incoming) (written : D → Option (List ℕ)) (old : Connection D) (boxes : Boxes) (result : Sent) (new : Connection D)
     (boxes' : Boxes) (h : HasWritten unread written old boxes result new boxes') where
   -- these were taken from its outbox
   pub written-takes : (taken : List ReplyMessage) × Takes (number_of old) taken boxes boxes'
@@ -83,6 +86,19 @@ module _ {D : Type 0} (unread written : D → Option (List ℕ)) (old : Connecti
           → (taken : List ReplyMessage) × Takes (number_of old) taken boxes boxes'
       by true k = ([], subst (Takes (number_of old) [] boxes) (sym k.2) (takes-none (number_of old) boxes))
       by false k = (k.0.taken, k.0.takes)
+
+  -- and are owed no more
+  pub written-pays : (taken : List ReplyMessage) × Takes (number_of old) taken boxes boxes' × Pays taken (due_of old) (due_of new)
+  written-pays = by old.is_broken h
+    where
+      by : (b : Bool) → HasWrittenAs b unread written old boxes result new boxes'
+          → (taken : List ReplyMessage) × Takes (number_of old) taken boxes boxes' × Pays taken (due_of old) (due_of new)
+      by true k = (
+        [],
+        subst (Takes (number_of old) [] boxes) (sym k.2) (takes-none (number_of old) boxes),
+        ap (λ (c : Connection D). due_of c) k.1,
+      )
+      by false k = (k.0.taken, k.0.takes, k.0.pays)
 
   -- its replies go on to it
   pub writes-on : (opened : D) (w replies : List ReplyMessage) → get boxes.waiting (number_of old) ≡ Some w
@@ -134,11 +150,11 @@ module _ {D : Type 0} (unread written : D → Option (List ℕ)) (old : Connecti
       )
 
   -- nor does it read
-  written-apart : Keeps (unread (now_of old)) (unread (now_of new))
+  written-apart : GivesNone (unread (now_of old)) (unread (now_of new))
   written-apart = by old.is_broken h
     where
-      by : (b : Bool) → HasWrittenAs b unread written old boxes result new boxes' → Keeps (unread (now_of old)) (unread (now_of new))
-      by true k = subst (λ (c : Connection D). Keeps (unread (now_of old)) (unread (now_of c))) (sym k.1) (Keeps-refl (unread (now_of old)))
+      by : (b : Bool) → HasWrittenAs b unread written old boxes result new boxes' → GivesNone (unread (now_of old)) (unread (now_of new))
+      by true k = subst (λ (c : Connection D). GivesNone (unread (now_of old)) (unread (now_of c))) (sym k.1) (gives-none-still (unread (now_of old)))
       by false k = k.0.apart
 
   -- the reading stands as it did
@@ -148,7 +164,7 @@ module _ {D : Type 0} (unread written : D → Option (List ℕ)) (old : Connecti
       let moved : IsReadFrom offer unread opened (now_of new) old.stream old.kept old.stopped heard = record {
         read = g.read;
         lost = g.lost;
-        taken = Consumes-kept (unread opened) (unread (now_of old)) (unread (now_of new)) _ g.taken written-apart;
+        taken = gives-kept (unread opened) (unread (now_of old)) (unread (now_of new)) _ g.taken written-apart;
         stands = g.stands;
         count = g.count;
         none_lost = g.none_lost;

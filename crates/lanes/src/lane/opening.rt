@@ -6,6 +6,7 @@ use affinity::Layout;
 use connections::{Device, Due, open_under};
 use granted_calls::shared_waiting::{Pass, SharedWaiting};
 use granted_calls::{Envelope, Filer};
+use histories::History;
 use outboxes::Outboxes;
 use rpc_msg::Offer;
 use scheduler::MOST_WAITING;
@@ -26,12 +27,13 @@ impl<D: Device, R> Lane<D, R> {
     ghost use Rattle.turns.specs.Words.{entries_in, IsAt};
     ghost use Rattle.connections.specs.Keyed.{Opens};
     ghost use Rattle.lanes.specs.Queues.{HasBoth};
-    ghost use Rattle.lanes.specs.Words.{boxes_in, connections_in, filer_in, identity_in, pass_in};
-    ghost use Rattle.lanes.specs.Words.{worker_in};
+    ghost use Rattle.lanes.specs.Words.{boxes_in, closed_in, connections_in, filer_in};
+    ghost use Rattle.lanes.specs.Intakes.{share_of};
+    ghost use Rattle.lanes.specs.Words.{identity_in, pass_in, share_in, worker_in};
 
     /// One of this many lanes of a filer, which reads records by what is offered, with a queue of
     /// its own: a pass that will only admit, and a worker with the other pass. Neither has done
-    /// anything. At most this many connections will be open.
+    /// anything. It may have its share of messages, and at most this many connections will be open.
     pub fn new(
         rt: R,
         alloc: Global,
@@ -57,6 +59,8 @@ impl<D: Device, R> Lane<D, R> {
         ensures identity { identity_in result ≡ ((lane, lanes), offer, queue) }
         ensures numbers { AreOfLane lane lanes (boxes_in result) }
         ensures open { (boxes_in result).most ≡ most_open }
+        ensures closed { closed_in result ≡ [] }
+        ensures share { share_in result ≡ share_of lanes }
     {
         Lane {
             index: lane,
@@ -80,6 +84,7 @@ impl<D: Device, R> Lane<D, R> {
             },
             filer,
             connections: Slab::new(alloc),
+            closed: History::new(),
         }
     }
 
@@ -96,6 +101,7 @@ impl<D: Device, R> Lane<D, R> {
         ensures opens { Opens (connections_in self.old) (boxes_in self.old) device result
             (connections_in self.new) (boxes_in self.new) }
         ensures pass { known (pass_in self.new) ≡ known (pass_in self.old) }
+        ensures closed { closed_in self.new ≡ closed_in self.old }
         ensures worker { worker_in self.new ≡ worker_in self.old }
         ensures filer { filer_in self.new ≡ filer_in self.old }
         ensures identity { identity_in self.new ≡ identity_in self.old }

@@ -20,7 +20,7 @@ impl<D: Device + Drop, R: Drop> Lane<D, R> {
     ghost use Rattle.granted_calls.specs.shared_waiting.Passes.{known, IsOf};
     ghost use Rattle.turns.specs.Words.{IsAt};
     ghost use Rattle.lanes.specs.Queues.{HasBoth};
-    ghost use Rattle.lanes.specs.Words.{filer_in, pass_in, queue_in, worker_in, HasStory};
+    ghost use Rattle.lanes.specs.Words.{filer_in, pass_in, queue_in, worker_in, HasStory, OwesEach};
 
     /// What is left of a lane, whose connections are closed with that. Its life stays known.
     pub fn into_parts(self) -> LaneParts
@@ -32,6 +32,7 @@ impl<D: Device + Drop, R: Drop> Lane<D, R> {
         ensures both { HasBoth result.pass result.worker }
         ensures picked { (known result.pass).picked ≡ [] }
         ensures told { ∥ HasStory D.unread D.written self ∥₁ }
+        ensures owes { ∥ OwesEach self ∥₁ }
     {
         let Lane {
             index: _,
@@ -40,6 +41,7 @@ impl<D: Device + Drop, R: Drop> Lane<D, R> {
             filer: _,
             intake,
             connections: _,
+            closed: _,
         } = self;
         let Intake {
             rt: _,

@@ -55,8 +55,8 @@ fn read_under<D: Device, R: Wait>(
 }
 
 impl<D: Device, R: Wait> Lane<D, R> {
-    ghost use Rattle.lanes.specs.Words.{connections_in, filer_in, identity_in, intake_in};
-    ghost use Rattle.lanes.specs.Words.{offer_in, worker_in};
+    ghost use Rattle.lanes.specs.Words.{closed_in, connections_in, filer_in, identity_in};
+    ghost use Rattle.lanes.specs.Words.{intake_in, offer_in, worker_in};
     ghost use Rattle.turns.specs.Words.{seats_in, IsSameWorker};
 
     /// Goes on reading the connection of a key (`Connection::read`): what its records come to is
@@ -67,6 +67,7 @@ impl<D: Device, R: Wait> Lane<D, R> {
             (offer_in self.old) (connections_in self.old) key (get (connections_in self.old) key)
             (intake_in self.old) (length block.old) result (connections_in self.new)
             (intake_in self.new) }
+        ensures closed { closed_in self.new ≡ closed_in self.old }
         ensures worker { IsSameWorker (worker_in self.old) (worker_in self.new) }
         ensures seats { seats_in (worker_in self.new) ≡ seats_in (worker_in self.old) }
         ensures filer { filer_in self.new ≡ filer_in self.old }

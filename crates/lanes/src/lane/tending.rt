@@ -7,8 +7,8 @@ use connections::Device;
 use turns::{Tend, TendRefusal, Tended};
 
 impl<D: Device, R> Lane<D, R> {
-    ghost use Rattle.lanes.specs.Words.{boxes_in, connections_in, filer_in, identity_in};
-    ghost use Rattle.lanes.specs.Words.{pass_in, worker_in};
+    ghost use Rattle.lanes.specs.Words.{boxes_in, closed_in, connections_in, filer_in};
+    ghost use Rattle.lanes.specs.Words.{identity_in, pass_in, worker_in};
     ghost use Rattle.granted_calls.specs.shared_waiting.Passes.{known};
     ghost use Rattle.turns.specs.Tends.{kept_in, Tends};
     ghost use Rattle.granted_calls.specs.Filers.{layout_in};
@@ -21,6 +21,7 @@ impl<D: Device, R> Lane<D, R> {
         ensures pass { known (pass_in self.new) ≡ known (pass_in self.old) }
         ensures outboxes { boxes_in self.new ≡ boxes_in self.old }
         ensures connections { connections_in self.new ≡ connections_in self.old }
+        ensures closed { closed_in self.new ≡ closed_in self.old }
         ensures picks { passed (worker_in self.new) ≡ passed (worker_in self.old) }
         ensures kept { kept_in (worker_in self.new) ≡ kept_in (worker_in self.old) }
         ensures seats { seats_in (worker_in self.new) ≡ seats_in (worker_in self.old) }

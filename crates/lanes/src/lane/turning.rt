@@ -81,6 +81,7 @@ impl<R: Wait> Intake<R> {
         ensures seats { seats_in self.new.worker ≡ seats_in self.old.worker }
         ensures queue { self.new.queue ≡ self.old.queue }
         ensures filer { self.new.filer.value ≡ self.old.filer.value }
+        ensures most { self.new.most ≡ self.old.most }
     {
         let gate = AheadGate {
             gate,
@@ -116,8 +117,8 @@ impl<D: Device, R: Wait> Lane<D, R> {
     ghost use Rattle.granted_calls.specs.Filers.{layout_in};
     ghost use Rattle.turns.specs.Words.{seat_view, seats_in};
     ghost use Rattle.lanes.specs.Queues.{HasNoneLeft};
-    ghost use Rattle.lanes.specs.Words.{boxes_in, connections_in, filer_in, identity_in};
-    ghost use Rattle.lanes.specs.Words.{offer_in, pass_in, worker_in};
+    ghost use Rattle.lanes.specs.Words.{boxes_in, closed_in, connections_in, filer_in};
+    ghost use Rattle.lanes.specs.Words.{identity_in, offer_in, pass_in, worker_in};
 
     /// Tries the call of the message that its worker keeps, or else of the one that waits longest,
     /// and then, under the same grant, those of the messages after it that try the same node, at
@@ -140,6 +141,7 @@ impl<D: Device, R: Wait> Lane<D, R> {
         ensures idle { result ≡ Idle → HasNoneLeft (pass_in self.new) (worker_in self.new) }
         ensures pass { known (pass_in self.new) ≡ known (pass_in self.old) }
         ensures connections { connections_in self.new ≡ connections_in self.old }
+        ensures closed { closed_in self.new ≡ closed_in self.old }
         ensures seats { seats_in (worker_in self.new) ≡ seats_in (worker_in self.old) }
         ensures filer { filer_in self.new ≡ filer_in self.old }
         ensures identity { identity_in self.new ≡ identity_in self.old }

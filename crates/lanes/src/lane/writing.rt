@@ -8,8 +8,8 @@ impl<D: Device, R> Lane<D, R> {
     ghost use Rattle.slab.specs.Slab.{get};
     ghost use Rattle.connections.specs.Keyed.{WritesUnder};
     ghost use Rattle.granted_calls.specs.shared_waiting.Passes.{known};
-    ghost use Rattle.lanes.specs.Words.{boxes_in, connections_in, filer_in, identity_in};
-    ghost use Rattle.lanes.specs.Words.{pass_in, worker_in};
+    ghost use Rattle.lanes.specs.Words.{boxes_in, closed_in, connections_in, filer_in};
+    ghost use Rattle.lanes.specs.Words.{identity_in, pass_in, worker_in};
 
     /// Goes on writing the connection of a key (`Connection::write`), with a buffer for what goes
     /// out at once. Where there is none, nothing is done, as where its device failed.
@@ -17,6 +17,7 @@ impl<D: Device, R> Lane<D, R> {
         ensures write { WritesUnder D.unread D.written (connections_in self.old) key
             (get (connections_in self.old) key) (boxes_in self.old) result
             (connections_in self.new) (boxes_in self.new) }
+        ensures closed { closed_in self.new ≡ closed_in self.old }
         ensures worker { worker_in self.new ≡ worker_in self.old }
         ensures pass { known (pass_in self.new) ≡ known (pass_in self.old) }
         ensures filer { filer_in self.new ≡ filer_in self.old }

@@ -1,6 +1,9 @@
-use Rattle.std.proofs.Common.{ap, arith}
+use Rattle.std.proofs.Common.{[], ◌∷◌, map, ap, ◌∙◌, arith, subst, sym}
+use Rattle.std.proofs.lemmas.List.{map-append}
+use Rattle.depot.specs.Words.{view}
+use Rattle.depot_rule.specs.Placed.{HasPlaced}
 use Rattle.depot_rule.specs.Sums.{total}
-use Rattle.filer_lanes.specs.Lanes.{admitted_by, finished_by, seats_of, IsLaneOf}
+use Rattle.filer_lanes.specs.Lanes.{admitted_by, entries_by, finished_by, seats_of, IsLaneOf}
 use Rattle.tends.proofs.Lists.{all-popped, none-left, total-last}
 use Rattle.filer_lanes.proofs.gathering.gather_lanes.Goals as goal
 
@@ -65,4 +68,6 @@ returns g c =
           let p = b.entries weight in
           let q = e.entries weight in
           omega (arith, s, p, q);
+      placed = subst (λ ls. HasPlaced (view c.join_all-seat.result.seat) ls) (sym (ap (map entries_by) is ∙ map-append entries_by rest (x ∷ [])))
+          (e.placed (entries_by x ∷ []) b.placed);
     }

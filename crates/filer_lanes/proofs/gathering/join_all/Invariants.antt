@@ -1,9 +1,10 @@
-use Rattle.std.proofs.Common.{◌≡◌, ◌≤◌, ◌+◌, ◌*◌, ℕ, All, vec_len, vec_capacity}
+use Rattle.std.proofs.Common.{◌≡◌, ◌≤◌, ◌+◌, ◌*◌, ◌++◌, ℕ, All, List, map, vec_len, vec_capacity}
 use Rattle.depot.specs.Words.{view, splits_left}
 use Rattle.depot_rule.specs.History.{entries_of}
+use Rattle.depot_rule.specs.Placed.{HasPlaced}
 use Rattle.depot_rule.specs.Sums.{total}
 use Rattle.granted_calls.specs.Balance.{FilerEntry, Weight}
-use Rattle.filer_lanes.specs.Lanes.{admitted_by, finished_by, seats_of, IsLaneOf}
+use Rattle.filer_lanes.specs.Lanes.{admitted_by, entries_by, finished_by, seats_of, IsLaneOf}
 use Rattle.filer_lanes.specs.Remains.{calls_in, AreRemainsIn}
 use Rattle.filer_lanes.proofs.gathering.join_all.Given as goal
 
@@ -19,6 +20,8 @@ invariant-loop-lane g l = record {
       ≡ calls_in weight l.fn.remains + total (admitted_by weight) l.fn.lanes.items;
   entries : (weight : FilerEntry → ℕ) → total weight (entries_of (view l.remains.seat)) + total (finished_by weight) l.lanes.items
       ≡ total weight (entries_of (view l.fn.remains.seat)) + total (finished_by weight) l.fn.lanes.items;
+  placed : (joined : List _) × (l.fn.lanes.items ≡ l.lanes.items ++ joined) × ((lists : List (List FilerEntry)) → HasPlaced (view l.fn.remains.seat) lists
+      → HasPlaced (view l.remains.seat) (map entries_by joined ++ lists));
 }
 
 abbrev pub decreases-loop-lane : goal.decreases-loop-lane

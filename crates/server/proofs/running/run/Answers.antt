@@ -1,6 +1,6 @@
 use Rattle.std.proofs.Common.{ap, arith, length}
 use Rattle.std.specs.Arc.{arc_value}
-use Rattle.server.proofs.Started.{all-back, lanes-back}
+use Rattle.server.proofs.Started.{all-back, lanes-back, lanes-offer}
 use Rattle.server.proofs.running.run.Goals as goal
 
 pub join_all-lanes-requires : goal.join_all-lanes-requires
@@ -30,9 +30,17 @@ end-requires-clause-room g c =
     omega (arith, none, n, l, w)
 
 pub returns-in-Ok : goal.returns-in-Ok
-returns-in-Ok g c = (
-  c.join_all-lanes.result.items,
-  all-back (arc_value c.args.running.filer) c.args.running.threads.items c.args.running.lanes.items c.join_all-lanes.result.items c.args.running.none_back
-      c.join_all-lanes.ensures.each,
-  c.end.ensures,
-)
+returns-in-Ok g c =
+    let threads = c.args.running.threads.items in
+    let lanes = c.join_all-lanes.result.items in
+    let back = all-back (arc_value c.args.running.filer) threads c.args.running.lanes.items lanes c.args.running.none_back c.join_all-lanes.ensures.each in (
+      lanes,
+      back,
+      c.end.ensures.ended,
+      (let none = ap (λ xs. length xs) c.args.running.none_back in
+          let n = c.args.running.lanes.ok.0 in
+          let t = c.args.running.threads.ok.0 in
+          let m = c.join_all-lanes.result.ok.0 in
+          let l = c.join_all-lanes.ensures.len in omega (arith, none, n, t, m, l)),
+      λ offer serve. c.end.ensures.headline offer (lanes-offer offer threads lanes back serve),
+    )

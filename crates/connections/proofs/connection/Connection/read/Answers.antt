@@ -1,11 +1,12 @@
 use Rattle.std.proofs.Common.{◌≡◌, ◌<◌, [], true, false, length, take, rules, refl, subst, ℕ}
-use Rattle.std.proofs.KnownBytes.{Consumes-nil, Keeps-refl}
+use Rattle.std.proofs.KnownBytes.{Keeps-refl}
 use Rattle.affinity.specs.Layout.{layout_of}
 use Rattle.connections.specs.declared.reading.Came.TheVariants as cames
 use Rattle.connections.specs.declared.told.Told.TheVariants as tolds
 use Rattle.connections.specs.Connections.{now_of}
 use Rattle.connections.specs.Told.{HasCalled}
 use Rattle.connections.proofs.Cut.{none-is, some-of, stopped-is}
+use Rattle.connections.specs.lemmas.Incoming.{gives-none}
 use Rattle.connections.proofs.OneRead.{none-some, read-kept, read-new, read-nothing, read-stopped, took-none, took-zero}
 use Rattle.connections.proofs.connection.Connection.read.Goals as goal
 
@@ -23,7 +24,7 @@ returns-then-not-has_room-clause-read g c =
     read-nothing g.D.Device.unread g.D.Device.written g.S.RecordSink.came g.S.RecordSink.room (layout_of c.args.layout.now) c.args.offer c.args.self.now
     c.args.sink.now (length c.args.block.now)
     c.args.self.now cames.Full none (λ some. full) (g.met.S.RecordSink.came_none c.args.sink.now)
-    (Consumes-nil (g.D.Device.unread (now_of c.args.self.now))) (Keeps-refl (g.D.Device.written (now_of c.args.self.now)))
+    (gives-none (g.D.Device.unread (now_of c.args.self.now))) (Keeps-refl (g.D.Device.written (now_of c.args.self.now)))
     (none, full, refl) refl refl refl (refl, refl, refl, refl, refl)
 
 pub returns-then-not-is_empty-clause-read : goal.returns-then-not-is_empty-clause-read

@@ -9,3 +9,6 @@ returns-clause-inside g c =
 
 pub returns-clause-told : goal.returns-clause-told
 returns-clause-told g c = c.args.self.story
+
+pub returns-clause-owes : goal.returns-clause-owes
+returns-clause-owes g c = c.args.self.owes

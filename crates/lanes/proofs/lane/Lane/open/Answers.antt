@@ -2,6 +2,7 @@ use Rattle.std.specs.Arc.{arc_value}
 use Rattle.granted_calls.specs.Filers.{layout_in}
 use Rattle.turns.specs.Words.{entries_in}
 use Rattle.granted_calls.specs.shared_waiting.Passes.{known}
+use Rattle.lanes.proofs.Owed.{opens-owed}
 use Rattle.lanes.proofs.Steps.{opens-told}
 use Rattle.lanes.proofs.lane.Lane.open.Goals as goal
 
@@ -13,6 +14,9 @@ invariant_of-self-2 g c =
       filer_is = l.filer_is;
       inside = l.inside;
       picked = l.picked;
-      story = opens-told _ _ (layout_in (arc_value l.filer)) l.offer l.index l.count (entries_in l.intake.worker) l.connections o.new.connections
+      share = l.share;
+      story = opens-told _ _ (layout_in (arc_value l.filer)) l.offer l.index l.count (entries_in l.intake.worker) l.closed.items l.connections o.new.connections
           c.args.device o.result (known l.intake.pass).put l.intake.outboxes o.new.outboxes o.ensures.opens o.ensures.vacant o.ensures.begins l.story;
+      owes = opens-owed _ _ (layout_in (arc_value l.filer)) l.offer l.index l.count (entries_in l.intake.worker) l.closed.items l.connections o.new.connections
+          c.args.device o.result (known l.intake.pass).put l.intake.outboxes o.new.outboxes o.ensures.opens o.ensures.begins l.story l.owes;
     }

@@ -7,6 +7,7 @@ use Rattle.granted_calls.specs.shared_waiting.Passes.{known}
 use Rattle.granted_calls.specs.declared.shared.Filer.{Filer}
 use Rattle.lanes.proofs.Counted.{counted-same}
 use Rattle.lanes.proofs.Inside.{at-inside}
+use Rattle.lanes.proofs.Owed.{tends-owed}
 use Rattle.lanes.proofs.Steps.{both-kept, tends-told}
 use Rattle.lanes.proofs.lane.Lane.tend.Goals as goal
 
@@ -44,11 +45,20 @@ invariant_of-self g c =
           (
             l.picked,
             (
-              tends-told _ _ (layout_in (arc_value l.filer)) l.offer l.index l.count (known l.intake.pass).put l.intake.outboxes _ l.intake.worker
-                  c.tend_in.new.self c.args.tend c.tend_in.result
-                  (subst (λ (f : Filer). Tends (layout_in f) l.intake.worker c.args.tend c.tend_in.result c.tend_in.new.self) same
-                  c.tend_in.ensures.tends) l.story,
-              tt,
+              l.share,
+              (
+                tends-told _ _ (layout_in (arc_value l.filer)) l.offer l.index l.count (known l.intake.pass).put l.intake.outboxes _ l.closed.items l.intake.worker
+                    c.tend_in.new.self c.args.tend c.tend_in.result
+                    (subst (λ (f : Filer). Tends (layout_in f) l.intake.worker c.args.tend c.tend_in.result c.tend_in.new.self) same
+                    c.tend_in.ensures.tends) l.story,
+                (
+                  tends-owed (layout_in (arc_value l.filer)) (known l.intake.pass).put l.intake.outboxes _ l.intake.worker c.tend_in.new.self
+                      c.args.tend c.tend_in.result
+                      (subst (λ (f : Filer). Tends (layout_in f) l.intake.worker c.args.tend c.tend_in.result c.tend_in.new.self) same
+                      c.tend_in.ensures.tends) l.owes,
+                  tt,
+                ),
+              ),
             ),
           ),
         ),

@@ -2,6 +2,7 @@ use Rattle.std.specs.Arc.{arc_value}
 use Rattle.granted_calls.specs.Filers.{layout_in}
 use Rattle.turns.specs.Words.{entries_in}
 use Rattle.granted_calls.specs.shared_waiting.Passes.{known}
+use Rattle.lanes.proofs.Owed.{writes-owed}
 use Rattle.lanes.proofs.Steps.{writes-told}
 use Rattle.lanes.proofs.lane.Lane.write.Goals as goal
 
@@ -12,7 +13,10 @@ invariant_of-self-2 g c =
       filer_is = l.filer_is;
       inside = l.inside;
       picked = l.picked;
-      story = writes-told _ _ (layout_in (arc_value l.filer)) l.offer l.index l.count (entries_in l.intake.worker) l.connections c.write_under.new.connections
+      share = l.share;
+      story = writes-told _ _ (layout_in (arc_value l.filer)) l.offer l.index l.count (entries_in l.intake.worker) l.closed.items l.connections c.write_under.new.connections
           c.args.key
           (known l.intake.pass).put l.intake.outboxes c.write_under.new.outboxes c.write_under.result c.write_under.ensures l.story;
+      owes = writes-owed _ _ (layout_in (arc_value l.filer)) l.offer l.index l.count (entries_in l.intake.worker) l.closed.items l.connections c.write_under.new.connections c.args.key
+          (known l.intake.pass).put l.intake.outboxes c.write_under.new.outboxes c.write_under.result c.write_under.ensures l.story l.owes;
     }

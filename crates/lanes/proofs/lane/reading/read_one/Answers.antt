@@ -8,8 +8,8 @@ use Rattle.lanes.proofs.lane.reading.read_one.Goals as goal
 pub returns : goal.returns
 returns g c = record {
   between = c.read-came.new.self;
-  owed = c.read-came.new.sink.owed;
-  is = c.set_owed-2.ensures;
+  is = c.set_owed-2.ensures.owed;
+  few = c.set_owed-2.ensures.records;
   read = read-owing g.D.Device.unread g.D.Device.written (layout_of c.args.layout.now) c.args.offer c.args.connection.now c.set_owed.new.self c.args.intake.now
       c.read-came.new.sink _ c.read-came.result c.read-came.new.self
       (c.set_owed.ensures ∙ ap (λ owed. owing_in owed c.handles.result c.args.intake.now) c.due.ensures

@@ -1,0 +1,56 @@
+//! Values of options that can't be read.
+
+use std::fmt;
+
+/// A value of an option that can't be read, and what would be right.
+#[derive(Clone, Copy)]
+pub(crate) struct WrongValue<'a> {
+    pub(crate) option: &'static str,
+    pub(crate) value: &'a str,
+    pub(crate) wanted: &'static str,
+}
+
+impl fmt::Display for WrongValue<'_> {
+    fn fmt<W: fmt::Write>(&self, f: &mut fmt::Formatter<W>) -> fmt::Result {
+        let (option, value, wanted) = (self.option, self.value, self.wanted);
+        write!(
+            f,
+            "error: invalid value '{value}' for '--{option}': {wanted}"
+        )
+    }
+}
+
+/// A value that can't be read.
+pub(crate) fn wrong<'a>(
+    option: &'static str,
+    value: &'a str,
+    wanted: &'static str,
+) -> WrongValue<'a> {
+    WrongValue {
+        option,
+        value,
+        wanted,
+    }
+}
+
+/// An address and port of an option.
+pub(crate) const ADDRESS: &str = "an IP address and a port are wanted, as 127.0.0.1:2049";
+
+/// A network of `--allow`.
+pub(crate) const NETWORK: &str =
+    "a network is wanted, as 10.0.0.0/8, whose bits behind these 8 are 0";
+
+/// One network of `--allow` too many.
+pub(crate) const NETWORKS: &str = "at most 16 networks may be named";
+
+/// The size of a volume.
+pub(crate) const VOLUME_SIZE: &str = "a size from 4M to 1T is wanted, as 40G";
+
+/// The size of a file.
+pub(crate) const FILE_SIZE: &str = "a size from 16M to 1T is wanted, as 40G";
+
+/// What may be owed.
+pub(crate) const OWED: &str = "a size of at least 64M is wanted, as 1G";
+
+/// A number of an option.
+pub(crate) const NUMBER: &str = "a number in its range is wanted";

@@ -1,0 +1,6 @@
+//! Lists that only clauses read.
+#![tactic(auto)]
+
+mod history;
+
+pub use history::History;

@@ -1,0 +1,6 @@
+mod Cases
+mod Access
+mod Mounting
+mod Opening
+mod Pages
+mod HandlesOfARun
