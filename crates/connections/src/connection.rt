@@ -159,7 +159,8 @@ impl<D> Connection<D> {
 impl<D: Device> Connection<D> {
     ghost use Rattle.std.specs.Prelude.{[]};
     ghost use Rattle.rpc_msg.specs.declared.offer.Offer.{Offer};
-    ghost use Rattle.connections.specs.Connections.{calls_to, due_of, nothing_due, now_of, number_of};
+    ghost use Rattle.connections.specs.Connections.{calls_to, due_of, nothing_due};
+    ghost use Rattle.connections.specs.Connections.{now_of, number_of};
     ghost use Rattle.connections.specs.Reading.{Reads};
     ghost use Rattle.connections.specs.Writing.{Writes};
 

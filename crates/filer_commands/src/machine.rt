@@ -1,6 +1,7 @@
 //! What a command line goes by of the machine that it is run on.
 
-use std::alloc::Global;
+use arrayvec::ArrayString;
+use std::fmt::Write as _;
 use std::fs::File;
 use std::io::Read;
 use std::num::NonZeroUsize;
@@ -15,6 +16,9 @@ const GROUPS_FILE: &str = "/proc/self/cgroup";
 
 /// Where Linux tells of the machine's name.
 const NAME_FILE: &str = "/proc/sys/kernel/hostname";
+
+/// The longest path to a file of a control group that is looked at, in bytes.
+const LONGEST_PATH: usize = 1_056;
 
 /// How many control groups lie above one another at most, of those that are looked at.
 const MOST_GROUPS: usize = 32;
@@ -49,8 +53,9 @@ fn read_memory<R: Files>(rt: &R) -> Option<u64> {
 }
 
 /// The bytes that a control group may take itself, if that is limited: `max` is no number.
-fn limit_of<R: Files>(rt: &R, alloc: Global, group: &str) -> Option<u64> {
-    let path = format!(in alloc; "/sys/fs/cgroup{group}/memory.max").ok()?;
+fn limit_of<R: Files>(rt: &R, group: &str) -> Option<u64> {
+    let mut path = ArrayString::<LONGEST_PATH>::new();
+    write!(path, "/sys/fs/cgroup{group}/memory.max").ok()?;
     let mut text = [0; 32];
     let text = text_of(rt, &path, &mut text)?;
     text.trim().parse::<u64>().ok()
@@ -58,14 +63,14 @@ fn limit_of<R: Files>(rt: &R, alloc: Global, group: &str) -> Option<u64> {
 
 /// The fewest bytes that the process's control group may take, or one above it (the kernel's second
 /// version of control groups).
-fn read_limit<R: Files>(rt: &R, alloc: Global) -> Option<u64> {
+fn read_limit<R: Files>(rt: &R) -> Option<u64> {
     let mut text = [0; 1_024];
     let text = text_of(rt, GROUPS_FILE, &mut text)?;
     let line = text.lines().find(|line| line.starts_with("0::/"))?;
     let mut group = line.strip_prefix("0::")?.trim_end_matches('/');
     let mut least: Option<u64> = None;
     for _ in 0..MOST_GROUPS {
-        let limit = limit_of(rt, alloc, group);
+        let limit = limit_of(rt, group);
         least = match (least, limit) {
             (Some(one), Some(other)) => Some(one.min(other)),
             (one, other) => one.or(other),
@@ -80,11 +85,11 @@ fn read_limit<R: Files>(rt: &R, alloc: Global) -> Option<u64> {
 
 impl Machine {
     /// The machine that the program runs on.
-    pub(crate) fn read<R: Files + Threads>(rt: &R, alloc: Global) -> Machine {
+    pub(crate) fn read<R: Files + Threads>(rt: &R) -> Machine {
         Machine {
             processors: available_parallelism(rt).map_or(1, NonZeroUsize::get),
             memory: read_memory(rt),
-            limit: read_limit(rt, alloc),
+            limit: read_limit(rt),
         }
     }
 

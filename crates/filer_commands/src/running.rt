@@ -242,7 +242,7 @@ where
     E: Write,
     ensures { result ≤ 2 }
 {
-    let machine = Machine::read(&rt, rt.alloc());
+    let machine = Machine::read(&rt);
     match command_told(rt.alloc(), words, machine, err) {
         Ok(command) => match run(rt, command, words, out, err) {
             Ok(status) => status,

@@ -118,8 +118,8 @@ pub(crate) fn close_ended<R: Wait>(lane: &mut Lane<Socket, R>, station: &mut Sta
     station.keys.truncate(kept);
 }
 
-/// Whether the connection of a key is idle in a second: it isn't listed, and nothing was heard of it
-/// for so long, or, where something is owed to it, it took nothing for so long.
+/// Whether the connection of a key is idle in a second: it isn't listed, and nothing was heard of
+/// it for so long, or, where something is owed to it, it took nothing for so long.
 fn is_idle<R>(lane: &Lane<Socket, R>, guest: Guest, key: usize, idle: IdleTime, now: u32) -> bool {
     match lane.connection(key) {
         Some(connection) => {

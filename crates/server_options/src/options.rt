@@ -14,9 +14,9 @@ use tends::MOST_WORKERS;
 
 /// Where a server listens, how many volumes (1 to 8) and workers (1 to 64) it has, after how many
 /// connections it ends, if after any, how many may be open, what it offers and to whom, what its
-/// volumes have at the start, after how long a connection is idle, if ever, how many bytes of replies
-/// may be owed to all connections together, if that is bounded, whether each connection is told of,
-/// and how often statistics are, if they are.
+/// volumes have at the start, after how long a connection is idle, if ever, how many bytes of
+/// replies may be owed to all connections together, if that is bounded, whether each connection is
+/// told of, and how often statistics are, if they are.
 #[derive(Clone, Copy)]
 pub struct Options {
     pub address: SocketAddr,
@@ -56,7 +56,8 @@ impl Options {
             × options.volumes ≡ volumes × options.workers ≡ workers
             × options.connections ≡ connections × IsUsual options.admission
             × options.offer ≡ basic × IsBasic options.plan × options.peers ≡ All
-            × options.idle ≡ None × options.most_owed ≡ None × options.log ≡ false × options.statistics ≡ None) }
+            × options.idle ≡ None × options.most_owed ≡ None × options.log ≡ false
+            × options.statistics ≡ None) }
         ensures in_range { IfSome result (λ options. IsInRange volumes workers) }
         ensures refused { IfNone result (IsInRange volumes workers → ⊥) }
     {
