@@ -1,1 +1,2 @@
+mod Crossing
 mod Wholes

@@ -1,18 +1,20 @@
 -- What workers of a filer and who puts messages for them have together.
-use Rattle.std.proofs.Common.{◌≡◌, ◌≤◌, ◌∙◌, ℕ, ◌+◌, ◌*◌, ◌-◌, ◌^◌, List, [], ◌∷◌, ap, sym, subst, arith}
+use Rattle.std.proofs.Common.{◌≡◌, ◌≤◌, ◌∙◌, ℕ, ◌+◌, ◌*◌, ◌-◌, ◌^◌, List, [], ◌∷◌, ◌++◌, ap, sym, subst, arith}
 use Rattle.std.proofs.lemmas.Nat.{pow-add}
-use Rattle.std.proofs.Math.Nat.{mul_assoc}
+use Rattle.std.proofs.Math.Nat.{mul_assoc, mul_comm}
 use Rattle.depot_rule.specs.Sums.{total}
 use Rattle.tends.specs.Shares.{share_in, AreAll, FilerPass}
 use Rattle.workers.specs.Pools.{filer_of, HasAllWith, HasBetween}
 use Rattle.workers.specs.declared.pool.Pool.{Pool}
-use Rattle.granted_calls.specs.shared_waiting.Balance.{part}
-use Rattle.granted_calls.specs.shared_waiting.Passes.{known}
+use Rattle.granted_calls.specs.shared_waiting.Balance.{both, left, part, right}
+use Rattle.granted_calls.specs.shared_waiting.Passes.{known, IsOf}
 use Rattle.granted_calls.specs.Balance.{FilerEntry, FilerView, Passed}
+use Rattle.granted_calls.specs.Filers.{layout_known}
+use Rattle.granted_calls.specs.Messages.{Message}
 use Rattle.granted_calls.specs.declared.shared.Filer.{Filer}
 use Rattle.turns.specs.Words.{passed}
 use Rattle.turns.specs.declared.worker.Worker.{Worker}
-use Rattle.pool_rows.specs.Threads.{IsAlone, IsHalf, IsRunning, IsUnstarted}
+use Rattle.pool_rows.specs.Threads.{IsAlone, IsHalf, IsPart, IsReaderOf, IsRunning, IsStill, IsUnstarted, StaysPart}
 
 -- ---- halves
 
@@ -23,7 +25,45 @@ half-part k v le half =
     let s : k ≡ h + (k - h) = omega (arith, le) in
     sym (mul_assoc 2 v.share (2 ^ (k - h))) ∙ ap (λ n. n * 2 ^ (k - h)) half ∙ sym (ap (λ n. 2 ^ n) s ∙ pow-add 2 h (k - h))
 
+-- ---- a half that is cut in two, and put together again
+
+-- each part of it is a quarter
+quarter : (v : Passed) → IsHalf v → 4 * v.share ≡ 2 ^ (v.halvings + 1)
+quarter v half = let e : 2 ^ (v.halvings + 1) ≡ 2 ^ v.halvings * 2 = pow-add 2 v.halvings 1 in omega (arith, half, e)
+
+twice : (x y m n z : ℕ) → 4 * x ≡ m → 4 * y ≡ n → n ≡ m → z ≡ m → 2 * (x + y) ≡ z
+twice x y m n z p q c e = omega (arith, p, q, c, e)
+
+-- two quarters are a half
+quarters : (a b : Passed) → IsPart 4 a → IsPart 4 b → IsHalf (both a b)
+quarters a b p q =
+    let A = 2 ^ a.halvings in
+    let B = 2 ^ b.halvings in
+    twice (a.share * B) (b.share * A) (A * B) (B * A) (2 ^ (a.halvings + b.halvings)) (sym (mul_assoc 4 a.share B) ∙ ap (λ n. n * B) p)
+    (sym (mul_assoc 4 b.share A) ∙ ap (λ n. n * A) q) (mul_comm B A) (pow-add 2 a.halvings b.halvings)
+
+pub half-again : (v l r a b w : Passed) → IsHalf v → l ≡ left v → r ≡ right v → StaysPart l a → StaysPart r b → w ≡ both a b → IsHalf w
+half-again v l r a b w half is-left is-right a-stays b-stays is =
+    let p = subst (λ (x : Passed). StaysPart x a) is-left a-stays 4 (quarter v half) in
+    let q = subst (λ (x : Passed). StaysPart x b) is-right b-stays 4 (quarter v half) in
+    subst IsHalf (sym is) (quarters a b p q)
+
+pub both-read : (filer : Filer) (first second joined : FilerPass) → IsReaderOf filer first → IsReaderOf filer second → IsOf filer.waiting joined
+    → known joined ≡ both (known first) (known second) → IsReaderOf filer joined
+both-read filer first second joined a b of is =
+    record {
+      of = of;
+      layout = ap layout_known is ∙ a.layout;
+      picked = ap (λ (v : Passed). v.picked) is ∙ ap (λ (ms : List Message). ms ++ (known second).picked) a.picked ∙ b.picked;
+    }
+
 -- ---- without threads
+
+-- the worker worked on, and who puts messages has a half still
+pub still-alone : (filer : Filer) (worker worker' : Worker) (reader reader' : FilerPass) → IsAlone filer worker reader → IsStill filer worker worker'
+    → IsReaderOf filer reader' → IsHalf (known reader') → IsAlone filer worker' reader'
+still-alone filer worker worker' reader reader' o still one other =
+    record { inside = still.inside; seats = still.seats ∙ o.seats; half = still.part 2 o.half; one = one; other = other }
 
 module _ (filer : Filer) (worker : Worker) (reader : FilerPass) (o : IsAlone filer worker reader) where
   pub alone-all : (ws : List Worker) (ps : List FilerPass) → ws ≡ worker ∷ [] → ps ≡ reader ∷ [] → AreAll ws ps

@@ -18,18 +18,28 @@ pub record IsReaderOf (filer : Filer) (pass : FilerPass) : Type 0 where
   pub layout : layout_known (known pass) ≡ Some (layout_in filer)
   pub picked : (known pass).picked ≡ []
 
+-- one of so many equal parts of the right
+abbrev pub IsPart : ℕ → Passed → Type 0
+IsPart n v = n * v.share ≡ 2 ^ v.halvings
+
 -- half of the right
 abbrev pub IsHalf : Passed → Type 0
-IsHalf v = 2 * v.share ≡ 2 ^ v.halvings
+IsHalf v = IsPart 2 v
 
--- a half before is one afterwards
-abbrev pub StaysHalf : Passed → Passed → Type 0
-StaysHalf v w = IsHalf v → IsHalf w
+-- such a part before is one afterwards
+abbrev pub StaysPart : Passed → Passed → Type 0
+StaysPart v w = (n : ℕ) → IsPart n v → IsPart n w
 
 -- the pass afterwards is such a one too, with the share that it had
 pub record HasPut (filer : Filer) (before after : FilerPass) : Type 0 where
   pub reader : IsReaderOf filer after
-  pub half : StaysHalf (known before) (known after)
+  pub part : StaysPart (known before) (known after)
+
+-- the worker afterwards is of the filer too, with the seats and the share that it had
+pub record IsStill (filer : Filer) (before after : Worker) : Type 0 where
+  pub inside : IsIn filer after
+  pub seats : seats_in after ≡ seats_in before
+  pub part : StaysPart (passed before) (passed after)
 
 -- a filer's only seat, which has this view and can be split so often, and a pass have done nothing yet; who puts messages has the rest
 pub record IsUnstarted (filer : Filer) (v : FilerView) (splits : ℕ) (pass reader : FilerPass) : Type 0 where

@@ -34,7 +34,7 @@ struct Latch {
 }
 
 /// Looks until it is set, so often. Whether it was.
-fn comes(flag: &AtomicBool) -> bool {
+pub(crate) fn comes(flag: &AtomicBool) -> bool {
     for _ in 0..LOOKS {
         if flag.load(Ordering::SeqCst) {
             return true;

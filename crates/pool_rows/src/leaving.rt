@@ -16,7 +16,7 @@ use tends::{Ended, Left, Room, close, gather};
 use turns::{BatchInHand, Tend, Worker};
 
 /// Gathers what the only worker of a filer leaves.
-fn leave<R: Abort + AllocGlobal + Wait>(
+pub(crate) fn leave<R: Abort + AllocGlobal + Wait>(
     rt: &R,
     filer: &Filer,
     worker: Worker,

@@ -4,9 +4,13 @@
 #![tactic(auto)]
 
 #[cfg(test)]
+mod beside;
+#[cfg(test)]
 mod calls;
 #[cfg(test)]
 mod crowd;
+#[cfg(test)]
+mod full;
 #[cfg(test)]
 mod latch;
 #[cfg(test)]
@@ -29,3 +33,5 @@ mod scenes;
 mod shutting;
 #[cfg(test)]
 mod station;
+#[cfg(test)]
+mod xids;

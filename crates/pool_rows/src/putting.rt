@@ -69,3 +69,21 @@ pub(crate) fn put<R: Abort + AllocGlobal + Wait>(
         thread::yield_now();
     }
 }
+
+/// Puts a message of this call for each xid from one to before another.
+pub(crate) fn put_all<R: Abort + AllocGlobal + Wait>(
+    rt: &R,
+    filer: &Filer,
+    pass: &mut FilerPass,
+    connection: ConnectionNumber,
+    from: u32,
+    until: u32,
+    ask: Ask,
+)
+    requires { IsReaderOf filer.now pass.old }
+    ensures { HasPut filer.now pass.old pass.new }
+{
+    for xid in from..until {
+        put(rt, filer, pass, connection, xid, ask);
+    }
+}

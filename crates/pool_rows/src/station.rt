@@ -1,11 +1,12 @@
 //! A worker at its station, in one thread.
 
 ghost use Rattle.depot.specs.Words.{view, splits_left, IsSeatHere};
-ghost use Rattle.pool_rows.specs.Threads.{IsUnstarted};
+ghost use Rattle.turns.specs.Words.{IsIn};
+ghost use Rattle.pool_rows.specs.Threads.{IsStill, IsUnstarted};
 
 use crate::calls::Ask;
 use crate::mail::{Mail, open_mail};
-use crate::putting::{FilerPass, put};
+use crate::putting::{FilerPass, put_all};
 use affinity::Affinity;
 use depot::Seat;
 use granted_calls::{Filer, Gate, Turn};
@@ -85,6 +86,36 @@ pub(crate) fn open_pair<'a, R: Abort + AllocGlobal + Wait>(
     (first, second)
 }
 
+/// A turn of a worker at a moment of whole seconds. Its answer is put.
+pub(crate) fn turn<R: Wait, G: Gate>(
+    rt: &R,
+    filer: &Filer,
+    worker: &mut Worker,
+    mail: &mut Mail,
+    gate: &G,
+    seconds: u32,
+) -> Came
+    requires { IsIn filer.now worker.old }
+    ensures { IsStill filer.now worker.old worker.new }
+{
+    let moment = Moment {
+        seconds,
+        nanoseconds: 0,
+    };
+    let turned = worker.turn_in(filer, filer.waiting(), rt, gate, moment);
+    match turned {
+        Turn::Done(answer) => {
+            let came = Came::Done(answer.xid());
+            mail.put(rt, answer);
+            came
+        }
+        Turn::Moved => Came::Moved,
+        Turn::Busy { node, word } => Came::Busy(node, word),
+        Turn::Worn => Came::Worn,
+        Turn::Idle => Came::Idle,
+    }
+}
+
 impl Station<'_> {
     /// Puts a message for each of these xids.
     pub(crate) fn put<R: Abort + AllocGlobal + Wait>(
@@ -94,32 +125,28 @@ impl Station<'_> {
         until: u32,
         ask: Ask,
     ) {
-        for xid in from..until {
-            let connection = self.mail.connection;
-            put(rt, self.filer, &mut self.reader, connection, xid, ask);
-        }
+        let connection = self.mail.connection;
+        put_all(
+            rt,
+            self.filer,
+            &mut self.reader,
+            connection,
+            from,
+            until,
+            ask,
+        );
     }
 
     /// A turn at a moment of whole seconds. Its answer is put.
     pub(crate) fn turn<R: Wait, G: Gate>(&mut self, rt: &R, gate: &G, seconds: u32) -> Came {
-        let moment = Moment {
+        turn(
+            rt,
+            self.filer,
+            &mut self.worker,
+            &mut self.mail,
+            gate,
             seconds,
-            nanoseconds: 0,
-        };
-        let turned = self
-            .worker
-            .turn_in(self.filer, self.filer.waiting(), rt, gate, moment);
-        match turned {
-            Turn::Done(answer) => {
-                let came = Came::Done(answer.xid());
-                self.mail.put(rt, answer);
-                came
-            }
-            Turn::Moved => Came::Moved,
-            Turn::Busy { node, word } => Came::Busy(node, word),
-            Turn::Worn => Came::Worn,
-            Turn::Idle => Came::Idle,
-        }
+        )
     }
 
     /// A tend.
