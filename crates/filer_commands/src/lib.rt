@@ -17,6 +17,6 @@ mod wrong_value;
 pub use admin_running::Growing;
 pub use choice::Command;
 pub use machine::Machine;
-pub use running::program;
+pub use running::{perform, program};
 pub use scripts::{ProgramFault, print_fault};
 pub use words::{command, command_told};
