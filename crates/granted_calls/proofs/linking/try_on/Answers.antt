@@ -13,6 +13,8 @@ returns-in-Replied g c =
       ran = (
         refl,
         record {
+          moment = c.of_call-moment.result;
+          at = c.of_call-moment.ensures;
           outcome = to.outcome;
           starved = false;
           is = replied-so to.outcome c.run_on.result c.run_on.new.told to.says c.in-Replied.is;
@@ -29,6 +31,8 @@ returns-in-Starved g c =
       ran = (
         refl,
         record {
+          moment = c.of_call-moment.result;
+          at = c.of_call-moment.ensures;
           outcome = to.outcome;
           starved = true;
           is = (says.0, ap reply_of says.1);
@@ -45,6 +49,9 @@ returns-in-Moved g c =
     let says = moved-so to.outcome c.run_on.result c.run_on.new.told to.says c.in-Moved.affinity c.in-Moved.is in record {
       ran = (
         refl,
-        subst (λ (o : Outcome). HasRunFrom L c.args.message c.args.moment (node_lent L c.args.grant.now) o (node_lent L c.run_on.new.grant)) says to.ran,
+        c.of_call-moment.result,
+        c.of_call-moment.ensures,
+        subst (λ (o : Outcome). HasRunFrom L c.args.message c.of_call-moment.result (node_lent L c.args.grant.now) o (node_lent L c.run_on.new.grant)) says
+            to.ran,
       );
     }

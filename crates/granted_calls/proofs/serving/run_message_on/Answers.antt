@@ -35,7 +35,7 @@ answer-answer-requires-clause-can g c =
     let m = c.args.message in
     let r = c.in-Ok.ensures.ran in
     let says = replied-so r.outcome c.in-Ok.ran.outcome c.run.new.told r.says c.in-Replied.is in
-    may-finish L c.args.filer.now.depot.layout.lawful m c.requires.placed c.args.moment v w
+    may-finish L c.args.filer.now.depot.layout.lawful m c.requires.placed c.in-Ok.ran.moment v w
     c.requires.seat.1.0 c.run.ensures.seat.1.0 r.outcome
     (node_lent L c.in-Ok.ran.grant) r.ran c.run.new.told says
 
@@ -47,7 +47,7 @@ answer-answer-requires-clause-room g c =
     let m = c.args.message in
     let r = c.in-Ok.ensures.ran in
     let says = replied-so r.outcome c.in-Ok.ran.outcome c.run.new.told r.says c.in-Replied.is in
-    fits L c.args.filer.now.depot.layout.lawful m c.requires.placed c.args.moment v w
+    fits L c.args.filer.now.depot.layout.lawful m c.requires.placed c.in-Ok.ran.moment v w
     c.requires.seat.1.0 c.run.ensures.seat.1.0 r.outcome
     (node_lent L c.in-Ok.ran.grant) r.ran
     (verifier_in c.args.filer.now) c.has_eight.ensures c.requires.ready.opened c.servers_are_roomy.ensures.begins
@@ -62,7 +62,7 @@ answer-answer-requires-in-Starved-clause-can g c =
     let m = c.args.message in
     let r = c.in-Ok.ensures.ran in
     let says = starved-so r.outcome c.in-Ok.ran.outcome c.run.new.told r.says c.in-Starved.is in
-    may-starve L c.args.filer.now.depot.layout.lawful m c.requires.placed c.args.moment v w
+    may-starve L c.args.filer.now.depot.layout.lawful m c.requires.placed c.in-Ok.ran.moment v w
     c.requires.seat.1.0 c.run.ensures.seat.1.0 r.outcome
     (node_lent L c.in-Ok.ran.grant) r.ran c.run.new.told (ap reply_of says.1) says.0
 
@@ -74,7 +74,7 @@ answer-answer-requires-in-Starved-clause-room g c =
     let m = c.args.message in
     let r = c.in-Ok.ensures.ran in
     let says = starved-so r.outcome c.in-Ok.ran.outcome c.run.new.told r.says c.in-Starved.is in
-    starved-room L c.args.filer.now.depot.layout.lawful m c.requires.placed c.args.moment v w
+    starved-room L c.args.filer.now.depot.layout.lawful m c.requires.placed c.in-Ok.ran.moment v w
     c.requires.seat.1.0 c.run.ensures.seat.1.0 r.outcome
     (node_lent L c.in-Ok.ran.grant) r.ran
     (verifier_in c.args.filer.now) c.has_eight.ensures c.requires.ready.opened c.servers_are_roomy.ensures.begins
@@ -89,7 +89,7 @@ put_back_node-requires-clause-can g c =
     let m = c.args.message in
     let r = c.in-Ok.ensures.ran in
     let to = moved-so r.outcome c.in-Ok.ran.outcome c.run.new.told r.says c.in-Moved.affinity c.in-Moved.is in
-    may-go-back L c.args.filer.now.depot.layout.lawful m c.requires.placed c.args.moment v w
+    may-go-back L c.args.filer.now.depot.layout.lawful m c.requires.placed c.in-Ok.ran.moment v w
     c.requires.seat.1.0 c.run.ensures.seat.1.0 r.outcome
     (node_lent L c.in-Ok.ran.grant) r.ran c.in-Moved.affinity to
 
@@ -101,7 +101,7 @@ returns-in-Replied-clause-ready g c =
     let m = c.args.message in
     let r = c.in-Ok.ensures.ran in
     let u = view c.answer-answer.new.seat in
-    entered-ready L c.args.filer.now.depot.layout.lawful m c.requires.placed c.args.moment v w
+    entered-ready L c.args.filer.now.depot.layout.lawful m c.requires.placed c.in-Ok.ran.moment v w
     c.requires.seat.1.0 c.run.ensures.seat.1.0 r.outcome
     (node_lent L c.in-Ok.ran.grant) r.ran u c.run.new.told false c.answer-answer.ensures.finished (verifier_in c.args.filer.now) c.requires.ready
 
@@ -113,9 +113,10 @@ returns-in-Replied-clause-served g c =
     let m = c.args.message in
     let r = c.in-Ok.ensures.ran in
     let u = view c.answer-answer.new.seat in
-    entered L c.args.filer.now.depot.layout.lawful m c.requires.placed c.args.moment v w
+    entered L c.args.filer.now.depot.layout.lawful m c.requires.placed c.in-Ok.ran.moment v w
     c.requires.seat.1.0 c.run.ensures.seat.1.0 r.outcome
-    (node_lent L c.in-Ok.ran.grant) r.ran u c.run.new.told false c.answer-answer.ensures.finished c.answer-answer.result c.answer-answer.ensures.answer
+    (node_lent L c.in-Ok.ran.grant) r.ran u c.run.new.told false c.answer-answer.ensures.finished c.args.moment c.in-Ok.ensures.at
+    c.answer-answer.result c.answer-answer.ensures.answer
 
 pub returns-in-Starved-clause-ready : goal.returns-in-Starved-clause-ready
 returns-in-Starved-clause-ready g c =
@@ -125,7 +126,7 @@ returns-in-Starved-clause-ready g c =
     let m = c.args.message in
     let r = c.in-Ok.ensures.ran in
     let u = view c.answer-answer-in-Starved.new.seat in
-    entered-ready L c.args.filer.now.depot.layout.lawful m c.requires.placed c.args.moment v w
+    entered-ready L c.args.filer.now.depot.layout.lawful m c.requires.placed c.in-Ok.ran.moment v w
     c.requires.seat.1.0 c.run.ensures.seat.1.0 r.outcome
     (node_lent L c.in-Ok.ran.grant) r.ran u c.run.new.told true c.answer-answer-in-Starved.ensures.finished (verifier_in c.args.filer.now)
     c.requires.ready
@@ -138,10 +139,10 @@ returns-in-Starved-clause-served g c =
     let m = c.args.message in
     let r = c.in-Ok.ensures.ran in
     let u = view c.answer-answer-in-Starved.new.seat in
-    entered L c.args.filer.now.depot.layout.lawful m c.requires.placed c.args.moment v w
+    entered L c.args.filer.now.depot.layout.lawful m c.requires.placed c.in-Ok.ran.moment v w
     c.requires.seat.1.0 c.run.ensures.seat.1.0 r.outcome
-    (node_lent L c.in-Ok.ran.grant) r.ran u c.run.new.told true c.answer-answer-in-Starved.ensures.finished c.answer-answer-in-Starved.result
-    c.answer-answer-in-Starved.ensures.answer
+    (node_lent L c.in-Ok.ran.grant) r.ran u c.run.new.told true c.answer-answer-in-Starved.ensures.finished c.args.moment c.in-Ok.ensures.at
+    c.answer-answer-in-Starved.result c.answer-answer-in-Starved.ensures.answer
 
 pub returns-clause-ready : goal.returns-clause-ready
 returns-clause-ready g c =
@@ -152,7 +153,7 @@ returns-clause-ready g c =
     let r = c.in-Ok.ensures.ran in
     let to = moved-so r.outcome c.in-Ok.ran.outcome c.run.new.told r.says c.in-Moved.affinity c.in-Moved.is in
     let u = view c.put_back_node.new.seat in
-    back-ready L c.args.filer.now.depot.layout.lawful m c.requires.placed c.args.moment v w
+    back-ready L c.args.filer.now.depot.layout.lawful m c.requires.placed c.in-Ok.ran.moment v w
     c.requires.seat.1.0 c.run.ensures.seat.1.0 r.outcome
     (node_lent L c.in-Ok.ran.grant) r.ran c.in-Moved.affinity to u c.put_back_node.ensures.ended (verifier_in c.args.filer.now) c.requires.ready
 
@@ -165,10 +166,11 @@ returns-clause-served g c =
     let r = c.in-Ok.ensures.ran in
     let to = moved-so r.outcome c.in-Ok.ran.outcome c.run.new.told r.says c.in-Moved.affinity c.in-Moved.is in
     let u = view c.put_back_node.new.seat in (
-      moves-on L c.args.filer.now.depot.layout.lawful m c.requires.placed c.args.moment v w
+      moves-on L c.args.filer.now.depot.layout.lawful m c.requires.placed c.in-Ok.ran.moment v w
           c.requires.seat.1.0 c.run.ensures.seat.1.0 r.outcome
-          (node_lent L c.in-Ok.ran.grant) r.ran c.in-Moved.affinity to u c.put_back_node.ensures.ended c.readdress.new.self c.readdress.ensures,
-      back-entries L c.args.filer.now.depot.layout.lawful m c.requires.placed c.args.moment v w
+          (node_lent L c.in-Ok.ran.grant) r.ran c.in-Moved.affinity to u c.put_back_node.ensures.ended c.args.moment c.in-Ok.ensures.at
+          c.readdress.new.self c.readdress.ensures,
+      back-entries L c.args.filer.now.depot.layout.lawful m c.requires.placed c.in-Ok.ran.moment v w
           c.requires.seat.1.0 c.run.ensures.seat.1.0 r.outcome
           (node_lent L c.in-Ok.ran.grant) r.ran c.in-Moved.affinity to u c.put_back_node.ensures.ended,
     )
