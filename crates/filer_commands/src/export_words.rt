@@ -6,7 +6,7 @@ use crate::limits::{
     MOST_VOLUMES, MOST_WORKERS, USUAL_WORKERS,
 };
 use crate::machine::Machine;
-use crate::names::{Names, addresses_of, is_name, network_of};
+use crate::names::{Names, address_of, is_name, networks_of};
 use crate::wrong_value::{
     ADDRESS, FILE_SIZE, HOST, NETWORK, NETWORKS, NUMBER, OWED, VOLUME_SIZE, WrongValue, wrong,
 };
@@ -190,18 +190,15 @@ fn networks_in<'a, N: Names>(
     text: &'a str,
     names: &N,
 ) -> Result<[Option<Network>; MOST_NETWORKS], WrongValue<'a>> {
-    let mut networks = [None; MOST_NETWORKS];
     if let Some(network) = Network::read(text) {
+        let mut networks = [None; MOST_NETWORKS];
         networks[0] = Some(network);
         return Ok(networks);
     }
     if !is_name(text) {
         return Err(wrong("allow", text, NETWORK));
     }
-    let (addresses, count) = addresses_of(names, text, 0);
-    for (network, address) in networks.iter_mut().zip(addresses.iter().take(count)) {
-        *network = network_of(*address);
-    }
+    let networks = networks_of(names, text);
     if networks[0].is_none() {
         return Err(wrong("allow", text, HOST));
     }
@@ -316,7 +313,7 @@ fn host_in(text: &str) -> Option<(&str, u16)> {
     Some((host, port.parse::<u16>().ok()?))
 }
 
-/// An address and port that an option names; of a host the first address that is known.
+/// An address and port that an option names, or those of a host.
 pub(crate) fn address_in<'a, N: Names>(
     matches: &ArgMatches<'a>,
     option: &'static str,
@@ -329,10 +326,7 @@ pub(crate) fn address_in<'a, N: Names>(
     let Some((host, port)) = host_in(text) else {
         return Err(wrong(option, text, ADDRESS));
     };
-    match addresses_of(names, host, port) {
-        ([first, ..], count) if count > 0 => Ok(first),
-        _ => Err(wrong(option, text, HOST)),
-    }
+    address_of(names, host, port).ok_or(wrong(option, text, HOST))
 }
 
 /// After how long a connection is idle.

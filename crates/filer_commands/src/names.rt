@@ -1,10 +1,10 @@
 //! Hosts' names in words of a command line.
 
-use server_options::Network;
+use server_options::{MOST_NETWORKS, Network};
 use std::net::{IpAddr, Ipv4Addr, Net, SocketAddr};
 
 /// The most addresses of a name that are looked at.
-pub(crate) const MOST_ADDRESSES: usize = 16;
+const MOST_ADDRESSES: usize = 16;
 
 /// Where the addresses of hosts are looked up.
 pub trait Names {
@@ -51,7 +51,7 @@ pub(crate) fn is_name(text: &str) -> bool {
 }
 
 /// The addresses of a host, at the start of a list, and how many.
-pub(crate) fn addresses_of<N: Names>(
+fn addresses_of<N: Names>(
     names: &N,
     host: &str,
     port: u16,
@@ -62,11 +62,34 @@ pub(crate) fn addresses_of<N: Names>(
     (found, count)
 }
 
+/// The address of a host: its first one of IPv4, or else its first one, if one is known.
+pub(crate) fn address_of<N: Names>(names: &N, host: &str, port: u16) -> Option<SocketAddr> {
+    let (found, count) = addresses_of(names, host, port);
+    let mut first = None;
+    for address in found.iter().take(count) {
+        if address.is_ipv4() {
+            return Some(*address);
+        }
+        first = first.or(Some(*address));
+    }
+    first
+}
+
 /// The network of one address.
-pub(crate) fn network_of(address: SocketAddr) -> Option<Network> {
-    let bits = match address.ip() {
+fn network_of(address: IpAddr) -> Option<Network> {
+    let bits = match address {
         IpAddr::V4(_) => 32,
         IpAddr::V6(_) => 128,
     };
-    Network::new(address.ip(), bits)
+    Network::new(address, bits)
+}
+
+/// A network for each address of a host, at the start of a list.
+pub(crate) fn networks_of<N: Names>(names: &N, host: &str) -> [Option<Network>; MOST_NETWORKS] {
+    let mut networks = [None; MOST_NETWORKS];
+    let (found, count) = addresses_of(names, host, 0);
+    for (network, address) in networks.iter_mut().zip(found.iter().take(count)) {
+        *network = network_of(address.ip());
+    }
+    networks
 }

@@ -11,7 +11,7 @@ use std::process::Abort;
 struct Known;
 
 /// The addresses of `files.example`.
-const ADDRESSES: [&str; 2] = ["192.0.2.7", "2001:db8::7"];
+const ADDRESSES: [&str; 2] = ["2001:db8::7", "192.0.2.7"];
 
 impl Names for Known {
     fn look_up(&self, host: &str, port: u16, found: &mut [SocketAddr]) -> usize {
