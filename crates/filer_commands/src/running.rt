@@ -8,6 +8,7 @@ use crate::admin_running::{run_census, run_grow};
 use crate::choice::Command;
 use crate::export_printing::exports_told;
 use crate::machine::{Machine, host_name};
+use crate::names::SystemNames;
 use crate::words::{command_told, print_help};
 use connections::Device;
 use rpc_msg::Offer;
@@ -242,13 +243,7 @@ where
 /// refused event or a failed write, else 0. A command that serves has status 0 only where its
 /// server was served to its end: the headline with threads holds of what is left, and the last line
 /// that was printed is `left` and how many messages weren't finished.
-pub fn perform<R, S, W, E>(
-    rt: R,
-    command: Command<'_>,
-    words: &[S],
-    out: &mut W,
-    err: &mut E,
-) -> u8
+pub fn perform<R, S, W, E>(rt: R, command: Command<'_>, words: &[S], out: &mut W, err: &mut E) -> u8
 where
     R: Files + AllocGlobal + Threads + Wait + Clock,
     R: Net<Listener = TcpListener, Stream = TcpStream> + Copy + Drop + Send + 'static,
@@ -282,7 +277,7 @@ where
     ensures { result ≤ 2 }
 {
     let machine = Machine::read(&rt);
-    match command_told(rt.alloc(), words, machine, err) {
+    match command_told(rt.alloc(), words, machine, &SystemNames { net: &rt }, err) {
         Ok(command) => perform(rt, command, words, out, err),
         Err(fault) => {
             print_fault(out, fault);
