@@ -1,8 +1,10 @@
 use Rattle.std.proofs.Common.{true, false, refl, ap, subst}
 use Rattle.nfs_values.specs.Reply.{reply_of}
+use Rattle.nfs_values.specs.declared.call.Call.{Call}
 use Rattle.desk.specs.Any.{node_lent}
 use Rattle.service.specs.declared.outcome.Outcome.{Outcome}
 use Rattle.granted_calls.specs.Runs.{HasRunFrom}
+use Rattle.granted_calls.specs.Moments.{RunsAt}
 use Rattle.granted_calls.specs.Filers.{layout_in}
 use Rattle.granted_calls.proofs.Runs.{moved-so, replied-so, starved-so}
 use Rattle.granted_calls.proofs.linking.try_on.Goals as goal
@@ -14,7 +16,7 @@ returns-in-Replied g c =
         refl,
         record {
           moment = c.of_call-moment.result;
-          at = c.of_call-moment.ensures;
+          at = subst (λ (x : Call). RunsAt x c.args.moment c.of_call-moment.result) c.asked.ensures.call c.of_call-moment.ensures;
           outcome = to.outcome;
           starved = false;
           is = replied-so to.outcome c.run_on.result c.run_on.new.told to.says c.in-Replied.is;
@@ -32,7 +34,7 @@ returns-in-Starved g c =
         refl,
         record {
           moment = c.of_call-moment.result;
-          at = c.of_call-moment.ensures;
+          at = subst (λ (x : Call). RunsAt x c.args.moment c.of_call-moment.result) c.asked.ensures.call c.of_call-moment.ensures;
           outcome = to.outcome;
           starved = true;
           is = (says.0, ap reply_of says.1);
@@ -50,7 +52,7 @@ returns-in-Moved g c =
       ran = (
         refl,
         c.of_call-moment.result,
-        c.of_call-moment.ensures,
+        subst (λ (x : Call). RunsAt x c.args.moment c.of_call-moment.result) c.asked.ensures.call c.of_call-moment.ensures,
         subst (λ (o : Outcome). HasRunFrom L c.args.message c.of_call-moment.result (node_lent L c.args.grant.now) o (node_lent L c.run_on.new.grant)) says
             to.ran,
       );
