@@ -3,6 +3,7 @@
 mod counting;
 mod events;
 mod lines;
+mod names;
 mod networks;
 mod quotas;
 mod reports;

@@ -3,6 +3,7 @@
 use crate::admin_running::Growing;
 use crate::choice::Command;
 use crate::export_words::{USUAL_ADDRESS, address_in};
+use crate::names::Names;
 use crate::wrong_value::{NUMBER, WrongValue, wrong};
 use clap::{Arg, ArgAction, ArgMatches, value_parser};
 use nfs_values::VolumeNumber;
@@ -65,14 +66,20 @@ pub(crate) fn grow<'a>(alloc: Global) -> Result<clap::Command<'a>, AllocError> {
 }
 
 /// What `census` asks for.
-pub(crate) fn census_in<'a>(matches: &ArgMatches<'a>) -> Result<Command<'a>, WrongValue<'a>> {
-    let server = address_in(matches, "server")?;
+pub(crate) fn census_in<'a, N: Names>(
+    matches: &ArgMatches<'a>,
+    names: &N,
+) -> Result<Command<'a>, WrongValue<'a>> {
+    let server = address_in(matches, "server", names)?;
     Ok(Command::Census { server })
 }
 
 /// What `grow` asks for.
-pub(crate) fn grow_in<'a>(matches: &ArgMatches<'a>) -> Result<Command<'a>, WrongValue<'a>> {
-    let server = address_in(matches, "server")?;
+pub(crate) fn grow_in<'a, N: Names>(
+    matches: &ArgMatches<'a>,
+    names: &N,
+) -> Result<Command<'a>, WrongValue<'a>> {
+    let server = address_in(matches, "server", names)?;
     match (
         matches.get_one::<u32>("volume"),
         matches.get_one::<u32>("ranges"),

@@ -6,8 +6,9 @@ use crate::limits::{
     MOST_VOLUMES, MOST_WORKERS, USUAL_WORKERS,
 };
 use crate::machine::Machine;
+use crate::names::{Names, address_of, is_name, networks_of};
 use crate::wrong_value::{
-    ADDRESS, FILE_SIZE, NETWORK, NETWORKS, NUMBER, OWED, VOLUME_SIZE, WrongValue, wrong,
+    ADDRESS, FILE_SIZE, HOST, NETWORK, NETWORKS, NUMBER, OWED, VOLUME_SIZE, WrongValue, wrong,
 };
 use clap::{Arg, ArgAction, ArgMatches, value_parser};
 use server_options::{
@@ -77,7 +78,7 @@ fn with_guests<'a>(
         alloc,
         "allow",
         "NETWORK",
-        "Who may connect, as 10.0.0.0/8 [loopback]",
+        "Who may connect, as 10.0.0.0/8 or a host [loopback]",
     )
     .action(ArgAction::Append);
     let idle = optional(
@@ -156,7 +157,9 @@ fn with_lines<'a>(
 /// [--file-size BYTES] [--inodes N] [--connections N] [--allow NETWORK].. [--idle SECONDS]
 /// [--owed BYTES] [--log] [--stats MINUTES]`, in any order.
 pub(crate) fn export<'a>(alloc: Global) -> Result<clap::Command<'a>, AllocError> {
-    let listen = optional(alloc, "listen", "ADDR", "Address and port").default_value(USUAL_ADDRESS);
+    let listen = optional(alloc, "listen", "ADDR", "Address or host, and port").default_value(
+        USUAL_ADDRESS,
+    );
     let workers = optional(
         alloc,
         "workers",
@@ -181,22 +184,52 @@ fn number_in<'a>(matches: &ArgMatches<'a>, option: &'static str) -> Result<u64, 
     }
 }
 
+/// The networks that a value of `--allow` names: one, or the addresses of a host. They stand at the
+/// start of a list.
+fn networks_in<'a, N: Names>(
+    text: &'a str,
+    names: &N,
+) -> Result<[Option<Network>; MOST_NETWORKS], WrongValue<'a>> {
+    if let Some(network) = Network::read(text) {
+        let mut networks = [None; MOST_NETWORKS];
+        networks[0] = Some(network);
+        return Ok(networks);
+    }
+    if !is_name(text) {
+        return Err(wrong("allow", text, NETWORK));
+    }
+    let networks = networks_of(names, text);
+    if networks[0].is_none() {
+        return Err(wrong("allow", text, HOST));
+    }
+    Ok(networks)
+}
+
+/// Puts networks behind others in a list, and answers whether there is room for all.
+fn put_behind(
+    networks: &mut [Option<Network>; MOST_NETWORKS],
+    more: [Option<Network>; MOST_NETWORKS],
+) -> bool {
+    let mut places = networks.iter_mut().filter(|network| network.is_none());
+    for network in more.into_iter().flatten() {
+        match places.next() {
+            Some(place) => *place = Some(network),
+            None => return false,
+        }
+    }
+    true
+}
+
 /// Whose connections are served: of the own machine, where no network is named.
-fn peers_in<'a>(matches: &ArgMatches<'a>) -> Result<Peers, WrongValue<'a>> {
+fn peers_in<'a, N: Names>(matches: &ArgMatches<'a>, names: &N) -> Result<Peers, WrongValue<'a>> {
     let Some(texts) = matches.get_strs("allow") else {
         return Ok(Peers::Loopback);
     };
     let mut networks = [None; MOST_NETWORKS];
-    let mut named = 0usize;
     for text in texts {
-        let Some(place) = networks.get_mut(named) else {
+        if !put_behind(&mut networks, networks_in(text, names)?) {
             return Err(wrong("allow", text, NETWORKS));
-        };
-        match Network::read(text) {
-            Some(network) => *place = Some(network),
-            None => return Err(wrong("allow", text, NETWORK)),
         }
-        named = named.saturating_add(1);
     }
     Ok(Peers::Networks(networks))
 }
@@ -271,14 +304,29 @@ fn most_owed_in<'a>(
     }
 }
 
-/// An address and port that an option names.
-pub(crate) fn address_in<'a>(
+/// A host's name and a port in a text, as `localhost:2049`.
+fn host_in(text: &str) -> Option<(&str, u16)> {
+    let (host, port) = text.rsplit_once(':')?;
+    if !is_name(host) || port.starts_with('+') {
+        return None;
+    }
+    Some((host, port.parse::<u16>().ok()?))
+}
+
+/// An address and port that an option names, or those of a host.
+pub(crate) fn address_in<'a, N: Names>(
     matches: &ArgMatches<'a>,
     option: &'static str,
+    names: &N,
 ) -> Result<SocketAddr, WrongValue<'a>> {
     let text = matches.get_str(option).unwrap_or("");
-    text.parse::<SocketAddr>()
-        .map_err(|_unread| wrong(option, text, ADDRESS))
+    if let Ok(address) = text.parse::<SocketAddr>() {
+        return Ok(address);
+    }
+    let Some((host, port)) = host_in(text) else {
+        return Err(wrong(option, text, ADDRESS));
+    };
+    address_of(names, host, port).ok_or(wrong(option, text, HOST))
 }
 
 /// After how long a connection is idle.
@@ -297,11 +345,12 @@ fn period_in(matches: &ArgMatches<'_>) -> Option<Period> {
 
 /// What a server that clients mount is asked to do, on a machine, but for what it offers, which is
 /// of its run: without a number of connections it goes on until it is ended.
-pub(crate) fn options_in<'a>(
+pub(crate) fn options_in<'a, N: Names>(
     matches: &ArgMatches<'a>,
     machine: Machine,
+    names: &N,
 ) -> Result<Options, WrongValue<'a>> {
-    let address = address_in(matches, "listen")?;
+    let address = address_in(matches, "listen", names)?;
     let volumes = number_in(matches, "volumes")?;
     let workers = match matches.get_one::<u64>("workers") {
         Some(workers) => workers as usize,
@@ -309,7 +358,7 @@ pub(crate) fn options_in<'a>(
     };
     let connections = matches.get_one::<u64>("connections");
     let plan = plan_in(matches, volumes, machine)?;
-    let peers = peers_in(matches)?;
+    let peers = peers_in(matches, names)?;
     let idle = idle_in(matches)?;
     let most_owed = most_owed_in(matches, volumes, &plan)?;
     let Some(options) = Options::new(address, volumes as usize, workers, connections) else {

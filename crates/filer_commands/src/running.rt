@@ -1,15 +1,19 @@
 //! The program, from its command line to its exit status.
 
-ghost use Rattle.std.specs.Prelude.{◌≤◌, IfOk};
+ghost use Rattle.std.specs.Prelude.{◌≡◌, ◌≤◌, IfOk, OnOk, ℕ};
+ghost use Rattle.filer_commands.specs.Performed.{HasEnded, HasPerformed};
+ghost use Rattle.rpc_msg.specs.Offer.{export};
 
 use crate::admin_running::{run_census, run_grow};
 use crate::choice::Command;
 use crate::export_printing::exports_told;
 use crate::machine::{Machine, host_name};
+use crate::names::SystemNames;
 use crate::words::{command_told, print_help};
+use connections::Device;
 use rpc_msg::Offer;
 use scripts::{ProgramFault, print_fault, replay};
-use server::{ServerFault, run_now, serve, serve_told};
+use server::{ServerFault, Socket, run_now, serve, serve_told};
 use server_options::Options;
 use std::alloc::{AllocError, Global};
 use std::convert::AsStr;
@@ -98,7 +102,9 @@ where
     R: Copy + Drop + Send + 'static,
     W: Write,
     E: Write,
-    ensures { IfOk result (λ status. status ≤ 1) }
+    ensures status { IfOk result (λ status. status ≤ 1) }
+    ensures ended { OnOk result
+        (HasEnded R ⟦<Socket as Device>⟧ W.contents options.now out.new) }
 {
     let listener = listen(&rt, options.address, "serve", err)?;
     keep_freed_memory(rt.alloc());
@@ -187,7 +193,9 @@ where
     R: Copy + Drop + Send + 'static,
     W: Write,
     E: Write,
-    ensures { IfOk result (λ status. status ≤ 1) }
+    ensures status { IfOk result (λ status. status ≤ 1) }
+    ensures ended { OnOk result ((run : ℕ) × HasEnded R ⟦<Socket as Device>⟧ W.contents
+        (record options.now { offer = export run }) out.new) }
 {
     let listener = listen(&rt, options.address, "export", err)?;
     keep_freed_memory(rt.alloc());
@@ -216,7 +224,9 @@ where
     S: AsStr,
     W: Write,
     E: Write,
-    ensures { IfOk result (λ status. status ≤ 1) }
+    ensures status { IfOk result (λ status. status ≤ 1) }
+    ensures performed { OnOk result
+        (HasPerformed R ⟦<Socket as Device>⟧ W.contents command out.new) }
 {
     match command {
         Command::Replay { path } => run_script(&rt, path, out, err),
@@ -229,10 +239,34 @@ where
     }
 }
 
-/// Runs the command that the words ask for, and answers the exit status: 2 for words
-/// that are no command, 1 for any other fault, a refused event or a failed write, else 0. What is
-/// for people alone is told by the second writer: usage, what is wrong with a command line, and
-/// faults in words.
+/// Performs a command, of which these are the words, and answers the exit status: 1 for a fault, a
+/// refused event or a failed write, else 0. A command that serves has status 0 only where its
+/// server was served to its end: the headline with threads holds of what is left, and the last line
+/// that was printed is `left` and how many messages weren't finished.
+pub fn perform<R, S, W, E>(rt: R, command: Command<'_>, words: &[S], out: &mut W, err: &mut E) -> u8
+where
+    R: Files + AllocGlobal + Threads + Wait + Clock,
+    R: Net<Listener = TcpListener, Stream = TcpStream> + Copy + Drop + Send + 'static,
+    S: AsStr,
+    W: Write,
+    E: Write,
+    ensures range { result ≤ 2 }
+    ensures performed { result ≡ 0
+        → HasPerformed R ⟦<Socket as Device>⟧ W.contents command out.new }
+{
+    match run(rt, command, words, out, err) {
+        Ok(status) => status,
+        Err(fault) => {
+            tell(err, command, fault);
+            print_fault(out, fault);
+            fault.status()
+        }
+    }
+}
+
+/// Performs the command that the words ask for, and answers the exit status: 2 for words that are
+/// no command, else that of the command. What is for people alone is told by the second writer:
+/// usage, what is wrong with a command line, and faults in words.
 pub fn program<R, S, W, E>(rt: R, words: &[S], out: &mut W, err: &mut E) -> u8
 where
     R: Files + AllocGlobal + Threads + Wait + Clock,
@@ -243,15 +277,8 @@ where
     ensures { result ≤ 2 }
 {
     let machine = Machine::read(&rt);
-    match command_told(rt.alloc(), words, machine, err) {
-        Ok(command) => match run(rt, command, words, out, err) {
-            Ok(status) => status,
-            Err(fault) => {
-                tell(err, command, fault);
-                print_fault(out, fault);
-                fault.status()
-            }
-        },
+    match command_told(rt.alloc(), words, machine, &SystemNames { net: &rt }, err) {
+        Ok(command) => perform(rt, command, words, out, err),
         Err(fault) => {
             print_fault(out, fault);
             fault.status()

@@ -5,6 +5,7 @@ use crate::choice::Command;
 use crate::export_words::{self, address_in, export};
 use crate::limits::{MOST_CONNECTIONS, MOST_VOLUMES, MOST_WORKERS, USUAL_WORKERS};
 use crate::machine::Machine;
+use crate::names::{Names, NoNames};
 use crate::wrong_value::{NUMBER, WrongValue, wrong};
 use clap::error::ErrorKind;
 use clap::{Arg, ArgAction, ArgMatches, Error, value_parser};
@@ -123,7 +124,7 @@ fn path_in<'a>(matches: &ArgMatches<'a>) -> Command<'a> {
 
 /// What `serve` is asked to do. The parse gives all of its numbers, each in its range.
 fn options_in<'a>(matches: &ArgMatches<'a>) -> Result<Command<'a>, WrongValue<'a>> {
-    let address = address_in(matches, "listen")?;
+    let address = address_in(matches, "listen", &NoNames)?;
     let volumes = matches.get_one::<u64>("volumes").unwrap_or(0);
     let workers = matches.get_one::<u64>("workers").unwrap_or(0);
     let connections = matches.get_one::<u64>("connections");
@@ -134,16 +135,20 @@ fn options_in<'a>(matches: &ArgMatches<'a>) -> Result<Command<'a>, WrongValue<'a
 }
 
 /// What was parsed, as a command on a machine.
-fn chosen<'a>(matches: &ArgMatches<'a>, machine: Machine) -> Result<Command<'a>, WrongValue<'a>> {
+fn chosen<'a, N: Names>(
+    matches: &ArgMatches<'a>,
+    machine: Machine,
+    names: &N,
+) -> Result<Command<'a>, WrongValue<'a>> {
     match matches.subcommand() {
         Some(("replay", inner)) => Ok(path_in(inner)),
         Some(("serve", inner)) => options_in(inner),
         Some(("export", inner)) => {
-            let options = export_words::options_in(inner, machine)?;
+            let options = export_words::options_in(inner, machine, names)?;
             Ok(Command::Export(options))
         }
-        Some(("census", inner)) => admin_words::census_in(inner),
-        Some(("grow", inner)) => admin_words::grow_in(inner),
+        Some(("census", inner)) => admin_words::census_in(inner, names),
+        Some(("grow", inner)) => admin_words::grow_in(inner, names),
         _ => Ok(Command::Version),
     }
 }
@@ -201,18 +206,19 @@ pub fn command<'a, S: AsStr>(alloc: Global, words: &'a [S]) -> Result<Command<'a
         memory: None,
         limit: None,
     };
-    command_told(alloc, words, machine, &mut io::sink())
+    command_told(alloc, words, machine, &NoNames, &mut io::sink())
 }
 
 /// The same on a machine: where no number of workers is named, `export` has as many as processors,
 /// but at most four; where no size, its volumes have a quarter of the memory between them, or half
-/// of what a control group of the process may take, where that is less. Where the words are no
-/// command it tells for people what is wrong with them and how they would be right, or the help
+/// of what a control group of the process may take, where that is less; and hosts may be named, but
+/// for `serve`. Where the words are no command it tells for people what is wrong with them and how they would be right, or the help
 /// that they ask for.
-pub fn command_told<'a, S: AsStr, E: Write>(
+pub fn command_told<'a, S: AsStr, N: Names, E: Write>(
     alloc: Global,
     words: &'a [S],
     machine: Machine,
+    names: &N,
     err: &mut E,
 ) -> Result<Command<'a>, ProgramFault> {
     if words.len() <= 1 {
@@ -223,7 +229,7 @@ pub fn command_told<'a, S: AsStr, E: Write>(
     }
     let declared = declared(alloc)?;
     match declared.try_get_matches_from(words) {
-        Ok(matches) => match chosen(&matches, machine) {
+        Ok(matches) => match chosen(&matches, machine, names) {
             Ok(command) => Ok(command),
             Err(wrong) => {
                 let _told = if is_fixed(words) {

@@ -34,11 +34,15 @@ pub(crate) fn wrong<'a>(
 }
 
 /// An address and port of an option.
-pub(crate) const ADDRESS: &str = "an IP address and a port are wanted, as 127.0.0.1:2049";
+pub(crate) const ADDRESS: &str =
+    "an IP address or a host's name, and a port, are wanted, as 127.0.0.1:2049";
+
+/// A host's name that isn't known.
+pub(crate) const HOST: &str = "no address of that host is known";
 
 /// A network of `--allow`.
 pub(crate) const NETWORK: &str =
-    "a network is wanted, as 10.0.0.0/8, whose bits behind these 8 are 0";
+    "a network or a host's name is wanted, as 10.0.0.0/8, whose bits behind these 8 are 0";
 
 /// One network of `--allow` too many.
 pub(crate) const NETWORKS: &str = "at most 16 networks may be named";

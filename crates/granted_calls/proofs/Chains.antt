@@ -64,7 +64,7 @@ done-even s t moment a done even =
     let kept : IsEven t.pass (entries_of s.view) (Some done.message) =
     picks s.pass t.pass s.kept (Some done.message) (entries_of s.view) even done.next done.put in
     subst (λ (k : Option Message). IsEven t.pass (entries_of t.view) k) (sym done.kept)
-    (finishes t.pass done.message moment a done.finished.entry (entries_of s.view) (entries_of t.view) kept done.finished.entries done.finished.is)
+    (finishes t.pass done.message done.finished.moment a done.finished.entry (entries_of s.view) (entries_of t.view) kept done.finished.entries done.finished.is)
 
 all-even : (moment : Moment) (s t : Standing) (answers : List Addressed) → DidAll moment s answers t → Even s → Even t
 all-even moment s t [] did even = subst Even (sym did) even
@@ -211,10 +211,10 @@ module _ {S : Type 0} (took : S → List Addressed → S → Type 0)
         → HasChained took layout verifier s moment sink tried said pass' l' w' sink1 → CanEnd layout w' l' tried said
     can-end (tries.Moved back to) eight begins stays fit h =
         let o = h.over in
-        let tree = holding-tree layout lawful verifier h.between o.message o.placed moment o.pass o.before o.holding o.stands in
-        let run = ran-on layout lawful verifier h.between o.message o.placed moment o.pass o.before o.holding o.stands (outcomes.Moved to) l' o.ran.1 in
+        let tree = holding-tree layout lawful verifier h.between o.message o.placed o.ran.1 o.pass o.before o.holding o.stands in
+        let run = ran-on layout lawful verifier h.between o.message o.placed o.ran.1 o.pass o.before o.holding o.stands (outcomes.Moved to) l' o.ran.3 in
         subst (λ (x : FilerView). CanPutBack layout x l') (sym o.stayed)
-        (may-go-back layout lawful o.message o.placed moment h.between.view o.holding o.stands.tree tree (outcomes.Moved to) l' run to refl)
+        (may-go-back layout lawful o.message o.placed o.ran.1 h.between.view o.holding o.stands.tree tree (outcomes.Moved to) l' run to refl)
     can-end (tries.Entered e next) eight begins stays fit h =
         let o = h.over in (
           can-read layout o.holding w' l' (job_in e) (Replied said) o.stayed
@@ -227,9 +227,9 @@ module _ {S : Type 0} (took : S → List Addressed → S → Type 0)
           → HasEnded took layout w' l' tried said sink1 u kept sink2 → IsReady layout verifier u
       end-ready (tries.Moved back to) h ended =
           let o = h.over in
-          let tree = holding-tree layout lawful verifier h.between o.message o.placed moment o.pass o.before o.holding o.stands in
-          let run = ran-on layout lawful verifier h.between o.message o.placed moment o.pass o.before o.holding o.stands (outcomes.Moved to) l' o.ran.1 in
-          back-ready layout lawful o.message o.placed moment h.between.view o.holding o.stands.tree tree (outcomes.Moved to) l' run to refl u
+          let tree = holding-tree layout lawful verifier h.between o.message o.placed o.ran.1 o.pass o.before o.holding o.stands in
+          let run = ran-on layout lawful verifier h.between o.message o.placed o.ran.1 o.pass o.before o.holding o.stands (outcomes.Moved to) l' o.ran.3 in
+          back-ready layout lawful o.message o.placed o.ran.1 h.between.view o.holding o.stands.tree tree (outcomes.Moved to) l' run to refl u
           (subst (λ (x : FilerView). IsEnded x (number_of layout l'.affinity) u) o.stayed ended.0) verifier o.stands.ready
       end-ready (tries.Entered e next) h ended =
           let o = h.over in
@@ -242,10 +242,10 @@ module _ {S : Type 0} (took : S → List Addressed → S → Type 0)
           → HasEnded took layout w' l' tried said sink1 u kept sink2 → IfSome (kept_of tried) (IsPlaced layout) → IfSome kept (IsPlaced layout)
       end-placed (tries.Moved back to) h ended placed =
           let o = h.over in
-          let tree = holding-tree layout lawful verifier h.between o.message o.placed moment o.pass o.before o.holding o.stands in
-          let run = ran-on layout lawful verifier h.between o.message o.placed moment o.pass o.before o.holding o.stands (outcomes.Moved to) l' o.ran.1 in
-          let moved = moves-on layout lawful o.message o.placed moment h.between.view o.holding o.stands.tree tree (outcomes.Moved to) l' run to refl u
-          (subst (λ (x : FilerView). IsEnded x (number_of layout l'.affinity) u) o.stayed ended.0) (readdressed to o.message) refl in
+          let tree = holding-tree layout lawful verifier h.between o.message o.placed o.ran.1 o.pass o.before o.holding o.stands in
+          let run = ran-on layout lawful verifier h.between o.message o.placed o.ran.1 o.pass o.before o.holding o.stands (outcomes.Moved to) l' o.ran.3 in
+          let moved = moves-on layout lawful o.message o.placed o.ran.1 h.between.view o.holding o.stands.tree tree (outcomes.Moved to) l' run to refl u
+          (subst (λ (x : FilerView). IsEnded x (number_of layout l'.affinity) u) o.stayed ended.0) moment o.ran.2 (readdressed to o.message) refl in
           subst (λ (k : Option Message). IfSome k (IsPlaced layout)) (sym (ended.1 ∙ ap (λ (x : Message). Some (readdressed to x)) o.ran.0)) moved.placed
       end-placed (tries.Entered e next) h ended placed =
           subst (λ (k : Option Message). IfSome k (IsPlaced layout)) (sym ended.1) placed
@@ -255,8 +255,8 @@ module _ {S : Type 0} (took : S → List Addressed → S → Type 0)
           → HasServedOn took layout s moment sink (chained_so tried) sink2 (left_standing u pass' kept)
       end-served (tries.Moved back to) h ended =
           let o = h.over in
-          let tree = holding-tree layout lawful verifier h.between o.message o.placed moment o.pass o.before o.holding o.stands in
-          let run = ran-on layout lawful verifier h.between o.message o.placed moment o.pass o.before o.holding o.stands (outcomes.Moved to) l' o.ran.1 in
+          let tree = holding-tree layout lawful verifier h.between o.message o.placed o.ran.1 o.pass o.before o.holding o.stands in
+          let run = ran-on layout lawful verifier h.between o.message o.placed o.ran.1 o.pass o.before o.holding o.stands (outcomes.Moved to) l' o.ran.3 in
           let back_at = subst (λ (x : FilerView). IsEnded x (number_of layout l'.affinity) u) o.stayed ended.0 in
           record {
             answers = h.answers;
@@ -268,9 +268,9 @@ module _ {S : Type 0} (took : S → List Addressed → S → Type 0)
               readdressed to o.message,
               subst (λ (p : Passed). IsPicked h.between h.between.view p o.message) (sym o.ahead) o.stands.picked,
               ended.1 ∙ ap (λ (x : Message). Some (readdressed to x)) o.ran.0,
-              moves-on layout lawful o.message o.placed moment h.between.view o.holding o.stands.tree tree (outcomes.Moved to) l' run to refl u back_at
-                  (readdressed to o.message) refl,
-              back-entries layout lawful o.message o.placed moment h.between.view o.holding o.stands.tree tree (outcomes.Moved to) l' run to refl u
+              moves-on layout lawful o.message o.placed o.ran.1 h.between.view o.holding o.stands.tree tree (outcomes.Moved to) l' run to refl u back_at
+                  moment o.ran.2 (readdressed to o.message) refl,
+              back-entries layout lawful o.message o.placed o.ran.1 h.between.view o.holding o.stands.tree tree (outcomes.Moved to) l' run to refl u
                   back_at,
             );
             suits = tt;
@@ -287,6 +287,8 @@ module _ {S : Type 0} (took : S → List Addressed → S → Type 0)
             put = done.put;
             kept = refl;
             finished = record {
+              moment = done.finished.moment;
+              at = done.finished.at;
               entry = done.finished.entry;
               is = done.finished.is;
               entries = done.finished.entries;

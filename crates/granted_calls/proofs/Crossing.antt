@@ -10,6 +10,7 @@ use Rattle.filer_state.proofs.stripe.StripeParcel.TheSendSync as stripe
 use Rattle.service.proofs.job.ServedCall.TheSendSync as served
 use Rattle.service.specs.contracts.job.ServedCall as ServedCall
 use Rattle.granted_calls.proofs.shared_waiting.pass.SharedWaiting.TheSendSync as waiting
+use Rattle.granted_calls.proofs.moments.Moments.TheSendSync as moments
 use Rattle.granted_calls.specs.contracts.envelope.Envelope as Envelope
 use Rattle.granted_calls.specs.contracts.envelope.Envelope.TheInside as EnvelopeInside
 use Rattle.granted_calls.specs.contracts.shared.Filer as Filer
@@ -34,7 +35,7 @@ filer-send = declared_send Filer.the_type (
     search (verifier.the_send, sendable),
     (
       search (depot.the_send, parcel.the_send, range.the_send, stripe.the_send, logical-parcel-send, crosses, sendable) depth 20,
-      (search (waiting.the_send, envelope-send, sendable), tt),
+      (search (waiting.the_send, envelope-send, sendable), (search (moments.the_send, crosses, sendable) depth 20, tt)),
     ),
   ),
 )
@@ -46,7 +47,7 @@ filer-sync = declared_sync Filer.the_type (
     search (verifier.the_sync, sendable) depth 20,
     (
       search (depot.the_sync, parcel.the_send, range.the_send, stripe.the_send, logical-parcel-send, crosses, sendable) depth 20,
-      (search (waiting.the_sync, envelope-send, sendable) depth 20, tt),
+      (search (waiting.the_sync, envelope-send, sendable) depth 20, (search (moments.the_sync, crosses, sendable) depth 20, tt)),
     ),
   ),
 )

@@ -41,6 +41,7 @@ use Rattle.rpc_msg.specs.declared.handle_form.HandleForm.{HandleForm}
 use Rattle.rpc_msg.specs.Handles.{reply_told}
 use Rattle.granted_calls.specs.Balance.{FilerView, FilerEntry}
 use Rattle.granted_calls.specs.Messages.{IsPlaced, Message}
+use Rattle.granted_calls.specs.Moments.{RunsAt}
 use Rattle.granted_calls.specs.Runs.{FilerLent, HasRunOn}
 use Rattle.granted_calls.specs.Served.{filer_behaviour, job_of_message, HasFinished, HasMoved}
 use Rattle.granted_calls.specs.Filers.{HasOpened, IsReady}
@@ -130,8 +131,11 @@ module _ (layout : Layout) (lawful : fault_of layout ≡ None) (m : Message) (pl
       none_open = finished-none filer_behaviour v w u (number_of layout node) before entry ready.none_open begun ends;
     }
 
-    pub entered : (a : Addressed) → a ≡ addressed m.origin.connection.0 (replies.message m.origin.xid (reply_of reply)) → HasFinished v m moment a u
-    entered a same = record {
+    pub entered : (least : Moment) → RunsAt m.call least moment → (a : Addressed)
+        → a ≡ addressed m.origin.connection.0 (replies.message m.origin.xid (reply_of reply)) → HasFinished v m least a u
+    entered least at a same = record {
+      moment = moment;
+      at = at;
       entry = entry;
       is = record {
         starved = starved;
@@ -193,8 +197,10 @@ module _ (layout : Layout) (lawful : fault_of layout ≡ None) (m : Message) (pl
       ends-so : IsEnded w (number_of layout node) u
       ends-so = subst (λ a. IsEnded w (number_of layout a) u) here ended
 
-      pub moves-on : (m' : Message) → m' ≡ record m { affinity = to } → HasMoved layout v m moment m' u
-      moves-on m' same = record {
+      pub moves-on : (least : Moment) → RunsAt m.call least moment → (m' : Message) → m' ≡ record m { affinity = to } → HasMoved layout v m least m' u
+      moves-on least at m' same = record {
+        moment = moment;
+        at = at;
         to = to;
         message = same;
         placed = subst (λ (x : Message). IsPlaced layout x) (sym same) (record { node = moved.1.0; run = moved.1.1; room = placed.room });

@@ -80,25 +80,25 @@ module _ (layout : Layout) (lawful : fault_of layout ≡ None) (verifier : List 
   ran-on outcome l' ran = record { before = l; granted = stands.granted; done = ran.done; whole = ran.whole }
 
   module _ (e : Entry) (told : Reply) (l' : FilerLent) (enters : IsToEnter layout m moment l e told l') where
-    run : HasRunOn layout b.view m moment enters.outcome l' w
-    run = ran-on enters.outcome l' enters.ran
+    run : HasRunOn layout b.view m enters.moment enters.outcome l' w
+    run = record { before = l; granted = stands.granted; done = enters.ran.done; whole = enters.ran.whole }
 
     pub may-enter : CanFinish kind_in filer_behaviour layout w l' (job_in e) (Replied told)
-    may-enter = entry-can m moment enters.starved e enters.entry told layout w l' (by enters.starved enters.is)
+    may-enter = entry-can m enters.moment enters.starved e enters.entry told layout w l' (by enters.starved enters.is)
       where
         by : (starved : Bool) → IsEntered enters.outcome told starved
-            → CanFinish kind_in filer_behaviour layout w l' (job_of_message m moment starved) (Replied told)
-        by false is = may-finish layout lawful m placed moment b.view w stands.tree holding-tree enters.outcome l' run told is
-        by true is = may-starve layout lawful m placed moment b.view w stands.tree holding-tree enters.outcome l' run told is.1 is.0
+            → CanFinish kind_in filer_behaviour layout w l' (job_of_message m enters.moment starved) (Replied told)
+        by false is = may-finish layout lawful m placed enters.moment b.view w stands.tree holding-tree enters.outcome l' run told is
+        by true is = may-starve layout lawful m placed enters.moment b.view w stands.tree holding-tree enters.outcome l' run told is.1 is.0
 
     pub has-room : length verifier ≡ 8 → RoomyBegins → RoomyStays → RepliesFit → HasRoom e told
-    has-room eight begins stays fit = entry-room m moment enters.starved e enters.entry told (by enters.starved enters.is)
+    has-room eight begins stays fit = entry-room m enters.moment enters.starved e enters.entry told (by enters.starved enters.is)
       where
         by : (starved : Bool) → IsEntered enters.outcome told starved
             → (form : HandleForm) → length (record_of (replies.message m.origin.xid (reply_told form (reply_of told)))) ≤ m.room
-        by false is = fits layout lawful m placed moment b.view w stands.tree holding-tree enters.outcome l' run verifier eight stands.ready.opened
+        by false is = fits layout lawful m placed enters.moment b.view w stands.tree holding-tree enters.outcome l' run verifier eight stands.ready.opened
             begins stays fit told is
-        by true is = starved-room layout lawful m placed moment b.view w stands.tree holding-tree enters.outcome l' run verifier eight stands.ready.opened
+        by true is = starved-room layout lawful m placed enters.moment b.view w stands.tree holding-tree enters.outcome l' run verifier eight stands.ready.opened
             begins stays fit told is.1
 
     -- ---- it was entered
@@ -106,19 +106,19 @@ module _ (layout : Layout) (lawful : fault_of layout ≡ None) (verifier : List 
     module _ (u : FilerView)
         (finished : IsFinished filer_behaviour w (number_of layout l'.affinity) (entry_of layout l'.affinity l'.parcels (job_in e) (Replied told)) u) where
       ends : IsFinished filer_behaviour w (number_of layout l'.affinity)
-          (entry_of layout l'.affinity l'.parcels (job_of_message m moment enters.starved) (Replied told)) u
-      ends = entry-finished m moment enters.starved e enters.entry told layout w l' u finished
+          (entry_of layout l'.affinity l'.parcels (job_of_message m enters.moment enters.starved) (Replied told)) u
+      ends = entry-finished m enters.moment enters.starved e enters.entry told layout w l' u finished
 
       pub is-ready : IsReady layout verifier u
       is-ready =
-          entered-ready layout lawful m placed moment b.view w stands.tree holding-tree enters.outcome l' run u told enters.starved ends verifier
+          entered-ready layout lawful m placed enters.moment b.view w stands.tree holding-tree enters.outcome l' run u told enters.starved ends verifier
           stands.ready
 
       module _ (a : Addressed) (is : a ≡ addressed e.origin.connection.0 (replies.message e.origin.xid (reply_of told))) where
         is-finished : HasFinished b.view m moment a u
         is-finished =
-            entered layout lawful m placed moment b.view w stands.tree holding-tree enters.outcome l' run u told enters.starved ends a
-            (entry-answer m moment enters.starved e enters.entry told a is)
+            entered layout lawful m placed enters.moment b.view w stands.tree holding-tree enters.outcome l' run u told enters.starved ends moment enters.at a
+            (entry-answer m enters.moment enters.starved e enters.entry told a is)
 
         pub is-done : HasDoneFrom b moment a (left_standing u pass None)
         is-done = record { message = m; next = stands.picked.next; put = stands.picked.put; kept = refl; finished = is-finished }

@@ -1,6 +1,7 @@
 pub mod Messages
 pub mod Balance
 pub mod Filers
+pub mod Moments
 pub mod Served
 pub mod Chains
 pub mod Runs

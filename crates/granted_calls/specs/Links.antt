@@ -30,6 +30,7 @@ use Rattle.granted_calls.specs.declared.linking.Link.{Link}
 use Rattle.granted_calls.specs.declared.linking.Link.TheVariants as links
 use Rattle.granted_calls.specs.Balance.{Passed, FilerView}
 use Rattle.granted_calls.specs.Messages.{IsPlaced, readdressed, Message}
+use Rattle.granted_calls.specs.Moments.{RunsAt}
 use Rattle.granted_calls.specs.Chains.{IsAhead, IsPicked, DidAll}
 use Rattle.granted_calls.specs.Runs.{FilerLent, HasRunFrom}
 use Rattle.granted_calls.specs.Served.{filer_behaviour, served_of_message, Standing, HasDoneFrom}
@@ -56,18 +57,21 @@ abbrev pub IsEntered : Outcome → Reply → Bool → Type 0
 IsEntered outcome reply false = outcome ≡ outcomes.Replied reply
 IsEntered outcome reply true = (outcome ≡ outcomes.Starved) × (reply_of reply ≡ SystemError)
 
--- a message's call was run on what is lent, its entry is this, and this was told of it
-pub record IsToEnter (layout : Layout) (m : Message) (moment : Moment) (l : FilerLent) (e : Entry) (said : Reply) (l' : FilerLent) : Type 0 where
+-- a message's call was run on what is lent, at a moment or later, its entry is this, and this was told of it
+pub record IsToEnter (layout : Layout) (m : Message) (least : Moment) (l : FilerLent) (e : Entry) (said : Reply) (l' : FilerLent) : Type 0 where
+  pub moment : Moment
+  pub at : RunsAt m.call least moment
   pub outcome : Outcome
   pub starved : Bool
   pub is : IsEntered outcome said starved
   pub ran : HasRunFrom layout m moment l outcome l'
   pub entry : IsEntryFor m moment starved e
 
--- a message's call was run on what is lent, and this came of it
+-- a message's call was run on what is lent, at a moment or later, and this came of it
 abbrev pub HasRunSo : Layout → Message → Moment → FilerLent → Tried → Reply → FilerLent → Type 0
-HasRunSo layout m moment l (tries.Moved back to) told l' = (back ≡ m) × HasRunFrom layout m moment l (outcomes.Moved to) l'
-HasRunSo layout m moment l (tries.Entered e next) told l' = (next ≡ None) × IsToEnter layout m moment l e told l'
+HasRunSo layout m least l (tries.Moved back to) told l' =
+    (back ≡ m) × (moment : Moment) × RunsAt m.call least moment × HasRunFrom layout m moment l (outcomes.Moved to) l'
+HasRunSo layout m least l (tries.Entered e next) told l' = (next ≡ None) × IsToEnter layout m least l e told l'
 
 -- ---- links
 
@@ -99,8 +103,8 @@ HasStayed (tries.Entered e next) w w' = HasOnlyRead w w'
 
 -- so was it run
 abbrev pub RanSo : Layout → Message → Moment → FilerLent → Tried → Reply → FilerLent → Type 0
-RanSo layout m moment l (tries.Moved back to) told l' = HasRunSo layout m moment l (tries.Moved back to) told l'
-RanSo layout m moment l (tries.Entered e next) told l' = IsToEnter layout m moment l e told l'
+RanSo layout m least l (tries.Moved back to) told l' = HasRunSo layout m least l (tries.Moved back to) told l'
+RanSo layout m least l (tries.Entered e next) told l' = IsToEnter layout m least l e told l'
 
 -- A message was picked by who stood so and run on a grant of what it tries, which is still open.
 pub record IsOver (layout : Layout) (verifier : List ℕ) (moment : Moment) (b : Standing) (tried : Tried) (told : Reply)

@@ -32,6 +32,7 @@ use Rattle.granted_calls.specs.declared.turned.Turn.TheVariants as turns
 use Rattle.granted_calls.specs.declared.turned.Served.{Served}
 use Rattle.granted_calls.specs.declared.turned.Served.TheVariants as served
 use Rattle.granted_calls.specs.Messages.{IsPlaced, Message}
+use Rattle.granted_calls.specs.Moments.{RunsAt}
 use Rattle.granted_calls.specs.Balance.{Passed, FilerView, FilerEntry}
 
 -- what a filer's depot serves
@@ -90,9 +91,11 @@ pub record IsEntryOf (m : Message) (moment : Moment) (a : Addressed) (e : FilerE
   pub connection : a.connection ≡ m.origin.connection.0
   pub xid : a.message.xid ≡ m.origin.xid
 
--- a seat made one entry more, of the message's call: the seat has seen a legal history, from the same beginning, of all that
--- it had seen, what others put between, and the entry
-pub record HasFinished (v : FilerView) (m : Message) (moment : Moment) (a : Addressed) (w : FilerView) : Type 0 where
+-- a seat made one entry more, of the message's call, which ran at a moment or later: the seat has seen a legal history, from the same
+-- beginning, of all that it had seen, what others put between, and the entry
+pub record HasFinished (v : FilerView) (m : Message) (least : Moment) (a : Addressed) (w : FilerView) : Type 0 where
+  pub moment : Moment
+  pub at : RunsAt m.call least moment
   pub entry : FilerEntry
   pub is : IsEntryOf m moment a entry
   pub entries : entries_of w ≡ entries_of v ++ entry ∷ []
@@ -102,10 +105,12 @@ pub record HasFinished (v : FilerView) (m : Message) (moment : Moment) (a : Addr
   pub first : w.first ≡ v.first
   pub seen : w.seen ≡ (v.seen ++ between) ++ entry ∷ []
 
--- The message's call has to move to another node at which it is run, as the parcels say that it was granted: the seat began a call
+-- The message's call, run at a moment or later, has to move to another node, as the parcels say that it was granted: the seat began a call
 -- on what the message tries, and had just these parcels by that grant, as a history left them that begins with all that the seat had
 -- seen; on them the call moves there; and the grant was put back, without an entry.
-pub record HasMoved (layout : Layout) (v : FilerView) (m : Message) (moment : Moment) (m' : Message) (w : FilerView) : Type 0 where
+pub record HasMoved (layout : Layout) (v : FilerView) (m : Message) (least : Moment) (m' : Message) (w : FilerView) : Type 0 where
+  pub moment : Moment
+  pub at : RunsAt m.call least moment
   pub to : CallNode
   pub message : m' ≡ record m { affinity = to }
   pub placed : IsPlaced layout m'

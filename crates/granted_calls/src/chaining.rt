@@ -171,7 +171,8 @@ fn run_messages_on<
 }
 
 /// Begins the call of a message on what it tries, runs it, and ends it; and so with the next
-/// messages under the same grant, while they try the same node.
+/// messages under the same grant, while they try the same node. Calls that change something run no
+/// earlier than this moment, and others at just this moment.
 pub fn run_messages<R: Wait, G: Gate, H: Hint, S: AnswerSink>(
     filer: &Filer,
     seat: &mut Seat<Service>,

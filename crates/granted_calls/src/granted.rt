@@ -8,6 +8,7 @@ ghost use Rattle.desk.specs.laws.Backing.{IsGranted};
 ghost use Rattle.parcels.specs.Exact.{kind_in};
 ghost use Rattle.affinity.specs.Affinity.{call_affinity, call_node};
 ghost use Rattle.granted_calls.specs.Messages.{IsPlaced};
+ghost use Rattle.granted_calls.specs.Moments.{RunsAt};
 ghost use Rattle.granted_calls.specs.Runs.{HasRunTo, HasRunInto, IsLentFor};
 ghost use Rattle.granted_calls.specs.Served.{filer_behaviour};
 ghost use Rattle.granted_calls.specs.Filers.{layout_in};
@@ -34,10 +35,11 @@ pub(crate) fn place_of(origin: Origin, stage: Stage) -> Place {
     }
 }
 
-/// What was granted, and what a call that ran on it came to.
+/// What was granted, what a call that ran on it came to, and when it ran.
 pub(crate) struct Ran<G, O> {
     pub(crate) grant: G,
     pub(crate) outcome: O,
+    pub(crate) moment: Moment,
 }
 
 /// What a call came to that ran: an `Outcome` whose reply was put elsewhere.
@@ -95,7 +97,8 @@ pub(crate) fn run_on<N: TaskNode<Parcel<Files>, ParcelKinds>, G: Gate>(
     }
 }
 
-/// Begins the call of a message on what it tries, a node of this kind, and runs it there.
+/// Begins the call of a message on what it tries, a node of this kind, and runs it there, at this
+/// moment or later.
 pub(crate) fn run<N: TaskNode<Parcel<Files>, ParcelKinds>, G: Gate>(
     filer: &Filer,
     seat: &mut Seat<Service>,
@@ -111,14 +114,21 @@ pub(crate) fn run<N: TaskNode<Parcel<Files>, ParcelKinds>, G: Gate>(
     ensures seat { IsSeatHere filer.now.depot seat.new }
     ensures splits { splits_left seat.new ≡ splits_left seat.old }
     ensures ran { let L = layout_in filer.now in IfOk result (λ ran.
-        HasRunInto L (view seat.old) envelope.now moment ran.outcome told.new
+        HasRunInto L (view seat.old) envelope.now ran.moment ran.outcome told.new
         (node_lent L ran.grant) (view seat.new)) }
+    ensures at { IfOk result (λ ran. RunsAt envelope.now.call moment ran.moment) }
     ensures refused { IfErr result (λ refusal. IsRefused (layout_in filer.now)
         (view seat.old) (call_affinity envelope.now.affinity) refusal (view seat.new)) }
 {
     let mut grant = begin_on::<N, G>(filer, seat, envelope, gate)?;
+    let (call, _credential) = envelope.asked();
+    let moment = filer.moments.of_call(call, moment);
     let outcome = run_on::<N, G>(filer, &mut grant, envelope, moment, gate, told);
-    Ok(Ran { grant, outcome })
+    Ok(Ran {
+        grant,
+        outcome,
+        moment,
+    })
 }
 
 /// Begins the call of a message on what it tries, a node of this kind.

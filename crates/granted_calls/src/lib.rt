@@ -12,6 +12,7 @@ mod envelope;
 mod granted;
 mod linking;
 mod making;
+mod moments;
 mod opening;
 mod serving;
 mod shared;

@@ -51,7 +51,7 @@ pub(crate) enum Link {
     Over(Tried),
 }
 
-/// Runs the call of a message on what was granted.
+/// Runs the call of a message on what was granted, at this moment or later.
 pub(crate) fn try_on<N: TaskNode<Parcel<Files>, ParcelKinds>, G: Gate>(
     filer: &Filer,
     grant: &mut NodeGrant<Parcel<Files>, N>,
@@ -66,6 +66,8 @@ pub(crate) fn try_on<N: TaskNode<Parcel<Files>, ParcelKinds>, G: Gate>(
         HasRunSo L message moment (node_lent L grant.old) result told.new
         (node_lent L grant.new) }
 {
+    let (call, _credential) = message.asked();
+    let moment = filer.moments.of_call(call, moment);
     match run_on::<N, G>(filer, grant, &message, moment, gate, told) {
         Ended::Replied => Tried::Entered(enter(message, moment, false), None),
         Ended::Starved => Tried::Entered(enter(message, moment, true), None),

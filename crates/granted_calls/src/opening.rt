@@ -9,6 +9,7 @@ ghost use Rattle.granted_calls.specs.Filers.{layout_in, layout_known, verifier_i
 ghost use Rattle.granted_calls.specs.Filers.{HasDoneNothing, IsReady};
 
 use crate::envelope::Envelope;
+use crate::moments::Moments;
 use crate::shared::Filer;
 use crate::shared_waiting::{Pass, SharedWaiting};
 use affinity::Layout;
@@ -47,6 +48,7 @@ pub(crate) fn open(
         verifier,
         depot,
         waiting,
+        moments: Moments::new(),
     };
     Ok((filer, seat, pass))
 }

@@ -69,7 +69,8 @@ fn answer<N: Node<Parcel<Files>>, G: Gate>(
     answered(entry, told, HandleForm::Plain)
 }
 
-/// Begins the call of a message on what it tries, a node of this kind, runs it, and ends it.
+/// Begins the call of a message on what it tries, a node of this kind, runs it, at this moment or
+/// later, and ends it.
 #[inline(never)]
 fn run_message_on<N: TaskNode<Parcel<Files>, ParcelKinds>, G: Gate>(
     filer: &Filer,
@@ -94,7 +95,12 @@ fn run_message_on<N: TaskNode<Parcel<Files>, ParcelKinds>, G: Gate>(
     let mut message = message;
     let place = place_of(message.origin(), Stage::Ended);
     let mut told = starved();
-    let Ran { grant, outcome } = match run::<N, G>(filer, seat, &message, moment, gate, &mut told) {
+    let ran = run::<N, G>(filer, seat, &message, moment, gate, &mut told);
+    let Ran {
+        grant,
+        outcome,
+        moment,
+    } = match ran {
         Ok(ran) => ran,
         Err(refusal) => return Served::Refused(message, refusal),
     };
@@ -118,7 +124,7 @@ fn run_message_on<N: TaskNode<Parcel<Files>, ParcelKinds>, G: Gate>(
     }
 }
 
-/// Begins the call of a message on what it tries, runs it, and ends it.
+/// Begins the call of a message on what it tries, runs it, at this moment or later, and ends it.
 pub fn run_message<G: Gate>(
     filer: &Filer,
     seat: &mut Seat<Service>,

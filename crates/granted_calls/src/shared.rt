@@ -1,6 +1,7 @@
 //! What workers share.
 
 use crate::envelope::Envelope;
+use crate::moments::Moments;
 use crate::shared_waiting::SharedWaiting;
 use affinity::Layout;
 use depot::Depot;
@@ -8,12 +9,14 @@ use nfs_values::Verifier;
 use service::Service;
 use std::alloc::Global;
 
-/// A filer: the parcels of a layout, and the messages that wait for its workers.
+/// A filer: the parcels of a layout, the messages that wait for its workers, and when its calls
+/// run.
 pub struct Filer {
     pub alloc: Global,
     pub(crate) verifier: Verifier,
     pub depot: Depot<Service>,
     pub waiting: SharedWaiting<Envelope, Layout>,
+    pub(crate) moments: Moments,
 }
 
 // By hand, so that crates above have no proof of the drop of each of its parts.
@@ -24,6 +27,7 @@ impl Drop for Filer {
             verifier: _,
             depot: _,
             waiting: _,
+            moments: _,
         } = self;
     }
 }
@@ -40,6 +44,7 @@ impl Filer {
             verifier: _,
             depot,
             waiting: _,
+            moments: _,
         } = self;
         depot
     }

@@ -131,9 +131,10 @@ const FIRST: Ask = Ask::Write(0, 2, 0, 1, 0x63);
 const SECOND: Ask = Ask::Write(0, 2, SPAN, 1, 0x64);
 
 /// The file's attributes after both overwrites (fattr3, RFC 1813 section 2.5): its size, two
-/// blocks, and the later of both moments.
+/// blocks, and the later of both moments: the one that began before the other runs a nanosecond
+/// after it, since its clock is behind.
 const SHOWN: [u32; 22] = [
-    0, 1, 0o644, 1, 65_534, 65_534, 0, 262_145, 0, 8_192, 0, 0, 0, 0, 0, 2, 1, 0, 9, 0, 9, 0,
+    0, 1, 0o644, 1, 65_534, 65_534, 0, 262_145, 0, 8_192, 0, 0, 0, 0, 0, 2, 1, 0, 9, 1, 9, 1,
 ];
 
 /// Both are answered, that of the second worker first, and then the file is asked for.
@@ -154,15 +155,15 @@ const OVERWRITTEN: [Row; 11] = [
 /// The held stripe has a share in the word of the node above it, by which a cull is refused.
 const CULLED: Row = Row::Cull(0, Came::Busy(NAMES, 1));
 
-/// The second overwrite begins and ends in the midst of the first.
+/// The second overwrite begins and ends in the midst of the first, whose clock is behind.
 const IN_ORDER: Scene = Scene {
     before: &[
         &MADE,
         &SPANS,
         &[Row::Put(4, 5, FIRST), Row::Put(5, 6, SECOND)],
     ],
-    turn: (9, Came::Done(4)),
-    midst: &[Row::Turn(5, Came::Done(5)), CULLED],
+    turn: (5, Came::Done(4)),
+    midst: &[Row::Turn(9, Came::Done(5)), CULLED],
     second: &[],
     first: &OVERWRITTEN,
 };

@@ -40,7 +40,8 @@ impl Worker {
     ghost use Rattle.turns.specs.Words.{passed, seats_in, IsAt, IsIn};
 
     /// Tries the call of the message that is kept, or else of the one that waits longest in a
-    /// queue: begins it on what it tries, runs it, and finishes it or puts it back.
+    /// queue: begins it on what it tries, runs it, and finishes it or puts it back. A call that
+    /// changes something runs no earlier than this moment, and others at just this moment.
     pub fn turn_in<R: Wait, G: Gate>(
         &mut self,
         filer: &Filer,

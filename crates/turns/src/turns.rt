@@ -83,7 +83,8 @@ impl Worker {
     /// handles in a form. A message that was picked and tries another node is kept, for the next
     /// turn. Where the node was refused, a hint is left to who has it; and where one is left here,
     /// no more is picked. Where no message is found, none waits by both passes, and so none at all
-    /// where nobody else has a pass.
+    /// where nobody else has a pass. Calls that change something run no earlier than this moment,
+    /// and others at just this moment.
     pub fn turns_beside<R: Wait, G: Gate, H: Hint, S: AnswerSink>(
         &mut self,
         filer: &Filer,

@@ -2,7 +2,7 @@
 
 use super::lines::options_of;
 use crate::looking::holds;
-use filer_commands::{Command, Machine, command_told};
+use filer_commands::{Command, Machine, NoNames, command_told};
 use server_options::VolumePlan;
 use std::io;
 use std::process::Abort;
@@ -108,7 +108,7 @@ fn on_a_machine(
         memory,
         limit,
     };
-    match command_told(rt.alloc(), &words, machine, &mut io::sink()) {
+    match command_told(rt.alloc(), &words, machine, &NoNames, &mut io::sink()) {
         Ok(Command::Export(options)) => {
             holds(rt, options.workers == 2);
             numbers_of(rt, &options.plan)

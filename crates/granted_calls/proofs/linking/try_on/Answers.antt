@@ -1,8 +1,10 @@
 use Rattle.std.proofs.Common.{true, false, refl, ap, subst}
 use Rattle.nfs_values.specs.Reply.{reply_of}
+use Rattle.nfs_values.specs.declared.call.Call.{Call}
 use Rattle.desk.specs.Any.{node_lent}
 use Rattle.service.specs.declared.outcome.Outcome.{Outcome}
 use Rattle.granted_calls.specs.Runs.{HasRunFrom}
+use Rattle.granted_calls.specs.Moments.{RunsAt}
 use Rattle.granted_calls.specs.Filers.{layout_in}
 use Rattle.granted_calls.proofs.Runs.{moved-so, replied-so, starved-so}
 use Rattle.granted_calls.proofs.linking.try_on.Goals as goal
@@ -13,6 +15,8 @@ returns-in-Replied g c =
       ran = (
         refl,
         record {
+          moment = c.of_call-moment.result;
+          at = subst (λ (x : Call). RunsAt x c.args.moment c.of_call-moment.result) c.asked.ensures.call c.of_call-moment.ensures;
           outcome = to.outcome;
           starved = false;
           is = replied-so to.outcome c.run_on.result c.run_on.new.told to.says c.in-Replied.is;
@@ -29,6 +33,8 @@ returns-in-Starved g c =
       ran = (
         refl,
         record {
+          moment = c.of_call-moment.result;
+          at = subst (λ (x : Call). RunsAt x c.args.moment c.of_call-moment.result) c.asked.ensures.call c.of_call-moment.ensures;
           outcome = to.outcome;
           starved = true;
           is = (says.0, ap reply_of says.1);
@@ -45,6 +51,9 @@ returns-in-Moved g c =
     let says = moved-so to.outcome c.run_on.result c.run_on.new.told to.says c.in-Moved.affinity c.in-Moved.is in record {
       ran = (
         refl,
-        subst (λ (o : Outcome). HasRunFrom L c.args.message c.args.moment (node_lent L c.args.grant.now) o (node_lent L c.run_on.new.grant)) says to.ran,
+        c.of_call-moment.result,
+        subst (λ (x : Call). RunsAt x c.args.moment c.of_call-moment.result) c.asked.ensures.call c.of_call-moment.ensures,
+        subst (λ (o : Outcome). HasRunFrom L c.args.message c.of_call-moment.result (node_lent L c.args.grant.now) o (node_lent L c.run_on.new.grant)) says
+            to.ran,
       );
     }
