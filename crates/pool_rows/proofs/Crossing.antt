@@ -7,9 +7,9 @@ use denote.Param.Send.{IsSend, IsSync, sendable, shr_send}
 use denote.Param.SendFields.{as_row_send, declared_send}
 use denote.Struct.Field.{row_field}
 use denote.Struct.Tuple.{TupleAt, type_at}
-use Rattle.core.proofs.atomic.AtomicBool.TheSendSync as word
-use Rattle.core.specs.contracts.atomic.AtomicBool as AtomicBool
 use Rattle.std.proofs.Crossing.{crosses}
+use Rattle.std.proofs.sync.atomic.AtomicBool.TheSendSync as word
+use Rattle.std.specs.contracts.sync.atomic.AtomicBool as AtomicBool
 use Rattle.affinity.specs.contracts.layout.Layout as Layout
 use Rattle.nfs_values.proofs.number.ConnectionNumber.TheSendSync as number
 use Rattle.nfs_values.specs.contracts.number.ConnectionNumber as ConnectionNumber

@@ -1,5 +1,5 @@
 -- What workers of a filer and who puts messages for them have together.
-use Rattle.std.proofs.Common.{◌≡◌, ◌≤◌, ◌∙◌, ℕ, ◌+◌, ◌*◌, ◌-◌, ◌^◌, List, [], ◌∷◌, ◌++◌, ap, sym, subst, arith}
+use Rattle.std.proofs.Common.{◌≡◌, ◌≤◌, ◌∙◌, ℕ, ◌+◌, ◌*◌, ◌-◌, ◌^◌, List, [], ◌∷◌, ap, sym, subst, arith}
 use Rattle.std.proofs.lemmas.Nat.{pow-add}
 use Rattle.std.proofs.Math.Nat.{mul_assoc, mul_comm}
 use Rattle.depot_rule.specs.Sums.{total}
@@ -7,10 +7,8 @@ use Rattle.tends.specs.Shares.{share_in, AreAll, FilerPass}
 use Rattle.workers.specs.Pools.{filer_of, HasAllWith, HasBetween}
 use Rattle.workers.specs.declared.pool.Pool.{Pool}
 use Rattle.granted_calls.specs.shared_waiting.Balance.{both, left, part, right}
-use Rattle.granted_calls.specs.shared_waiting.Passes.{known, IsOf}
+use Rattle.granted_calls.specs.shared_waiting.Passes.{known}
 use Rattle.granted_calls.specs.Balance.{FilerEntry, FilerView, Passed}
-use Rattle.granted_calls.specs.Filers.{layout_known}
-use Rattle.granted_calls.specs.Messages.{Message}
 use Rattle.granted_calls.specs.declared.shared.Filer.{Filer}
 use Rattle.turns.specs.Words.{passed}
 use Rattle.turns.specs.declared.worker.Worker.{Worker}
@@ -47,15 +45,6 @@ half-again v l r a b w half is-left is-right a-stays b-stays is =
     let p = subst (λ (x : Passed). StaysPart x a) is-left a-stays 4 (quarter v half) in
     let q = subst (λ (x : Passed). StaysPart x b) is-right b-stays 4 (quarter v half) in
     subst IsHalf (sym is) (quarters a b p q)
-
-pub both-read : (filer : Filer) (first second joined : FilerPass) → IsReaderOf filer first → IsReaderOf filer second → IsOf filer.waiting joined
-    → known joined ≡ both (known first) (known second) → IsReaderOf filer joined
-both-read filer first second joined a b of is =
-    record {
-      of = of;
-      layout = ap layout_known is ∙ a.layout;
-      picked = ap (λ (v : Passed). v.picked) is ∙ ap (λ (ms : List Message). ms ++ (known second).picked) a.picked ∙ b.picked;
-    }
 
 -- ---- without threads
 
