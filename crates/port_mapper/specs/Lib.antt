@@ -1,0 +1,6 @@
+pub mod Registered
+pub mod Addresses
+pub mod Calls
+pub mod Asking
+pub mod Replies
+pub mod Answers
