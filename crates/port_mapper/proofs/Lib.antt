@@ -1,1 +1,2 @@
 mod Appends
+mod Streams

@@ -3,7 +3,6 @@ use Rattle.std.specs.Prelude.{ℕ, List, length, Option, Some, None, Result, Ok,
 use Rattle.std.specs.Global.{Vec}
 use Rattle.std.specs.declared.net.ip_addr.IpAddr.{IpAddr}
 use Rattle.port_mapper.specs.declared.registration.Registration.{Registration}
-use Rattle.port_mapper.specs.declared.outcome.Outcome.{Outcome}
 use Rattle.port_mapper.specs.declared.call.Stop.{Stop}
 use Rattle.port_mapper.specs.declared.call.Stop.TheVariants.{Silent, Refuse}
 use Rattle.port_mapper.specs.Calls.{Call, call_at, xid_at}

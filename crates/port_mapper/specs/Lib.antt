@@ -4,3 +4,4 @@ pub mod Calls
 pub mod Asking
 pub mod Replies
 pub mod Answers
+pub mod Conversations

@@ -1,7 +1,7 @@
 -- Replies as bytes (RFC 5531 sections 8.2 and 9, RFC 1833 sections 2.1 and 3.1).
 use Rattle.std.specs.Prelude.{ℕ, false, List, [], ◌++◌, Some, None, map, codes}
 use Rattle.std.specs.declared.net.ip_addr.IpAddr.{IpAddr}
-use Rattle.xdr.specs.Shape.{Shape, Word, Boolean, Chain, Value, spelling}
+use Rattle.xdr.specs.Shape.{Word, Boolean, Chain, Value, spelling}
 use Rattle.port_mapper.specs.declared.registration.Registration.{Registration}
 use Rattle.port_mapper.specs.declared.outcome.Results.{Results}
 use Rattle.port_mapper.specs.declared.outcome.Results.TheVariants as results

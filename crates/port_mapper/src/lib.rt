@@ -5,6 +5,7 @@ mod address;
 mod answering;
 mod asking;
 mod call;
+mod conversation;
 mod outcome;
 mod procedure;
 mod registration;
@@ -12,4 +13,5 @@ mod replies;
 
 pub use address::{netid_of, universal_address};
 pub use answering::{MOST_DATAGRAM, answer, answer_datagram};
+pub use conversation::{Conversation, MOST_REQUEST};
 pub use registration::{MAPPER_PORT, Protocol, Registration, beside};
