@@ -144,8 +144,8 @@ fn chosen<'a, N: Names>(
         Some(("replay", inner)) => Ok(path_in(inner)),
         Some(("serve", inner)) => options_in(inner),
         Some(("export", inner)) => {
-            let options = export_words::options_in(inner, machine, names)?;
-            Ok(Command::Export(options))
+            let exporting = export_words::exporting_in(inner, machine, names)?;
+            Ok(Command::Export(exporting))
         }
         Some(("census", inner)) => admin_words::census_in(inner, names),
         Some(("grow", inner)) => admin_words::grow_in(inner, names),
