@@ -212,8 +212,8 @@ pub fn command<'a, S: AsStr>(alloc: Global, words: &'a [S]) -> Result<Command<'a
 /// The same on a machine: where no number of workers is named, `export` has as many as processors,
 /// but at most four; where no size, its volumes have a quarter of the memory between them, or half
 /// of what a control group of the process may take, where that is less; and hosts may be named, but
-/// for `serve`. Where the words are no command it tells for people what is wrong with them and how they would be right, or the help
-/// that they ask for.
+/// for `serve`. Where the words are no command it tells for people what is wrong with them and how
+/// they would be right, or the help that they ask for.
 pub fn command_told<'a, S: AsStr, N: Names, E: Write>(
     alloc: Global,
     words: &'a [S],
