@@ -5,3 +5,4 @@ pub mod Asking
 pub mod Replies
 pub mod Answers
 pub mod Conversations
+pub mod Spelled

@@ -138,9 +138,9 @@ impl Conversation {
         }
     }
 
-    /// Takes bytes that came on a stream, and appends the records of the replies to all records that
-    /// they complete. Answers whether the stream goes on: where not, or where memory ran out, it is
-    /// to be closed. It is where a request or a reply is too long, or a fragment is.
+    /// Takes bytes that came on a stream, and appends the records of the replies to all records
+    /// that they complete. Answers whether the stream goes on: where not, or where memory ran out,
+    /// it is to be closed. It doesn't go on where a request or its reply is too long for it.
     pub fn hear(
         &mut self,
         alloc: Global,

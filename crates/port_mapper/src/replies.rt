@@ -52,8 +52,8 @@ fn put_mapping(out: &mut Vec<u8>, each: &Registration) -> Result<(), AllocError>
     )
 }
 
-/// Appends a string (RFC 4506 section 4.11). One of 2^32 bytes, which has no spelling, counts as one
-/// for which there is no memory.
+/// Appends a string (RFC 4506 section 4.11). One of 2^32 bytes, which has no spelling, counts as
+/// one for which there is no memory.
 fn put_text(out: &mut Vec<u8>, text: &[u8]) -> Result<(), AllocError>
     ensures { OnOk result (out.new.items ≡ out.old.items ++ counted text.now) }
 {

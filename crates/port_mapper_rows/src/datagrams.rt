@@ -4,9 +4,9 @@ use crate::bytes::{SERVER_PORT, holds, is_reply, spelled};
 use port_mapper::{answer_datagram, beside};
 use std::net::{IpAddr, Ipv4Addr};
 
-/// A NULL is answered. A DUMP of version 4 isn't: its reply has 532 bytes. Of these the head has 24,
-/// each of the port mapper's six entries 64, with an address of 21 characters, each of the server's
-/// two 60, with one of 19, and the end of the list 4.
+/// A NULL is answered. A DUMP of version 4 isn't: its reply has 532 bytes. Of these the head has
+/// 24, each of the port mapper's six entries 64, with an address of 21 characters, each of the
+/// server's two 60, with one of 19, and the end of the list 4.
 #[test]
 fn datagrams(rt: HostRuntime) {
     let registered = beside(SERVER_PORT);

@@ -51,9 +51,11 @@ pub(crate) fn answer_some<R: Net, P: AllowedPeers>(
     peers: &P,
 ) -> bool {
     let mut block = [0; BLOCK];
+    let mut has_come = false;
     for _datagram in 0..MOST_DATAGRAMS {
         match socket.recv_from(&mut block) {
             Ok((size, peer)) => {
+                has_come = true;
                 if peers.has(&peer.ip()) {
                     let request = &block[..size];
                     let _lost = answer_one(rt, alloc, socket, registered, request, peer);
@@ -66,5 +68,5 @@ pub(crate) fn answer_some<R: Net, P: AllowedPeers>(
             }
         }
     }
-    true
+    has_come
 }

@@ -1,5 +1,8 @@
 //! A port mapper that serves.
 
+ghost use Rattle.std.specs.Prelude.{◌≤◌, vec_len};
+ghost use Rattle.port_mapper_server.specs.declared.mapper.TheConstants.{MOST_CALLERS};
+
 use crate::caller::{Caller, Visit};
 use crate::datagrams::answer_some;
 use crate::peers::AllowedPeers;
@@ -47,6 +50,7 @@ pub struct PortMapper {
     listener: TcpListener,
     datagrams: UdpSocket,
     callers: Vec<Caller>,
+    ghost few: { vec_len callers ≤ MOST_CALLERS },
 }
 
 // By hand, so that crates above have no proof of the drop of each of its parts.
@@ -173,7 +177,8 @@ impl PortMapper {
         let reached = stream.local_addr()?.ip().to_canonical();
         let both = Interest::READABLE | Interest::WRITABLE;
         self.poll.registry().register(&mut stream, ANY, both)?;
-        if self.callers.len() < self.callers.capacity() {
+        let count = self.callers.len();
+        if count < MOST_CALLERS && count < self.callers.capacity() {
             let caller = Caller::new(self.alloc, stream, reached, now);
             self.callers.push_reserved(caller);
         }
