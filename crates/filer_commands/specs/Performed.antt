@@ -19,7 +19,8 @@ HasEnded R G contents options out =
 -- to clients that mount. Of the other commands nothing is said here.
 abbrev pub HasPerformed : (R : Type 0) → devices.Ghosts Socket → {W : Type 0} → (W → Option (List ℕ)) → Command → W → Type 0
 HasPerformed R G contents (Serve options) out = HasEnded R G contents options out
-HasPerformed R G contents (Export options) out = (run : ℕ) × HasEnded R G contents (record options { offer = export run }) out
+HasPerformed R G contents (Export exporting) out =
+    (run : ℕ) × HasEnded R G contents (record exporting.options { offer = export run }) out
 HasPerformed R G contents (Replay path) out = ⊤
 HasPerformed R G contents (Census server) out = ⊤
 HasPerformed R G contents (Grow growing) out = ⊤

@@ -1,6 +1,7 @@
 //! What a command line may ask for.
 
 use crate::admin_running::Growing;
+use crate::exporting::Exporting;
 use server_options::Options;
 use std::net::SocketAddr;
 
@@ -12,7 +13,7 @@ pub enum Command<'a> {
     /// Serve the connections of a listener.
     Serve(Options),
     /// Serve clients that mount.
-    Export(Options),
+    Export(Exporting),
     /// Tell how many blocks the volumes of a running server have.
     Census { server: SocketAddr },
     /// Add ranges to a volume of a running server.

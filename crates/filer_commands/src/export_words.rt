@@ -1,6 +1,7 @@
 //! The command line of `filer export`.
 
 use crate::byte_size::bytes_in;
+use crate::exporting::Exporting;
 use crate::limits::{
     FEWEST_INODES, MOST_CONNECTIONS, MOST_IDLE, MOST_INODES, MOST_MINUTES, MOST_RANGES,
     MOST_VOLUMES, MOST_WORKERS, USUAL_WORKERS,
@@ -95,7 +96,12 @@ fn with_guests<'a>(
         "BYTES",
         "Most bytes of replies that peers haven't taken [an eighth of all volumes, at least 64M]",
     );
-    command.arg(connections)?.arg(allow)?.arg(idle)?.arg(owed)
+    let mapper = Arg::new(alloc, "portmap")
+        .long("portmap")
+        .help("Tells where it listens at port 111, by TCP and UDP")
+        .action(ArgAction::SetTrue);
+    let command = command.arg(connections)?.arg(allow)?;
+    command.arg(idle)?.arg(owed)?.arg(mapper)
 }
 
 /// Options that say how large the volumes are.
@@ -155,7 +161,7 @@ fn with_lines<'a>(
 
 /// `export [--listen ADDR] [--volumes N] [--workers N] [--size BYTES | --ranges N]
 /// [--file-size BYTES] [--inodes N] [--connections N] [--allow NETWORK].. [--idle SECONDS]
-/// [--owed BYTES] [--log] [--stats MINUTES]`, in any order.
+/// [--owed BYTES] [--portmap] [--log] [--stats MINUTES]`, in any order.
 pub(crate) fn export<'a>(alloc: Global) -> Result<clap::Command<'a>, AllocError> {
     let listen = optional(alloc, "listen", "ADDR", "Address or host, and port").default_value(
         USUAL_ADDRESS,
@@ -345,7 +351,7 @@ fn period_in(matches: &ArgMatches<'_>) -> Option<Period> {
 
 /// What a server that clients mount is asked to do, on a machine, but for what it offers, which is
 /// of its run: without a number of connections it goes on until it is ended.
-pub(crate) fn options_in<'a, N: Names>(
+fn options_in<'a, N: Names>(
     matches: &ArgMatches<'a>,
     machine: Machine,
     names: &N,
@@ -375,4 +381,16 @@ pub(crate) fn options_in<'a, N: Names>(
         Some(period) => Ok(options.with_statistics(period)),
         None => Ok(options),
     }
+}
+
+/// What `export` is asked to do, on a machine.
+pub(crate) fn exporting_in<'a, N: Names>(
+    matches: &ArgMatches<'a>,
+    machine: Machine,
+    names: &N,
+) -> Result<Exporting, WrongValue<'a>> {
+    Ok(Exporting {
+        options: options_in(matches, machine, names)?,
+        has_port_mapper: matches.get_flag("portmap"),
+    })
 }

@@ -8,15 +8,18 @@ mod byte_size;
 mod choice;
 mod export_printing;
 mod export_words;
+mod exporting;
 mod limits;
 mod machine;
 mod names;
+mod port_mapping;
 mod running;
 mod words;
 mod wrong_value;
 
 pub use admin_running::Growing;
 pub use choice::Command;
+pub use exporting::Exporting;
 pub use machine::Machine;
 pub use names::{Names, NoNames};
 pub use running::{perform, program};

@@ -7,8 +7,10 @@ ghost use Rattle.rpc_msg.specs.Offer.{export};
 use crate::admin_running::{run_census, run_grow};
 use crate::choice::Command;
 use crate::export_printing::exports_told;
+use crate::exporting::Exporting;
 use crate::machine::{Machine, host_name};
 use crate::names::SystemNames;
+use crate::port_mapping::Mapping;
 use crate::words::{command_told, print_help};
 use connections::Device;
 use rpc_msg::Offer;
@@ -165,8 +167,8 @@ fn tell<E: Write>(err: &mut E, command: Command<'_>, fault: ProgramFault) {
             let address = options.address;
             writeln!(err, "filer serve --listen {address}: {text}")
         }
-        Command::Export(options) => {
-            let address = options.address;
+        Command::Export(exporting) => {
+            let address = exporting.options.address;
             writeln!(err, "filer export --listen {address}: {text}")
         }
         Command::Census { server } => writeln!(err, "filer census --server {server}: {text}"),
@@ -180,10 +182,10 @@ fn tell<E: Write>(err: &mut E, command: Command<'_>, fault: ProgramFault) {
 }
 
 /// Listens, tells people how to mount, and serves: until the connections that were asked for have
-/// ended, or for as long as the program runs.
+/// ended, or for as long as the program runs. A port mapper runs beside it if one is asked for.
 fn run_export<R, W, E>(
     rt: R,
-    options: &Options,
+    exporting: &Exporting,
     out: &mut W,
     err: &mut E,
 ) -> Result<u8, ProgramFault>
@@ -195,16 +197,25 @@ where
     E: Write,
     ensures status { IfOk result (λ status. status ≤ 1) }
     ensures ended { OnOk result ((run : ℕ) × HasEnded R ⟦<Socket as Device>⟧ W.contents
-        (record options.now { offer = export run }) out.new) }
+        (record exporting.now.options { offer = export run }) out.new) }
 {
+    let options = &exporting.options.with_offer(Offer::export(run_now(&rt)));
     let listener = listen(&rt, options.address, "export", err)?;
     keep_freed_memory(rt.alloc());
     let address = listener.local_addr().map_err(|_| ProgramFault::Listen)?;
-    let options = &options.with_offer(Offer::export(run_now(&rt)));
+    let mapping = if exporting.has_port_mapper {
+        Some(Mapping::start(rt, rt.alloc(), &address, options.peers, err)?)
+    } else {
+        None
+    };
     let mut name = [0; 256];
     let host = host_name(&rt, &mut name);
     let opening = exports_told(rt.alloc(), options, &address, host);
-    match serve_told(rt, rt.alloc(), &listener, options, &opening, out, err) {
+    let served = serve_told(rt, rt.alloc(), &listener, options, &opening, out, err);
+    if let Some(mapping) = mapping {
+        mapping.end(&rt);
+    }
+    match served {
         Ok(_left) => Ok(0),
         Err(fault) => Err(of_server(fault)),
     }
@@ -231,7 +242,7 @@ where
     match command {
         Command::Replay { path } => run_script(&rt, path, out, err),
         Command::Serve(options) => run_server(rt, &options, out, err),
-        Command::Export(options) => run_export(rt, &options, out, err),
+        Command::Export(exporting) => run_export(rt, &exporting, out, err),
         Command::Census { server } => run_census(&rt, server, out, err),
         Command::Grow(growing) => run_grow(&rt, growing, out, err),
         Command::Help => help_out(rt.alloc(), words, out),

@@ -144,8 +144,8 @@ fn chosen<'a, N: Names>(
         Some(("replay", inner)) => Ok(path_in(inner)),
         Some(("serve", inner)) => options_in(inner),
         Some(("export", inner)) => {
-            let options = export_words::options_in(inner, machine, names)?;
-            Ok(Command::Export(options))
+            let exporting = export_words::exporting_in(inner, machine, names)?;
+            Ok(Command::Export(exporting))
         }
         Some(("census", inner)) => admin_words::census_in(inner, names),
         Some(("grow", inner)) => admin_words::grow_in(inner, names),
@@ -212,8 +212,8 @@ pub fn command<'a, S: AsStr>(alloc: Global, words: &'a [S]) -> Result<Command<'a
 /// The same on a machine: where no number of workers is named, `export` has as many as processors,
 /// but at most four; where no size, its volumes have a quarter of the memory between them, or half
 /// of what a control group of the process may take, where that is less; and hosts may be named, but
-/// for `serve`. Where the words are no command it tells for people what is wrong with them and how they would be right, or the help
-/// that they ask for.
+/// for `serve`. Where the words are no command it tells for people what is wrong with them and how
+/// they would be right, or the help that they ask for.
 pub fn command_told<'a, S: AsStr, N: Names, E: Write>(
     alloc: Global,
     words: &'a [S],

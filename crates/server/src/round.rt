@@ -47,13 +47,13 @@ fn longest_wait<R>(lane: &Lane<Socket, R>, station: &Station) -> Option<Duration
 }
 
 /// Waits until something is to be done, and notes what is told of the sockets. It doesn't sleep
-/// while a connection is in doubt.
-fn wait<R: Wait + Clock>(rt: &R, lane: &mut Lane<Socket, R>, station: &mut Station)
+/// while a connection is in doubt. Answers whether it went on for these alone.
+fn wait<R: Wait + Clock>(rt: &R, lane: &mut Lane<Socket, R>, station: &mut Station) -> bool
     ensures { Stays lane.old lane.new }
 {
     let longest = longest_wait(lane, station);
     if longest != Some(Duration::ZERO) && read_doubted(lane, station) {
-        return;
+        return true;
     }
     match station.poll.poll(&mut station.events, longest) {
         Ok(()) => {
@@ -64,6 +64,7 @@ fn wait<R: Wait + Clock>(rt: &R, lane: &mut Lane<Socket, R>, station: &mut Stati
         // It isn't known of any reason. The lane goes on as if nothing was told.
         Err(_failed) => rt.sleep(Duration::from_millis(UNTENDED)),
     }
+    false
 }
 
 /// Opens connections of the streams that were left, if some were, in a second.
@@ -125,16 +126,16 @@ fn count<R: Clock>(
 
 /// A round: what the sockets tell and what was left is taken, each listed connection is read once,
 /// calls are run, with tends between them where a stock fell short, the replies of each listed
-/// connection are written once, and then the lane tends once if no message waits. Where others wait
-/// for a place, idle connections are closed.
+/// connection are written once, and then the lane tends once if no message waits, unless it went on
+/// for connections in doubt alone. Where others wait for a place, idle connections are closed.
 pub(crate) fn round<R: Wait + Clock>(rt: &R, lane: &mut Lane<Socket, R>, station: &mut Station)
     ensures { Stays lane.old lane.new }
 {
-    wait(rt, lane, station);
+    let is_doubting = wait(rt, lane, station);
     station.pace.patience.give_way(rt);
     let (moment, second) = (station.pace.time(rt), second_now(rt));
     let waiting = read_round(lane, station, rt, moment, second);
-    if waiting == 0 {
+    if waiting == 0 && !is_doubting {
         begin_anew(&mut station.pace, &station.common, moment);
     }
     let is_idle = run_calls(lane, &mut station.pace, &station.common, moment);
@@ -142,10 +143,10 @@ pub(crate) fn round<R: Wait + Clock>(rt: &R, lane: &mut Lane<Socket, R>, station
     count(lane, station, rt, waiting, moment);
     close_ended(lane, station, rt);
     close_idle(lane, station, rt, second);
-    if is_idle {
+    if !is_idle {
+        put_down(lane, &mut station.pace);
+    } else if !is_doubting {
         begin_anew(&mut station.pace, &station.common, moment);
         tend(lane, &mut station.pace);
-    } else {
-        put_down(lane, &mut station.pace);
     }
 }

@@ -77,7 +77,7 @@ module _ (layout : trees.Layout) (v w : FilerView) (m : Message) (moment : Momen
       → IsTold served kept turned → IsEven pass (entries_of v) (Some m) → IsEven pass (entries_of w) kept
   tried-even (serves.Done a) kept turned pass did told even =
       subst (λ (k : Option Message). IsEven pass (entries_of w) k) (sym told.0)
-      (finishes pass m moment a did.entry (entries_of v) (entries_of w) even did.entries did.is)
+      (finishes pass m did.moment a did.entry (entries_of v) (entries_of w) even did.entries did.is)
   tried-even (serves.Moved m') kept turned pass did told even =
       subst (λ (k : Option Message). IsEven pass (entries_of w) k) (sym told.0)
       (keeps pass m m' (entries_of v) (entries_of w) (λ h. ap (by_key h) did.0.message) did.1 even)

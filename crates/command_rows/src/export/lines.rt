@@ -8,7 +8,7 @@ use std::process::Abort;
 /// The options of a command line of `filer export`.
 pub(crate) fn options_of(rt: &(impl Abort + AllocGlobal), words: &[&str]) -> Options {
     match command(rt.alloc(), words) {
-        Ok(Command::Export(options)) => options,
+        Ok(Command::Export(exporting)) => exporting.options,
         _ => panic!(rt; "no export"),
     }
 }

@@ -51,7 +51,7 @@ fn a_host_is_listened_at_and_asked(rt: HostRuntime) {
     let wanted = address(&rt, "192.0.2.7:2049");
     let listen = ["filer", "export", "--listen", "files.example:2049"];
     match asked(&rt, &listen) {
-        Some(Command::Export(options)) => holds(&rt, options.address == wanted),
+        Some(Command::Export(exporting)) => holds(&rt, exporting.options.address == wanted),
         _ => panic!(&rt; "no export"),
     }
     match asked(&rt, &["filer", "census", "--server", "files.example:2049"]) {
@@ -70,10 +70,10 @@ fn all_addresses_of_a_host_are_allowed(rt: HostRuntime) {
         "--allow",
         "files.example",
     ];
-    let Some(Command::Export(options)) = asked(&rt, &words) else {
+    let Some(Command::Export(exporting)) = asked(&rt, &words) else {
         panic!(&rt; "no export");
     };
-    let Peers::Networks(networks) = options.peers else {
+    let Peers::Networks(networks) = exporting.options.peers else {
         panic!(&rt; "no networks");
     };
     for text in ["10.1.2.3", "192.0.2.7", "2001:db8::7"] {

@@ -109,9 +109,9 @@ fn on_a_machine(
         limit,
     };
     match command_told(rt.alloc(), &words, machine, &NoNames, &mut io::sink()) {
-        Ok(Command::Export(options)) => {
-            holds(rt, options.workers == 2);
-            numbers_of(rt, &options.plan)
+        Ok(Command::Export(exporting)) => {
+            holds(rt, exporting.options.workers == 2);
+            numbers_of(rt, &exporting.options.plan)
         }
         _ => panic!(rt; "no export"),
     }

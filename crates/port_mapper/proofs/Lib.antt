@@ -1,0 +1,3 @@
+mod Appends
+mod Heard
+mod Streams

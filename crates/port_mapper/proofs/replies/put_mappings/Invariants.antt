@@ -1,0 +1,11 @@
+use Rattle.std.proofs.Common.{◌≡◌, ◌++◌, drop, map}
+use Rattle.xdr.specs.Shape.{linked, spelling}
+use Rattle.port_mapper.specs.Asking.{mapping_shape}
+use Rattle.port_mapper.specs.Replies.{mapping_of}
+use Rattle.port_mapper.proofs.replies.put_mappings.Given as goal
+
+-- With what is left to be written, it is what shall be written.
+abbrev pub invariant-loop-each : goal.invariant-loop-each
+invariant-loop-each l =
+    l.out.items ++ linked (λ v. spelling mapping_shape v) (map mapping_of (drop l.each-index l.registered))
+    ≡ l.initial.out.items ++ linked (λ v. spelling mapping_shape v) (map mapping_of l.registered)
