@@ -12,7 +12,7 @@ use Rattle.granted_calls.specs.Balance.{FilerEntry, FilerView, Passed}
 use Rattle.granted_calls.specs.declared.shared.Filer.{Filer}
 use Rattle.turns.specs.Words.{passed}
 use Rattle.turns.specs.declared.worker.Worker.{Worker}
-use Rattle.pool_rows.specs.Threads.{IsAlone, IsHalf, IsPart, IsReaderOf, IsRunning, IsStill, IsUnstarted, StaysPart}
+use Rattle.pool_rows.specs.Threads.{IsAlone, IsHalf, IsPart, IsRunning, IsUnstarted, StaysPart}
 
 -- ---- halves
 
@@ -40,19 +40,13 @@ quarters a b p q =
     twice (a.share * B) (b.share * A) (A * B) (B * A) (2 ^ (a.halvings + b.halvings)) (sym (mul_assoc 4 a.share B) ∙ ap (λ n. n * B) p)
     (sym (mul_assoc 4 b.share A) ∙ ap (λ n. n * A) q) (mul_comm B A) (pow-add 2 a.halvings b.halvings)
 
-pub half-again : (v l r a b w : Passed) → IsHalf v → l ≡ left v → r ≡ right v → StaysPart l a → StaysPart r b → w ≡ both a b → IsHalf w
+pub half-again : (v l r a b w : Passed) → IsHalf v → l ≡ left v → r ≡ right v → StaysPart 4 l a → StaysPart 4 r b → w ≡ both a b → IsHalf w
 half-again v l r a b w half is-left is-right a-stays b-stays is =
-    let p = subst (λ (x : Passed). StaysPart x a) is-left a-stays 4 (quarter v half) in
-    let q = subst (λ (x : Passed). StaysPart x b) is-right b-stays 4 (quarter v half) in
+    let p = subst (λ (x : Passed). StaysPart 4 x a) is-left a-stays (quarter v half) in
+    let q = subst (λ (x : Passed). StaysPart 4 x b) is-right b-stays (quarter v half) in
     subst IsHalf (sym is) (quarters a b p q)
 
 -- ---- without threads
-
--- the worker worked on, and who puts messages has a half still
-pub still-alone : (filer : Filer) (worker worker' : Worker) (reader reader' : FilerPass) → IsAlone filer worker reader → IsStill filer worker worker'
-    → IsReaderOf filer reader' → IsHalf (known reader') → IsAlone filer worker' reader'
-still-alone filer worker worker' reader reader' o still one other =
-    record { inside = still.inside; seats = still.seats ∙ o.seats; half = still.part 2 o.half; one = one; other = other }
 
 module _ (filer : Filer) (worker : Worker) (reader : FilerPass) (o : IsAlone filer worker reader) where
   pub alone-all : (ws : List Worker) (ps : List FilerPass) → ws ≡ worker ∷ [] → ps ≡ reader ∷ [] → AreAll ws ps

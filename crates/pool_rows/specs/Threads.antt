@@ -27,19 +27,20 @@ abbrev pub IsHalf : Passed → Type 0
 IsHalf v = IsPart 2 v
 
 -- such a part before is one afterwards
-abbrev pub StaysPart : Passed → Passed → Type 0
-StaysPart v w = (n : ℕ) → IsPart n v → IsPart n w
+abbrev pub StaysPart : ℕ → Passed → Passed → Type 0
+StaysPart n v w = IsPart n v → IsPart n w
 
 -- the pass afterwards is such a one too, with the share that it had
 pub record HasPut (filer : Filer) (before after : FilerPass) : Type 0 where
   pub reader : IsReaderOf filer after
-  pub part : StaysPart (known before) (known after)
+  pub half : StaysPart 2 (known before) (known after)
+  pub quarter : StaysPart 4 (known before) (known after)
 
 -- the worker afterwards is of the filer too, with the seats and the share that it had
 pub record IsStill (filer : Filer) (before after : Worker) : Type 0 where
   pub inside : IsIn filer after
   pub seats : seats_in after ≡ seats_in before
-  pub part : StaysPart (passed before) (passed after)
+  pub half : StaysPart 2 (passed before) (passed after)
 
 -- a filer's only seat, which has this view and can be split so often, and a pass have done nothing yet; who puts messages has the rest
 pub record IsUnstarted (filer : Filer) (v : FilerView) (splits : ℕ) (pass reader : FilerPass) : Type 0 where

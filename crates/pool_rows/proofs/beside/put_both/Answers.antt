@@ -16,4 +16,4 @@ returns-clause-half g c =
     let cut = c.split_pass-first in
     let put = c.join-first in
     half-again (known c.args.reader) (known cut.result.0) (known cut.result.1) (known put.result.0) (known put.result.1) (known c.join_pass.result)
-    c.requires.half cut.ensures.first cut.ensures.second put.ensures.first.part put.ensures.second.part c.join_pass.ensures.both
+    c.requires.half cut.ensures.first cut.ensures.second put.ensures.first.quarter put.ensures.second.quarter c.join_pass.ensures.both

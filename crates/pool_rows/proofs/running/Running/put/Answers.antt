@@ -11,5 +11,5 @@ invariant_of-self g c =
       level = r.level;
       half = r.half;
       one = subst (λ (f : Filer). IsReaderOf f c.put.new.pass) c.deref.ensures c.put.ensures.reader;
-      other = c.put.ensures.part 2 r.other;
+      other = c.put.ensures.half r.other;
     }
