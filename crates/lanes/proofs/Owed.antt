@@ -435,9 +435,9 @@ module _ {D : Type 0} where
 
 module _ {D : Type 0} (messages : List Message) (slots : ℕ → Option (Connection D)) (form : HandleForm) (moment : Moment) where
   -- an entry of a connection is one reply to it
-  entry-weighs : (n : ℕ) (m : Message) (a : Addressed) (e : FilerEntry) → IsEntryOf m moment a e
+  entry-weighs : (n : ℕ) (m : Message) (at : Moment) (a : Addressed) (e : FilerEntry) → IsEntryOf m at a e
       → by_entry (of_number n) e ≡ one_if (a.connection == n)
-  entry-weighs n m a e i = ap (λ (j : Job). by_job (of_number n) j) i.call ∙ ap (λ k. one_if (k == n)) (sym i.connection)
+  entry-weighs n m at a e i = ap (λ (j : Job). by_job (of_number n) j) i.call ∙ ap (λ k. one_if (k == n)) (sym i.connection)
 
   owed-done : (s t : Standing) (boxes : Boxes) (a : Addressed) → HasDoneFrom s moment a t → AreOwed (entries_of s.view) messages boxes slots
       → AreOwed (entries_of t.view) messages (put (answer_told form a) boxes) slots
@@ -448,7 +448,7 @@ module _ {D : Type 0} (messages : List Message) (slots : ℕ → Option (Connect
       let p = put-one n (answer_told form a) boxes old.waiting old.box in
       let e = old.replies in
       let size = p.2 in
-      let one = entry-weighs n d.message a f.entry f.is in
+      let one = entry-weighs n d.message f.moment a f.entry f.is in
       let all : finished_of n (entries_of t.view) ≡ finished_of n (entries_of s.view ++ f.entry ∷ []) = ap (finished_of n) f.entries in
       let sum = total-append (by_entry (of_number n)) (entries_of s.view) (f.entry ∷ []) in record {
         waiting = p.0;

@@ -262,7 +262,7 @@ module _ {D : Type 0} (unread : D → Incoming) (written : D → Option (List �
         subst (λ (es : List FilerEntry). ∥ Story unread written layout offer lane lanes es messages (put (answer_told (form_of offer) a) boxes) slots closed ∥₁)
         (sym f.entries)
         (∥∥₁_map k (λ y. story-ends unread written layout offer lane lanes (entries_of s.view) messages boxes slots closed y f.entry a
-        (replied d.message moment a f.entry f.is) (served-one d.message moment a f.entry f.is) (subst (Once messages) f.entries once)))
+        (replied d.message f.moment a f.entry f.is) (served-one d.message f.moment a f.entry f.is) (subst (Once messages) f.entries once)))
 
     -- what was finished before is among what is finished
     once-all : (s : Standing) (answers : List Addressed) (t : Standing) → DidAll moment s answers t → Once messages (entries_of t.view)
