@@ -237,7 +237,7 @@ where
     E: Write,
     ensures status { IfOk result (λ status. status ≤ 1) }
     ensures performed { OnOk result
-        (HasPerformed R ⟦<Socket as Device>⟧ W.contents command out.new) }
+        (HasPerformed R ⟦<Socket as Device>⟧ W.contents command.entry out.new) }
 {
     match command {
         Command::Replay { path } => run_script(&rt, path, out, err),
@@ -263,7 +263,7 @@ where
     E: Write,
     ensures range { result ≤ 2 }
     ensures performed { result ≡ 0
-        → HasPerformed R ⟦<Socket as Device>⟧ W.contents command out.new }
+        → HasPerformed R ⟦<Socket as Device>⟧ W.contents command.entry out.new }
 {
     match run(rt, command, words, out, err) {
         Ok(status) => status,
