@@ -1,16 +1,20 @@
 """Worked streams for `export` with two volumes: the bytes that come and the replies, typed from
 RFC 1813, RFC 5531 and docs/SPECIFICATION.md. `vvvvvvvv vvvvvvvv` stands for the verifier of the
-run, with which each handle ends."""
+run, with which each handle ends, and `tttttttt tttttttt` for the moment of its start."""
 
-from stream_rows import ROOT, answer
+from stream_rows import answer
 
 RUN = "vvvvvvvv vvvvvvvv"
 OTHER_RUN = "01020304 05060708"
-# the root of volume 1, as ROOT but for fsid
+BEGUN = "tttttttt tttttttt"
+# the root of volume 0, and that of volume 1, by fsid
+ROOT = (
+    "00000002 000001ed 00000002 00000000 00000000 00000000 00001000 00000000 00000000 00000000"
+    f" 00000000 00000000 00000000 00000000 00000001 {BEGUN} {BEGUN} {BEGUN}"
+)
 ROOT_1 = (
     "00000002 000001ed 00000002 00000000 00000000 00000000 00001000 00000000 00000000 00000000"
-    " 00000000 00000000"
-    " 00000001 00000000 00000001 00000000 00000000 00000000 00000000 00000000 00000000"
+    f" 00000000 00000000 00000001 00000000 00000001 {BEGUN} {BEGUN} {BEGUN}"
 )
 # authsys_parms (RFC 5531, appendix A): stamp 7, the machine `m`, uid 0, gid 0, no groups
 USER_0 = "00000001 00000018 00000007 00000001 6d000000 00000000 00000000 00000000"
@@ -79,6 +83,27 @@ ROWS = [
     (f"{mount('034', '00000016', '03')} 00000005 2f766f6c 31000000", reply("018", "00000016")),
     (mount("028", "00000017", "04"), reply("018", "00000017")),
     (mount("028", "00000018", "05"), f"{reply('044', '00000018')} {PATHS} 00000000"),
+    # MNT of /vol1/ and of //; of /vol0/a and of /vol2/a, which aren't there; of /vol0/..
+    (
+        f"{mount('034', '0000006a', '01')} 00000006 2f766f6c 312f0000",
+        f"{reply('040', '0000006a')} 00000000 {handle('00000001')} 00000002 00000001 00000000",
+    ),
+    (
+        f"{mount('030', '0000006b', '01')} 00000002 2f2f0000",
+        f"{reply('040', '0000006b')} 00000000 {handle()} 00000002 00000001 00000000",
+    ),
+    (
+        f"{mount('034', '0000006c', '01')} 00000007 2f766f6c 302f6100",
+        f"{reply('01c', '0000006c')} 00000002",
+    ),
+    (
+        f"{mount('034', '0000006d', '01')} 00000007 2f766f6c 322f6100",
+        f"{reply('01c', '0000006d')} 00000002",
+    ),
+    (
+        f"{mount('034', '0000006e', '01')} 00000008 2f766f6c 302f2e2e",
+        f"{reply('01c', '0000006e')} 0000000d",
+    ),
     # procedure 6 of MOUNT, and its versions 1 and 2
     (mount("028", "00000019", "06"), reply("018", "00000019", "00000003")),
     (
@@ -274,6 +299,11 @@ LONG = [
         f"{mount('430', '00000061', '01')} 00000401 2f{'61' * 1024} 000000",
         f"{reply('01c', '00000061')} 0000003f",
     ),
+    # MNT of /vol0/ and a part of 256 bytes
+    (
+        f"{mount('134', '0000006f', '01')} 00000106 2f766f6c 302f{'61' * 256} 0000",
+        f"{reply('01c', '0000006f')} 0000003f",
+    ),
     # SYMLINK and LINK of a name of 256 bytes
     (
         f"{nfs('164', '00000062', '0a')} {handle()} 00000100 {'61' * 256} {UNSET} 00000001"
@@ -310,5 +340,6 @@ RESULTS = [
 ]
 
 
-def octets(text, verifier):
-    return bytes.fromhex(text.replace(RUN, verifier.hex()).replace(" ", ""))
+def octets(text, service):
+    text = text.replace(RUN, service.verifier.hex()).replace(BEGUN, service.begun.hex())
+    return bytes.fromhex(text.replace(" ", ""))

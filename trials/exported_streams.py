@@ -5,9 +5,10 @@ import socket
 import time
 
 from exported_rows import ASKED, LONG, RESULTS, ROWS, octets
-from peers import Differs, Server, compare, connect, hold, read_all
+from peers import Client, Differs, Server, compare, connect, hold, read_all
 from plain import Call, Stream, exporting
-from results import are_results
+from results import GETATTR, are_results
+from xdr import opaque
 
 # Procedures of NFS by which nothing changes; no call of another is to be made by a changed byte.
 CHANGE_NOTHING = (0, 1, 3, 4, 5, 10, 11, 15, 17, 19, 20)
@@ -15,7 +16,7 @@ CHANGE_NOTHING = (0, 1, 3, 4, 5, 10, 11, 15, 17, 19, 20)
 TOGETHER = 8
 # Between two pieces of a stream, so that they come apart.
 PAUSE = 0.0005
-WORKED = exporting(2, bytes(range(8, 0, -1)))
+WORKED = exporting(2, bytes(range(8, 0, -1)), bytes(range(16, 8, -1)))
 
 
 def known(found):
@@ -31,13 +32,13 @@ def plain_reader_reads_rows():
     """The worked rows through the plain reader."""
     passed, failures = 0, []
     for number, (stream, reply) in enumerate(ROWS + LONG):
-        _, _, heard = Stream(WORKED).feed(octets(stream, WORKED.verifier))
-        good = [known(found) for found in heard] == [octets(reply, WORKED.verifier)]
+        _, _, heard = Stream(WORKED).feed(octets(stream, WORKED))
+        good = [known(found) for found in heard] == [octets(reply, WORKED)]
         passed += good
         failures += [] if good else [f"the plain reader on row {number} of `export`"]
-    [asked] = Stream(WORKED).feed(octets(ASKED, WORKED.verifier))[2]
+    [asked] = Stream(WORKED).feed(octets(ASKED, WORKED))[2]
     for number, (results, are_some) in enumerate(RESULTS):
-        good = are_results(asked, octets(results, WORKED.verifier)) == are_some
+        good = are_results(asked, octets(results, WORKED)) == are_some
         passed += good
         failures += [] if good else [f"the plain reader on results {number}"]
     return passed, failures
@@ -73,9 +74,9 @@ def changed(stream):
             yield f"byte {i} changed, {name}", [stream[:i] + bytes([other]) + stream[i + 1 :]]
 
 
-def streams_of(verifier):
+def streams_of(service):
     """The rows one by one, all in one stream, and some at a time in streams that are changed."""
-    rows = [octets(stream, verifier) for stream, _ in ROWS + LONG]
+    rows = [octets(stream, service) for stream, _ in ROWS + LONG]
     for number, row in enumerate(rows):
         yield f"row {number}", [row]
     yield "all rows", [b"".join(rows)]
@@ -86,9 +87,9 @@ def streams_of(verifier):
 
 def job(task):
     """Every so manieth of these streams, each on a connection of its own."""
-    address, source, verifier, start, step = task
-    service, passed, failures = exporting(2, verifier), 0, []
-    for place, (name, pieces) in enumerate(streams_of(verifier)):
+    address, source, service, start, step = task
+    passed, failures = 0, []
+    for place, (name, pieces) in enumerate(streams_of(service)):
         if place % step != start:
             continue
         try:
@@ -101,13 +102,22 @@ def job(task):
     return passed, failures
 
 
+def begun(server):
+    """What is known of a server with the times of its roots: GETATTR of one tells them."""
+    client = Client(server.address, service=server.service)
+    shown = client.ask(GETATTR, opaque(server.service.handle(0)))
+    client.close()
+    return exporting(2, server.service.verifier, shown[-8:])
+
+
 def run(filer, pool, jobs):
     """All of it, in one run of a server."""
     passed, failures = plain_reader_reads_rows()
     try:
-        count = sum(1 for _ in streams_of(bytes(8)))
-        with Server(filer, count + 2, command="export") as server:
-            at = lambda k: (server.address, f"127.0.1.{k + 1}", server.service.verifier)
+        count = sum(1 for _ in streams_of(WORKED))
+        with Server(filer, count + 3, command="export") as server:
+            service = begun(server)
+            at = lambda k: (server.address, f"127.0.1.{k + 1}", service)
             for good, bad in pool.imap_unordered(job, [(*at(k), k, jobs) for k in range(jobs)]):
                 passed += good
                 failures += bad

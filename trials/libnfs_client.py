@@ -167,6 +167,32 @@ def another_export_is_refused(port, folder):
     raise Wrong("/vol9 is mounted")
 
 
+def directories_are_mounted(port, folder):
+    volume = Mounted(port, "/vol0")
+    volume.call("mkdir", "/below")
+    volume.call("mkdir", "/below/it")
+    (folder / "small").write_bytes(b"some bytes")
+    program("nfs-cp", str(folder / "small"), url_of(port, "/vol0/below/it/copied"))
+    for path in ("/vol0/below/it", "/vol0//below/./it/"):
+        listed = program("nfs-ls", url_of(port, path)).decode().split("\n")
+        expect([line.split()[-2:] for line in listed if line], [["10", "copied"]])
+    expect(program("nfs-cat", url_of(port, "/vol0/below/it/copied")), b"some bytes")
+    below = Mounted(port, "/vol0/below")
+    expect(below.names("/"), [".", "..", "it"])
+    expect(below.attributes("/it/copied").size, 10)
+    below.call("unlink", "/it/copied")
+    below.call("rmdir", "/it")
+    below.end()
+    volume.call("rmdir", "/below")
+    for path in ("/vol0/below", "/vol0/copied", "/vol0/.."):
+        try:
+            Mounted(port, path)
+        except OSError:
+            continue
+        raise Wrong(f"{path} is mounted")
+    volume.end()
+
+
 def directories_are_made_and_removed(port, folder):
     volume = Mounted(port, "/vol0")
     volume.call("mkdir", "/d")
@@ -265,6 +291,7 @@ CHECKS = (
     programs_copy_list_and_read,
     the_root_is_the_first_volume,
     another_export_is_refused,
+    directories_are_mounted,
     directories_are_made_and_removed,
     names_are_moved_and_removed,
     links_and_devices_are_refused,

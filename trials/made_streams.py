@@ -120,6 +120,8 @@ def path(rng):
     return opaque(
         rng.choice(
             (b"/", b"/vol0", b"/vol1", b"/vol2", b"/vol00", b"vol0", b"//vol0", b"/" + b"p" * size)
+            + (b"/vol0/", b"/./vol1/.", b"/vol0/a", b"//vol1/./b//c", b"/vol0/../vol1", b"/vol9/a")
+            + (b"/vol1/a\0", b"/vol0/" + b"p" * size)
         )
     )
 

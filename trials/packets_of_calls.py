@@ -13,7 +13,7 @@ NAMES = {
         " READDIRPLUS FSSTAT FSINFO PATHCONF COMMIT"
     ).split(),
     MOUNT: "NULL MNT DUMP UMNT UMNTALL EXPORT".split(),
-    ADMIN: "NULL CENSUS GROW".split(),
+    ADMIN: "NULL CENSUS GROW STOP".split(),
 }
 # authsys_parms (RFC 5531, appendix A): a stamp, a machine's name, uid, gid and one group
 USER = words(1) + opaque(words(7) + opaque(b"capture") + words(1000, 100, 1, 10))
@@ -164,6 +164,9 @@ def on_mounts(service):
         asked(0, status=None),
         asked(results.MNT, b"/vol0"),
         asked(results.MNT, b"/vol1"),
+        asked(results.MNT, b"//vol1/./"),
+        asked(results.MNT, b"/vol1/nothing", results.NOENT),
+        asked(results.MNT, b"/vol0/..", results.ACCES),
         asked(results.MNT, b"/nothing", results.NOENT),
         asked(results.MNT, b"nothing", results.INVAL),
         asked(results.MNT, b"/" + b"p" * 1023, results.NOENT),
@@ -177,7 +180,7 @@ def on_mounts(service):
 
 def calls(service):
     """All of them."""
-    admin = [Asked(service, ADMIN, procedure, status=None) for procedure in (0, 1)]
+    admin = [Asked(service, ADMIN, procedure, status=None) for procedure in (0, 1, 3)]
     admin.append(Asked(service, ADMIN, 2, words(0, 1)))
     refused = [Asked(service, NFS, 99, status=None, user=words(0, 0))]
     nulls = [

@@ -25,14 +25,15 @@ NOT_BASIC = (
     *LINKS_AND_DEVICES,
 )
 BASIC = {NFS: {0, *FAILURE_PARTS} - set(NOT_BASIC), ADMIN: {0, 1, 2}}
-ALL = {NFS: {0, *FAILURE_PARTS}, MOUNT: set(range(6)), ADMIN: {0, 1, 2}}
+ALL = {NFS: {0, *FAILURE_PARTS}, MOUNT: set(range(6)), ADMIN: {0, 1, 2, 3}}
 
 
 class Service:
-    """What a server offers, of how many volumes, and how its handles end."""
+    """What a server offers, of how many volumes, how its handles end, and the times of its roots."""
 
-    def __init__(self, offer, volumes, largest, verifier=b""):
+    def __init__(self, offer, volumes, largest, verifier=b"", begun=bytes(8)):
         self.offer, self.volumes, self.largest, self.verifier = offer, volumes, largest, verifier
+        self.begun = begun
 
     def handle(self, volume, fileid=1):
         return words(volume) + hyper(fileid) + self.verifier
@@ -51,9 +52,10 @@ def basic(volumes):
     return Service(BASIC, volumes, 16 * MIB)
 
 
-def exporting(volumes, verifier):
-    """`export`, whose handles have the verifier of the run."""
-    return Service(ALL, volumes, 64 * MIB, verifier)
+def exporting(volumes, verifier, begun=bytes(8)):
+    """`export`, whose handles have the verifier of the run, and whose roots the time of its start
+    where that is told."""
+    return Service(ALL, volumes, 64 * MIB, verifier, begun)
 
 
 def arguments_of_mount(r, procedure):
@@ -143,7 +145,7 @@ class Call:
     def __init__(self, service, xid, program, procedure, user, parts):
         self.service, self.xid, self.user, self.parts = service, xid, user, parts
         self.program, self.procedure = program, procedure
-        self.is_nfs = program == NFS
+        self.is_nfs, self.is_mount = program == NFS, program == MOUNT
 
     def succeeded(self, results_of_it):
         return accepted(self.xid, 0, results_of_it)
@@ -159,11 +161,15 @@ class Call:
         """The reply to a call that waits for nothing, or None."""
         if self.procedure == 0:
             return accepted(self.xid, 0)
+        if self.program == ADMIN and self.procedure == 3:
+            # AUTH_TOOWEAK: no peer of a trial has a port below 1024 but those of `stopping`
+            return denied(self.xid, 1, 5)
         if self.program == ADMIN:
             is_unknown = self.procedure == 2 and self.parts[0] >= self.service.volumes
             return self.succeeded(words(NOENT)) if is_unknown else None
-        if self.program == MOUNT:
-            return self.succeeded(results.mount_results(self.procedure, self.parts, self.service))
+        if self.is_mount:
+            told = results.mount_results(self.procedure, self.parts, self.service)
+            return None if told is None else self.succeeded(told)
         if self.procedure in LINKS_AND_DEVICES:
             return self.failure(NOTSUPP)
         if self.node() is None:
@@ -178,6 +184,8 @@ class Call:
     def of_an_empty_server(self):
         """The reply of a server with nothing but roots, to a call that changes nothing and waits;
         None where that isn't said."""
+        if self.is_mount:
+            return self.succeeded(words(results.empty_mount(self.parts[0])))
         if not self.is_nfs:
             return None
         found = results.of_an_empty_server(self)

@@ -163,6 +163,10 @@ def are_results(call, data):
                 must(status in FAILURES.get(call.procedure, (status,)))
                 for _ in range(FAILURE_PARTS[call.procedure]):
                     r.choice(0)
+        elif call.is_mount:  # MNT below a root
+            if r.word() == OK:
+                must(path_of(call.service.node(r.handle())[0])[1:] == parts_of(call.parts[0])[0])
+                must(r.fixed(12) == words(2, 1, 0))
         elif call.procedure == 1:  # CENSUS
             for _ in range(r.word()):
                 r.word(), r.hyper(), r.hyper()
@@ -181,8 +185,14 @@ def path_of(volume):
     return b"/vol%d" % volume
 
 
+def parts_of(path):
+    """What stands between the slashes of a path, but for nothing and `.`."""
+    return [part for part in path.split(b"/") if part not in (b"", b".")]
+
+
 def mount_results(procedure, parts, service):
-    """The results of MOUNT (RFC 1813, appendix I), which depend on nothing but the service."""
+    """The results of MOUNT (RFC 1813, appendix I) that depend on nothing but the service; None for
+    a MNT below the root of a volume that is there."""
     if procedure == DUMP:
         return words(0)
     if procedure == EXPORT:
@@ -195,17 +205,30 @@ def mount_results(procedure, parts, service):
         return words(NAMETOOLONG)
     if path[:1] != b"/":
         return words(INVAL)
-    named = [volume for volume in range(service.volumes) if path == path_of(volume)]
-    if path == b"/":
-        named = [0]
+    first, *others = parts_of(path) or [path_of(0)[1:]]
+    named = [volume for volume in range(service.volumes) if b"/" + first == path_of(volume)]
     if not named:
         return words(NOENT)
+    if others:
+        return None
     return words(OK) + opaque(service.handle(named[0])) + words(2, 1, 0)
 
 
-def root_attributes(volume):
-    """fattr3 of a root as a run begins: mode 0755, two links, size 4096, its volume as fsid."""
-    return words(2, 0o755, 2, 0, 0, 0, 4096, 0, 0, 0, 0, 0, volume, 0, 1, 0, 0, 0, 0, 0, 0)
+def empty_mount(path):
+    """The status of a MNT of a path below a root in which nothing was made."""
+    part = parts_of(path)[1]
+    if part == b"..":
+        return ACCES
+    if len(part) > 255:
+        return NAMETOOLONG
+    return ACCES if b"\0" in part else NOENT
+
+
+def root_attributes(service, volume):
+    """fattr3 of a root as a run begins: mode 0755, two links, size 4096, its volume as fsid, and
+    the moment of the start as all its times."""
+    attributes = words(2, 0o755, 2, 0, 0, 0, 4096, 0, 0, 0, 0, 0, volume, 0, 1)
+    return attributes + 3 * service.begun
 
 
 def empty_page(call, volume):
@@ -220,7 +243,7 @@ def empty_page(call, volume):
     page = page_of(names, names_count, call.parts[-1], PLUS if is_plus else 0)
     if page is None:
         return TOOSMALL
-    root = words(1) + root_attributes(volume)
+    root = words(1) + root_attributes(call.service, volume)
     node = root + words(1) + opaque(call.service.handle(volume)) if is_plus else b""
     told = [words(1) + hyper(1) + opaque(name) + hyper(k) + node for k, name in remaining[:page]]
     return root + bytes(8) + b"".join(told) + words(0, page == len(remaining))
@@ -228,7 +251,7 @@ def empty_page(call, volume):
 
 def empty_lookup(call, volume):
     """The results of LOOKUP in a root in which nothing was made, or a status."""
-    name, root = call.parts[1], words(1) + root_attributes(volume)
+    name, root = call.parts[1], words(1) + root_attributes(call.service, volume)
     if len(name) > 255:
         return NAMETOOLONG
     if not name or b"/" in name or b"\0" in name:
@@ -245,7 +268,7 @@ LOOKS = (GETATTR, LOOKUP, ACCESS, READDIR, READDIRPLUS, FSINFO, PATHCONF)
 def of_an_empty_server(call):
     """The results of a server with nothing but roots, or a status; None where that isn't said."""
     volume, fileid = call.node()
-    procedure, root = call.procedure, root_attributes(volume)
+    procedure, root = call.procedure, root_attributes(call.service, volume)
     if procedure not in LOOKS:
         return None
     if fileid != 1:

@@ -20,7 +20,7 @@ use Rattle.rpc_msg.specs.Handles.{call_heard}
 use Rattle.rpc_msg.specs.Records.{heard_from}
 use Rattle.rpc_msg.specs.Hearing.{AsksForBy}
 use Rattle.admin_client.specs.declared.call.AdminCall.{AdminCall}
-use Rattle.admin_client.specs.declared.call.AdminCall.TheVariants.{Census, Grow}
+use Rattle.admin_client.specs.declared.call.AdminCall.TheVariants.{Census, Grow, Stop}
 use Rattle.admin_client.specs.Asking.{arguments_of, call_bytes, model_call, procedure_of, CallFits}
 
 -- that a call's spelling is found again, as `rpc_msg` has it
@@ -41,10 +41,16 @@ grow_offered offer e =
     let one : offers_program offer 536870913 ≡ true = list_any_at test all_procedures 30 procedures.Grow (omega arith) (rw e refl) in
     rw one refl
 
+stop_offered : (offer : Offer) → offers offer procedures.Stop ≡ true → version_by offer 536870913 ≡ Some 1
+stop_offered offer e =
+    let test : Procedure → Bool = λ p. offers offer p && eqb (numbers_of p).0 536870913 in
+    let one : offers_program offer 536870913 ≡ true = list_any_at test all_procedures 31 procedures.Stop (omega arith) (rw e refl) in
+    rw one refl
+
 verifier_fits : Fits auth_shape no_verifier
 verifier_fits = (omega arith, (omega arith, omega arith))
 
-call_fits : (xid number : ℕ) → xid < 2 ^ 32 → number < 3 → Fits call_shape (call_value xid (536870913, number) 1 no_verifier no_verifier)
+call_fits : (xid number : ℕ) → xid < 2 ^ 32 → number < 4 → Fits call_shape (call_value xid (536870913, number) 1 no_verifier no_verifier)
 call_fits xid number small few =
     (small, (omega arith, (omega arith, (omega arith, (omega arith, (omega arith, (verifier_fits, verifier_fits)))))))
 
@@ -71,17 +77,29 @@ is_call offer xid (Grow volume ranges) small e = record {
   fits = call_fits xid 2 small (omega arith);
   bytes_are = refl;
 }
+is_call offer xid Stop small e = record {
+  version = 1;
+  cred = no_verifier;
+  verf = no_verifier;
+  offered = e;
+  version_is = stop_offered offer e;
+  acts_for = inl (refl, refl);
+  fits = call_fits xid 3 small (omega arith);
+  bytes_are = refl;
+}
 
 arguments_asked : (call : AdminCall) → CallFits call → asked (procedure_of call) (arguments_of call) ≡ Ok (model_call call)
 arguments_asked Census fits = asked_again procedures.Census [] model.Census (tt, (tt, refl), refl)
 arguments_asked (Grow volume ranges) fits =
     asked_again procedures.Grow (spelling growing_shape (volume.0, ranges)) (model.Grow volume.0 ranges) ((volume.0, ranges), (fits, refl), refl)
+arguments_asked Stop fits = asked_again procedures.Stop [] model.Stop (tt, (tt, refl), refl)
 
 -- it has no handle
 call_same : (form : HandleForm) (call : AdminCall) → call_heard form (model_call call) ≡ model_call call
 call_same Plain call = refl
 call_same (OfRun run) Census = refl
 call_same (OfRun run) (Grow volume ranges) = refl
+call_same (OfRun run) Stop = refl
 
 abbrev heard_as : ℕ → model.Call → Heard
 heard_as xid call = record { xid = xid; asked = model.Ask call nobody }

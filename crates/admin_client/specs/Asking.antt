@@ -9,17 +9,19 @@ use Rattle.nfs_types.specs.Arguments.{growing_shape}
 use Rattle.rpc_msg.specs.Replies.{no_verifier}
 use Rattle.rpc_msg.specs.Calls.{call_shape, call_value}
 use Rattle.admin_client.specs.declared.call.AdminCall.{AdminCall}
-use Rattle.admin_client.specs.declared.call.AdminCall.TheVariants.{Census, Grow}
+use Rattle.admin_client.specs.declared.call.AdminCall.TheVariants.{Census, Grow, Stop}
 
 -- its number among the procedures of program 0x20000001
 abbrev pub number_of : AdminCall → ℕ
 number_of Census = 1
 number_of (Grow volume ranges) = 2
+number_of Stop = 3
 
 -- its arguments: none, or a volume and how many ranges
 abbrev pub arguments_of : AdminCall → List ℕ
 arguments_of Census = []
 arguments_of (Grow volume ranges) = spelling growing_shape (volume.0, ranges)
+arguments_of Stop = []
 
 -- the message of a call of version 1, with AUTH_NONE and no body as credential and verifier
 abbrev pub call_bytes : ℕ → AdminCall → List ℕ
@@ -35,13 +37,16 @@ words_spelled words = flat_map word words
 abbrev pub procedure_of : AdminCall → Procedure
 procedure_of Census = procedures.Census
 procedure_of (Grow volume ranges) = procedures.Grow
+procedure_of Stop = procedures.Stop
 
 -- the call, as the model has it
 abbrev pub model_call : AdminCall → model.Call
 model_call Census = model.Census
 model_call (Grow volume ranges) = model.Grow volume.0 ranges
+model_call Stop = model.Stop
 
 -- its numbers are of 32 bits
 abbrev pub CallFits : AdminCall → Type 0
 CallFits Census = Unit {0}
 CallFits (Grow volume ranges) = (volume.0 < 2 ^ 32) × (ranges < 2 ^ 32)
+CallFits Stop = Unit {0}

@@ -105,6 +105,10 @@ growth_value NoRange = inr (inr (inl tt))
 growth_value TooManyRanges = inr (inr (inr (inl tt)))
 growth_value TooFewSpare = inr (inr (inr (inr (inl tt))))
 
+-- STOP: nothing
+abbrev pub stopped_value : Prim.Unit {0} → Value Void
+stopped_value u = tt
+
 abbrev pub counted_value : VolumeCount → Value count_shape
 counted_value v = count_value (count_of v)
 

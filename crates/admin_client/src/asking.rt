@@ -6,13 +6,15 @@ ghost use Rattle.nfs_types.specs.Results.{census_shape};
 ghost use Rattle.admin_client.specs.Asking.{call_bytes};
 ghost use Rattle.admin_client.specs.Incoming.{HasReply, IsOfStream};
 ghost use Rattle.admin_client.specs.Telling.{growth_shape, growth_value, census_value};
+ghost use Rattle.admin_client.specs.Telling.{stopped_value};
+ghost use Rattle.xdr.specs.Shape.{Void};
 ghost use Rattle.admin_client.specs.Over.{TellsOver};
 
 use crate::call::{AdminCall, call_record};
 use crate::fault::AdminFault;
 use crate::growth::Growth;
 use crate::incoming::next_record;
-use crate::reply::{read_census, read_growth};
+use crate::reply::{read_census, read_growth, read_stop};
 use crate::volumes::Census;
 use nfs_values::VolumeNumber;
 use std::alloc::Global;
@@ -62,4 +64,14 @@ pub fn grow<S: Read + Write>(
 {
     let reply = ask(stream, alloc, AdminCall::Grow { volume, ranges })?;
     read_growth(XID, &reply)
+}
+
+/// Asks a server over a connected stream to stop.
+pub fn stop<S: Read + Write>(stream: &mut S, alloc: Global) -> Result<(), AdminFault>
+    ensures { TellsOver Void stopped_value XID
+        (HasReply S.contents S.remaining stream.old
+        (fragment true (call_bytes XID AdminCall.Stop))) result }
+{
+    let reply = ask(stream, alloc, AdminCall::Stop)?;
+    read_stop(XID, &reply)
 }

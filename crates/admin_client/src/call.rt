@@ -26,6 +26,8 @@ pub enum AdminCall {
     Census,
     /// GROW: this many more ranges for a volume.
     Grow { volume: VolumeNumber, ranges: u32 },
+    /// STOP: the end of the server.
+    Stop,
 }
 
 /// The number of its procedure.
@@ -35,6 +37,7 @@ fn number(call: AdminCall) -> u32
     match call {
         AdminCall::Census => 1,
         AdminCall::Grow { .. } => 2,
+        AdminCall::Stop => 3,
     }
 }
 

@@ -14,12 +14,12 @@ mod refusal;
 mod reply;
 mod volumes;
 
-pub use asking::{census, grow};
+pub use asking::{census, grow, stop};
 pub use call::{AdminCall, call_record};
 pub use fault::AdminFault;
 pub use growth::Growth;
 pub use incoming::next_record;
 pub use laws::{calls_are_heard, replies_are_told, told_replies_are_spelled};
 pub use refusal::CallRefusal;
-pub use reply::{read_census, read_growth};
+pub use reply::{read_census, read_growth, read_stop};
 pub use volumes::{BlockTotals, Census};

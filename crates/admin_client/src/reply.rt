@@ -3,7 +3,8 @@
 ghost use Rattle.std.specs.Prelude.{◌≡◌};
 ghost use Rattle.nfs_types.specs.Results.{census_shape};
 ghost use Rattle.admin_client.specs.Telling.{Tells, TellsCensus, growth_shape, growth_value};
-ghost use Rattle.admin_client.specs.Telling.{results_at, told_by};
+ghost use Rattle.admin_client.specs.Telling.{results_at, stopped_value, told_by};
+ghost use Rattle.xdr.specs.Shape.{Void};
 
 use crate::counts::read_counts;
 use crate::fault::AdminFault;
@@ -47,4 +48,13 @@ pub fn read_growth(xid: u32, reply: &[u8]) -> Result<Growth, AdminFault>
     let growth = read_outcome(&mut from)?;
     from.end()?;
     Ok(growth)
+}
+
+/// What the reply to a STOP of this xid tells: nothing, where the server stops.
+pub fn read_stop(xid: u32, reply: &[u8]) -> Result<(), AdminFault>
+    ensures { Tells stopped_value result (told_by Void xid reply.now) }
+{
+    let from = results(xid, reply)?;
+    from.end()?;
+    Ok(())
 }

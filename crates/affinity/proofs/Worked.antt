@@ -2,13 +2,21 @@
 use Rattle.std.proofs.Common.{◌≡◌, ℕ, true, false, [], ◌∷◌, replicate, slice_index, Some, None, refl}
 use Rattle.nfs_model.specs.Tree.{Layout, VolumeLayout, Aggregate, Volume, Logical, Stripe, Range, range_blocks_of}
 use Rattle.affinity.specs.Fault.{fault_of, fault_without_sizes}
-use Rattle.affinity.specs.Largest.{inodes_of, largest_of}
+use Rattle.affinity.specs.Largest.{begun_of, inodes_of, largest_of, steps_of}
 use Rattle.affinity.specs.Tree.{is_above, parent_of}
 use Rattle.affinity.specs.Numbers.{node_count, number_of, parents}
 
 abbrev volume_on : ℕ → ℕ → ℕ → VolumeLayout
-volume_on aggregate ranges stripes =
-    record { aggregate = aggregate; ranges = ranges; stripes = stripes; mebibytes = 16; range_blocks = 1024; inodes = 65536 }
+volume_on aggregate ranges stripes = record {
+  aggregate = aggregate;
+  ranges = ranges;
+  stripes = stripes;
+  mebibytes = 16;
+  range_blocks = 1024;
+  inodes = 65536;
+  most_steps = 9;
+  begun = record { seconds = 8; nanoseconds = 7 };
+}
 
 abbrev two_volumes : Layout
 two_volumes = record { spare = 1 ∷ []; volumes = volume_on 0 1 8 ∷ volume_on 0 1 8 ∷ [] }
@@ -67,8 +75,7 @@ bad_ranges_before_spare_ones = refl
 abbrev one_volume : ℕ → ℕ → Layout
 one_volume stripes mebibytes = record {
   spare = 128 ∷ [];
-  volumes =
-      record { aggregate = 0; ranges = 16; stripes = stripes; mebibytes = mebibytes; range_blocks = 1024; inodes = 65536 } ∷ [];
+  volumes = record (volume_on 0 16 stripes) { mebibytes = mebibytes } ∷ [];
 }
 
 spare_ones_before_stripes : fault_of (record { spare = 129 ∷ []; volumes = volume_on 0 16 9 ∷ [] }) ≡ Some 55
@@ -105,8 +112,7 @@ parent_of_the_sixteenth_stripe = refl
 abbrev sized : ℕ → ℕ → ℕ → Layout
 sized range_blocks mebibytes inodes = record {
   spare = 128 ∷ [];
-  volumes =
-      record { aggregate = 0; ranges = 16; stripes = 8; mebibytes = mebibytes; range_blocks = range_blocks; inodes = inodes } ∷ [];
+  volumes = record (volume_on 0 16 8) { mebibytes = mebibytes; range_blocks = range_blocks; inodes = inodes } ∷ [];
 }
 
 smallest_sizes : fault_of (sized 1024 16 65536) ≡ None
@@ -143,7 +149,7 @@ inodes_one_too_many : fault_of (sized 1024 16 67108865) ≡ Some 67
 inodes_one_too_many = refl
 
 stripes_before_blocks_of_a_range :
-    fault_of (record { spare = 0 ∷ []; volumes = record { aggregate = 0; ranges = 1; stripes = 9; mebibytes = 16; range_blocks = 1; inodes = 1 } ∷ [] })
+    fault_of (record { spare = 0 ∷ []; volumes = record (volume_on 0 1 9) { range_blocks = 1; inodes = 1 } ∷ [] })
     ≡ Some 56
 stripes_before_blocks_of_a_range = refl
 
@@ -155,3 +161,15 @@ blocks_of_its_ranges = refl
 
 its_inodes : inodes_of (sized 1024 16 67108864) 0 ≡ 67108864
 its_inodes = refl
+
+its_steps : steps_of (sized 1024 16 65536) 0 ≡ 9
+its_steps = refl
+
+steps_of_no_volume : steps_of (sized 1024 16 65536) 1 ≡ 4294967295
+steps_of_no_volume = refl
+
+its_beginning : begun_of (sized 1024 16 65536) 0 ≡ record { seconds = 8; nanoseconds = 7 }
+its_beginning = refl
+
+beginning_of_no_volume : begun_of (sized 1024 16 65536) 1 ≡ record { seconds = 0; nanoseconds = 0 }
+beginning_of_no_volume = refl

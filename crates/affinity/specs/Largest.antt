@@ -1,5 +1,8 @@
--- The sizes of a volume: that of its largest file, and how many inodes it has at most.
+-- What a volume's layout says by its number: the size of its largest file, how many inodes and steps it has at most, and
+-- when it began.
 use Rattle.std.specs.Prelude.{ℕ, ◌*◌, Option, Some, None, slice_get}
+use Rattle.nfs_model.specs.Types.{Moment}
+use Rattle.nfs_model.specs.Server.{start_of_times}
 use Rattle.nfs_model.specs.Tree.{Layout, VolumeLayout}
 
 -- the mebibytes of the largest file of a volume, if there is one
@@ -23,3 +26,21 @@ inodes_in (Some v) = v.inodes
 -- the most inodes of a volume by its number
 abbrev pub inodes_of : Layout → ℕ → ℕ
 inodes_of layout volume = inodes_in (slice_get layout.volumes volume)
+
+-- the most steps of a RENAME of a directory of a volume, if there is one
+abbrev pub steps_in : Option VolumeLayout → ℕ
+steps_in None = 4294967295
+steps_in (Some v) = v.most_steps
+
+-- the most steps of a RENAME of a directory of a volume by its number
+abbrev pub steps_of : Layout → ℕ → ℕ
+steps_of layout volume = steps_in (slice_get layout.volumes volume)
+
+-- the times of the root of a volume, if there is one
+abbrev pub begun_in : Option VolumeLayout → Moment
+begun_in None = start_of_times
+begun_in (Some v) = v.begun
+
+-- the times of the root of a volume by its number
+abbrev pub begun_of : Layout → ℕ → Moment
+begun_of layout volume = begun_in (slice_get layout.volumes volume)

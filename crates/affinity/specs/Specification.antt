@@ -1,6 +1,9 @@
 -- What a layout is made from, as the model has it.
 use Rattle.std.specs.Prelude.{ℕ, List, map}
+use Rattle.nfs_model.specs.Types.{Moment}
+use Rattle.nfs_model.specs.Server.{start_of_times}
 use Rattle.nfs_model.specs.Tree as trees
+use Rattle.nfs_values.specs.Moment.{moment_of}
 use Rattle.affinity.specs.declared.specification.AggregateSpec.{AggregateSpec}
 use Rattle.affinity.specs.declared.specification.VolumeSpec.{VolumeSpec}
 use Rattle.affinity.specs.declared.specification.SizedVolumeSpec.{SizedVolumeSpec}
@@ -8,24 +11,27 @@ use Rattle.affinity.specs.declared.specification.SizedVolumeSpec.{SizedVolumeSpe
 abbrev pub spare_of : AggregateSpec → ℕ
 spare_of a = a.spare
 
--- a volume with ranges of this many blocks, and this many inodes at most
-abbrev pub volume_with : (range_blocks inodes : ℕ) → VolumeSpec → trees.VolumeLayout
-volume_with range_blocks inodes v = record {
+-- a volume with ranges of this many blocks, this many inodes and steps of a RENAME at most, and a root of this time
+abbrev pub volume_with : (range_blocks inodes most_steps : ℕ) → Moment → VolumeSpec → trees.VolumeLayout
+volume_with range_blocks inodes most_steps begun v = record {
   aggregate = v.aggregate;
   ranges = v.ranges;
   stripes = v.stripes;
   mebibytes = v.mib;
   range_blocks = range_blocks;
   inodes = inodes;
+  most_steps = most_steps;
+  begun = begun;
 }
 
--- a volume whose sizes aren't given: with ranges of 1,024 blocks, and 65,536 inodes at most
+-- a volume whose sizes aren't given: with ranges of 1,024 blocks, and 65,536 inodes at most; its steps are more than
+-- these, and its root has the start of all times
 abbrev pub volume_asked : VolumeSpec → trees.VolumeLayout
-volume_asked v = volume_with 1024 65536 v
+volume_asked v = volume_with 1024 65536 4294967295 start_of_times v
 
 -- a volume with its sizes
 abbrev pub volume_sized : SizedVolumeSpec → trees.VolumeLayout
-volume_sized v = volume_with v.range_blocks v.inodes v.volume
+volume_sized v = volume_with v.range_blocks v.inodes v.most_steps (moment_of v.begun) v.volume
 
 -- a volume of 8 stripes, with files of at most 16 mebibytes
 abbrev pub ordinary : ℕ → ℕ → trees.VolumeLayout

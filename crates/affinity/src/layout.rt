@@ -8,8 +8,9 @@ use crate::fault::LayoutFault;
 use crate::rules::check;
 use crate::sizes::{check_all, with_sizes};
 use crate::specification::{
-    AggregateSpec, INODES, MEBIBYTE, MIB, RANGE_BLOCKS, STRIPES, SizedVolumeSpec, VolumeSpec,
+    AggregateSpec, INODES, MEBIBYTE, MIB, RANGE_BLOCKS, STEPS, STRIPES, SizedVolumeSpec, VolumeSpec,
 };
+use nfs_values::Moment;
 use std::alloc::{AllocError, Global};
 
 /// The aggregates and volumes of a run, fixed for as long as it lasts.
@@ -37,7 +38,9 @@ impl Layout {
     ghost use Rattle.nfs_model.specs.volume.Ranges.{IsRangeSize};
     ghost use Rattle.affinity.specs.Specification.{layout_in, spare_of, volume_sized};
     ghost use Rattle.affinity.specs.Fault.{fault_without_sizes, rule_broken};
-    ghost use Rattle.affinity.specs.Largest.{inodes_of, largest_of, mebibytes_in};
+    ghost use Rattle.affinity.specs.Largest.{begun_of, inodes_of, largest_of, mebibytes_in};
+    ghost use Rattle.affinity.specs.Largest.{steps_of};
+    ghost use Rattle.nfs_values.specs.Moment.{moment_of};
     ghost use Rattle.affinity.specs.Layout.{layout_of};
 
     /// A layout of these aggregates and volumes, each with ranges of 1,024 blocks and at most
@@ -189,6 +192,26 @@ impl Layout {
         match self.volume(volume) {
             Some(specification) => specification.inodes,
             None => INODES,
+        }
+    }
+
+    /// The most steps of a RENAME of a directory of a volume, from a directory to its parent.
+    pub fn steps_of(&self, volume: u32) -> u32
+        ensures { result ≡ steps_of (layout_of self.now) volume }
+    {
+        match self.volume(volume) {
+            Some(specification) => specification.most_steps,
+            None => STEPS,
+        }
+    }
+
+    /// The times of the root of a volume; the start of all times for a volume that isn't there.
+    pub fn begun_of(&self, volume: u32) -> Moment
+        ensures { moment_of result ≡ begun_of (layout_of self.now) volume }
+    {
+        match self.volume(volume) {
+            Some(specification) => specification.begun,
+            None => Moment::START,
         }
     }
 }

@@ -21,5 +21,5 @@ pub use layout::Layout;
 pub use rules::{MOST_AGGREGATES, MOST_RANGES, MOST_SPARE, MOST_VOLUMES};
 pub use specification::{
     AggregateSpec, INODES, MEBIBYTE, MIB, MOST_INODES, MOST_MIB, MOST_SIZED_MIB, MOST_STRIPES,
-    RANGE_BLOCKS, STRIPES, SizedVolumeSpec, VolumeSpec,
+    RANGE_BLOCKS, STEPS, STRIPES, SizedVolumeSpec, VolumeSpec,
 };

@@ -3,6 +3,8 @@
 ghost use Rattle.std.specs.Prelude.{◌≡◌};
 ghost use Rattle.affinity.specs.Specification.{ordinary, volume_asked, volume_sized};
 
+use nfs_values::Moment;
+
 /// The stripes of an ordinary volume.
 pub const STRIPES: u32 = 8;
 
@@ -29,6 +31,10 @@ pub const INODES: u32 = 65_536;
 
 /// The most inodes that any volume may have.
 pub const MOST_INODES: u32 = 67_108_864;
+
+/// The most steps from a directory to its parent in a RENAME of a directory, of a volume that
+/// doesn't say: more than it has inodes.
+pub const STEPS: u32 = 4_294_967_295;
 
 /// An aggregate as it is laid out at the start.
 #[derive(Clone, Copy, Debug, PartialEq, Eq)]
@@ -57,6 +63,10 @@ pub struct SizedVolumeSpec {
     pub range_blocks: u32,
     /// How many inodes it may have, the root with them: 65,536 to 67,108,864.
     pub inodes: u32,
+    /// How many steps from a directory to its parent a RENAME of a directory takes at most.
+    pub most_steps: u32,
+    /// The times of its root.
+    pub begun: Moment,
 }
 
 impl VolumeSpec {
@@ -72,7 +82,8 @@ impl VolumeSpec {
         }
     }
 
-    /// The volume with ranges of 1,024 blocks, and 65,536 inodes at most.
+    /// The volume with ranges of 1,024 blocks, 65,536 inodes at most, as many steps of a RENAME as
+    /// there may be, and a root that has the start of all times.
     pub fn sized(self) -> SizedVolumeSpec
         ensures { volume_sized result ≡ volume_asked self }
     {
@@ -80,6 +91,8 @@ impl VolumeSpec {
             volume: self,
             range_blocks: RANGE_BLOCKS,
             inodes: INODES,
+            most_steps: STEPS,
+            begun: Moment::START,
         }
     }
 }

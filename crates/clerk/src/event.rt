@@ -23,6 +23,8 @@ pub enum Reason {
     SocketFailed,
     /// Nothing was heard of it for long, and others wait for its place.
     Idle,
+    /// The server stops, and its replies were written or weren't taken.
+    Stops,
 }
 
 impl Reason {
@@ -37,6 +39,7 @@ impl Reason {
             Reason::NumbersUsed => "as many records came as may be",
             Reason::SocketFailed => "its socket failed",
             Reason::Idle => "idle, and others wait for a place",
+            Reason::Stops => "the server stops",
         }
     }
 }

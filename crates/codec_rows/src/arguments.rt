@@ -42,6 +42,9 @@ const PATH: [u32; 2] = [2, 0x2f78_0000];
 /// The path `/vol0`.
 const VOLUME_PATH: [u32; 3] = [5, 0x2f76_6f6c, 0x3000_0000];
 
+/// The path `/vol1/a`.
+const BELOW_PATH: [u32; 3] = [7, 0x2f76_6f6c, 0x312f_6100];
+
 /// Cookie 3, cookieverf, dircount 512 and maxcount 8192.
 const PAGE: [u32; 6] = [0, 3, 0x0102_0304, 0x0506_0708, 512, 8192];
 
@@ -49,7 +52,7 @@ const PAGE: [u32; 6] = [0, 3, 0x0102_0304, 0x0506_0708, 512, 8192];
 const NUMBERS: [u32; 2] = [8, 1];
 
 /// Procedures with their arguments.
-const CALLS: [(&str, Procedure, &[&[u32]]); 26] = [
+const CALLS: [(&str, Procedure, &[&[u32]]); 27] = [
     ("LOOKUP", Procedure::Lookup, &[&TARGET]),
     ("REMOVE", Procedure::Remove, &[&TARGET]),
     ("RMDIR", Procedure::RemoveDirectory, &[&TARGET]),
@@ -96,6 +99,7 @@ const CALLS: [(&str, Procedure, &[&[u32]]); 26] = [
     ("MKNOD, NF3DIR", Procedure::MakeDevice, &[&TARGET, &[2]]),
     ("MKNOD, NF3LNK", Procedure::MakeDevice, &[&TARGET, &[5]]),
     ("MNT", Procedure::Mount, &[&VOLUME_PATH]),
+    ("MNT below a root", Procedure::Mount, &[&BELOW_PATH]),
     ("DUMP", Procedure::ListMounts, &[]),
     ("EXPORT", Procedure::ListExports, &[]),
     ("UMNT", Procedure::Unmount, &[&VOLUME_PATH]),
@@ -131,6 +135,11 @@ fn look_at(call: &Call) -> (bool, Procedure) {
             (is_asked, Procedure::MakeDirectory)
         }
         Call::Mount(asked) => look_at_mount(asked),
+        Call::MountBelow { root, path } => {
+            let is_root = is_handle(root, &[0, 0, 0, 1, 0, 0, 0, 0, 0, 0, 0, 1]);
+            let is_asked = is_root && are_equal(path.as_bytes(), b"/vol1/a");
+            (is_asked, Procedure::Mount)
+        }
         _ => look_at_handle(call),
     }
 }

@@ -12,6 +12,8 @@ mod handles;
 #[cfg(test)]
 mod heads;
 #[cfg(test)]
+mod paths;
+#[cfg(test)]
 mod records;
 #[cfg(test)]
 mod replies;

@@ -125,6 +125,11 @@ fn rooms_are_reached(rt: HostRuntime) {
         ranges: 1,
     };
     takes(&rt, "GROW", grow, 40);
+    let below = Call::MountBelow {
+        root: root(),
+        path: Name::new(Vec::new(rt.alloc())),
+    };
+    takes(&rt, "MNT below a root", below, 68);
 }
 
 #[test]

@@ -40,6 +40,7 @@ module _ {D S : Type 0} (unread : D → Incoming) (written : D → Option (List 
     cuts = cuts-stopped old.stopped old.stream old.kept h none;
     told = (h, refl);
     number = refl;
+    peer = refl;
     same = (refl, refl, refl, refl, refl);
   }
 
@@ -54,7 +55,7 @@ module _ {D S : Type 0} (unread : D → Incoming) (written : D → Option (List 
         heard = [];
         given = none;
         count = omega arith;
-        same = refl;
+        same = (refl, refl);
         stops = (adds-nothing offer s.reassembler, few);
       };
       none_lost = λ e. refl;
@@ -82,6 +83,7 @@ module _ {D S : Type 0} (unread : D → Incoming) (written : D → Option (List 
         (cuts-idle old.stopped old.stream old.kept none (old.few none) full law)));
     told = told;
     number = ap (λ (x : Stream). x.connection) s;
+    peer = ap (λ (x : Stream). x.peer) s;
     same = same;
   }
 
@@ -105,7 +107,8 @@ module _ {D S : Type 0} (unread : D → Incoming) (written : D → Option (List 
     given = h.taken.given;
     cuts = cuts-by old.stopped read old.stream old.kept new.stopped new.stream sink' new.kept none h;
     told = told;
-    number = h.taken.same;
+    number = h.taken.same.0;
+    peer = h.taken.same.1;
     same = same;
   }
 

@@ -1,5 +1,6 @@
 -- What contracts name of a connection.
-use Rattle.std.specs.Prelude.{ℕ, ⊤, ◌+◌, ◌-◌, ◌^◌, ◌==◌, List, Option, Some, None, length, min, max, if◌then◌else◌}
+use Rattle.std.specs.Prelude.{ℕ, Bool, ⊤, ◌+◌, ◌-◌, ◌^◌, ◌==◌, List, Option, Some, None, length, min, max, if◌then◌else◌}
+use Rattle.tcp_front.specs.declared.peer.Peer.{Peer}
 use Rattle.tcp_front.specs.declared.stream.Stopped.{Stopped}
 use Rattle.connections.specs.declared.connection.Connection.{Connection}
 use Rattle.connections.specs.declared.connection.Flags.{Flags}
@@ -16,6 +17,14 @@ calls_to c = calls_of c.device
 
 abbrev pub number_of : {D : Type 0} → Connection D → ℕ
 number_of c = c.stream.connection.0
+
+-- who is at its other end
+abbrev pub peer_of : {D : Type 0} → Connection D → Peer
+peer_of c = c.stream.peer
+
+-- whether that may stop the server
+abbrev pub is_privileged : {D : Type 0} → Connection D → Bool
+is_privileged c = c.stream.peer.is_privileged
 
 -- how many records of it were given on
 abbrev pub records_of : {D : Type 0} → Connection D → ℕ

@@ -3,24 +3,26 @@ use Rattle.std.specs.Prelude.{◌≡◌, ℕ, List, [], Option, Some, None, Resu
 use Rattle.slab.specs.Slab.{Slab, get, Updates, with_value}
 use Rattle.rpc_msg.specs.declared.offer.Offer.{Offer}
 use Rattle.outboxes.specs.Boxes.{Boxes, shut, opened}
+use Rattle.tcp_front.specs.declared.peer.Peer.{Peer}
 use Rattle.connections.specs.declared.connection.Connection.{Connection}
 use Rattle.connections.specs.declared.connection.Flags.{Flags}
 use Rattle.connections.specs.declared.writing.Sent.{Sent}
 use Rattle.connections.specs.declared.writing.Sent.TheVariants as sents
-use Rattle.connections.specs.Connections.{due_of, flagged, nothing_due, now_of, number_of}
+use Rattle.connections.specs.Connections.{due_of, flagged, nothing_due, now_of, number_of, peer_of}
 use Rattle.connections.specs.Incoming.{Incoming}
 use Rattle.connections.specs.Reading.{Reads}
 use Rattle.connections.specs.Writing.{HasWritten, Writes}
 
 -- ---- openings
 
--- A connection is open under the key that was next, over the device that was given, and with the number that was next; or the
+-- A connection is open under the key that was next, over the device that was given and to this peer, and with the number that was next; or the
 -- device came back, and nothing changed.
-abbrev pub Opens : {D : Type 0} → Slab (Connection D) → Boxes → D → Result ℕ D → Slab (Connection D) → Boxes → Type 0
-Opens {D} slab boxes device (Ok key) slab' boxes' =
+abbrev pub Opens : {D : Type 0} → Slab (Connection D) → Boxes → D → Peer → Result ℕ D → Slab (Connection D) → Boxes → Type 0
+Opens {D} slab boxes device peer (Ok key) slab' boxes' =
     (key ≡ slab.vacant_key) × (boxes' ≡ opened boxes)
-    × ((c : Connection D) × Updates slab slab' key (Some c) × (c.opened.value ≡ device) × (number_of c ≡ boxes.next))
-Opens {D} slab boxes device (Err back) slab' boxes' =
+    × ((c : Connection D) × Updates slab slab' key (Some c) × (c.opened.value ≡ device) × (number_of c ≡ boxes.next)
+    × (peer_of c ≡ peer))
+Opens {D} slab boxes device peer (Err back) slab' boxes' =
     (back ≡ device) × ((key : ℕ) → get slab' key ≡ get slab key) × (boxes' ≡ boxes)
 
 -- since this connection was opened, nothing came of it, by any offer, nothing was to be written to it, and nothing is owed to it

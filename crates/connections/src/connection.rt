@@ -12,7 +12,7 @@ use nfs_values::ConnectionNumber;
 use rpc_record::Reassembler;
 use std::alloc::Global;
 use std::snapshot::Snapshot;
-use tcp_front::{Stopped, Stream};
+use tcp_front::{Peer, Stopped, Stream};
 
 /// What a thread keeps of a connection for itself. It says nothing of the connection's bytes.
 #[derive(Clone, Copy, PartialEq, Eq, Debug)]
@@ -160,15 +160,17 @@ impl<D: Device> Connection<D> {
     ghost use Rattle.std.specs.Prelude.{[]};
     ghost use Rattle.rpc_msg.specs.declared.offer.Offer.{Offer};
     ghost use Rattle.connections.specs.Connections.{calls_to, due_of, nothing_due};
-    ghost use Rattle.connections.specs.Connections.{now_of, number_of};
+    ghost use Rattle.connections.specs.Connections.{now_of, number_of, peer_of};
     ghost use Rattle.connections.specs.Reading.{Reads};
     ghost use Rattle.connections.specs.Writing.{Writes};
 
-    /// A connection over a device of which nothing was read and to which nothing was written.
-    pub fn new(alloc: Global, device: D, number: ConnectionNumber) -> Connection<D>
+    /// A connection to a peer over a device of which nothing was read and to which nothing was
+    /// written.
+    pub fn new(alloc: Global, device: D, peer: Peer, number: ConnectionNumber) -> Connection<D>
         ensures device { now_of result ≡ device }
         ensures opened { result.opened.value ≡ device }
         ensures number { number_of result ≡ number.0 }
+        ensures peer { peer_of result ≡ peer }
         ensures calls { calls_to result ≡ 0 }
         ensures reads { (offer : Offer) → Reads offer D.unread device result [] }
         ensures writes { Writes D.written device result [] [] }
@@ -180,6 +182,7 @@ impl<D: Device> Connection<D> {
             stream: Stream {
                 alloc,
                 connection: number,
+                peer,
                 reassembler: Reassembler::new(alloc),
                 records: 0,
             },

@@ -11,16 +11,18 @@ use crate::writing::Sent;
 use outboxes::Outboxes;
 use slab::Slab;
 use std::alloc::Global;
+use tcp_front::Peer;
 
-/// Opens a connection over a device, under the next key and the next number. The device comes back
-/// where there is no memory, or where as many connections are open as may be.
+/// Opens a connection to a peer over a device, under the next key and the next number. The device
+/// comes back where there is no memory, or where as many connections are open as may be.
 pub fn open_under<D: Device>(
     connections: &mut Slab<Connection<D>>,
     alloc: Global,
     outboxes: &mut Outboxes,
     device: D,
+    peer: Peer,
 ) -> Result<usize, D>
-    ensures opens { Opens connections.old outboxes.old device result connections.new
+    ensures opens { Opens connections.old outboxes.old device peer result connections.new
         outboxes.new }
     ensures vacant { IfOk result (λ key. get connections.old key ≡ None) }
     ensures begins { IfOk result
@@ -33,7 +35,7 @@ pub fn open_under<D: Device>(
         Ok(number) => number,
         Err(_refused) => return Err(device),
     };
-    let connection = Connection::new(alloc, device, number);
+    let connection = Connection::new(alloc, device, peer, number);
     Ok(connections.insert_reserved(connection))
 }
 

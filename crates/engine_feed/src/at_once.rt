@@ -43,7 +43,9 @@ pub(crate) fn answer_at_once(alloc: Global, call: &Call, layout: &Layout) -> Ans
         Call::Unsupported(which) => Answer::Unsupported(*which),
         Call::Census => Answer::Census(Vec::new(alloc)),
         Call::Grow { .. } => Answer::Grow(Err(Status::NoEntry)),
+        Call::Stop => Answer::Stop,
         Call::Mount(call) => answer_mount(call, layout),
+        Call::MountBelow { .. } => Answer::Mount(Err(Status::NoEntry)),
     }
 }
 

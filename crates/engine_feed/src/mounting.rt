@@ -1,9 +1,8 @@
-//! Calls of MOUNT, which need no affinity (RFC 1813 appendix I).
+//! Calls of MOUNT that need no affinity (RFC 1813 appendix I): all but a MNT below a root.
 
-ghost use Rattle.std.specs.Prelude.{◌≡◌, ◌+◌, ◌≤◌, length};
-ghost use Rattle.std.specs.List.{find, range_with_len};
-ghost use Rattle.nfs_model.specs.Names.{same_name};
-ghost use Rattle.nfs_model.specs.Serial.Mount.{is_absolute, mnt, mount, names_volume};
+ghost use Rattle.std.specs.Prelude.{◌≡◌, ◌==◌, ◌≤◌, length};
+ghost use Rattle.std.specs.List.{find};
+ghost use Rattle.nfs_model.specs.Serial.Mount.{exported, mnt, mount, mounted, parts};
 ghost use Rattle.affinity.specs.Layout.{layout_of};
 ghost use Rattle.nfs_values.specs.Answer.{answer_of};
 ghost use Rattle.nfs_values.specs.Mount.{mount_call_of};
@@ -11,56 +10,34 @@ ghost use Rattle.nfs_values.specs.declared.answer.Answer.TheVariants.{Mount};
 
 use affinity::Layout;
 use nfs_values::{
-    Answer, Exports, FileHandle, Fileid, MountCall, MountResults, Named, Status, VolumeNumber,
-    export_path,
+    Answer, Exports, FileHandle, Fileid, MOST_PATH, MountCall, MountResults, Named, Status,
+    VolumeNumber, is_absolute, next_part, volume_named,
 };
 
-/// MNTPATHLEN (RFC 1813 appendix I, section 5.1.4).
-const MOST_PATH: usize = 1024;
-
-/// The fileid of a volume's root.
-const ROOT: Fileid = Fileid(1);
-
-/// Whether two paths are one.
-fn is_same(path: &[u8], other: &[u8]) -> bool
-    ensures { result ≡ same_name path.now other.now }
+/// The first of this many volumes, if there are any.
+fn first_of(volumes: u32) -> Option<u32>
+    ensures { result ≡ find (λ volume. volume == 0) (exported volumes) }
 {
-    path == other
+    if volumes == 0 { None } else { Some(0) }
 }
 
-/// Whether a path begins with `/`.
-fn is_absolute(path: &[u8]) -> bool
-    ensures { result ≡ is_absolute path.now }
+/// Which of this many volumes' roots a path is: that of the volume which its only part names, or
+/// the first one's where it has none.
+fn mounted(path: &[u8], volumes: u32) -> Option<u32>
+    requires { volumes ≤ 8 }
+    ensures { result ≡ mounted volumes (parts path.now) }
 {
-    match path.first() {
-        Some(character) => *character == b'/',
-        None => false,
+    let (part, behind) = match next_part(path) {
+        Some(next) => next,
+        None => return first_of(volumes),
+    };
+    match next_part(behind) {
+        Some(_) => None,
+        None => volume_named(part, 0, volumes),
     }
 }
 
-/// Whether a path names a volume, of at most ten.
-fn names_volume(path: &[u8], volume: u32) -> bool
-    requires { volume + 1 ≤ 10 }
-    ensures { result ≡ names_volume path.now volume }
-{
-    is_same(path, &export_path(volume)) || (is_same(path, b"/") && volume == 0)
-}
-
-/// Which of this many volumes from one on a path names.
-fn mounted(path: &[u8], first: u32, count: u32) -> Option<u32>
-    requires { first + count ≤ 10 }
-    ensures { result ≡ find (names_volume path.now) (range_with_len first count) }
-{
-    if count == 0 {
-        return None;
-    }
-    if names_volume(path, first) {
-        return Some(first);
-    }
-    mounted(path, first + 1, count - 1)
-}
-
-/// MNT, of this many volumes.
+/// MNT of a root, of this many volumes.
 fn answer_path(path: &[u8], volumes: u32) -> Result<MountResults, Status>
     requires { volumes ≤ 8 }
     ensures { answer_of (Mount result) ≡ mnt volumes path.now }
@@ -71,12 +48,12 @@ fn answer_path(path: &[u8], volumes: u32) -> Result<MountResults, Status>
     if !is_absolute(path) {
         return Err(Status::Invalid);
     }
-    let Some(volume) = mounted(path, 0, volumes) else {
+    let Some(volume) = mounted(path, volumes) else {
         return Err(Status::NoEntry);
     };
     let root = Named {
         volume: VolumeNumber(volume),
-        fileid: ROOT,
+        fileid: Fileid::ROOT,
     };
     Ok(MountResults {
         handle: FileHandle::naming(root),

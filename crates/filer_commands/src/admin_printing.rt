@@ -1,10 +1,13 @@
-//! What `census` and `grow` print.
+//! What `census`, `grow` and `stop` print.
 
 use admin_client::{AdminFault, BlockTotals, CallRefusal, Census, Growth};
 use nfs_values::VolumeNumber;
 use nfs_values::answer::VolumeCount;
 use scripts::ProgramFault;
 use std::io::{self, Write};
+
+/// The number of AUTH_TOOWEAK (auth_stat, RFC 5531 section 9).
+const TOO_WEAK: u32 = 5;
 
 /// A write that failed.
 fn of_output(_failed: io::Error) -> ProgramFault {
@@ -63,6 +66,11 @@ pub(crate) fn print_growth<W: Write>(
     Ok(false)
 }
 
+/// Prints that a server stops.
+pub(crate) fn print_stop<W: Write>(out: &mut W) -> Result<(), ProgramFault> {
+    out.write_all(b"the server stops\n").map_err(of_output)
+}
+
 /// Tells why a server doesn't do a call.
 fn tell_refusal<E: Write>(err: &mut E, refusal: CallRefusal) {
     let text = match refusal {
@@ -73,6 +81,9 @@ fn tell_refusal<E: Write>(err: &mut E, refusal: CallRefusal) {
         CallRefusal::GarbageArguments => "GARBAGE_ARGS, it can't read the call's arguments",
         CallRefusal::SystemError => "SYSTEM_ERR, it is out of memory",
         CallRefusal::RpcMismatch { .. } => "RPC_MISMATCH, it speaks another version of RPC",
+        CallRefusal::AuthError { number: TOO_WEAK } => {
+            "AUTH_TOOWEAK, only root on its machine may stop it"
+        }
         CallRefusal::AuthError { .. } => "AUTH_ERROR, it wants another credential",
     };
     let _told = writeln!(err, "the server refuses the call: {text}");

@@ -2,7 +2,7 @@
 
 ghost use Rattle.std.specs.Prelude.{◌≤◌, IfOk};
 
-use crate::admin_printing::{print_census, print_growth, tell_fault};
+use crate::admin_printing::{print_census, print_growth, print_stop, tell_fault};
 use nfs_values::VolumeNumber;
 use scripts::ProgramFault;
 use std::io::{self, ErrorKind, Read, Write};
@@ -141,6 +141,63 @@ where
         Ok(growth) => {
             let grown = print_growth(out, volume, ranges, growth)?;
             Ok(if grown { 0 } else { 1 })
+        }
+        Err(fault) => Err(tell_fault(err, fault)),
+    }
+}
+
+/// A connection to a server from a port below 1024; where there is none it is told why.
+fn reach_as_root<'a, R, E>(
+    rt: &'a R,
+    server: SocketAddr,
+    err: &mut E,
+) -> Result<Patient<'a, R>, ProgramFault>
+where
+    R: Clock + Net<Listener = TcpListener, Stream = TcpStream>,
+    E: Write,
+{
+    let stream = match low_ports::connect(rt, &server, Duration::from_secs(PATIENCE)) {
+        Ok(stream) => stream,
+        Err(error) => {
+            let _told = if error.kind() == ErrorKind::PermissionDenied {
+                writeln!(
+                    err,
+                    "only root may stop a server: no port below 1024 can be had"
+                )
+            } else {
+                writeln!(err, "no server can be reached at {server}")
+            };
+            return Err(ProgramFault::Connect);
+        }
+    };
+    match Instant::now(rt) {
+        Ok(opened) => Ok(Patient {
+            stream,
+            clock: rt,
+            opened,
+        }),
+        Err(_failed) => Err(ProgramFault::Connect),
+    }
+}
+
+/// Asks a server to stop, and prints that it does.
+pub(crate) fn run_stop<R, W, E>(
+    rt: &R,
+    server: SocketAddr,
+    out: &mut W,
+    err: &mut E,
+) -> Result<u8, ProgramFault>
+where
+    R: AllocGlobal + Clock + Net<Listener = TcpListener, Stream = TcpStream>,
+    W: Write,
+    E: Write,
+    ensures { IfOk result (λ status. status ≤ 1) }
+{
+    let mut stream = reach_as_root(rt, server, err)?;
+    match admin_client::stop(&mut stream, rt.alloc()) {
+        Ok(()) => {
+            print_stop(out)?;
+            Ok(0)
         }
         Err(fault) => Err(tell_fault(err, fault)),
     }

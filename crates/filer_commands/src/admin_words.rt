@@ -1,4 +1,4 @@
-//! The command lines of `census` and `grow`.
+//! The command lines of `census`, `grow` and `stop`.
 
 use crate::admin_running::Growing;
 use crate::choice::Command;
@@ -24,6 +24,14 @@ Example:
 
 A range has 1,024 blocks of 4,096 bytes. A volume has at most 16 ranges, and those that are added
 are taken from the spare ones of the server.";
+
+/// What stands behind the help of `stop`.
+const STOP_EXAMPLE: &str = "\
+Example:
+  filer stop
+
+It is for root on the machine of the server. The server lets nobody in any more, answers the calls
+that it has read, and ends; what it holds is lost.";
 
 /// An option that has to be given, with its value.
 fn option<'a>(alloc: Global, name: &'a str, value: &'a str, help: &'a str) -> Arg<'a> {
@@ -65,6 +73,14 @@ pub(crate) fn grow<'a>(alloc: Global) -> Result<clap::Command<'a>, AllocError> {
         .arg(server(alloc))
 }
 
+/// `stop [--server ADDR]`.
+pub(crate) fn stop<'a>(alloc: Global) -> Result<clap::Command<'a>, AllocError> {
+    clap::Command::new(alloc, "stop")
+        .about("Stops a running server of this machine")
+        .after_help(STOP_EXAMPLE)
+        .arg(server(alloc))
+}
+
 /// What `census` asks for.
 pub(crate) fn census_in<'a, N: Names>(
     matches: &ArgMatches<'a>,
@@ -91,4 +107,13 @@ pub(crate) fn grow_in<'a, N: Names>(
         })),
         _ => Err(wrong("ranges", "", NUMBER)),
     }
+}
+
+/// What `stop` asks for.
+pub(crate) fn stop_in<'a, N: Names>(
+    matches: &ArgMatches<'a>,
+    names: &N,
+) -> Result<Command<'a>, WrongValue<'a>> {
+    let server = address_in(matches, "server", names)?;
+    Ok(Command::Stop { server })
 }

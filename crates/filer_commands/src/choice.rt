@@ -18,7 +18,9 @@ pub enum Command<'a> {
     Census { server: SocketAddr },
     /// Add ranges to a volume of a running server.
     Grow(Growing),
-    /// Print the help of `export`, `census` or `grow`.
+    /// Stop a running server.
+    Stop { server: SocketAddr },
+    /// Print the help of `export`, `census`, `grow` or `stop`.
     Help,
     /// Print the version.
     Version,

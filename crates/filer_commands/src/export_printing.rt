@@ -116,10 +116,11 @@ fn write_mounts<W: fmt::Write>(
     Ok(())
 }
 
-/// What is exported, to whom, and how to mount it.
+/// What is exported, to whom, where metrics are told, if they are, and how to mount it.
 fn write_exports<W: fmt::Write>(
     lines: &mut W,
     options: &Options,
+    metrics: Option<SocketAddr>,
     reached: &Reached<'_>,
 ) -> fmt::Result {
     write_volumes(lines, options)?;
@@ -128,15 +129,19 @@ fn write_exports<W: fmt::Write>(
         lines,
         "may connect: {peers}; modes are told and guard nothing"
     )?;
+    if let Some(address) = metrics {
+        writeln!(lines, "metrics: http://{address}/metrics")?;
+    }
     write_mounts(lines, options.volumes, reached)
 }
 
-/// The lines that tell people what is exported, to whom, and how to mount it, as far as there is
-/// memory for them.
+/// The lines that tell people what is exported, to whom, where metrics are told, and how to mount
+/// it, as far as there is memory for them.
 pub(crate) fn exports_told(
     alloc: Global,
     options: &Options,
     address: &SocketAddr,
+    metrics: Option<SocketAddr>,
     host: Option<&str>,
 ) -> String {
     let mut lines = String::new(alloc);
@@ -144,6 +149,6 @@ pub(crate) fn exports_told(
         address: *address,
         host,
     };
-    let _told = write_exports(&mut lines, options, &reached);
+    let _told = write_exports(&mut lines, options, metrics, &reached);
     lines
 }

@@ -140,7 +140,7 @@ what the control group may take]",
     command.arg(size)?.arg(files)?.arg(inodes)?.arg(ranges)
 }
 
-/// Options that say what is told on standard error.
+/// Options that say what is told of it, on standard error or by HTTP.
 fn with_lines<'a>(
     alloc: Global,
     command: clap::Command<'a>,
@@ -156,12 +156,18 @@ fn with_lines<'a>(
         "Tells so often what was served, 1 to 1440 [never]",
     )
     .value_parser(value_parser!(u64).range(1..=MOST_MINUTES));
-    command.arg(log)?.arg(statistics)
+    let metrics = optional(
+        alloc,
+        "metrics",
+        "ADDR",
+        "Address and port where metrics are told, by HTTP at /metrics [none]",
+    );
+    command.arg(log)?.arg(statistics)?.arg(metrics)
 }
 
 /// `export [--listen ADDR] [--volumes N] [--workers N] [--size BYTES | --ranges N]
 /// [--file-size BYTES] [--inodes N] [--connections N] [--allow NETWORK].. [--idle SECONDS]
-/// [--owed BYTES] [--portmap] [--log] [--stats MINUTES]`, in any order.
+/// [--owed BYTES] [--portmap] [--log] [--stats MINUTES] [--metrics ADDR]`, in any order.
 pub(crate) fn export<'a>(alloc: Global) -> Result<clap::Command<'a>, AllocError> {
     let listen = optional(alloc, "listen", "ADDR", "Address or host, and port").default_value(
         USUAL_ADDRESS,
@@ -383,6 +389,17 @@ fn options_in<'a, N: Names>(
     }
 }
 
+/// Where metrics are told, if they are.
+fn metrics_in<'a, N: Names>(
+    matches: &ArgMatches<'a>,
+    names: &N,
+) -> Result<Option<SocketAddr>, WrongValue<'a>> {
+    match matches.get_str("metrics") {
+        Some(_text) => Ok(Some(address_in(matches, "metrics", names)?)),
+        None => Ok(None),
+    }
+}
+
 /// What `export` is asked to do, on a machine.
 pub(crate) fn exporting_in<'a, N: Names>(
     matches: &ArgMatches<'a>,
@@ -392,5 +409,6 @@ pub(crate) fn exporting_in<'a, N: Names>(
     Ok(Exporting {
         options: options_in(matches, machine, names)?,
         has_port_mapper: matches.get_flag("portmap"),
+        metrics: metrics_in(matches, names)?,
     })
 }

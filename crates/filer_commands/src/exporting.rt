@@ -1,6 +1,7 @@
 //! What `export` is asked to do.
 
 use server_options::Options;
+use std::net::SocketAddr;
 
 /// A server that clients mount, and what runs beside it.
 #[derive(Clone, Copy)]
@@ -8,4 +9,6 @@ pub struct Exporting {
     pub options: Options,
     /// Whether a port mapper tells where it listens.
     pub has_port_mapper: bool,
+    /// Where metrics are told, if they are.
+    pub metrics: Option<SocketAddr>,
 }

@@ -11,6 +11,7 @@ mod export_words;
 mod exporting;
 mod limits;
 mod machine;
+mod metrics;
 mod names;
 mod port_mapping;
 mod running;

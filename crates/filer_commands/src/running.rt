@@ -3,19 +3,21 @@
 ghost use Rattle.std.specs.Prelude.{◌≡◌, ◌≤◌, IfOk, OnOk, ℕ};
 ghost use Rattle.filer_commands.specs.Performed.{HasEnded, HasPerformed};
 ghost use Rattle.rpc_msg.specs.Offer.{export};
+ghost use Rattle.nfs_values.specs.declared.moment.Moment.{Moment};
 
-use crate::admin_running::{run_census, run_grow};
+use crate::admin_running::{run_census, run_grow, run_stop};
 use crate::choice::Command;
 use crate::export_printing::exports_told;
 use crate::exporting::Exporting;
 use crate::machine::{Machine, host_name};
+use crate::metrics;
 use crate::names::SystemNames;
 use crate::port_mapping::Mapping;
 use crate::words::{command_told, print_help};
 use connections::Device;
 use rpc_msg::Offer;
 use scripts::{ProgramFault, print_fault, replay};
-use server::{ServerFault, Socket, run_now, serve, serve_told};
+use server::{ServerFault, Socket, begun_now, run_now, serve, serve_told};
 use server_options::Options;
 use std::alloc::{AllocError, Global};
 use std::convert::AsStr;
@@ -110,7 +112,7 @@ where
 {
     let listener = listen(&rt, options.address, "serve", err)?;
     keep_freed_memory(rt.alloc());
-    match serve(rt, rt.alloc(), &listener, options, out) {
+    match serve(rt, rt.alloc(), listener, options, out) {
         Ok(_left) => Ok(0),
         Err(fault) => Err(of_server(fault)),
     }
@@ -176,13 +178,15 @@ fn tell<E: Write>(err: &mut E, command: Command<'_>, fault: ProgramFault) {
             let server = growing.server;
             writeln!(err, "filer grow --server {server}: {text}")
         }
+        Command::Stop { server } => writeln!(err, "filer stop --server {server}: {text}"),
         Command::Help => writeln!(err, "filer --help: {text}"),
         Command::Version => writeln!(err, "filer version: {text}"),
     };
 }
 
 /// Listens, tells people how to mount, and serves: until the connections that were asked for have
-/// ended, or for as long as the program runs. A port mapper runs beside it if one is asked for.
+/// ended, until it is asked to stop, or for as long as the program runs. A port mapper runs beside
+/// it, and metrics are told, where they are asked for.
 fn run_export<R, W, E>(
     rt: R,
     exporting: &Exporting,
@@ -196,13 +200,19 @@ where
     W: Write,
     E: Write,
     ensures status { IfOk result (λ status. status ≤ 1) }
-    ensures ended { OnOk result ((run : ℕ) × HasEnded R ⟦<Socket as Device>⟧ W.contents
-        (record exporting.now.options { offer = export run }) out.new) }
+    ensures ended { OnOk result ((run : ℕ) × (begun : Moment)
+        × HasEnded R ⟦<Socket as Device>⟧ W.contents
+        (record exporting.now.options { offer = export run; begun = begun }) out.new) }
 {
-    let options = &exporting.options.with_offer(Offer::export(run_now(&rt)));
+    let offer = Offer::export(run_now(&rt));
+    let options = &exporting
+        .options
+        .with_offer(offer)
+        .with_begun(begun_now(&rt));
     let listener = listen(&rt, options.address, "export", err)?;
     keep_freed_memory(rt.alloc());
     let address = listener.local_addr().map_err(|_| ProgramFault::Listen)?;
+    let metrics = metrics::bind(&rt, rt.alloc(), exporting.metrics, err)?;
     let mapping = if exporting.has_port_mapper {
         Some(Mapping::start(rt, rt.alloc(), &address, options.peers, err)?)
     } else {
@@ -210,8 +220,18 @@ where
     };
     let mut name = [0; 256];
     let host = host_name(&rt, &mut name);
-    let opening = exports_told(rt.alloc(), options, &address, host);
-    let served = serve_told(rt, rt.alloc(), &listener, options, &opening, out, err);
+    let told_at = metrics::address_of(&metrics);
+    let opening = exports_told(rt.alloc(), options, &address, told_at, host);
+    let served = serve_told(
+        rt,
+        rt.alloc(),
+        listener,
+        options,
+        &opening,
+        metrics,
+        out,
+        err,
+    );
     if let Some(mapping) = mapping {
         mapping.end(&rt);
     }
@@ -245,6 +265,7 @@ where
         Command::Export(exporting) => run_export(rt, &exporting, out, err),
         Command::Census { server } => run_census(&rt, server, out, err),
         Command::Grow(growing) => run_grow(&rt, growing, out, err),
+        Command::Stop { server } => run_stop(&rt, server, out, err),
         Command::Help => help_out(rt.alloc(), words, out),
         Command::Version => print_version(out),
     }

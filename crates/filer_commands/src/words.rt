@@ -1,6 +1,6 @@
 //! The command line.
 
-use crate::admin_words::{self, census, grow};
+use crate::admin_words::{self, census, grow, stop};
 use crate::choice::Command;
 use crate::export_words::{self, address_in, export};
 use crate::limits::{MOST_CONNECTIONS, MOST_VOLUMES, MOST_WORKERS, USUAL_WORKERS};
@@ -22,7 +22,8 @@ Examples:
   filer serve --listen 127.0.0.1:2049 --volumes 1 --workers 2 --connections 1
   filer export
   filer census
-  filer grow --volume 0 --ranges 1";
+  filer grow --volume 0 --ranges 1
+  filer stop";
 
 const REPLAY_EXAMPLE: &str = "\
 Example:
@@ -113,6 +114,7 @@ fn declared<'a>(alloc: Global) -> Result<clap::Command<'a>, AllocError> {
         .subcommand(export(alloc)?)?
         .subcommand(census(alloc)?)?
         .subcommand(grow(alloc)?)?
+        .subcommand(stop(alloc)?)?
         .subcommand(version(alloc))
 }
 
@@ -149,6 +151,7 @@ fn chosen<'a, N: Names>(
         }
         Some(("census", inner)) => admin_words::census_in(inner, names),
         Some(("grow", inner)) => admin_words::grow_in(inner, names),
+        Some(("stop", inner)) => admin_words::stop_in(inner, names),
         _ => Ok(Command::Version),
     }
 }

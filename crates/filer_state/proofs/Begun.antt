@@ -7,6 +7,7 @@ use Rattle.std.specs.FinMap as maps
 use Rattle.std.specs.FinMap.{FinMap, insert, from_sorted, get-from_sorted, get-insert, get-empty, nat_cmp-IsAntisymmetric, same_map}
 use Rattle.std.specs.FinSet as sets
 use Rattle.std.specs.FinSet.{FinSet}
+use Rattle.nfs_model.specs.Types.{Moment}
 use Rattle.nfs_model.specs.volume.Directories.{DirectoryValue, empty_directory}
 use Rattle.nfs_model.specs.volume.Inodes.{InodesValue, opening_inodes}
 use Rattle.nfs_model.specs.volume.Logical.{LogicalValue}
@@ -31,26 +32,29 @@ pub stripe-begun : (verifier : List ℕ) (stripes largest : ℕ) (made s : Strip
 stripe-begun verifier stripes largest made s is with_card =
     with_card ∙ ap (directory_card_set root) is ∙ (λ j. record (empty_stripe verifier stripes largest) { cards = single-insert root OfDirectory j })
 
-module _ (verifier : List ℕ) (stripes largest most size : ℕ) where
+module _ (verifier : List ℕ) (stripes largest most steps : ℕ) (begun : Moment) (size : ℕ) where
   -- of these parts
-  abbrev pub logical_of : (s l m : ℕ) → InodesValue → FinMap nat_cmp DirectoryValue → FinSet nat_cmp → DeadValue → LogicalValue
-  logical_of s l m inodes directories stock dead = record {
+  abbrev pub logical_of : (s l m t : ℕ) → InodesValue → FinMap nat_cmp DirectoryValue → FinSet nat_cmp → DeadValue → LogicalValue
+  logical_of s l m t inodes directories stock dead = record {
     verifier = verifier;
     stripes = s;
     largest = l;
     most_inodes = m;
+    most_steps = t;
     inodes = inodes;
     directories = directories;
     stock = stock;
     dead = dead;
   }
 
-  pub logical-begun : (s l m n : ℕ) → s ≡ stripes → l ≡ largest → m ≡ most → n ≡ size
+  pub logical-begun : (s l m t n : ℕ) → s ≡ stripes → l ≡ largest → m ≡ most → t ≡ steps → n ≡ size
+      → (b : Moment) → b ≡ begun
       → (inodes : InodesValue) (none directories : FinMap nat_cmp DirectoryValue) (d : DirectoryValue) (stock : FinSet nat_cmp) (dead : DeadValue)
-      → inodes ≡ opening_inodes → none ≡ maps.empty → d ≡ empty_directory → directories ≡ insert none root d → stock ≡ sets.empty → dead ≡ no_dead n
-      → logical_of s l m inodes directories stock dead ≡ opening_logical verifier stripes largest most size
-  logical-begun s l m n s_is l_is m_is n_is inodes none directories d stock dead inodes_are nothing empty with_root no_stock none_dead =
+      → inodes ≡ opening_inodes b → none ≡ maps.empty → d ≡ empty_directory → directories ≡ insert none root d → stock ≡ sets.empty → dead ≡ no_dead n
+      → logical_of s l m t inodes directories stock dead ≡ opening_logical verifier stripes largest most steps begun size
+  logical-begun s l m t n s_is l_is m_is t_is n_is b b_is inodes none directories d stock dead inodes_are nothing empty with_root no_stock none_dead =
       let directories_are : directories ≡ from_sorted ((root, empty_directory) ∷ []) =
       with_root ∙ (λ j. insert (nothing j) root (empty j)) ∙ single-insert root empty_directory in
       let dead_is : dead ≡ no_dead size = none_dead ∙ ap no_dead n_is in
-      λ j. logical_of (s_is j) (l_is j) (m_is j) (inodes_are j) (directories_are j) (no_stock j) (dead_is j)
+      let begun_are : inodes ≡ opening_inodes begun = inodes_are ∙ ap opening_inodes b_is in
+      λ j. logical_of (s_is j) (l_is j) (m_is j) (t_is j) (begun_are j) (directories_are j) (no_stock j) (dead_is j)

@@ -8,6 +8,7 @@ logical_value l = record {
   stripes = l.stripes;
   largest = l.largest;
   most_inodes = l.most_inodes;
+  most_steps = l.most_steps;
   inodes = l.inodes;
   directories = l.directories;
   stock = l.stock;

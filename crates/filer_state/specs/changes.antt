@@ -13,6 +13,7 @@ pub use Rattle.filer_state.specs.names.lemmas.Lookup as LookupLemmas
 pub use Rattle.filer_state.specs.names.lemmas.Listing as ListingLemmas
 pub use Rattle.filer_state.specs.names.lemmas.ListingPlus as ListingPlusLemmas
 pub use Rattle.filer_state.specs.names.lemmas.Objects as ObjectLemmas
+pub use Rattle.filer_state.specs.names.lemmas.Mount as MountLemmas
 pub use Rattle.filer_state.specs.nodes.Making as NodesMade
 pub use Rattle.filer_state.specs.nodes.Dropping as NodesDropped
 pub use Rattle.filer_state.specs.nodes.Moving as NodesMoved

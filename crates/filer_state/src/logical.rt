@@ -20,6 +20,8 @@ pub struct Logical {
     pub largest: u64,
     /// The most inodes of the volume, the root with them.
     pub most_inodes: u32,
+    /// How many steps from a directory to its parent a RENAME of a directory takes at most.
+    pub most_steps: u32,
     pub inodes: Inodes,
     /// By their fileids.
     pub directories: DirectoryMap,

@@ -2,7 +2,7 @@
 
 ghost use Rattle.std.specs.Prelude.{◌≡◌, ◌<◌, [], IfOk, slice_get, slice_index_or};
 ghost use Rattle.affinity.specs.Affinity.{affinity_of};
-ghost use Rattle.affinity.specs.Largest.{inodes_of, largest_of};
+ghost use Rattle.affinity.specs.Largest.{begun_of, inodes_of, largest_of, steps_of};
 ghost use Rattle.affinity.specs.Layout.{layout_of};
 ghost use Rattle.affinity.specs.Numbers.{parents};
 ghost use Rattle.affinity.specs.Tree.{IsNode};
@@ -115,7 +115,8 @@ fn ranges_of(layout: &Layout, volume: u32) -> u32
     }
 }
 
-/// What a volume has but for its stripes and ranges: its root directory, without entries.
+/// What a volume has but for its stripes and ranges: its root directory, without entries, as old as
+/// the volume.
 fn opening_logical(
     alloc: Global,
     layout: &Layout,
@@ -124,7 +125,7 @@ fn opening_logical(
 ) -> Result<LogicalParcel, AllocError>
     ensures { let L = layout_of layout.now in IfOk result (λ parcel. parcel ≡
         opening_logical verifier.0 (stripes_of L volume) (largest_of L volume)
-        (inodes_of L volume) (range_blocks_of L volume)) }
+        (inodes_of L volume) (steps_of L volume) (begun_of L volume) (range_blocks_of L volume)) }
 {
     let mut directories = DirectoryMap::new(alloc);
     directories.insert(Fileid::ROOT, Directory::new(alloc))?;
@@ -133,7 +134,8 @@ fn opening_logical(
         stripes: layout.stripes_of(volume),
         largest: layout.largest_of(volume),
         most_inodes: layout.inodes_of(volume),
-        inodes: Inodes::new(alloc)?,
+        most_steps: layout.steps_of(volume),
+        inodes: Inodes::new(alloc, layout.begun_of(volume))?,
         directories,
         stock: Stock::new(alloc),
         dead: DeadBlocks::new(alloc, layout.range_blocks_of(volume))?,

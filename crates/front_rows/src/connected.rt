@@ -16,6 +16,7 @@ use nfs_values::ConnectionNumber;
 use rpc_msg::Offer;
 use std::mem;
 use std::process::Abort;
+use tcp_front::Peer;
 
 /// More calls than a stream takes.
 const MANY: usize = 2_000;
@@ -65,7 +66,10 @@ pub(crate) fn device(
 
 /// A connection over a device.
 fn connection(rt: &impl AllocGlobal, device: Memory) -> Connection<Memory> {
-    Connection::new(rt.alloc(), device, ConnectionNumber(0))
+    let peer = Peer {
+        is_privileged: false,
+    };
+    Connection::new(rt.alloc(), device, peer, ConnectionNumber(0))
 }
 
 /// Reads until the device is at its end or fails, or the reading stopped. Answers what came last.

@@ -6,8 +6,8 @@ ghost use Rattle.affinity.specs.Layout.{layout_of};
 use crate::devices::Cut;
 use crate::gathered::Gathered;
 use crate::texts::{
-    BADHANDLE_REPLY, GETATTR, GETATTR_ASTRAY, NO_CALL, NO_PROGRAM, NO_PROGRAM_REPLY, NULL,
-    NULL_IN_TWO, NULL_REPLY, SHORT, TOO_LONG,
+    BADHANDLE_REPLY, GETATTR, GETATTR_ASTRAY, NO_CALL, NO_PROGRAM, NO_PROGRAM_REPLY, NO_STOP_REPLY,
+    NULL, NULL_IN_TWO, NULL_REPLY, SHORT, STOP, STOP_REPLY, TOO_LONG, TOO_WEAK_REPLY,
 };
 use affinity::{AggregateSpec, CallNode, Layout, VolumeSpec};
 use nfs_values::ConnectionNumber;
@@ -15,7 +15,7 @@ use rpc_msg::Offer;
 use std::mem;
 use std::process::Abort;
 use std::sync::Wait;
-use tcp_front::{Counted, read_loop};
+use tcp_front::{Counted, Peer, read_loop};
 
 /// What a stream comes to.
 #[derive(Drop)]
@@ -162,8 +162,14 @@ fn are_replies(rt: &(impl Abort + AllocGlobal), sink: &mut Gathered, replies: &[
     assert!(rt; sink.outboxes.take(connection).is_none());
 }
 
-/// Reads the stream of a row, at most this many bytes at once.
-pub(crate) fn read(rt: &(impl Abort + AllocGlobal + Wait), row: &Row, size: usize) {
+/// Reads the stream of a row, at most this many bytes at once, by what is offered and of a peer.
+fn read_of(
+    rt: &(impl Abort + AllocGlobal + Wait),
+    row: &Row,
+    size: usize,
+    offer: Offer,
+    peer: Peer,
+) {
     let stream = bytes_of(rt, row.stream);
     let layout = layout(rt);
     let mut sink = sink(rt, &layout);
@@ -173,7 +179,6 @@ pub(crate) fn read(rt: &(impl Abort + AllocGlobal + Wait), row: &Row, size: usiz
         reads: row.reads,
     });
     let connection = ConnectionNumber(0);
-    let offer = Offer::basic();
     let end = read_loop(
         rt,
         rt.alloc(),
@@ -181,6 +186,7 @@ pub(crate) fn read(rt: &(impl Abort + AllocGlobal + Wait), row: &Row, size: usiz
         &layout,
         offer,
         connection,
+        peer,
         &mut sink,
     );
     assert!(rt; end.number() == row.end);
@@ -189,6 +195,50 @@ pub(crate) fn read(rt: &(impl Abort + AllocGlobal + Wait), row: &Row, size: usiz
     are_replies(rt, &mut sink, row.replies);
     mem::forget(reader);
     mem::forget((stream, layout, sink));
+}
+
+/// The same by the basic offer, of a peer that isn't privileged.
+pub(crate) fn read(rt: &(impl Abort + AllocGlobal + Wait), row: &Row, size: usize) {
+    let peer = Peer {
+        is_privileged: false,
+    };
+    read_of(rt, row, size, Offer::basic(), peer);
+}
+
+/// Between other calls STOP comes to this reply, by what is offered and of a peer.
+fn stop_comes_to(
+    rt: &(impl Abort + AllocGlobal + Wait),
+    offer: Offer,
+    is_privileged: bool,
+    row: &Row,
+) {
+    for size in [1, 7, 65_536] {
+        read_of(rt, row, size, offer, Peer { is_privileged });
+    }
+}
+
+#[test]
+fn stop_is_for_privileged_peers(rt: HostRuntime) {
+    let answered = Row {
+        stream: &[&NULL, &STOP, &NULL],
+        without: 0,
+        reads: MANY,
+        end: 0,
+        calls: &[],
+        replies: &[&NULL_REPLY, &STOP_REPLY, &NULL_REPLY],
+    };
+    let too_weak = Row {
+        replies: &[&NULL_REPLY, &TOO_WEAK_REPLY, &NULL_REPLY],
+        ..answered
+    };
+    let not_offered = Row {
+        replies: &[&NULL_REPLY, &NO_STOP_REPLY, &NULL_REPLY],
+        ..answered
+    };
+    stop_comes_to(&rt, Offer::export(0), true, &answered);
+    stop_comes_to(&rt, Offer::export(0), false, &too_weak);
+    stop_comes_to(&rt, Offer::basic(), true, &not_offered);
+    stop_comes_to(&rt, Offer::basic(), false, &not_offered);
 }
 
 #[test]

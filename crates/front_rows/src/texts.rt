@@ -56,6 +56,18 @@ pub(crate) const NO_PROGRAM: [u32; 11] = [0x8000_0028, 4, 0, 2, 100_005, 3, 0, 0
 /// Its reply, PROG_UNAVAIL.
 pub(crate) const NO_PROGRAM_REPLY: [u32; 7] = [0x8000_0018, 4, 1, 0, 0, 0, 1];
 
+/// A STOP call of the admin program, xid 5.
+pub(crate) const STOP: [u32; 11] = [0x8000_0028, 5, 0, 2, 0x2000_0001, 1, 3, 0, 0, 0, 0];
+
+/// Its reply.
+pub(crate) const STOP_REPLY: [u32; 7] = [0x8000_0018, 5, 1, 0, 0, 0, 0];
+
+/// The reply that refuses it, AUTH_ERROR with AUTH_TOOWEAK.
+pub(crate) const TOO_WEAK_REPLY: [u32; 6] = [0x8000_0014, 5, 1, 1, 1, 5];
+
+/// The reply of a server that doesn't offer it, PROC_UNAVAIL.
+pub(crate) const NO_STOP_REPLY: [u32; 7] = [0x8000_0018, 5, 1, 0, 0, 0, 3];
+
 /// A header that brings a record above the limit.
 pub(crate) const TOO_LONG: [u32; 1] = [0x8002_0001];
 

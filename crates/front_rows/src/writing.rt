@@ -13,7 +13,7 @@ use rpc_msg::Offer;
 use std::mem;
 use std::process::Abort;
 use std::sync::Wait;
-use tcp_front::{Counted, WriteFault, read_loop, write_joined, write_loop, write_piece};
+use tcp_front::{Counted, Peer, WriteFault, read_loop, write_joined, write_loop, write_piece};
 
 /// How two records of 28 bytes are written.
 struct Row {
@@ -79,6 +79,9 @@ pub(crate) fn waiting_for(rt: &(impl Abort + AllocGlobal + Wait), records: &[&[u
         &layout,
         offer,
         connection,
+        Peer {
+            is_privileged: false,
+        },
         &mut sink,
     );
     assert!(rt; end.number() == 0);

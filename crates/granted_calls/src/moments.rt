@@ -61,10 +61,10 @@ fn is_change(call: &Call) -> bool
 }
 
 impl Moments {
-    /// None was taken.
-    pub(crate) fn new() -> Moments {
+    /// None was taken since this moment, at which the run began.
+    pub(crate) fn after(begun: Moment) -> Moments {
         Moments {
-            latest: AtomicU64::new(0),
+            latest: AtomicU64::new(nanoseconds_of(begun)),
         }
     }
 

@@ -38,6 +38,7 @@ pub(crate) fn open(
     ensures whole { IfOk result (λ made. IsWhole (known made.2)) }
     ensures nothing { IfOk result (λ made. HasDoneNothing (view made.1) (known made.2)) }
 {
+    let begun = layout.begun_of(0);
     let parcels = opening_parcels(alloc, &layout, verifier)?;
     let Ok((depot, seat)) = Depot::<Service>::new::<SerialNode>(alloc, layout, parcels) else {
         return Err(AllocError);
@@ -48,7 +49,7 @@ pub(crate) fn open(
         verifier,
         depot,
         waiting,
-        moments: Moments::new(),
+        moments: Moments::after(begun),
     };
     Ok((filer, seat, pass))
 }

@@ -19,15 +19,16 @@ use Rattle.inodes.specs.Inode.{inode_value, kind_value, inodes_value}
 pub kept : (v w : InodesValue) → v ≡ w → IsInodes w → IsInodes v
 kept v w e i = subst IsInodes (sym e) i
 
-first-alone : insert (empty {R = nat_cmp}) 1 root_inode ≡ from_sorted ((1, root_inode) ∷ [])
-first-alone = same_map nat_cmp_total nat_cmp-IsAntisymmetric (insert empty 1 root_inode) (from_sorted ((1, root_inode) ∷ [])) (λ q.
-    get-insert nat_cmp_total empty 1 root_inode q ∙ (ap (cond (eq_by_cmp nat_cmp q 1) (Some root_inode)) (get-empty nat_cmp q)
-    ∙ sym (get-from_sorted nat_cmp ((1, root_inode) ∷ []) q tt)))
+first-alone : (root : values.Inode) → insert (empty {R = nat_cmp}) 1 root ≡ from_sorted ((1, root) ∷ [])
+first-alone root = same_map nat_cmp_total nat_cmp-IsAntisymmetric (insert empty 1 root) (from_sorted ((1, root) ∷ [])) (λ q.
+    get-insert nat_cmp_total empty 1 root q ∙ (ap (cond (eq_by_cmp nat_cmp q 1) (Some root)) (get-empty nat_cmp q)
+    ∙ sym (get-from_sorted nat_cmp ((1, root) ∷ []) q tt)))
 
-pub opened : (first new : FinMap nat_cmp values.Inode) → first ≡ empty → new ≡ insert first 1 root_inode
-    → inodes_value (record { 0 = 2 }) 0 new ≡ opening_inodes
-opened first new none h =
-    ap (λ m. record { next = 2; used = 0; inodes = m }) (h ∙ ap (λ m. insert m 1 root_inode) none ∙ first-alone)
+pub opened : (begun : Moment) (root : values.Inode) (first new : FinMap nat_cmp values.Inode) → root ≡ root_inode begun → first ≡ empty
+    → new ≡ insert first 1 root → inodes_value (record { 0 = 2 }) 0 new ≡ opening_inodes begun
+opened begun root first new is none h =
+    ap (λ m. record { next = 2; used = 0; inodes = m })
+    (h ∙ ap (λ m. insert m 1 root) none ∙ first-alone root ∙ ap (λ (i : values.Inode). from_sorted ((1, i) ∷ [])) is)
 
 -- the next fileid has no inode
 pub none-next : (next : Fileid) (used : ℕ) (m : FinMap nat_cmp values.Inode) → IsInodes (inodes_value next used m) → get m next.0 ≡ None

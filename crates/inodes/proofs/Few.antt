@@ -75,14 +75,14 @@ used-most v i a = let most = used-few 67108864 v i a.counts a.few in omega (arit
 pub kept-few : (v w : InodesValue) → v ≡ w → AreFew w → AreFew v
 kept-few v w e a = subst AreFew (sym e) a
 
-pub opening-few : AreFew opening_inodes
-opening-few = record {
-  few = let one = len-opening in omega (arith, one);
-  counts = λ q y h. by y (q == 1) (sym (inode-opening q) ∙ h);
+pub opening-few : (moment : Moment) → AreFew (opening_inodes moment)
+opening-few moment = record {
+  few = let one = len-opening moment in omega (arith, one);
+  counts = λ q y h. by y (q == 1) (sym (inode-opening moment q) ∙ h);
 }
   where
-    by : (y : Inode) (b : Bool) → (if b then Some root_inode else None) ≡ Some y → filled_blocks y.kind < 2 ^ 32
-    by y true g = subst (λ (i : Inode). filled_blocks i.kind < 2 ^ 32) (some-is root_inode y g) (omega arith)
+    by : (y : Inode) (b : Bool) → (if b then Some (root_inode moment) else None) ≡ Some y → filled_blocks y.kind < 2 ^ 32
+    by y true g = subst (λ (i : Inode). filled_blocks i.kind < 2 ^ 32) (some-is (root_inode moment) y g) (omega arith)
     by y false g = absurd (grind (arith, g))
 
 pub created-few : (v : InodesValue) (inode : Inode) → IsInodes v → AreFew v → len v.inodes < inodes_of_a_volume → filled_blocks inode.kind < 2 ^ 32

@@ -80,25 +80,29 @@ impl InodeKind {
 impl Inode {
     ghost use Rattle.std.specs.Option.{option_map};
     ghost use Rattle.nfs_values.specs.Moment.{moment_of};
-    ghost use Rattle.nfs_model.specs.volume.Inodes.{attributes_held, settled_inode};
+    ghost use Rattle.nfs_model.specs.volume.Inodes.{attributes_held, root_inode, settled_inode};
     ghost use Rattle.inodes.specs.Inode.{attributes_value, inode_value};
 
-    /// The root directory as a volume begins: mode 0755 (octal), uid and gid 0, all times at the
-    /// start, its own parent (our profile).
-    pub const ROOT: Inode = Inode {
-        attributes: StoredAttributes {
-            mode: 0o755,
-            uid: 0,
-            gid: 0,
-            atime: Moment::START,
-            mtime: Moment::START,
-            ctime: Moment::START,
-        },
-        kind: InodeKind::Directory {
-            parent: Fileid::ROOT,
-            subdirectories: 0,
-        },
-    };
+    /// The root directory as a volume begins at a moment: mode 0755 (octal), uid and gid 0, that
+    /// moment as all its times, its own parent (our profile).
+    pub fn root(begun: Moment) -> Inode
+        ensures { inode_value result ≡ root_inode (moment_of begun) }
+    {
+        Inode {
+            attributes: StoredAttributes {
+                mode: 0o755,
+                uid: 0,
+                gid: 0,
+                atime: begun,
+                mtime: begun,
+                ctime: begun,
+            },
+            kind: InodeKind::Directory {
+                parent: Fileid::ROOT,
+                subdirectories: 0,
+            },
+        }
+    }
 
     /// The attributes as they hold, where the file's latest write since its times were last set
     /// was at a moment, the touch.

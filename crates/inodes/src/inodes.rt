@@ -69,12 +69,13 @@ impl Model for Inodes {
 }
 
 impl Inodes {
-    /// The inodes of a new volume: its root directory alone, and 2 as the next fileid.
-    pub fn new(alloc: Global) -> Result<Inodes, AllocError>
-        ensures { IfOk result (λ inodes. inodes ≡ opening_inodes) }
+    /// The inodes of a volume that begins at a moment: its root directory alone, with that moment
+    /// as its times, and 2 as the next fileid.
+    pub fn new(alloc: Global, begun: Moment) -> Result<Inodes, AllocError>
+        ensures { IfOk result (λ inodes. inodes ≡ opening_inodes (moment_of begun)) }
     {
         let mut by_fileid = Table::new(alloc);
-        by_fileid.insert(Fileid::ROOT, Inode::ROOT)?;
+        by_fileid.insert(Fileid::ROOT, Inode::root(begun))?;
         Ok(Inodes {
             by_fileid,
             next: Fileid(2),

@@ -12,6 +12,7 @@ use lanes::LaneParts;
 use nfs_values::VolumeNumber;
 use std::process::Abort;
 use std::sync::Wait;
+use tcp_front::Peer;
 use turns::{Tend, TendRefusal, Tended};
 
 /// Opens a connection of a lane that takes this many bytes and then would wait, and reads these
@@ -25,7 +26,10 @@ pub(crate) fn ask<R: Wait>(
     ensures { Stays lane.old lane.new }
 {
     let key = lane.next_key();
-    let opened = lane.open(device(rt, records, takes));
+    let peer = Peer {
+        is_privileged: false,
+    };
+    let opened = lane.open(device(rt, records, takes), peer);
     assert!(rt; opened.ok() == Some(key));
     let mut block = [0; 512];
     assert!(rt; matches!(lane.read(key, &mut block), Came::Read(_)));

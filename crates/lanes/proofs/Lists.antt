@@ -10,7 +10,8 @@ use Rattle.outboxes.specs.Messages.{ReplyMessage}
 use Rattle.service.specs.declared.job.Job.{Job}
 use Rattle.service.specs.declared.job.Job.TheVariants.{Serve, Inner}
 use Rattle.granted_calls.specs.Balance.{FilerEntry}
-use Rattle.tcp_front.specs.Arrivals.{Arrival, placed, arrivals}
+use Rattle.tcp_front.specs.Arrivals.{Arrival, placed, arrivals, arrival_of}
+use Rattle.tcp_front.specs.Peers.{asked_from, from_peer}
 use Rattle.lanes.specs.Story.{comes_of, of_connection, Ending, Served, AtOnce, said_by, with_reply, replies_to}
 use Rattle.lanes.specs.Story.{served_of, at_once_of, with_served, served_in}
 
@@ -36,29 +37,34 @@ if-own b x xs ys is e = ap (λ (c : Bool). if c then x ∷ xs else xs) is ∙ ap
 if-other : (b : Bool) (x : Arrival) (xs : List Arrival) → b ≡ false → xs ≡ [] → (if b then x ∷ xs else xs) ≡ []
 if-other b x xs is e = ap (λ (c : Bool). if c then x ∷ xs else xs) is ∙ e
 
+arrival-of : (layout : Layout) (n : ℕ) (p : Bool) (k : ℕ) (h : Heard) → comes_of (arrival_of layout n p k h) ≡ n
+arrival-of layout n p k h = placed-of layout n k (from_peer p h) (home_of_asked layout (asked_from p h.asked))
+
 -- what came of one connection is of that alone
-pub of-own : (layout : Layout) (n k : ℕ) (hs : List Heard) → of_connection n (arrivals layout n k hs) ≡ arrivals layout n k hs
-of-own layout n k [] = refl
-of-own layout n k (h ∷ hs) =
-    if-own (comes_of (placed layout n k h (home_of_asked layout h.asked)) == n) (placed layout n k h (home_of_asked layout h.asked))
-    (of_connection n (arrivals layout n (k + 1) hs)) (arrivals layout n (k + 1) hs)
-    (ap (λ m. m == n) (placed-of layout n k h (home_of_asked layout h.asked)) ∙ itself n)
-    (of-own layout n (k + 1) hs)
+pub of-own : (layout : Layout) (n : ℕ) (p : Bool) (k : ℕ) (hs : List Heard)
+    → of_connection n (arrivals layout n p k hs) ≡ arrivals layout n p k hs
+of-own layout n p k [] = refl
+of-own layout n p k (h ∷ hs) =
+    if-own (comes_of (arrival_of layout n p k h) == n) (arrival_of layout n p k h)
+    (of_connection n (arrivals layout n p (k + 1) hs)) (arrivals layout n p (k + 1) hs)
+    (ap (λ m. m == n) (arrival-of layout n p k h) ∙ itself n)
+    (of-own layout n p (k + 1) hs)
 
-pub of-other : (layout : Layout) (m n k : ℕ) (hs : List Heard) → n ≢ m → of_connection m (arrivals layout n k hs) ≡ []
-of-other layout m n k [] d = refl
-of-other layout m n k (h ∷ hs) d =
-    if-other (comes_of (placed layout n k h (home_of_asked layout h.asked)) == m) (placed layout n k h (home_of_asked layout h.asked))
-    (of_connection m (arrivals layout n (k + 1) hs))
-    (ap (λ l. l == m) (placed-of layout n k h (home_of_asked layout h.asked)) ∙ ne_eqb n m d)
-    (of-other layout m n (k + 1) hs d)
+pub of-other : (layout : Layout) (m n : ℕ) (p : Bool) (k : ℕ) (hs : List Heard) → n ≢ m
+    → of_connection m (arrivals layout n p k hs) ≡ []
+of-other layout m n p k [] d = refl
+of-other layout m n p k (h ∷ hs) d =
+    if-other (comes_of (arrival_of layout n p k h) == m) (arrival_of layout n p k h)
+    (of_connection m (arrivals layout n p (k + 1) hs))
+    (ap (λ l. l == m) (arrival-of layout n p k h) ∙ ne_eqb n m d)
+    (of-other layout m n p (k + 1) hs d)
 
-pub arrivals-append : (layout : Layout) (n k : ℕ) (hs gs : List Heard) (j : ℕ) → j ≡ k + length hs
-    → arrivals layout n k (hs ++ gs) ≡ arrivals layout n k hs ++ arrivals layout n j gs
-arrivals-append layout n k [] gs j e = ap (λ i. arrivals layout n i gs) (omega (arith, e))
-arrivals-append layout n k (h ∷ hs) gs j e =
-    ap (λ (l : List Arrival). placed layout n k h (home_of_asked layout h.asked) ∷ l)
-    (arrivals-append layout n (k + 1) hs gs j (omega (arith, e)))
+pub arrivals-append : (layout : Layout) (n : ℕ) (p : Bool) (k : ℕ) (hs gs : List Heard) (j : ℕ) → j ≡ k + length hs
+    → arrivals layout n p k (hs ++ gs) ≡ arrivals layout n p k hs ++ arrivals layout n p j gs
+arrivals-append layout n p k [] gs j e = ap (λ i. arrivals layout n p i gs) (omega (arith, e))
+arrivals-append layout n p k (h ∷ hs) gs j e =
+    ap (λ (l : List Arrival). arrival_of layout n p k h ∷ l)
+    (arrivals-append layout n p (k + 1) hs gs j (omega (arith, e)))
 
 -- ---- what ended
 

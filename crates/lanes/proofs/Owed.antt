@@ -43,6 +43,7 @@ use Rattle.granted_calls.specs.declared.chained.Chained.TheVariants as chains
 use Rattle.engine_feed.specs.Seen.{message_of}
 use Rattle.tcp_front.specs.Admitted.{calls_of}
 use Rattle.tcp_front.specs.Arrivals.{Arrival, Waits, Answered, arrivals}
+use Rattle.tcp_front.specs.declared.peer.Peer.{Peer}
 use Rattle.connections.specs.declared.connection.Connection.{Connection}
 use Rattle.connections.specs.declared.connection.Flags.{Flags}
 use Rattle.connections.specs.declared.due.Due.{Due}
@@ -51,7 +52,7 @@ use Rattle.connections.specs.declared.writing.Sent.{Sent}
 use Rattle.tcp_front.specs.declared.stream.Stream.{Stream}
 use Rattle.connections.specs.Keyed.{Closes, Flagged, HasBegun, Opens, WritesUnder}
 use Rattle.connections.specs.Incoming.{Incoming}
-use Rattle.connections.specs.Connections.{due_of, flagged, most_counted, nothing_due, number_of, records_of, with_reply}
+use Rattle.connections.specs.Connections.{is_privileged, due_of, flagged, most_counted, nothing_due, number_of, records_of, with_reply}
 use Rattle.connections.specs.Owing.{Pays}
 use Rattle.connections.specs.Taking.{Takes, TakesOf}
 use Rattle.connections.specs.lemmas.Owing.{pays-count, pays-out}
@@ -106,9 +107,9 @@ count-of n (Answered a ∷ xs) =
     let rest = count-of n xs in
     let first = count-if (a.connection == n) (length (of_connection n xs)) (Answered a) (of_connection n xs) refl in omega (arith, rest, first)
 
-arrivals-length : (layout : Layout) (n k : ℕ) (hs : List Heard) → length (arrivals layout n k hs) ≡ length hs
-arrivals-length layout n k [] = refl
-arrivals-length layout n k (h ∷ hs) = let e = arrivals-length layout n (k + 1) hs in omega (arith, e)
+arrivals-length : (layout : Layout) (n : ℕ) (p : Bool) (k : ℕ) (hs : List Heard) → length (arrivals layout n p k hs) ≡ length hs
+arrivals-length layout n p k [] = refl
+arrivals-length layout n p k (h ∷ hs) = let e = arrivals-length layout n p (k + 1) hs in omega (arith, e)
 
 -- so many more were admitted
 admitted-more : (n : ℕ) (ms ms' : List Message) (xs : List Arrival) → map message_of ms' ≡ map message_of ms ++ calls_of xs
@@ -275,9 +276,9 @@ module _ {D : Type 0} where
     module _ (slots' : Slots D) (key : ℕ) (c c' : Connection D) (was : slots key ≡ Some c) (sets : Sets slots key (Some c') slots')
         (number : number_of c' ≡ number_of c) where
       pub owed-reads : (messages' : List Message) (heard : List Heard) (boxes' : Boxes)
-          → map message_of messages' ≡ map message_of messages ++ calls_of (arrivals layout (number_of c) c.stream.records heard)
-          → boxes' ≡ all_put (map (answer_told (form_of offer)) (answered_of (arrivals layout (number_of c) c.stream.records heard))) boxes
-          → Adds (arrivals layout (number_of c) c.stream.records heard) (due_of c) (due_of c')
+          → map message_of messages' ≡ map message_of messages ++ calls_of (arrivals layout (number_of c) (is_privileged c) c.stream.records heard)
+          → boxes' ≡ all_put (map (answer_told (form_of offer)) (answered_of (arrivals layout (number_of c) (is_privileged c) c.stream.records heard))) boxes
+          → Adds (arrivals layout (number_of c) (is_privileged c) c.stream.records heard) (due_of c) (due_of c')
           → records_of c' ≡ records_of c + length heard → records_of c' ≤ most_counted → AreOwed entries messages' boxes' slots'
       owed-reads messages' heard boxes' admitted is adds count few =
           each-owed entries messages' boxes' slots slots' key c' sets own (λ other d n at.
@@ -287,13 +288,13 @@ module _ {D : Type 0} where
           n = number_of c
 
           xs : List Arrival
-          xs = arrivals layout n c.stream.records heard
+          xs = arrivals layout n (is_privileged c) c.stream.records heard
 
           old : IsOwed entries messages boxes c
           old = o key c was
 
           size : length xs ≡ length heard
-          size = arrivals-length layout n c.stream.records heard
+          size = arrivals-length layout n (is_privileged c) c.stream.records heard
 
           more : (due_of c').replies ≡ (due_of c).replies + length heard
           more =
@@ -313,7 +314,7 @@ module _ {D : Type 0} where
                 let put = filled.2 in
                 let all = count-of n xs in
                 let mine : length (of_connection n xs) ≡ length xs =
-                ap (λ (l : List Arrival). length l) (of-own layout n c.stream.records heard) in
+                ap (λ (l : List Arrival). length l) (of-own layout n (is_privileged c) c.stream.records heard) in
                 let adm = admitted-more n messages messages' xs admitted in
                 let f : finished_of (number_of c') entries ≡ finished_of n entries = ap (λ k. finished_of k entries) number in
                 let a : admitted_of (number_of c') messages' ≡ admitted_of n messages' = ap (λ k. admitted_of k messages') number in
@@ -333,7 +334,7 @@ module _ {D : Type 0} where
               let m = number_of d in
               let none : length (of_connection m xs) ≡ 0 =
               ap (λ (l : List Arrival). length l)
-              (of-other layout m n c.stream.records heard (λ e. apart s key other c d was at n' (sym e))) in
+              (of-other layout m n (is_privileged c) c.stream.records heard (λ e. apart s key other c d was at n' (sym e))) in
               let all = count-of m xs in
               let adm = admitted-more m messages messages' xs admitted in
               let still : total (weigh_reply m) (answered_of xs) ≡ 0 = omega (arith, none, all) in (
@@ -520,7 +521,7 @@ module _ {D : Type 0} (unread : D → Incoming) (written : D → Option (List �
       known-both t u (λ s o.
       owed-reads unread written layout offer lane lanes entries (known sink.pass).put sink.outboxes (slabs.get slab) closed s o (slabs.get slab') key c after is
       (sets-at slab slab' key c after is now) number (known sink'.pass).put h.heard sink'.outboxes h.given.put h.given.boxes_are
-      (subst (λ (d : Due). Adds (arrivals layout (number_of c) c.stream.records h.heard) (due_of c) d) (sym due) h.given.adds) count on.few)
+      (subst (λ (d : Due). Adds (arrivals layout (number_of c) (is_privileged c) c.stream.records h.heard) (due_of c) d) (sym due) h.given.adds) count on.few)
 
   pub reads-owed : {R : Type 0} (layout' : Layout) (slab slab' : Slab (Connection D)) (key : ℕ) (sink sink' : Intake R)
       (size : ℕ) (result : Came) → layout' ≡ layout → ReadsUnder unread written layout' offer slab key (slabs.get slab key) sink size result slab' sink'
@@ -563,15 +564,15 @@ module _ {D : Type 0} (unread : D → Incoming) (written : D → Option (List �
       → Flagged slab key (slabs.get slab key) flags slab' → Told messages boxes slab → Owed messages boxes slab → Owed messages boxes slab'
   flags-owed slab slab' key messages boxes flags h t u = flag-owed slab slab' key (slabs.get slab key) refl messages boxes flags h t u
 
-  pub opens-owed : (slab slab' : Slab (Connection D)) (device : D) (result : Result ℕ D) (messages : List Message) (boxes boxes' : Boxes)
-      → Opens slab boxes device result slab' boxes' → IfOk result (λ key. IfSome (slabs.get slab' key) (HasBegun unread written))
+  pub opens-owed : (slab slab' : Slab (Connection D)) (device : D) (peer : Peer) (result : Result ℕ D) (messages : List Message) (boxes boxes' : Boxes)
+      → Opens slab boxes device peer result slab' boxes' → IfOk result (λ key. IfSome (slabs.get slab' key) (HasBegun unread written))
       → Told messages boxes slab → Owed messages boxes slab → Owed messages boxes' slab'
-  opens-owed slab slab' device (Ok key) messages boxes boxes' (_, is, (c, updates, _, number)) begins t u =
+  opens-owed slab slab' device peer (Ok key) messages boxes boxes' (_, is, (c, updates, _, number, _)) begins t u =
       let begun : HasBegun unread written c = subst (λ (o : Option (Connection D)). IfSome o (HasBegun unread written)) updates.changed begins in
       subst (λ (b : Boxes). Owed messages b slab') (sym is)
       (known-both t u (λ s o. owed-opens unread written layout offer lane lanes entries messages boxes (slabs.get slab) closed s o (slabs.get slab') key c
       (updates.changed, updates.others) number begun.owed))
-  opens-owed slab slab' device (Err back) messages boxes boxes' (_, same, is) begins t u =
+  opens-owed slab slab' device peer (Err back) messages boxes boxes' (_, same, is) begins t u =
       subst (λ (b : Boxes). Owed messages b slab') (sym is)
       (subst (λ (s : ℕ → Option (Connection D)). ∥ AreOwed entries messages boxes s ∥₁) (λ i. λ key. sym (same key) i) u)
 

@@ -20,7 +20,7 @@ use Rattle.tcp_front.specs.Admitted.{calls_of}
 use Rattle.tcp_front.specs.Arrivals.{Arrival, Waits, Answered, arrivals}
 use Rattle.connections.specs.Incoming.{Incoming}
 use Rattle.connections.specs.declared.connection.Connection.{Connection}
-use Rattle.connections.specs.Connections.{number_of}
+use Rattle.connections.specs.Connections.{is_privileged, number_of}
 use Rattle.lanes.specs.Intakes.{answered_of}
 use Rattle.connections.specs.Reading.{Reads}
 use Rattle.connections.specs.Writing.{Writes}
@@ -88,12 +88,12 @@ served_in (e ∷ es) = with_served e e.call (served_in es)
 -- ---- connections
 
 -- A connection, as it is or as it was when it was closed: the records of the bytes that were read of it, from its opening on, are
--- by what is offered just what came of it, all in all; and the bytes that were given to its device are a beginning of the records of all replies to it
+-- by what is offered and by whether its peer may stop the server just what came of it, all in all; and the bytes that were given to its device are a beginning of the records of all replies to it
 -- among what had ended, as what is offered tells them, in that order. The others waited.
 pub record IsServed {D : Type 0} (unread : D → Incoming) (written : D → Option (List ℕ)) (layout : Layout) (offer : Offer) (came : List Arrival)
     (ended : List Ending) (waiting : List ReplyMessage) (c : Connection D) : Type 0 where
   pub heard : List Heard
-  pub arrived : of_connection (number_of c) came ≡ arrivals layout (number_of c) 0 heard
+  pub arrived : of_connection (number_of c) came ≡ arrivals layout (number_of c) (is_privileged c) 0 heard
   pub reads : Reads offer unread c.opened.value c heard
   pub writes : Writes written c.opened.value c waiting (told_to offer (number_of c) ended)
 

@@ -57,6 +57,7 @@ holding next nodes = record {
         largest = 16777216;
         range_blocks = 1024;
         most_inodes = 65536;
+        most_steps = 4;
         verifier = verifier;
         next = next;
         nodes = from_sorted nodes;

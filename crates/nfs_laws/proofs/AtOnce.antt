@@ -2,7 +2,7 @@
 use Rattle.std.proofs.Common.{◌≡◌, ℕ, zero, suc, Bool, true, false, List, [], ◌∷◌, length, Option, Some, None, is_some, slice_get, refl, sym, ap, ◌∙◌, subst}
 use Rattle.std.proofs.Common.{min, arith, ◌==◌, ◌&&◌, ◌<◌, if◌then◌else◌}
 use Rattle.std.proofs.lemmas.Bool.{ltb-true}
-use Rattle.nfs_model.specs.Types.{Moment, Credential, Call, Null, Rename, Unsupported, Census, Grow, Mount, Failed, CrossVolume, BadHandle}
+use Rattle.nfs_model.specs.Types.{Moment, Credential, Call, Null, Rename, Unsupported, Census, Grow, Stop, Mount, MountBelow, Failed, CrossVolume, BadHandle}
 use Rattle.nfs_model.specs.Types.{NoEntry, Success}
 use Rattle.nfs_model.specs.Route.{Route, AtOnce, OfNames, OfBytesRead, OfBytesWritten, OfTwoHandles, OfVolume, OfAggregate, OfEverything, handle_on, route}
 use Rattle.nfs_model.specs.Tree.{Layout, VolumeLayout, Affinity, Logical}
@@ -10,7 +10,7 @@ use Rattle.nfs_model.specs.Server.{VolumeState, Server, Named, named_read, handl
 use Rattle.nfs_model.specs.Serial.Rename.{rename}
 use Rattle.nfs_model.specs.Home.{home, home_of_route, named_by, logical_home, volume_home, bytes_home, grow_home, rename_home}
 use Rattle.nfs_model.specs.Locate.{Effect, Located, located_in, located_by}
-use Rattle.nfs_model.specs.Serial.Step.{Step, serve, on, on_two, placed, stay}
+use Rattle.nfs_model.specs.Serial.Step.{Step, serve, on, on_root, on_two, placed, stay}
 use Rattle.nfs_model.specs.Serial.AtOnce.{answer_of_two, answer_without_home}
 use Rattle.nfs_model.specs.Serial.Grow.{Grown, grow_volume}
 use Rattle.nfs_model.specs.Serial.Mount.{mount}
@@ -52,6 +52,12 @@ bad_answered : (server : Server) (absent : ℕ) (run : VolumeState → ℕ → E
     → on server absent (located_by server.volumes h) run ≡ stay server (Failed BadHandle absent)
 bad_answered server absent run None e = refl
 bad_answered server absent run (Some h) e = absurd cc
+
+-- MNT below the root of no volume
+no_root_answered : (server : Server) (absent : ℕ) (run : VolumeState → ℕ → Effect) (h : Option Named) → h ≡ None
+    → on_root server absent (located_by server.volumes h) run ≡ stay server (Failed NoEntry absent)
+no_root_answered server absent run None e = refl
+no_root_answered server absent run (Some h) e = absurd cc
 
 -- ---- two handles
 
@@ -134,7 +140,10 @@ module _ (layout : Layout) (server : Server) (credential : Credential) (moment :
       (subst (λ k. rename_home (handle_of k from) (handle_of k to) ≡ None) n e)
       ∙ ap (λ k. stay server (answer_of_two 4 (handle_of k from) (handle_of k to))) (sym n)
   without_home_stays Census n e = absurd cc
+  without_home_stays Stop n e = refl
   without_home_stays (Mount call) n e = ap (λ k. stay server (mount k call)) (sym n)
+  without_home_stays (MountBelow root path) n e =
+      no_root_answered server _ _ (handle_of (length server.volumes) root) (bad_there (route (MountBelow root path)) tt n e)
   without_home_stays (Grow volume ranges) n e =
       ap (λ (g : Grown). record { reply = Success g.answer; server = g.server })
       (grow_answered server volume ranges (slice_get layout.volumes volume) (slice_get server.volumes volume)

@@ -3,7 +3,7 @@ use Rattle.std.proofs.Common.{◌≡◌, ℕ, suc, ◌+◌, ◌*◌, Bool, true,
 use Rattle.std.proofs.Common.{if◌then◌else◌, nat_lt}
 use Rattle.std.specs.Prelude.{slice_index_or}
 use Rattle.std.proofs.lemmas.List.{length-set}
-use Rattle.nfs_model.specs.Types.{Moment, Credential, Call, Null, Rename, Unsupported, Census, Grow, Mount, Asked, Ask, Refused, Undecoded, Answer}
+use Rattle.nfs_model.specs.Types.{Moment, Credential, Call, Null, Rename, Unsupported, Census, Grow, Stop, Mount, MountBelow, Asked, Ask, Refused, Undecoded, Answer}
 use Rattle.nfs_model.specs.Types.{Failed, GrowDone, Invalid, TooBig, NoSpace}
 use Rattle.nfs_model.specs.Route.{handle_on, route}
 use Rattle.nfs_model.specs.Tree.{Layout, VolumeLayout}
@@ -13,7 +13,7 @@ use Rattle.nfs_model.specs.Parts.{most_ranges}
 use Rattle.nfs_model.specs.Serial.Absent.{absent_parts}
 use Rattle.nfs_model.specs.Serial.Grow.{Grown, grown, grow_volume}
 use Rattle.nfs_model.specs.Serial.Rename.{rename}
-use Rattle.nfs_model.specs.Serial.Step.{Step, placed, stay, on, on_two, serve, serial}
+use Rattle.nfs_model.specs.Serial.Step.{Step, placed, stay, on, on_root, on_two, serve, serial}
 use Rattle.nfs_model.specs.Home.{home_of_asked}
 use Rattle.nfs_model.specs.Replay.{FinishedCall, step_of, server_after}
 use Rattle.nfs_model.specs.World.{Setup, Running}
@@ -33,6 +33,10 @@ module _ (server : Server) where
   on_counts : (absent : ℕ) (l : Option Located) (run : VolumeState → ℕ → Effect) → volumes_in (on server absent l run).server ≡ volumes_in server
   on_counts absent None run = refl
   on_counts absent (Some l) run = placed_counts absent l.named.volume (run l.volume l.named.fileid)
+
+  root_counts : (absent : ℕ) (l : Option Located) (run : VolumeState → ℕ → Effect) → volumes_in (on_root server absent l run).server ≡ volumes_in server
+  root_counts absent None run = refl
+  root_counts absent (Some l) run = placed_counts absent l.named.volume (run l.volume l.named.fileid)
 
   one_counts : (b : Bool) (s : Step) (answer : Answer) → volumes_in s.server ≡ volumes_in server
       → volumes_in (if b then s else stay server answer).server ≡ volumes_in server
@@ -68,7 +72,9 @@ module _ (server : Server) where
   serve_counts (Unsupported which) credential moment = refl
   serve_counts (Rename from from_name to to_name) credential moment = two_counts 4 (locate server from) (locate server to) (rename from_name to_name moment)
   serve_counts Census credential moment = refl
+  serve_counts Stop credential moment = refl
   serve_counts (Mount call) credential moment = refl
+  serve_counts (MountBelow root path) credential moment = root_counts 0 (locate server root) _
   serve_counts (Grow volume ranges) credential moment = grow_counts volume (slice_get server.volumes volume) ranges
   serve_counts call credential moment = on_counts (absent_parts call) (locate server (handle_on (route call))) _
 

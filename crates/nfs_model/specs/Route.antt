@@ -3,7 +3,7 @@
 use Rattle.std.specs.Prelude.{ℕ, List, []}
 use Rattle.nfs_model.specs.Types.{Call, Null, Getattr, Setattr, Lookup, CheckAccess, Read, Write, Create}
 use Rattle.nfs_model.specs.Types.{Mkdir, Remove, Rmdir, Rename, Readdir, Readdirplus, Fsstat, Fsinfo, Pathconf}
-use Rattle.nfs_model.specs.Types.{Commit, Unsupported, Census, Grow, Mount}
+use Rattle.nfs_model.specs.Types.{Commit, Unsupported, Census, Grow, Stop, Mount, MountBelow}
 
 pub data Route : Type 0 where
   -- on no state
@@ -46,7 +46,9 @@ route (Commit handle) = OfNames handle
 route (Unsupported which) = AtOnce
 route Census = OfEverything
 route (Grow volume ranges) = OfAggregate volume
+route Stop = AtOnce
 route (Mount call) = AtOnce
+route (MountBelow root path) = OfNames root
 
 -- the handle by which a route comes to its volume, its only one or the first; one without a handle
 -- has no bytes

@@ -21,6 +21,7 @@ pub mod Commit
 pub mod Census
 pub mod Grow
 pub mod Mount
+pub mod MountBelow
 pub mod Step
 pub mod AtOnce
 pub mod Starve

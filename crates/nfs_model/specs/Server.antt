@@ -46,6 +46,7 @@ pub record VolumeState : Type 0 where
   pub largest : ℕ  -- size of a file
   pub range_blocks : ℕ  -- the blocks of a range
   pub most_inodes : ℕ  -- the root with them
+  pub most_steps : ℕ  -- of directories whose parents a RENAME looks at
   pub verifier : List ℕ  -- of writes, fixed for the run
   pub next : ℕ  -- the next fileid
   pub nodes : FinMap nat_cmp Node
@@ -71,16 +72,16 @@ most_bytes = 65536
 abbrev pub start_of_times : Moment
 start_of_times = record { seconds = 0; nanoseconds = 0 }
 
--- the root as it begins, its own parent, with mode 0755 (octal)
-abbrev pub root_node : Node
-root_node = Directory (record {
+-- the root as it begins at a moment, its own parent, with mode 0755 (octal)
+abbrev pub root_node : Moment → Node
+root_node moment = Directory (record {
   attributes = record {
     mode = 493;
     uid = 0;
     gid = 0;
-    atime = start_of_times;
-    mtime = start_of_times;
-    ctime = start_of_times;
+    atime = moment;
+    mtime = moment;
+    ctime = moment;
   };
   parent = 1;
   next = 3;
@@ -96,9 +97,10 @@ opening_volume verifier number layout = record {
   largest = 1048576 * layout.mebibytes;
   range_blocks = layout.range_blocks;
   most_inodes = layout.inodes;
+  most_steps = layout.most_steps;
   verifier = verifier;
   next = 2;
-  nodes = from_sorted ((1, root_node) ∷ []);
+  nodes = from_sorted ((1, root_node layout.begun) ∷ []);
 }
 
 -- volumes numbered from a number on

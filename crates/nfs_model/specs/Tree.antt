@@ -1,6 +1,7 @@
 -- The layout of a run, and the tree of affinities over it (our profile).
 use Rattle.std.specs.Prelude.{ℕ, Bool, true, false, ◌&&◌, ◌||◌, ◌==◌, List, [], ◌∷◌, Option, Some, None}
 use Rattle.std.specs.Prelude.{slice_get}
+use Rattle.nfs_model.specs.Types.{Moment}
 
 -- a volume as it is laid out at the start
 pub record VolumeLayout : Type 0 where
@@ -10,6 +11,8 @@ pub record VolumeLayout : Type 0 where
   pub mebibytes : ℕ  -- the largest size of a file
   pub range_blocks : ℕ  -- the blocks of a range
   pub inodes : ℕ  -- at most, the root with them
+  pub most_steps : ℕ  -- of directories whose parents a RENAME looks at
+  pub begun : Moment  -- the beginning of the run: the times of its root
 
 -- aggregates and volumes, each numbered from 0
 pub record Layout : Type 0 where

@@ -60,8 +60,9 @@ pub data MountCall : Type 0 where
 
 -- One constructor for each procedure, with its arguments (RFC 1813 section 3.3); those that aren't
 -- supported share one, without arguments. A handle is the bytes that came, good or bad; so is a name.
--- How stable a WRITE is to be isn't kept, since every one is stable. CENSUS and GROW are of the admin
--- program (our profile), and MOUNT is a program of its own.
+-- How stable a WRITE is to be isn't kept, since every one is stable. CENSUS, GROW and STOP are of the
+-- admin program (our profile), and MOUNT is a program of its own. A MNT of a path that leads below the
+-- root of a volume has that root's handle beside the path (Serial.Mount).
 pub data Call : Type 0 where
   Null : Call
   Getattr : (handle : List ℕ) → Call
@@ -84,7 +85,9 @@ pub data Call : Type 0 where
   Unsupported : (which : UnsupportedProcedure) → Call
   Census : Call
   Grow : (volume ranges : ℕ) → Call
+  Stop : Call
   Mount : (call : MountCall) → Call
+  MountBelow : (root path : List ℕ) → Call
 
 -- ---- what is answered
 
@@ -206,6 +209,7 @@ pub data Answer : Type 0 where
   CommitDone : (file : Wcc) (verifier : List ℕ) → Answer
   CensusDone : (volumes : List VolumeCount) → Answer
   GrowDone : (total : ℕ) → Answer
+  StopDone : Answer
   MountDone : (handle : List ℕ) → Answer
   DumpDone : Answer
   ExportsDone : (paths : List (List ℕ)) → Answer

@@ -5,11 +5,12 @@ use Rattle.xdr.specs.declared.fault.Fault.{Fault}
 use Rattle.xdr.specs.Shape.{Shape, Void, Word, Hyper, Value, Spells}
 use Rattle.xdr.specs.Reading.{◌>>=◌, all_of}
 use Rattle.nfs_model.specs.Types as model
+use Rattle.nfs_model.specs.Serial.Mount as mounts
 use Rattle.nfs_values.specs.declared.procedure.Procedure.{Procedure}
 use Rattle.nfs_values.specs.declared.procedure.Procedure.TheVariants.{Null, GetAttributes, SetAttributes, Lookup, CheckAccess, ReadLink, Read, Write}
 use Rattle.nfs_values.specs.declared.procedure.Procedure.TheVariants.{Create, MakeDirectory, MakeSymbolicLink, MakeDevice, Remove, RemoveDirectory}
 use Rattle.nfs_values.specs.declared.procedure.Procedure.TheVariants.{Rename, MakeLink, ReadDirectory, ReadDirectoryPlus, FilesystemStatus}
-use Rattle.nfs_values.specs.declared.procedure.Procedure.TheVariants.{FilesystemInfo, PathConfiguration, Commit, AdminNull, Census, Grow, MountNull}
+use Rattle.nfs_values.specs.declared.procedure.Procedure.TheVariants.{FilesystemInfo, PathConfiguration, Commit, AdminNull, Census, Grow, Stop, MountNull}
 use Rattle.nfs_values.specs.declared.procedure.Procedure.TheVariants.{Mount, ListMounts, Unmount, UnmountAll, ListExports}
 use Rattle.nfs_values.specs.declared.target.Target.{Target}
 use Rattle.nfs_types.specs.declared.bad.Bad.{Bad}
@@ -99,6 +100,7 @@ arguments_shape Commit = range_shape
 arguments_shape AdminNull = Void
 arguments_shape Census = Void
 arguments_shape Grow = growing_shape
+arguments_shape Stop = Void
 arguments_shape MountNull = Void
 arguments_shape Mount = path_shape
 arguments_shape ListMounts = Void
@@ -183,8 +185,11 @@ census_call v = model.Census
 abbrev pub grow_call : Value growing_shape → model.Call
 grow_call v = model.Grow v.0 v.1
 
+abbrev pub stop_call : Value Void → model.Call
+stop_call v = model.Stop
+
 abbrev pub mnt_call : Value path_shape → model.Call
-mnt_call path = model.Mount (model.Mnt path)
+mnt_call path = mounts.mnt_call path
 
 abbrev pub dump_call : Value Void → model.Call
 dump_call v = model.Mount model.Dump
@@ -224,6 +229,7 @@ call_from Commit = commit_call
 call_from AdminNull = null_call
 call_from Census = census_call
 call_from Grow = grow_call
+call_from Stop = stop_call
 call_from MountNull = null_call
 call_from Mount = mnt_call
 call_from ListMounts = dump_call
@@ -277,6 +283,7 @@ asked Commit bytes = asked_by range_shape commit_call bytes
 asked AdminNull bytes = asked_by Void null_call bytes
 asked Census bytes = asked_by Void census_call bytes
 asked Grow bytes = asked_by growing_shape grow_call bytes
+asked Stop bytes = asked_by Void stop_call bytes
 asked MountNull bytes = asked_by Void null_call bytes
 asked Mount bytes = asked_by path_shape mnt_call bytes
 asked ListMounts bytes = asked_by Void dump_call bytes

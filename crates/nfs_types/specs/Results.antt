@@ -194,6 +194,7 @@ answer_bytes (model.PathconfDone object) = done pathconf_shape (pathconf_value o
 answer_bytes (model.CommitDone file verifier) = done commit_shape (commit_value file verifier)
 answer_bytes (model.CensusDone volumes) = spelling census_shape (map count_value volumes)
 answer_bytes (model.GrowDone total) = done Hyper total
+answer_bytes model.StopDone = spelling Void tt
 answer_bytes (model.MountDone handle) = done mounted_shape (mounted_value handle)
 answer_bytes model.DumpDone = spelling mounts_shape []
 answer_bytes (model.ExportsDone paths) = spelling exports_shape (map export_value paths)

@@ -23,13 +23,13 @@ ghost use Rattle.nfs_types.specs.Arguments.{rename_call, readdir_call, fsstat_ca
 ghost use Rattle.nfs_types.specs.Arguments.{listing_plus_shape, readdirplus_call};
 ghost use Rattle.nfs_types.specs.Arguments.{path_shape, mnt_call, dump_call, umnt_call};
 ghost use Rattle.nfs_types.specs.Arguments.{umntall_call, export_call};
-ghost use Rattle.nfs_types.specs.Arguments.{census_call, grow_call};
+ghost use Rattle.nfs_types.specs.Arguments.{census_call, grow_call, stop_call};
 
 use crate::bad::Bad;
 use crate::decode::{DeviceToMake, StableHow, decode_all};
 use nfs_values::{
     BytesToWrite, Call, Cookie, CreateMode, FileHandle, Moment, MountCall, Name, Procedure,
-    SetAttributes, Target, UnsupportedProcedure, Verifier, VolumeNumber,
+    SetAttributes, Target, UnsupportedProcedure, Verifier, VolumeNumber, call_of_path,
 };
 use std::alloc::Global;
 use xdr::Fault;
@@ -294,13 +294,21 @@ fn grow(bytes: &[u8]) -> Result<Call, Bad>
     Ok(Call::Grow { volume, ranges })
 }
 
-/// MNT of MOUNT (RFC 1813 appendix I, section 5.2.1).
+/// STOP of the admin program.
+fn stop(bytes: &[u8]) -> Result<Call, Bad>
+    ensures { Makes call_of false result (asked_by Void stop_call bytes.now) }
+{
+    decode_all::<()>(bytes)?;
+    Ok(Call::Stop)
+}
+
+/// MNT of MOUNT (RFC 1813 appendix I, section 5.2.1), of a root or below one.
 fn mount(alloc: Global, bytes: &[u8]) -> Result<Call, Bad>
     ensures { Makes call_of true result (asked_by path_shape mnt_call bytes.now) }
 {
     let path = decode_all::<&[u8]>(bytes)?;
     let path = Name::copied(alloc, path)?;
-    Ok(Call::Mount(MountCall::Mount { path }))
+    Ok(call_of_path(path))
 }
 
 /// DUMP of MOUNT (RFC 1813 appendix I, section 5.2.2).
@@ -364,6 +372,7 @@ pub fn decode_call(alloc: Global, procedure: Procedure, bytes: &[u8]) -> Result<
         Procedure::Commit => commit(bytes),
         Procedure::Census => census(bytes),
         Procedure::Grow => grow(bytes),
+        Procedure::Stop => stop(bytes),
         Procedure::Mount => mount(alloc, bytes),
         Procedure::ListMounts => list_mounts(bytes),
         Procedure::Unmount => unmount(bytes),

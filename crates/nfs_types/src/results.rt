@@ -108,6 +108,7 @@ fn write_result(answer: &Answer, out: &mut Vec<u8>)
         }
         Answer::Census(volumes) => volumes.write(out),
         Answer::Grow(outcome) => write_either(outcome, 0, out),
+        Answer::Stop => (),
         Answer::Mount(outcome) => write_either(outcome, 0, out),
         Answer::ListMounts => write_absent(out),
         Answer::ListExports(exports) => exports.write(out),
@@ -142,6 +143,7 @@ pub fn size_of_result(answer: &Answer) -> usize
         Answer::Unsupported(which) => 4 + 4 * which.absent_parts() as usize,
         Answer::Census(volumes) => volumes.size(),
         Answer::Grow(outcome) => size_of_either(outcome, 0),
+        Answer::Stop => 0,
         Answer::Mount(outcome) => size_of_either(outcome, 0),
         Answer::ListMounts => 4,
         Answer::ListExports(exports) => exports.size(),

@@ -3,3 +3,4 @@ pub mod Handles
 pub mod Behind
 pub mod Groups
 pub mod Listed
+pub mod Paths

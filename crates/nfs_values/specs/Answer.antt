@@ -30,7 +30,7 @@ use Rattle.nfs_values.specs.declared.mount.MountResults.{MountResults}
 use Rattle.nfs_values.specs.declared.answer.Answer.TheVariants.{Null, GetAttributes, SetAttributes, Lookup, CheckAccess, Read, Write, Create}
 use Rattle.nfs_values.specs.declared.answer.Answer.TheVariants.{MakeDirectory, Remove, RemoveDirectory, Rename, ReadDirectory}
 use Rattle.nfs_values.specs.declared.answer.Answer.TheVariants.{ReadDirectoryPlus, FilesystemStatus, FilesystemInfo, PathConfiguration}
-use Rattle.nfs_values.specs.declared.answer.Answer.TheVariants.{Commit, Unsupported, Census, Grow, Mount, ListMounts, ListExports}
+use Rattle.nfs_values.specs.declared.answer.Answer.TheVariants.{Commit, Unsupported, Census, Grow, Stop, Mount, ListMounts, ListExports}
 use Rattle.nfs_values.specs.Attributes.{shown_of, change_of}
 use Rattle.nfs_values.specs.Status.{status_of}
 use Rattle.nfs_values.specs.Unsupported.{unsupported_of, unsupported_procedure}
@@ -148,6 +148,7 @@ answer_of (Commit result) = result_of file_committed 2 result
 answer_of (Unsupported which) = model.Failed model.NotSupported (absent_in (unsupported_of which))
 answer_of (Census volumes) = model.CensusDone (map count_of volumes.items)
 answer_of (Grow result) = result_of volume_grown 0 result
+answer_of Stop = model.StopDone
 answer_of (Mount result) = result_of volume_mounted 0 result
 answer_of ListMounts = model.DumpDone
 answer_of (ListExports exports) = volumes_exported exports
@@ -176,6 +177,7 @@ procedure_of (Commit results) = procedures.Commit
 procedure_of (Unsupported which) = unsupported_procedure which
 procedure_of (Census results) = procedures.Census
 procedure_of (Grow results) = procedures.Grow
+procedure_of Stop = procedures.Stop
 procedure_of (Mount results) = procedures.Mount
 procedure_of ListMounts = procedures.ListMounts
 procedure_of (ListExports results) = procedures.ListExports

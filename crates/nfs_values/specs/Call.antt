@@ -4,7 +4,7 @@ use Rattle.nfs_model.specs.Types as model
 use Rattle.nfs_values.specs.declared.call.Call.{Call}
 use Rattle.nfs_values.specs.declared.call.Call.TheVariants.{Null, GetAttributes, SetAttributes, Lookup, CheckAccess, Read, Write, Create, MakeDirectory}
 use Rattle.nfs_values.specs.declared.call.Call.TheVariants.{Remove, RemoveDirectory, Rename, ReadDirectory, ReadDirectoryPlus, FilesystemStatus, FilesystemInfo}
-use Rattle.nfs_values.specs.declared.call.Call.TheVariants.{PathConfiguration, Commit, Unsupported, Census, Grow, Mount}
+use Rattle.nfs_values.specs.declared.call.Call.TheVariants.{PathConfiguration, Commit, Unsupported, Census, Grow, Stop, Mount, MountBelow}
 use Rattle.nfs_values.specs.Moment.{moment_of}
 use Rattle.nfs_values.specs.Mount.{mount_call_of}
 use Rattle.nfs_values.specs.Set.{set_of, mode_of}
@@ -34,9 +34,11 @@ call_of (Commit handle) = model.Commit handle
 call_of (Unsupported which) = model.Unsupported (unsupported_of which)
 call_of Census = model.Census
 call_of (Grow volume ranges) = model.Grow volume.0 ranges
+call_of Stop = model.Stop
 call_of (Mount call) = model.Mount (mount_call_of call)
+call_of (MountBelow root path) = model.MountBelow root path
 
--- a call with another handle in place of each of its own (RFC 1813 section 3.3)
+-- a call with another handle in place of each of its own (RFC 1813 section 3.3); the root of a MNT isn't one, since it never came
 abbrev pub call_with : (List ℕ → List ℕ) → model.Call → model.Call
 call_with f (model.Getattr handle) = model.Getattr (f handle)
 call_with f (model.Setattr handle set guard) = model.Setattr (f handle) set guard

@@ -13,6 +13,7 @@ pub mod ProcedureSet
 pub mod Bytes
 pub mod Mount
 pub mod Call
+pub mod MountPath
 pub mod Route
 pub mod Answer
 pub mod Reply

@@ -3,7 +3,7 @@ use Rattle.nfs_values.specs.declared.procedure.Procedure.{Procedure}
 use Rattle.nfs_values.specs.declared.procedure.Procedure.TheVariants.{Null, GetAttributes, SetAttributes, Lookup, CheckAccess, ReadLink, Read, Write}
 use Rattle.nfs_values.specs.declared.procedure.Procedure.TheVariants.{Create, MakeDirectory, MakeSymbolicLink, MakeDevice, Remove, RemoveDirectory}
 use Rattle.nfs_values.specs.declared.procedure.Procedure.TheVariants.{Rename, MakeLink, ReadDirectory, ReadDirectoryPlus, FilesystemStatus}
-use Rattle.nfs_values.specs.declared.procedure.Procedure.TheVariants.{FilesystemInfo, PathConfiguration, Commit, AdminNull, Census, Grow, MountNull}
+use Rattle.nfs_values.specs.declared.procedure.Procedure.TheVariants.{FilesystemInfo, PathConfiguration, Commit, AdminNull, Census, Grow, Stop, MountNull}
 use Rattle.nfs_values.specs.declared.procedure.Procedure.TheVariants.{Mount, ListMounts, Unmount, UnmountAll, ListExports}
 
 -- all of them
@@ -11,7 +11,7 @@ abbrev pub all_procedures : List Procedure
 all_procedures =
     Null ∷ GetAttributes ∷ SetAttributes ∷ Lookup ∷ CheckAccess ∷ ReadLink ∷ Read ∷ Write ∷ Create ∷ MakeDirectory ∷ MakeSymbolicLink ∷ MakeDevice ∷
     Remove ∷ RemoveDirectory ∷ Rename ∷ MakeLink ∷ ReadDirectory ∷ ReadDirectoryPlus ∷ FilesystemStatus ∷ FilesystemInfo ∷ PathConfiguration ∷ Commit ∷
-    MountNull ∷ Mount ∷ ListMounts ∷ Unmount ∷ UnmountAll ∷ ListExports ∷ AdminNull ∷ Census ∷ Grow ∷ []
+    MountNull ∷ Mount ∷ ListMounts ∷ Unmount ∷ UnmountAll ∷ ListExports ∷ AdminNull ∷ Census ∷ Grow ∷ Stop ∷ []
 
 -- program and procedure of NFS (RFC 1813 section 3), of MOUNT (appendix I, section 5) and of the admin program (our profile)
 abbrev pub numbers_of : Procedure → ℕ × ℕ
@@ -46,6 +46,7 @@ numbers_of ListExports = (100005, 5)
 numbers_of AdminNull = (0x20000001, 0)
 numbers_of Census = (0x20000001, 1)
 numbers_of Grow = (0x20000001, 2)
+numbers_of Stop = (0x20000001, 3)
 
 -- its place among all
 abbrev pub place_of : Procedure → ℕ
@@ -80,3 +81,4 @@ place_of ListExports = 27
 place_of AdminNull = 28
 place_of Census = 29
 place_of Grow = 30
+place_of Stop = 31

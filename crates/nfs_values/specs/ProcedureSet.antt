@@ -5,7 +5,7 @@ use Rattle.nfs_values.specs.declared.procedure_set.ProcedureSet.{ProcedureSet}
 use Rattle.nfs_values.specs.declared.procedure.Procedure.{Procedure}
 use Rattle.nfs_values.specs.declared.procedure.Procedure.TheVariants.{CheckAccess, ReadLink, MakeSymbolicLink, MakeDevice, MakeLink}
 use Rattle.nfs_values.specs.declared.procedure.Procedure.TheVariants.{ReadDirectoryPlus, FilesystemInfo, PathConfiguration, MountNull}
-use Rattle.nfs_values.specs.declared.procedure.Procedure.TheVariants.{Mount, ListMounts, Unmount, UnmountAll, ListExports}
+use Rattle.nfs_values.specs.declared.procedure.Procedure.TheVariants.{Mount, ListMounts, Unmount, UnmountAll, ListExports, Stop}
 use Rattle.nfs_values.specs.Procedure.{all_procedures, numbers_of, place_of}
 
 -- whether an offer has a procedure
@@ -16,7 +16,7 @@ offers offer procedure = get_or offer.has (place_of procedure) false
 abbrev pub offers_program : ProcedureSet → ℕ → Bool
 offers_program offer program = list_any (λ p. offers offer p && ((numbers_of p).0 == program)) all_procedures
 
--- whether `replay` and `serve` offer it: all but ACCESS, FSINFO, PATHCONF, READDIRPLUS, those on links and devices, and MOUNT
+-- whether `replay` and `serve` offer it: all but ACCESS, FSINFO, PATHCONF, READDIRPLUS, those on links and devices, MOUNT, and STOP
 abbrev pub is_basic : Procedure → Bool
 is_basic CheckAccess = false
 is_basic ReadLink = false
@@ -32,6 +32,7 @@ is_basic ListMounts = false
 is_basic Unmount = false
 is_basic UnmountAll = false
 is_basic ListExports = false
+is_basic Stop = false
 is_basic procedure = true
 
 -- the offer of `replay` and `serve`
@@ -48,20 +49,19 @@ export = record { has = replicate (length all_procedures) true }
 abbrev pub of_program : ℕ → List ℕ → List (ℕ × ℕ)
 of_program program numbers = map (λ number. (program, number)) numbers
 
--- of the admin program (our profile) all: NULL, CENSUS and GROW
-abbrev pub of_admin : List (ℕ × ℕ)
-of_admin = of_program 0x20000001 (0 ∷ 1 ∷ 2 ∷ [])
-
 -- `replay` and `serve`: of NFS (RFC 1813 section 3) NULL, GETATTR, SETATTR, LOOKUP, READ, WRITE, CREATE, MKDIR, REMOVE, RMDIR, RENAME, READDIR,
--- FSSTAT and COMMIT
+-- FSSTAT and COMMIT; of the admin program (our profile) NULL, CENSUS and GROW
 abbrev pub basic_numbers : List (ℕ × ℕ)
-basic_numbers = of_program 100003 (0 ∷ 1 ∷ 2 ∷ 3 ∷ 6 ∷ 7 ∷ 8 ∷ 9 ∷ 12 ∷ 13 ∷ 14 ∷ 16 ∷ 18 ∷ 21 ∷ []) ++ of_admin
+basic_numbers =
+    of_program 100003 (0 ∷ 1 ∷ 2 ∷ 3 ∷ 6 ∷ 7 ∷ 8 ∷ 9 ∷ 12 ∷ 13 ∷ 14 ∷ 16 ∷ 18 ∷ 21 ∷ [])
+    ++ of_program 0x20000001 (0 ∷ 1 ∷ 2 ∷ [])
 
--- a server that clients mount: of NFS all 22, and of MOUNT (RFC 1813 appendix I, section 5) all six
+-- a server that clients mount: of NFS all 22, of MOUNT (RFC 1813 appendix I, section 5) all six, and of the admin program
+-- STOP too
 abbrev pub export_numbers : List (ℕ × ℕ)
 export_numbers =
     of_program 100003 (0 ∷ 1 ∷ 2 ∷ 3 ∷ 4 ∷ 5 ∷ 6 ∷ 7 ∷ 8 ∷ 9 ∷ 10 ∷ 11 ∷ 12 ∷ 13 ∷ 14 ∷ 15 ∷ 16 ∷ 17 ∷ 18 ∷ 19 ∷ 20 ∷ 21 ∷ [])
-    ++ (of_admin ++ of_program 100005 (0 ∷ 1 ∷ 2 ∷ 3 ∷ 4 ∷ 5 ∷ []))
+    ++ (of_program 0x20000001 (0 ∷ 1 ∷ 2 ∷ 3 ∷ []) ++ of_program 100005 (0 ∷ 1 ∷ 2 ∷ 3 ∷ 4 ∷ 5 ∷ []))
 
 -- whether the procedure of these numbers is among some
 abbrev pub is_among : List (ℕ × ℕ) → ℕ × ℕ → Bool

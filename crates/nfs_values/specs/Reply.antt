@@ -1,7 +1,7 @@
 use Rattle.std.specs.Prelude.{ℕ}
 use Rattle.nfs_model.specs.Types as model
 use Rattle.nfs_values.specs.declared.reply.AuthFault.{AuthFault}
-use Rattle.nfs_values.specs.declared.reply.AuthFault.TheVariants.{BadCredential, RejectedCredential}
+use Rattle.nfs_values.specs.declared.reply.AuthFault.TheVariants.{BadCredential, RejectedCredential, TooWeak}
 use Rattle.nfs_values.specs.declared.reply.Reply.{Reply}
 use Rattle.nfs_values.specs.declared.reply.Reply.TheVariants.{Success, Refused}
 use Rattle.nfs_values.specs.declared.reply.Refusal.{Refusal}
@@ -13,6 +13,7 @@ use Rattle.nfs_values.specs.Answer.{answer_of}
 abbrev pub auth_number : AuthFault → ℕ
 auth_number BadCredential = 1
 auth_number RejectedCredential = 2
+auth_number TooWeak = 5
 
 -- a reply, as the model has it
 abbrev pub refusal_of : Refusal → model.Reply

@@ -183,6 +183,8 @@ pub enum Answer {
     Census(Vec<VolumeCount>),
     /// Of GROW of the admin program: the volume's blocks.
     Grow(Result<u64, Status>),
+    /// Of STOP of the admin program, which never fails.
+    Stop,
     /// Of MNT of MOUNT: the root's handle.
     Mount(Result<MountResults, Status>),
     /// Of DUMP of MOUNT, which lists no mounts.
@@ -216,6 +218,7 @@ impl Drop for Answer {
             Answer::Unsupported(_) => {}
             Answer::Census(_) => {}
             Answer::Grow(_) => {}
+            Answer::Stop => {}
             Answer::Mount(_) => {}
             Answer::ListMounts => {}
             Answer::ListExports(_) => {}
@@ -253,6 +256,7 @@ impl Answer {
             Answer::Unsupported(which) => which.procedure(),
             Answer::Census(_) => Procedure::Census,
             Answer::Grow(_) => Procedure::Grow,
+            Answer::Stop => Procedure::Stop,
             Answer::Mount(_) => Procedure::Mount,
             Answer::ListMounts => Procedure::ListMounts,
             Answer::ListExports(_) => Procedure::ListExports,
@@ -283,6 +287,7 @@ impl Answer {
             Answer::Commit(_) => false,
             Answer::Unsupported(_) => false,
             Answer::Grow(_) => false,
+            Answer::Stop => false,
             Answer::Mount(_) => false,
             Answer::ListMounts => false,
             Answer::ListExports(_) => false,

@@ -9,6 +9,7 @@ use crate::bytes::BytesToWrite;
 use crate::handle::{FileHandle, HandleMap};
 use crate::moment::Moment;
 use crate::mount::MountCall;
+use crate::name::Name;
 use crate::number::{Cookie, VolumeNumber};
 use crate::route::Route;
 use crate::set::{CreateMode, SetAttributes};
@@ -99,8 +100,16 @@ pub enum Call {
         volume: VolumeNumber,
         ranges: u32,
     },
-    /// A call of MOUNT, but for NULL.
+    /// STOP of the admin program.
+    Stop,
+    /// A call of MOUNT, but for NULL and for a MNT below the root of a volume.
     Mount(MountCall),
+    /// MNT of MOUNT, of a path that leads below the root of a volume.
+    MountBelow {
+        /// The handle of that root, which is made and never came.
+        root: FileHandle,
+        path: Name,
+    },
 }
 
 // By hand, so that crates above have no proof of the drop of each of its parts.
@@ -158,7 +167,9 @@ impl Drop for Call {
                 volume: _,
                 ranges: _,
             } => {}
+            Call::Stop => {}
             Call::Mount(_) => {}
+            Call::MountBelow { root: _, path: _ } => {}
         }
     }
 }
@@ -220,7 +231,9 @@ impl Call {
             Call::Unsupported(_) => Route::AtOnce,
             Call::Census => Route::Everything,
             Call::Grow { volume, .. } => Route::Aggregate { volume: *volume },
+            Call::Stop => Route::AtOnce,
             Call::Mount(_) => Route::AtOnce,
+            Call::MountBelow { root, .. } => Route::Names { handle: root },
         }
     }
 
@@ -278,7 +291,9 @@ impl Call {
                 volume: _,
                 ranges: _,
             } => false,
+            Call::Stop => false,
             Call::Mount(_) => true,
+            Call::MountBelow { root: _, path: _ } => true,
         }
     }
 
@@ -306,11 +321,13 @@ impl Call {
             Call::Commit { .. } => false,
             Call::Unsupported(_) => false,
             Call::Census => false,
+            Call::Stop => false,
             Call::Mount(_) => false,
+            Call::MountBelow { .. } => false,
         }
     }
 
-    /// Puts in place of each of its handles the one that is made of it.
+    /// Puts in place of each of its handles that came the one that is made of it.
     pub fn map_handles<M: HandleMap>(&mut self, map: &M)
         ensures { call_of self.new ≡ call_with (M.made map.now) (call_of self.old) }
     {
@@ -335,8 +352,13 @@ impl Call {
             Call::FilesystemInfo { handle } => put_made(handle, map),
             Call::PathConfiguration { handle } => put_made(handle, map),
             Call::Commit { handle } => put_made(handle, map),
-            Call::Null | Call::Unsupported(_) | Call::Census | Call::Grow { .. } | Call::Mount(_) =>
-                {}
+            Call::Null
+            | Call::Unsupported(_)
+            | Call::Census
+            | Call::Grow { .. }
+            | Call::Stop
+            | Call::Mount(_)
+            | Call::MountBelow { .. } => {}
         }
     }
 }

@@ -10,6 +10,7 @@ mod handle;
 mod limits;
 mod moment;
 mod mount;
+mod mount_path;
 mod name;
 mod number;
 mod opaque_bytes;
@@ -36,6 +37,7 @@ pub use limits::{
 };
 pub use moment::Moment;
 pub use mount::{Exports, MountCall, MountResults, export_path};
+pub use mount_path::{MOST_PATH, below_volume, call_of_path, is_absolute, next_part, volume_named};
 pub use name::Name;
 pub use number::{BlockNumber, ConnectionNumber, Cookie, Fileid, VolumeNumber, WorkerNumber};
 pub use procedure::{ADMIN_PROGRAM, MOUNT_PROGRAM, NFS_PROGRAM, PROCEDURES, Procedure};

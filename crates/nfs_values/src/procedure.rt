@@ -12,7 +12,7 @@ pub const ADMIN_PROGRAM: u32 = 0x2000_0001;
 pub const MOUNT_PROGRAM: u32 = 100005;
 
 /// How many procedures there are.
-pub const PROCEDURES: usize = 31;
+pub const PROCEDURES: usize = 32;
 
 /// A procedure, offered or not.
 #[derive(Clone, Copy)]
@@ -79,6 +79,8 @@ pub enum Procedure {
     Census,
     /// GROW of the admin program: more ranges for a volume.
     Grow,
+    /// STOP of the admin program: the end of the server.
+    Stop,
 }
 
 impl Procedure {
@@ -122,6 +124,7 @@ impl Procedure {
             (ADMIN_PROGRAM, 0) => Some(Procedure::AdminNull),
             (ADMIN_PROGRAM, 1) => Some(Procedure::Census),
             (ADMIN_PROGRAM, 2) => Some(Procedure::Grow),
+            (ADMIN_PROGRAM, 3) => Some(Procedure::Stop),
             _ => None,
         }
     }
@@ -159,6 +162,7 @@ impl Procedure {
         Procedure::AdminNull,
         Procedure::Census,
         Procedure::Grow,
+        Procedure::Stop,
     ];
 
     /// The number of its program.
@@ -172,7 +176,9 @@ impl Procedure {
             | Procedure::Unmount
             | Procedure::UnmountAll
             | Procedure::ListExports => MOUNT_PROGRAM,
-            Procedure::AdminNull | Procedure::Census | Procedure::Grow => ADMIN_PROGRAM,
+            Procedure::AdminNull | Procedure::Census | Procedure::Grow | Procedure::Stop => {
+                ADMIN_PROGRAM
+            }
             _ => NFS_PROGRAM,
         }
     }
@@ -219,6 +225,7 @@ impl Procedure {
             Procedure::AdminNull => "NULL",
             Procedure::Census => "CENSUS",
             Procedure::Grow => "GROW",
+            Procedure::Stop => "STOP",
         }
     }
 }

@@ -19,7 +19,7 @@ impl ProcedureSet {
     ghost use Rattle.nfs_values.specs.declared.procedure.Procedure.{Procedure as Known};
 
     /// The offer of `replay` and `serve`: every procedure but ACCESS, FSINFO, PATHCONF,
-    /// READDIRPLUS, those on links and devices, and those of MOUNT.
+    /// READDIRPLUS, those on links and devices, those of MOUNT, and STOP.
     pub fn basic() -> ProcedureSet
         ensures set { result ≡ basic }
         ensures listed { (p : Known)
@@ -58,6 +58,7 @@ impl ProcedureSet {
                 true, // AdminNull
                 true, // Census
                 true, // Grow
+                false, // Stop
             ],
         }
     }

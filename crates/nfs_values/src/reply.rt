@@ -4,11 +4,12 @@ ghost use Rattle.std.specs.Prelude.{◌≡◌};
 
 use crate::answer::Answer;
 
-/// Why a credential is refused (auth_stat, RFC 5531 section 9).
+/// Why a caller is refused (auth_stat, RFC 5531 section 9).
 #[derive(Clone, Copy)]
 pub enum AuthFault {
     BadCredential = 1,
     RejectedCredential = 2,
+    TooWeak = 5,
 }
 
 impl AuthFault {

@@ -10,7 +10,7 @@ use Rattle.nfs_model.specs.Types as model
 use Rattle.nfs_model.specs.Serial.Readdir.{entry_size, fitting}
 use Rattle.nfs_model.specs.Serial.Readdirplus.{entry_plus_size, fitting_plus}
 use Rattle.nfs_types.specs.Shapes.{◌&◌, handle_shape, after_shape, attributes_value, change_shape, change_value}
-use Rattle.nfs_model.specs.Serial.Mount.{root_of, mounted, mount}
+use Rattle.nfs_model.specs.Serial.Mount.{root_of, mounted, mount, parts}
 use Rattle.nfs_types.specs.Results.{entry_shape, entry_value, entry_plus_shape, entry_plus_value, answer_bytes}
 use Rattle.nfs_types.specs.lemmas.Absent.{length-absent_parts}
 use Rattle.nfs_types.specs.lemmas.Lists.{length-counts, length-exports}
@@ -62,7 +62,7 @@ pub mount_size : (volumes : ℕ) (call : model.MountCall) → Takes 204 (mount v
 mount_size volumes (model.Mnt path) =
     let long : Takes 204 (model.Failed model.NameTooLong 0) = record { bytes = omega arith } in
     let bad : Takes 204 (model.Failed model.Invalid 0) = record { bytes = omega arith } in
-    either_size _ _ _ long (either_size _ _ _ bad (mounted_size (mounted volumes path)))
+    either_size _ _ _ long (either_size _ _ _ bad (mounted_size (mounted volumes (parts path))))
 mount_size volumes model.Dump = record { bytes = omega arith }
 mount_size volumes model.Exports = record { bytes = omega (arith, length-exports 0 (min volumes 10)) }
 mount_size volumes model.Unmount = record { bytes = omega arith }

@@ -12,7 +12,7 @@ use Rattle.nfs_model.specs.Server.{handle_bytes, handle_of, most_bytes}
 use Rattle.nfs_model.specs.Tree.{Layout, VolumeLayout}
 use Rattle.nfs_model.specs.Home.{named_by}
 use Rattle.nfs_model.specs.Shown.{shown}
-use Rattle.nfs_model.specs.Names.{is_dots, name_fault, same_name, dot, dot_dot}
+use Rattle.nfs_model.specs.Names.{is_dots, name_fault, find_name, same_name, dot, dot_dot}
 use Rattle.nfs_model.specs.Locate.{Effect, Fails, Tells, Changes, unless, on_node, on_directory, on_file, Located, located_in, located_by, locate, Found}
 use Rattle.nfs_model.specs.Locate.{Naming, named_child, on_name}
 use Rattle.nfs_model.specs.Serial.Setattr.{setattr}
@@ -25,19 +25,21 @@ use Rattle.nfs_model.specs.Serial.Create.{create_over, create_at, create}
 use Rattle.nfs_model.specs.Serial.Mkdir.{mkdir_at, mkdir}
 use Rattle.nfs_model.specs.Serial.Remove.{gone, remove_node, remove_at, remove_name}
 use Rattle.nfs_model.specs.Serial.Rmdir.{if_empty, rmdir_node, rmdir_at, rmdir}
-use Rattle.nfs_model.specs.Serial.Rename.{Renaming, goes_below_itself, may_go, renamed_volume, rename_told, is_same_entry, rename_at, rename_in, rename}
+use Rattle.nfs_model.specs.Serial.Rename.{Renaming, climb_fault, met_above, may_go, renamed_volume, rename_told, is_same_entry, rename_at, rename_in, rename}
 use Rattle.nfs_model.specs.Serial.Readdir.{page_of, paged, readdir}
 use Rattle.nfs_model.specs.Serial.Readdirplus.{shown_at, listed_plus, page_plus_of, paged_plus, readdirplus}
 use Rattle.nfs_model.specs.Serial.Fsstat.{fsstat}
 use Rattle.nfs_model.specs.Serial.Commit.{commit}
 use Rattle.nfs_model.specs.Serial.Census.{count_of, census}
 use Rattle.nfs_model.specs.Serial.Grow.{Grown, grow_volume, grow}
-use Rattle.nfs_model.specs.Serial.Mount.{mount}
-use Rattle.nfs_model.specs.Serial.Step.{Step, stay, placed, on, on_two, serve, serial}
+use Rattle.nfs_model.specs.Serial.Mount.{mount, parts_below}
+use Rattle.nfs_model.specs.Serial.MountBelow.{part_fault, on_entry, mount_below}
+use Rattle.nfs_model.specs.Serial.Step.{Step, stay, placed, on, on_root, on_two, serve, serial}
 use Rattle.nfs_model.specs.Serial.Absent.{absent_in, absent_parts}
 use Rattle.nfs_model.specs.Serial.AtOnce.{answer_of_two, answer_without_home}
 use Rattle.rpc_msg.specs.Replies.{reply_record}
-use Rattle.rpc_msg.specs.Room.{padded_size, lookup_room, read_room, readdir_room, change_room, made_room, results_room, reply_room, IsRoomy}
+use Rattle.rpc_msg.specs.Room.{padded_size, lookup_room, read_room, readdir_room, change_room, made_room, mount_room, results_room, reply_room}
+use Rattle.rpc_msg.specs.Room.{IsRoomy}
 use Rattle.rpc_msg.specs.declared.handle_form.HandleForm.{HandleForm}
 use Rattle.rpc_msg.specs.declared.handle_form.HandleForm.TheVariants.{Plain, OfRun}
 use Rattle.rpc_msg.specs.HandleForm.{told_in_run}
@@ -76,6 +78,9 @@ fsinfo_size a largest = record { bytes = omega arith }
 
 pathconf_size : (a : model.Shown) → Takes 116 (model.PathconfDone a)
 pathconf_size a = record { bytes = omega arith }
+
+root_size : (volume fileid : ℕ) → Takes mount_room (model.MountDone (handle_bytes volume fileid))
+root_size volume fileid = record { bytes = omega arith }
 
 grow_size : (total : ℕ) → Takes 12 (model.GrowDone total)
 grow_size total = record { bytes = omega arith }
@@ -248,7 +253,7 @@ rename_at_fits r None to = fails _ _ _
 rename_at_fits r (Some found) to =
     let old = r.from.volume in
     if_fits rename_room old (is_same_entry r) _ _ (tells _ _ _ (rename_size _ _))
-    (if_fits rename_room old (goes_below_itself r found.fileid found.node) _ _ (fails _ _ model.Invalid)
+    (unless_fits rename_room old (climb_fault (met_above r found.fileid found.node)) _
     (if_fits rename_room old (not (may_go found.node to)) _ _ (fails _ _ model.Exists)
     (renamed_fits r (renamed_volume r found.fileid to) refl)))
 
@@ -337,6 +342,17 @@ fsstat_fits volume fileid = node_fits 144 volume (get volume.nodes fileid) _ (λ
 commit_fits : (volume : VolumeState) (fileid : ℕ) → length volume.verifier ≡ 8 → Fits (4 + change_room + 8) volume (commit volume fileid)
 commit_fits volume fileid e = file_fits (4 + change_room + 8) volume (get volume.nodes fileid) _ (λ f. tells _ _ _ (commit_size _ volume.verifier e))
 
+entry_fits : (volume : VolumeState) (o : Option model.Listed) (run : ℕ → Effect) → ((fileid : ℕ) → Fits mount_room volume (run fileid))
+    → Fits mount_room volume (on_entry o run)
+entry_fits volume None run f = fails _ _ _
+entry_fits volume (Some e) run f = f e.fileid
+
+below_fits : (parts : List (List ℕ)) (volume : VolumeState) (fileid : ℕ) → Fits mount_room volume (mount_below parts volume fileid)
+below_fits [] volume fileid = directory_fits mount_room volume (get volume.nodes fileid) _ (λ d. tells _ _ _ (root_size _ _))
+below_fits (part ∷ parts) volume fileid =
+    directory_fits mount_room volume (get volume.nodes fileid) _ (λ d.
+    unless_fits mount_room volume (part_fault part) _ (entry_fits volume (find_name part d.list) _ (λ child. below_fits parts volume child)))
+
 -- ---- the server
 
 -- a reply with its room, and a server as roomy as before
@@ -410,6 +426,13 @@ on_located : (n volumes : ℕ) (server : Server) (absent : ℕ) (o : Option Loca
 on_located n volumes server absent None run i f h r = failed_fits n volumes server model.BadHandle absent h r
 on_located n volumes server absent (Some l) run i f h r =
     placed_fits n volumes server absent l.named.volume l.volume _ i (f l.volume l.named.fileid (r.verifiers l.named.volume l.volume i)) h r
+
+root_located : (n volumes : ℕ) (server : Server) (absent : ℕ) (o : Option Located) (run : VolumeState → ℕ → Effect) → IsIn server.volumes o
+    → ((volume : VolumeState) (fileid : ℕ) → Fits n volume (run volume fileid)) → 4 + 4 * absent ≤ n → IsRoomy volumes server
+    → StepFits n volumes (on_root server absent o run)
+root_located n volumes server absent None run i f h r = failed_fits n volumes server model.NoEntry absent h r
+root_located n volumes server absent (Some l) run i f h r =
+    placed_fits n volumes server absent l.named.volume l.volume _ i (f l.volume l.named.fileid) h r
 
 on_fits : (n volumes : ℕ) (server : Server) (absent : ℕ) (bytes : List ℕ) (run : VolumeState → ℕ → Effect)
     → ((volume : VolumeState) (fileid : ℕ) → length volume.verifier ≡ 8 → Fits n volume (run volume fileid)) → 4 + 4 * absent ≤ n → IsRoomy volumes server
@@ -519,8 +542,12 @@ serve_fits volumes server (model.Unsupported which) who moment r =
     failed_fits 16 volumes server model.NotSupported (absent_in which) (few_absent which) r
 serve_fits volumes server model.Census who moment r = stay_fits (4 + 20 * volumes) volumes server (census server) (census_fits volumes server r) r
 serve_fits volumes server (model.Grow volume ranges) who moment r = grow_fits volumes server volume ranges r
+serve_fits volumes server model.Stop who moment r = stay_fits 0 volumes server model.StopDone (record { bytes = omega arith }) r
 serve_fits volumes server (model.Mount call) who moment r =
     stay_fits 204 volumes server (mount (length server.volumes) call) (mount_size (length server.volumes) call) r
+serve_fits volumes server (model.MountBelow root path) who moment r =
+    root_located mount_room volumes server 0 (locate server root) _ (located server.volumes (handle_of (length server.volumes) root))
+    (below_fits (parts_below path)) (omega arith) r
 
 serial_fits : (volumes : ℕ) (server : Server) (call : model.Call) (who : model.Credential) (moment : model.Moment) (starved : Bool) → IsRoomy volumes server
     → StepFits (results_room volumes call) volumes (serial server (model.Ask call who) moment starved)
@@ -573,7 +600,9 @@ answer_at_once volumes layout model.Null = record { bytes = omega arith }
 answer_at_once volumes layout (model.Rename from from_name to to_name) = two_at_once (named_by layout from) (named_by layout to)
 answer_at_once volumes layout model.Census = record { bytes = omega arith }
 answer_at_once volumes layout (model.Grow volume ranges) = at_once volumes (model.Grow volume ranges) model.NoEntry 0 (omega arith)
+answer_at_once volumes layout model.Stop = record { bytes = omega arith }
 answer_at_once volumes layout (model.Mount call) = mount_size (length layout.volumes) call
+answer_at_once volumes layout (model.MountBelow root path) = at_once volumes (model.MountBelow root path) model.NoEntry 0 (omega arith)
 answer_at_once volumes layout (model.Unsupported which) =
     at_once volumes (model.Unsupported which) model.NotSupported (absent_in which) (few_absent which)
 answer_at_once volumes layout call = at_once volumes call model.BadHandle (absent_parts call) (omega arith)

@@ -1,14 +1,16 @@
 -- Calls that there was no memory for.
-use Rattle.std.proofs.Common.{◌≡◌, ℕ, true, List, Result, Ok, refl, sym, ap, subst, ◌∙◌}
+use Rattle.std.proofs.Common.{◌≡◌, ℕ, Bool, true, false, List, [], ◌∷◌, length, Option, Some, None, Result, Ok, refl, sym, ap, subst, ◌∙◌}
+use Rattle.std.specs.Prelude.{◌||◌, not, nat_lt, if◌then◌else◌}
 use Rattle.xdr.specs.declared.fault.Fault.{Fault as Unread}
 use Rattle.xdr.specs.Shape.{Value}
 use Rattle.xdr.specs.Reading.{all_of}
 use Rattle.xdr.specs.lemmas.Steps.{bind_ok, ok_is}
 use Rattle.nfs_model.specs.Types as model
+use Rattle.nfs_model.specs.Serial.Mount.{most_path, is_absolute, parts, volume_named, mnt_by, mnt_of_parts}
 use Rattle.nfs_model.specs.Serial.Starve.{has_bytes}
 use Rattle.rpc_msg.specs.declared.handle_form.HandleForm.TheVariants.{Plain}
 use Rattle.nfs_values.specs.declared.procedure.Procedure.{Procedure}
-use Rattle.nfs_values.specs.declared.procedure.Procedure.TheVariants.{Null}
+use Rattle.nfs_values.specs.declared.procedure.Procedure.TheVariants.{Null, Mount}
 use Rattle.nfs_types.specs.Arguments.{arguments_shape, call_from, asked, takes_memory}
 use Rattle.nfs_types.specs.lemmas.Exact.{asked_is}
 use Rattle.rpc_msg.specs.declared.record.Request.TheVariants as requests
@@ -16,9 +18,24 @@ use Rattle.rpc_msg.specs.Heads.{Call}
 use Rattle.rpc_msg.specs.Records.{asked_by, heard_from}
 use Rattle.rpc_msg.specs.Seen.{Tells}
 
+-- a MNT has its path
+bytes_by : (path : List ℕ) (others : List (List ℕ)) (volume : Option ℕ) → has_bytes (mnt_by path others volume) ≡ true
+bytes_by path others None = refl
+bytes_by path [] (Some volume) = refl
+bytes_by path (other ∷ others) (Some volume) = refl
+
+bytes_of_parts : (path : List ℕ) (parts : List (List ℕ)) → has_bytes (mnt_of_parts path parts) ≡ true
+bytes_of_parts path [] = refl
+bytes_of_parts path (part ∷ others) = bytes_by path others (volume_named 10 part)
+
+bytes_if : (path : List ℕ) (b : Bool) → has_bytes (if b then model.Mount (model.Mnt path) else mnt_of_parts path (parts path)) ≡ true
+bytes_if path true = refl
+bytes_if path false = bytes_of_parts path (parts path)
+
 -- a procedure takes memory just for a call with a name or data
 bytes_from : (procedure : Procedure) (v : Value (arguments_shape procedure)) → has_bytes (call_from procedure v) ≡ takes_memory procedure
 bytes_from Null v = refl
+bytes_from Mount path = bytes_if path (nat_lt most_path (length path) || not (is_absolute path))
 bytes_from procedure v = refl
 
 asked_has_bytes : (procedure : Procedure) (bytes : List ℕ) (call : model.Call) → asked procedure bytes ≡ Ok call → has_bytes call ≡ takes_memory procedure

@@ -36,6 +36,10 @@ made_room = 4 + 28 + 88 + change_room
 abbrev pub readdir_room : ℕ → ℕ
 readdir_room count = 4 + max 4 (min count most_bytes)
 
+-- status, the handle and two flavors (RFC 1813 appendix I, section 5.2.1)
+abbrev pub mount_room : ℕ
+mount_room = 4 + 24 + 12
+
 -- The most bytes of the results of a call, where there are this many volumes (RFC 1813 section 3.3).
 abbrev pub results_room : ℕ → model.Call → ℕ
 results_room volumes model.Null = 0
@@ -59,7 +63,9 @@ results_room volumes (model.Commit handle) = 4 + change_room + 8
 results_room volumes (model.Unsupported which) = 4 + 3 * 4
 results_room volumes model.Census = 4 + 20 * volumes
 results_room volumes (model.Grow volume ranges) = 4 + 8
+results_room volumes model.Stop = 0
 results_room volumes (model.Mount call) = 4 + 20 * 10
+results_room volumes (model.MountBelow root path) = mount_room
 
 -- the most bytes of the record of the reply to a call, where there are this many volumes
 abbrev pub reply_room : ℕ → model.Call → ℕ

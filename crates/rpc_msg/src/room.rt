@@ -51,7 +51,9 @@ fn results_room(call: &Call, volumes: u32) -> usize
         Call::Unsupported(_) => 4 + 3 * 4,
         Call::Census => 4 + 20 * volumes as usize,
         Call::Grow { .. } => 4 + 8,
+        Call::Stop => 0,
         Call::Mount(_) => 4 + 20 * MOST_EXPORTS,
+        Call::MountBelow { .. } => 4 + 24 + 12,
     }
 }
 

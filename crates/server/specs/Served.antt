@@ -9,6 +9,7 @@ use Rattle.filer_lanes.specs.ThreadedHeadline.{ThreadedHeadline}
 use Rattle.granted_calls.specs.Filers.{layout_in, verifier_in}
 use Rattle.granted_calls.specs.declared.shared.Filer.{Filer}
 use Rattle.lanes.specs.declared.lane.Lane.{Lane}
+use Rattle.nfs_values.specs.Moment.{moment_of}
 use Rattle.rpc_msg.specs.HandleForm.{verifier_of}
 use Rattle.rpc_msg.specs.Offer.{form_of}
 use Rattle.rpc_msg.specs.declared.handle_form.HandleForm.TheVariants.{OfRun}
@@ -24,12 +25,12 @@ left_line count = codes "left " ++ decimal count ++ 10 ∷ []
 abbrev pub EndsWith : {W : Type 0} → (W → Option (List ℕ)) → W → List ℕ → Type 0
 EndsWith {W} contents out bytes = (before : W) × Appends (contents before) (contents out) bytes
 
--- There is a filer with the volumes that the options plan, whose writes have the verifier of the run that the offer names, if it names
+-- There is a filer with the volumes that the options plan, begun when they say, whose writes have the verifier of the run that the offer names, if it names
 -- one; and there are as many lanes as the options have workers, which offer what the options say. The headline with threads holds of
 -- these and of what is left.
 pub record HasServed (R : Type 0) (G : devices.Ghosts Socket) (options : Options) (left : FilerEnd) : Type 0 where
   pub filer : Filer
-  pub laid_out : IsLaidOut options.volumes options.plan (layout_in filer)
+  pub laid_out : IsLaidOut options.volumes options.plan (moment_of options.begun) (layout_in filer)
   pub verifier : (run : ℕ) → form_of options.offer ≡ OfRun run → verifier_in filer ≡ verifier_of run
   pub lanes : List (Lane Socket R G)
   pub workers : length lanes ≡ options.workers

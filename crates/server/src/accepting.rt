@@ -4,9 +4,10 @@ use crate::common::Common;
 use crate::mailbox::{Arrival, Mailbox};
 use crate::seconds::second_now;
 use crate::serve_fault::ServeFault;
+use crate::stop_word::Watch;
 use clerk::Event;
 use server_options::{Options, WhenFull};
-use std::io;
+use std::io::{self, ErrorKind};
 use std::net::{SocketAddr, TcpListener, TcpStream};
 use std::rt::Clock;
 use std::sync::{Arc, Wait};
@@ -50,11 +51,19 @@ impl<'a> Door<'a> {
         }
     }
 
-    /// Whether as many came as are wanted.
+    /// Whether the server was asked to stop.
+    pub(crate) fn is_to_stop(&self) -> bool {
+        match &self.common.stop {
+            Some(word) => word.is_asked(),
+            None => false,
+        }
+    }
+
+    /// Whether as many came as are wanted, or the server was asked to stop.
     fn is_done(&self) -> bool {
         match self.options.connections {
-            Some(connections) => self.came >= connections,
-            None => false,
+            Some(connections) => self.came >= connections || self.is_to_stop(),
+            None => self.is_to_stop(),
         }
     }
 
@@ -93,6 +102,7 @@ impl<'a> Door<'a> {
 
     /// Tells that a connection finds no place, and has the lanes close those that are idle.
     fn turn_away<R: Clock>(&self, rt: &R) {
+        self.common.arrivals.turn_away();
         if let Some(journal) = &self.common.journal {
             journal.turn_away();
         }
@@ -117,6 +127,7 @@ impl<'a> Door<'a> {
         if is_full {
             self.turn_away(rt);
         } else if self.hand_over(rt, stream, peer) {
+            self.common.arrivals.accept();
             return;
         } else {
             self.common.note(rt, Event::NotServed { peer });
@@ -144,13 +155,14 @@ impl<'a> Door<'a> {
     }
 }
 
-/// Accepts as many connections as are asked for, or for as long as the program runs, and lets them
-/// in. Where one can't be accepted no more are, or it is tried again after a pause, as the options
-/// say.
+/// Accepts as many connections as are asked for, or for as long as the program runs or until it is
+/// asked to stop, and lets them in. Where one can't be accepted no more are, or it is tried again
+/// after a pause, as the options say. With a watch the listener doesn't wait, and it sleeps on it.
 pub(crate) fn accept_all<R: Wait + Clock>(
     rt: &R,
     listener: &TcpListener,
     door: &mut Door<'_>,
+    mut watch: Option<Watch>,
 ) -> Result<(), ServeFault> {
     for _ in rt.forever() {
         if door.is_done() {
@@ -159,11 +171,14 @@ pub(crate) fn accept_all<R: Wait + Clock>(
         door.wait_for_place(rt);
         match listener.accept() {
             Ok((stream, peer)) => door.let_in(rt, stream, peer),
-            Err(error) => {
-                if !door.goes_on(rt, &error) {
-                    return Err(ServeFault::AcceptFailed);
+            Err(error) => match &mut watch {
+                Some(watch) if error.kind() == ErrorKind::WouldBlock => watch.sleep(rt),
+                _ => {
+                    if !door.goes_on(rt, &error) {
+                        return Err(ServeFault::AcceptFailed);
+                    }
                 }
-            }
+            },
         }
     }
     unreachable!()

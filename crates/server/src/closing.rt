@@ -2,6 +2,7 @@
 
 ghost use Rattle.filer_lanes.specs.Lanes.{Stays};
 
+use crate::company::Share;
 use crate::guests::Guest;
 use crate::keys::unlist;
 use crate::owed::Owed;
@@ -27,8 +28,8 @@ fn reason_of_stop(stopped: Stopped) -> Reason {
     }
 }
 
-/// Why no more is read of a connection or written to it.
-fn reason_of(connection: &Connection<Socket>, guest: Guest) -> Reason {
+/// Why no more is read of a connection or written to it, whose server is about to stop or isn't.
+fn reason_of(connection: &Connection<Socket>, guest: Guest, stops: bool) -> Reason {
     if connection.is_broken() {
         return Reason::SocketFailed;
     }
@@ -37,6 +38,8 @@ fn reason_of(connection: &Connection<Socket>, guest: Guest) -> Reason {
         None => {
             if guest.has_failed {
                 Reason::SocketFailed
+            } else if stops {
+                Reason::Stops
             } else {
                 Reason::PeerClosed
             }
@@ -55,7 +58,8 @@ fn end_of<R>(lane: &Lane<Socket, R>, station: &Station, key: usize) -> Option<Re
     match lane.connection(key) {
         Some(connection) => {
             if has_ended(connection) {
-                Some(reason_of(connection, station.guests.at(key)))
+                let guest = station.guests.at(key);
+                Some(reason_of(connection, guest, station.common.stops()))
             } else {
                 None
             }
@@ -93,8 +97,8 @@ fn close<R: Wait>(
 
 /// Whether a connection has something to do without word of the system: to read or to cut, where it
 /// may be read, or to write, where replies are due.
-fn is_busy<R>(lane: &Lane<Socket, R>, key: usize, all: &Owed) -> bool {
-    is_due(lane, key, all) || is_writable(lane, key)
+fn is_busy<R>(lane: &Lane<Socket, R>, key: usize, all: &Owed, share: Share) -> bool {
+    is_due(lane, key, all, share) || is_writable(lane, key)
 }
 
 /// Closes the connections that are over, and lists those no longer that have nothing to do: a
@@ -108,7 +112,7 @@ pub(crate) fn close_ended<R: Wait>(lane: &mut Lane<Socket, R>, station: &mut Sta
         let key = station.keys.at(place);
         if let Some(reason) = end_of(lane, station, key) {
             close(lane, station, rt, key, reason);
-        } else if is_busy(lane, key, &station.common.owed) {
+        } else if is_busy(lane, key, &station.common.owed, station.share) {
             station.keys.put(kept, key);
             kept = kept.saturating_add(1);
         } else {
@@ -129,6 +133,17 @@ fn is_idle<R>(lane: &Lane<Socket, R>, guest: Guest, key: usize, idle: IdleTime, 
             is_silent && idle.is_over(since, now)
         }
         None => false,
+    }
+}
+
+/// Closes all connections with a peer, since the server stops.
+pub(crate) fn close_all<R: Wait>(lane: &mut Lane<Socket, R>, station: &mut Station, rt: &R)
+    ensures { Stays lane.old lane.new }
+{
+    for key in 0..station.guests.len() {
+        if station.guests.at(key).peer.is_some() {
+            close(lane, station, rt, key, Reason::Stops);
+        }
     }
 }
 

@@ -25,6 +25,13 @@ pub(crate) struct Mail {
 }
 
 impl Mail {
+    /// Wakes all lanes.
+    pub(crate) fn wake(&self) {
+        for mailbox in self.boxes.iter() {
+            mailbox.wake();
+        }
+    }
+
     /// Tells all lanes to stop.
     pub(crate) fn stop(&self) {
         for mailbox in self.boxes.iter() {

@@ -1,5 +1,6 @@
 //! What a lane's thread knows of its connections beside the lane.
 
+use crate::company::FIRST_BLOCK;
 use std::alloc::{AllocError, Global};
 use std::net::SocketAddr;
 
@@ -18,6 +19,8 @@ pub(crate) struct Guest {
     pub(crate) has_failed: bool,
     /// Whether it stands among those that are in doubt.
     pub(crate) is_doubted: bool,
+    /// How many bytes are read of it at once, where it isn't alone.
+    pub(crate) block: usize,
 }
 
 /// What a lane's thread knows of each of its connections, by its key.
@@ -39,6 +42,7 @@ fn nobody() -> Guest {
         taken: 0,
         has_failed: false,
         is_doubted: false,
+        block: FIRST_BLOCK,
     }
 }
 
@@ -71,6 +75,7 @@ impl Guests {
                 taken: now,
                 has_failed: false,
                 is_doubted: guest.is_doubted,
+                block: FIRST_BLOCK,
             };
         }
     }
@@ -86,6 +91,13 @@ impl Guests {
     pub(crate) fn fail(&mut self, key: usize) {
         if let Some(guest) = self.by_key.get_mut(key) {
             guest.has_failed = true;
+        }
+    }
+
+    /// So many bytes are to be read at once of the connection of a key.
+    pub(crate) fn set_block(&mut self, key: usize, block: usize) {
+        if let Some(guest) = self.by_key.get_mut(key) {
+            guest.block = block;
         }
     }
 

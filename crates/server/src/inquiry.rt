@@ -1,4 +1,4 @@
-//! What the clerk asks of a server.
+//! What the clerk and the metrics ask of a server.
 
 use crate::accepting::is_prepared;
 use crate::crew::Mail;
@@ -6,6 +6,7 @@ use crate::mailbox::Arrival;
 use crate::usage::inodes;
 use admin_client::census;
 use clerk::{Inquiry, Used};
+use metrics::VolumeUse;
 use rpc_msg::HandleForm;
 use statistics::Tally;
 use std::alloc::Global;
@@ -14,9 +15,9 @@ use std::sync::Wait;
 use std::time::Duration;
 
 /// How many seconds the clerk waits for an answer.
-const PATIENCE: u64 = 5;
+pub(crate) const PATIENCE: u64 = 5;
 
-/// What the clerk asks of a server whose lanes these are.
+/// Who asks a server whose lanes these are.
 #[derive(Drop)]
 pub(crate) struct Asked<'a, R> {
     pub(crate) rt: &'a R,
@@ -24,6 +25,8 @@ pub(crate) struct Asked<'a, R> {
     pub(crate) mail: &'a Mail,
     /// How its handles are spelled.
     pub(crate) form: HandleForm,
+    /// How many seconds an answer is waited for.
+    pub(crate) patience: u64,
 }
 
 /// Both ends of a connection over the loopback, if it can be had. Who else connects meanwhile is
@@ -50,7 +53,7 @@ where
     fn connect(&self) -> Option<TcpStream> {
         let mailbox = self.mail.boxes.first()?;
         let (near, far) = connect_both(self.rt)?;
-        let patience = Some(Duration::from_secs(PATIENCE));
+        let patience = Some(Duration::from_secs(self.patience));
         near.set_read_timeout(patience).ok()?;
         near.set_write_timeout(patience).ok()?;
         if !is_prepared(&far) {
@@ -68,16 +71,24 @@ where
         Some(near)
     }
 
-    /// How many blocks of all volumes are in files, and how many inodes these use.
-    fn ask(&self) -> Option<(u64, u64)> {
+    /// The blocks and inodes of each volume, and how many of them are in use.
+    pub(crate) fn ask(&self) -> Option<Vec<VolumeUse>> {
         let mut stream = self.connect()?;
         let census = census(&mut stream, self.alloc).ok()?;
-        let mut used = 0u64;
-        for volume in &census.volumes {
-            let number = volume.volume.0;
-            used = used.saturating_add(inodes(&mut stream, self.alloc, number, self.form)?);
+        let mut volumes = Vec::with_capacity(self.alloc, census.volumes.len()).ok()?;
+        for count in &census.volumes {
+            let volume = count.volume.0;
+            let inodes = inodes(&mut stream, self.alloc, volume, self.form)?;
+            let of_a_volume = VolumeUse {
+                volume,
+                blocks: count.total,
+                used_blocks: count.used,
+                inodes: inodes.total,
+                used_inodes: inodes.used,
+            };
+            volumes.push(of_a_volume).ok()?;
         }
-        Some((census.totals().used, used))
+        Some(volumes)
     }
 }
 
@@ -94,7 +105,14 @@ where
     }
 
     fn used(&self) -> Option<Used> {
-        let (blocks, inodes) = self.ask()?;
-        Some(Used { blocks, inodes })
+        let mut used = Used {
+            blocks: 0,
+            inodes: 0,
+        };
+        for volume in &self.ask()? {
+            used.blocks = used.blocks.saturating_add(volume.used_blocks);
+            used.inodes = used.inodes.saturating_add(volume.used_inodes);
+        }
+        Some(used)
     }
 }

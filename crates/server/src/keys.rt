@@ -8,7 +8,7 @@ use lanes::Lane;
 use std::alloc::{AllocError, Global};
 
 /// No connection has this key: a lane never has this many.
-const NO_KEY: usize = usize::MAX;
+pub(crate) const NO_KEY: usize = usize::MAX;
 
 /// The keys of a lane's connections that may have something to read, to write or to close. Each
 /// stands in it once; all others wait for word of the system, and a round doesn't look at them.

@@ -3,8 +3,10 @@
 #![tactic(auto)]
 
 mod accepting;
+mod arrivals;
 mod closing;
 mod common;
+mod company;
 mod counting;
 mod crew;
 mod crowd;
@@ -23,6 +25,7 @@ mod opening;
 mod owed;
 mod pace;
 mod printing;
+mod privilege;
 mod round;
 mod running;
 mod seconds;
@@ -30,14 +33,19 @@ mod serve_fault;
 mod serving;
 mod socket;
 mod station;
+mod stop_word;
+mod stopping;
 mod task;
+mod telling;
+mod time_limit;
+mod traffic;
 mod turning;
 mod untended;
 mod usage;
 mod visits;
 
 pub use fault::ServerFault;
-pub use opening::run_now;
+pub use opening::{begun_now, run_now};
 pub use running::{serve, serve_told};
 pub use socket::Socket;
 pub use turns::ENOUGH_STOCKED;

@@ -33,7 +33,8 @@ fn longest_wait<R>(lane: &Lane<Socket, R>, station: &Station) -> Option<Duration
     if station.is_writing || lane.waiting() > 0 {
         return Some(Duration::ZERO);
     }
-    if !may_rest(lane, &station.pace) || any_is_due(lane, &station.keys, &station.common.owed) {
+    let (keys, owed) = (&station.keys, &station.common.owed);
+    if !may_rest(lane, &station.pace) || any_is_due(lane, keys, owed, station.share) {
         return Some(Duration::ZERO);
     }
     if !lane.worker().has_empty_hand() {
@@ -138,7 +139,7 @@ pub(crate) fn round<R: Wait + Clock>(rt: &R, lane: &mut Lane<Socket, R>, station
     if waiting == 0 && !is_doubting {
         begin_anew(&mut station.pace, &station.common, moment);
     }
-    let is_idle = run_calls(lane, &mut station.pace, &station.common, moment);
+    let is_idle = run_calls(rt, lane, &mut station.pace, &station.common, moment);
     station.is_writing = write_all(lane, station, second);
     count(lane, station, rt, waiting, moment);
     close_ended(lane, station, rt);

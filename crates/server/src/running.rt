@@ -13,6 +13,7 @@ ghost use Rattle.rpc_msg.specs.Offer.{form_of};
 ghost use Rattle.rpc_msg.specs.declared.handle_form.HandleForm.TheVariants.{OfRun};
 ghost use Rattle.rpc_msg.specs.declared.offer.Offer as offers;
 ghost use Rattle.granted_calls.specs.Filers.{layout_in, verifier_in};
+ghost use Rattle.nfs_values.specs.Moment.{moment_of};
 ghost use Rattle.server.specs.Planned.{IsLaidOut};
 ghost use Rattle.server.specs.Served.{left_line, EndsWith, HasServed};
 ghost use Rattle.lanes.specs.Words.{Identity};
@@ -31,12 +32,14 @@ use crate::opening::{layout_of, verifier_for};
 use crate::printing::print_left;
 use crate::socket::Socket;
 use crate::station::Station;
+use crate::stop_word::{StopWord, Watch};
 use crate::task::{Task, Thread};
 use clerk::{Clerk, Journal};
 use connections::Device;
 use filer_lanes::{FilerEnd, Room, end, open_lanes};
 use granted_calls::Filer;
 use lanes::Lane;
+use metrics_server::MetricsServer;
 use server_options::Options;
 use std::alloc::{AllocError, Global};
 use std::io::{self, Write};
@@ -93,13 +96,27 @@ fn man_all<R: Net + Drop>(
     Ok(())
 }
 
-/// What the threads of a server with these options share.
-fn share(
-    alloc: Global,
-    options: &Options,
+/// Where what happens to a server with lines is left.
+#[derive(Drop)]
+struct Records {
     journal: Option<Journal>,
-) -> Result<Arc<Common>, AllocError> {
-    match Arc::new(alloc, Common::new(alloc, options, journal)?) {
+    /// The word to stop, where the server may be asked to.
+    stop: Option<StopWord>,
+    /// Whether metrics are told.
+    has_metrics: bool,
+}
+
+/// What the threads of a server with these options share.
+fn share(alloc: Global, options: &Options, records: Records) -> Result<Arc<Common>, AllocError> {
+    let Records {
+        journal,
+        stop,
+        has_metrics,
+    } = records;
+    match Arc::new(
+        alloc,
+        Common::new(alloc, options, journal, stop, has_metrics)?,
+    ) {
         Ok(common) => Ok(common),
         Err(_refused) => Err(AllocError),
     }
@@ -126,19 +143,19 @@ fn start<R>(
     rt: R,
     alloc: Global,
     options: &Options,
-    journal: Option<Journal>,
+    records: Records,
 ) -> Result<Running<R>, ServerFault>
 where
     R: Threads + Wait + Clock + Net + Copy + Drop + Send + 'static,
     ensures layout { IfOk result (λ r. IsLaidOut options.now.volumes options.now.plan
-        (layout_in (arc_value r.filer))) }
+        (moment_of options.now.begun) (layout_in (arc_value r.filer))) }
     ensures verifier { IfOk result (λ r. (run : ℕ) → form_of options.now.offer ≡ OfRun run
         → verifier_in (arc_value r.filer) ≡ verifier_of run) }
     ensures threads { IfOk result (λ r. AreThreadsOf (arc_value r.filer) r.threads.items) }
     ensures offer { IfOk result (λ r. AllServe options.now.offer r.threads.items) }
     ensures count { IfOk result (λ r. length r.threads.items ≡ options.now.workers) }
 {
-    let layout = layout_of(alloc, options.volumes, options.plan)?;
+    let layout = layout_of(alloc, options.volumes, options.plan, options.begun)?;
     let (workers, offer) = (options.workers, options.offer);
     let most_open = options.admission.most_open as usize;
     let lanes = Vec::with_capacity(alloc, workers)?;
@@ -146,7 +163,7 @@ where
     let mut tasks = Vec::with_capacity(alloc, workers)?;
     let mut boxes = Vec::with_capacity(alloc, workers)?;
     let room = Room::new(alloc, workers)?;
-    let common = share(alloc, options, journal)?;
+    let common = share(alloc, options, records)?;
     let verifier = verifier_for(&rt, offer);
     let (filer, mut lanes) = open_lanes(
         rt, alloc, offer, layout, verifier, workers, most_open, lanes,
@@ -173,11 +190,11 @@ where
 /// with.
 fn run<R, W, E>(
     rt: &R,
-    listener: &TcpListener,
+    listener: TcpListener,
     options: &Options,
     running: Running<R>,
     out: &mut W,
-    scribe: Option<Scribe<'_, '_, E>>,
+    scribe: Option<(Watch, Scribe<'_, '_, E>)>,
 ) -> Result<FilerEnd, ServerFault>
 where
     R: Threads + Wait + Clock + Copy + Drop + Send,
@@ -218,7 +235,7 @@ where
 pub fn serve<R, W>(
     rt: R,
     alloc: Global,
-    listener: &TcpListener,
+    listener: TcpListener,
     options: &Options,
     out: &mut W,
 ) -> Result<FilerEnd, ServerFault>
@@ -231,8 +248,13 @@ where
     ensures printed { IfOk result (λ left.
         EndsWith W.contents out.new (left_line (unfinished_in left))) }
 {
-    let running = start(rt, alloc, options, None)?;
-    let none: Option<Scribe<'_, '_, io::Sink>> = None;
+    let records = Records {
+        journal: None,
+        stop: None,
+        has_metrics: false,
+    };
+    let running = start(rt, alloc, options, records)?;
+    let none: Option<(Watch, Scribe<'_, '_, io::Sink>)> = None;
     let end = run(&rt, listener, options, running, out, none)?;
     print_left(&end, out)?;
     Ok(end)
@@ -241,13 +263,16 @@ where
 /// The same, and tells by a second writer the lines of the start that are given, and then what
 /// people want to know of connections: as the options say, and always where connections are closed
 /// for want of a place or can't be accepted. Whatever becomes of that writer, the connections are
-/// served.
+/// served. Metrics are told beside it where there is somebody who tells them. It goes on until it
+/// is asked to stop: then the listener is closed, what was read is finished, and connections are
+/// closed whose replies went out, or after five seconds.
 pub fn serve_told<R, W, E>(
     rt: R,
     alloc: Global,
-    listener: &TcpListener,
+    listener: TcpListener,
     options: &Options,
     opening: &str,
+    metrics: Option<MetricsServer>,
     out: &mut W,
     err: &mut E,
 ) -> Result<FilerEnd, ServerFault>
@@ -265,13 +290,21 @@ where
     let journal = clerk
         .journal(alloc, options.log)
         .map_err(|error| of_clerk(&error))?;
-    let running = start(rt, alloc, options, Some(journal))?;
-    let scribe = Some(Scribe {
+    let (watch, stop) = Watch::new(alloc, &rt, &listener).map_err(|error| of_clerk(&error))?;
+    let records = Records {
+        journal: Some(journal),
+        stop: Some(stop),
+        has_metrics: metrics.is_some(),
+    };
+    let running = start(rt, alloc, options, records)?;
+    let scribe = Scribe {
         clerk,
         opening,
         err,
         alloc,
-    });
+        metrics,
+    };
+    let scribe = Some((watch, scribe));
     let end = run(&rt, listener, options, running, out, scribe)?;
     print_left(&end, out)?;
     Ok(end)

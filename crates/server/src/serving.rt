@@ -5,6 +5,7 @@ ghost use Rattle.filer_lanes.specs.Lanes.{Stays};
 use crate::round::round;
 use crate::socket::Socket;
 use crate::station::Station;
+use crate::stopping::heed_stop;
 use lanes::Lane;
 use std::rt::Clock;
 use std::sync::Wait;
@@ -24,6 +25,7 @@ pub(crate) fn run_rounds<R: Wait + Clock>(
             break;
         }
         round(rt, &mut lane, &mut station);
+        heed_stop(rt, &mut lane, &mut station);
     }
     lane
 }

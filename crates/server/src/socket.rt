@@ -2,10 +2,12 @@
 
 ghost use Rattle.connections.specs.Told.{MovesAtMost};
 
+use crate::traffic::Traffic;
 use connections::{Device, DeviceCall, Told, answer_of};
 use histories::History;
 use mio::net::TcpStream;
 use std::io::{self, ErrorKind, Read, Write};
+use std::sync::Arc;
 
 /// How often a call is made again that is interrupted. After these it counts as one that would have
 /// waited, and is made again when the system tells of the socket.
@@ -50,16 +52,20 @@ fn write_at_once(stream: &mut TcpStream, bytes: &[u8]) -> Told
 #[derive(Drop)]
 pub struct Socket {
     pub(crate) stream: TcpStream,
+    /// Where its bytes are counted, if they are.
+    traffic: Option<Arc<Traffic>>,
     given: History<u8>,
     taken: History<u8>,
     calls: History<DeviceCall>,
 }
 
 impl Socket {
-    /// The socket of a stream of which nothing was read and to which nothing was written.
-    pub(crate) fn new(stream: TcpStream) -> Socket {
+    /// The socket of a stream of which nothing was read and to which nothing was written. Its bytes
+    /// are counted here, if they are.
+    pub(crate) fn new(stream: TcpStream, traffic: Option<Arc<Traffic>>) -> Socket {
         Socket {
             stream,
+            traffic,
             given: History::new(),
             taken: History::new(),
             calls: History::new(),
@@ -81,6 +87,9 @@ impl Device for Socket {
         let told = read_at_once(&mut self.stream, block);
         if let Told::Moved(size) = told {
             self.given = self.given.and_all(&block[..size]);
+            if let Some(traffic) = &self.traffic {
+                traffic.receive(size);
+            }
         }
         self.calls = self.calls.and(&DeviceCall::Read(block.len(), told));
         told
@@ -90,6 +99,9 @@ impl Device for Socket {
         let told = write_at_once(&mut self.stream, bytes);
         if let Told::Moved(size) = told {
             self.taken = self.taken.and_all(&bytes[..size]);
+            if let Some(traffic) = &self.traffic {
+                traffic.send(size);
+            }
         }
         self.calls = self.calls.and(&DeviceCall::Write(bytes.len(), told));
         told

@@ -3,6 +3,7 @@
 ghost use Rattle.std.specs.Prelude.{◌<◌, length};
 
 use crate::common::Common;
+use crate::company::{Company, Share};
 use crate::counting::Counting;
 use crate::guests::Guests;
 use crate::keys::Keys;
@@ -45,6 +46,9 @@ pub(crate) struct Station {
     pub(crate) common: Arc<Common>,
     pub(crate) keys: Keys,
     pub(crate) guests: Guests,
+    pub(crate) company: Company,
+    /// How much of the lane a connection may have, as it was when one was visited last.
+    pub(crate) share: Share,
     pub(crate) buffers: Buffers,
     pub(crate) pace: Pace,
     /// What is counted, where that is told.
@@ -69,6 +73,8 @@ impl Drop for Station {
             common: _,
             keys: _,
             guests: _,
+            company: _,
+            share: _,
             buffers: _,
             pace: _,
             counting: _,
@@ -106,6 +112,8 @@ impl Station {
             common,
             keys: Keys::new(alloc, most_open)?,
             guests: Guests::new(alloc, most_open)?,
+            company: Company::new(),
+            share: Share::all(),
             buffers: Buffers::new(alloc)?,
             pace: Pace::new(),
             counting,

@@ -7,11 +7,13 @@ use crate::lane_tends::{begin_anew, may_rest, put_down, tend};
 use crate::late_word::LateWord;
 use crate::pace::Pace;
 use crate::socket::Socket;
+use crate::time_limit::TimeLimit;
 use affinity::Kind;
 use granted_calls::{Chained, Unwatched};
 use lanes::Lane;
 use nfs_values::Moment;
 use std::cell::Cell;
+use std::rt::Clock;
 use std::sync::Wait;
 
 /// The most turns of a round.
@@ -56,10 +58,11 @@ fn fell_short(pace: &mut Pace, ran: &Ran) -> bool {
 }
 
 /// Makes turns under one grant, at most this many.
-fn run_some<R: Wait>(
+fn run_some<R: Wait + Clock>(
     lane: &mut Lane<Socket, R>,
     pace: &Pace,
     common: &Common,
+    limit: &TimeLimit<'_, R>,
     moment: Moment,
     most: usize,
 ) -> Ran
@@ -69,6 +72,7 @@ fn run_some<R: Wait>(
         wanted: &common.wanted,
         patience: pace.patience,
         ran_on: Cell::new(None),
+        limit,
     };
     let chained = match common.counter(lane.index()) {
         Some(counter) => {
@@ -125,9 +129,10 @@ fn goes_on<R>(
     }
 }
 
-/// Makes turns until no message waits, or 64, and tends between them where a stock fell short.
-/// Answers whether the last turn found none.
-pub(crate) fn run_calls<R: Wait>(
+/// Makes turns until no message waits, or 64, or for a millisecond, and tends between them where a
+/// stock fell short. Answers whether the last turn found none.
+pub(crate) fn run_calls<R: Wait + Clock>(
+    rt: &R,
     lane: &mut Lane<Socket, R>,
     pace: &mut Pace,
     common: &Common,
@@ -136,12 +141,14 @@ pub(crate) fn run_calls<R: Wait>(
     ensures { Stays lane.old lane.new }
 {
     let mut left = MOST_TURNS;
+    let limit = TimeLimit::new(rt);
     for _ in 0..MOST_TURNS {
         let before = lane.waiting();
-        if left == 0 || before == 0 && may_rest(lane, pace) {
+        if left == 0 || limit.is_over() || before == 0 && may_rest(lane, pace) {
             return false;
         }
-        let ran = run_some(lane, pace, common, moment, left.min(MOST_CHAINED));
+        let most = left.min(MOST_CHAINED);
+        let ran = run_some(lane, pace, common, &limit, moment, most);
         let finished = before.saturating_sub(lane.waiting());
         left = left.saturating_sub(finished.max(1));
         if finished > 0 {

@@ -1,4 +1,4 @@
-//! How many inodes a volume uses, as its server tells (FSSTAT, RFC 1813 section 3.3.18).
+//! How many inodes a volume has and uses, as its server tells (FSSTAT, RFC 1813 section 3.3.18).
 
 use admin_client::next_record;
 use rpc_msg::HandleForm;
@@ -54,8 +54,15 @@ fn call_of(alloc: Global, volume: u32, form: HandleForm) -> Result<Vec<u8>, Allo
     Ok(framed)
 }
 
-/// How many inodes are in use by a reply of FSSTAT, if it tells that.
-fn used_in(reply: &[u8]) -> Option<u64> {
+/// How many inodes a volume may have, and has.
+#[derive(Clone, Copy)]
+pub(crate) struct InodeUse {
+    pub(crate) total: u64,
+    pub(crate) used: u64,
+}
+
+/// How many inodes there may be and are by a reply of FSSTAT, if it tells that.
+fn inodes_in(reply: &[u8]) -> Option<InodeUse> {
     let mut from = Cursor::new(reply);
     for wanted in &REPLY_HEAD {
         if from.u32().ok()? != *wanted {
@@ -67,20 +74,23 @@ fn used_in(reply: &[u8]) -> Option<u64> {
     }
     let total = from.u64().ok()?;
     let free = from.u64().ok()?;
-    Some(total.saturating_sub(free))
+    Some(InodeUse {
+        total,
+        used: total.saturating_sub(free),
+    })
 }
 
-/// Asks a server over a connected stream how many inodes a volume uses.
+/// Asks a server over a connected stream how many inodes a volume has and uses.
 pub(crate) fn inodes<S: Read + Write>(
     stream: &mut S,
     alloc: Global,
     volume: u32,
     form: HandleForm,
-) -> Option<u64> {
+) -> Option<InodeUse> {
     let call = call_of(alloc, volume, form).ok()?;
     stream.write_all(&call).ok()?;
     match next_record(alloc, stream) {
-        Ok(reply) => used_in(&reply),
+        Ok(reply) => inodes_in(&reply),
         Err(_fault) => None,
     }
 }

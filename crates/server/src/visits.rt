@@ -1,11 +1,15 @@
 //! The connections of a lane, read and written.
 
+ghost use Rattle.std.specs.Prelude.{◌<◌, length};
 ghost use Rattle.filer_lanes.specs.Lanes.{Stays};
 
+use crate::common::Common;
+use crate::company::Share;
 use crate::guests::Guests;
 use crate::keys::{Keys, list};
 use crate::mailbox::Arrival;
 use crate::owed::Owed;
+use crate::privilege::peer_of;
 use crate::socket::Socket;
 use crate::station::{Buffers, Station};
 use clerk::Event;
@@ -15,26 +19,30 @@ use mio::net::TcpStream;
 use mio::{Interest, Registry, Token};
 use std::net;
 use std::sync::Wait;
+use tcp_front::Peer;
 
 /// The most writes of one visit. Each but the last went out whole.
 const MOST_WRITES: usize = 64;
 
-/// Registers a socket once, for both ways, and gives it to the lane as a connection. Answers its
-/// key, or none where it can't be served.
+/// Registers a socket once, for both ways, and gives it to the lane as a connection to a peer.
+/// Answers its key, or none where it can't be served.
 fn register<R>(
     lane: &mut Lane<Socket, R>,
     registry: &Registry,
+    common: &Common,
     stream: net::TcpStream,
+    peer: Peer,
 ) -> Option<usize>
     ensures { Stays lane.old lane.new }
 {
     let token = Token(lane.next_key());
-    let mut socket = Socket::new(TcpStream::from_std(stream));
+    let traffic = common.traffic(lane.index());
+    let mut socket = Socket::new(TcpStream::from_std(stream), traffic);
     let both = Interest::READABLE | Interest::WRITABLE;
     if registry.register(&mut socket.stream, token, both).is_err() {
         return None;
     }
-    lane.open(socket).ok()
+    lane.open(socket, peer).ok()
 }
 
 /// Opens a connection of a stream that arrived, in a second. Where it can't be served it is closed.
@@ -49,7 +57,8 @@ pub(crate) fn open<R: Wait>(
 {
     let Arrival { stream, peer } = arrival;
     let common = &station.common;
-    match register(lane, station.poll.registry(), stream) {
+    let peer_is = peer_of(&stream, peer);
+    match register(lane, station.poll.registry(), common, stream, peer_is) {
         Some(key) => {
             station.guests.admit(key, peer, now);
             if let (Some(connection), Some(peer)) = (lane.connection(key), peer) {
@@ -73,8 +82,9 @@ fn has_more(connection: &Connection<Socket>) -> bool {
 }
 
 /// Whether a connection has something to read or to cut, and may be read: less is owed to it than
-/// may be, and nothing is, or less than may be to all together.
-pub(crate) fn is_due<R>(lane: &Lane<Socket, R>, key: usize, all: &Owed) -> bool {
+/// may be, and nothing is, or less than may be to all together; and of the lane it has no more than
+/// it may have.
+pub(crate) fn is_due<R>(lane: &Lane<Socket, R>, key: usize, all: &Owed, share: Share) -> bool {
     match lane.connection(key) {
         Some(connection) => {
             let owed = connection.owed();
@@ -82,15 +92,16 @@ pub(crate) fn is_due<R>(lane: &Lane<Socket, R>, key: usize, all: &Owed) -> bool 
                 && !connection.is_stopped()
                 && lane.may_owe(owed)
                 && (owed == 0 || !all.is_over())
+                && share.may_read(connection.due().replies)
         }
         None => false,
     }
 }
 
 /// Whether a connection of a lane has something to read or to cut, and may be read.
-pub(crate) fn any_is_due<R>(lane: &Lane<Socket, R>, keys: &Keys, all: &Owed) -> bool {
+pub(crate) fn any_is_due<R>(lane: &Lane<Socket, R>, keys: &Keys, all: &Owed, share: Share) -> bool {
     for place in 0..keys.len() {
-        if is_due(lane, keys.at(place), all) {
+        if is_due(lane, keys.at(place), all, share) {
             return true;
         }
     }
@@ -122,22 +133,51 @@ fn after_read(flags: Flags, came: Came, block: usize) -> Flags {
     }
 }
 
-/// Reads a connection once, or cuts what is kept of it.
-fn read<R: Wait>(lane: &mut Lane<Socket, R>, key: usize, guests: &mut Guests, buffers: &mut Buffers)
+/// How many replies are owed to the connection of a key.
+fn replies_to<R>(lane: &Lane<Socket, R>, key: usize) -> usize {
+    match lane.connection(key) {
+        Some(connection) => connection.due().replies,
+        None => 0,
+    }
+}
+
+/// Reads a connection once into at most so many bytes of a block, or cuts what is kept of it.
+fn read_into<R: Wait>(lane: &mut Lane<Socket, R>, key: usize, block: &mut [u8], most: usize) -> Came
+    requires { 0 < length block.old }
     ensures { Stays lane.old lane.new }
 {
-    let came = lane.read(key, &mut buffers.block);
+    let most = most.max(1).min(block.len());
+    lane.read(key, &mut block[..most])
+}
+
+/// Reads a connection once, or cuts what is kept of it: by as many bytes as are likely to bring no
+/// more than it may have of the lane, so that little is kept.
+fn read<R: Wait>(
+    lane: &mut Lane<Socket, R>,
+    key: usize,
+    guests: &mut Guests,
+    buffers: &mut Buffers,
+    share: Share,
+)
+    ensures { Stays lane.old lane.new }
+{
+    let (before, usual) = (replies_to(lane, key), guests.at(key).block);
+    let most = share.block(usual).max(1).min(buffers.block.len());
+    let came = read_into(lane, key, &mut buffers.block, most);
     match came {
         Came::Failed => guests.fail(key),
         Came::Read(size) => {
-            if size < buffers.block.len() {
+            let records = replies_to(lane, key).saturating_sub(before);
+            let block = share.usual_after(usual, size, records);
+            guests.set_block(key, block.min(buffers.block.len()));
+            if size < most {
                 guests.doubt(key);
             }
         }
         _ => {}
     }
     if let Some(connection) = lane.connection(key) {
-        let flags = after_read(connection.flags(), came, buffers.block.len());
+        let flags = after_read(connection.flags(), came, most);
         lane.set_flags(key, flags);
     }
 }
@@ -151,8 +191,11 @@ pub(crate) fn read_all<R: Wait>(lane: &mut Lane<Socket, R>, station: &mut Statio
     for others in 0..station.keys.len() {
         let key = station.keys.visited(others);
         station.guests.hear(key, now);
-        if is_due(lane, key, &station.common.owed) {
-            read(lane, key, &mut station.guests, &mut station.buffers);
+        station.company.meet(key, now);
+        let share = station.company.share(lane, now);
+        station.share = share;
+        if is_due(lane, key, &station.common.owed, share) {
+            read(lane, key, &mut station.guests, &mut station.buffers, share);
         }
     }
 }

@@ -24,6 +24,13 @@ most_size = 1099511627776
 abbrev pub fewest_inodes : ℕ
 fewest_inodes = 65536
 
+-- the most steps of a RENAME of a directory of `serve`, and of `export`
+abbrev pub usual_steps : ℕ
+usual_steps = 4294967295
+
+abbrev pub exported_steps : ℕ
+exported_steps = 4096
+
 -- this many bytes of a volume, from 4 MiB to 1 TiB
 abbrev pub IsVolumeSize : ℕ → Type 0
 IsVolumeSize bytes = 4 * mebibyte ≤ bytes × bytes ≤ most_size
@@ -36,13 +43,14 @@ IsFileSize bytes = 16 * mebibyte ≤ bytes × bytes ≤ most_size
 abbrev pub AreInodes : ℕ → Type 0
 AreInodes inodes = fewest_inodes ≤ inodes × inodes ≤ inodes_of_a_volume
 
--- the plan of `serve`: 4 ranges of 1,024 blocks, 8 stripes, files of 16 MiB, 65,536 inodes, and 16 spare ranges
+-- the plan of `serve`: 4 ranges of 1,024 blocks, 8 stripes, files of 16 MiB, 65,536 inodes, more steps than these, and 16 spare ranges
 pub record IsBasic (plan : VolumePlan) : Type 0 where
   pub ranges : plan.ranges ≡ 4
   pub range_blocks : plan.range_blocks ≡ 1024
   pub stripes : plan.stripes ≡ 8
   pub mib : plan.mib ≡ 16
   pub inodes : plan.inodes ≡ fewest_inodes
+  pub steps : plan.most_steps ≡ usual_steps
   pub spare : plan.spare ≡ 16
 
 -- volumes of this many ranges of 1,024 blocks, with files of 64 MiB and 65,536 inodes, which may grow
@@ -52,6 +60,7 @@ pub record HasRanges (ranges : ℕ) (plan : VolumePlan) : Type 0 where
   pub stripes : plan.stripes ≡ 16
   pub mib : plan.mib ≡ 64
   pub inodes : plan.inodes ≡ fewest_inodes
+  pub steps : plan.most_steps ≡ exported_steps
   pub spare : plan.spare ≡ 128
 
 -- the bytes of a range of a volume, and of the volume at the start
@@ -71,6 +80,7 @@ pub record HasSize (bytes : ℕ) (plan : VolumePlan) : Type 0 where
   pub stripes : plan.stripes ≡ 16
   pub files : plan.mib ≡ max (bytes_of plan / mebibyte) 16
   pub inodes : plan.inodes ≡ max (bytes_of plan / 16384) fewest_inodes
+  pub steps : plan.most_steps ≡ exported_steps
   pub spare : plan.spare ≡ 0
 
 -- another plan with files of at most this many bytes, in whole mebibytes, and else the same
@@ -80,6 +90,7 @@ pub record HasFiles (bytes : ℕ) (old new : VolumePlan) : Type 0 where
   pub range_blocks : new.range_blocks ≡ old.range_blocks
   pub stripes : new.stripes ≡ old.stripes
   pub inodes : new.inodes ≡ old.inodes
+  pub steps : new.most_steps ≡ old.most_steps
   pub spare : new.spare ≡ old.spare
 
 -- another plan with this many inodes at most, and else the same
@@ -89,6 +100,7 @@ pub record HasInodes (inodes : ℕ) (old new : VolumePlan) : Type 0 where
   pub range_blocks : new.range_blocks ≡ old.range_blocks
   pub stripes : new.stripes ≡ old.stripes
   pub mib : new.mib ≡ old.mib
+  pub steps : new.most_steps ≡ old.most_steps
   pub spare : new.spare ≡ old.spare
 
 -- how `replay` and `serve` let connections in: 64 are open at most, and others wait

@@ -1,12 +1,14 @@
 -- Whose connections are served (our profile).
-use Rattle.std.specs.Prelude.{◌≡◌, ℕ, ◌/◌, ◌^◌, ◌⊎◌, ⊤, Option, Some, None, Any}
+use Rattle.std.specs.Prelude.{◌≡◌, ℕ, ◌<◌, ◌/◌, ◌^◌, ◌⊎◌, ⊤, Option, Some, None, Any}
 use Rattle.std.specs.Net.Addr.{ipv6_bits, IsLoopbackV4, IsLoopbackV6, MatchIp}
+use Rattle.std.specs.Net.Socket.{socket_ip, socket_port}
 use Rattle.std.specs.declared.net.ipv6_addr.Ipv6Addr.{Ipv6Addr}
 use Rattle.std.specs.declared.net.ip_addr.IpAddr.{IpAddr}
+use Rattle.std.specs.declared.net.socket_addr.SocketAddr.{SocketAddr}
 use Rattle.server_options.specs.declared.network.Network.{Network}
 use Rattle.server_options.specs.declared.peers.Peers.{Peers}
 use Rattle.server_options.specs.declared.peers.Peers.TheVariants.{All, Loopback, Networks}
-use Rattle.server_options.specs.Networks.{mapped_in, IsIn, IsMapped}
+use Rattle.server_options.specs.Networks.{mapped_in, width_of, IsIn, IsMapped}
 
 -- it is in a network that was named
 abbrev pub IsNamed : IpAddr → Option Network → Type 0
@@ -22,3 +24,13 @@ abbrev pub Serves : Peers → IpAddr → Type 0
 Serves All address = ⊤
 Serves Loopback address = MatchIp address IsLoopbackV4 IsOwnV6
 Serves (Networks named) address = Any (IsNamed address) named
+
+-- ---- who may stop the server
+
+-- An address is of this machine, on whose side a connection has that other one: an address of the own machine, or that very one.
+abbrev pub IsHere : IpAddr → IpAddr → Type 0
+IsHere own address = Serves Loopback address ⊎ IsIn own (width_of own) address
+
+-- A peer of such a connection may stop the server: this machine, from a port below 1024, which systems give to root alone.
+abbrev pub MayStop : IpAddr → SocketAddr → Type 0
+MayStop own peer = (socket_port peer < 1024) × IsHere own (socket_ip peer)

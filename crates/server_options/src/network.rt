@@ -87,6 +87,15 @@ impl Network {
         Some(Network { address, bits })
     }
 
+    /// An address alone.
+    pub fn of_one(address: IpAddr) -> Network
+        ensures address { result.address ≡ address }
+        ensures bits { result.bits ≡ width_of address }
+    {
+        let bits = width_of(&address);
+        Network { address, bits }
+    }
+
     /// The network that a text names: an address, or one with how many of its bits count, as
     /// `10.0.0.0/8`. The bits behind these are 0, and their number has no sign and no 0 before it.
     pub fn read(text: &str) -> Option<Network> {

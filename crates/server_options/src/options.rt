@@ -8,15 +8,16 @@ use crate::peers::Peers;
 use crate::plan::VolumePlan;
 use affinity::MOST_VOLUMES;
 use clerk::Period;
+use nfs_values::Moment;
 use rpc_msg::Offer;
 use std::net::SocketAddr;
 use tends::MOST_WORKERS;
 
 /// Where a server listens, how many volumes (1 to 8) and workers (1 to 64) it has, after how many
 /// connections it ends, if after any, how many may be open, what it offers and to whom, what its
-/// volumes have at the start, after how long a connection is idle, if ever, how many bytes of
-/// replies may be owed to all connections together, if that is bounded, whether each connection is
-/// told of, and how often statistics are, if they are.
+/// volumes have at the start and when that is, by their roots, after how long a connection is idle,
+/// if ever, how many bytes of replies may be owed to all connections together, if that is bounded,
+/// whether each connection is told of, and how often statistics are, if they are.
 #[derive(Clone, Copy)]
 pub struct Options {
     pub address: SocketAddr,
@@ -27,6 +28,7 @@ pub struct Options {
     pub offer: Offer,
     pub peers: Peers,
     pub plan: VolumePlan,
+    pub begun: Moment,
     pub idle: Option<IdleTime>,
     pub most_owed: Option<u64>,
     pub log: bool,
@@ -39,13 +41,16 @@ pub struct Options {
 
 impl Options {
     ghost use Rattle.std.specs.Prelude.{◌≡◌, IfNone, IfSome, None, false};
+    ghost use Rattle.nfs_model.specs.Server.{start_of_times};
+    ghost use Rattle.nfs_values.specs.Moment.{moment_of};
     ghost use Rattle.rpc_msg.specs.Offer.{basic};
     ghost use Rattle.server_options.specs.Asked.{IsBasic, IsInRange, IsUsual};
     ghost use Rattle.server_options.specs.declared.peers.Peers.TheVariants.{All};
 
     /// These options, where the numbers are in their ranges, and else none. The offer and the plan
-    /// are the basic ones, everybody is served, at most 64 connections are open, for which others
-    /// wait, none is ever idle, none is told of, and no statistics are.
+    /// are the basic ones, roots have the start of all times, everybody is served, at most 64
+    /// connections are open, for which others wait, none is ever idle, none is told of, and no
+    /// statistics are.
     pub fn new(
         address: SocketAddr,
         volumes: usize,
@@ -56,6 +61,7 @@ impl Options {
             × options.volumes ≡ volumes × options.workers ≡ workers
             × options.connections ≡ connections × IsUsual options.admission
             × options.offer ≡ basic × IsBasic options.plan × options.peers ≡ All
+            × moment_of options.begun ≡ start_of_times
             × options.idle ≡ None × options.most_owed ≡ None × options.log ≡ false
             × options.statistics ≡ None) }
         ensures in_range { IfSome result (λ options. IsInRange volumes workers) }
@@ -79,6 +85,7 @@ impl Options {
             offer: Offer::basic(),
             peers: Peers::All,
             plan: VolumePlan::basic(),
+            begun: Moment::START,
             idle: None,
             most_owed: None,
             log: false,
@@ -119,6 +126,15 @@ impl Options {
     {
         let mut options = self;
         options.plan = plan;
+        options
+    }
+
+    /// The same options, with volumes whose roots have this moment as their times.
+    pub fn with_begun(self, begun: Moment) -> Options
+        ensures { result ≡ record self { begun = begun } }
+    {
+        let mut options = self;
+        options.begun = begun;
         options
     }
 

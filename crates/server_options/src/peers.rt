@@ -1,11 +1,11 @@
 //! Whose connections are served.
 
 ghost use Rattle.std.specs.Prelude.{◌↔◌, Any, IsTrue};
-ghost use Rattle.server_options.specs.Peers.{IsNamed, IsOwnV6, Serves};
+ghost use Rattle.server_options.specs.Peers.{IsHere, IsNamed, IsOwnV6, MayStop, Serves};
 
 use crate::network::{Network, is_mapped, mapped_in};
 use std::fmt;
-use std::net::{IpAddr, Ipv6Addr};
+use std::net::{IpAddr, Ipv6Addr, SocketAddr};
 
 /// The most networks that may be named.
 pub const MOST_NETWORKS: usize = 16;
@@ -62,6 +62,21 @@ impl Peers {
             Peers::Networks(networks) => is_in_some(networks, address),
         }
     }
+}
+
+/// Whether an address is of this machine, on whose side a connection has that other one.
+fn is_here(own: &IpAddr, address: &IpAddr) -> bool
+    ensures { IsTrue result ↔ IsHere own.now address.now }
+{
+    Peers::Loopback.has(address) || Network::of_one(*own).has(address)
+}
+
+/// Whether a peer may stop the server, on whose side their connection has this address: it is this
+/// machine, from a port below 1024.
+pub fn may_stop(own: &IpAddr, peer: &SocketAddr) -> bool
+    ensures { IsTrue result ↔ MayStop own.now peer.now }
+{
+    peer.port() < 1_024 && is_here(own, &peer.ip())
 }
 
 /// Tells networks, each after a comma but the first.

@@ -3,7 +3,7 @@
 ghost use Rattle.std.specs.Prelude.{◌≡◌, ◌≤◌, ◌<◌, ◌*◌, ◌⊎◌};
 ghost use Rattle.nfs_model.specs.volume.Ranges.{IsRangeSize};
 
-use affinity::{INODES, MEBIBYTE, MIB, MOST_INODES, MOST_RANGES, RANGE_BLOCKS};
+use affinity::{INODES, MEBIBYTE, MIB, MOST_INODES, MOST_RANGES, RANGE_BLOCKS, STEPS};
 use nfs_values::BLOCK_BYTES;
 
 /// The bytes of a volume for each of its inodes.
@@ -18,6 +18,9 @@ const LEAST_FILE: u64 = 16_777_216;
 /// The most bytes of a volume, and of a file.
 pub const MOST_BYTES: u64 = 1_099_511_627_776;
 
+/// The most steps of a RENAME of a directory in a volume of `export`.
+const EXPORTED_STEPS: u32 = 4_096;
+
 /// What each volume has at the start, and what all of them may grow by.
 #[derive(Clone, Copy)]
 pub struct VolumePlan {
@@ -31,6 +34,8 @@ pub struct VolumePlan {
     pub mib: u32,
     /// How many inodes it may have, the root with them.
     pub inodes: u32,
+    /// How many steps from a directory to its parent a RENAME of a directory takes at most.
+    pub most_steps: u32,
     /// Ranges by which the volumes may grow, all together.
     pub spare: u32,
     pub ghost some_range: { 0 < ranges },
@@ -71,6 +76,7 @@ impl VolumePlan {
             stripes: 8,
             mib: 16,
             inodes: INODES,
+            most_steps: STEPS,
             spare: 16,
         }
     }
@@ -91,6 +97,7 @@ impl VolumePlan {
             stripes: 16,
             mib: 64,
             inodes: INODES,
+            most_steps: EXPORTED_STEPS,
             spare: 128,
         })
     }
@@ -118,6 +125,7 @@ impl VolumePlan {
             stripes: 16,
             mib: mebibytes as u32,
             inodes: inodes as u32,
+            most_steps: EXPORTED_STEPS,
             spare: 0,
         })
     }

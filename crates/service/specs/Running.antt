@@ -16,6 +16,8 @@ use Rattle.nfs_model.specs.Serial.Create.{create}
 use Rattle.nfs_model.specs.Serial.Fsstat.{fsstat}
 use Rattle.nfs_model.specs.Serial.Lookup.{lookup}
 use Rattle.nfs_model.specs.Serial.Mkdir.{mkdir}
+use Rattle.nfs_model.specs.Serial.Mount.{parts_below}
+use Rattle.nfs_model.specs.Serial.MountBelow.{mount_below}
 use Rattle.nfs_model.specs.Serial.Read.{read}
 use Rattle.nfs_model.specs.Serial.Readdir.{readdir}
 use Rattle.nfs_model.specs.Serial.Readdirplus.{readdirplus}
@@ -31,7 +33,7 @@ use Rattle.nfs_values.specs.Call.{call_of}
 use Rattle.nfs_values.specs.Reply.{reply_of}
 use Rattle.nfs_values.specs.declared.call.Call.{Call}
 use Rattle.nfs_values.specs.declared.call.Call.TheVariants.{GetAttributes, Lookup, CheckAccess, Read, ReadDirectory, ReadDirectoryPlus, FilesystemInfo}
-use Rattle.nfs_values.specs.declared.call.Call.TheVariants.{PathConfiguration, Commit}
+use Rattle.nfs_values.specs.declared.call.Call.TheVariants.{PathConfiguration, Commit, MountBelow}
 use Rattle.nfs_model.specs.volume.Stripes.{StripeValue}
 use Rattle.filer_state.specs.state.Calls.{VolumeCall, LieIn, handle_in}
 use Rattle.filer_state.specs.state.Parcels.{FilerParcel}
@@ -96,6 +98,7 @@ is_told (GetAttributes handle) = true
 is_told (Lookup target) = true
 is_told (Read handle offset count) = true
 is_told (Commit handle) = true
+is_told (MountBelow root path) = true
 is_told call = is_of_page_or_object call
 
 -- the fileid that a handle names
@@ -130,6 +133,7 @@ procedure (types.Fsstat handle) other credential moment = fsstat
 procedure (types.Fsinfo handle) other credential moment = fsinfo
 procedure (types.Pathconf handle) other credential moment = pathconf
 procedure (types.Commit handle) other credential moment = commit
+procedure (types.MountBelow root path) other credential moment = mount_below (parts_below path)
 procedure call other credential moment = λ volume fileid. Fails Stale
 
 -- a call on a fileid, as it is asked of a volume under a node

@@ -1,6 +1,7 @@
 pub mod Promises
 pub mod Renaming
 pub mod Moving
+pub mod Climbing
 pub use Rattle.service_names.specs.Promises as NamePromises
 pub use Rattle.service_names.specs.lemmas.Whole as WholeLemmas
 pub use Rattle.service_names.specs.ChangeLaws

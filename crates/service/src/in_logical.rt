@@ -53,6 +53,7 @@ use service_names::creating::{create, make_directory};
 use service_names::listing::{PageAsked, read_directory};
 use service_names::listing_plus::{PagePlusAsked, read_directory_plus};
 use service_names::looking::lookup;
+use service_names::mounting_below::mount_below;
 use service_names::removing::{remove, remove_directory};
 use service_names::setting::set_attributes;
 use service_names::telling::{check_access, filesystem_info, path_configuration};
@@ -120,6 +121,10 @@ fn tell(run: Run, held: &LogicalHeld<Files>, named: Named) -> Option<Outcome>
         Call::Commit { .. } => {
             let told = commit(held, volume, fileid);
             Some(Outcome::Replied(Reply::Success(Answer::Commit(told))))
+        }
+        Call::MountBelow { path, .. } => {
+            let told = mount_below(held, volume, fileid, path.as_bytes());
+            Some(Outcome::Replied(Reply::Success(Answer::Mount(told))))
         }
         _ => tell_page(run, held, named),
     }

@@ -3,6 +3,7 @@
 mod as_directory;
 mod asking;
 mod between;
+mod climb;
 mod climbing;
 mod dropping;
 mod entry_name;

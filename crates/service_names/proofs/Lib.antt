@@ -21,3 +21,4 @@ mod Overs
 mod News
 mod Made
 mod Objects
+mod Mounted

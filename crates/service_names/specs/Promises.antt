@@ -7,7 +7,7 @@ use Rattle.nfs_values.specs.Answer.{answer_of}
 use Rattle.nfs_values.specs.declared.answer.Answer.{Answer}
 use Rattle.nfs_values.specs.declared.answer.Answer.TheVariants as answers
 use Rattle.nfs_values.specs.declared.answer.Answer.TheVariants.{Lookup, CheckAccess, ReadDirectory, ReadDirectoryPlus}
-use Rattle.nfs_values.specs.declared.answer.Answer.TheVariants.{FilesystemInfo, PathConfiguration, Commit}
+use Rattle.nfs_values.specs.declared.answer.Answer.TheVariants.{FilesystemInfo, PathConfiguration, Commit, Mount}
 use Rattle.nfs_values.specs.declared.answer.MakeResults.{MakeResults}
 use Rattle.nfs_values.specs.declared.attributes.Change.{Change}
 use Rattle.nfs_values.specs.declared.answer.LookupResults.{LookupResults}
@@ -17,6 +17,7 @@ use Rattle.nfs_values.specs.declared.answer.AccessResults.{AccessResults}
 use Rattle.nfs_values.specs.declared.answer.FilesystemInfoResults.{FilesystemInfoResults}
 use Rattle.nfs_values.specs.declared.answer.PathConfigurationResults.{PathConfigurationResults}
 use Rattle.nfs_values.specs.declared.answer.CommitResults.{CommitResults}
+use Rattle.nfs_values.specs.declared.mount.MountResults.{MountResults}
 use Rattle.nfs_model.specs.Work as works
 use Rattle.nfs_model.specs.Work.{Outcome, Starved}
 use Rattle.filer_state.specs.state.Running.{RunsOn}
@@ -29,7 +30,7 @@ use Rattle.filer_state.specs.state.Promises.{RightOnVolume}
 use Rattle.filer_state.specs.state.Jobs.{Replied}
 use Rattle.filer_state.specs.state.Calls.{ServesOn}
 use Rattle.filer_state.specs.changes.AttributeLaws.{setattr_call}
-use Rattle.filer_state.specs.changes.NameLaws.{lookup_call, readdir_call, readdirplus_call, access_call, fsinfo_call, pathconf_call, commit_call}
+use Rattle.filer_state.specs.changes.NameLaws.{lookup_call, readdir_call, readdirplus_call, access_call, fsinfo_call, pathconf_call, commit_call, mount_call}
 use Rattle.filer_state.specs.changes.Laws.{create_call, mkdir_call, remove_call, rmdir_call}
 
 -- An entry of LOOKUP of a name in the directory of a fileid under Logical, with this result, is right: by whatever handle and at
@@ -62,6 +63,12 @@ abbrev pub TellsPath : ℕ → ℕ → LogicalSet → Result PathConfigurationRe
 TellsPath v fileid set result = (handle : List ℕ)
     → RightOnVolume v logical_lens (ServesOn (pathconf_call handle (Logical v) fileid) false) [] [] set
     (Replied (Success (answer_of (PathConfiguration result)))) set
+
+-- An entry of MNT of a path below a root, likewise (RFC 1813 appendix I, section 5.2.1).
+abbrev pub MountsBelow : ℕ → ℕ → List ℕ → LogicalSet → Result MountResults Status → Type 0
+MountsBelow v fileid path set result = (root : List ℕ)
+    → RightOnVolume v logical_lens (ServesOn (mount_call root (Logical v) fileid path) false) [] [] set
+    (Replied (Success (answer_of (Mount result)))) set
 
 -- what a READDIR comes to: a reply, or memory ran out
 abbrev pub listing_outcome : Result (Result ReadDirectoryResults Status) AllocError → Outcome

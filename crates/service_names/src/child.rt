@@ -70,7 +70,7 @@ pub fn child_at(held: &LogicalHeld<Files>, directory: Fileid, name: &[u8]) -> Op
 }
 
 /// The fileid of a name of a directory.
-fn find(held: &LogicalHeld<Files>, directory: Fileid, name: &[u8]) -> Option<Fileid>
+pub(crate) fn find(held: &LogicalHeld<Files>, directory: Fileid, name: &[u8]) -> Option<Fileid>
     ensures { fileid_number result
         ≡ fileid_found (entries_of held.now.own directory.0) name.now }
 {

@@ -18,6 +18,7 @@ pub mod listing_plus;
 pub mod looking;
 mod making;
 mod making_new;
+pub mod mounting_below;
 mod naming;
 mod new_inodes;
 mod node;

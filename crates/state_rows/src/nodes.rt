@@ -55,7 +55,7 @@ fn create_and_undo(rt: &impl Abort, inodes: &mut Inodes, inode: Inode) -> Fileid
 
 /// The root alone.
 fn no_files(rt: &(impl Abort + AllocGlobal)) -> Inodes {
-    Inodes::new(rt.alloc()).expect(rt, "no memory")
+    Inodes::new(rt.alloc(), MADE).expect(rt, "no memory")
 }
 
 /// Three files.
@@ -71,8 +71,15 @@ fn three(rt: &(impl Abort + AllocGlobal)) -> Inodes {
 #[test]
 fn root(rt: HostRuntime) {
     let inodes = no_files(&rt);
-    same(&rt, &inodes.get(Fileid::ROOT), &Some(Inode::ROOT));
-    same(&rt, &Inode::ROOT.attributes.mode, &493);
+    let root = Inode::root(MADE);
+    same(&rt, &inodes.get(Fileid::ROOT), &Some(root));
+    same(&rt, &root.attributes.mode, &493);
+    let times = (
+        root.attributes.atime,
+        root.attributes.mtime,
+        root.attributes.ctime,
+    );
+    same(&rt, &times, &(MADE, MADE, MADE));
     mem::forget(inodes);
 }
 

@@ -21,6 +21,12 @@ pub record HasPut (time calls : ℕ) (before after : List ℕ) : Type 0 where
 abbrev pub through_by : List ℕ → ℕ → ℕ
 through_by counts bucket = sum (take (bucket + 1) counts)
 
+-- so many calls are through by the end of the bucket of a time, of which those above 2^32 - 1 aren't told apart
+pub record AreWithin (time : ℕ) (counts : List ℕ) (calls : ℕ) : Type 0 where
+  pub bucket : ℕ
+  pub is : IsBucketOf (min time (2 ^ 32 - 1)) bucket
+  pub calls_are : calls ≡ through_by counts bucket % 2 ^ 64
+
 -- the longest time of the first bucket by whose end this many percent of the calls are through
 pub record IsPercentile (counts : List ℕ) (percent time : ℕ) : Type 0 where
   pub bucket : ℕ

@@ -3,7 +3,7 @@
 ghost use Rattle.std.specs.Prelude.{◌≡◌, ℕ, ◌+◌, ◌-◌, ◌*◌, ◌<◌, ◌≤◌, ◌^◌, min, replicate, sum};
 ghost use Rattle.statistics.specs.Buckets.{through_by, top_of, IsBucketOf};
 
-use crate::wrapping::{add_each, less_each};
+use crate::wrapping::{add_each, less_each, sum_of};
 
 /// How many buckets there are.
 pub(crate) const BUCKETS: usize = 124;
@@ -81,7 +81,7 @@ pub struct Histogram {
 }
 
 impl Histogram {
-    ghost use Rattle.statistics.specs.Buckets.{HasPut, IsPercentile};
+    ghost use Rattle.statistics.specs.Buckets.{AreWithin, HasPut, IsPercentile};
     ghost use Rattle.statistics.specs.Histogram.{buckets_in};
     ghost use Rattle.statistics.specs.Wrapping.{AreDifferences, AreSums};
 
@@ -117,6 +117,15 @@ impl Histogram {
     {
         let share = u128::from(percent.min(100)) * total_of(&self.counts);
         longest_in(first_through(&self.counts, share))
+    }
+
+    /// How many calls are through by the end of the bucket of a time in microseconds, wrapping as
+    /// counts do; of the longest time all are.
+    pub fn within(&self, micros: u64) -> u64
+        ensures { AreWithin micros (buckets_in self.now) result }
+    {
+        let bucket = bucket_of(micros);
+        sum_of(&self.counts[..bucket + 1])
     }
 
     /// The calls of both together.

@@ -17,6 +17,8 @@ pub struct Tally {
     at_once: [AtomicU64; KINDS],
     /// How many calls took how long, by buckets of times.
     times: [AtomicU64; BUCKETS],
+    /// How many microseconds they took in all, wrapping at 2^64.
+    micros: AtomicU64,
     /// How often a node was refused.
     busy: AtomicU64,
 }
@@ -28,6 +30,7 @@ impl Drop for Tally {
             replies: _,
             at_once: _,
             times: _,
+            micros: _,
             busy: _,
         } = self;
     }
@@ -65,6 +68,7 @@ impl Tally {
             replies: array::from_fn(|_place| AtomicU64::new(0)),
             at_once: array::from_fn(|_place| AtomicU64::new(0)),
             times: array::from_fn(|_bucket| AtomicU64::new(0)),
+            micros: AtomicU64::new(0),
             busy: AtomicU64::new(0),
         }
     }
@@ -82,6 +86,13 @@ impl Tally {
     /// This many calls took this many microseconds each (`Histogram::put`).
     pub fn took(&self, micros: u64, calls: u64) {
         count_at(&self.times, bucket_of(micros), calls);
+        self.micros
+            .fetch_add(micros.wrapping_mul(calls), Ordering::Relaxed);
+    }
+
+    /// How many microseconds all calls took together so far.
+    pub fn micros(&self) -> u64 {
+        self.micros.load(Ordering::Relaxed)
     }
 
     /// This many replies were made at once so far, in all: these take the place of what was given

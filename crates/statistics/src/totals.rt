@@ -18,7 +18,7 @@ pub struct Totals {
 }
 
 impl Totals {
-    ghost use Rattle.statistics.specs.Buckets.{IsPercentile};
+    ghost use Rattle.statistics.specs.Buckets.{AreWithin, IsPercentile};
     ghost use Rattle.statistics.specs.Counts.{count_of, kinds_in};
     ghost use Rattle.statistics.specs.Kind.{kinds_count};
     ghost use Rattle.statistics.specs.Histogram.{buckets_in};
@@ -80,6 +80,14 @@ impl Totals {
         ensures { IsPercentile (buckets_in (times_in self.now)) (min percent 100) result }
     {
         self.times.percentile(percent)
+    }
+
+    /// How many timed calls are through by the end of the bucket of a time in microseconds
+    /// (`Histogram::within`).
+    pub fn within(&self, micros: u64) -> u64
+        ensures { AreWithin micros (buckets_in (times_in self.now)) result }
+    {
+        self.times.within(micros)
     }
 
     /// How many calls were answered with results, whatever they told.

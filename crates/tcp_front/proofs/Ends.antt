@@ -9,6 +9,7 @@ use Rattle.nfs_model.specs.World.{Heard}
 use Rattle.rpc_msg.specs.declared.offer.Offer.{Offer}
 use Rattle.tcp_front.specs.declared.counted.Counted.{Counted}
 use Rattle.tcp_front.specs.declared.read_end.ReadEnd.TheVariants as ends
+use Rattle.tcp_front.specs.declared.peer.Peer.{Peer}
 use Rattle.tcp_front.specs.declared.stream.Stream.{Stream}
 use Rattle.tcp_front.specs.declared.stream.Stopped.{Stopped}
 use Rattle.tcp_front.specs.declared.stream.Stopped.TheVariants as stops
@@ -20,19 +21,19 @@ use Rattle.tcp_front.proofs.Taken.{ComesMore, taken-more, taken-none}
 
 module _ {R S : Type 0} (remaining : R → Option (List ℕ)) (came : S → List Arrival → S
     → Type 0) (layout : Layout) (offer : Offer) (alloc : Global)
-    (connection : ConnectionNumber) (reader : Counted R) (sink : S) where
+    (connection : ConnectionNumber) (peer : Peer) (reader : Counted R) (sink : S) where
   -- so far these bytes were read, their records given on, and nothing failed
   pub record SoFar (reader' : Counted R) (stream : Stream) (sink' : S) : Type 0 where
     pub read : List ℕ
     pub consumed : Consumes (remaining (device_of reader)) (remaining (device_of reader')) read
-    pub taken : HasTaken came layout offer (opened alloc connection) sink read None stream sink'
+    pub taken : HasTaken came layout offer (opened alloc connection peer) sink read None stream sink'
     pub same : HasNotFailed reader reader'
 
-  pub nothing-read : ((s : S) → came s [] s) → SoFar reader (opened alloc connection) sink
+  pub nothing-read : ((s : S) → came s [] s) → SoFar reader (opened alloc connection peer) sink
   nothing-read none = record {
     read = [];
     consumed = Consumes-nil (remaining (device_of reader));
-    taken = taken-none came layout offer (opened alloc connection) sink (none sink) (omega arith);
+    taken = taken-none came layout offer (opened alloc connection peer) sink (none sink) (omega arith);
     same = refl;
   }
 
@@ -44,7 +45,7 @@ module _ {R S : Type 0} (remaining : R → Option (List ℕ)) (came : S → List
     pub at-end : (after : Counted R) (size : ℕ) (block : List ℕ) → size ≡ 0
         → Consumes (remaining (device_of reader')) (remaining (device_of after)) (take size block)
         → IsAtEnd (remaining (device_of after)) → HasNotFailed reader' after
-        → HasRead remaining came layout offer connection.0 reader sink ends.End after sink'
+        → HasRead remaining came layout offer connection.0 peer.is_privileged reader sink ends.End after sink'
     at-end after size block e consumed none same = record {
       read = so.read;
       heard = so.taken.heard;
@@ -57,7 +58,7 @@ module _ {R S : Type 0} (remaining : R → Option (List ℕ)) (came : S → List
 
     pub reader-failed : (after : Counted R) → Keeps (remaining (device_of reader')) (remaining (device_of after))
         → HasFailed reader' after
-        → HasRead remaining came layout offer connection.0 reader sink ends.ReaderFailed after sink'
+        → HasRead remaining came layout offer connection.0 peer.is_privileged reader sink ends.ReaderFailed after sink'
     reader-failed after kept failed = record {
       read = so.read;
       heard = so.taken.heard;
@@ -73,14 +74,14 @@ module _ {R S : Type 0} (remaining : R → Option (List ℕ)) (came : S → List
         (same : HasNotFailed reader' after)
         (woken : came mid [] sink'') where
       -- all that was given on before the sink was told
-      given-on : (heard : List Heard) → came sink (arrivals layout connection.0 0 heard) mid
-          → came sink (arrivals layout connection.0 0 heard) sink''
+      given-on : (heard : List Heard) → came sink (arrivals layout connection.0 peer.is_privileged 0 heard) mid
+          → came sink (arrivals layout connection.0 peer.is_privileged 0 heard) sink''
       given-on heard given = subst (λ (l : List Arrival). came sink l sink'') (append-nil _)
           (law sink mid sink'' _ [] given woken)
 
       pub more-read : HasTaken came layout offer stream sink' bytes None stream' mid → SoFar after stream' sink''
       more-read h =
-          let t = taken-more came layout offer law (opened alloc connection) stream stream' sink sink' mid so.read bytes None
+          let t = taken-more came layout offer law (opened alloc connection peer) stream stream' sink sink' mid so.read bytes None
           so.taken h in
           record {
             read = so.read ++ bytes;
@@ -90,13 +91,13 @@ module _ {R S : Type 0} (remaining : R → Option (List ℕ)) (came : S → List
           }
 
       pub read-to-stop : (stopped : Stopped) → HasTaken came layout offer stream sink' bytes (Some stopped) stream' mid
-          → HasRead remaining came layout offer connection.0 reader sink (end_of stopped) after sink''
+          → HasRead remaining came layout offer connection.0 peer.is_privileged reader sink (end_of stopped) after sink''
       read-to-stop stopped h = by stopped (taken-more came layout offer law
-          (opened alloc connection) stream stream' sink sink' mid so.read bytes (Some stopped) so.taken h)
+          (opened alloc connection peer) stream stream' sink sink' mid so.read bytes (Some stopped) so.taken h)
         where
-          by : (stopped : Stopped) → HasTaken came layout offer (opened alloc connection) sink (so.read ++ bytes)
+          by : (stopped : Stopped) → HasTaken came layout offer (opened alloc connection peer) sink (so.read ++ bytes)
               (Some stopped) stream' mid
-              → HasRead remaining came layout offer connection.0 reader sink (end_of stopped) after sink''
+              → HasRead remaining came layout offer connection.0 peer.is_privileged reader sink (end_of stopped) after sink''
           by (stops.Fault fault) t = record {
             read = so.read ++ bytes;
             heard = t.heard;

@@ -1,5 +1,5 @@
 -- Records that are given on, part after part.
-use Rattle.std.proofs.Common.{◌≡◌, ◌<◌, ◌+◌, ◌-◌, ℕ, List, [], ◌∷◌, ◌++◌, length, length-append, length-drop, take, drop}
+use Rattle.std.proofs.Common.{◌≡◌, ◌<◌, ◌+◌, ◌-◌, ℕ, Bool, List, [], ◌∷◌, ◌++◌, length, length-append, length-drop, take, drop}
 use Rattle.std.proofs.Common.{Option, Some, None, Result, Ok, Err, refl, sym, ap, subst, ◌∙◌, take-append-drop, arith}
 use Rattle.std.proofs.lemmas.List.{take_all}
 use Rattle.std.proofs.Math.Seq.{take-add}
@@ -7,24 +7,25 @@ use Rattle.rpc_record.specs.Machine.{State}
 use Rattle.nfs_model.specs.Tree.{Layout}
 use Rattle.nfs_model.specs.World.{Heard}
 use Rattle.rpc_msg.specs.declared.offer.Offer.{Offer}
+use Rattle.tcp_front.specs.declared.peer.Peer.{Peer}
 use Rattle.tcp_front.specs.declared.stream.Stream.{Stream}
 use Rattle.tcp_front.specs.declared.stream.Stopped.{Stopped}
 use Rattle.tcp_front.specs.declared.stream.Stopped.TheVariants as stops
 use Rattle.tcp_front.specs.declared.next_record.Next.TheVariants as nexts
 use Rattle.tcp_front.specs.Arrivals.{Arrival, arrivals, arrival_of, most_records}
-use Rattle.tcp_front.specs.Steps.{Adds, Brings, BringsRecord, Comes, HasGiven, HasGivenRecord, HasTaken, StopsAs}
+use Rattle.tcp_front.specs.Steps.{Adds, Brings, BringsRecord, Comes, HasGiven, HasGivenRecord, HasTaken, IsSameLine, StopsAs}
 use Rattle.tcp_front.proofs.Adding.{adds-more, adds-nothing, brings-first, brings-longer, brings-more, first-longer, first-more}
 
 -- ---- what records come to, one after another
 
-arrivals-append : (layout : Layout) (connection number : ℕ) (hs ks : List Heard)
-    → arrivals layout connection number (hs ++ ks) ≡ arrivals layout connection number hs ++ arrivals layout connection
-    (number + length hs) ks
-arrivals-append layout connection number [] ks = ap (λ (n : ℕ). arrivals layout connection n ks) (omega arith)
-arrivals-append layout connection number (h ∷ hs) ks =
-    ap (λ (l : List Arrival). arrival_of layout connection number h ∷ l)
-    (arrivals-append layout connection (number + 1) hs ks
-    ∙ ap (λ (n : ℕ). arrivals layout connection (number + 1) hs ++ arrivals layout connection n ks) (omega arith))
+arrivals-append : (layout : Layout) (connection : ℕ) (p : Bool) (number : ℕ) (hs ks : List Heard)
+    → arrivals layout connection p number (hs ++ ks)
+    ≡ arrivals layout connection p number hs ++ arrivals layout connection p (number + length hs) ks
+arrivals-append layout connection p number [] ks = ap (λ (n : ℕ). arrivals layout connection p n ks) (omega arith)
+arrivals-append layout connection p number (h ∷ hs) ks =
+    ap (λ (l : List Arrival). arrival_of layout connection p number h ∷ l)
+    (arrivals-append layout connection p (number + 1) hs ks
+    ∙ ap (λ (n : ℕ). arrivals layout connection p (number + 1) hs ++ arrivals layout connection p n ks) (omega arith))
 
 -- what comes after what came, as a sink's law has it
 abbrev pub ComesMore : {S : Type 0} → (S → List Arrival → S → Type 0) → Type 0
@@ -56,7 +57,7 @@ module _ {S : Type 0} (came : S → List Arrival → S → Type 0) (layout : Lay
     heard = [];
     given = none;
     count = omega arith;
-    same = refl;
+    same = (refl, refl);
     stops = (adds-nothing offer s.reassembler, few);
   }
 
@@ -66,9 +67,12 @@ module _ {S : Type 0} (came : S → List Arrival → S → Type 0) (layout : Lay
       → HasTaken came layout offer s sink (xs ++ ys) stopped s' sink'
   taken-more law s t s' sink mid sink' xs ys stopped f g =
       let c = s.connection.0 in
-      let at : arrivals layout t.connection.0 t.records g.heard ≡ arrivals layout c (s.records + length f.heard) g.heard =
-      ap (λ k. arrivals layout k.0 t.records g.heard) f.same ∙ ap (λ (n : ℕ). arrivals layout c n g.heard) f.count in
-      let joined = sym (arrivals-append layout c s.records f.heard g.heard) in
+      let p = s.peer.is_privileged in
+      let at : arrivals layout t.connection.0 t.peer.is_privileged t.records g.heard ≡ arrivals layout c p (s.records + length f.heard) g.heard =
+      ap (λ k. arrivals layout k.0 t.peer.is_privileged t.records g.heard) f.same.0
+      ∙ ap (λ (q : Peer). arrivals layout c q.is_privileged t.records g.heard) f.same.1
+      ∙ ap (λ (n : ℕ). arrivals layout c p n g.heard) f.count in
+      let joined = sym (arrivals-append layout c p s.records f.heard g.heard) in
       let both = length-append f.heard g.heard in
       let first = f.count in
       let second = g.count in
@@ -77,7 +81,7 @@ module _ {S : Type 0} (came : S → List Arrival → S → Type 0) (layout : Lay
         given = subst (λ (l : List Arrival). came sink l sink') joined
             (law sink mid sink' _ _ f.given (subst (λ (l : List Arrival). came mid l sink') at g.given));
         count = omega (arith, both, first, second);
-        same = g.same ∙ f.same;
+        same = (g.same.0 ∙ f.same.0, g.same.1 ∙ f.same.1);
         stops = stops-more offer s t s' xs ys f.heard g.heard stopped f.stops.0 g.stops;
       }
 
@@ -95,14 +99,14 @@ module _ {S : Type 0} (came : S → List Arrival → S → Type 0) (layout : Lay
 
   -- bytes that make no record whole
   pub taken-part : (s s' : Stream) (sink : S) (bytes : List ℕ) → came sink [] sink → Adds offer s.reassembler bytes [] s'.reassembler
-      → s'.connection ≡ s.connection → s'.records ≡ s.records → s.records < most_records
+      → IsSameLine s s' → s'.records ≡ s.records → s.records < most_records
       → HasTaken came layout offer s sink bytes None s' sink
   taken-part s s' sink bytes none a c r few =
       record { heard = []; given = none; count = omega (arith, r); same = c; stops = (a, omega (arith, r, few)) }
 
   -- bytes at which it stopped before a record was whole
   pub taken-stopped : (s s' : Stream) (sink : S) (bytes : List ℕ) (taken : ℕ) (at : Option State) (stopped : Stopped) → came sink [] sink
-      → Comes offer s.reassembler bytes taken (nexts.Stopped stopped) at → s'.connection ≡ s.connection → s'.records ≡ s.records
+      → Comes offer s.reassembler bytes taken (nexts.Stopped stopped) at → IsSameLine s s' → s'.records ≡ s.records
       → HasTaken came layout offer s sink (take taken bytes) (Some stopped) s' sink
   taken-stopped s s' sink bytes taken at (stops.Fault fault) none h c r =
       record { heard = []; given = none; count = omega (arith, r); same = c; stops = h }
@@ -112,7 +116,7 @@ module _ {S : Type 0} (came : S → List Arrival → S → Type 0) (layout : Lay
 
   -- a record that is whole and is given on
   taken-record : (s t s' : Stream) (sink sink' : S) (bytes : List ℕ) (h : Heard) (stopped : Option Stopped)
-      → Adds offer s.reassembler bytes (h ∷ []) t.reassembler → t.connection ≡ s.connection → t.records ≡ s.records
+      → Adds offer s.reassembler bytes (h ∷ []) t.reassembler → IsSameLine s t → t.records ≡ s.records
       → HasGiven came layout t sink h stopped s' sink' → HasTaken came layout offer s sink bytes stopped s' sink'
   taken-record s t s' sink sink' bytes h None a c r g =
       let count = ap (λ (x : Stream). x.records) g.1 in
@@ -120,10 +124,11 @@ module _ {S : Type 0} (came : S → List Arrival → S → Type 0) (layout : Lay
       record {
         heard = h ∷ [];
         given = subst (λ (l : List Arrival). came sink l sink')
-            (ap (λ k. arrival_of layout k.0 t.records h ∷ []) c
-            ∙ ap (λ (n : ℕ). arrival_of layout s.connection.0 n h ∷ []) r) g.0;
+            (ap (λ k. arrival_of layout k.0 t.peer.is_privileged t.records h ∷ []) c.0
+            ∙ ap (λ (p : Peer). arrival_of layout s.connection.0 p.is_privileged t.records h ∷ []) c.1
+            ∙ ap (λ (n : ℕ). arrival_of layout s.connection.0 s.peer.is_privileged n h ∷ []) r) g.0;
         count = omega (arith, count, r);
-        same = ap (λ (x : Stream). x.connection) g.1 ∙ c;
+        same = (ap (λ (x : Stream). x.connection) g.1 ∙ c.0, ap (λ (x : Stream). x.peer) g.1 ∙ c.1);
         stops = (
           subst (λ (x : Option State). Adds offer s.reassembler bytes (h ∷ []) x) (sym (ap (λ
               (x : Stream). x.reassembler) g.1)) a,
@@ -137,7 +142,7 @@ module _ {S : Type 0} (came : S → List Arrival → S → Type 0) (layout : Lay
         heard = [];
         given = g.0;
         count = omega (arith, count, r);
-        same = ap (λ (x : Stream). x.connection) g.1 ∙ c;
+        same = (ap (λ (x : Stream). x.connection) g.1 ∙ c.0, ap (λ (x : Stream). x.peer) g.1 ∙ c.1);
         stops = brings-first offer s.reassembler t.reassembler bytes [] (h ∷ []) a;
       }
   taken-record s t s' sink sink' bytes h (Some stops.NumbersUsed) a c r g =
@@ -146,16 +151,17 @@ module _ {S : Type 0} (came : S → List Arrival → S → Type 0) (layout : Lay
       record {
         heard = h ∷ [];
         given = subst (λ (l : List Arrival). came sink l sink')
-            (ap (λ k. arrival_of layout k.0 t.records h ∷ []) c
-            ∙ ap (λ (n : ℕ). arrival_of layout s.connection.0 n h ∷ []) r) g.0;
+            (ap (λ k. arrival_of layout k.0 t.peer.is_privileged t.records h ∷ []) c.0
+            ∙ ap (λ (p : Peer). arrival_of layout s.connection.0 p.is_privileged t.records h ∷ []) c.1
+            ∙ ap (λ (n : ℕ). arrival_of layout s.connection.0 s.peer.is_privileged n h ∷ []) r) g.0;
         count = omega (arith, count, r);
-        same = ap (λ (x : Stream). x.connection) g.1 ∙ c;
+        same = (ap (λ (x : Stream). x.connection) g.1 ∙ c.0, ap (λ (x : Stream). x.peer) g.1 ∙ c.1);
         stops = (brings-first offer s.reassembler t.reassembler bytes (h ∷ []) [] a, omega (arith, count, all));
       }
 
   -- a whole record
   pub taken-whole : (s t s' : Stream) (sink sink' : S) (bytes : List ℕ) (r : Result Heard ℕ) (stopped : Option Stopped)
-      → BringsRecord offer s.reassembler bytes r t.reassembler → t.connection ≡ s.connection → t.records ≡ s.records
+      → BringsRecord offer s.reassembler bytes r t.reassembler → IsSameLine s t → t.records ≡ s.records
       → HasGivenRecord came layout t sink r stopped s' sink' → HasTaken came layout offer s sink bytes stopped s' sink'
   taken-whole s t s' sink sink' bytes (Ok h) stopped brings c r g = taken-record s t s' sink sink' bytes h stopped brings c r g
   taken-whole s t s' sink sink' bytes (Err n) None brings c r g = absurd g.0
@@ -165,7 +171,7 @@ module _ {S : Type 0} (came : S → List Arrival → S → Type 0) (layout : Lay
         heard = [];
         given = g.1;
         count = omega (arith, count, r);
-        same = ap (λ (x : Stream). x.connection) g.2 ∙ c;
+        same = (ap (λ (x : Stream). x.connection) g.2 ∙ c.0, ap (λ (x : Stream). x.peer) g.2 ∙ c.1);
         stops = subst (λ (k : ℕ). Brings offer s.reassembler bytes [] (Some k)) (sym g.0) brings;
       }
   taken-whole s t s' sink sink' bytes (Err n) (Some stops.NoMemory) brings c r g = absurd g.0

@@ -2,6 +2,7 @@ pub mod Admitted
 pub mod Counts
 pub mod Writing
 pub mod Joining
+pub mod Peers
 pub mod Arrivals
 pub mod Numbers
 pub mod Steps

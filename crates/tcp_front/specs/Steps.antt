@@ -1,5 +1,5 @@
 -- What parts of a stream come to.
-use Rattle.std.specs.Prelude.{◌≡◌, ℕ, ◌+◌, ◌<◌, List, [], ◌∷◌, ◌++◌, length, take, Option, Some, None, Result, Ok, Err}
+use Rattle.std.specs.Prelude.{◌≡◌, ℕ, ◌+◌, ◌<◌, Bool, List, [], ◌∷◌, ◌++◌, length, take, Option, Some, None, Result, Ok, Err}
 use Rattle.std.specs.Global.{Global}
 use Rattle.rpc_record.specs.Machine.{State, start}
 use Rattle.rpc_record.specs.Stream.{read_stream}
@@ -12,6 +12,7 @@ use Rattle.scheduler.specs.declared.message.Origin.{Origin}
 use Rattle.engine_feed.specs.Numbers.{fault_number}
 use Rattle.engine_feed.specs.Codec.{heard}
 use Rattle.engine_feed.specs.Streams.{scan_stream}
+use Rattle.tcp_front.specs.declared.peer.Peer.{Peer}
 use Rattle.tcp_front.specs.declared.stream.Stream.{Stream}
 use Rattle.tcp_front.specs.declared.stream.Stopped.{Stopped}
 use Rattle.tcp_front.specs.declared.stream.Stopped.TheVariants as stops
@@ -21,10 +22,10 @@ use Rattle.tcp_front.specs.declared.read_end.ReadEnd.{ReadEnd}
 use Rattle.tcp_front.specs.declared.read_end.ReadEnd.TheVariants as ends
 use Rattle.tcp_front.specs.Arrivals.{Arrival, arrival_of, arrivals, most_records}
 
--- what a record comes to
-abbrev pub given_of : Layout → Origin → Asked → List Arrival
-given_of layout origin asked =
-    arrival_of layout origin.connection.0 origin.number (record { xid = origin.xid; asked = asked }) ∷ []
+-- what a record of a peer comes to
+abbrev pub given_of : Layout → Peer → Origin → Asked → List Arrival
+given_of layout peer origin asked =
+    arrival_of layout origin.connection.0 peer.is_privileged origin.number (record { xid = origin.xid; asked = asked }) ∷ []
 
 -- ---- bytes after a stream that stands here and is at no fault, by what is offered
 
@@ -71,12 +72,12 @@ Comes offer at bytes taken (nexts.Stopped stops.NumbersUsed) at' = ⊥
 abbrev pub HasGiven : {S : Type 0} → (S → List Arrival → S → Type 0) → Layout → Stream → S → Heard → Option Stopped
     → Stream → S → Type 0
 HasGiven came layout s sink h None s' sink' =
-    came sink (arrival_of layout s.connection.0 s.records h ∷ []) sink' × (s' ≡ record s { records = s.records + 1 })
+    came sink (arrival_of layout s.connection.0 s.peer.is_privileged s.records h ∷ []) sink' × (s' ≡ record s { records = s.records + 1 })
     × (s.records + 1 < most_records)
 HasGiven came layout s sink h (Some (stops.Fault fault)) s' sink' = ⊥
 HasGiven came layout s sink h (Some stops.NoMemory) s' sink' = came sink [] sink' × (s' ≡ s)
 HasGiven came layout s sink h (Some stops.NumbersUsed) s' sink' =
-    came sink (arrival_of layout s.connection.0 s.records h ∷ []) sink' × (s' ≡ record s { records = s.records + 1 })
+    came sink (arrival_of layout s.connection.0 s.peer.is_privileged s.records h ∷ []) sink' × (s' ≡ record s { records = s.records + 1 })
     × (s.records + 1 ≡ most_records)
 
 -- nothing was given on, since the record is this fault
@@ -101,13 +102,17 @@ StopsAs offer s bytes heard (Some (stops.Fault fault)) s' = Brings offer s.reass
 StopsAs offer s bytes heard (Some stops.NoMemory) s' = BringsFirst offer s.reassembler bytes heard
 StopsAs offer s bytes heard (Some stops.NumbersUsed) s' = BringsFirst offer s.reassembler bytes heard × (s'.records ≡ most_records)
 
+-- it is the same connection, of the same peer
+abbrev pub IsSameLine : Stream → Stream → Type 0
+IsSameLine s s' = (s'.connection ≡ s.connection) × (s'.peer ≡ s.peer)
+
 -- Bytes were taken, and records of theirs given on by what is offered, under the numbers that follow.
 pub record HasTaken {S : Type 0} (came : S → List Arrival → S → Type 0) (layout : Layout) (offer : Offer) (s : Stream) (sink : S)
     (bytes : List ℕ) (stopped : Option Stopped) (s' : Stream) (sink' : S) : Type 0 where
   pub heard : List Heard
-  pub given : came sink (arrivals layout s.connection.0 s.records heard) sink'
+  pub given : came sink (arrivals layout s.connection.0 s.peer.is_privileged s.records heard) sink'
   pub count : s'.records ≡ s.records + length heard
-  pub same : s'.connection ≡ s.connection
+  pub same : IsSameLine s s'
   pub stops : StopsAs offer s bytes heard stopped s'
 
 -- the end that a stop is
@@ -116,6 +121,7 @@ end_of (stops.Fault fault) = ends.Fault fault
 end_of stops.NoMemory = ends.NoMemory
 end_of stops.NumbersUsed = ends.NumbersUsed
 
--- a connection of which nothing was read
-abbrev pub opened : Global → ConnectionNumber → Stream
-opened alloc connection = record { alloc = alloc; connection = connection; reassembler = Some start; records = 0 }
+-- a connection of a peer, of which nothing was read
+abbrev pub opened : Global → ConnectionNumber → Peer → Stream
+opened alloc connection peer =
+    record { alloc = alloc; connection = connection; peer = peer; reassembler = Some start; records = 0 }

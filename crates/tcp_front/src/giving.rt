@@ -6,15 +6,41 @@ ghost use Rattle.outboxes.specs.Boxes.{addressed};
 ghost use Rattle.outboxes.specs.Messages.{message};
 ghost use Rattle.engine_feed.specs.Admission.{reply_at_once};
 ghost use Rattle.engine_feed.specs.Seen.{asked_of};
+ghost use Rattle.nfs_values.specs.Call.{call_of};
+ghost use Rattle.rpc_msg.specs.declared.record.Request.TheVariants as requests;
 ghost use Rattle.tcp_front.specs.Arrivals.{Answered};
+ghost use Rattle.tcp_front.specs.Peers.{asked_from, is_stop};
 ghost use Rattle.tcp_front.specs.Steps.{given_of};
 
+use crate::peer::Peer;
 use crate::sink::RecordSink;
 use affinity::Layout;
 use engine_feed::{admission_of, reply_at_once};
+use nfs_values::{AuthFault, Call, Credential, Refusal};
 use rpc_msg::Request;
 use scheduler::{Message, Origin};
 use std::alloc::{AllocError, Global};
+
+/// Whether a call asks that the server stops.
+fn is_stop(call: &Call) -> bool
+    ensures { result ≡ is_stop (call_of call.now) }
+{
+    match call {
+        Call::Stop => true,
+        _ => false,
+    }
+}
+
+/// What a call of a peer asks: that the server stops is refused but of a privileged one.
+fn from_peer(peer: Peer, call: Call, credential: Credential) -> Request
+    ensures { asked_of result
+        ≡ asked_from peer.is_privileged (asked_of (requests.Call call credential)) }
+{
+    if is_stop(&call) && !peer.is_privileged {
+        return Request::Refused(Refusal::AuthError(AuthFault::TooWeak));
+    }
+    Request::Call { call, credential }
+}
 
 /// Answers a record that has no home. It stands apart, so that others have no room for its reply.
 #[inline(never)]
@@ -35,18 +61,20 @@ fn answer_now<S: RecordSink>(
     sink.answer(origin.connection, origin.xid, &mut reply)
 }
 
-/// Gives on what a record asks: a call with a home to be run, and else the reply.
+/// Gives on what a record of a peer asks: a call with a home to be run, and else the reply.
 pub(crate) fn give<S: RecordSink>(
     alloc: Global,
     sink: &mut S,
     layout: &Layout,
+    peer: Peer,
     origin: Origin,
     request: Request,
 ) -> Result<(), AllocError>
     requires room { S.room sink.old ≡ true }
     requires layout { S.layout sink.old ≡ layout_of layout.now }
     ensures ok { OnOk result
-        (S.came sink.old (given_of (layout_of layout.now) origin (asked_of request)) sink.new) }
+        (S.came sink.old (given_of (layout_of layout.now) peer origin (asked_of request))
+        sink.new) }
     ensures err { OnErr result (S.came sink.old [] sink.new) }
     ensures layout { S.layout sink.new ≡ S.layout sink.old }
 {
@@ -60,7 +88,7 @@ pub(crate) fn give<S: RecordSink>(
                 room: admission.room,
             }),
             None => {
-                let request = Request::Call { call, credential };
+                let request = from_peer(peer, call, credential);
                 answer_now(alloc, sink, layout, origin, &request)
             }
         },

@@ -5,6 +5,7 @@ mod counted;
 mod giving;
 mod joining;
 mod next_record;
+mod peer;
 mod piece;
 mod read_end;
 mod reading;
@@ -16,6 +17,7 @@ mod writing;
 
 pub use counted::Counted;
 pub use joining::write_joined;
+pub use peer::Peer;
 pub use piece::write_piece;
 pub use read_end::ReadEnd;
 pub use reading::{read_loop, read_loop_in};

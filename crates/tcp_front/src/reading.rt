@@ -7,6 +7,7 @@ ghost use Rattle.tcp_front.specs.Reading.{HasRead};
 ghost use Rattle.tcp_front.specs.Steps.{end_of};
 
 use crate::counted::Counted;
+use crate::peer::Peer;
 use crate::read_end::ReadEnd;
 use crate::sink::RecordSink;
 use crate::stream::{Stopped, Stream};
@@ -53,18 +54,20 @@ pub fn read_loop_in<W: Wait, R: Read, S: RecordSink>(
     layout: &Layout,
     offer: Offer,
     connection: ConnectionNumber,
+    peer: Peer,
     sink: &mut S,
 ) -> ReadEnd
     requires room { may_fail reader.old }
     requires some { 0 < length block.old }
     requires always { (s : S) → S.room s ≡ true }
     requires layout { S.layout sink.old ≡ layout_of layout.now }
-    ensures { HasRead R.remaining S.came (layout_of layout.now) offer connection.0 reader.old
-        sink.old result reader.new sink.new }
+    ensures { HasRead R.remaining S.came (layout_of layout.now) offer connection.0
+        peer.is_privileged reader.old sink.old result reader.new sink.new }
 {
     let mut stream = Stream {
         alloc,
         connection,
+        peer,
         reassembler: Reassembler::new(alloc),
         records: 0,
     };
@@ -92,18 +95,19 @@ pub fn read_loop<W: Wait, R: Read, S: RecordSink>(
     layout: &Layout,
     offer: Offer,
     connection: ConnectionNumber,
+    peer: Peer,
     sink: &mut S,
 ) -> ReadEnd
     requires room { may_fail reader.old }
     requires always { (s : S) → S.room s ≡ true }
     requires layout { S.layout sink.old ≡ layout_of layout.now }
-    ensures { HasRead R.remaining S.came (layout_of layout.now) offer connection.0 reader.old
-        sink.old result reader.new sink.new }
+    ensures { HasRead R.remaining S.came (layout_of layout.now) offer connection.0
+        peer.is_privileged reader.old sink.old result reader.new sink.new }
 {
     match new_block(alloc) {
         Ok(mut block) => {
             read_loop_in(
-                rt, alloc, reader, &mut block, layout, offer, connection, sink,
+                rt, alloc, reader, &mut block, layout, offer, connection, peer, sink,
             )
         },
         Err(_refused) => ReadEnd::NoMemory,

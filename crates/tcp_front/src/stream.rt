@@ -1,5 +1,6 @@
 //! The records of a stream, given on as they become whole.
 
+use crate::peer::Peer;
 use engine_feed::StreamFault;
 use nfs_values::ConnectionNumber;
 use rpc_record::Reassembler;
@@ -13,6 +14,7 @@ pub const MOST_RECORDS: usize = 1 << 62;
 pub struct Stream {
     pub alloc: Global,
     pub connection: ConnectionNumber,
+    pub peer: Peer,
     pub reassembler: Reassembler,
     /// How many records were given on.
     pub records: usize,

@@ -35,7 +35,14 @@ fn give_next<S: RecordSink>(
         number: stream.records,
         xid: heard.xid,
     };
-    match give(stream.alloc, sink, layout, origin, heard.request) {
+    match give(
+        stream.alloc,
+        sink,
+        layout,
+        stream.peer,
+        origin,
+        heard.request,
+    ) {
         Err(_refused) => Some(Stopped::NoMemory),
         Ok(()) => {
             stream.records += 1;

@@ -40,6 +40,14 @@ fn target(alloc: Global) -> Target {
     target_in(alloc, handle(1, 1))
 }
 
+/// MNT of a path below the root of a volume.
+fn mount_below(alloc: Global, volume: u8) -> Call {
+    Call::MountBelow {
+        root: handle(volume, 1),
+        path: Name::new(Vec::new(alloc)),
+    }
+}
+
 /// Looks whether this is a call's home.
 fn has_home(rt: &impl Abort, layout: &Layout, call: Call, home: Option<CallNode>) {
     holds(rt, home_of(&call, layout) == home);
@@ -121,6 +129,8 @@ fn homes_by_name(rt: HostRuntime) {
     is_logical(&rt, &layout, make);
     is_logical(&rt, &layout, Call::Remove(target(rt.alloc())));
     is_logical(&rt, &layout, Call::RemoveDirectory(target(rt.alloc())));
+    is_logical(&rt, &layout, mount_below(rt.alloc(), 1));
+    has_home(&rt, &layout, mount_below(rt.alloc(), 2), None);
     mem::forget(layout);
 }
 

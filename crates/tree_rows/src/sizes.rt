@@ -3,13 +3,20 @@
 use crate::holds::holds;
 use crate::layouts::aggregates;
 use affinity::{AggregateSpec, Layout, SizedVolumeSpec, VolumeSpec};
+use nfs_values::Moment;
 use std::mem;
 use std::process::Abort;
 
 /// A volume by its stripes, mebibytes, blocks of a range and inodes.
 type Sizes = (u32, u32, u32, u32);
 
-/// A volume of one range, on the first aggregate.
+/// A moment that isn't the start of all times.
+const BEGUN: Moment = Moment {
+    seconds: 1_790_000_000,
+    nanoseconds: 999_999_999,
+};
+
+/// A volume of one range, on the first aggregate, with 4,096 steps, that begins at a moment.
 fn volume(row: Sizes) -> SizedVolumeSpec {
     SizedVolumeSpec {
         volume: VolumeSpec {
@@ -20,6 +27,8 @@ fn volume(row: Sizes) -> SizedVolumeSpec {
         },
         range_blocks: row.2,
         inodes: row.3,
+        most_steps: 4_096,
+        begun: BEGUN,
     }
 }
 
@@ -155,6 +164,17 @@ fn sizes(rt: HostRuntime) {
     holds(&rt, sizes_of(&layout, 0) == (1_024, 65_536, 16_777_216));
     holds(&rt, sizes_of(&layout, 1) == largest);
     holds(&rt, sizes_of(&layout, 2) == (1_024, 65_536, 16_777_216));
+    mem::forget(layout);
+}
+
+#[test]
+fn steps_and_beginnings(rt: HostRuntime) {
+    let layout = two_sizes(&rt);
+    let steps = [0, 1, 2].map(|volume| layout.steps_of(volume));
+    holds(&rt, steps == [4_294_967_295, 4_096, 4_294_967_295]);
+    holds(&rt, layout.begun_of(0) == Moment::START);
+    holds(&rt, layout.begun_of(1) == BEGUN);
+    holds(&rt, layout.begun_of(2) == Moment::START);
     mem::forget(layout);
 }
 

@@ -111,7 +111,7 @@ fn counts_wrap(rt: HostRuntime) {
 }
 
 /// Replies, and the names of their kinds (RFC 1813 section 3.3, RFC 5531 section 9).
-fn named() -> [(Reply, &'static str); 12] {
+fn named() -> [(Reply, &'static str); 13] {
     [
         (Reply::Success(Answer::Null), "NULL"),
         (
@@ -123,6 +123,7 @@ fn named() -> [(Reply, &'static str); 12] {
             Reply::Success(Answer::Unsupported(UnsupportedProcedure::MakeDevice)),
             "MKNOD",
         ),
+        (Reply::Success(Answer::Stop), "STOP"),
         (Reply::Success(Answer::ListMounts), "DUMP"),
         (Reply::Refused(Refusal::ProgramUnavailable), "PROG_UNAVAIL"),
         (

@@ -18,7 +18,7 @@ fn is_told(rt: &(impl Abort + AllocGlobal), event: Event, text: &str) {
 }
 
 /// Why connection 12 was closed, and how that is told.
-const CLOSED: [(Reason, &str); 8] = [
+const CLOSED: [(Reason, &str); 9] = [
     (
         Reason::PeerClosed,
         "connection 12 closed: 192.0.2.7:700, the peer closed it",
@@ -50,6 +50,10 @@ const CLOSED: [(Reason, &str); 8] = [
     (
         Reason::Idle,
         "connection 12 closed: 192.0.2.7:700, idle, and others wait for a place",
+    ),
+    (
+        Reason::Stops,
+        "connection 12 closed: 192.0.2.7:700, the server stops",
     ),
 ];
 

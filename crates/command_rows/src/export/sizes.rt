@@ -44,9 +44,9 @@ const LAWFUL: [(&str, &str, [u32; 5]); 24] = [
     ("--volumes", "8", [16, 2_048, 128, 65_536, 0]),
 ];
 
-/// The numbers of a plan whose volumes have 16 stripes.
+/// The numbers of a plan whose volumes have 16 stripes, and directories that are known 4,096 deep.
 fn numbers_of(rt: &impl Abort, plan: &VolumePlan) -> [u32; 5] {
-    assert!(rt; plan.stripes == 16);
+    assert!(rt; plan.stripes == 16 && plan.most_steps == 4_096);
     [
         plan.ranges,
         plan.range_blocks,

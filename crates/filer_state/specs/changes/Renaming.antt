@@ -1,9 +1,9 @@
 -- RENAME by what is under Logical (RFC 1813 section 3.3.14).
 use Rattle.std.specs.Prelude.{ℕ, zero, suc, Bool, true, false, not, ◌&&◌, ◌||◌, ◌==◌, List, Option, Some, None, if◌then◌else◌}
-use Rattle.std.specs.FinMap.{get, len}
+use Rattle.std.specs.FinMap.{get}
 use Rattle.nfs_model.specs.Types.{Moment, Status, Failed, RenameDone, Stale, NotDirectory, NoEntry, Invalid, Exists}
 use Rattle.nfs_model.specs.Names.{same_name, is_dots, name_fault}
-use Rattle.nfs_model.specs.Serial.Rename.{on_parent, is_empty_list}
+use Rattle.nfs_model.specs.Serial.Rename.{Climb, PastIt, ToIt, TooFar, on_parent, climb_fault, is_empty_list}
 use Rattle.nfs_model.specs.volume.Inodes.{InodeKind, RegularFile, DirectoryKind, Inode}
 use Rattle.filer_state.specs.state.Tree.{file_touch}
 use Rattle.filer_state.specs.state.Names.{InodeMap, parent_directory}
@@ -45,17 +45,19 @@ abbrev pub above : ℕ → Option ℕ → Option ℕ
 above fileid None = None
 above fileid (Some parent) = if parent == fileid then None else Some parent
 
--- whether at most this many steps from a directory to its parent lead to a target
-abbrev pub climbs : ℕ → InodeMap → ℕ → ℕ → Bool
-climbs zero inodes target fileid = fileid == target
+-- what at most this many steps from a directory to its parent come to, on the way to a target
+abbrev pub climbs : ℕ → InodeMap → ℕ → ℕ → Climb
+climbs zero inodes target fileid = if fileid == target then ToIt else TooFar
 climbs (suc n) inodes target fileid =
-    (fileid == target) || on_parent (above fileid (parent_directory (get inodes fileid))) (climbs n inodes target)
+    if fileid == target then ToIt
+    else on_parent (above fileid (parent_directory (get inodes fileid))) (climbs n inodes target)
 
--- a directory would come into itself or below itself; as many steps as there are inodes lead to the root
-abbrev pub goes_below : HeldRenaming → ℕ → InodeKind → Bool
-goes_below r fileid (RegularFile size filled verifier) = false
-goes_below r fileid (DirectoryKind parent subdirectories) =
-    climbs (len r.from.set.own.inodes.inodes) r.from.set.own.inodes.inodes fileid r.to.fileid
+-- what is met above the directory into which a node comes; nothing is asked where it stays in its directory, and a file is above nothing
+abbrev pub held_above : HeldRenaming → ℕ → InodeKind → Climb
+held_above r fileid (RegularFile size filled verifier) = PastIt
+held_above r fileid (DirectoryKind parent subdirectories) =
+    if r.from.fileid == r.to.fileid then PastIt
+    else climbs r.from.set.own.most_steps r.from.set.own.inodes.inodes fileid r.to.fileid
 
 -- ---- the target
 
@@ -126,14 +128,15 @@ held_renamed r s = record {
   set = s;
 }
 
--- NOENT; the same entry is OK, and nothing changes; INVAL for a directory below itself; EXIST for a target that may not go
+-- NOENT; the same entry is OK, and nothing changes; INVAL for a directory below itself, NAMETOOLONG for one that comes too deep; EXIST
+-- for a target that may not go
 abbrev pub rename_by : HeldRenaming → Option HeldNode → Option HeldNode → LogicalAnswer
 rename_by r None target = fails_both NoEntry r.from.set
 rename_by r (Some child) target =
     if is_one_entry r then held_renamed r r.from.set
-    else if goes_below r child.fileid child.inode.kind then fails_both Invalid r.from.set
-    else if not (target_may_go r.from.set child target) then fails_both Exists r.from.set
-    else held_renamed r (set_renamed r child target)
+    else unless_both (climb_fault (held_above r child.fileid child.inode.kind)) r.from.set
+    (if not (target_may_go r.from.set child target) then fails_both Exists r.from.set
+    else held_renamed r (set_renamed r child target))
 
 -- what is wrong with the names, from's first; INVAL for `.` and `..` in either
 abbrev pub held_rename : HeldRenaming → LogicalAnswer

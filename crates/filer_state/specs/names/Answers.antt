@@ -1,16 +1,17 @@
 -- What LOOKUP, READDIR, READDIRPLUS and COMMIT answer, and ACCESS, FSINFO and PATHCONF, by what is under Logical (RFC 1813 sections
--- 3.3.3, 3.3.16, 3.3.17, 3.3.21, 3.3.4, 3.3.19 and 3.3.20).
-use Rattle.std.specs.Prelude.{ℕ, Bool, min, not, ◌&&◌, ◌==◌, List, replicate, Option, Some, None, if◌then◌else◌}
+-- 3.3.3, 3.3.16, 3.3.17, 3.3.21, 3.3.4, 3.3.19 and 3.3.20), and MNT below a root (RFC 1813 appendix I, section 5.2.1).
+use Rattle.std.specs.Prelude.{ℕ, Bool, min, not, ◌&&◌, ◌==◌, List, [], ◌∷◌, replicate, Option, Some, None, if◌then◌else◌}
 use Rattle.std.specs.Option.{option_map}
 use Rattle.std.specs.FinMap.{get}
 use Rattle.nfs_model.specs.Types.{Credential, Status, Shown, Listed, ListedPlus, Answer, LookupDone, AccessDone, FsinfoDone, PathconfDone}
-use Rattle.nfs_model.specs.Types.{CommitDone, Failed, Stale, NotDirectory, NoEntry, BadCookie, Invalid}
+use Rattle.nfs_model.specs.Types.{CommitDone, MountDone, Failed, Stale, NotDirectory, NoEntry, BadCookie, Invalid}
 use Rattle.nfs_model.specs.Server.{DirectoryNode, handle_bytes, most_bytes}
 use Rattle.nfs_model.specs.Shown.{before_of}
 use Rattle.nfs_model.specs.Names.{same_name, dot, dot_dot, name_fault}
 use Rattle.nfs_model.specs.Serial.Access.{access_given}
 use Rattle.nfs_model.specs.Serial.Readdir.{all_listed, above_cookie, readdir_from}
 use Rattle.nfs_model.specs.Serial.Readdirplus.{readdirplus_from}
+use Rattle.nfs_model.specs.Serial.MountBelow.{part_fault}
 use Rattle.nfs_model.specs.volume.Directories.{DirectoryValue, fileid_found}
 use Rattle.nfs_model.specs.volume.Inodes.{InodeKind, RegularFile, DirectoryKind, Inode}
 use Rattle.nfs_model.specs.volume.Logical.{LogicalValue}
@@ -127,3 +128,34 @@ readdirplus_answer v fileid cookie verifier names_count count s = on_directory_i
     if is_bad_cookie cookie verifier then Failed BadCookie 1
     else answer_of 1 (readdirplus_from (min names_count most_bytes) (min count most_bytes) (entry_told v s) (shown_inode v fileid inode None)
     (above_cookie cookie (all_listed fileid (directory_node inode parent (entries_of s.own fileid))))))
+
+-- ---- MNT below a root
+
+-- an answer where there is a directory; STALE, or NOTDIR for a file
+abbrev pub by_directory_kind : InodeKind → Answer → Answer
+by_directory_kind (RegularFile size filled of_creation) answer = Failed NotDirectory 0
+by_directory_kind (DirectoryKind parent subdirectories) answer = answer
+
+abbrev pub in_directory : Option Inode → Answer → Answer
+in_directory None answer = Failed Stale 0
+in_directory (Some inode) answer = by_directory_kind inode.kind answer
+
+-- the fault of a part, or an answer
+abbrev pub unless_part_fault : Option Status → Answer → Answer
+unless_part_fault None answer = answer
+unless_part_fault (Some status) answer = Failed status 0
+
+-- an answer on the fileid that was found, or NOENT
+abbrev pub on_fileid : Option ℕ → (ℕ → Answer) → Answer
+on_fileid None answer = Failed NoEntry 0
+on_fileid (Some fileid) answer = answer fileid
+
+-- an answer on what a part is in a directory
+abbrev pub on_part : LogicalSet → ℕ → List ℕ → (ℕ → Answer) → Answer
+on_part s fileid part answer =
+    in_directory (get s.own.inodes.inodes fileid)
+    (unless_part_fault (part_fault part) (on_fileid (fileid_found (entries_of s.own fileid) part) answer))
+
+abbrev pub mount_answer : ℕ → List (List ℕ) → LogicalSet → ℕ → Answer
+mount_answer v [] s fileid = in_directory (get s.own.inodes.inodes fileid) (MountDone (handle_bytes v fileid))
+mount_answer v (part ∷ parts) s fileid = on_part s fileid part (mount_answer v parts s)

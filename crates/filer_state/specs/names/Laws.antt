@@ -1,7 +1,8 @@
--- What calls on names come to, by what is under Logical (RFC 1813 sections 3.3.3, 3.3.4, 3.3.16, 3.3.17, 3.3.19, 3.3.20 and 3.3.21).
+-- What calls on names come to, by what is under Logical (RFC 1813 sections 3.3.3, 3.3.4, 3.3.16, 3.3.17, 3.3.19, 3.3.20 and 3.3.21; MNT
+-- below a root, its appendix I).
 use Rattle.std.specs.Prelude.{◌≡◌, ℕ, Bool, false, List, []}
 use Rattle.nfs_model.specs.Types.{Moment, Credential, Listed, ListedPlus, Shown, Lookup, CheckAccess, Readdir, Readdirplus, Fsinfo, Pathconf, Commit}
-use Rattle.nfs_model.specs.Types.{ReaddirDone, ReaddirplusDone, Success}
+use Rattle.nfs_model.specs.Types.{MountBelow, ReaddirDone, ReaddirplusDone, Success}
 use Rattle.nfs_model.specs.Tree.{Affinity}
 use Rattle.nfs_model.specs.Locate.{on_name}
 use Rattle.nfs_model.specs.Serial.Lookup.{lookup}
@@ -11,12 +12,15 @@ use Rattle.nfs_model.specs.Serial.Access.{access}
 use Rattle.nfs_model.specs.Serial.Fsinfo.{fsinfo}
 use Rattle.nfs_model.specs.Serial.Pathconf.{pathconf}
 use Rattle.nfs_model.specs.Serial.Commit.{commit}
+use Rattle.nfs_model.specs.Serial.Mount.{parts_below}
+use Rattle.nfs_model.specs.Serial.MountBelow.{mount_below}
 use Rattle.filer_state.specs.state.Jobs.{Replied}
 use Rattle.filer_state.specs.state.Lenses.{LogicalSet, logical_lens}
 use Rattle.filer_state.specs.state.Promises.{RightOnVolume}
 use Rattle.nfs_model.specs.Work.{Starved}
 use Rattle.filer_state.specs.state.Calls.{VolumeCall, ServesOn, WorksOn}
 use Rattle.filer_state.specs.names.Answers.{lookup_answer, readdir_answer, readdirplus_answer, commit_answer, access_answer, fsinfo_answer, pathconf_answer}
+use Rattle.filer_state.specs.names.Answers.{mount_answer}
 
 abbrev pub lookup_call : List ℕ → Affinity → ℕ → List ℕ → Moment → VolumeCall
 lookup_call handle node fileid name moment =
@@ -50,6 +54,10 @@ fsinfo_call handle node fileid = record { call = Fsinfo handle; node = node; fil
 
 abbrev pub pathconf_call : List ℕ → Affinity → ℕ → VolumeCall
 pathconf_call handle node fileid = record { call = Pathconf handle; node = node; fileid = fileid; run = λ volume. pathconf volume fileid }
+
+abbrev pub mount_call : List ℕ → Affinity → ℕ → List ℕ → VolumeCall
+mount_call root node fileid path =
+    record { call = MountBelow root path; node = node; fileid = fileid; run = λ volume. mount_below (parts_below path) volume fileid }
 
 -- Whatever the rest of the volume is: the answer told by inodes, entries and touches is the serial server's, and nothing changes.
 abbrev pub LookupIsRight : Type 0
@@ -98,3 +106,8 @@ abbrev pub PathconfIsRight : Type 0
 PathconfIsRight = (v fileid : ℕ) (handle : List ℕ) (node : Affinity) (set : LogicalSet)
     → RightOnVolume v logical_lens (ServesOn (pathconf_call handle node fileid) false) [] [] set
     (Replied (Success (pathconf_answer v fileid set))) set
+
+abbrev pub MountIsRight : Type 0
+MountIsRight = (v fileid : ℕ) (root path : List ℕ) (node : Affinity) (set : LogicalSet)
+    → RightOnVolume v logical_lens (ServesOn (mount_call root node fileid path) false) [] [] set
+    (Replied (Success (mount_answer v (parts_below path) set fileid))) set

@@ -5,3 +5,4 @@ pub mod Lookup
 pub mod Listing
 pub mod ListingPlus
 pub mod Objects
+pub mod Mount

@@ -28,6 +28,7 @@ no_logical = record {
   stripes = 0;
   largest = 0;
   most_inodes = 0;
+  most_steps = 0;
   inodes = record { next = 0; used = 0; inodes = maps.empty };
   directories = maps.empty;
   stock = sets.empty;

@@ -97,6 +97,7 @@ volume_of p = record {
   largest = p.logical.largest;
   range_blocks = p.logical.dead.range_blocks;
   most_inodes = p.logical.most_inodes;
+  most_steps = p.logical.most_steps;
   verifier = p.logical.verifier;
   next = p.logical.inodes.next;
   nodes = map_values (node_of p.stripes p.logical.directories) p.logical.inodes.inodes;

@@ -10,11 +10,12 @@ ghost use Rattle.filer_state.specs.names.Laws.{
   AccessIsRight,
   FsinfoIsRight,
   PathconfIsRight,
+  MountIsRight,
 };
 
 /// On every sound volume with the parcels that are held, LOOKUP, READDIR, READDIRPLUS, COMMIT,
-/// ACCESS, FSINFO and PATHCONF answer as the serial server does, change nothing, and all stays
-/// sound. A READDIR or READDIRPLUS that would list may find no memory.
+/// ACCESS, FSINFO, PATHCONF and a MNT below the root answer as the serial server does, change
+/// nothing, and all stays sound. A READDIR or READDIRPLUS that would list may find no memory.
 pub fn name_calls_are_right()
     ensures lookup { LookupIsRight }
     ensures readdir { ReaddirIsRight }
@@ -25,4 +26,5 @@ pub fn name_calls_are_right()
     ensures access { AccessIsRight }
     ensures fsinfo { FsinfoIsRight }
     ensures pathconf { PathconfIsRight }
+    ensures mount { MountIsRight }
 {}

@@ -27,7 +27,10 @@ logical-send = struct-send Logical.the_type (
     search sendable depth 20,
     (
       search sendable depth 20,
-      (search sendable depth 20, (inodes.the_send, (map-send, (stock.the_send, (dead.the_send, tt))))),
+      (
+        search sendable depth 20,
+        (search sendable depth 20, (inodes.the_send, (map-send, (stock.the_send, (dead.the_send, tt))))),
+      ),
     ),
   ),
 )

@@ -16,6 +16,7 @@ use statistics::ReplyCounts;
 use std::alloc::Global;
 use std::snapshot::Snapshot;
 use std::sync::Arc;
+use tcp_front::Peer;
 use turns::Worker;
 
 impl<D: Device, R> Lane<D, R> {
@@ -95,11 +96,11 @@ impl<D: Device, R> Lane<D, R> {
         self.connections.vacant_key()
     }
 
-    /// Opens a connection over a device, under the next key. The device comes back where there is
-    /// no memory, or where as many connections are open as may be.
-    pub fn open(&mut self, device: D) -> Result<usize, D>
-        ensures opens { Opens (connections_in self.old) (boxes_in self.old) device result
-            (connections_in self.new) (boxes_in self.new) }
+    /// Opens a connection to a peer over a device, under the next key. The device comes back where
+    /// there is no memory, or where as many connections are open as may be.
+    pub fn open(&mut self, device: D, peer: Peer) -> Result<usize, D>
+        ensures opens { Opens (connections_in self.old) (boxes_in self.old) device peer
+            result (connections_in self.new) (boxes_in self.new) }
         ensures pass { known (pass_in self.new) ≡ known (pass_in self.old) }
         ensures closed { closed_in self.new ≡ closed_in self.old }
         ensures worker { worker_in self.new ≡ worker_in self.old }
@@ -111,6 +112,7 @@ impl<D: Device, R> Lane<D, R> {
             self.intake.alloc,
             &mut self.intake.outboxes,
             device,
+            peer,
         )
     }
 }

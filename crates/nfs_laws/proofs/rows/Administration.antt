@@ -1,12 +1,28 @@
--- GROW and CENSUS of the admin program (our profile), refusals and want of memory.
-use Rattle.std.proofs.Common.{◌≡◌, true, false, [], ◌∷◌, refl}
-use Rattle.nfs_model.specs.Types.{Census, Grow, Ask, Refused, Undecoded, Success, SystemError, GarbageArguments, CensusDone, GrowDone, NoEntry, Invalid}
+-- GROW, CENSUS and STOP of the admin program (our profile), refusals and want of memory.
+use Rattle.std.proofs.Common.{◌≡◌, true, false, [], ◌∷◌, None, refl}
+use Rattle.nfs_model.specs.Types.{Census, Grow, Stop, Ask, Refused, Undecoded, Success, SystemError, GarbageArguments, CensusDone, GrowDone, StopDone, NoEntry, Invalid}
 use Rattle.nfs_model.specs.Types.{TooBig, NoSpace}
+use Rattle.nfs_model.specs.Home.{home}
 use Rattle.nfs_model.specs.Serial.Step.{serial}
+use Rattle.nfs_model.specs.Serial.Starve.{may_starve_at_decoding, may_starve_later}
 use Rattle.nfs_laws.specs.lemmas.Evaluate.{evaluate}
 use Rattle.nfs_model.specs.Server.{VolumeState, Server}
 use Rattle.nfs_model.specs.Serial.Fsstat.{space}
-use Rattle.nfs_laws.proofs.rows.Cases.{start, at, nobody, fails, block_0, file, with_file, root_with, volume_with}
+use Rattle.nfs_laws.proofs.rows.Cases.{layout, start, at, nobody, fails, block_0, file, with_file, root_with, volume_with}
+
+-- ---- STOP
+
+stop_changes_nothing : serial start (Ask Stop nobody) (at 1) false ≡ record { reply = Success StopDone; server = start }
+stop_changes_nothing = refl
+
+stop_has_no_home : home layout Stop ≡ None
+stop_has_no_home = refl
+
+stop_may_not_starve : may_starve_at_decoding (Ask Stop nobody) ≡ false
+stop_may_not_starve = refl
+
+stop_may_not_starve_later : may_starve_later start (Ask Stop nobody) (at 1) ≡ false
+stop_may_not_starve_later = refl
 
 -- ---- GROW
 

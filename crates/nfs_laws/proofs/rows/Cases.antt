@@ -7,11 +7,11 @@ use Rattle.std.specs.FinSet as sets
 use Rattle.nfs_model.specs.Types.{Moment, Credential, Call, Create, Write, Unchecked, Reply, Success, Failed}
 use Rattle.nfs_model.specs.Types.{Status, Shown, Regular, DirectoryKind, Before, Wcc, Listed, SetAttributes}
 use Rattle.nfs_model.specs.Tree.{Layout, VolumeLayout}
-use Rattle.nfs_model.specs.Server.{Attributes, Node, File, Directory, VolumeState, Server, opening, opening_volume, handle_bytes}
+use Rattle.nfs_model.specs.Server.{Attributes, Node, File, Directory, VolumeState, Server, opening, opening_volume, handle_bytes, start_of_times}
 use Rattle.nfs_model.specs.Serial.Create.{no_attributes}
 
 abbrev pub one_range : VolumeLayout
-one_range = record { aggregate = 0; ranges = 1; stripes = 8; mebibytes = 16; range_blocks = 1024; inodes = 65536 }
+one_range = record { aggregate = 0; ranges = 1; stripes = 8; mebibytes = 16; range_blocks = 1024; inodes = 65536; most_steps = 4; begun = start_of_times }
 
 abbrev pub layout : Layout
 layout = record { spare = 1 ∷ []; volumes = one_range ∷ (one_range ∷ []) }
@@ -115,7 +115,8 @@ root_with next list =
       list = list;
     })
 
--- volume 0 of this many blocks, in ranges of 1,024, with 65,536 inodes at most, with files of this many bytes at most, by its next fileid and its nodes
+-- volume 0 of this many blocks, in ranges of 1,024, with 65,536 inodes at most, with files of this many bytes at most, where a RENAME takes 4 steps
+-- at most, by its next fileid and its nodes
 abbrev pub volume_with : ℕ → ℕ → ℕ → List (ℕ × Node) → VolumeState
 volume_with total largest next nodes =
     record {
@@ -125,6 +126,7 @@ volume_with total largest next nodes =
       largest = largest;
       range_blocks = 1024;
       most_inodes = 65536;
+      most_steps = 4;
       verifier = verifier;
       next = next;
       nodes = from_sorted nodes;
@@ -153,6 +155,18 @@ with_tree = holding 4 ((1, root_with 4 (entry 3 d 2 ∷ [])) ∷ ((2, directory 
 abbrev pub with_four : Server
 with_four = holding 6 ((1, root_with 6 (entry 3 a 2 ∷ (entry 4 b 3 ∷ (entry 5 d 4 ∷ []))))
     ∷ ((2, file [] no_blocks) ∷ ((3, file [] no_blocks) ∷ ((4, directory 1 4 (entry 3 e 5 ∷ [])) ∷ ((5, directory 4 3 []) ∷ [])))))
+
+-- the root with the file `a` and the directories `d` and `x`, of fileids 2, 4 and 6; `d` has the directory `e`, of fileid 5, and that the file `b`
+-- and the directory `f`, of fileids 3 and 7. A RENAME takes this many steps at most.
+abbrev pub deep : ℕ → Server
+deep steps = record {
+  spare = 1 ∷ [];
+  volumes
+      = record (volume_with 1024 16777216 8 ((1, root_with 6 (entry 3 a 2 ∷ (entry 4 d 4 ∷ (entry 5 x 6 ∷ [])))) ∷ ((2, file [] no_blocks)
+      ∷ ((3, file [] no_blocks) ∷ ((4, directory 1 4 (entry 3 e 5 ∷ [])) ∷ ((5, directory 4 5 (entry 3 b 3 ∷ (entry 4 f 7 ∷ [])))
+      ∷ ((6, directory 1 3 []) ∷ ((7, directory 5 3 []) ∷ [])))))))) { most_steps = steps }
+      ∷ (opening_volume verifier 1 one_range ∷ []);
+}
 
 -- the root with a file of each of 2 blocks at most
 abbrev pub tight : Node → Node → Server

@@ -6,7 +6,7 @@ use Rattle.nfs_model.specs.Server.{handle_bytes}
 use Rattle.nfs_model.specs.Serial.Create.{no_attributes}
 use Rattle.nfs_model.specs.Serial.Step.{serial}
 use Rattle.nfs_laws.specs.lemmas.Evaluate.{evaluate}
-use Rattle.nfs_laws.proofs.rows.Cases.{start, at, nobody, h, root, fails, a, b, d, e, x, entry, block_0, touched_file, exclusive_file, with_file, with_four}
+use Rattle.nfs_laws.proofs.rows.Cases.{start, deep, at, nobody, h, root, fails, a, b, d, e, f, x, entry, block_0, touched_file, exclusive_file, with_file, with_four}
 use Rattle.nfs_laws.proofs.rows.Cases.{root_shown, directory_shown, file_shown, before, changed}
 
 -- ---- checks in order
@@ -110,6 +110,67 @@ rename_below_itself :
     (serial with_four (Ask (Rename root d (h 5) x) nobody) (at 2) false).reply
     ≡ fails Invalid 4
 rename_below_itself = simp evaluate refl
+
+rename_as_deep_as_the_steps_lead :
+    (serial (deep 3) (Ask (Rename root x (h 5) x) nobody) (at 2) false).reply
+    ≡ Success (RenameDone (changed (before 4096 1 1) (root_shown 3 2)) (changed (before 4096 1 1) (record (directory_shown 5 4 2) { atime = at 1 })))
+rename_as_deep_as_the_steps_lead = simp evaluate refl
+
+rename_up_to_the_root_looks_at_it :
+    (serial (deep 1) (Ask (Rename (h 4) e root a) nobody) (at 2) false).reply
+    ≡ fails Exists 4
+rename_up_to_the_root_looks_at_it = simp evaluate refl
+
+rename_up_to_the_root_without_a_look :
+    (serial (deep 0) (Ask (Rename (h 4) e root a) nobody) (at 2) false).reply
+    ≡ fails NameTooLong 4
+rename_up_to_the_root_without_a_look = simp evaluate refl
+
+absent_name_comes_before_too_deep :
+    (serial (deep 0) (Ask (Rename root b (h 5) x) nobody) (at 2) false).reply
+    ≡ fails NoEntry 4
+absent_name_comes_before_too_deep = simp evaluate refl
+
+rename_deeper_than_the_steps_lead :
+    (serial (deep 2) (Ask (Rename root x (h 5) x) nobody) (at 2) false).reply
+    ≡ fails NameTooLong 4
+rename_deeper_than_the_steps_lead = simp evaluate refl
+
+too_deep_comes_before_a_target_that_may_not_go :
+    (serial (deep 2) (Ask (Rename root x (h 5) b) nobody) (at 2) false).reply
+    ≡ fails NameTooLong 4
+too_deep_comes_before_a_target_that_may_not_go = simp evaluate refl
+
+target_that_may_not_go_in_reach :
+    (serial (deep 3) (Ask (Rename root x (h 5) b) nobody) (at 2) false).reply
+    ≡ fails Exists 4
+target_that_may_not_go_in_reach = simp evaluate refl
+
+rename_below_itself_in_reach :
+    (serial (deep 1) (Ask (Rename root d (h 5) x) nobody) (at 2) false).reply
+    ≡ fails Invalid 4
+rename_below_itself_in_reach = simp evaluate refl
+
+rename_below_itself_out_of_reach :
+    (serial (deep 0) (Ask (Rename root d (h 5) x) nobody) (at 2) false).reply
+    ≡ fails NameTooLong 4
+rename_below_itself_out_of_reach = simp evaluate refl
+
+rename_into_itself_takes_no_step :
+    (serial (deep 0) (Ask (Rename root d (h 4) x) nobody) (at 2) false).reply
+    ≡ fails Invalid 4
+rename_into_itself_takes_no_step = simp evaluate refl
+
+rename_of_a_file_takes_no_step :
+    (serial (deep 0) (Ask (Rename root a (h 5) x) nobody) (at 2) false).reply
+    ≡ Success (RenameDone (changed (before 4096 1 1) (root_shown 4 2)) (changed (before 4096 1 1) (record (directory_shown 5 3 2) { atime = at 1 })))
+rename_of_a_file_takes_no_step = simp evaluate refl
+
+rename_in_one_directory_takes_no_step :
+    (serial (deep 0) (Ask (Rename (h 5) f (h 5) x) nobody) (at 2) false).reply
+    ≡ Success (RenameDone (changed (before 4096 1 1) (record (directory_shown 5 3 2) { atime = at 1 }))
+    (changed (before 4096 1 1) (record (directory_shown 5 3 2) { atime = at 1 })))
+rename_in_one_directory_takes_no_step = simp evaluate refl
 
 rename_of_a_file_over_a_directory :
     (serial with_four (Ask (Rename root b root d) nobody) (at 2) false).reply

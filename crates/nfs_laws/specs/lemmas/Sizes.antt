@@ -7,7 +7,7 @@ use Rattle.nfs_model.specs.Server.{opening_volume, opening_volumes, opening, Fil
 use Rattle.nfs_model.specs.Server.{handle_of, most_bytes}
 use Rattle.nfs_model.specs.Tree.{Layout, VolumeLayout, range_blocks_in, range_blocks_of}
 use Rattle.nfs_model.specs.Replay.{FinishedCall, server_after}
-use Rattle.nfs_model.specs.Names.{is_dots, name_fault, same_name, dot, dot_dot}
+use Rattle.nfs_model.specs.Names.{find_name, is_dots, name_fault, same_name, dot, dot_dot}
 use Rattle.nfs_model.specs.Locate.{Effect, Fails, Tells, Changes, unless, on_node, on_directory, on_file, Located, located_in, located_by, locate, Found}
 use Rattle.nfs_model.specs.Locate.{Naming, named_child, on_name}
 use Rattle.nfs_model.specs.Serial.Setattr.{setattr}
@@ -20,14 +20,16 @@ use Rattle.nfs_model.specs.Serial.Create.{create_over, create_at, create}
 use Rattle.nfs_model.specs.Serial.Mkdir.{mkdir_at, mkdir}
 use Rattle.nfs_model.specs.Serial.Remove.{gone, remove_node, remove_at, remove_name}
 use Rattle.nfs_model.specs.Serial.Rmdir.{if_empty, rmdir_node, rmdir_at, rmdir}
-use Rattle.nfs_model.specs.Serial.Rename.{Renaming, goes_below_itself, may_go, renamed_volume, rename_told, is_same_entry, rename_at, rename_in, rename}
+use Rattle.nfs_model.specs.Serial.Rename.{Renaming, climb_fault, met_above, may_go, renamed_volume, rename_told, is_same_entry, rename_at, rename_in, rename}
 use Rattle.nfs_model.specs.Serial.Readdir.{paged, readdir}
 use Rattle.nfs_model.specs.Serial.Readdirplus.{listed_plus, paged_plus, readdirplus}
 use Rattle.nfs_model.specs.Serial.Fsstat.{fsstat}
 use Rattle.nfs_model.specs.Serial.Commit.{commit}
+use Rattle.nfs_model.specs.Serial.Mount.{parts_below}
+use Rattle.nfs_model.specs.Serial.MountBelow.{part_fault, on_entry, mount_below}
 use Rattle.nfs_model.specs.Parts.{most_ranges}
 use Rattle.nfs_model.specs.Serial.Grow.{Grown, grown, grow_volume}
-use Rattle.nfs_model.specs.Serial.Step.{Step, placed, on, on_two, serve, serial}
+use Rattle.nfs_model.specs.Serial.Step.{Step, placed, on, on_root, on_two, serve, serial}
 use Rattle.nfs_laws.specs.Sizes.{HaveSizes}
 
 -- ---- what a call on a volume comes to
@@ -170,7 +172,7 @@ rename_at_stays r None to = fails _ _
 rename_at_stays r (Some found) to =
     let old = r.from.volume in
     if_stays old (is_same_entry r) _ _ (tells _ _)
-    (if_stays old (goes_below_itself r found.fileid found.node) _ _ (fails _ model.Invalid)
+    (unless_stays old (climb_fault (met_above r found.fileid found.node)) _
     (if_stays old (not (may_go found.node to)) _ _ (fails _ model.Exists)
     (renamed_stays r (renamed_volume r found.fileid to) refl)))
 
@@ -217,6 +219,17 @@ fsstat_stays volume fileid = node_stays volume (get volume.nodes fileid) _ (λ n
 
 commit_stays : (volume : VolumeState) (fileid : ℕ) → Stays volume (commit volume fileid)
 commit_stays volume fileid = file_stays volume (get volume.nodes fileid) _ (λ f. tells _ _)
+
+entry_stays : (old : VolumeState) (o : Option model.Listed) (run : ℕ → Effect) → ((fileid : ℕ) → Stays old (run fileid)) → Stays old (on_entry o run)
+entry_stays old None run f = fails old model.NoEntry
+entry_stays old (Some e) run f = f e.fileid
+
+mount_below_stays : (parts : List (List ℕ)) (volume : VolumeState) (fileid : ℕ) → Stays volume (mount_below parts volume fileid)
+mount_below_stays [] volume fileid = directory_stays volume (get volume.nodes fileid) _ (λ d. tells _ _)
+mount_below_stays (part ∷ parts) volume fileid =
+    directory_stays volume (get volume.nodes fileid) _ (λ d.
+    unless_stays volume (part_fault part) _
+    (entry_stays volume (find_name part d.list) (mount_below parts volume) (mount_below_stays parts volume)))
 
 -- ---- the server
 
@@ -270,6 +283,12 @@ module _ (layout : Layout) where
       → HaveSizes layout (on server absent (locate server bytes) run).server
   on_sized server absent bytes run =
       on_located server absent (locate server bytes) run (located server.volumes (handle_of (length server.volumes) bytes))
+
+  root_located : (server : Server) (absent : ℕ) (o : Option Located) (run : VolumeState → ℕ → Effect) → IsIn server.volumes o
+      → ((volume : VolumeState) (fileid : ℕ) → Stays volume (run volume fileid)) → HaveSizes layout server
+      → HaveSizes layout (on_root server absent o run).server
+  root_located server absent None run i f h = h
+  root_located server absent (Some l) run i f h = placed_sized server absent l.named.volume l.volume _ i (f l.volume l.named.fileid) h
 
   if_sized : (b : Bool) (s t : Step) → HaveSizes layout s.server → HaveSizes layout t.server → HaveSizes layout (cond b s t).server
   if_sized true s t f g = f
@@ -338,7 +357,10 @@ module _ (layout : Layout) where
   serve_sized server (model.Unsupported which) who moment h = h
   serve_sized server model.Census who moment h = h
   serve_sized server (model.Grow volume ranges) who moment h = grow_sized server volume (slice_get server.volumes volume) ranges refl h
+  serve_sized server model.Stop who moment h = h
   serve_sized server (model.Mount call) who moment h = h
+  serve_sized server (model.MountBelow root path) who moment h =
+      root_located server _ (locate server root) _ (located server.volumes (handle_of (length server.volumes) root)) (mount_below_stays (parts_below path)) h
 
   serial_sized : (server : Server) (asked : model.Asked) (moment : model.Moment) (starved : Bool) → HaveSizes layout server
       → HaveSizes layout (serial server asked moment starved).server

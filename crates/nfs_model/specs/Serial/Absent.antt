@@ -4,7 +4,7 @@ use Rattle.std.specs.Prelude.{ℕ}
 use Rattle.nfs_model.specs.Types.{UnsupportedProcedure, Readlink, Symlink, Mknod, Link, Call, Null, Getattr}
 use Rattle.nfs_model.specs.Types.{Setattr, Lookup, CheckAccess, Read, Write, Create, Mkdir, Remove, Rmdir}
 use Rattle.nfs_model.specs.Types.{Rename, Readdir, Readdirplus, Fsstat, Fsinfo, Pathconf, Commit, Unsupported, Census}
-use Rattle.nfs_model.specs.Types.{Grow, Mount}
+use Rattle.nfs_model.specs.Types.{Grow, Stop, Mount, MountBelow}
 
 -- attributes are one, attributes before and after are two; of LINK there are both
 abbrev pub absent_in : UnsupportedProcedure → ℕ
@@ -35,4 +35,6 @@ absent_parts (Commit handle) = 2
 absent_parts (Unsupported which) = absent_in which
 absent_parts Census = 0
 absent_parts (Grow volume ranges) = 0
+absent_parts Stop = 0
 absent_parts (Mount call) = 0
+absent_parts (MountBelow root path) = 0

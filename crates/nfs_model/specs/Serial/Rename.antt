@@ -2,8 +2,8 @@
 use Rattle.std.specs.Prelude.{ℕ, zero, suc, Bool, true, false, not, ◌&&◌, ◌||◌, ◌==◌, List, [], ◌∷◌, Option}
 use Rattle.std.specs.Prelude.{Some, None, if◌then◌else◌}
 use Rattle.std.specs.Ordering.{nat_cmp}
-use Rattle.std.specs.FinMap.{FinMap, get, insert, remove, len}
-use Rattle.nfs_model.specs.Types.{Moment, Listed, RenameDone, NoEntry, Invalid, Exists, Wcc}
+use Rattle.std.specs.FinMap.{FinMap, get, insert, remove}
+use Rattle.nfs_model.specs.Types.{Moment, Listed, RenameDone, Status, NoEntry, Invalid, Exists, NameTooLong, Wcc}
 use Rattle.nfs_model.specs.Server.{DirectoryNode, Node, File, Directory, VolumeState}
 use Rattle.nfs_model.specs.Shown.{settled, wcc}
 use Rattle.nfs_model.specs.Names.{same_name, is_dots, name_fault, dropped_name, with_name}
@@ -17,30 +17,46 @@ pub record Renaming : Type 0 where
 
 -- ---- a directory below itself
 
+-- the way up from a directory: it ends at the root past a target, it meets the target, or it isn't
+-- followed to its end
+pub data Climb : Type 0 where
+  PastIt : Climb
+  ToIt : Climb
+  TooFar : Climb
+
 -- the parent of a directory that isn't its own
 abbrev pub parent_above : ℕ → Option Node → Option ℕ
 parent_above fileid None = None
 parent_above fileid (Some (File f)) = None
 parent_above fileid (Some (Directory d)) = if d.parent == fileid then None else Some d.parent
 
--- a test of that parent; false where there is none
-abbrev pub on_parent : Option ℕ → (ℕ → Bool) → Bool
-on_parent None test = false
-on_parent (Some parent) test = test parent
+-- the way on from that parent; where there is none it is at its end
+abbrev pub on_parent : Option ℕ → (ℕ → Climb) → Climb
+on_parent None climb = PastIt
+on_parent (Some parent) climb = climb parent
 
--- Whether at most this many steps from a directory to its parent lead to a target. As many as there
--- are nodes are enough, since parents lead to the root, and the root ends the way.
-abbrev pub climbs_to : ℕ → VolumeState → ℕ → ℕ → Bool
-climbs_to zero volume target fileid = fileid == target
-climbs_to (suc n) volume target fileid =
-    (fileid == target) || on_parent (parent_above fileid (get volume.nodes fileid))
-    (climbs_to n volume target)
+-- What is met on the way up to a target, where the parents of at most this many directories are looked
+-- at. Parents lead to the root, and its own parent, which is itself, ends the way.
+abbrev pub climb : ℕ → VolumeState → ℕ → ℕ → Climb
+climb zero volume target fileid = if fileid == target then ToIt else TooFar
+climb (suc n) volume target fileid =
+    if fileid == target then ToIt
+    else on_parent (parent_above fileid (get volume.nodes fileid)) (climb n volume target)
 
--- a directory would come into itself or below itself
-abbrev pub goes_below_itself : Renaming → ℕ → Node → Bool
-goes_below_itself r fileid (File f) = false
-goes_below_itself r fileid (Directory d) =
-    climbs_to (len r.from.volume.nodes) r.from.volume fileid r.to.fileid
+-- What is met above the directory into which a node comes. Where it stays in its directory nothing is
+-- asked, and a file is above nothing.
+abbrev pub met_above : Renaming → ℕ → Node → Climb
+met_above r fileid (File f) = PastIt
+met_above r fileid (Directory d) =
+    if r.from.fileid == r.to.fileid then PastIt
+    else climb r.from.volume.most_steps r.from.volume fileid r.to.fileid
+
+-- what is wrong with it: a directory would come into itself or below itself, or so deep that it isn't
+-- known (our profile)
+abbrev pub climb_fault : Climb → Option Status
+climb_fault PastIt = None
+climb_fault ToIt = Some Invalid
+climb_fault TooFar = Some NameTooLong
 
 -- ---- the target
 
@@ -139,14 +155,15 @@ same_told r = Tells (RenameDone (directory_change r.from r.from.volume) (directo
 abbrev pub is_same_entry : Renaming → Bool
 is_same_entry r = (r.from.fileid == r.to.fileid) && same_name r.from.name r.to.name
 
--- NOENT, the same entry, INVAL for a directory below itself, EXIST for a target that may not go
+-- NOENT, the same entry, INVAL for a directory below itself, NAMETOOLONG for one that comes too deep, EXIST
+-- for a target that may not go
 abbrev pub rename_at : Renaming → Option Found → Option Found → Effect
 rename_at r None target = Fails NoEntry
 rename_at r (Some found) target =
     if is_same_entry r then same_told r
-    else if goes_below_itself r found.fileid found.node then Fails Invalid
-    else if not (may_go found.node target) then Fails Exists
-    else rename_told r (renamed_volume r found.fileid target)
+    else unless (climb_fault (met_above r found.fileid found.node))
+    (if not (may_go found.node target) then Fails Exists
+    else rename_told r (renamed_volume r found.fileid target))
 
 -- the names of from and of to, INVAL for `.` and `..` in either
 abbrev pub rename_in : Renaming → Effect

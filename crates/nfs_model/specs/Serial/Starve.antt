@@ -2,8 +2,8 @@
 -- section 9) and change nothing.
 use Rattle.std.specs.Prelude.{ℕ, Bool, true, false, ◌&&◌, not, nat_lt, List, [], ◌∷◌, Option, Some, None}
 use Rattle.std.specs.Prelude.{is_some}
-use Rattle.nfs_model.specs.Types.{Call, Lookup, Write, Create, Mkdir, Remove, Rmdir, Rename, Mount, Mnt, Answer}
-use Rattle.nfs_model.specs.Types.{ReadDone, WriteDone, MadeDone, RenameDone, ReaddirDone, ReaddirplusDone, CensusDone, Reply}
+use Rattle.nfs_model.specs.Types.{Call, Lookup, Write, Create, Mkdir, Remove, Rmdir, Rename, Mount, Mnt, MountBelow}
+use Rattle.nfs_model.specs.Types.{Answer, ReadDone, WriteDone, MadeDone, RenameDone, ReaddirDone, ReaddirplusDone, CensusDone, Reply}
 use Rattle.nfs_model.specs.Types.{Success, Moment, Asked, Ask, Refused, Undecoded}
 use Rattle.nfs_model.specs.Server.{Node, File, Directory, Server}
 use Rattle.nfs_model.specs.Names.{same_name, find_name}
@@ -21,6 +21,7 @@ has_bytes (Remove directory name) = true
 has_bytes (Rmdir directory name) = true
 has_bytes (Rename from from_name to to_name) = true
 has_bytes (Mount (Mnt path)) = true
+has_bytes (MountBelow root path) = true
 has_bytes call = false
 
 -- what a record asks has bytes to be kept

@@ -1,10 +1,10 @@
--- The answer of the serial server, and the server after it (RFC 1813 section 3.3; GROW and CENSUS
--- are our profile).
+-- The answer of the serial server, and the server after it (RFC 1813 section 3.3, and appendix I for
+-- MOUNT; CENSUS, GROW and STOP are our profile).
 use Rattle.std.specs.Prelude.{ℕ, Bool, true, false, ◌==◌, length, Option, Some, None, if◌then◌else◌}
 use Rattle.nfs_model.specs.Types.{Moment, Credential, Call, Null, Getattr, Setattr, Lookup, CheckAccess}
 use Rattle.nfs_model.specs.Types.{Read, Write, Create, Mkdir, Remove, Rmdir, Rename, Readdir, Readdirplus, Fsstat, Fsinfo}
-use Rattle.nfs_model.specs.Types.{Pathconf, Commit, Unsupported, Census, Grow, Mount, Answer, NullDone}
-use Rattle.nfs_model.specs.Types.{Failed, BadHandle, CrossVolume, NotSupported, Reply, Success, SystemError, Asked}
+use Rattle.nfs_model.specs.Types.{Pathconf, Commit, Unsupported, Census, Grow, Stop, Mount, MountBelow, Answer, NullDone, StopDone}
+use Rattle.nfs_model.specs.Types.{Failed, BadHandle, CrossVolume, NoEntry, NotSupported, Reply, Success, SystemError, Asked}
 use Rattle.nfs_model.specs.Types.{Ask, Refused, Undecoded}
 use Rattle.nfs_model.specs.Server.{VolumeState, Server, with_volume}
 use Rattle.nfs_model.specs.Locate.{Effect, Fails, Tells, Changes, Located, locate, on_name}
@@ -28,7 +28,8 @@ use Rattle.nfs_model.specs.Serial.Pathconf.{pathconf}
 use Rattle.nfs_model.specs.Serial.Commit.{commit}
 use Rattle.nfs_model.specs.Serial.Census.{census}
 use Rattle.nfs_model.specs.Serial.Grow.{grow}
-use Rattle.nfs_model.specs.Serial.Mount.{mount}
+use Rattle.nfs_model.specs.Serial.Mount.{mount, parts_below}
+use Rattle.nfs_model.specs.Serial.MountBelow.{mount_below}
 
 -- a reply, and the server after it
 pub record Step : Type 0 where
@@ -50,6 +51,11 @@ placed server absent index (Changes answer volume) =
 abbrev pub on : Server → ℕ → Option Located → (VolumeState → ℕ → Effect) → Step
 on server absent None run = stay server (Failed BadHandle absent)
 on server absent (Some l) run = placed server absent l.named.volume (run l.volume l.named.fileid)
+
+-- MNT below a root: NOENT where there is no such volume
+abbrev pub on_root : Server → ℕ → Option Located → (VolumeState → ℕ → Effect) → Step
+on_root server absent None run = stay server (Failed NoEntry absent)
+on_root server absent (Some l) run = placed server absent l.named.volume (run l.volume l.named.fileid)
 
 -- a call on what two handles name in one volume; BADHANDLE, then XDEV
 abbrev pub on_two : Server → ℕ → Option Located → Option Located → (VolumeState → ℕ → ℕ → Effect) → Step
@@ -101,7 +107,10 @@ serve_by server absent (Grow volume ranges) credential moment =
       reply = Success (grow server volume ranges).answer;
       server = (grow server volume ranges).server;
     }
+serve_by server absent Stop credential moment = stay server StopDone
 serve_by server absent (Mount call) credential moment = stay server (mount (length server.volumes) call)
+serve_by server absent (MountBelow root path) credential moment =
+    on_root server absent (locate server root) (mount_below (parts_below path))
 
 -- a call that was decoded
 abbrev pub serve : Server → Call → Credential → Moment → Step

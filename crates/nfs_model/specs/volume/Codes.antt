@@ -111,15 +111,16 @@ coded_dead =
 
 abbrev pub coded_logical : Coded LogicalValue
 coded_logical =
-    code_by (((List ℕ × ℕ) × (ℕ × ℕ)) × (InodesValue × (FinMap nat_cmp DirectoryValue × (FinSet nat_cmp × DeadValue))))
-    (coded× (coded× (coded× (coded_list coded_ℕ) coded_ℕ) (coded× coded_ℕ coded_ℕ))
+    code_by (((List ℕ × ℕ) × (ℕ × (ℕ × ℕ))) × (InodesValue × (FinMap nat_cmp DirectoryValue × (FinSet nat_cmp × DeadValue))))
+    (coded× (coded× (coded× (coded_list coded_ℕ) coded_ℕ) (coded× coded_ℕ (coded× coded_ℕ coded_ℕ)))
     (coded× coded_inodes (coded× (maps.code coded_ℕ coded_directory) (coded× (sets.code coded_ℕ) coded_dead))))
-    (λ l. (((l.verifier, l.stripes), (l.largest, l.most_inodes)), (l.inodes, (l.directories, (l.stock, l.dead)))))
+    (λ l. (((l.verifier, l.stripes), (l.largest, (l.most_inodes, l.most_steps))), (l.inodes, (l.directories, (l.stock, l.dead)))))
     (λ p. record {
       verifier = p.0.0.0;
       stripes = p.0.0.1;
       largest = p.0.1.0;
-      most_inodes = p.0.1.1;
+      most_inodes = p.0.1.1.0;
+      most_steps = p.0.1.1.1;
       inodes = p.1.0;
       directories = p.1.1.0;
       stock = p.1.1.1.0;

@@ -29,13 +29,13 @@ inodes_of_a_volume = 67108864
 
 -- ---- the beginning
 
--- the root of a volume, its own parent, with the attributes that it begins with
-abbrev pub root_inode : Inode
-root_inode = record { attributes = times root_node; kind = DirectoryKind 1 0 }
+-- the root of a volume that begins at a moment, its own parent, with the attributes that it begins with
+abbrev pub root_inode : Moment → Inode
+root_inode moment = record { attributes = times (root_node moment); kind = DirectoryKind 1 0 }
 
--- a volume's inodes as it begins: its root alone
-abbrev pub opening_inodes : InodesValue
-opening_inodes = record { next = 2; used = 0; inodes = from_sorted ((1, root_inode) ∷ []) }
+-- a volume's inodes as it begins at a moment: its root alone
+abbrev pub opening_inodes : Moment → InodesValue
+opening_inodes moment = record { next = 2; used = 0; inodes = from_sorted ((1, root_inode moment) ∷ []) }
 
 -- ---- what is asked
 

@@ -13,6 +13,7 @@ pub record LogicalValue : Type 0 where
   pub stripes : ℕ  -- of the volume
   pub largest : ℕ  -- size of a file of the volume
   pub most_inodes : ℕ  -- of the volume, the root with them
+  pub most_steps : ℕ  -- of directories whose parents a RENAME looks at
   pub inodes : InodesValue
   pub directories : FinMap nat_cmp DirectoryValue  -- by fileid
   pub stock : FinSet nat_cmp  -- block numbers for files

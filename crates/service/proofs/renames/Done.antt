@@ -3,6 +3,7 @@ use Rattle.std.proofs.Common.{◌≡◌, ℕ, ◌||◌, Bool, true, false, [], O
 use Rattle.std.specs.Prelude.{not, if◌then◌else◌, IfOk, OnOk, OnErr}
 use Rattle.std.specs.declared.alloc.AllocError.{AllocError}
 use Rattle.nfs_model.specs.Types.{Status, Answer, Success, Invalid, Exists}
+use Rattle.nfs_model.specs.Serial.Rename.{climb_fault}
 use Rattle.nfs_model.specs.Names.{is_dots, name_fault}
 use Rattle.nfs_values.specs.Answer as values
 use Rattle.nfs_values.specs.declared.answer.Answer.TheVariants.{Rename}
@@ -16,7 +17,7 @@ use Rattle.filer_state.specs.state.Promises.{RightOnVolume}
 use Rattle.filer_state.specs.state.Running.{RunsOn}
 use Rattle.service_names.specs.ChangeLaws.{IsDone, MayStarve}
 use Rattle.service_names.specs.NamedChanges.{HeldNode, node_under, directory_change}
-use Rattle.service_names.specs.RenamingChanges.{HeldRenaming, fails_both, unless_both, is_one_entry, goes_below, target_may_go, directory_now, set_renamed}
+use Rattle.service_names.specs.RenamingChanges.{HeldRenaming, fails_both, unless_both, is_one_entry, held_above, target_may_go, directory_now, set_renamed}
 use Rattle.service_names.specs.RenamingChanges.{held_renamed, rename_by, held_rename}
 use Rattle.service.specs.renames.Promises.{renaming_outcome}
 use Rattle.service.specs.renames.Renaming.{first_fault, names_fault, Renamed}
@@ -62,20 +63,26 @@ module _ (r : HeldRenaming) (child : HeldNode) (target : Option HeldNode) where
   abbrev when_may : Bool → LogicalAnswer
   when_may b = if not b then fails_both Exists r.from.set else held_renamed r (set_renamed r child target)
 
-  abbrev when_below : Bool → LogicalAnswer
-  when_below b = if b then fails_both Invalid r.from.set else when_may (target_may_go r.from.set child target)
+  abbrev when_met : Option Status → LogicalAnswer
+  when_met fault = unless_both fault r.from.set (when_may (target_may_go r.from.set child target))
+
+  abbrev fault_met : Option Status
+  fault_met = climb_fault (held_above r child.fileid child.inode.kind)
 
   abbrev when_one : Bool → LogicalAnswer
-  when_one b = if b then held_renamed r r.from.set else when_below (goes_below r child.fileid child.inode.kind)
+  when_one b = if b then held_renamed r r.from.set else when_met fault_met
 
   module _ (done : LogicalAnswer) (told : done ≡ rename_by r (Some child) target) where
     pub one-entry : is_one_entry r ≡ true → done ≡ held_renamed r r.from.set
     one-entry one = told ∙ ap when_one one
 
     module _ (apart : is_one_entry r ≡ false) where
-      module _ (beside : goes_below r child.fileid child.inode.kind ≡ false) where
+      pub bad-place : (fault : Status) → Some fault ≡ fault_met → done ≡ fails_both fault r.from.set
+      bad-place fault met = told ∙ ap when_one apart ∙ ap when_met (sym met)
+
+      module _ (beside : None ≡ fault_met) where
         pub node-moved : target_may_go r.from.set child target ≡ true → done ≡ held_renamed r (set_renamed r child target)
-        node-moved goes = told ∙ ap when_one apart ∙ ap when_below beside ∙ ap when_may goes
+        node-moved goes = told ∙ ap when_one apart ∙ ap when_met (sym beside) ∙ ap when_may goes
 
 pub renamed : (r : HeldRenaming) (s : LogicalSet) (done : LogicalAnswer) → done ≡ held_renamed r s → Renamed done.answer
 renamed r s done is =

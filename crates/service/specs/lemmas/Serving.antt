@@ -12,8 +12,10 @@ use Rattle.nfs_model.specs.Route.{Route, OfBytesWritten, route}
 use Rattle.nfs_model.specs.Home.{bytes_home, home_of_route, rename_home, named_by, span_bytes, stripe_of_span}
 use Rattle.nfs_model.specs.Locate.{located_in, located_by, locate}
 use Rattle.nfs_model.specs.Serial.Absent.{absent_parts}
+use Rattle.nfs_model.specs.Serial.Mount.{parts_below}
+use Rattle.nfs_model.specs.Serial.MountBelow.{mount_below}
 use Rattle.nfs_model.specs.Serial.Rename.{rename}
-use Rattle.nfs_model.specs.Serial.Step.{on, on_two, placed, serve, stay}
+use Rattle.nfs_model.specs.Serial.Step.{on, on_root, on_two, placed, serve, stay}
 use Rattle.nfs_model.specs.Parts.{Parts}
 use Rattle.nfs_model.specs.Work.{Outcome, Replied, Starved, Moved, Ready, move_if, ready_at, volume_above}
 use Rattle.nfs_values.specs.Call.{call_of}
@@ -110,6 +112,19 @@ on-handle layout a call credential moment at tried serves = record {
       (located-there layout server volume (volume_around a) (fileid_in (named_by layout (handle_in call))) (handle_in call) count there at.names);
 }
 
+-- MNT below a root
+on-a-root : (layout : Layout) (a : Affinity) (root path : List ℕ) (credential : Credential) (moment : Moment)
+    → IsNodeOf (named_by layout root) a → IsHomeOrAbove layout (Ask (types.MountBelow root path) credential) a
+    → IsCallOn layout (volume_around a) (call_on layout a credential moment (types.MountBelow root path)) credential moment
+on-a-root layout a root path credential moment at tried = record {
+  good = at.names;
+  under = at.above;
+  tried = tried;
+  served = λ server volume count there.
+      ap (λ o. on_root server 0 o (mount_below (parts_below path)))
+      (located-there layout server volume (volume_around a) (fileid_in (named_by layout root)) root count there at.names);
+}
+
 -- RENAME, on two handles of one volume
 on-both : (layout : Layout) (a : Affinity) (from from_name to to_name : List ℕ) (credential : Credential) (moment : Moment)
     → rename_home (named_by layout from) (named_by layout to) ≡ Some a
@@ -142,7 +157,11 @@ run-is-call layout calls.Null credential moment a at = absurd at.0
 run-is-call layout (calls.Unsupported which) credential moment a at = absurd at.0
 run-is-call layout calls.Census credential moment a at = absurd at.0
 run-is-call layout (calls.Grow volume more) credential moment a at = absurd at.0
+run-is-call layout calls.Stop credential moment a at = absurd at.0
 run-is-call layout (calls.Mount asked) credential moment a at = absurd at.0
+run-is-call layout (calls.MountBelow root path) credential moment a at =
+    let call = calls.MountBelow root path in
+    on-a-root layout a root path credential moment (run-home layout call a at) (run-tried layout call credential a at)
 run-is-call layout call credential moment a at =
     on-handle layout a (call_of call) credential moment (run-home layout call a at) (run-tried layout call credential a at) (λ server. refl)
 

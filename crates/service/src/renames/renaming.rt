@@ -20,7 +20,7 @@ ghost use Rattle.service.specs.renames.Renaming.{done_between, rename_found, ren
 use crate::renames::as_directory::directory_at;
 use crate::renames::asking::{is_one_entry, may_go, names_fault};
 use crate::renames::between::Between;
-use crate::renames::climbing::goes_below;
+use crate::renames::climbing::above_fault;
 use crate::renames::entry_name::EntryName;
 use crate::renames::moving::move_node;
 use crate::renames::telling::told;
@@ -35,9 +35,9 @@ use std::alloc::{AllocError, Global};
 /// moment: STALE and NOTDIR of from's directory, then of to's, what is wrong with from's name, then
 /// with to's, INVAL for `.` and `..` in either, NOENT where from's name isn't there. Where both are
 /// one entry nothing changes. INVAL for a directory that would come into itself or below itself,
-/// EXIST where what to's name is of may not go; else that goes as by REMOVE or RMDIR, and the node
-/// has to's name. Memory runs out only where the node would come under another name, and then
-/// nothing has changed.
+/// NAMETOOLONG for one that would come deeper than the volume's steps reach, EXIST where what to's
+/// name is of may not go; else that goes as by REMOVE or RMDIR, and the node has to's name. Memory
+/// runs out only where the node would come under another name, and then nothing has changed.
 pub fn rename(
     alloc: Global,
     held: &mut LogicalHeld<Files>,
@@ -170,8 +170,8 @@ fn child_moved(
     ensures starved { OnErr result (held.new ≡ held.old) }
     ensures alike { logical_alike held.old held.new }
 {
-    if goes_below(held, between, child) {
-        return Ok(Err(Status::Invalid));
+    if let Some(fault) = above_fault(held, between, child) {
+        return Ok(Err(fault));
     }
     let target = child_at(held, between.to.fileid, to_name);
     if !may_go(held, child, target) {

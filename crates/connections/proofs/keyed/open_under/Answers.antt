@@ -13,5 +13,6 @@ returns-clause-opens g c =
         record { changed = u.changed; others = λ other n. u.others other n ∙ ap (λ s. get s other) reserved },
         c.new-connection.ensures.opened,
         c.new-connection.ensures.number ∙ c.in-Ok.ensures.number,
+        c.new-connection.ensures.peer,
       ),
     )

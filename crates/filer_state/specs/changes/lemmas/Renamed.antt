@@ -101,6 +101,14 @@ module _ (q : VolumeContents) (well : WellFormed q) (f : ℕ) (name : List ℕ) 
           ap (λ o. one_if (is_some o && not (child.fileid == root))) under.node ∙ ap (λ (t : Bool). one_if (not t)) e in
           absurd (omega (arith, some, more, once, zero))
 
+  -- where it is a directory, its parent is the one in which it stands
+  pub child-parent : IfSome (parent_directory (get q.logical.inodes.inodes child.fileid)) (λ parent. parent ≡ f)
+  child-parent =
+      let fits = well.logical.named.fits f (entries_of q.logical f) entered in
+      let own : IsChildOf q.logical.inodes.inodes f under.entry =
+      all-found (IsChildOf q.logical.inodes.inodes f) name (entries_of q.logical f).list under.entry fits.children under.found_there in
+      subst (λ (x : ℕ). IfSome (parent_directory (get q.logical.inodes.inodes x)) (λ parent. parent ≡ f)) under.is own
+
   -- nor its own directory
   pub not-itself : (child.fileid == f) ≡ false
   not-itself = by (child.fileid == f) refl
@@ -116,10 +124,7 @@ module _ (q : VolumeContents) (well : WellFormed q) (f : ℕ) (name : List ℕ) 
       by false e = refl
       by true e =
           let same : child.fileid ≡ f = eqb-true child.fileid f e in
-          let fits = well.logical.named.fits f (entries_of q.logical f) entered in
-          let own : IsChildOf q.logical.inodes.inodes f under.entry =
-          all-found (IsChildOf q.logical.inodes.inodes f) name (entries_of q.logical f).list under.entry fits.children under.found_there in
-          let up = subst (λ (x : ℕ). IfSome (parent_directory (get q.logical.inodes.inodes x)) (λ parent. parent ≡ f)) (under.is ∙ same) own in
+          let up = subst (λ (x : ℕ). IfSome (parent_directory (get q.logical.inodes.inodes x)) (λ parent. parent ≡ f)) same child-parent in
           let reaches = well.logical.named.rooted f as_directory in
           let top : f ≡ root =
           sym (stays-there q.logical.inodes.inodes f (parent-is (parent_directory (get q.logical.inodes.inodes f)) as_directory up) reaches.0) ∙ reaches.1 in

@@ -3,7 +3,7 @@ use Rattle.std.proofs.Common.{◌≡◌, ℕ, ◌+◌, ◌-◌, ◌==◌, ◌&&�
 use Rattle.std.proofs.Common.{eq-eqb}
 use Rattle.std.specs.Prelude.{IsTrue, length, if◌then◌else◌, slice_get, is_some}
 use Rattle.std.specs.FinMap.{get}
-use Rattle.nfs_model.specs.Types.{Moment, Status, Wcc, Answer, Rename, RenameDone, Invalid, Exists}
+use Rattle.nfs_model.specs.Types.{Moment, Status, Wcc, Answer, Rename, RenameDone, Invalid, NameTooLong, Exists}
 use Rattle.nfs_model.specs.Tree.{Affinity}
 use Rattle.nfs_model.specs.Names.{same_name, is_dots, name_fault}
 use Rattle.nfs_model.specs.Server.{VolumeState, Server, Named, handle_of, named_read, used}
@@ -12,7 +12,7 @@ use Rattle.nfs_model.specs.Parts.{Hand}
 use Rattle.nfs_model.specs.Moves.{Emptied}
 use Rattle.nfs_model.specs.Locate.{Effect, Fails, unless, Found, named_child, Located, located_in, located_by, locate}
 use Rattle.nfs_model.specs.Serial.Rename as renames
-use Rattle.nfs_model.specs.Serial.Rename.{Renaming, may_go, with_moved, with_entry, without_entry, renamed_volume}
+use Rattle.nfs_model.specs.Serial.Rename.{Renaming, Climb, PastIt, ToIt, TooFar, climb_fault, may_go, with_moved, with_entry, without_entry, renamed_volume}
 use Rattle.nfs_model.specs.Serial.Rename.{rename_told, same_told, is_same_entry, rename_at, rename_in}
 use Rattle.nfs_model.specs.Serial.Starve.{takes_memory}
 use Rattle.nfs_model.specs.volume.Inodes.{DirectoryKind, Inode}
@@ -31,7 +31,7 @@ use Rattle.filer_state.specs.laws.lemmas.Steps.{sound-later}
 use Rattle.filer_state.specs.names.Answers.{entries_of}
 use Rattle.filer_state.specs.nodes.Laws.{WeighAlike}
 use Rattle.filer_state.specs.changes.Named.{HeldNode, node_under}
-use Rattle.filer_state.specs.changes.Renaming.{HeldRenaming, fails_both, unless_both, is_one_entry, goes_below, target_may_go, child_taken, child_hung}
+use Rattle.filer_state.specs.changes.Renaming.{HeldRenaming, fails_both, unless_both, is_one_entry, held_above, target_may_go, child_taken, child_hung}
 use Rattle.filer_state.specs.changes.Renaming.{target_gone, set_renamed, held_renamed, rename_by, held_rename}
 use Rattle.filer_state.specs.changes.Laws.{IsDone, MayStarve, rename_call, rename_done}
 use Rattle.filer_state.specs.changes.lemmas.Named.{RightFor, done-right-for, naming_held, naming_seen, IsDirectoryHere, entered-here, before-shown}
@@ -40,7 +40,7 @@ use Rattle.filer_state.specs.changes.lemmas.Setattr.{unchanged}
 use Rattle.filer_state.specs.changes.lemmas.Makes.{may-starve}
 use Rattle.filer_state.specs.changes.lemmas.Hanging.{q_hung, sound-hung, from-some, to-some, volume-hung, parts-hung, used-hung}
 use Rattle.filer_state.specs.changes.lemmas.Replacing.{IsFree, free-by}
-use Rattle.filer_state.specs.changes.lemmas.Told.{directory-right, directory-told, below-seen, may-go-seen, clear-of}
+use Rattle.filer_state.specs.changes.lemmas.Told.{directory-right, directory-told, met-seen, may-go-seen, clear-of}
 
 module _ (from to : List ℕ) (node : Affinity) (from_id : ℕ) (from_name : List ℕ) (to_id : ℕ) (to_name : List ℕ) (moment : Moment) where
   abbrev call : VolumeCall
@@ -115,12 +115,12 @@ module _ (from to : List ℕ) (node : Affinity) (from_id : ℕ) (from_name : Lis
         to-directory : is_directory (get p.logical.inodes.inodes to_id) ≡ true
         to-directory = ap (λ (i : Option Inode). is_directory i) here_to.there ∙ ap (λ k. is_some (parent_in k)) here_to.kind
 
-        clear : goes_below h child.fileid child.inode.kind ≡ false
+        clear : held_above h child.fileid child.inode.kind ≡ PastIt
             → (k : ℕ) → (directory_above p.logical.inodes.inodes k to_id == child.fileid) ≡ false
-        clear = clear-of p sound.well_formed from_id from_name child under here_from.entered h refl to-directory
+        clear = clear-of p sound.well_formed from_id from_name child under here_from.entered h refl refl to-directory
 
         -- there is no target
-        free-none : found (entries_of p.logical to_id) to_name ≡ None → goes_below h child.fileid child.inode.kind ≡ false
+        free-none : found (entries_of p.logical to_id) to_name ≡ None → held_above h child.fileid child.inode.kind ≡ PastIt
             → IsFree p p h.from h.to child fp tp r.to None hands made
         free-none absent passes = record {
           sound = sound;
@@ -140,45 +140,44 @@ module _ (from to : List ℕ) (node : Affinity) (from_id : ℕ) (from_name : Lis
         -- the checks, and what follows
         module _ (target : Option HeldNode) (found_target : Option Found)
             (go : may_go (node_of p.stripes p.logical.directories child.fileid child.inode) found_target ≡ target_may_go (logical_lens.of p) child target)
-            (goes : is_one_entry h ≡ false → goes_below h child.fileid child.inode.kind ≡ false → target_may_go (logical_lens.of p) child target ≡ true
+            (goes : is_one_entry h ≡ false → held_above h child.fileid child.inode.kind ≡ PastIt → target_may_go (logical_lens.of p) child target ≡ true
             → Right (held_renamed h (set_renamed h child target)) (rename_told r (renamed_volume r child.fileid found_target))) where
-          abbrev seen_by : Bool → Bool → Effect
-          seen_by below may =
+          abbrev seen_by : Climb → Bool → Effect
+          seen_by met may =
               if is_same_entry r then same_told r
-              else if below then Fails Invalid
-              else if not may then Fails Exists
-              else rename_told r (renamed_volume r child.fileid found_target)
+              else unless (climb_fault met)
+              (if not may then Fails Exists else rename_told r (renamed_volume r child.fileid found_target))
 
-          passed : (a b d : Bool) → is_one_entry h ≡ a → goes_below h child.fileid child.inode.kind ≡ b
+          passed : (a : Bool) (m : Climb) (d : Bool) → is_one_entry h ≡ a → held_above h child.fileid child.inode.kind ≡ m
               → target_may_go (logical_lens.of p) child target ≡ d
               → Right (if a then held_renamed h (logical_lens.of p)
-              else if b then fails_both Invalid (logical_lens.of p)
-              else if not d then fails_both Exists (logical_lens.of p)
-              else held_renamed h (set_renamed h child target))
-              (if a then same_told r else if b then Fails Invalid else if not d then Fails Exists
-              else rename_told r (renamed_volume r child.fileid found_target))
-          passed true b d one below may = same-right
-          passed false true d one below may = failure Invalid
-          passed false false false one below may = failure Exists
-          passed false false true one below may = goes one below may
+              else unless_both (climb_fault m) (logical_lens.of p)
+              (if not d then fails_both Exists (logical_lens.of p) else held_renamed h (set_renamed h child target)))
+              (if a then same_told r else unless (climb_fault m)
+              (if not d then Fails Exists else rename_told r (renamed_volume r child.fileid found_target)))
+          passed true m d one met may = same-right
+          passed false ToIt d one met may = failure Invalid
+          passed false TooFar d one met may = failure NameTooLong
+          passed false PastIt false one met may = failure Exists
+          passed false PastIt true one met may = goes one met may
 
           there-right : Right (rename_by h (Some child) target) (rename_at r (Some (found_seen p child)) found_target)
           there-right =
-              subst (λ (b : Bool). Right (rename_by h (Some child) target)
-              (seen_by b (may_go (node_of p.stripes p.logical.directories child.fileid child.inode) found_target)))
-              (sym (below-seen p r h child.fileid child.inode refl refl refl))
-              (subst (λ (d : Bool). Right (rename_by h (Some child) target) (seen_by (goes_below h child.fileid child.inode.kind) d)) (sym go)
-              (passed (is_one_entry h) (goes_below h child.fileid child.inode.kind) (target_may_go (logical_lens.of p) child target) refl refl refl))
+              subst (λ (m : Climb). Right (rename_by h (Some child) target)
+              (seen_by m (may_go (node_of p.stripes p.logical.directories child.fileid child.inode) found_target)))
+              (sym (met-seen p r h child.fileid child.inode refl refl refl refl))
+              (subst (λ (d : Bool). Right (rename_by h (Some child) target) (seen_by (held_above h child.fileid child.inode.kind) d)) (sym go)
+              (passed (is_one_entry h) (held_above h child.fileid child.inode.kind) (target_may_go (logical_lens.of p) child target) refl refl refl))
 
         -- by whether there is a target
         target-right : Right (rename_by h (Some child) (node_under h.to)) (rename_at r (Some (found_seen p child)) (named_child r.to))
         target-right = child-right p sound.well_formed to_id to_name moment ti tp ts here_to
             (λ (o : Option HeldNode) (x : Option Found). Right (rename_by h (Some child) o) (rename_at r (Some (found_seen p child)) x))
-            (λ absent. there-right None None refl (λ one below may. moved-right (logical_lens.of p) None (free-none absent below)))
+            (λ absent. there-right None None refl (λ one met may. moved-right (logical_lens.of p) None (free-none absent met)))
             (λ target upon. there-right (Some target) (Some (found_seen p target)) (may-go-seen p child target)
-            (λ one below may. moved-right (target_gone h.to (Some target)) (Some (found_seen p target))
+            (λ one met may. moved-right (target_gone h.to (Some target)) (Some (found_seen p target))
             (free-by p hands made sound from_id from_name to_id to_name moment fi fp fs here_from ti tp ts here_to child under target upon one
-            (clear below) target.inode.kind refl may)))
+            (clear met) target.inode.kind refl may)))
 
       child-there : Right (rename_by h (node_under h.from) (node_under h.to)) (rename_at r (named_child r.from) (named_child r.to))
       child-there = child-right p sound.well_formed from_id from_name moment fi fp fs here_from

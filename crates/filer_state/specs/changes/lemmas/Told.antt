@@ -1,16 +1,15 @@
 -- What RENAME checks and tells by what is under Logical, beside the serial server.
-use Rattle.std.proofs.Common.{◌≡◌, ℕ, zero, suc, ◌==◌, ◌||◌, Bool, true, false, List, Option, Some, None, refl, sym, ap, ◌∙◌, subst, eq-eqb}
-use Rattle.std.specs.Prelude.{is_some}
+use Rattle.std.proofs.Common.{◌≡◌, ℕ, zero, suc, ◌==◌, Bool, true, false, List, Option, Some, None, refl, sym, ap, ◌∙◌, subst, eq-eqb}
+use Rattle.std.specs.Prelude.{is_some, IfSome, if◌then◌else◌}
 use Rattle.std.proofs.lemmas.Bool.{eqb-true}
 use Rattle.std.specs.Option.{option_map}
-use Rattle.std.specs.Cmp.{nat_cmp_total}
-use Rattle.std.specs.FinMap.{get, len, nat_cmp-IsAntisymmetric}
+use Rattle.std.specs.FinMap.{get}
 use Rattle.nfs_model.specs.Types.{Status}
 use Rattle.nfs_model.specs.Server.{Attributes, DirectoryNode, Node, Directory, VolumeState}
 use Rattle.nfs_model.specs.Shown.{shown}
 use Rattle.nfs_model.specs.Locate.{Effect, Fails, on_directory}
 use Rattle.nfs_model.specs.Serial.Rename as renames
-use Rattle.nfs_model.specs.Serial.Rename.{Renaming, on_parent, parent_above, climbs_to, goes_below_itself, may_go, node_or}
+use Rattle.nfs_model.specs.Serial.Rename.{Renaming, Climb, PastIt, ToIt, on_parent, parent_above, climb, met_above, may_go, node_or}
 use Rattle.nfs_model.specs.volume.Inodes.{InodeKind, RegularFile, DirectoryKind, Inode}
 use Rattle.filer_state.specs.state.Contents.{VolumeContents}
 use Rattle.filer_state.specs.state.Tree.{file_touch, node_by, node_of, volume_of}
@@ -18,17 +17,16 @@ use Rattle.filer_state.specs.state.Names.{InodeMap, root, parent_in, parent_dire
 use Rattle.filer_state.specs.state.WellFormed.{WellFormed}
 use Rattle.filer_state.specs.state.Lenses.{logical_lens}
 use Rattle.filer_state.specs.state.Changes.{LogicalAnswer, shown_inode}
-use Rattle.filer_state.specs.laws.lemmas.Mapped.{len-map_values}
 use Rattle.filer_state.specs.attributes.lemmas.Getting.{node-at, node-shown}
 use Rattle.filer_state.specs.names.Answers.{entries_of, directory_node}
 use Rattle.filer_state.specs.names.lemmas.DirectoryKinds.{same-shown}
 use Rattle.filer_state.specs.changes.Named.{HeldNaming, HeldNode}
 use Rattle.filer_state.specs.changes.Renaming as held
-use Rattle.filer_state.specs.changes.Renaming.{HeldRenaming, fails_both, above, climbs, goes_below, target_may_go, inode_or, directory_now, on_directory_inode}
+use Rattle.filer_state.specs.changes.Renaming.{HeldRenaming, fails_both, above, climbs, held_above, target_may_go, inode_or, directory_now, on_directory_inode}
 use Rattle.filer_state.specs.changes.Renaming.{if_directory}
 use Rattle.filer_state.specs.changes.lemmas.Named.{IsChildHere, found_seen}
-use Rattle.filer_state.specs.changes.lemmas.Climbing.{climbs-none, stays-there}
-use Rattle.filer_state.specs.changes.lemmas.Renamed.{not-root}
+use Rattle.filer_state.specs.changes.lemmas.Climbing.{climbs-past, stays-there, up-last, round-at-top}
+use Rattle.filer_state.specs.changes.lemmas.Renamed.{child-parent, not-root}
 
 -- ---- the directories
 
@@ -96,31 +94,29 @@ module _ (p : VolumeContents) where
       by None = refl
       by (Some inode) = kinds inode.attributes inode.kind
 
-  on-same : (o : Option ℕ) (f g : ℕ → Bool) → ((u : ℕ) → f u ≡ g u) → on_parent o f ≡ on_parent o g
+  on-same : (o : Option ℕ) (f g : ℕ → Climb) → ((u : ℕ) → f u ≡ g u) → on_parent o f ≡ on_parent o g
   on-same None f g same = refl
   on-same (Some u) f g same = same u
 
-  climb-seen : (n t q : ℕ) → climbs_to n (volume_of p) t q ≡ climbs n p.logical.inodes.inodes t q
+  climb-seen : (n t q : ℕ) → climb n (volume_of p) t q ≡ climbs n p.logical.inodes.inodes t q
   climb-seen zero t q = refl
   climb-seen (suc n) t q =
-      ap (λ (b : Bool). (q == t) || b)
-      (ap (λ (o : Option ℕ). on_parent o (climbs_to n (volume_of p) t)) (above-seen q)
-      ∙ on-same (above q (parent_directory (get p.logical.inodes.inodes q))) (climbs_to n (volume_of p) t) (climbs n p.logical.inodes.inodes t)
+      ap (λ (c : Climb). if q == t then ToIt else c)
+      (ap (λ (o : Option ℕ). on_parent o (climb n (volume_of p) t)) (above-seen q)
+      ∙ on-same (above q (parent_directory (get p.logical.inodes.inodes q))) (climb n (volume_of p) t) (climbs n p.logical.inodes.inodes t)
       (climb-seen n t))
 
-  pub below-seen : (r : Renaming) (h : HeldRenaming) (c : ℕ) (inode : Inode) → r.from.volume ≡ volume_of p → h.from.set ≡ logical_lens.of p
-      → r.to.fileid ≡ h.to.fileid
-      → goes_below_itself r c (node_of p.stripes p.logical.directories c inode) ≡ goes_below h c inode.kind
-  below-seen r h c inode volume set same = by inode.kind
+  pub met-seen : (r : Renaming) (h : HeldRenaming) (c : ℕ) (inode : Inode) → r.from.volume ≡ volume_of p → h.from.set ≡ logical_lens.of p
+      → r.from.fileid ≡ h.from.fileid → r.to.fileid ≡ h.to.fileid
+      → met_above r c (node_of p.stripes p.logical.directories c inode) ≡ held_above h c inode.kind
+  met-seen r h c inode volume set from to = by inode.kind
     where
-      by : (kind : InodeKind) → goes_below_itself r c (node_by p.stripes (get p.logical.directories c) c inode.attributes kind) ≡ goes_below h c kind
+      by : (kind : InodeKind) → met_above r c (node_by p.stripes (get p.logical.directories c) c inode.attributes kind) ≡ held_above h c kind
       by (RegularFile size filled verifier) = refl
       by (DirectoryKind parent subs) =
-          (λ j. climbs_to (len (volume j).nodes) (volume j) c (same j))
-          ∙ ap (λ (n : ℕ). climbs_to n (volume_of p) c h.to.fileid)
-          (len-map_values (node_of p.stripes p.logical.directories) nat_cmp_total nat_cmp-IsAntisymmetric p.logical.inodes.inodes)
-          ∙ climb-seen (len p.logical.inodes.inodes) c h.to.fileid
-          ∙ (λ j. climbs (len (sym set j).own.inodes.inodes) (sym set j).own.inodes.inodes c h.to.fileid)
+          (λ j. if from j == to j then PastIt else climb (volume j).most_steps (volume j) c (to j))
+          ∙ ap (λ (m : Climb). if h.from.fileid == h.to.fileid then PastIt else m) (climb-seen p.logical.most_steps c h.to.fileid
+          ∙ (λ j. climbs (sym set j).own.most_steps (sym set j).own.inodes.inodes c h.to.fileid))
 
   -- the target may go
   pub may-go-seen : (child : HeldNode) (target : HeldNode)
@@ -139,12 +135,6 @@ module _ (p : VolumeContents) where
 
 -- ---- a node is above no directory that isn't below it
 
-up-last : (inodes : InodeMap) (n q : ℕ)
-    → directory_above inodes n (parent_or (parent_directory (get inodes q)) q)
-    ≡ parent_or (parent_directory (get inodes (directory_above inodes n q))) (directory_above inodes n q)
-up-last inodes zero q = refl
-up-last inodes (suc n) q = up-last inodes n (parent_or (parent_directory (get inodes q)) q)
-
 above-turned : (inodes : InodeMap) (a b q : ℕ)
     → directory_above inodes a (directory_above inodes b q) ≡ directory_above inodes b (directory_above inodes a q)
 above-turned inodes a zero q = refl
@@ -153,7 +143,7 @@ above-turned inodes a (suc b) q =
 
 module _ (p : VolumeContents) (well : WellFormed p) (from_id : ℕ) (from_name : List ℕ) (child : HeldNode) (under : IsChildHere p from_id from_name child)
     (entered : get p.logical.directories from_id ≡ Some (entries_of p.logical from_id)) (h : HeldRenaming) (set : h.from.set ≡ logical_lens.of p)
-    (as_directory : is_directory (get p.logical.inodes.inodes h.to.fileid) ≡ true) where
+    (from_is : h.from.fileid ≡ from_id) (as_directory : is_directory (get p.logical.inodes.inodes h.to.fileid) ≡ true) where
   abbrev inodes : InodeMap
   inodes = p.logical.inodes.inodes
 
@@ -174,11 +164,38 @@ module _ (p : VolumeContents) (well : WellFormed p) (from_id : ℕ) (from_name :
           let isnt = not-root p well from_id from_name child under entered in
           absurd cc
 
-  pub clear-of : goes_below h child.fileid child.inode.kind ≡ false → (k : ℕ) → (directory_above inodes k h.to.fileid == child.fileid) ≡ false
+  -- a directory isn't above the one in which it stands
+  own-clear : (parent : ℕ) → parent_in child.inode.kind ≡ Some parent → (k : ℕ) → (directory_above inodes k from_id == child.fileid) ≡ false
+  own-clear parent says k = by (directory_above inodes k from_id == child.fileid) refl
+    where
+      by : (b : Bool) → (directory_above inodes k from_id == child.fileid) ≡ b → b ≡ false
+      by false e = refl
+      by true e =
+          let up : parent_directory (get inodes child.fileid) ≡ Some parent = ap parent_directory under.node ∙ says in
+          let is : parent ≡ from_id =
+          subst (λ (o : Option ℕ). IfSome o (λ (u : ℕ). u ≡ from_id)) up (child-parent p well from_id from_name child under entered) in
+          let round : directory_above inodes (suc k) child.fileid ≡ child.fileid =
+          ap (λ (o : Option ℕ). directory_above inodes k (parent_or o child.fileid)) up ∙ ap (directory_above inodes k) is
+          ∙ eqb-true (directory_above inodes k from_id) child.fileid e in
+          let way = well.logical.named.rooted child.fileid (ap (λ (o : Option ℕ). is_some o) up) in
+          let same = round-at-top inodes root (ap (λ (o : Option ℕ). parent_or o root) well.logical.named.root_there) k way.0 child.fileid round way.1 in
+          let is_root : (child.fileid == root) ≡ true = eq-eqb child.fileid root same in
+          let isnt = not-root p well from_id from_name child under entered in
+          absurd cc
+
+  pub clear-of : held_above h child.fileid child.inode.kind ≡ PastIt → (k : ℕ) → (directory_above inodes k h.to.fileid == child.fileid) ≡ false
   clear-of passes = by child.inode.kind refl passes
     where
-      by : (kind : InodeKind) → child.inode.kind ≡ kind → goes_below h child.fileid kind ≡ false
+      kept : (parent : ℕ) → parent_in child.inode.kind ≡ Some parent → (b : Bool) → (h.from.fileid == h.to.fileid) ≡ b
+          → (if b then PastIt else climbs h.from.set.own.most_steps h.from.set.own.inodes.inodes child.fileid h.to.fileid) ≡ PastIt
           → (k : ℕ) → (directory_above inodes k h.to.fileid == child.fileid) ≡ false
-      by (RegularFile size filled verifier) is none = file-clear (ap parent_in is)
-      by (DirectoryKind parent subs) is none = climbs-none child.fileid inodes h.to.fileid
-          ((λ j. climbs (len (sym set j).own.inodes.inodes) (sym set j).own.inodes.inodes child.fileid h.to.fileid) ∙ none)
+      kept parent says true one past = λ k.
+          ap (λ (x : ℕ). directory_above inodes k x == child.fileid) (sym (eqb-true h.from.fileid h.to.fileid one) ∙ from_is)
+          ∙ own-clear parent says k
+      kept parent says false two past = climbs-past inodes child.fileid p.logical.most_steps h.to.fileid
+          ((λ j. climbs (sym set j).own.most_steps (sym set j).own.inodes.inodes child.fileid h.to.fileid) ∙ past)
+
+      by : (kind : InodeKind) → child.inode.kind ≡ kind → held_above h child.fileid kind ≡ PastIt
+          → (k : ℕ) → (directory_above inodes k h.to.fileid == child.fileid) ≡ false
+      by (RegularFile size filled verifier) is past = file-clear (ap parent_in is)
+      by (DirectoryKind parent subs) is past = kept parent (ap parent_in is) (h.from.fileid == h.to.fileid) refl past

@@ -56,8 +56,10 @@ filled-within v fileid inode i h = let s = filled-split v.inodes fileid inode h 
 
 -- ---- what is found
 
-pub inode-opening : (q : ℕ) → inode_of opening_inodes q ≡ (if q == 1 then Some root_inode else None)
-inode-opening q = get-from_sorted nat_cmp ((1, root_inode) ∷ []) q tt ∙ ap (λ b. cond b (Some root_inode) None) (unsigned_tied q 1)
+pub inode-opening : (moment : Moment) (q : ℕ)
+    → inode_of (opening_inodes moment) q ≡ (if q == 1 then Some (root_inode moment) else None)
+inode-opening moment q =
+    get-from_sorted nat_cmp ((1, root_inode moment) ∷ []) q tt ∙ ap (λ b. cond b (Some (root_inode moment)) None) (unsigned_tied q 1)
 
 -- nothing stands under the next fileid
 pub next-absent : (v : InodesValue) → IsInodes v → inode_of v v.next ≡ None
@@ -164,8 +166,8 @@ used-dropped v fileid inode i h =
 
 -- ---- how many
 
-pub len-opening : len opening_inodes.inodes ≡ 1
-len-opening = len-entries opening_inodes.inodes ∙ ap length (entries-from_sorted nat_cmp ((1, root_inode) ∷ []) tt)
+pub len-opening : (moment : Moment) → len (opening_inodes moment).inodes ≡ 1
+len-opening moment = len-entries (opening_inodes moment).inodes ∙ ap length (entries-from_sorted nat_cmp ((1, root_inode moment) ∷ []) tt)
 
 pub len-created : (v : InodesValue) (inode : Inode) → IsInodes v → len (inode_created inode v).inodes ≡ len v.inodes + 1
 len-created v inode i = len-insert nat_cmp_total v.inodes v.next inode ∙ ap (λ o. cond (is_some o) (len v.inodes) (len v.inodes + 1)) (next-absent v i)
@@ -203,13 +205,13 @@ fileids-remove m k bound old f y h = by (f == k) (sym (get-remove_at m k f) ∙ 
     by true g = absurd (grind (arith, g))
     by false g = old f y g
 
-pub opening-is : IsInodes opening_inodes
-opening-is = record {
-  fileids = λ f y h. by f y (f == 1) refl (sym (inode-opening f) ∙ h);
-  filled = sym (ap blocks_filled (entries-from_sorted nat_cmp ((1, root_inode) ∷ []) tt));
+pub opening-is : (moment : Moment) → IsInodes (opening_inodes moment)
+opening-is moment = record {
+  fileids = λ f y h. by f y (f == 1) refl (sym (inode-opening moment f) ∙ h);
+  filled = sym (ap blocks_filled (entries-from_sorted nat_cmp ((1, root_inode moment) ∷ []) tt));
 }
   where
-    by : (f : ℕ) (y : Inode) (b : Bool) → b ≡ (f == 1) → (if b then Some root_inode else None) ≡ Some y → f < 2
+    by : (f : ℕ) (y : Inode) (b : Bool) → b ≡ (f == 1) → (if b then Some (root_inode moment) else None) ≡ Some y → f < 2
     by f y true p g = let e = exact_unsigned_eq f 1 (sym p) in omega (arith, e)
     by f y false p g = absurd (grind (arith, g))
 

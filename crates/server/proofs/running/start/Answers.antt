@@ -1,6 +1,7 @@
 use Rattle.std.proofs.Common.{refl, sym, subst, ◌∙◌, arith}
 use Rattle.std.specs.Arc.{arc_value}
 use Rattle.nfs_model.specs.Tree.{Layout}
+use Rattle.nfs_values.specs.Moment.{moment_of}
 use Rattle.server.specs.Planned.{IsLaidOut}
 use Rattle.server.proofs.Started.{all-serve, as-many, threads-of}
 use Rattle.server.proofs.running.start.Goals as goal
@@ -30,7 +31,8 @@ returns-clause-count g c =
 
 pub returns-clause-layout : goal.returns-clause-layout
 returns-clause-layout g c =
-    subst (λ (l : Layout). IsLaidOut c.args.options.now.volumes c.args.options.now.plan l) (sym c.in_ok-filer.ensures.layout) c.in_ok-layout.ensures
+    subst (λ (l : Layout). IsLaidOut c.args.options.now.volumes c.args.options.now.plan (moment_of c.args.options.now.begun) l)
+    (sym c.in_ok-filer.ensures.layout) c.in_ok-layout.ensures
 
 pub returns-clause-verifier : goal.returns-clause-verifier
 returns-clause-verifier g c run e = c.in_ok-filer.ensures.verifier ∙ c.verifier_for-verifier.ensures run e

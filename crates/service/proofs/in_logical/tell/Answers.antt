@@ -11,11 +11,11 @@ use Rattle.nfs_values.specs.declared.answer.Answer.TheVariants as answers
 use Rattle.nfs_values.specs.declared.call.Call.{Call}
 use Rattle.service.specs.renames.AttributeLaws.{getattr_call}
 use Rattle.service_data.specs.ReadingLaws.{read_call}
-use Rattle.service.specs.renames.NameLaws.{lookup_call, commit_call}
+use Rattle.service.specs.renames.NameLaws.{lookup_call, commit_call, mount_call}
 use Rattle.filer_state.specs.state.Lenses.{logical_lens}
 use Rattle.filer_state.specs.state.Running.{RunsOn}
 use Rattle.filer_state.specs.state.Sets.{logical_before}
-use Rattle.service.specs.renames.NamePromises.{LooksUp}
+use Rattle.service.specs.renames.NamePromises.{LooksUp, MountsBelow}
 use Rattle.service.specs.Running.{call_named, is_told, outcome_of}
 use Rattle.service.proofs.Runs.{served-runs}
 use Rattle.service.proofs.in_logical.tell.Goals as goal
@@ -79,4 +79,20 @@ returns-in-Commit c =
           (call_named layout n (credential_of c.args.run.credential) (moment_of c.args.run.moment) (call_of call))
           old (Replied (Success told)) old) (sym c.in-Commit.is)
           (served-runs n.volume (commit_call c.in-Commit.handle (Logical n.volume) n.fileid) old old told (c.commit-told.ensures.right c.in-Commit.handle));
+    }
+
+pub returns-in-MountBelow : goal.returns-in-MountBelow
+returns-in-MountBelow c =
+    let n = named_of c.args.named in
+    let old = logical_before c.args.held.now in
+    let asked = c.in-MountBelow in
+    let told = answer_of (answers.Mount c.mount_below-told.result) in
+    record {
+      told = sym (ap is_told asked.is);
+      runs = λ layout. subst (λ (call : Call). RunsOn n.volume logical_lens
+          (call_named layout n (credential_of c.args.run.credential) (moment_of c.args.run.moment) (call_of call))
+          old (Replied (Success told)) old) (sym asked.is)
+          (served-runs n.volume (mount_call asked.root (Logical n.volume) n.fileid asked.path) old old told
+          (subst (λ (path : List ℕ). MountsBelow n.volume n.fileid path old c.mount_below-told.result) c.as_bytes-in-MountBelow.ensures
+          c.mount_below-told.ensures.right asked.root));
     }

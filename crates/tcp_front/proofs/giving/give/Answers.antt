@@ -13,33 +13,34 @@ use Rattle.tcp_front.proofs.giving.give.Goals as goal
 pub returns-in-Some-clause-ok : goal.returns-in-Some-clause-ok
 returns-in-Some-clause-ok g c =
     let layout = layout_of c.args.layout.now in
-    subst (λ (r : Request). OnOk c.admit.result (g.S.RecordSink.came c.args.sink.now (given_of layout c.args.origin (asked_of r)) c.admit.new.self))
+    subst (λ (r : Request). OnOk c.admit.result (g.S.RecordSink.came c.args.sink.now (given_of layout c.args.peer c.args.origin (asked_of r)) c.admit.new.self))
     (sym c.in-Call.is)
     (subst (λ (xs : List Arrival). OnOk c.admit.result (g.S.RecordSink.came c.args.sink.now xs c.admit.new.self))
-    (waits-is layout c.args.origin (asked_of (Call c.in-Call.call c.in-Call.credential)) (call_node c.in-Some.admission.affinity)
+    (waits-is layout c.args.peer c.args.origin (asked_of (Call c.in-Call.call c.in-Call.credential)) (call_node c.in-Some.admission.affinity)
     c.in-Some.ensures.waits.at_home) c.admit.ensures.ok)
 
 pub returns-in-None-clause-ok : goal.returns-in-None-clause-ok
 returns-in-None-clause-ok g c =
     let layout = layout_of c.args.layout.now in
-    subst (λ (r : Request). OnOk c.answer_now.result (g.S.RecordSink.came c.args.sink.now (given_of layout c.args.origin (asked_of r)) c.answer_now.new.sink))
+    subst (λ (r : Request). OnOk c.answer_now.result (g.S.RecordSink.came c.args.sink.now (given_of layout c.args.peer c.args.origin (asked_of r)) c.answer_now.new.sink))
     (sym c.in-Call.is)
     (subst (λ (xs : List Arrival). OnOk c.answer_now.result (g.S.RecordSink.came c.args.sink.now xs c.answer_now.new.sink))
-    (answered-is layout c.args.origin (asked_of (Call c.in-Call.call c.in-Call.credential)) (sym c.in-None.ensures.home)) c.answer_now.ensures.ok)
+    (answered-is layout c.args.peer c.args.origin (asked_of (Call c.in-Call.call c.in-Call.credential)) (asked_of c.from_peer-request.result)
+    c.from_peer-request.ensures (sym c.in-None.ensures.home)) c.answer_now.ensures.ok)
 
 pub returns-in-Refused-clause-ok : goal.returns-in-Refused-clause-ok
 returns-in-Refused-clause-ok g c =
     let layout = layout_of c.args.layout.now in
     let to = c.answer_now-in-Refused in
-    subst (λ (r : Request). OnOk to.result (g.S.RecordSink.came c.args.sink.now (given_of layout c.args.origin (asked_of r)) to.new.sink)) (sym c.in-Refused.is)
+    subst (λ (r : Request). OnOk to.result (g.S.RecordSink.came c.args.sink.now (given_of layout c.args.peer c.args.origin (asked_of r)) to.new.sink)) (sym c.in-Refused.is)
     (subst (λ (xs : List Arrival). OnOk to.result (g.S.RecordSink.came c.args.sink.now xs to.new.sink))
-    (answered-is layout c.args.origin (asked_of (Refused c.in-Refused.refusal)) refl) to.ensures.ok)
+    (answered-is layout c.args.peer c.args.origin (asked_of (Refused c.in-Refused.refusal)) _ refl refl) to.ensures.ok)
 
 pub returns-in-Undecoded-clause-ok : goal.returns-in-Undecoded-clause-ok
 returns-in-Undecoded-clause-ok g c =
     let layout = layout_of c.args.layout.now in
     let to = c.answer_now-in-Undecoded in
-    subst (λ (r : Request). OnOk to.result (g.S.RecordSink.came c.args.sink.now (given_of layout c.args.origin (asked_of r)) to.new.sink))
+    subst (λ (r : Request). OnOk to.result (g.S.RecordSink.came c.args.sink.now (given_of layout c.args.peer c.args.origin (asked_of r)) to.new.sink))
     (sym c.in-Undecoded.is)
     (subst (λ (xs : List Arrival). OnOk to.result (g.S.RecordSink.came c.args.sink.now xs to.new.sink))
-    (answered-is layout c.args.origin (asked_of Undecoded) refl) to.ensures.ok)
+    (answered-is layout c.args.peer c.args.origin (asked_of Undecoded) _ refl refl) to.ensures.ok)

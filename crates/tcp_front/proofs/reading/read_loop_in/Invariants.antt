@@ -10,6 +10,6 @@ invariant-loop g l = record {
   wide : 0 < length l.block;
   few : l.stream.records < most_records;
   layout : g.S.RecordSink.layout l.sink ≡ g.S.RecordSink.layout l.fn.sink;
-  so_far : SoFar g.R.Read.remaining g.S.RecordSink.came (layout_of l.layout) l.offer l.fn.alloc l.fn.connection l.fn.reader l.fn.sink
+  so_far : SoFar g.R.Read.remaining g.S.RecordSink.came (layout_of l.layout) l.offer l.fn.alloc l.fn.connection l.fn.peer l.fn.reader l.fn.sink
       l.reader l.stream l.sink;
 }

@@ -21,7 +21,7 @@ returns-in-More-clause-taken g c =
     let comes = subst (λ (n : Next). Comes c.args.offer s.reassembler bytes taken n c.next_record-taken.new.reassembler) c.in-More.is
     (c.next_record-taken.ensures.comes c.args.offer) in
     taken-part g.S.RecordSink.came (layout_of c.args.layout.now) c.args.offer s _ c.args.sink.now (take taken bytes)
-    (g.met.S.RecordSink.came_none c.args.sink.now) comes.1 refl refl c.requires.few
+    (g.met.S.RecordSink.came_none c.args.sink.now) comes.1 (refl, refl) refl c.requires.few
 
 pub returns-in-Record-clause-some : goal.returns-in-Record-clause-some
 returns-in-Record-clause-some g c = λ none some.
@@ -36,7 +36,7 @@ returns-in-Stopped-clause-taken g c =
     let at = c.next_record-taken.new.reassembler in
     taken-stopped g.S.RecordSink.came (layout_of c.args.layout.now) c.args.offer s _ c.args.sink.now bytes taken at c.in-Stopped.stopped
     (g.met.S.RecordSink.came_none c.args.sink.now)
-    (subst (λ (n : Next). Comes c.args.offer s.reassembler bytes taken n at) c.in-Stopped.is (c.next_record-taken.ensures.comes c.args.offer)) refl refl
+    (subst (λ (n : Next). Comes c.args.offer s.reassembler bytes taken n at) c.in-Stopped.is (c.next_record-taken.ensures.comes c.args.offer)) (refl, refl) refl
 
 pub returns-in-Record-clause-taken : goal.returns-in-Record-clause-taken
 returns-in-Record-clause-taken g c =
@@ -46,4 +46,4 @@ returns-in-Record-clause-taken g c =
     let comes = subst (λ (n : Next). Comes c.args.offer s.reassembler bytes taken n c.next_record-taken.new.reassembler) c.in-Record.is
     (c.next_record-taken.ensures.comes c.args.offer) in
     taken-whole g.S.RecordSink.came (layout_of c.args.layout.now) c.args.offer s _ c.give_record.new.stream c.args.sink.now c.give_record.new.sink
-    (take taken bytes) (heard c.args.offer c.in-Record.record.items) c.give_record.result comes.1 refl refl c.give_record.ensures.given
+    (take taken bytes) (heard c.args.offer c.in-Record.record.items) c.give_record.result comes.1 (refl, refl) refl c.give_record.ensures.given

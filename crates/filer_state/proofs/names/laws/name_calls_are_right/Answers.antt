@@ -2,6 +2,7 @@ use Rattle.filer_state.specs.names.lemmas.Lookup.{lookup-right}
 use Rattle.filer_state.specs.names.lemmas.Listing.{readdir-right, readdir-starves, commit-right}
 use Rattle.filer_state.specs.names.lemmas.ListingPlus.{readdirplus-right, readdirplus-starves}
 use Rattle.filer_state.specs.names.lemmas.Objects.{access-right, fsinfo-right, pathconf-right}
+use Rattle.filer_state.specs.names.lemmas.Mount.{mount-right}
 use Rattle.filer_state.proofs.names.laws.name_calls_are_right.Goals as goal
 
 pub returns-clause-lookup : goal.returns-clause-lookup
@@ -35,3 +36,6 @@ returns-clause-fsinfo c = λ v fileid handle node set. fsinfo-right v fileid han
 
 pub returns-clause-pathconf : goal.returns-clause-pathconf
 returns-clause-pathconf c = λ v fileid handle node set. pathconf-right v fileid handle node set
+
+pub returns-clause-mount : goal.returns-clause-mount
+returns-clause-mount c = λ v fileid root path node set. mount-right v fileid root path node set

@@ -16,7 +16,7 @@ invariant_of-self-2 g c =
       picked = l.picked;
       share = l.share;
       story = opens-told _ _ (layout_in (arc_value l.filer)) l.offer l.index l.count (entries_in l.intake.worker) l.closed.items l.connections o.new.connections
-          c.args.device o.result (known l.intake.pass).put l.intake.outboxes o.new.outboxes o.ensures.opens o.ensures.vacant o.ensures.begins l.story;
+          c.args.device c.args.peer o.result (known l.intake.pass).put l.intake.outboxes o.new.outboxes o.ensures.opens o.ensures.vacant o.ensures.begins l.story;
       owes = opens-owed _ _ (layout_in (arc_value l.filer)) l.offer l.index l.count (entries_in l.intake.worker) l.closed.items l.connections o.new.connections
-          c.args.device o.result (known l.intake.pass).put l.intake.outboxes o.new.outboxes o.ensures.opens o.ensures.begins l.story l.owes;
+          c.args.device c.args.peer o.result (known l.intake.pass).put l.intake.outboxes o.new.outboxes o.ensures.opens o.ensures.begins l.story l.owes;
     }

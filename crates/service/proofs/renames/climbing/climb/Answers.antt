@@ -1,6 +1,6 @@
 use Rattle.std.proofs.Common.{sym, ◌∙◌, Some}
 use Rattle.service.proofs.renames.Climbs.{climb-by}
-use Rattle.service.proofs.renames.climbing.climbs.Goals as goal
+use Rattle.service.proofs.renames.climbing.climb.Goals as goal
 
 pub loop-left-preserved : goal.loop-left-preserved
 loop-left-preserved c =

@@ -1,0 +1,8 @@
+//! Who is at the other end of a connection.
+
+/// Who is at the other end of a connection.
+#[derive(Clone, Copy)]
+pub struct Peer {
+    /// Whether it may stop the server: it is this machine, from a port below 1024.
+    pub is_privileged: bool,
+}
