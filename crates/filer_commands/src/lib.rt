@@ -11,7 +11,7 @@ mod export_words;
 mod exporting;
 mod limits;
 mod machine;
-mod metrics;
+mod metrics_listener;
 mod names;
 mod port_mapping;
 mod running;

@@ -10,7 +10,7 @@ use crate::choice::Command;
 use crate::export_printing::exports_told;
 use crate::exporting::Exporting;
 use crate::machine::{Machine, host_name};
-use crate::metrics;
+use crate::metrics_listener;
 use crate::names::SystemNames;
 use crate::port_mapping::Mapping;
 use crate::words::{command_told, print_help};
@@ -212,7 +212,7 @@ where
     let listener = listen(&rt, options.address, "export", err)?;
     keep_freed_memory(rt.alloc());
     let address = listener.local_addr().map_err(|_| ProgramFault::Listen)?;
-    let metrics = metrics::bind(&rt, rt.alloc(), exporting.metrics, err)?;
+    let metrics = metrics_listener::bind(&rt, rt.alloc(), exporting.metrics, err)?;
     let mapping = if exporting.has_port_mapper {
         Some(Mapping::start(rt, rt.alloc(), &address, options.peers, err)?)
     } else {
@@ -220,7 +220,7 @@ where
     };
     let mut name = [0; 256];
     let host = host_name(&rt, &mut name);
-    let told_at = metrics::address_of(&metrics);
+    let told_at = metrics_listener::address_of(&metrics);
     let opening = exports_told(rt.alloc(), options, &address, told_at, host);
     let served = serve_told(
         rt,
