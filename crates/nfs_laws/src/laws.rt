@@ -4,7 +4,7 @@ ghost use Rattle.std.specs.Prelude.{◌≡◌, true, None, Result, ℕ};
 ghost use Rattle.std.specs.Prelude.{List, [], ◌∷◌, ◌++◌, length, slice_get};
 ghost use Rattle.std.specs.Ordering.{nat_cmp};
 ghost use Rattle.std.specs.FinSet.{FinSet};
-ghost use Rattle.nfs_model.specs.Types.{Call, Credential, Moment};
+ghost use Rattle.nfs_model.specs.Types.{Call, Caller, Moment};
 ghost use Rattle.nfs_model.specs.Tree.{Layout};
 ghost use Rattle.nfs_model.specs.Server.{opening, Server};
 ghost use Rattle.nfs_model.specs.Home.{home};
@@ -30,11 +30,11 @@ pub fn opening_meets_headline()
 
 /// A call without a home affinity reads no state and changes nothing.
 pub fn without_home_stays()
-    ensures { (layout : Layout) (server : Server) (credential : Credential) (moment : Moment)
+    ensures { (layout : Layout) (server : Server) (caller : Caller) (moment : Moment)
         (call : Call)
         → length layout.volumes ≡ length server.volumes
         → home layout call ≡ None
-        → serve server call credential moment ≡ stay server (answer_without_home layout call) }
+        → serve server call caller moment ≡ stay server (answer_without_home layout call) }
 {}
 
 /// An event keeps the headline, refused or not, for any number of workers, where the calls that run

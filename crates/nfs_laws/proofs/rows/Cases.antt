@@ -4,7 +4,7 @@ use Rattle.std.specs.Ordering.{nat_cmp}
 use Rattle.std.specs.FinMap.{from_sorted}
 use Rattle.std.specs.FinSet.{FinSet}
 use Rattle.std.specs.FinSet as sets
-use Rattle.nfs_model.specs.Types.{Moment, Credential, Call, Create, Write, Unchecked, Reply, Success, Failed}
+use Rattle.nfs_model.specs.Types.{Moment, Caller, Call, Create, Write, Unchecked, Reply, Success, Failed}
 use Rattle.nfs_model.specs.Types.{Status, Shown, Regular, DirectoryKind, Before, Wcc, Listed, SetAttributes}
 use Rattle.nfs_model.specs.Tree.{Layout, VolumeLayout}
 use Rattle.nfs_model.specs.Server.{Attributes, Node, File, Directory, VolumeState, Server, opening, opening_volume, handle_bytes, start_of_times}
@@ -28,8 +28,8 @@ abbrev pub at : ℕ → Moment
 at seconds = record { seconds = seconds; nanoseconds = 0 }
 
 -- the caller without a credential
-abbrev pub nobody : Credential
-nobody = record { uid = 65534; gid = 65534; gids = [] }
+abbrev pub nobody : Caller
+nobody = record { credential = record { uid = 65534; gid = 65534; gids = [] }; xid = 0; peer = 0 }
 
 -- a node of volume 0
 abbrev pub h : ℕ → List ℕ

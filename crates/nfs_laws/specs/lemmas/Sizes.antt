@@ -322,7 +322,7 @@ module _ (layout : Layout) where
       (set_sized server (grown server index volume ranges).spare index volume
       (record volume { total = volume.total + volume.range_blocks * ranges }) e refl h)
 
-  serve_sized : (server : Server) (call : model.Call) (who : model.Credential) (moment : model.Moment) → HaveSizes layout server
+  serve_sized : (server : Server) (call : model.Call) (who : model.Caller) (moment : model.Moment) → HaveSizes layout server
       → HaveSizes layout (serve server call who moment).server
   serve_sized server model.Null who moment h = h
   serve_sized server (model.Getattr handle) who moment h = on_sized server _ handle _ getattr_stays h
@@ -330,14 +330,14 @@ module _ (layout : Layout) where
   serve_sized server (model.Lookup directory name) who moment h =
       on_sized server _ directory _ (λ v f. name_stays name moment lookup v f (λ n. found_stays n (looked_up n))) h
   serve_sized server (model.CheckAccess handle asked) who moment h =
-      on_sized server _ handle _ (λ v f. tell_stays (λ object. model.AccessDone object (access_given who asked object)) v f) h
+      on_sized server _ handle _ (λ v f. tell_stays (λ object. model.AccessDone object (access_given who.credential asked object)) v f) h
   serve_sized server (model.Read handle offset count) who moment h = on_sized server _ handle _ (read_stays offset count) h
   serve_sized server (model.Write handle offset count written) who moment h =
       on_sized server _ handle _ (write_stays (record { offset = offset; count = count; written = written; moment = moment })) h
   serve_sized server (model.Create directory name mode) who moment h =
-      on_sized server _ directory _ (λ v f. name_stays name moment (create mode who) v f (create_stays mode who)) h
+      on_sized server _ directory _ (λ v f. name_stays name moment (create mode who.credential) v f (create_stays mode who.credential)) h
   serve_sized server (model.Mkdir directory name set) who moment h =
-      on_sized server _ directory _ (λ v f. name_stays name moment (mkdir set who) v f (mkdir_stays set who)) h
+      on_sized server _ directory _ (λ v f. name_stays name moment (mkdir set who.credential) v f (mkdir_stays set who.credential)) h
   serve_sized server (model.Remove directory name) who moment h =
       on_sized server _ directory _ (λ v f. name_stays name moment remove_name v f remove_stays) h
   serve_sized server (model.Rmdir directory name) who moment h =
