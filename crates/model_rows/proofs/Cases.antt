@@ -62,6 +62,7 @@ holding next nodes = record {
         verifier = verifier;
         next = next;
         nodes = from_sorted nodes;
+        memos = [];
       }
       ∷ [];
 }

@@ -135,7 +135,7 @@ module _ (layout : Layout) (server : Server) (caller : Caller) (moment : Moment)
   without_home_stays Null n e = refl
   without_home_stays (Unsupported which) n e = refl
   without_home_stays (Rename from from_name to to_name) n e =
-      two_answered server 4 (rename from_name to_name moment) (handle_of (length server.volumes) from) (handle_of (length server.volumes) to)
+      two_answered server 4 _ (handle_of (length server.volumes) from) (handle_of (length server.volumes) to)
       (good server.volumes from) (good server.volumes to)
       (subst (λ k. rename_home (handle_of k from) (handle_of k to) ≡ None) n e)
       ∙ ap (λ k. stay server (answer_of_two 4 (handle_of k from) (handle_of k to))) (sym n)

@@ -70,7 +70,7 @@ module _ (server : Server) where
   serve_counts : (call : Call) (caller : Caller) (moment : Moment) → volumes_in (serve server call caller moment).server ≡ volumes_in server
   serve_counts Null caller moment = refl
   serve_counts (Unsupported which) caller moment = refl
-  serve_counts (Rename from from_name to to_name) caller moment = two_counts 4 (locate server from) (locate server to) (rename from_name to_name moment)
+  serve_counts (Rename from from_name to to_name) caller moment = two_counts 4 (locate server from) (locate server to) _
   serve_counts Census caller moment = refl
   serve_counts Stop caller moment = refl
   serve_counts (Mount call) caller moment = refl
