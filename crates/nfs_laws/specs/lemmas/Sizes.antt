@@ -10,8 +10,8 @@ use Rattle.nfs_model.specs.Replay.{FinishedCall, server_after}
 use Rattle.nfs_model.specs.Names.{find_name, is_dots, name_fault, same_name, dot, dot_dot}
 use Rattle.nfs_model.specs.Locate.{Effect, Fails, Tells, Changes, unless, on_node, on_directory, on_file, Located, located_in, located_by, locate, Found}
 use Rattle.nfs_model.specs.Locate.{Naming, named_child, on_name}
-use Rattle.nfs_model.specs.Memo.{Change, Sets, Creates, MakesDirectory, Removes, RemovesDirectory, Renames, Told}
-use Rattle.nfs_model.specs.Serial.Once.{told_before, answer_told, told_of, remembering, remembered, or_told, once}
+use Rattle.nfs_model.specs.Memo.{Told}
+use Rattle.nfs_model.specs.Serial.Once.{told_before, answer_told, remembered, or_told, once}
 use Rattle.nfs_model.specs.Serial.Setattr.{setattr}
 use Rattle.nfs_model.specs.Serial.Getattr.{getattr, tell_of}
 use Rattle.nfs_model.specs.Serial.Access.{access_given}
@@ -84,22 +84,17 @@ name_stays name moment run volume fileid f =
     unless_stays volume (name_fault name) _ (f (record { volume = volume; fileid = fileid; directory = d; name = name; moment = moment })))
 
 -- a call that is done once
-once_stays : (caller : model.Caller) (change : Change) (moment : model.Moment) (volume : VolumeState) (effect : Effect) → Stays volume effect
-    → Stays volume (once caller change moment volume effect)
+once_stays : (caller : model.Caller) (call : model.Call) (moment : model.Moment) (volume : VolumeState) (effect : Effect) → Stays volume effect
+    → Stays volume (once caller call moment volume effect)
 unfolding Stays
-once_stays caller change moment volume effect f = by (told_before volume caller change moment)
+once_stays caller call moment volume effect f = by (told_before volume.memos caller call moment)
   where
-    after : (told : Option Told) (new : VolumeState) → new.range_blocks ≡ volume.range_blocks
-        → (remembering caller change moment told new).range_blocks ≡ volume.range_blocks
-    after None new e = e
-    after (Some told) new e = e
-
-    keeps : (effect : Effect) → Stays volume effect → Stays volume (remembered caller change moment effect)
+    keeps : (effect : Effect) → Stays volume effect → Stays volume (remembered caller call moment volume effect)
     keeps (Fails status) f = tt
-    keeps (Tells answer) f = tt
-    keeps (Changes answer new) f = after (told_of answer) new f
+    keeps (Tells answer) f = refl
+    keeps (Changes answer new) f = f
 
-    by : (told : Option Told) → Stays volume (or_told volume told (remembered caller change moment effect))
+    by : (told : Option Told) → Stays volume (or_told volume told (remembered caller call moment volume effect))
     by None = keeps effect f
     by (Some told) = tells volume (answer_told volume.number told)
 
@@ -348,7 +343,7 @@ module _ (layout : Layout) where
       → HaveSizes layout (serve server call who moment).server
   serve_sized server model.Null who moment h = h
   serve_sized server (model.Getattr handle) who moment h = on_sized server _ handle _ getattr_stays h
-  serve_sized server (model.Setattr handle set guard) who moment h = on_sized server _ handle _ (λ v f. once_stays who (Sets handle set guard) moment v _ (setattr_stays set guard moment v f)) h
+  serve_sized server (model.Setattr handle set guard) who moment h = on_sized server _ handle _ (λ v f. once_stays who (model.Setattr handle set guard) moment v _ (setattr_stays set guard moment v f)) h
   serve_sized server (model.Lookup directory name) who moment h =
       on_sized server _ directory _ (λ v f. name_stays name moment lookup v f (λ n. found_stays n (looked_up n))) h
   serve_sized server (model.CheckAccess handle asked) who moment h =
@@ -357,18 +352,18 @@ module _ (layout : Layout) where
   serve_sized server (model.Write handle offset count written) who moment h =
       on_sized server _ handle _ (write_stays (record { offset = offset; count = count; written = written; moment = moment })) h
   serve_sized server (model.Create directory name mode) who moment h =
-      on_sized server _ directory _ (λ v f. once_stays who (Creates directory name mode) moment v _
+      on_sized server _ directory _ (λ v f. once_stays who (model.Create directory name mode) moment v _
       (name_stays name moment (create mode who.credential) v f (create_stays mode who.credential))) h
   serve_sized server (model.Mkdir directory name set) who moment h =
-      on_sized server _ directory _ (λ v f. once_stays who (MakesDirectory directory name set) moment v _
+      on_sized server _ directory _ (λ v f. once_stays who (model.Mkdir directory name set) moment v _
       (name_stays name moment (mkdir set who.credential) v f (mkdir_stays set who.credential))) h
   serve_sized server (model.Remove directory name) who moment h =
-      on_sized server _ directory _ (λ v f. once_stays who (Removes directory name) moment v _ (name_stays name moment remove_name v f remove_stays)) h
+      on_sized server _ directory _ (λ v f. once_stays who (model.Remove directory name) moment v _ (name_stays name moment remove_name v f remove_stays)) h
   serve_sized server (model.Rmdir directory name) who moment h =
-      on_sized server _ directory _ (λ v f. once_stays who (RemovesDirectory directory name) moment v _ (name_stays name moment rmdir v f rmdir_stays)) h
+      on_sized server _ directory _ (λ v f. once_stays who (model.Rmdir directory name) moment v _ (name_stays name moment rmdir v f rmdir_stays)) h
   serve_sized server (model.Rename from from_name to to_name) who moment h =
       two_located server _ (locate server from) (locate server to) _ (located server.volumes (handle_of (length server.volumes) from))
-      (λ v f t. once_stays who (Renames from from_name to to_name) moment v _ (rename_stays from_name to_name moment v f t)) h
+      (λ v f t. once_stays who (model.Rename from from_name to to_name) moment v _ (rename_stays from_name to_name moment v f t)) h
   serve_sized server (model.Readdir directory cookie verifier count) who moment h =
       on_sized server _ directory _ (readdir_stays cookie verifier count) h
   serve_sized server (model.Readdirplus directory cookie verifier names_count count) who moment h =

@@ -8,7 +8,6 @@ use Rattle.nfs_model.specs.Types.{Failed, BadHandle, CrossVolume, NoEntry, NotSu
 use Rattle.nfs_model.specs.Types.{Ask, Refused, Undecoded}
 use Rattle.nfs_model.specs.Server.{VolumeState, Server, with_volume}
 use Rattle.nfs_model.specs.Locate.{Effect, Fails, Tells, Changes, Located, locate, on_name}
-use Rattle.nfs_model.specs.Memo.{Sets, Creates, MakesDirectory, Removes, RemovesDirectory, Renames}
 use Rattle.nfs_model.specs.Serial.Absent.{absent_parts}
 use Rattle.nfs_model.specs.Serial.Once.{once}
 use Rattle.nfs_model.specs.Serial.Getattr.{getattr}
@@ -75,7 +74,7 @@ serve_by server absent Null caller moment = stay server NullDone
 serve_by server absent (Getattr handle) caller moment = on server absent (locate server handle) getattr
 serve_by server absent (Setattr handle set guard) caller moment =
     on server absent (locate server handle) (λ volume fileid.
-    once caller (Sets handle set guard) moment volume (setattr set guard moment volume fileid))
+    once caller (Setattr handle set guard) moment volume (setattr set guard moment volume fileid))
 serve_by server absent (Lookup directory name) caller moment =
     on server absent (locate server directory) (on_name name moment lookup)
 serve_by server absent (CheckAccess handle asked) caller moment =
@@ -87,19 +86,19 @@ serve_by server absent (Write handle offset count written) caller moment =
     (write (record { offset = offset; count = count; written = written; moment = moment }))
 serve_by server absent (Create directory name mode) caller moment =
     on server absent (locate server directory) (λ volume fileid.
-    once caller (Creates directory name mode) moment volume (on_name name moment (create mode caller.credential) volume fileid))
+    once caller (Create directory name mode) moment volume (on_name name moment (create mode caller.credential) volume fileid))
 serve_by server absent (Mkdir directory name set) caller moment =
     on server absent (locate server directory) (λ volume fileid.
-    once caller (MakesDirectory directory name set) moment volume (on_name name moment (mkdir set caller.credential) volume fileid))
+    once caller (Mkdir directory name set) moment volume (on_name name moment (mkdir set caller.credential) volume fileid))
 serve_by server absent (Remove directory name) caller moment =
     on server absent (locate server directory) (λ volume fileid.
-    once caller (Removes directory name) moment volume (on_name name moment remove_name volume fileid))
+    once caller (Remove directory name) moment volume (on_name name moment remove_name volume fileid))
 serve_by server absent (Rmdir directory name) caller moment =
     on server absent (locate server directory) (λ volume fileid.
-    once caller (RemovesDirectory directory name) moment volume (on_name name moment rmdir volume fileid))
+    once caller (Rmdir directory name) moment volume (on_name name moment rmdir volume fileid))
 serve_by server absent (Rename from from_name to to_name) caller moment =
     on_two server absent (locate server from) (locate server to) (λ volume fileid other.
-    once caller (Renames from from_name to to_name) moment volume (rename from_name to_name moment volume fileid other))
+    once caller (Rename from from_name to to_name) moment volume (rename from_name to_name moment volume fileid other))
 serve_by server absent (Readdir directory cookie verifier count) caller moment =
     on server absent (locate server directory) (readdir cookie verifier count)
 serve_by server absent (Readdirplus directory cookie verifier names_count count) caller moment =
