@@ -387,6 +387,7 @@ volume-opens layout verifier v x lawful there =
       next = 2;
       nodes = (root-nodes (begun_of layout v) (opening_contents layout verifier v).stripes
           ∙ ap (λ o. from_sorted ((root, root_node (begun_in o)) ∷ [])) there) j;
+      memos = replicate (remembered_in (there j)) None;
     }
 
 each-volume : (verifier : List ℕ) (h : ℕ → VolumeState) (vs : List VolumeLayout) (from : ℕ)
