@@ -501,69 +501,69 @@ length-census (v ∷ vs) = ap suc (length-census vs)
 census_fits : (volumes : ℕ) (server : Server) → IsRoomy volumes server → Takes (4 + 20 * volumes) (census server)
 census_fits volumes server r = record { bytes = omega (arith, r.few, length-census server.volumes, census_size (map count_of server.volumes)) }
 
-serve_fits : (volumes : ℕ) (server : Server) (call : model.Call) (who : model.Credential) (moment : model.Moment) → IsRoomy volumes server
-    → StepFits (results_room volumes call) volumes (serve server call who moment)
-serve_fits volumes server model.Null who moment r = stay_fits 0 volumes server model.NullDone (record { bytes = omega arith }) r
-serve_fits volumes server (model.Getattr handle) who moment r = on_fits 88 volumes server 0 handle _ (λ v f e. getattr_fits v f) (omega arith) r
-serve_fits volumes server (model.Setattr handle set guard) who moment r =
+serve_fits : (volumes : ℕ) (server : Server) (call : model.Call) (caller : model.Caller) (moment : model.Moment) → IsRoomy volumes server
+    → StepFits (results_room volumes call) volumes (serve server call caller moment)
+serve_fits volumes server model.Null caller moment r = stay_fits 0 volumes server model.NullDone (record { bytes = omega arith }) r
+serve_fits volumes server (model.Getattr handle) caller moment r = on_fits 88 volumes server 0 handle _ (λ v f e. getattr_fits v f) (omega arith) r
+serve_fits volumes server (model.Setattr handle set guard) caller moment r =
     on_fits (4 + change_room) volumes server 2 handle _ (λ v f e. setattr_fits set guard moment v f) (omega arith) r
-serve_fits volumes server (model.Lookup directory name) who moment r =
+serve_fits volumes server (model.Lookup directory name) caller moment r =
     on_fits lookup_room volumes server 1 directory _ (λ v f e. name_fits lookup_room name moment _ v f lookup_fits) (omega arith) r
-serve_fits volumes server (model.CheckAccess handle asked) who moment r =
-    on_fits 96 volumes server 1 handle _ (λ v f e. tell_fits 96 _ v f (λ a. access_size a (access_given who asked a))) (omega arith) r
-serve_fits volumes server (model.Read handle offset count) who moment r =
+serve_fits volumes server (model.CheckAccess handle asked) caller moment r =
+    on_fits 96 volumes server 1 handle _ (λ v f e. tell_fits 96 _ v f (λ a. access_size a (access_given caller.credential asked a))) (omega arith) r
+serve_fits volumes server (model.Read handle offset count) caller moment r =
     on_fits (read_room count) volumes server 1 handle _ (λ v f e. read_fits offset count v f) (omega arith) r
-serve_fits volumes server (model.Write handle offset count written) who moment r =
+serve_fits volumes server (model.Write handle offset count written) caller moment r =
     on_fits 28 volumes server 2 handle _ (λ v f e. write_fits (record { offset = offset; count = count; written = written; moment = moment }) v f e)
     (omega arith) r
-serve_fits volumes server (model.Create directory name mode) who moment r =
-    on_fits made_room volumes server 2 directory _ (λ v f e. name_fits made_room name moment _ v f (create_fits mode who)) (omega arith) r
-serve_fits volumes server (model.Mkdir directory name set) who moment r =
-    on_fits made_room volumes server 2 directory _ (λ v f e. name_fits made_room name moment _ v f (mkdir_fits set who)) (omega arith) r
-serve_fits volumes server (model.Remove directory name) who moment r =
+serve_fits volumes server (model.Create directory name mode) caller moment r =
+    on_fits made_room volumes server 2 directory _ (λ v f e. name_fits made_room name moment _ v f (create_fits mode caller.credential)) (omega arith) r
+serve_fits volumes server (model.Mkdir directory name set) caller moment r =
+    on_fits made_room volumes server 2 directory _ (λ v f e. name_fits made_room name moment _ v f (mkdir_fits set caller.credential)) (omega arith) r
+serve_fits volumes server (model.Remove directory name) caller moment r =
     on_fits (4 + change_room) volumes server 2 directory _ (λ v f e. name_fits (4 + change_room) name moment _ v f remove_fits) (omega arith) r
-serve_fits volumes server (model.Rmdir directory name) who moment r =
+serve_fits volumes server (model.Rmdir directory name) caller moment r =
     on_fits (4 + change_room) volumes server 2 directory _ (λ v f e. name_fits (4 + change_room) name moment _ v f rmdir_fits) (omega arith) r
-serve_fits volumes server (model.Rename from from_name to to_name) who moment r =
+serve_fits volumes server (model.Rename from from_name to to_name) caller moment r =
     two_located rename_room volumes server 4 (locate server from) (locate server to) _ (located server.volumes (handle_of (length server.volumes) from))
     (λ v a b. rename_fits from_name to_name moment v a b) (omega arith) r
-serve_fits volumes server (model.Readdir directory cookie verifier count) who moment r =
+serve_fits volumes server (model.Readdir directory cookie verifier count) caller moment r =
     on_fits (readdir_room count) volumes server 1 directory _ (λ v f e. readdir_fits cookie verifier count v f) (omega arith) r
-serve_fits volumes server (model.Readdirplus directory cookie verifier names_count count) who moment r =
+serve_fits volumes server (model.Readdirplus directory cookie verifier names_count count) caller moment r =
     on_fits (readdir_room count) volumes server 1 directory _ (λ v f e. readdirplus_fits cookie verifier names_count count v f) (omega arith) r
-serve_fits volumes server (model.Fsstat handle) who moment r = on_fits 144 volumes server 1 handle _ (λ v f e. fsstat_fits v f) (omega arith) r
-serve_fits volumes server (model.Fsinfo handle) who moment r =
+serve_fits volumes server (model.Fsstat handle) caller moment r = on_fits 144 volumes server 1 handle _ (λ v f e. fsstat_fits v f) (omega arith) r
+serve_fits volumes server (model.Fsinfo handle) caller moment r =
     on_fits 140 volumes server 1 handle _ (λ v f e. tell_fits 140 _ v f (λ a. fsinfo_size a v.largest)) (omega arith) r
-serve_fits volumes server (model.Pathconf handle) who moment r =
+serve_fits volumes server (model.Pathconf handle) caller moment r =
     on_fits 116 volumes server 1 handle _ (λ v f e. tell_fits 116 _ v f pathconf_size) (omega arith) r
-serve_fits volumes server (model.Commit handle) who moment r =
+serve_fits volumes server (model.Commit handle) caller moment r =
     on_fits (4 + change_room + 8) volumes server 2 handle _ (λ v f e. commit_fits v f e) (omega arith) r
-serve_fits volumes server (model.Unsupported which) who moment r =
+serve_fits volumes server (model.Unsupported which) caller moment r =
     failed_fits 16 volumes server model.NotSupported (absent_in which) (few_absent which) r
-serve_fits volumes server model.Census who moment r = stay_fits (4 + 20 * volumes) volumes server (census server) (census_fits volumes server r) r
-serve_fits volumes server (model.Grow volume ranges) who moment r = grow_fits volumes server volume ranges r
-serve_fits volumes server model.Stop who moment r = stay_fits 0 volumes server model.StopDone (record { bytes = omega arith }) r
-serve_fits volumes server (model.Mount call) who moment r =
+serve_fits volumes server model.Census caller moment r = stay_fits (4 + 20 * volumes) volumes server (census server) (census_fits volumes server r) r
+serve_fits volumes server (model.Grow volume ranges) caller moment r = grow_fits volumes server volume ranges r
+serve_fits volumes server model.Stop caller moment r = stay_fits 0 volumes server model.StopDone (record { bytes = omega arith }) r
+serve_fits volumes server (model.Mount call) caller moment r =
     stay_fits 204 volumes server (mount (length server.volumes) call) (mount_size (length server.volumes) call) r
-serve_fits volumes server (model.MountBelow root path) who moment r =
+serve_fits volumes server (model.MountBelow root path) caller moment r =
     root_located mount_room volumes server 0 (locate server root) _ (located server.volumes (handle_of (length server.volumes) root))
     (below_fits (parts_below path)) (omega arith) r
 
-serial_fits : (volumes : ℕ) (server : Server) (call : model.Call) (who : model.Credential) (moment : model.Moment) (starved : Bool) → IsRoomy volumes server
-    → StepFits (results_room volumes call) volumes (serial server (model.Ask call who) moment starved)
-serial_fits volumes server call who moment true r = record { reply = starved_fits (results_room volumes call); server = r }
-serial_fits volumes server call who moment false r = serve_fits volumes server call who moment r
+serial_fits : (volumes : ℕ) (server : Server) (call : model.Call) (caller : model.Caller) (moment : model.Moment) (starved : Bool) → IsRoomy volumes server
+    → StepFits (results_room volumes call) volumes (serial server (model.Ask call caller) moment starved)
+serial_fits volumes server call caller moment true r = record { reply = starved_fits (results_room volumes call); server = r }
+serial_fits volumes server call caller moment false r = serve_fits volumes server call caller moment r
 
 pub reply_fits : (form : HandleForm) (volumes : ℕ) (server : Server) (call : model.Call)
-    (who : model.Credential) (moment : model.Moment) (starved : Bool) (xid : ℕ)
+    (caller : model.Caller) (moment : model.Moment) (starved : Bool) (xid : ℕ)
     → IsRoomy volumes server
-    → length (reply_record xid (reply_told form (serial server (model.Ask call who) moment starved).reply)) ≤ reply_room volumes call
-reply_fits form volumes server call who moment starved xid r = (serial_fits volumes server call who moment starved r).reply form xid
+    → length (reply_record xid (reply_told form (serial server (model.Ask call caller) moment starved).reply)) ≤ reply_room volumes call
+reply_fits form volumes server call caller moment starved xid r = (serial_fits volumes server call caller moment starved r).reply form xid
 
 pub room_stays : (volumes : ℕ) (server : Server) (asked : model.Asked) (moment : model.Moment) (starved : Bool) → IsRoomy volumes server
     → IsRoomy volumes (serial server asked moment starved).server
 room_stays volumes server asked moment true r = r
-room_stays volumes server (model.Ask call who) moment false r = (serve_fits volumes server call who moment r).server
+room_stays volumes server (model.Ask call caller) moment false r = (serve_fits volumes server call caller moment r).server
 room_stays volumes server (model.Refused reply) moment false r = r
 room_stays volumes server model.Undecoded moment false r = r
 
