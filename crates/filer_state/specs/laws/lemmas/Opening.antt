@@ -1,6 +1,6 @@
 -- The parcels as a run begins are sound, and stand for the server as it begins.
 use Rattle.std.proofs.Common.{◌≡◌, ℕ, zero, suc, ◌+◌, ◌*◌, ◌/◌, ◌<◌, ◌≤◌, ◌==◌, Bool, true, false, not, ◌&&◌, cond, List, [], ◌∷◌, ◌++◌, length, map}
-use Rattle.std.proofs.Common.{Option, Some, None}
+use Rattle.std.proofs.Common.{Option, Some, None, replicate}
 use Rattle.std.proofs.Common.{refl, sym, ap, ◌∙◌, subst, arith, eqb, nat_lt, nat_eq, ⊎_elim}
 use Rattle.std.specs.Prelude.{slice_get, slice_index_or, is_some, IfSome, nat_le}
 use Rattle.std.proofs.lemmas.Bool.{cases_lt, lt-ltb, le-ltb, eqb-true, leb-true, and_parts}
@@ -18,7 +18,7 @@ use Rattle.nfs_model.specs.volume.Ranges.{RangeValue, IsRangeSize, range_numbers
 use Rattle.filer_state.specs.state.Contents.{filer_contents, each}
 use Rattle.filer_state.specs.state.Tree.{ranges_used}
 use Rattle.affinity.specs.Fault.{fault_of, is_sized}
-use Rattle.affinity.specs.Largest.{mebibyte, largest_of, mebibytes_in, inodes_in, inodes_of, steps_in, steps_of, begun_in, begun_of}
+use Rattle.affinity.specs.Largest.{mebibyte, largest_of, mebibytes_in, inodes_in, inodes_of, steps_in, steps_of, begun_in, begun_of, remembered_in}
 use Rattle.affinity.specs.lemmas.Lawful.{keeps_rules, stripes_either, mebibytes_between, inodes_between, range_blocks_size}
 use Rattle.nfs_model.specs.Types.{Listed, Moment}
 use Rattle.nfs_model.specs.Tree as trees
