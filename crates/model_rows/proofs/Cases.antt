@@ -8,12 +8,12 @@ use Rattle.nfs_model.specs.Server.{Attributes, Node, File, Directory, Server, ha
 abbrev pub at : ℕ → Moment
 at seconds = record { seconds = seconds; nanoseconds = 0 }
 
--- a caller without further groups, and one with them
-abbrev pub user : ℕ → ℕ → Caller
-user uid gid = user_in uid gid []
-
+-- a caller with further groups, and one without them
 abbrev pub user_in : ℕ → ℕ → List ℕ → Caller
 user_in uid gid gids = record { credential = record { uid = uid; gid = gid; gids = gids }; xid = 0; peer = 0 }
+
+abbrev pub user : ℕ → ℕ → Caller
+user uid gid = user_in uid gid []
 
 -- the caller without a credential
 abbrev pub nobody : Caller
