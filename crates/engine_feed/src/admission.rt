@@ -58,7 +58,7 @@ pub fn reply_at_once(alloc: Global, layout: &Layout, request: &Request) -> Reply
     match request {
         Request::Call {
             call,
-            credential: _,
+            caller: _,
         } => Reply::Success(answer_at_once(alloc, call, layout)),
         Request::Refused(refusal) => Reply::Refused(*refusal),
         Request::Undecoded => Reply::Refused(Refusal::SystemError),

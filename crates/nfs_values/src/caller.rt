@@ -3,7 +3,7 @@
 use crate::credential::Credential;
 
 /// Where calls come from: the address and the port at the other end of a connection.
-#[derive(Clone, Copy)]
+#[derive(Clone, Copy, PartialEq, Eq)]
 pub struct PeerAddress {
     /// An IPv4 address as its 32 bits, an IPv6 one as its 128.
     pub address: u128,

@@ -354,6 +354,6 @@ module _ (offer : Offer) where
   pub exactly_garbage : (bytes : List ℕ) (xid : ℕ) → IsBytes bytes → Exactly (RefusesBy offer bytes xid model.GarbageArguments) (HasGarbageBy offer bytes xid)
   exactly_garbage bytes xid fits = exactly bytes (refused xid model.GarbageArguments) fits
 
-  pub exactly_call : (bytes : List ℕ) (xid : ℕ) (call : model.Call) (who : model.Credential) → IsBytes bytes
-      → Exactly (AsksForBy offer bytes xid call who) (IsAskingBy offer bytes xid call who)
-  exactly_call bytes xid call who fits = exactly bytes (Ok (record { xid = xid; asked = model.Ask call who })) fits
+  pub exactly_call : (bytes : List ℕ) (xid : ℕ) (call : model.Call) (caller : model.Caller) → IsBytes bytes
+      → Exactly (AsksForBy offer bytes xid call caller) (IsAskingBy offer bytes xid call caller)
+  exactly_call bytes xid call caller fits = exactly bytes (Ok (record { xid = xid; asked = model.Ask call caller })) fits

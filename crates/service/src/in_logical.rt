@@ -6,7 +6,7 @@ ghost use Rattle.nfs_model.specs.Tree as trees;
 ghost use Rattle.nfs_model.specs.Types as types;
 ghost use Rattle.affinity.specs.Layout.{layout_of};
 ghost use Rattle.nfs_values.specs.Call.{call_of};
-ghost use Rattle.nfs_values.specs.Credential.{credential_of};
+ghost use Rattle.nfs_values.specs.Caller.{caller_of};
 ghost use Rattle.nfs_values.specs.Handle.{named_of};
 ghost use Rattle.nfs_values.specs.Moment.{moment_of};
 ghost use Rattle.nfs_values.specs.declared.answer.Answer.TheVariants as answers;
@@ -72,7 +72,7 @@ pub fn run_on_logical(
     requires whole { HasVolume volume.0 logical_lens [] (logical_before held.old) }
     ensures runs { RunsOn volume.0 logical_lens
         (call_on (layout_of layout.now) (trees.Logical volume.0)
-        (credential_of run.entry.credential) (moment_of run.entry.moment)
+        (caller_of run.entry.caller) (moment_of run.entry.moment)
         (call_of run.entry.call.now))
         (logical_before held.old) (outcome_of result) (logical_after held.old held.new) }
     ensures moved { UnlessReplied (outcome_of result) (held.new ≡ held.old) }
@@ -100,7 +100,7 @@ fn tell(run: Run, held: &LogicalHeld<Files>, named: Named) -> Option<Outcome>
     ensures told { is_some result ≡ is_told run.entry.call.now }
     ensures runs { IfSome result (λ outcome. (layout : trees.Layout)
         → RunsOn named.volume.0 logical_lens
-        (call_named layout (named_of named) (credential_of run.entry.credential)
+        (call_named layout (named_of named) (caller_of run.entry.caller)
         (moment_of run.entry.moment) (call_of run.entry.call.now))
         (logical_before held.now) (outcome_of outcome) (logical_before held.now)) }
 {
@@ -137,7 +137,7 @@ fn tell_page(run: Run, held: &LogicalHeld<Files>, named: Named) -> Option<Outcom
     ensures told { is_some result ≡ is_of_page_or_object run.entry.call.now }
     ensures runs { IfSome result (λ outcome. (layout : trees.Layout)
         → RunsOn named.volume.0 logical_lens
-        (call_named layout (named_of named) (credential_of run.entry.credential)
+        (call_named layout (named_of named) (caller_of run.entry.caller)
         (moment_of run.entry.moment) (call_of run.entry.call.now))
         (logical_before held.now) (outcome_of outcome) (logical_before held.now)) }
 {
@@ -184,14 +184,14 @@ fn tell_object(run: Run, held: &LogicalHeld<Files>, named: Named) -> Option<Outc
     ensures told { is_some result ≡ is_of_object run.entry.call.now }
     ensures runs { IfSome result (λ outcome. (layout : trees.Layout)
         → RunsOn named.volume.0 logical_lens
-        (call_named layout (named_of named) (credential_of run.entry.credential)
+        (call_named layout (named_of named) (caller_of run.entry.caller)
         (moment_of run.entry.moment) (call_of run.entry.call.now))
         (logical_before held.now) (outcome_of outcome) (logical_before held.now)) }
 {
     let Named { volume, fileid } = named;
     match run.call {
         Call::CheckAccess { handle: _, asked } => {
-            let told = check_access(held, volume, fileid, *asked, run.credential);
+            let told = check_access(held, volume, fileid, *asked, run.caller.credential);
             Some(Outcome::Replied(Reply::Success(Answer::CheckAccess(told))))
         }
         Call::FilesystemInfo { .. } => {
@@ -214,7 +214,7 @@ fn change(run: Run, layout: &Layout, held: &mut LogicalHeld<Files>, named: Named
         (trees.Logical named.volume.0) }
     requires whole { HasVolume named.volume.0 logical_lens [] (logical_before held.old) }
     ensures runs { RunsOn named.volume.0 logical_lens
-        (call_named (layout_of layout.now) (named_of named) (credential_of run.entry.credential)
+        (call_named (layout_of layout.now) (named_of named) (caller_of run.entry.caller)
         (moment_of run.entry.moment) (call_of run.entry.call.now))
         (logical_before held.old) (outcome_of result) (logical_after held.old held.new) }
     ensures moved { UnlessReplied (outcome_of result) (held.new ≡ held.old) }
@@ -222,7 +222,7 @@ fn change(run: Run, layout: &Layout, held: &mut LogicalHeld<Files>, named: Named
 {
     let Named { volume, fileid } = named;
     let alloc = run.alloc;
-    let credential = run.credential;
+    let credential = run.caller.credential;
     let moment = run.moment;
     match run.call {
         Call::SetAttributes { set, guard, .. } => {
@@ -275,7 +275,7 @@ fn rename_here(
         ≡ Some (trees.Logical named.volume.0) }
     requires whole { HasVolume named.volume.0 logical_lens [] (logical_before held.old) }
     ensures runs { RunsOn named.volume.0 logical_lens
-        (call_named (layout_of layout.now) (named_of named) (credential_of run.entry.credential)
+        (call_named (layout_of layout.now) (named_of named) (caller_of run.entry.caller)
         (moment_of run.entry.moment) (call_of (calls.Rename from.now to.now)))
         (logical_before held.old) (outcome_of result) (logical_after held.old held.new) }
     ensures moved { UnlessReplied (outcome_of result) (held.new ≡ held.old) }
