@@ -28,7 +28,7 @@ use Rattle.filer_state.specs.state.Running.{RunsOn, UnlessReplied}
 use Rattle.service_data.specs.Writing.{asked_to_write, writing_outcome, written_outcome}
 use Rattle.service.specs.renames.Promises.{Renames, renaming_outcome}
 use Rattle.service.specs.totals.FilesystemStatus.{TellsFilesystemStatus}
-use Rattle.service.specs.Running.{fileid_in, call_named, call_of_node, call_on}
+use Rattle.service.specs.Running.{fileid_in, effect_named, call_of_node, call_on}
 
 -- an entry of a call is its run
 pub served-runs : (v : ℕ) (c : VolumeCall) (old new : LogicalSet) (answer : types.Answer)
@@ -50,12 +50,12 @@ pub renaming-runs : (layout : Layout) (named other : Named) (from from_name to t
     (old new : LogicalSet) (told : Result (Result RenameResults Status) AllocError) (outcome : works.Outcome)
     → named_by layout to ≡ Some other → other.volume ≡ named.volume → outcome ≡ renaming_outcome told
     → Renames named.volume named.fileid from_name other.fileid to_name moment old told new
-    → RunsOn named.volume logical_lens (call_named layout named caller moment (types.Rename from from_name to to_name)) old outcome new
+    → RunsOn named.volume logical_lens (effect_named layout named caller moment (types.Rename from from_name to to_name)) old outcome new
 renaming-runs layout named other from from_name to to_name caller moment old new told outcome is same comes right =
     let v = named.volume in
     let there : named_by layout to ≡ Some (record { volume = v; fileid = other.fileid }) = is
     ∙ (λ j. Some (record { volume = same j; fileid = other.fileid })) in
-    subst (λ (o : works.Outcome). RunsOn v logical_lens (call_named layout named caller moment (types.Rename from from_name to to_name)) old o new)
+    subst (λ (o : works.Outcome). RunsOn v logical_lens (effect_named layout named caller moment (types.Rename from from_name to to_name)) old o new)
     (sym comes)
     (subst (λ (id : ℕ). RunsOn v logical_lens (rename_call from to (Logical v) named.fileid from_name id to_name moment) old (renaming_outcome told) new)
     (sym (ap fileid_in is)) (right (length layout.volumes) from to there))

@@ -25,6 +25,7 @@ ghost use Rattle.service.specs.renames.Promises.{renaming_outcome};
 ghost use Rattle.service.specs.Running.{
   call_named,
   call_on,
+  effect_named,
   is_of_object,
   is_of_page_or_object,
   is_told,
@@ -36,6 +37,7 @@ ghost use Rattle.service.specs.Running.{
 
 use crate::attributes::get_attributes;
 use crate::named::{fileid_of, fileid_of_call};
+use crate::repeated::{remember, told_before};
 use crate::outcome::{Outcome, outcome_read, outcome_written};
 use crate::renames::{EntryName, rename};
 use crate::task::Run;
@@ -83,7 +85,7 @@ pub fn run_on_logical(
     let named = Named { volume, fileid };
     match tell(run, held, named) {
         Some(outcome) => outcome,
-        None => change(run, layout, held, named),
+        None => change_once(run, layout, held, named),
     }
 }
 
@@ -206,8 +208,9 @@ fn tell_object(run: Run, held: &LogicalHeld<Files>, named: Named) -> Option<Outc
     }
 }
 
-/// Runs a call that may change the volume of what its handle names, on the volume's parcels.
-fn change(run: Run, layout: &Layout, held: &mut LogicalHeld<Files>, named: Named) -> Outcome
+/// Runs a call that may change the volume of what its handle names, on the volume's parcels. One
+/// that comes again is told what it was told before, where that is remembered.
+fn change_once(run: Run, layout: &Layout, held: &mut LogicalHeld<Files>, named: Named) -> Outcome
     requires run { IsRunInLogical run.call.now }
     requires changes { is_told run.call.now ≡ false }
     requires there { RunsThere (layout_of layout.now) (call_of run.call.now)
@@ -215,6 +218,29 @@ fn change(run: Run, layout: &Layout, held: &mut LogicalHeld<Files>, named: Named
     requires whole { HasVolume named.volume.0 logical_lens [] (logical_before held.old) }
     ensures runs { RunsOn named.volume.0 logical_lens
         (call_named (layout_of layout.now) (named_of named) (caller_of run.entry.caller)
+        (moment_of run.entry.moment) (call_of run.entry.call.now))
+        (logical_before held.old) (outcome_of result) (logical_after held.old held.new) }
+    ensures moved { UnlessReplied (outcome_of result) (held.new ≡ held.old) }
+    ensures alike { logical_alike held.old held.new }
+{
+    if let Some(answer) = told_before(run, &held.own, named.volume) {
+        return Outcome::Replied(Reply::Success(answer));
+    }
+    let outcome = change(run, layout, held, named);
+    remember(run, &mut held.own, &outcome);
+    outcome
+}
+
+/// Runs a call that may change the volume of what its handle names, on the volume's parcels, as
+/// where nothing is remembered.
+fn change(run: Run, layout: &Layout, held: &mut LogicalHeld<Files>, named: Named) -> Outcome
+    requires run { IsRunInLogical run.call.now }
+    requires changes { is_told run.call.now ≡ false }
+    requires there { RunsThere (layout_of layout.now) (call_of run.call.now)
+        (trees.Logical named.volume.0) }
+    requires whole { HasVolume named.volume.0 logical_lens [] (logical_before held.old) }
+    ensures runs { RunsOn named.volume.0 logical_lens
+        (effect_named (layout_of layout.now) (named_of named) (caller_of run.entry.caller)
         (moment_of run.entry.moment) (call_of run.entry.call.now))
         (logical_before held.old) (outcome_of result) (logical_after held.old held.new) }
     ensures moved { UnlessReplied (outcome_of result) (held.new ≡ held.old) }
@@ -275,7 +301,7 @@ fn rename_here(
         ≡ Some (trees.Logical named.volume.0) }
     requires whole { HasVolume named.volume.0 logical_lens [] (logical_before held.old) }
     ensures runs { RunsOn named.volume.0 logical_lens
-        (call_named (layout_of layout.now) (named_of named) (caller_of run.entry.caller)
+        (effect_named (layout_of layout.now) (named_of named) (caller_of run.entry.caller)
         (moment_of run.entry.moment) (call_of (calls.Rename from.now to.now)))
         (logical_before held.old) (outcome_of result) (logical_after held.old held.new) }
     ensures moved { UnlessReplied (outcome_of result) (held.new ≡ held.old) }

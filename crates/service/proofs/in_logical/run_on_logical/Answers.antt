@@ -21,5 +21,5 @@ pub returns-in-None-clause-runs : goal.returns-in-None-clause-runs
 returns-in-None-clause-runs c =
     let v = c.args.volume.0 in
     runs-here (layout_of c.args.layout.now) v logical_lens (Logical v) c.fileid_of_call-fileid.result.0 (call_of c.args.run.call.now)
-    (caller_of c.args.run.caller) (moment_of c.args.run.moment) (logical_before c.args.held.now) (logical_after c.args.held.now c.change.new.held)
-    (outcome_of c.change.result) c.fileid_of_call-fileid.ensures c.change.ensures.runs
+    (caller_of c.args.run.caller) (moment_of c.args.run.moment) (logical_before c.args.held.now) (logical_after c.args.held.now c.change_once.new.held)
+    (outcome_of c.change_once.result) c.fileid_of_call-fileid.ensures c.change_once.ensures.runs
