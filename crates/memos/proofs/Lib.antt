@@ -1,1 +1,2 @@
 pub mod Peers
+pub mod Places

@@ -1,6 +1,6 @@
 //! Handles and names, kept in place.
 
-ghost use Rattle.std.specs.Prelude.{◌≡◌, ◌==◌, ◌&&◌, true, length};
+ghost use Rattle.std.specs.Prelude.{◌≡◌, ◌≤◌, ◌==◌, ◌&&◌, true, length};
 ghost use Rattle.nfs_model.specs.Names.{same_name};
 ghost use Rattle.nfs_model.specs.Serial.Once.{is_short};
 ghost use Rattle.memos.specs.Kept.{name_kept};
