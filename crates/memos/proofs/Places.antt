@@ -1,11 +1,11 @@
 -- What is told of a place, and what is kept there.
-use Rattle.std.proofs.Common.{◌≡◌, ℕ, zero, suc, ◌<◌, ◌&&◌, Bool, true, false, cond, List, ◌∷◌, length, map, replicate, get_or, slice_index_or, slice_set, Option, Some, None}
+use Rattle.std.proofs.Common.{◌≡◌, ℕ, zero, suc, ◌<◌, ◌&&◌, Bool, true, false, cond, List, ◌∷◌, length, replicate, slice_index_or, slice_set, Option, Some, None}
 use Rattle.std.proofs.Common.{if◌then◌else◌, option_map, is_some, refl, sym, ap, ◌∙◌}
 use Rattle.std.proofs.lemmas.List.{get_or-map, length-map, map-set}
 use Rattle.nfs_model.specs.Types.{Moment, Caller, Call, Answer}
 use Rattle.nfs_model.specs.Memo.{Change, Told, Memo}
 use Rattle.nfs_model.specs.Serial.Same.{same_caller, same_change}
-use Rattle.nfs_model.specs.Serial.Once.{change_of, is_recent, is_of, memos_after, memos_with, place, told_among, told_before, told_in, told_of}
+use Rattle.nfs_model.specs.Serial.Once.{change_of, is_recent, memos_after, memos_with, place, told_among, told_before, told_in, told_of}
 use Rattle.nfs_values.specs.Caller.{caller_of}
 use Rattle.nfs_values.specs.Moment.{moment_of}
 use Rattle.memos.specs.declared.place.Place.{Place}

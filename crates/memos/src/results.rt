@@ -119,12 +119,7 @@ pub(crate) fn answer_again(results: &Results, call: &Call, volume: VolumeNumber)
 }
 
 /// The answer to a call that made this.
-fn made_again(
-    object: &Attributes,
-    directory: &Change,
-    call: &Call,
-    volume: VolumeNumber,
-) -> Answer
+fn made_again(object: &Attributes, directory: &Change, call: &Call, volume: VolumeNumber) -> Answer
     ensures told { answer_of result
         ≡ answer_told volume.0 (ToldMade (shown_of object.now) (change_of directory.now)) }
     ensures procedure { procedure_of result ≡ procedure_told (call_of call.now)
