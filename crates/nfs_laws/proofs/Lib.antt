@@ -13,4 +13,5 @@ pub mod Kept
 pub mod KeptByFeed
 pub mod Walked
 pub mod Batches
+pub mod Remembering
 pub mod KeptByBlocks
