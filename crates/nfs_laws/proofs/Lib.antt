@@ -14,4 +14,5 @@ pub mod KeptByFeed
 pub mod Walked
 pub mod Batches
 pub mod Remembering
+pub mod Repeated
 pub mod KeptByBlocks

@@ -82,7 +82,7 @@ pub record Taken (server : Server) (asked : model.Asked) (moment : model.Moment)
       ≡ with_memo old.memos (record { caller = caller; change = change; moment = moment; told = told })
   pub elsewhere : (v : ℕ) → v ≢ volume_of change → memos_of step.server v ≡ memos_of server v
 
-pub Does : Server → model.Asked → model.Moment → Step → Type 0
+unfoldable pub Does : Server → model.Asked → model.Moment → Step → Type 0
 Does server asked moment step = Untaken server (kept_in server asked moment step.reply) step.server ⊎ Taken server asked moment step
 
 -- ---- whether it is kept
@@ -114,7 +114,7 @@ no_place : (memos : List (Option Memo)) (memo : Memo) → nat_lt 0 (length memos
 no_place [] memo e = refl
 no_place (x ∷ xs) memo e = absurd (grind (arith, nat_tests))
 
-tells_success : (answer : model.Answer) (told : Told) → told_of answer ≡ Some told → is_success (model.Success answer) ≡ true
+pub tells_success : (answer : model.Answer) (told : Told) → told_of answer ≡ Some told → is_success (model.Success answer) ≡ true
 tells_success (model.Failed status absent) told e = absurd cc
 tells_success answer told e = refl
 
