@@ -316,19 +316,19 @@ module _ (server : Server) (first : FinishedCall) (t : Taken server first.asked 
         number_got (x ∷ xs) zero volume e = let same : x ≡ volume = cc in ap (λ (w : VolumeState). Some w.number) same
         number_got (x ∷ xs) (suc i) volume e = number_got xs i volume e
 
-    abbrev again : Step
-    again = record { reply = (step_of server first).reply; server = after }
+    abbrev as_first : Step
+    as_first = record { reply = (step_of server first).reply; server = after }
 
     or_told_it : (volume : VolumeState) (effect : Effect) (absent i : ℕ) → volume_of t.change ≡ i → slice_get after.volumes i ≡ Some volume
-        → placed after absent i (or_told volume (told_before volume.memos t.caller t.call moment) effect) ≡ again
+        → placed after absent i (or_told volume (told_before volume.memos t.caller t.call moment) effect) ≡ as_first
     or_told_it volume effect absent i e at =
         let there : slice_get after.volumes (volume_of t.change) ≡ Some volume = ap (λ (v : ℕ). slice_get after.volumes v) e ∙ at in
         ap (λ (o : Option Told). placed after absent i (or_told volume o effect)) (told_it volume there)
         ∙ ap (λ (n : ℕ). stay after (answer_told n t.told)) (same_number_there volume there)
         ∙ (λ j. record { reply = sym t.reply_is j; server = after })
 
-    serve_again : serve after t.call t.caller moment ≡ again
-    serve_again = served after t.call t.caller moment (λ (x : Step). x ≡ again) (record {
+    serve_again : serve after t.call t.caller moment ≡ as_first
+    serve_again = served after t.call t.caller moment (λ (x : Step). x ≡ as_first) (record {
       untouched = λ answer f.
           absurd (true≢false (sym t.good ∙ sym (good_alike server after s.numbers_are t.call) ∙ (f t.change t.change_is).0));
       plain = λ absent i old effect none at f. absurd (true≢false (sym (ap is_some (sym none ∙ t.change_is))));
@@ -336,3 +336,99 @@ module _ (server : Server) (first : FinishedCall) (t : Taken server first.asked 
           or_told_it old (remembered t.caller t.call moment old effect) absent i (is t.change t.change_is) at;
       grows = λ i ranges old none at. absurd (true≢false (sym (ap is_some (sym none ∙ t.change_is))));
     })
+
+-- the step of the call again, over the list between
+pub told_again : (server : Server) (first : FinishedCall) (between : List FinishedCall) (again : FinishedCall) (p : Place)
+    → remembered_in server first ≡ Some p → AreElsewhere p (step_of server first).server between → IsAgain first again
+    → step_of (server_after server (first ∷ between)) again
+      ≡ record { reply = (step_of server first).reply; server = server_after server (first ∷ between) }
+unfolding it Does
+told_again server first between again p kept apart g = by (does server first)
+  where
+    after : Server
+    after = server_after server (first ∷ between)
+
+    taken : (t : Taken server first.asked first.moment (step_of server first))
+        → step_of after again ≡ record { reply = (step_of server first).reply; server = after }
+    taken t =
+        let same : Some p ≡ Some (it server first t) = sym kept ∙ t.kept in
+        let same_place : p ≡ it server first t = cc in
+        let stands : Stands (numbers server) (it server first t) (Some (Some (memo server first t))) (length t.old.memos) after =
+            stands_after _ _ _ _ between (step_of server first).server (stands_first server first t)
+            (subst (λ (q : Place). AreElsewhere q (step_of server first).server between) same_place apart) in
+        ap (λ (asked : model.Asked). serial after asked again.moment again.starved) (g.asked ∙ t.asked_is)
+        ∙ ap (λ (b : Bool). serial after (model.Ask t.call t.caller) again.moment b) g.unstarved
+        ∙ serve_again server first t after again.moment g.recent stands
+
+    by : Does server first.asked first.moment (step_of server first)
+        → step_of after again ≡ record { reply = (step_of server first).reply; server = after }
+    by (inl u) = absurd (true≢false (sym (ap is_some (sym u.none ∙ kept))))
+    by (inr t) = taken t
+
+-- ---- in a run
+
+server_after-append : (server : Server) (es fs : List FinishedCall) → server_after server (es ++ fs) ≡ server_after (server_after server es) fs
+server_after-append server [] fs = refl
+server_after-append server (e ∷ es) fs = server_after-append (step_of server e).server es fs
+
+replay-append : (server : Server) (es fs : List FinishedCall) → replay server (es ++ fs) ≡ replay server es ++ replay (server_after server es) fs
+replay-append server [] fs = refl
+replay-append server (e ∷ es) fs = ap (λ (rs : List model.Reply). (step_of server e).reply ∷ rs) (replay-append (step_of server e).server es fs)
+
+pub replayed : (server : Server) (before between after : List FinishedCall) (first again : FinishedCall) (p : Place)
+    → remembered_in (server_after server before) first ≡ Some p
+    → AreElsewhere p (step_of (server_after server before) first).server between
+    → IsAgain first again
+    → replay server (before ++ first ∷ (between ++ again ∷ after))
+      ≡ replay server (before ++ first ∷ between) ++ (step_of (server_after server before) first).reply
+        ∷ replay (server_after server (before ++ first ∷ between)) after
+replayed server before between after first again p kept apart g =
+    let start : Server = server_after server before in
+    let end : Server = server_after start (first ∷ between) in
+    let ends : server_after server (before ++ first ∷ between) ≡ end = server_after-append server before (first ∷ between) in
+    let told : step_of end again ≡ record { reply = (step_of start first).reply; server = end } = told_again start first between again p kept apart g in
+    replay-append server before (first ∷ (between ++ again ∷ after))
+    ∙ ap (λ (rs : List model.Reply). replay server before ++ (step_of start first).reply ∷ rs)
+    (replay-append (step_of start first).server between (again ∷ after))
+    ∙ sym (append_assoc (replay server before) (replay start (first ∷ between)) (replay end (again ∷ after)))
+    ∙ ap (λ (rs : List model.Reply). rs ++ replay end (again ∷ after)) (sym (replay-append server before (first ∷ between)))
+    ∙ ap (λ (x : Step). replay server (before ++ first ∷ between) ++ x.reply ∷ replay x.server after) told
+    ∙ ap (λ (x : Server). replay server (before ++ first ∷ between) ++ (step_of start first).reply ∷ replay x after) (sym ends)
+
+-- ---- failures
+
+module _ (server : Server) (i : ℕ) (old : VolumeState) (absent : ℕ) where
+  plain_fails : (effect : Effect) → Ends Keeping old effect → is_success (placed server absent i effect).reply ≡ false
+      → (placed server absent i effect).server ≡ server
+  plain_fails (Fails status) f e = refl
+  plain_fails (Tells answer) f e = refl
+  plain_fails (Changes answer new) f e = absurd (true≢false (sym (ends_changes Keeping old answer new f).0 ∙ e))
+
+  once_fails : (who : model.Caller) (call : model.Call) (moment : model.Moment) (o : Option Told) (effect : Effect) → Ends Telling old effect
+      → is_success (placed server absent i (or_told old o (remembered who call moment old effect))).reply ≡ false
+      → (placed server absent i (or_told old o (remembered who call moment old effect))).server ≡ server
+  once_fails who call moment (Some told) effect f e = refl
+  once_fails who call moment None (Fails status) f e = refl
+  once_fails who call moment None (Tells answer) f e =
+      let q : Telling old answer old = ends_tells Telling old answer f in
+      absurd (true≢false (sym (tells_success answer q.1.0 q.1.1.0) ∙ e))
+  once_fails who call moment None (Changes answer new) f e = absurd (true≢false (sym (ends_changes Telling old answer new f).0 ∙ e))
+
+serve_fails : (server : Server) (call : model.Call) (who : model.Caller) (moment : model.Moment)
+    → is_success (serve server call who moment).reply ≡ false → (serve server call who moment).server ≡ server
+serve_fails server call who moment = served server call who moment (λ (s : Step). is_success s.reply ≡ false → s.server ≡ server) (record {
+  untouched = λ answer f e. refl;
+  plain = λ absent i old effect none at f. plain_fails server i old absent effect f;
+  kept = λ absent i old effect good is at f. once_fails server i old absent who call moment (told_before old.memos who call moment) effect f;
+  grows = λ i ranges old none at e. absurd (true≢false e);
+})
+
+serial_fails : (server : Server) (asked : model.Asked) (moment : model.Moment) (starved : Bool)
+    → is_success (serial server asked moment starved).reply ≡ false → (serial server asked moment starved).server ≡ server
+serial_fails server asked moment true e = refl
+serial_fails server (model.Ask call who) moment false e = serve_fails server call who moment e
+serial_fails server (model.Refused reply) moment false e = refl
+serial_fails server model.Undecoded moment false e = refl
+
+pub failure_stays : (server : Server) (call : FinishedCall) → is_success (step_of server call).reply ≡ false → (step_of server call).server ≡ server
+failure_stays server call e = serial_fails server call.asked call.moment call.starved e
