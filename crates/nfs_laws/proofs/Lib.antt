@@ -15,4 +15,5 @@ pub mod Walked
 pub mod Batches
 pub mod Remembering
 pub mod Repeated
+pub mod Forgetting
 pub mod KeptByBlocks

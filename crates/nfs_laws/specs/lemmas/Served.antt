@@ -1,5 +1,5 @@
 -- A fact of what a call comes to on the serial server, from one for each way that it can end.
-use Rattle.std.proofs.Common.{◌≡◌, ℕ, Bool, true, false, cond, List, Option, Some, None, refl, sym, ap, ◌∙◌, length}
+use Rattle.std.proofs.Common.{◌≡◌, ℕ, Bool, true, false, cond, List, [], Option, Some, None, refl, sym, ap, ◌∙◌, length}
 use Rattle.std.specs.Prelude.{◌==◌, ◌+◌, ◌*◌, ◌&&◌, is_some, nat_lt, slice_get, slice_set, slice_index_or, if◌then◌else◌}
 use Rattle.std.specs.Int.{w32, from_be_bytes}
 use Rattle.std.specs.Prelude.{take}
@@ -50,7 +50,7 @@ pub record IsAt (server : Server) (handle : List ℕ) (l : Located) : Type 0 whe
   pub named : l.named ≡ named_read handle
   pub there : slice_get server.volumes l.named.volume ≡ Some l.volume
 
-abbrev IsIn : Server → List ℕ → Option Located → Type 0
+abbrev pub IsIn : Server → List ℕ → Option Located → Type 0
 IsIn server handle None = Unit {0}
 IsIn server handle (Some l) = IsAt server handle l
 
@@ -63,26 +63,26 @@ good_or_not : (server : Server) (handle : List ℕ) (b : Bool) → IsIn server h
 good_or_not server handle true = in_place server handle (named_read handle) (slice_get server.volumes (named_read handle).volume) refl refl
 good_or_not server handle false = tt
 
-located : (server : Server) (handle : List ℕ) → IsIn server handle (locate server handle)
+pub located : (server : Server) (handle : List ℕ) → IsIn server handle (locate server handle)
 located server handle = good_or_not server handle ((length handle == 12) && nat_lt (from_be_bytes w32 (take 4 handle)) (length server.volumes))
 
 -- ---- the volume that a call changes
 
 -- the first handle
-abbrev first_handle : model.Call → List ℕ
+abbrev pub first_handle : model.Call → List ℕ
 first_handle (model.Setattr handle set guard) = handle
 first_handle (model.Create directory name mode) = directory
 first_handle (model.Mkdir directory name set) = directory
 first_handle (model.Remove directory name) = directory
 first_handle (model.Rmdir directory name) = directory
 first_handle (model.Rename from from_name to to_name) = from
-first_handle call = Rattle.std.specs.Prelude.[]
+first_handle call = []
 
 of_case : (b : Bool) (x change : Change) → cond b (Some x) None ≡ Some change → volume_of change ≡ volume_of x
 of_case true x change e = let same : x ≡ change = cc in ap (λ (c : Change). volume_of c) (sym same)
 of_case false x change e = absurd cc
 
-volume_first : (call : model.Call) (change : Change) → change_of call ≡ Some change → volume_of change ≡ (named_read (first_handle call)).volume
+pub volume_first : (call : model.Call) (change : Change) → change_of call ≡ Some change → volume_of change ≡ (named_read (first_handle call)).volume
 volume_first (model.Setattr handle set guard) change e = of_case _ _ change e
 volume_first (model.Create directory name mode) change e = of_case _ _ change e
 volume_first (model.Mkdir directory name set) change e = of_case _ _ change e
