@@ -47,7 +47,7 @@ module _ (server : Server) (call : model.Call) (who : model.Caller) (moment : mo
     forgotten : (new : VolumeState) → Keeps old new → (answer : model.Answer) → remembering who call moment answer new ≡ new
     forgotten new keeps answer =
         let same : memos_after new.memos who call moment answer ≡ new.memos =
-            no_memos_with new.memos who (change_of call) moment (told_of answer) (λ change e. keeps.memos ∙ no_memos change e) in
+        no_memos_with new.memos who (change_of call) moment (told_of answer) (λ change e. keeps.memos ∙ no_memos change e) in
         λ j. record new { memos = same j }
 
     all_forgotten : (effect : Effect) → Ends Telling old effect
@@ -55,8 +55,8 @@ module _ (server : Server) (call : model.Call) (who : model.Caller) (moment : mo
     all_forgotten (Fails status) f = refl
     all_forgotten (Tells answer) f =
         let same : slice_set server.volumes i (remembering who call moment answer old) ≡ server.volumes =
-            ap (λ (v : VolumeState). slice_set server.volumes i v) (forgotten old (ends_tells Telling old answer f).0 answer)
-            ∙ set_there server.volumes i old at in
+        ap (λ (v : VolumeState). slice_set server.volumes i v) (forgotten old (ends_tells Telling old answer f).0 answer)
+        ∙ set_there server.volumes i old at in
         λ j. record { reply = model.Success answer; server = record server { volumes = same j } }
     all_forgotten (Changes answer new) f =
         ap (λ (v : VolumeState). placed server absent i (Changes answer v)) (forgotten new (ends_changes Telling old answer new f).1.0 answer)

@@ -141,7 +141,7 @@ module _ (server : Server) (call : model.Call) (who : model.Caller) (moment : mo
       answered : (answer : model.Answer) (new : VolumeState) → Keeps old new → CanTell old.number answer → (o : Option Change) → change_of call ≡ o
           → (b : Bool) → nat_lt 0 (length old.memos) ≡ b → told_among old.memos who o moment ≡ None
           → Does server (model.Ask call who) moment
-            (record { reply = model.Success answer; server = with_volume server i (remembering who call moment answer new) })
+          (record { reply = model.Success answer; server = with_volume server i (remembering who call moment answer new) })
       unfolding Does
       answered answer new keeps can None e b some untold =
           inl (record {
@@ -152,9 +152,9 @@ module _ (server : Server) (call : model.Call) (who : model.Caller) (moment : mo
       answered answer new keeps can (Some change) e false some untold =
           let memo : Memo = record { caller = who; change = change; moment = moment; told = can.0 } in
           let memos_is : memos_after new.memos who call moment answer ≡ with_memo old.memos memo =
-              ap (λ (o : Option Change). memos_with new.memos who o moment (told_of answer)) e
-              ∙ ap (λ (t : Option Told). memos_with new.memos who (Some change) moment t) can.1.0
-              ∙ ap (λ (ms : List (Option Memo)). with_memo ms memo) keeps.memos in
+          ap (λ (o : Option Change). memos_with new.memos who o moment (told_of answer)) e
+          ∙ ap (λ (t : Option Told). memos_with new.memos who (Some change) moment t) can.1.0
+          ∙ ap (λ (ms : List (Option Memo)). with_memo ms memo) keeps.memos in
           inl (record {
             none = ap (λ (o : Option Change). kept_of server who o moment (model.Success answer)) e
                 ∙ ap (λ (memos : List (Option Memo)). kept_among memos who change moment (model.Success answer)) (memos_at change (is change e))
@@ -164,9 +164,9 @@ module _ (server : Server) (call : model.Call) (who : model.Caller) (moment : mo
       answered answer new keeps can (Some change) e true some untold =
           let memo : Memo = record { caller = who; change = change; moment = moment; told = can.0 } in
           let memos_is : memos_after new.memos who call moment answer ≡ with_memo old.memos memo =
-              ap (λ (o : Option Change). memos_with new.memos who o moment (told_of answer)) e
-              ∙ ap (λ (t : Option Told). memos_with new.memos who (Some change) moment t) can.1.0
-              ∙ ap (λ (ms : List (Option Memo)). with_memo ms memo) keeps.memos in
+          ap (λ (o : Option Change). memos_with new.memos who o moment (told_of answer)) e
+          ∙ ap (λ (t : Option Told). memos_with new.memos who (Some change) moment t) can.1.0
+          ∙ ap (λ (ms : List (Option Memo)). with_memo ms memo) keeps.memos in
           let after : Server = with_volume server i (remembering who call moment answer new) in
           inr (record {
             call = call;
@@ -242,7 +242,7 @@ module _ (server : Server) (call : model.Call) (who : model.Caller) (moment : mo
 
       grown_does : (i ranges : ℕ) (old : VolumeState) → change_of call ≡ None → slice_get server.volumes i ≡ Some old
           → Does server (model.Ask call who) moment
-            (record { reply = model.Success (model.GrowDone (old.total + old.range_blocks * ranges)); server = grown server i old ranges })
+          (record { reply = model.Success (model.GrowDone (old.total + old.range_blocks * ranges)); server = grown server i old ranges })
       grown_does i ranges old none at =
           inl (record {
             none = ap (λ (o : Option Change). kept_of server who o moment (model.Success (model.GrowDone (old.total + old.range_blocks * ranges)))) none;

@@ -307,7 +307,7 @@ module _ (server : Server) (first : FinishedCall) (t : Taken server first.asked 
     same_number_there volume at =
         let i : ℕ = volume_of t.change in
         let e : Some volume.number ≡ Some t.old.number =
-            sym (number_got after.volumes i volume at) ∙ ap (λ (ns : List ℕ). slice_get ns i) s.numbers_are ∙ number_got server.volumes i t.old t.old_is in
+        sym (number_got after.volumes i volume at) ∙ ap (λ (ns : List ℕ). slice_get ns i) s.numbers_are ∙ number_got server.volumes i t.old t.old_is in
         cc
       where
         number_got : (volumes : List VolumeState) (i : ℕ) (volume : VolumeState) → slice_get volumes i ≡ Some volume
@@ -341,7 +341,7 @@ module _ (server : Server) (first : FinishedCall) (t : Taken server first.asked 
 pub told_again : (server : Server) (first : FinishedCall) (between : List FinishedCall) (again : FinishedCall) (p : Place)
     → remembered_in server first ≡ Some p → AreElsewhere p (step_of server first).server between → IsAgain first again
     → step_of (server_after server (first ∷ between)) again
-      ≡ record { reply = (step_of server first).reply; server = server_after server (first ∷ between) }
+    ≡ record { reply = (step_of server first).reply; server = server_after server (first ∷ between) }
 unfolding it Does
 told_again server first between again p kept apart g = by (does server first)
   where
@@ -354,8 +354,8 @@ told_again server first between again p kept apart g = by (does server first)
         let same : Some p ≡ Some (it server first t) = sym kept ∙ t.kept in
         let same_place : p ≡ it server first t = cc in
         let stands : Stands (numbers server) (it server first t) (Some (Some (memo server first t))) (length t.old.memos) after =
-            stands_after _ _ _ _ between (step_of server first).server (stands_first server first t)
-            (subst (λ (q : Place). AreElsewhere q (step_of server first).server between) same_place apart) in
+        stands_after _ _ _ _ between (step_of server first).server (stands_first server first t)
+        (subst (λ (q : Place). AreElsewhere q (step_of server first).server between) same_place apart) in
         ap (λ (asked : model.Asked). serial after asked again.moment again.starved) (g.asked ∙ t.asked_is)
         ∙ ap (λ (b : Bool). serial after (model.Ask t.call t.caller) again.moment b) g.unstarved
         ∙ serve_again server first t after again.moment g.recent stands
@@ -380,8 +380,8 @@ pub replayed : (server : Server) (before between after : List FinishedCall) (fir
     → AreElsewhere p (step_of (server_after server before) first).server between
     → IsAgain first again
     → replay server (before ++ first ∷ (between ++ again ∷ after))
-      ≡ replay server (before ++ first ∷ between) ++ (step_of (server_after server before) first).reply
-        ∷ replay (server_after server (before ++ first ∷ between)) after
+    ≡ replay server (before ++ first ∷ between) ++ (step_of (server_after server before) first).reply
+    ∷ replay (server_after server (before ++ first ∷ between)) after
 replayed server before between after first again p kept apart g =
     let start : Server = server_after server before in
     let end : Server = server_after start (first ∷ between) in

@@ -14,5 +14,5 @@ pub use idle::{IdleTime, MOST_IDLE_SECONDS};
 pub use network::Network;
 pub use options::Options;
 pub use peers::{MOST_NETWORKS, Peers, address_of, may_stop};
-pub use plan::{LEAST_VOLUME, MOST_BYTES, VolumePlan};
+pub use plan::{LEAST_VOLUME, MOST_BYTES, MOST_REPLIES, VolumePlan};
 pub use tends::MOST_WORKERS;

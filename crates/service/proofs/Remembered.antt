@@ -184,10 +184,19 @@ module _ (layout : Layout) (named : Named) (caller : Caller) (moment : Moment) (
       let answer : answer_of absent (done (is_done_once call) v) ≡ answer_told named.volume told =
       ap (answer_of absent) comes ∙ ap (λ (n : ℕ). answer_told n told) numbered in
       subst (λ (s : LogicalSet). WorksOn whole p (Replied (Success (answer_told named.volume told))) (logical_lens.put s p)
-      × IsSound (logical_lens.put s p) hands' (made + 1)) has
-      ((not-moved call whole p is, (ap (λ (a : Answer). Success a) (sym answer), (sym (ap (volume_left v) comes),
-      says-nothing call (Logical named.volume) (stored p) is))),
-      sound-later p hands hands' made (λ n. let f = moved (times_in_hand p.number n) in omega (arith, f)) sound)
+      × IsSound (logical_lens.put s p) hands' (made + 1)) has (
+        (
+          not-moved call whole p is,
+          (
+            ap (λ (a : Answer). Success a) (sym answer),
+            (
+              sym (ap (volume_left v) comes),
+              says-nothing call (Logical named.volume) (stored p) is,
+            ),
+          ),
+        ),
+        sound-later p hands hands' made (λ n. let f = moved (times_in_hand p.number n) in omega (arith, f)) sound,
+      )
 
   -- what wasn't is done, and remembered where it succeeded
   pub done-runs : (old new : LogicalSet) (outcome : Outcome) → told_before old.own.memos caller call moment ≡ None
@@ -197,9 +206,17 @@ module _ (layout : Layout) (named : Named) (caller : Caller) (moment : Moment) (
   done-runs old new Starved e right = λ p hands hands' made has numbered sound moved.
       let r = right p hands hands' made has numbered sound moved in
       let none : told_before (volume_of p).memos caller call moment ≡ None =
-      ap (λ (s : LogicalSet). told_before s.own.memos caller call moment) has ∙ e in
-      ((r.0.0, ((λ server there. subst (λ (a : Answer). IsTrue (takes_memory server call a))
-      (sym (answer-by (absent_parts call) (volume_of p) (is_done_once call) none)) (r.0.1.0 server there)), r.0.1.1)), r.1)
+      ap (λ (s : LogicalSet). told_before s.own.memos caller call moment) has ∙ e in (
+        (
+          r.0.0,
+          (
+            (λ server there. subst (λ (a : Answer). IsTrue (takes_memory server call a))
+                (sym (answer-by (absent_parts call) (volume_of p) (is_done_once call) none)) (r.0.1.0 server there)),
+            r.0.1.1,
+          ),
+        ),
+        r.1,
+      )
   done-runs old new (Replied (Success answer)) e right = λ p hands hands' made has numbered sound moved.
       let r = right p hands hands' made has numbered sound moved in
       let v = volume_of p in
@@ -207,11 +224,19 @@ module _ (layout : Layout) (named : Named) (caller : Caller) (moment : Moment) (
       let none : told_before v.memos caller call moment ≡ None =
       ap (λ (s : LogicalSet). told_before s.own.memos caller call moment) has ∙ e in
       let same : answer ≡ answer_of absent (on_it v) = answer-in answer (answer_of absent (on_it v)) r.0.1.0 in
-      let memos = memos_after new.own.memos caller call moment answer in
-      ((r.0.0, (ap (λ (a : Answer). Success a) (same ∙ sym (answer-by absent v (is_done_once call) none)),
-      (ap (kept answer) r.0.1.1.0 ∙ ap (λ (a : Answer). kept a (volume_left v (on_it v))) same ∙ left-so absent v (is_done_once call) refl none,
-      parts-stay call (Logical named.volume) (stored p) (logical_lens.put new p) memos r.0.1.1.1))),
-      stays-sound (logical_lens.put new p) memos hands' (made + 1) r.1)
+      let memos = memos_after new.own.memos caller call moment answer in (
+        (
+          r.0.0,
+          (
+            ap (λ (a : Answer). Success a) (same ∙ sym (answer-by absent v (is_done_once call) none)),
+            (
+              ap (kept answer) r.0.1.1.0 ∙ ap (λ (a : Answer). kept a (volume_left v (on_it v))) same ∙ left-so absent v (is_done_once call) refl none,
+              parts-stay call (Logical named.volume) (stored p) (logical_lens.put new p) memos r.0.1.1.1,
+            ),
+          ),
+        ),
+        stays-sound (logical_lens.put new p) memos hands' (made + 1) r.1,
+      )
   done-runs old new (Replied reply) e right = λ p hands hands' made has numbered sound moved.
       let r = right p hands hands' made has numbered sound moved in
       let no : reply ≡ Success (answer_on plain p) = r.0.1.0 in

@@ -37,9 +37,9 @@ ghost use Rattle.service.specs.Running.{
 
 use crate::attributes::get_attributes;
 use crate::named::{fileid_of, fileid_of_call};
-use crate::repeated::{remember, told_before};
 use crate::outcome::{Outcome, outcome_read, outcome_written};
 use crate::renames::{EntryName, rename};
+use crate::repeated::{remember, told_before};
 use crate::task::Run;
 use affinity::{CallNode, Layout};
 use filer_state::Files;

@@ -159,8 +159,8 @@ module _ (server : Server) (call : model.Call) (who : model.Caller) (moment : mo
   grow_cases : (p q r : Bool) (x y z : model.Answer) (g : Grown) → change_of call ≡ None
       → P (record { reply = model.Success g.answer; server = g.server })
       → let h : Grown = if p then record { answer = x; server = server } else if q then record { answer = y; server = server }
-          else if r then record { answer = z; server = server } else g in
-        P (record { reply = model.Success h.answer; server = h.server })
+      else if r then record { answer = z; server = server } else g in
+      P (record { reply = model.Success h.answer; server = h.server })
   grow_cases true q r x y z g none e = stays none x
   grow_cases false true r x y z g none e = stays none y
   grow_cases false false true x y z g none e = stays none z
