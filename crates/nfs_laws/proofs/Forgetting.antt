@@ -1,17 +1,15 @@
 -- Where a volume has no places, nothing is told from memory.
-use Rattle.std.proofs.Common.{◌≡◌, ℕ, zero, suc, Bool, true, false, cond, List, [], ◌∷◌, Option, Some, None, refl, sym, ap, ◌∙◌}
+use Rattle.std.proofs.Common.{◌≡◌, ℕ, zero, suc, cond, List, [], ◌∷◌, Option, Some, None, refl, sym, ap, ◌∙◌}
 use Rattle.std.specs.Prelude.{◌==◌, slice_get, slice_set}
 use Rattle.nfs_model.specs.Types as model
 use Rattle.nfs_model.specs.Memo.{Change, Told, Memo}
-use Rattle.nfs_model.specs.Server.{VolumeState, Server, Named, named_read, with_volume}
-use Rattle.nfs_model.specs.Locate.{Effect, Fails, Tells, Changes, Located, locate, on_name}
-use Rattle.nfs_model.specs.Serial.Once.{change_of, told_among, told_before, told_of, memos_with, memos_after, remembering, remembered, or_told, once}
-use Rattle.nfs_model.specs.Serial.Setattr.{setattr}
+use Rattle.nfs_model.specs.Server.{VolumeState, Server, Named, named_read}
+use Rattle.nfs_model.specs.Locate.{Effect, Fails, Tells, Changes, Located}
+use Rattle.nfs_model.specs.Serial.Once.{change_of, told_among, told_of, memos_with, memos_after, remembering, remembered, or_told, once}
 use Rattle.nfs_model.specs.Serial.Create.{create}
 use Rattle.nfs_model.specs.Serial.Mkdir.{mkdir}
 use Rattle.nfs_model.specs.Serial.Remove.{remove_name}
 use Rattle.nfs_model.specs.Serial.Rmdir.{rmdir}
-use Rattle.nfs_model.specs.Serial.Rename.{rename}
 use Rattle.nfs_model.specs.Serial.Step.{Step, stay, placed, on, on_two, serve}
 use Rattle.nfs_laws.specs.Repeated.{memos_in, memos_of, volume_of, serve_forgetting}
 use Rattle.nfs_laws.specs.lemmas.Effects.{Keeps, Ends, Telling, ends_tells, ends_changes, name_ends, setattr_ends, create_ends, mkdir_ends, remove_ends}
@@ -47,7 +45,7 @@ module _ (server : Server) (call : model.Call) (who : model.Caller) (moment : mo
     forgotten : (new : VolumeState) → Keeps old new → (answer : model.Answer) → remembering who call moment answer new ≡ new
     forgotten new keeps answer =
         let same : memos_after new.memos who call moment answer ≡ new.memos =
-            no_memos_with new.memos who (change_of call) moment (told_of answer) (λ change e. keeps.memos ∙ no_memos change e) in
+        no_memos_with new.memos who (change_of call) moment (told_of answer) (λ change e. keeps.memos ∙ no_memos change e) in
         λ j. record new { memos = same j }
 
     all_forgotten : (effect : Effect) → Ends Telling old effect
@@ -55,8 +53,8 @@ module _ (server : Server) (call : model.Call) (who : model.Caller) (moment : mo
     all_forgotten (Fails status) f = refl
     all_forgotten (Tells answer) f =
         let same : slice_set server.volumes i (remembering who call moment answer old) ≡ server.volumes =
-            ap (λ (v : VolumeState). slice_set server.volumes i v) (forgotten old (ends_tells Telling old answer f).0 answer)
-            ∙ set_there server.volumes i old at in
+        ap (λ (v : VolumeState). slice_set server.volumes i v) (forgotten old (ends_tells Telling old answer f).0 answer)
+        ∙ set_there server.volumes i old at in
         λ j. record { reply = model.Success answer; server = record server { volumes = same j } }
     all_forgotten (Changes answer new) f =
         ap (λ (v : VolumeState). placed server absent i (Changes answer v)) (forgotten new (ends_changes Telling old answer new f).1.0 answer)

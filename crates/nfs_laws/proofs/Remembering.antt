@@ -1,22 +1,20 @@
 -- What a finished call does to what is remembered: nothing, or it takes one place.
 use Rattle.std.proofs.Common.{◌≡◌, ◌≢◌, ℕ, zero, suc, Bool, true, false, not, cond, ◌&&◌, List, [], ◌∷◌, map, length, Option, Some, None}
-use Rattle.std.proofs.Common.{refl, sym, ap, ◌∙◌, subst}
+use Rattle.std.proofs.Common.{refl, sym, ap, ◌∙◌}
 use Rattle.std.specs.Prelude.{◌+◌, ◌*◌, nat_lt, is_some, slice_get, slice_set}
 use Rattle.std.proofs.Common.{◌⊎◌, inl, inr, arith}
-use Rattle.std.proofs.lemmas.Bool.Decides.{eqb_tells, nat_tests}
-use Rattle.std.proofs.lemmas.List.{length-set}
-use Rattle.std.proofs.lemmas.Bool.{true≢false}
+use Rattle.std.proofs.lemmas.Bool.Decides.{nat_tests}
 use Rattle.nfs_model.specs.Types as model
 use Rattle.nfs_model.specs.Memo.{Change, Told, Memo}
 use Rattle.nfs_model.specs.Server.{VolumeState, Server, with_volume}
 use Rattle.nfs_model.specs.Locate.{Effect, Fails, Tells, Changes}
 use Rattle.nfs_model.specs.Serial.Once.{change_of, place, told_among, told_before, told_of, answer_told, with_memo, memos_with, memos_after, remembering}
-use Rattle.nfs_model.specs.Serial.Once.{remembered, or_told, once}
+use Rattle.nfs_model.specs.Serial.Once.{remembered, or_told}
 use Rattle.nfs_model.specs.Serial.Grow.{grown}
 use Rattle.nfs_model.specs.Serial.Step.{Step, stay, placed, serve, serial}
-use Rattle.nfs_laws.specs.Repeated.{Place, memos_in, memos_of, volume_of, is_success, is_kept, kept_among, kept_of, kept_in}
+use Rattle.nfs_laws.specs.Repeated.{Place, memos_in, memos_of, volume_of, is_success, kept_among, kept_of, kept_in}
 use Rattle.nfs_laws.specs.lemmas.Effects.{Keeps, CanTell, Ends, Keeping, Telling, ends_tells, ends_changes, same}
-use Rattle.nfs_laws.specs.lemmas.Served.{is_good, Ways, served}
+use Rattle.nfs_laws.specs.lemmas.Served.{is_good, served}
 
 -- ---- lists
 
@@ -141,7 +139,7 @@ module _ (server : Server) (call : model.Call) (who : model.Caller) (moment : mo
       answered : (answer : model.Answer) (new : VolumeState) → Keeps old new → CanTell old.number answer → (o : Option Change) → change_of call ≡ o
           → (b : Bool) → nat_lt 0 (length old.memos) ≡ b → told_among old.memos who o moment ≡ None
           → Does server (model.Ask call who) moment
-            (record { reply = model.Success answer; server = with_volume server i (remembering who call moment answer new) })
+          (record { reply = model.Success answer; server = with_volume server i (remembering who call moment answer new) })
       unfolding Does
       answered answer new keeps can None e b some untold =
           inl (record {
@@ -152,9 +150,9 @@ module _ (server : Server) (call : model.Call) (who : model.Caller) (moment : mo
       answered answer new keeps can (Some change) e false some untold =
           let memo : Memo = record { caller = who; change = change; moment = moment; told = can.0 } in
           let memos_is : memos_after new.memos who call moment answer ≡ with_memo old.memos memo =
-              ap (λ (o : Option Change). memos_with new.memos who o moment (told_of answer)) e
-              ∙ ap (λ (t : Option Told). memos_with new.memos who (Some change) moment t) can.1.0
-              ∙ ap (λ (ms : List (Option Memo)). with_memo ms memo) keeps.memos in
+          ap (λ (o : Option Change). memos_with new.memos who o moment (told_of answer)) e
+          ∙ ap (λ (t : Option Told). memos_with new.memos who (Some change) moment t) can.1.0
+          ∙ ap (λ (ms : List (Option Memo)). with_memo ms memo) keeps.memos in
           inl (record {
             none = ap (λ (o : Option Change). kept_of server who o moment (model.Success answer)) e
                 ∙ ap (λ (memos : List (Option Memo)). kept_among memos who change moment (model.Success answer)) (memos_at change (is change e))
@@ -164,9 +162,9 @@ module _ (server : Server) (call : model.Call) (who : model.Caller) (moment : mo
       answered answer new keeps can (Some change) e true some untold =
           let memo : Memo = record { caller = who; change = change; moment = moment; told = can.0 } in
           let memos_is : memos_after new.memos who call moment answer ≡ with_memo old.memos memo =
-              ap (λ (o : Option Change). memos_with new.memos who o moment (told_of answer)) e
-              ∙ ap (λ (t : Option Told). memos_with new.memos who (Some change) moment t) can.1.0
-              ∙ ap (λ (ms : List (Option Memo)). with_memo ms memo) keeps.memos in
+          ap (λ (o : Option Change). memos_with new.memos who o moment (told_of answer)) e
+          ∙ ap (λ (t : Option Told). memos_with new.memos who (Some change) moment t) can.1.0
+          ∙ ap (λ (ms : List (Option Memo)). with_memo ms memo) keeps.memos in
           let after : Server = with_volume server i (remembering who call moment answer new) in
           inr (record {
             call = call;
@@ -242,7 +240,7 @@ module _ (server : Server) (call : model.Call) (who : model.Caller) (moment : mo
 
       grown_does : (i ranges : ℕ) (old : VolumeState) → change_of call ≡ None → slice_get server.volumes i ≡ Some old
           → Does server (model.Ask call who) moment
-            (record { reply = model.Success (model.GrowDone (old.total + old.range_blocks * ranges)); server = grown server i old ranges })
+          (record { reply = model.Success (model.GrowDone (old.total + old.range_blocks * ranges)); server = grown server i old ranges })
       grown_does i ranges old none at =
           inl (record {
             none = ap (λ (o : Option Change). kept_of server who o moment (model.Success (model.GrowDone (old.total + old.range_blocks * ranges)))) none;

@@ -1,7 +1,7 @@
 -- A call that comes again is told the first reply.
 use Rattle.std.proofs.Common.{◌≡◌, ◌≢◌, ℕ, zero, suc, ◌<◌, Bool, true, false, cond, ◌&&◌, List, [], ◌∷◌, ◌++◌, map, length, Option, Some, None}
 use Rattle.std.proofs.Common.{refl, sym, ap, ◌∙◌, subst, inl, inr, arith, ◌⊎◌, append_assoc}
-use Rattle.std.specs.Prelude.{◌==◌, ◌+◌, ◌*◌, ◌%◌, nat_lt, is_some, slice_get, slice_set, slice_index_or, take}
+use Rattle.std.specs.Prelude.{◌==◌, ◌+◌, ◌*◌, nat_lt, is_some, slice_get, slice_index_or, take}
 use Rattle.std.specs.Int.{w32, from_be_bytes}
 use Rattle.std.proofs.lemmas.Bool.{true≢false}
 use Rattle.std.proofs.lemmas.Bool.Decides.{eqb_tells, nat_tests}
@@ -17,13 +17,12 @@ use Rattle.nfs_model.specs.Server.{VolumeState, Server, Named, named_read, openi
 use Rattle.nfs_model.specs.Locate.{Effect, Fails, Tells, Changes, located_in, located_by}
 use Rattle.nfs_model.specs.Replay.{FinishedCall, step_of, server_after, replay}
 use Rattle.nfs_model.specs.Serial.Same.{same_number, same_guard, same_time, same_set, same_mode, same_change, same_caller}
-use Rattle.nfs_model.specs.Serial.Once.{change_of, place, is_recent, is_of, told_in, told_among, told_before, answer_told, with_memo, remembering, remembered, or_told, once}
-use Rattle.nfs_model.specs.Serial.Grow.{grown}
+use Rattle.nfs_model.specs.Serial.Once.{place, is_recent, is_of, told_in, told_among, told_before, answer_told, remembering, remembered, or_told}
 use Rattle.nfs_model.specs.Serial.Step.{Step, stay, placed, serve, serial}
 use Rattle.nfs_laws.specs.Repeated.{Place, memos_in, memos_of, places_in, places_of, volume_of, is_success, kept_in, remembered_in, AreElsewhere, IsAgain}
-use Rattle.nfs_laws.specs.lemmas.Effects.{Keeps, Ends, Keeping, Telling, ends_tells, ends_changes}
+use Rattle.nfs_laws.specs.lemmas.Effects.{Ends, Keeping, Telling, ends_tells, ends_changes}
 use Rattle.nfs_laws.specs.lemmas.Served.{names_one, is_good, served}
-use Rattle.nfs_laws.proofs.Remembering.{get_here, get_apart, map_set, tells_success, Untaken, Taken, Does, serial_does}
+use Rattle.nfs_laws.proofs.Remembering.{get_here, get_apart, map_set, tells_success, Taken, Does, serial_does}
 
 -- ---- each thing is the same as itself
 
@@ -319,7 +318,7 @@ module _ (server : Server) (first : FinishedCall) (t : Taken server first.asked 
     same_number_there volume at =
         let i : ℕ = volume_of t.change in
         let e : Some volume.number ≡ Some t.old.number =
-            sym (number_got after.volumes i volume at) ∙ ap (λ (ns : List ℕ). slice_get ns i) s.numbers_are ∙ number_got server.volumes i t.old t.old_is in
+        sym (number_got after.volumes i volume at) ∙ ap (λ (ns : List ℕ). slice_get ns i) s.numbers_are ∙ number_got server.volumes i t.old t.old_is in
         cc
       where
         number_got : (volumes : List VolumeState) (i : ℕ) (volume : VolumeState) → slice_get volumes i ≡ Some volume
@@ -353,7 +352,7 @@ module _ (server : Server) (first : FinishedCall) (t : Taken server first.asked 
 pub told_again : (server : Server) (first : FinishedCall) (between : List FinishedCall) (again : FinishedCall) (p : Place)
     → remembered_in server first ≡ Some p → AreElsewhere p (step_of server first).server between → IsAgain first again
     → step_of (server_after server (first ∷ between)) again
-      ≡ record { reply = (step_of server first).reply; server = server_after server (first ∷ between) }
+    ≡ record { reply = (step_of server first).reply; server = server_after server (first ∷ between) }
 unfolding it Does
 told_again server first between again p kept apart g = by (does server first)
   where
@@ -366,8 +365,8 @@ told_again server first between again p kept apart g = by (does server first)
         let same : Some p ≡ Some (it server first t) = sym kept ∙ t.kept in
         let same_place : p ≡ it server first t = cc in
         let stands : Stands (numbers server) (it server first t) (Some (Some (memo server first t))) (length t.old.memos) after =
-            stands_after _ _ _ _ between (step_of server first).server (stands_first server first t)
-            (subst (λ (q : Place). AreElsewhere q (step_of server first).server between) same_place apart) in
+        stands_after _ _ _ _ between (step_of server first).server (stands_first server first t)
+        (subst (λ (q : Place). AreElsewhere q (step_of server first).server between) same_place apart) in
         ap (λ (asked : model.Asked). serial after asked again.moment again.starved) (g.asked ∙ t.asked_is)
         ∙ ap (λ (b : Bool). serial after (model.Ask t.call t.caller) again.moment b) g.unstarved
         ∙ serve_again server first t after again.moment g.recent stands
@@ -392,8 +391,8 @@ pub replayed : (server : Server) (before between after : List FinishedCall) (fir
     → AreElsewhere p (step_of (server_after server before) first).server between
     → IsAgain first again
     → replay server (before ++ first ∷ (between ++ again ∷ after))
-      ≡ replay server (before ++ first ∷ between) ++ (step_of (server_after server before) first).reply
-        ∷ replay (server_after server (before ++ first ∷ between)) after
+    ≡ replay server (before ++ first ∷ between) ++ (step_of (server_after server before) first).reply
+    ∷ replay (server_after server (before ++ first ∷ between)) after
 replayed server before between after first again p kept apart g =
     let start : Server = server_after server before in
     let end : Server = server_after start (first ∷ between) in

@@ -114,23 +114,23 @@ pub fn repeated_is_told()
         → AreElsewhere place (step_of server first).server between
         → IsAgain first again
         → (step_of (server_after server (first ∷ between)) again).reply
-            ≡ (step_of server first).reply }
+        ≡ (step_of server first).reply }
     ensures left { (server : Server) (first : FinishedCall) (between : List FinishedCall)
         (again : FinishedCall) (place : Place)
         → remembered_in server first ≡ Some place
         → AreElsewhere place (step_of server first).server between
         → IsAgain first again
         → (step_of (server_after server (first ∷ between)) again).server
-            ≡ server_after server (first ∷ between) }
+        ≡ server_after server (first ∷ between) }
     ensures replayed { (server : Server) (before between after : List FinishedCall)
         (first again : FinishedCall) (place : Place)
         → remembered_in (server_after server before) first ≡ Some place
         → AreElsewhere place (step_of (server_after server before) first).server between
         → IsAgain first again
         → replay server (before ++ first ∷ (between ++ again ∷ after))
-            ≡ replay server (before ++ first ∷ between)
-              ++ (step_of (server_after server before) first).reply
-              ∷ replay (server_after server (before ++ first ∷ between)) after }
+        ≡ replay server (before ++ first ∷ between)
+        ++ (step_of (server_after server before) first).reply
+        ∷ replay (server_after server (before ++ first ∷ between)) after }
 {}
 
 /// What is remembered in a place stays but where a call is remembered there, and a volume keeps as
@@ -139,17 +139,17 @@ pub fn memos_stay()
     ensures elsewhere { (server : Server) (call : FinishedCall) (place : Place)
         → remembered_in server call ≢ Some place
         → slice_get (memos_of (step_of server call).server place.volume) place.number
-            ≡ slice_get (memos_of server place.volume) place.number }
+        ≡ slice_get (memos_of server place.volume) place.number }
     ensures unremembered { (server : Server) (call : FinishedCall) (volume : ℕ)
         → remembered_in server call ≡ None
         → memos_of (step_of server call).server volume ≡ memos_of server volume }
     ensures places { (server : Server) (calls : List FinishedCall) (volume : ℕ)
         → length (memos_of (server_after server calls) volume)
-            ≡ length (memos_of server volume) }
+        ≡ length (memos_of server volume) }
     ensures opening { (layout : Layout) (verifier : List ℕ) (calls : List FinishedCall)
         (volume : ℕ)
         → length (memos_of (server_after (opening layout verifier) calls) volume)
-            ≡ places_of layout volume }
+        ≡ places_of layout volume }
 {}
 
 /// A call that doesn't succeed changes nothing.
@@ -163,6 +163,6 @@ pub fn failures_change_nothing()
 pub fn without_places_none_is_told()
     ensures { (server : Server) (call : Call) (caller : Caller) (moment : Moment)
         → ((change : Change) → change_of call ≡ Some change
-            → memos_of server (volume_of change) ≡ [])
+        → memos_of server (volume_of change) ≡ [])
         → serve server call caller moment ≡ serve_forgetting server call caller moment }
 {}

@@ -1,13 +1,13 @@
 -- Calls that come again (RFC 1813 section 4.5; 120 seconds and places are our profile): the reply is the first, and nothing is done twice.
 use Rattle.std.proofs.Common.{◌≡◌, ℕ, ◌+◌, ◌*◌, true, false, List, [], ◌∷◌, replicate, Option, Some, None, refl}
-use Rattle.nfs_model.specs.Types.{Moment, Caller, ServerTime, ClientTime, Unchecked, Guarded, Exclusive, Call, Getattr, Setattr, Create, Mkdir, Remove, Rmdir}
-use Rattle.nfs_model.specs.Types.{Rename, Write, Asked, Ask, Success, SystemError, SetattrDone, MadeDone, GoneDone, RenameDone, WriteDone, GetattrDone}
-use Rattle.nfs_model.specs.Types.{NoEntry, Exists, CrossVolume, NotSynchronous, NotDirectory, BadHandle, Stale, Shown, Wcc}
+use Rattle.nfs_model.specs.Types.{Caller, ClientTime, Unchecked, Guarded, Exclusive, Getattr, Setattr, Create, Mkdir, Remove, Rmdir}
+use Rattle.nfs_model.specs.Types.{Rename, Ask, Success, SystemError, SetattrDone, MadeDone, GoneDone, RenameDone}
+use Rattle.nfs_model.specs.Types.{NoEntry, Exists, CrossVolume, NotSynchronous, BadHandle, Stale, Shown, Wcc}
 use Rattle.nfs_model.specs.Memo.{Sets, Creates, MakesDirectory, Removes, RemovesDirectory, Renames, ToldSet, ToldMade, ToldGone, ToldRenamed, Memo}
 use Rattle.nfs_model.specs.Server.{Node, Server, handle_bytes, opening_volume}
 use Rattle.nfs_model.specs.Serial.Create.{no_attributes}
 use Rattle.nfs_model.specs.Serial.Once.{place}
-use Rattle.nfs_model.specs.Serial.Step.{Step, stay, serial}
+use Rattle.nfs_model.specs.Serial.Step.{stay, serial}
 use Rattle.nfs_laws.specs.Repeated.{memos_of}
 use Rattle.nfs_laws.specs.lemmas.Evaluate.{evaluate}
 use Rattle.nfs_laws.proofs.rows.Cases.{verifier, one_range, at, h, root, fails, a, b, d, e, x, entry, no_blocks, file, directory, root_with, volume_with, write_at}

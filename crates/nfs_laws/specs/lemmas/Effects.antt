@@ -1,9 +1,9 @@
 -- What a call on a volume keeps of it, and that its answer can be told again.
-use Rattle.std.proofs.Common.{◌≡◌, ℕ, Bool, true, false, cond, List, [], ◌∷◌, Option, Some, None, refl, sym, ap, ◌∙◌}
+use Rattle.std.proofs.Common.{◌≡◌, ℕ, Bool, true, false, cond, List, [], ◌∷◌, Option, Some, None, refl, ap}
 use Rattle.std.specs.Prelude.{not, ◌==◌, min, nat_le}
 use Rattle.std.specs.FinMap.{get}
 use Rattle.nfs_model.specs.Types as model
-use Rattle.nfs_model.specs.Memo.{Memo, Told, ToldSet, ToldMade, ToldGone, ToldRenamed}
+use Rattle.nfs_model.specs.Memo.{Told, ToldSet, ToldMade, ToldGone, ToldRenamed}
 use Rattle.nfs_model.specs.Server.{FileNode, DirectoryNode, Node, File, Directory, VolumeState, most_bytes, handle_bytes}
 use Rattle.nfs_model.specs.Shown.{shown, wcc}
 use Rattle.nfs_model.specs.Names.{find_name, is_dots, name_fault, same_name, dot, dot_dot}
@@ -128,10 +128,14 @@ shown_fileid volume fileid (File f) = refl
 shown_fileid volume fileid (Directory d) = refl
 
 made_tells : (n : Naming) (new : VolumeState) (found : Found) (directory : Node) → CanTell new.number (made_told n new found directory)
-made_tells n new found directory =
-    (ToldMade (shown new found.fileid found.node) (wcc n.volume n.fileid (Directory n.directory) new directory), (refl,
+made_tells n new found directory = (
+  ToldMade (shown new found.fileid found.node) (wcc n.volume n.fileid (Directory n.directory) new directory),
+  (
+    refl,
     ap (λ fileid. model.MadeDone (handle_bytes new.number fileid) (shown new found.fileid found.node)
-    (wcc n.volume n.fileid (Directory n.directory) new directory)) (shown_fileid new found.fileid found.node)))
+        (wcc n.volume n.fileid (Directory n.directory) new directory)) (shown_fileid new found.fileid found.node),
+  ),
+)
 
 -- of volumes alike but in their nodes
 others : (old new : VolumeState) → new.number ≡ old.number → new.range_blocks ≡ old.range_blocks → new.memos ≡ old.memos → Keeps old new
@@ -147,16 +151,18 @@ setattr_ends set guard moment volume fileid =
 
 made_ends : (n : Naming) (node : Node) → Ends Telling n.volume (made n node)
 made_ends n node =
-    changes Telling n.volume _ (with_child n node) refl
-    (others n.volume (with_child n node) refl refl refl,
-    made_tells n (with_child n node) (record { fileid = n.volume.next; node = node }) (directory_made n))
+    changes Telling n.volume _ (with_child n node) refl (
+      others n.volume (with_child n node) refl refl refl,
+      made_tells n (with_child n node) (record { fileid = n.volume.next; node = node }) (directory_made n),
+    )
 
 set_there_ends : (n : Naming) (fileid : ℕ) (node : Node) → Ends Telling n.volume (set_there n fileid node)
 set_there_ends n fileid node =
     let new = with_node n.volume fileid node in
-    changes Telling n.volume _ new refl
-    (others n.volume new refl refl refl,
-    made_tells (record n { volume = new }) new (record { fileid = fileid; node = node }) (Directory n.directory))
+    changes Telling n.volume _ new refl (
+      others n.volume new refl refl refl,
+      made_tells (record n { volume = new }) new (record { fileid = fileid; node = node }) (Directory n.directory),
+    )
 
 there_ends : (n : Naming) (found : Found) → Ends Telling n.volume (Tells (there_told n n.volume found))
 there_ends n found = tells Telling n.volume _ (same n.volume, made_tells n n.volume found (Directory n.directory))
