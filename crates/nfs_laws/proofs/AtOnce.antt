@@ -7,7 +7,6 @@ use Rattle.nfs_model.specs.Types.{NoEntry, Success}
 use Rattle.nfs_model.specs.Route.{Route, AtOnce, OfNames, OfBytesRead, OfBytesWritten, OfTwoHandles, OfVolume, OfAggregate, OfEverything, handle_on, route}
 use Rattle.nfs_model.specs.Tree.{Layout, VolumeLayout, Affinity, Logical}
 use Rattle.nfs_model.specs.Server.{VolumeState, Server, Named, named_read, handle_of, most_bytes}
-use Rattle.nfs_model.specs.Serial.Rename.{rename}
 use Rattle.nfs_model.specs.Home.{home, home_of_route, named_by, logical_home, volume_home, bytes_home, grow_home, rename_home}
 use Rattle.nfs_model.specs.Locate.{Effect, Located, located_in, located_by}
 use Rattle.nfs_model.specs.Serial.Step.{Step, serve, on, on_root, on_two, placed, stay}

@@ -1,17 +1,15 @@
 -- Where a volume has no places, nothing is told from memory.
-use Rattle.std.proofs.Common.{◌≡◌, ℕ, zero, suc, Bool, true, false, cond, List, [], ◌∷◌, Option, Some, None, refl, sym, ap, ◌∙◌}
+use Rattle.std.proofs.Common.{◌≡◌, ℕ, zero, suc, cond, List, [], ◌∷◌, Option, Some, None, refl, sym, ap, ◌∙◌}
 use Rattle.std.specs.Prelude.{◌==◌, slice_get, slice_set}
 use Rattle.nfs_model.specs.Types as model
 use Rattle.nfs_model.specs.Memo.{Change, Told, Memo}
-use Rattle.nfs_model.specs.Server.{VolumeState, Server, Named, named_read, with_volume}
-use Rattle.nfs_model.specs.Locate.{Effect, Fails, Tells, Changes, Located, locate, on_name}
-use Rattle.nfs_model.specs.Serial.Once.{change_of, told_among, told_before, told_of, memos_with, memos_after, remembering, remembered, or_told, once}
-use Rattle.nfs_model.specs.Serial.Setattr.{setattr}
+use Rattle.nfs_model.specs.Server.{VolumeState, Server, Named, named_read}
+use Rattle.nfs_model.specs.Locate.{Effect, Fails, Tells, Changes, Located}
+use Rattle.nfs_model.specs.Serial.Once.{change_of, told_among, told_of, memos_with, memos_after, remembering, remembered, or_told, once}
 use Rattle.nfs_model.specs.Serial.Create.{create}
 use Rattle.nfs_model.specs.Serial.Mkdir.{mkdir}
 use Rattle.nfs_model.specs.Serial.Remove.{remove_name}
 use Rattle.nfs_model.specs.Serial.Rmdir.{rmdir}
-use Rattle.nfs_model.specs.Serial.Rename.{rename}
 use Rattle.nfs_model.specs.Serial.Step.{Step, stay, placed, on, on_two, serve}
 use Rattle.nfs_laws.specs.Repeated.{memos_in, memos_of, volume_of, serve_forgetting}
 use Rattle.nfs_laws.specs.lemmas.Effects.{Keeps, Ends, Telling, ends_tells, ends_changes, name_ends, setattr_ends, create_ends, mkdir_ends, remove_ends}

@@ -1,22 +1,20 @@
 -- What a finished call does to what is remembered: nothing, or it takes one place.
 use Rattle.std.proofs.Common.{◌≡◌, ◌≢◌, ℕ, zero, suc, Bool, true, false, not, cond, ◌&&◌, List, [], ◌∷◌, map, length, Option, Some, None}
-use Rattle.std.proofs.Common.{refl, sym, ap, ◌∙◌, subst}
+use Rattle.std.proofs.Common.{refl, sym, ap, ◌∙◌}
 use Rattle.std.specs.Prelude.{◌+◌, ◌*◌, nat_lt, is_some, slice_get, slice_set}
 use Rattle.std.proofs.Common.{◌⊎◌, inl, inr, arith}
-use Rattle.std.proofs.lemmas.Bool.Decides.{eqb_tells, nat_tests}
-use Rattle.std.proofs.lemmas.List.{length-set}
-use Rattle.std.proofs.lemmas.Bool.{true≢false}
+use Rattle.std.proofs.lemmas.Bool.Decides.{nat_tests}
 use Rattle.nfs_model.specs.Types as model
 use Rattle.nfs_model.specs.Memo.{Change, Told, Memo}
 use Rattle.nfs_model.specs.Server.{VolumeState, Server, with_volume}
 use Rattle.nfs_model.specs.Locate.{Effect, Fails, Tells, Changes}
 use Rattle.nfs_model.specs.Serial.Once.{change_of, place, told_among, told_before, told_of, answer_told, with_memo, memos_with, memos_after, remembering}
-use Rattle.nfs_model.specs.Serial.Once.{remembered, or_told, once}
+use Rattle.nfs_model.specs.Serial.Once.{remembered, or_told}
 use Rattle.nfs_model.specs.Serial.Grow.{grown}
 use Rattle.nfs_model.specs.Serial.Step.{Step, stay, placed, serve, serial}
-use Rattle.nfs_laws.specs.Repeated.{Place, memos_in, memos_of, volume_of, is_success, is_kept, kept_among, kept_of, kept_in}
+use Rattle.nfs_laws.specs.Repeated.{Place, memos_in, memos_of, volume_of, is_success, kept_among, kept_of, kept_in}
 use Rattle.nfs_laws.specs.lemmas.Effects.{Keeps, CanTell, Ends, Keeping, Telling, ends_tells, ends_changes, same}
-use Rattle.nfs_laws.specs.lemmas.Served.{is_good, Ways, served}
+use Rattle.nfs_laws.specs.lemmas.Served.{is_good, served}
 
 -- ---- lists
 

@@ -1,28 +1,28 @@
 -- A call that comes again is told the first reply.
 use Rattle.std.proofs.Common.{◌≡◌, ◌≢◌, ℕ, zero, suc, ◌<◌, Bool, true, false, cond, ◌&&◌, List, [], ◌∷◌, ◌++◌, map, length, Option, Some, None}
 use Rattle.std.proofs.Common.{refl, sym, ap, ◌∙◌, subst, inl, inr, arith, ◌⊎◌, append_assoc}
-use Rattle.std.specs.Prelude.{◌==◌, ◌+◌, ◌*◌, ◌%◌, nat_lt, is_some, slice_get, slice_set, slice_index_or, take}
+use Rattle.std.specs.Prelude.{◌==◌, ◌+◌, ◌*◌, nat_lt, is_some, slice_get, slice_index_or, take}
 use Rattle.std.specs.Int.{w32, from_be_bytes}
 use Rattle.std.proofs.lemmas.Bool.{true≢false}
 use Rattle.std.proofs.lemmas.Bool.Decides.{eqb_tells, nat_tests}
-use Rattle.std.proofs.lemmas.List.{length-set}
+use Rattle.std.proofs.lemmas.List.{length-set, length-replicate}
 use Rattle.std.proofs.lemmas.Nat.{mod_below}
 use Rattle.std.proofs.lemmas.Option.{slice_get-get_or, get_or_from_slice_get}
 use Rattle.nfs_model.specs.Types as model
 use Rattle.nfs_model.specs.Memo.{Change, Sets, Creates, MakesDirectory, Removes, RemovesDirectory, Renames, Told, Memo}
 use Rattle.nfs_model.specs.Names.{same_name}
 use Rattle.nfs_model.specs.Shown.{same_moment}
-use Rattle.nfs_model.specs.Server.{VolumeState, Server, Named, named_read, with_volume}
+use Rattle.nfs_model.specs.Tree.{Layout, VolumeLayout}
+use Rattle.nfs_model.specs.Server.{VolumeState, Server, Named, named_read, opening_volumes, opening}
 use Rattle.nfs_model.specs.Locate.{Effect, Fails, Tells, Changes, located_in, located_by}
 use Rattle.nfs_model.specs.Replay.{FinishedCall, step_of, server_after, replay}
 use Rattle.nfs_model.specs.Serial.Same.{same_number, same_guard, same_time, same_set, same_mode, same_change, same_caller}
-use Rattle.nfs_model.specs.Serial.Once.{change_of, place, is_recent, is_of, told_in, told_among, told_before, answer_told, with_memo, remembering, remembered, or_told, once}
-use Rattle.nfs_model.specs.Serial.Grow.{grown}
+use Rattle.nfs_model.specs.Serial.Once.{place, is_recent, is_of, told_in, told_among, told_before, answer_told, remembering, remembered, or_told}
 use Rattle.nfs_model.specs.Serial.Step.{Step, stay, placed, serve, serial}
-use Rattle.nfs_laws.specs.Repeated.{Place, memos_in, memos_of, volume_of, is_success, kept_in, remembered_in, AreElsewhere, IsAgain}
-use Rattle.nfs_laws.specs.lemmas.Effects.{Keeps, Ends, Keeping, Telling, ends_tells, ends_changes}
+use Rattle.nfs_laws.specs.Repeated.{Place, memos_in, memos_of, places_in, places_of, volume_of, is_success, kept_in, remembered_in, AreElsewhere, IsAgain}
+use Rattle.nfs_laws.specs.lemmas.Effects.{Ends, Keeping, Telling, ends_tells, ends_changes}
 use Rattle.nfs_laws.specs.lemmas.Served.{names_one, is_good, served}
-use Rattle.nfs_laws.proofs.Remembering.{get_here, get_apart, map_set, tells_success, Untaken, Taken, Does, serial_does}
+use Rattle.nfs_laws.proofs.Remembering.{get_here, get_apart, map_set, tells_success, Taken, Does, serial_does}
 
 -- ---- each thing is the same as itself
 
@@ -233,6 +233,17 @@ step_places server call v = same_count server call.asked call.moment (step_of se
 pub places_stay : (server : Server) (calls : List FinishedCall) (v : ℕ) → length (memos_of (server_after server calls) v) ≡ length (memos_of server v)
 places_stay server [] v = refl
 places_stay server (e ∷ es) v = places_stay (step_of server e).server es v ∙ step_places server e v
+
+-- as many as the layout gives
+opening_places : (verifier : List ℕ) (from : ℕ) (layouts : List VolumeLayout) (v : ℕ)
+    → length (memos_in (slice_get (opening_volumes verifier from layouts) v)) ≡ places_in (slice_get layouts v)
+opening_places verifier from [] v = refl
+opening_places verifier from (x ∷ xs) zero = length-replicate x.remembered None
+opening_places verifier from (x ∷ xs) (suc v) = opening_places verifier (from + 1) xs v
+
+pub places_given : (layout : Layout) (verifier : List ℕ) (calls : List FinishedCall) (v : ℕ)
+    → length (memos_of (server_after (opening layout verifier) calls) v) ≡ places_of layout v
+places_given layout verifier calls v = places_stay (opening layout verifier) calls v ∙ opening_places verifier 0 layout.volumes v
 
 -- ---- what stands in a place from a call on
 

@@ -12,7 +12,6 @@ use Rattle.nfs_model.specs.Locate.{Effect, Fails, Tells, Changes, Located, locat
 use Rattle.nfs_model.specs.Parts.{most_ranges}
 use Rattle.nfs_model.specs.Serial.Absent.{absent_parts}
 use Rattle.nfs_model.specs.Serial.Grow.{Grown, grown, grow_volume}
-use Rattle.nfs_model.specs.Serial.Rename.{rename}
 use Rattle.nfs_model.specs.Serial.Step.{Step, placed, stay, on, on_root, on_two, serve, serial}
 use Rattle.nfs_model.specs.Home.{home_of_asked}
 use Rattle.nfs_model.specs.Replay.{FinishedCall, step_of, server_after}

@@ -1,10 +1,11 @@
 -- A call that its client sends again (RFC 1813 section 4.5): where its reply is remembered, what may come between, and when it is told.
 use Rattle.std.specs.Prelude.{◌≡◌, ◌≢◌, ℕ, Bool, true, false, not, ◌&&◌, nat_lt, is_some, List, [], ◌∷◌, length, Option, Some, None, slice_get}
 use Rattle.std.specs.Prelude.{if◌then◌else◌}
-use Rattle.nfs_model.specs.Types.{Moment, Caller, Call, Setattr, Create, Mkdir, Remove, Rmdir, Rename, Answer, Failed, Reply, Success, Asked, Ask}
+use Rattle.nfs_model.specs.Types.{Moment, Caller, Call, Setattr, Create, Mkdir, Remove, Rmdir, Rename, Failed, Reply, Success, Asked, Ask}
+use Rattle.nfs_model.specs.Tree.{Layout, VolumeLayout}
 use Rattle.nfs_model.specs.Memo.{Change, Sets, Creates, MakesDirectory, Removes, RemovesDirectory, Renames, Memo}
 use Rattle.nfs_model.specs.Server.{VolumeState, Server, named_read}
-use Rattle.nfs_model.specs.Locate.{Effect, Located, locate, on_name}
+use Rattle.nfs_model.specs.Locate.{locate, on_name}
 use Rattle.nfs_model.specs.Serial.Absent.{absent_parts}
 use Rattle.nfs_model.specs.Serial.Once.{change_of, place, is_recent, told_among}
 use Rattle.nfs_model.specs.Serial.Setattr.{setattr}
@@ -30,6 +31,14 @@ memos_in (Some volume) = volume.memos
 -- what is remembered in the places of a volume
 abbrev pub memos_of : Server → ℕ → List (Option Memo)
 memos_of server volume = memos_in (slice_get server.volumes volume)
+
+abbrev pub places_in : Option VolumeLayout → ℕ
+places_in None = 0
+places_in (Some v) = v.remembered
+
+-- how many places a layout gives a volume
+abbrev pub places_of : Layout → ℕ → ℕ
+places_of layout volume = places_in (slice_get layout.volumes volume)
 
 -- the volume that is changed, which the first handle names
 abbrev pub volume_of : Change → ℕ

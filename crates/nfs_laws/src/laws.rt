@@ -21,7 +21,7 @@ ghost use Rattle.nfs_model.specs.Agreed.{IsAgreed};
 ghost use Rattle.nfs_model.specs.Replay.{step_of, server_after, replay, FinishedCall};
 ghost use Rattle.nfs_model.specs.Memo.{Change};
 ghost use Rattle.nfs_model.specs.Serial.Once.{change_of};
-ghost use Rattle.nfs_laws.specs.Repeated.{Place, memos_of, volume_of, is_success};
+ghost use Rattle.nfs_laws.specs.Repeated.{Place, memos_of, places_of, volume_of, is_success};
 ghost use Rattle.nfs_laws.specs.Repeated.{remembered_in, AreElsewhere, IsAgain, serve_forgetting};
 ghost use Rattle.nfs_laws.specs.Sizes.{HaveSizes};
 ghost use Rattle.nfs_laws.specs.Undisturbed.{WorksNone};
@@ -146,6 +146,10 @@ pub fn memos_stay()
     ensures places { (server : Server) (calls : List FinishedCall) (volume : ℕ)
         → length (memos_of (server_after server calls) volume)
         ≡ length (memos_of server volume) }
+    ensures opening { (layout : Layout) (verifier : List ℕ) (calls : List FinishedCall)
+        (volume : ℕ)
+        → length (memos_of (server_after (opening layout verifier) calls) volume)
+        ≡ places_of layout volume }
 {}
 
 /// A call that doesn't succeed changes nothing.

@@ -1,9 +1,9 @@
 -- What a call on a volume keeps of it, and that its answer can be told again.
-use Rattle.std.proofs.Common.{◌≡◌, ℕ, Bool, true, false, cond, List, [], ◌∷◌, Option, Some, None, refl, sym, ap, ◌∙◌}
+use Rattle.std.proofs.Common.{◌≡◌, ℕ, Bool, true, false, cond, List, [], ◌∷◌, Option, Some, None, refl, ap}
 use Rattle.std.specs.Prelude.{not, ◌==◌, min, nat_le}
 use Rattle.std.specs.FinMap.{get}
 use Rattle.nfs_model.specs.Types as model
-use Rattle.nfs_model.specs.Memo.{Memo, Told, ToldSet, ToldMade, ToldGone, ToldRenamed}
+use Rattle.nfs_model.specs.Memo.{Told, ToldSet, ToldMade, ToldGone, ToldRenamed}
 use Rattle.nfs_model.specs.Server.{FileNode, DirectoryNode, Node, File, Directory, VolumeState, most_bytes, handle_bytes}
 use Rattle.nfs_model.specs.Shown.{shown, wcc}
 use Rattle.nfs_model.specs.Names.{find_name, is_dots, name_fault, same_name, dot, dot_dot}

@@ -1,26 +1,21 @@
 -- A fact of what a call comes to on the serial server, from one for each way that it can end.
 use Rattle.std.proofs.Common.{◌≡◌, ℕ, Bool, true, false, cond, List, [], Option, Some, None, refl, sym, ap, ◌∙◌, length}
-use Rattle.std.specs.Prelude.{◌==◌, ◌+◌, ◌*◌, ◌&&◌, is_some, nat_lt, slice_get, slice_set, slice_index_or, if◌then◌else◌}
+use Rattle.std.specs.Prelude.{◌==◌, ◌+◌, ◌*◌, ◌&&◌, is_some, nat_lt, slice_get, slice_index_or, if◌then◌else◌}
 use Rattle.std.specs.Int.{w32, from_be_bytes}
 use Rattle.std.specs.Prelude.{take}
 use Rattle.nfs_model.specs.Types as model
 use Rattle.nfs_model.specs.Memo.{Change}
-use Rattle.nfs_model.specs.Server.{VolumeState, Server, Named, named_read, handle_of}
+use Rattle.nfs_model.specs.Server.{VolumeState, Server, Named, named_read}
 use Rattle.nfs_model.specs.Locate.{Effect, Located, located_in, located_by, locate}
 use Rattle.nfs_model.specs.Parts.{most_ranges}
-use Rattle.nfs_model.specs.Serial.Once.{is_short, change_of, once}
-use Rattle.nfs_model.specs.Serial.Absent.{absent_parts}
+use Rattle.nfs_model.specs.Serial.Once.{change_of, once}
 use Rattle.nfs_model.specs.Serial.Access.{access_given}
 use Rattle.nfs_model.specs.Serial.Lookup.{looked_up, lookup}
-use Rattle.nfs_model.specs.Serial.Setattr.{setattr}
 use Rattle.nfs_model.specs.Serial.Create.{create}
 use Rattle.nfs_model.specs.Serial.Mkdir.{mkdir}
 use Rattle.nfs_model.specs.Serial.Remove.{remove_name}
 use Rattle.nfs_model.specs.Serial.Rmdir.{rmdir}
-use Rattle.nfs_model.specs.Serial.Rename.{rename}
-use Rattle.nfs_model.specs.Locate.{on_name}
-use Rattle.nfs_model.specs.Serial.Census.{census}
-use Rattle.nfs_model.specs.Serial.Mount.{mount, parts_below}
+use Rattle.nfs_model.specs.Serial.Mount.{parts_below}
 use Rattle.nfs_model.specs.Serial.Grow.{Grown, grown, grow_volume}
 use Rattle.nfs_model.specs.Serial.Step.{Step, stay, placed, on, on_root, on_two, serve}
 use Rattle.nfs_laws.specs.Repeated.{is_success, volume_of}

@@ -1,4 +1,3 @@
-use Rattle.std.specs.Prelude.{◌∷◌}
 use Rattle.std.proofs.Common.{ap}
 use Rattle.nfs_model.specs.Serial.Step.{Step}
 use Rattle.nfs_laws.proofs.Repeated.{told_again, replayed}
