@@ -64,24 +64,22 @@ told-there places caller call moment at d b within is found =
     ∙ ap (λ (t : Bool). told_if t p) (sym found)
 
 -- where the place isn't of the call
-pub none-told : {X : Type 0} (f : Told → X) (places : List Place) (caller : Caller) (call : Call) (moment : Moment) (at : ℕ) (d : Place) (b : Bool)
+pub none-told : (places : List Place) (caller : Caller) (call : Call) (moment : Moment) (at : ℕ) (d : Place) (b : Bool)
     → at < length places → at ≡ place (length places) caller
     → b ≡ ((same_caller (caller_of (slice_index_or places at d).caller) caller && is_recent (moment_of (slice_index_or places at d).moment) moment)
     && asks (change_kept (slice_index_or places at d).change) (change_of call))
-    → b ≡ false → None ≡ option_map f (told_before (memos_kept places) caller call moment)
-none-told f places caller call moment at d b within is found not =
-    sym (ap (option_map f) (told-there places caller call moment at d b within is found ∙ ap (λ (t : Bool). told_if t (slice_index_or places at d)) not))
+    → b ≡ false → None ≡ told_before (memos_kept places) caller call moment
+none-told places caller call moment at d b within is found not =
+    sym (told-there places caller call moment at d b within is found ∙ ap (λ (t : Bool). told_if t (slice_index_or places at d)) not)
 
 -- where it is
-pub some-told : {X : Type 0} (f : Told → X) (made : X) (places : List Place) (caller : Caller) (call : Call) (moment : Moment) (at : ℕ) (d : Place)
-    (b : Bool) → at < length places → at ≡ place (length places) caller
+pub some-told : (told : Told) (places : List Place) (caller : Caller) (call : Call) (moment : Moment) (at : ℕ) (d : Place) (b : Bool)
+    → at < length places → at ≡ place (length places) caller
     → b ≡ ((same_caller (caller_of (slice_index_or places at d).caller) caller && is_recent (moment_of (slice_index_or places at d).moment) moment)
     && asks (change_kept (slice_index_or places at d).change) (change_of call))
-    → b ≡ true → made ≡ f (told_kept (slice_index_or places at d).results)
-    → Some made ≡ option_map f (told_before (memos_kept places) caller call moment)
-some-told f made places caller call moment at d b within is found so same =
-    ap Some same
-    ∙ sym (ap (option_map f) (told-there places caller call moment at d b within is found ∙ ap (λ (t : Bool). told_if t (slice_index_or places at d)) so))
+    → b ≡ true → told ≡ told_kept (slice_index_or places at d).results → Some told ≡ told_before (memos_kept places) caller call moment
+some-told told places caller call moment at d b within is found so same =
+    ap Some same ∙ sym (told-there places caller call moment at d b within is found ∙ ap (λ (t : Bool). told_if t (slice_index_or places at d)) so)
 
 -- ---- what is kept
 

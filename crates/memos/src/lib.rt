@@ -9,3 +9,4 @@ mod results;
 mod same;
 
 pub use memos::Memos;
+pub use results::Remembered;

@@ -12,7 +12,7 @@ ghost use Rattle.memos.specs.Told.{procedure_told};
 
 use crate::change::is_remembered;
 use crate::place::{Place, place_of};
-use crate::results::{answer_again, results_of};
+use crate::results::{Remembered, results_of};
 use nfs_values::{Answer, Call, Caller, Moment, VolumeNumber};
 use std::alloc::{AllocError, Global};
 use std::marker::Model;
@@ -44,21 +44,15 @@ impl Model for Memos {
     ghost view = { λ m. memos_kept m.places.items };
 }
 
-/// The answer to a call that is remembered in its place.
-fn told_in(
-    places: &[Place],
+/// What a caller was told of this very call, where that is in its place.
+fn find_in<'a>(
+    places: &'a [Place],
     caller: &Caller,
     call: &Call,
     moment: Moment,
-    volume: VolumeNumber,
-) -> Option<Answer>
-    ensures told { option_map answer_of result ≡ option_map (answer_told volume.0)
-        (told_before (memos_kept places.now) (caller_of caller.now) (call_of call.now)
-        (moment_of moment)) }
-    ensures procedure { option_map procedure_of result
-        ≡ option_map (procedure_told (call_of call.now))
-        (told_before (memos_kept places.now) (caller_of caller.now) (call_of call.now)
-        (moment_of moment)) }
+) -> Option<Remembered<'a>>
+    ensures { result ≡ told_before (memos_kept places.now) (caller_of caller.now)
+        (call_of call.now) (moment_of moment) }
 {
     if !is_remembered(call) {
         return None;
@@ -68,7 +62,7 @@ fn told_in(
     if !place.is_of(caller, call, moment) {
         return None;
     }
-    Some(answer_again(&place.results, call, volume))
+    Some(Remembered::new(&place.results))
 }
 
 /// Keeps what a call was answered in its place.
@@ -99,6 +93,15 @@ impl Memos {
         Ok(Memos { places })
     }
 
+    /// What a caller was told of this very call, if that is remembered and at most 120 seconds old
+    /// (our profile).
+    pub fn find(&self, caller: &Caller, call: &Call, moment: Moment) -> Option<Remembered<'_>>
+        ensures { result ≡ told_before self.now (caller_of caller.now) (call_of call.now)
+            (moment_of moment) }
+    {
+        find_in(&self.places, caller, call, moment)
+    }
+
     /// The answer that a caller was given to this very call, if that is remembered and at most 120
     /// seconds old (our profile), in a volume of this number.
     pub fn told(
@@ -114,7 +117,10 @@ impl Memos {
             ≡ option_map (procedure_told (call_of call.now))
             (told_before self.now (caller_of caller.now) (call_of call.now) (moment_of moment)) }
     {
-        told_in(&self.places, caller, call, moment, volume)
+        match self.find(caller, call, moment) {
+            None => None,
+            Some(found) => Some(found.answer(call, volume)),
+        }
     }
 
     /// Keeps what a call that succeeded was answered; what isn't to be kept changes nothing. It

@@ -21,6 +21,7 @@ ghost use Rattle.memos.specs.Told.{procedure_told};
 
 use nfs_values::answer::{MakeResults, RenameResults};
 use nfs_values::{Answer, Attributes, Call, Change, FileHandle, Named, Status, VolumeNumber};
+use std::marker::Model;
 
 /// The results of a call that succeeded (RFC 1813 section 3.3). The handle of what was made follows
 /// from its attributes.
@@ -101,20 +102,47 @@ fn results_of_renaming(results: &Result<RenameResults, Status>) -> Option<Result
     }
 }
 
-/// The answer to a call that tells these results again, of a volume of this number.
-pub(crate) fn answer_again(results: &Results, call: &Call, volume: VolumeNumber) -> Answer
-    ensures told { answer_of result ≡ answer_told volume.0 (told_kept results.now) }
-    ensures procedure { procedure_of result
-        ≡ procedure_told (call_of call.now) (told_kept results.now) }
-{
-    match results {
-        Results::Set(change) => Answer::SetAttributes(Ok(*change)),
-        Results::Made { object, directory } => made_again(object, directory, call, volume),
-        Results::Gone(directory) => gone_again(directory, call),
-        Results::Renamed { from, to } => Answer::Rename(Ok(RenameResults {
-            from: *from,
-            to: *to,
-        })),
+/// The results that a call was told, where they are kept.
+#[derive(Drop)]
+pub struct Remembered<'a> {
+    results: &'a Results,
+}
+
+impl<'a> Model for Remembered<'a> {
+    ghost use Rattle.nfs_model.specs.Memo.{Told};
+    ghost use Rattle.nfs_model.specs.volume.Codes.{coded_told};
+    ghost use Rattle.memos.specs.Kept.{told_kept};
+
+    ghost Value = { Told };
+
+    ghost coded = { coded_told };
+
+    ghost view = { λ r. told_kept r.results.now };
+}
+
+impl<'a> Remembered<'a> {
+    /// These.
+    pub(crate) fn new(results: &'a Results) -> Remembered<'a>
+        ensures { result ≡ told_kept results.now }
+    {
+        Remembered { results }
+    }
+
+    /// The answer to the call that tells them again, of a volume of this number.
+    #[inline(never)]
+    pub fn answer(&self, call: &Call, volume: VolumeNumber) -> Answer
+        ensures told { answer_of result ≡ answer_told volume.0 self.now }
+        ensures procedure { procedure_of result ≡ procedure_told (call_of call.now) self.now }
+    {
+        match self.results {
+            Results::Set(change) => Answer::SetAttributes(Ok(*change)),
+            Results::Made { object, directory } => made_again(object, directory, call, volume),
+            Results::Gone(directory) => gone_again(directory, call),
+            Results::Renamed { from, to } => Answer::Rename(Ok(RenameResults {
+                from: *from,
+                to: *to,
+            })),
+        }
     }
 }
 
