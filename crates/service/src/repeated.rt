@@ -13,6 +13,7 @@ use crate::outcome::Outcome;
 use crate::task::Run;
 use filer_state::LogicalParcel;
 use nfs_values::{Answer, Reply, VolumeNumber};
+use service_names::Ahead;
 
 /// What the caller of a call was answered before, if the volume remembers it.
 pub(crate) fn told_before(run: Run, own: &LogicalParcel, volume: VolumeNumber) -> Option<Answer>
@@ -20,9 +21,21 @@ pub(crate) fn told_before(run: Run, own: &LogicalParcel, volume: VolumeNumber) -
         (told_before own.now.memos (caller_of run.entry.caller) (call_of run.entry.call.now)
         (moment_of run.entry.moment)) }
 {
-    own.get()
+    let told = own
+        .get()
         .memos
-        .told(&run.caller, run.call, run.moment, volume)
+        .told(&run.caller, run.call, run.moment, volume);
+    if told.is_some() {
+        count(run.ahead);
+    }
+    told
+}
+
+/// Counts a call that was told a reply again, where that is counted.
+fn count(ahead: Option<&Ahead>) {
+    if let Some(ahead) = ahead {
+        ahead.count_repeated();
+    }
 }
 
 /// Remembers what a call came to, where it succeeded.
