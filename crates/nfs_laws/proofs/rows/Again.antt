@@ -1,12 +1,13 @@
 -- Calls that come again (RFC 1813 section 4.5; 120 seconds and places are our profile): the reply is the first, and nothing is done twice.
 use Rattle.std.proofs.Common.{◌≡◌, ℕ, ◌+◌, ◌*◌, true, false, List, [], ◌∷◌, replicate, Option, Some, None, refl}
-use Rattle.nfs_model.specs.Types.{Caller, ClientTime, Unchecked, Guarded, Exclusive, Getattr, Setattr, Create, Mkdir, Remove, Rmdir}
+use Rattle.nfs_model.specs.Types.{ServerTime, SetAttributes, Caller, ClientTime, Unchecked, Guarded, Exclusive, Getattr, Setattr, Create, Mkdir, Remove, Rmdir}
 use Rattle.nfs_model.specs.Types.{Rename, Ask, Success, SystemError, SetattrDone, MadeDone, GoneDone, RenameDone}
 use Rattle.nfs_model.specs.Types.{NoEntry, Exists, CrossVolume, NotSynchronous, BadHandle, Stale, Shown, Wcc}
 use Rattle.nfs_model.specs.Memo.{Sets, Creates, MakesDirectory, Removes, RemovesDirectory, Renames, ToldSet, ToldMade, ToldGone, ToldRenamed, Memo}
 use Rattle.nfs_model.specs.Server.{Node, Server, handle_bytes, opening_volume}
 use Rattle.nfs_model.specs.Serial.Create.{no_attributes}
-use Rattle.nfs_model.specs.Serial.Once.{place}
+use Rattle.nfs_model.specs.Serial.Once.{change_of, place}
+use Rattle.nfs_model.specs.Serial.Same.{same_set, same_mode, same_change}
 use Rattle.nfs_model.specs.Serial.Step.{stay, serial}
 use Rattle.nfs_laws.specs.Repeated.{memos_of}
 use Rattle.nfs_laws.specs.lemmas.Evaluate.{evaluate}
@@ -70,6 +71,11 @@ no_file memos = with_memos memos 3 ((1, root_with 4 []) ∷ [])
 -- the root with the empty directory `d`, of fileid 2
 abbrev one_directory : List (Option Memo) → Server
 one_directory memos = with_memos memos 3 ((1, root_with 4 (entry 3 d 2 ∷ [])) ∷ ((2, directory 1 3 []) ∷ []))
+
+-- the root with the empty directory `d` and the empty file `a`, of fileids 2 and 3
+abbrev one_directory_and_file : List (Option Memo) → Server
+one_directory_and_file memos =
+    with_memos memos 4 ((1, root_with 5 (entry 3 d 2 ∷ (entry 4 a 3 ∷ []))) ∷ ((2, directory 1 3 []) ∷ ((3, file [] no_blocks) ∷ [])))
 
 -- ---- what is remembered
 
@@ -177,6 +183,12 @@ rename_again :
     (serial (serial (one_file four) (Ask (Rename root a root b) ann) (at 2) false).server (Ask (Rename root a root b) ann) (at 3) false).reply
     ≡ Success (RenameDone (root_changed 2 2) (root_changed 2 2))
 rename_again = simp evaluate refl
+
+-- out of the root into the directory `d`
+rename_into_a_directory_again :
+    (serial (serial (one_directory_and_file four) (Ask (Rename root a (h 2) b) ann) (at 2) false).server (Ask (Rename root a (h 2) b) ann) (at 3) false).reply
+    ≡ Success (RenameDone (root_changed 3 2) (changed (before 4096 1 1) (record (directory_shown 2 2 1) { mtime = at 2; ctime = at 2 })))
+rename_into_a_directory_again = simp evaluate refl
 
 -- ---- and changes nothing: a file that another made under the name since then stays
 
@@ -294,6 +306,94 @@ rename_to_another_name :
     ≡ fails NoEntry 4
 rename_to_another_name = simp evaluate refl
 
+-- ---- the same argument by argument
+
+abbrev with_mode : Option ℕ → SetAttributes
+with_mode mode = record no_attributes { mode = mode }
+
+mode_that_is_not_given : same_set (with_mode None) (with_mode (Some 448)) ≡ false
+mode_that_is_not_given = refl
+
+mode_that_is_given : same_set (with_mode (Some 448)) (with_mode None) ≡ false
+mode_that_is_given = refl
+
+another_mode : same_set (with_mode (Some 448)) (with_mode (Some 384)) ≡ false
+another_mode = refl
+
+another_uid : same_set (record no_attributes { uid = Some 7 }) (record no_attributes { uid = Some 6 }) ≡ false
+another_uid = refl
+
+another_gid : same_set (record no_attributes { gid = Some 7 }) (record no_attributes { gid = Some 6 }) ≡ false
+another_gid = refl
+
+another_size : same_set (record no_attributes { size = Some 7 }) (record no_attributes { size = Some 6 }) ≡ false
+another_size = refl
+
+another_atime : same_set (record no_attributes { atime = ClientTime (at 7) }) (record no_attributes { atime = ClientTime (at 6) }) ≡ false
+another_atime = refl
+
+mtime_of_the_server : same_set (record no_attributes { mtime = ServerTime }) no_attributes ≡ false
+mtime_of_the_server = refl
+
+all_attributes_the_same :
+    same_set
+    (record { mode = Some 448; uid = Some 7; gid = Some 8; size = Some 9; atime = ServerTime; mtime = ClientTime (at 5) })
+    (record { mode = Some 448; uid = Some 7; gid = Some 8; size = Some 9; atime = ServerTime; mtime = ClientTime (at 5) })
+    ≡ true
+all_attributes_the_same = refl
+
+unchecked_of_another_mode : same_mode (Unchecked no_attributes) (Unchecked (with_mode (Some 448))) ≡ false
+unchecked_of_another_mode = refl
+
+guarded_for_unchecked : same_mode (Guarded no_attributes) (Unchecked no_attributes) ≡ false
+guarded_for_unchecked = refl
+
+setattr_of_another_node : same_change (Sets (h 2) no_attributes None) (Sets (h 3) no_attributes None) ≡ false
+setattr_of_another_node = refl
+
+setattr_of_another_mode : same_change (Sets (h 2) no_attributes None) (Sets (h 2) (with_mode (Some 448)) None) ≡ false
+setattr_of_another_mode = refl
+
+setattr_with_a_guard : same_change (Sets (h 2) no_attributes None) (Sets (h 2) no_attributes (Some (at 1))) ≡ false
+setattr_with_a_guard = refl
+
+create_in_another_directory : same_change (Creates (h 2) a (Guarded no_attributes)) (Creates (h 3) a (Guarded no_attributes)) ≡ false
+create_in_another_directory = refl
+
+create_of_another_name : same_change (Creates (h 2) a (Guarded no_attributes)) (Creates (h 2) b (Guarded no_attributes)) ≡ false
+create_of_another_name = refl
+
+mkdir_in_another_directory : same_change (MakesDirectory (h 2) a no_attributes) (MakesDirectory (h 3) a no_attributes) ≡ false
+mkdir_in_another_directory = refl
+
+mkdir_of_another_name : same_change (MakesDirectory (h 2) a no_attributes) (MakesDirectory (h 2) b no_attributes) ≡ false
+mkdir_of_another_name = refl
+
+mkdir_of_another_mode : same_change (MakesDirectory (h 2) a no_attributes) (MakesDirectory (h 2) a (with_mode (Some 448))) ≡ false
+mkdir_of_another_mode = refl
+
+rmdir_in_another_directory : same_change (RemovesDirectory (h 2) a) (RemovesDirectory (h 3) a) ≡ false
+rmdir_in_another_directory = refl
+
+rmdir_of_another_name : same_change (RemovesDirectory (h 2) a) (RemovesDirectory (h 2) b) ≡ false
+rmdir_of_another_name = refl
+
+-- a longer name that begins so
+rmdir_of_a_longer_name : same_change (RemovesDirectory (h 2) a) (RemovesDirectory (h 2) (97 ∷ (97 ∷ []))) ≡ false
+rmdir_of_a_longer_name = refl
+
+rename_from_another_directory : same_change (Renames (h 2) a (h 3) b) (Renames (h 4) a (h 3) b) ≡ false
+rename_from_another_directory = refl
+
+rename_from_another_name : same_change (Renames (h 2) a (h 3) b) (Renames (h 2) x (h 3) b) ≡ false
+rename_from_another_name = refl
+
+rename_to_another_directory : same_change (Renames (h 2) a (h 3) b) (Renames (h 2) a (h 4) b) ≡ false
+rename_to_another_directory = refl
+
+rename_the_other_way : same_change (Renames (h 2) a (h 3) b) (Renames (h 3) b (h 2) a) ≡ false
+rename_the_other_way = refl
+
 -- ---- how long: 120 seconds, and not earlier
 
 again_at_once :
@@ -328,6 +428,21 @@ again_a_nanosecond_earlier :
 again_a_nanosecond_earlier = simp evaluate refl
 
 -- ---- what isn't remembered
+
+name_of_255_bytes : change_of (Remove root (replicate 255 97)) ≡ Some (Removes root (replicate 255 97))
+name_of_255_bytes = refl
+
+name_of_256_bytes : change_of (Mkdir root (replicate 256 97) no_attributes) ≡ None
+name_of_256_bytes = refl
+
+second_name_of_256_bytes : change_of (Rename root a root (replicate 256 97)) ≡ None
+second_name_of_256_bytes = refl
+
+handle_of_13_bytes : change_of (Setattr (replicate 13 0) no_attributes None) ≡ None
+handle_of_13_bytes = refl
+
+second_handle_of_11_bytes : change_of (Rename root a (replicate 11 0) b) ≡ None
+second_handle_of_11_bytes = refl
 
 a_failure_is_not_remembered :
     memos_of (serial (one_file four) (Ask (Create root a (Guarded no_attributes)) ann) (at 2) false).server 0
@@ -379,6 +494,10 @@ place_of_another_port = refl
 place_of_another_address : place 1024 other_address ≡ 800
 place_of_another_address = refl
 
+-- by 1,000, which doesn't divide 65,536
+place_by_the_port_alone : place 1000 other_address ≡ 800
+place_by_the_port_alone = refl
+
 -- 65,535 and 4,294,967,295 are both 1,023 by 1,024
 place_of_the_highest : place 1024 (record ann { xid = 4294967295; peer = from_port 2130706433 65535 }) ≡ 1022
 place_of_the_highest = refl
@@ -407,6 +526,30 @@ remove_in_another_volume :
     (serial (no_file (in_first removed)) (Ask (Remove (handle_bytes 1 1) a) ann) (at 3) false).reply
     ≡ fails NoEntry 2
 remove_in_another_volume = simp evaluate refl
+
+-- volume 1 with its root and these places, beside one without a place
+abbrev second_with : List (Option Memo) → Server
+second_with memos =
+    record {
+      spare = 1 ∷ [];
+      volumes = volume_with 1024 16777216 3 ((1, root_with 4 []) ∷ [])
+          ∷ (record (volume_with 1024 16777216 3 ((1, root_with 4 []) ∷ [])) { number = 1; memos = memos } ∷ []);
+    }
+
+create_again_in_the_second_volume :
+    serial (second_with (in_first (record made_b { change = Creates (handle_bytes 1 1) b (Guarded no_attributes) })))
+    (Ask (Create (handle_bytes 1 1) b (Guarded no_attributes)) ann) (at 3) false
+    ≡ stay (second_with (in_first (record made_b { change = Creates (handle_bytes 1 1) b (Guarded no_attributes) })))
+      (MadeDone (handle_bytes 1 3) (ann_file 3) (root_changed 2 2))
+create_again_in_the_second_volume = refl
+
+create_is_remembered_in_the_second_volume :
+    memos_of (serial (second_with four) (Ask (Create (handle_bytes 1 1) b (Guarded no_attributes)) ann) (at 2) false).server 1
+    ≡ in_first (record made_b {
+      change = Creates (handle_bytes 1 1) b (Guarded no_attributes);
+      told = ToldMade (record (ann_file 3) { fsid = 1 }) (changed (before 4096 1 1) (record (root_shown 2 2) { fsid = 1 }));
+    })
+create_is_remembered_in_the_second_volume = simp evaluate refl
 
 bad_handle_comes_first :
     (serial (no_file (in_first (record removed { change = Removes (handle_bytes 2 1) a }))) (Ask (Remove (handle_bytes 2 1) a) ann) (at 3) false).reply
