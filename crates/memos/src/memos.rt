@@ -1,6 +1,6 @@
 //! The places of a volume.
 
-ghost use Rattle.std.specs.Prelude.{◌≡◌, IfOk, None, replicate};
+ghost use Rattle.std.specs.Prelude.{◌≡◌, IfOk, IsOk, None, replicate};
 ghost use Rattle.std.specs.Option.{option_map};
 ghost use Rattle.nfs_model.specs.Serial.Once.{answer_told, memos_after, told_before};
 ghost use Rattle.nfs_values.specs.Answer.{answer_of, procedure_of};
@@ -85,10 +85,15 @@ fn remember_in(places: &mut [Place], caller: &Caller, call: &Call, moment: Momen
 }
 
 impl Memos {
-    /// This many places, with nothing remembered; 0 take no memory.
+    /// This many places, of 960 bytes each, with nothing remembered; 0 take no memory.
     pub fn new(alloc: Global, places: u32) -> Result<Memos, AllocError>
-        ensures { IfOk result (λ memos. memos ≡ replicate places None) }
+        ensures memos { IfOk result (λ memos. memos ≡ replicate places None) }
+        ensures none { places ≡ 0 → IsOk result }
     {
+        if places == 0 {
+            let places = Vec::new(alloc);
+            return Ok(Memos { places });
+        }
         let places = vec![in alloc; Place::empty(); places as usize]?;
         Ok(Memos { places })
     }

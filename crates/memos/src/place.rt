@@ -11,7 +11,7 @@ ghost use Rattle.memos.specs.Kept.{asks, change_kept, memo_kept};
 use crate::change::KeptChange;
 use crate::results::Results;
 use crate::same::is_same_caller;
-use nfs_values::{Attributes, Call, Caller, Change, FileKind, Fileid, Moment, PriorAttributes};
+use nfs_values::{Call, Caller, Moment};
 
 /// How long a reply is told again, in seconds (our profile).
 const SECONDS_RECENT: u64 = 120;
@@ -25,32 +25,6 @@ pub(crate) struct Place {
     pub(crate) change: KeptChange,
     pub(crate) results: Results,
 }
-
-/// Attributes of nothing.
-const NO_ATTRIBUTES: Attributes = Attributes {
-    kind: FileKind::Regular,
-    mode: 0,
-    links: 0,
-    uid: 0,
-    gid: 0,
-    size: 0,
-    used: 0,
-    fsid: 0,
-    fileid: Fileid(0),
-    atime: Moment::START,
-    mtime: Moment::START,
-    ctime: Moment::START,
-};
-
-/// Attributes before and after a call on nothing.
-const NO_CHANGE: Change = Change {
-    before: PriorAttributes {
-        size: 0,
-        mtime: Moment::START,
-        ctime: Moment::START,
-    },
-    after: NO_ATTRIBUTES,
-};
 
 /// Whether a call that was done at one moment is remembered at another: no later than this, and at
 /// most 120 seconds before.
@@ -73,7 +47,7 @@ impl Place {
             caller: Caller::NOBODY,
             moment: Moment::START,
             change: KeptChange::NONE,
-            results: Results::Set(NO_CHANGE),
+            results: Results::EMPTY,
         }
     }
 

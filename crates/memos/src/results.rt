@@ -20,7 +20,10 @@ ghost use Rattle.memos.specs.Kept.{told_kept};
 ghost use Rattle.memos.specs.Told.{procedure_told};
 
 use nfs_values::answer::{MakeResults, RenameResults};
-use nfs_values::{Answer, Attributes, Call, Change, FileHandle, Named, Status, VolumeNumber};
+use nfs_values::{
+    Answer, Attributes, Call, Change, FileHandle, FileKind, Fileid, Moment, Named, PriorAttributes,
+    Status, VolumeNumber,
+};
 use std::marker::Model;
 
 /// The results of a call that succeeded (RFC 1813 section 3.3). The handle of what was made follows
@@ -39,6 +42,37 @@ pub(crate) enum Results {
         from: Change,
         to: Change,
     },
+}
+
+/// Attributes of nothing.
+const NO_ATTRIBUTES: Attributes = Attributes {
+    kind: FileKind::Regular,
+    mode: 0,
+    links: 0,
+    uid: 0,
+    gid: 0,
+    size: 0,
+    used: 0,
+    fsid: 0,
+    fileid: Fileid(0),
+    atime: Moment::START,
+    mtime: Moment::START,
+    ctime: Moment::START,
+};
+
+/// Attributes before and after a call on nothing.
+const NO_CHANGE: Change = Change {
+    before: PriorAttributes {
+        size: 0,
+        mtime: Moment::START,
+        ctime: Moment::START,
+    },
+    after: NO_ATTRIBUTES,
+};
+
+impl Results {
+    /// What stands where none are kept.
+    pub(crate) const EMPTY: Results = Results::Set(NO_CHANGE);
 }
 
 /// What is kept of an answer.
