@@ -48,7 +48,11 @@ fn caller_of(rt: &(impl Abort + AllocGlobal), row: &str, words: &[u32]) -> Calle
 fn users(rt: HostRuntime) {
     for (row, words, groups, others) in &USERS {
         let caller = caller_of(&rt, row, words);
-        holds(&rt, row, caller.xid == 9 && caller.peer == PeerAddress::NONE);
+        holds(
+            &rt,
+            row,
+            caller.xid == 9 && caller.peer == PeerAddress::NONE,
+        );
         let user = caller.credential;
         holds(&rt, row, user.uid == 1000 && user.gid == 100);
         for group in *groups {

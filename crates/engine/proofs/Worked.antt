@@ -68,7 +68,8 @@ RoomyStays = (volumes : ℕ) (server : Server) (asked : Asked) (moment : Moment)
 
 abbrev pub RepliesFit : Type 0
 RepliesFit = (form : HandleForm) (volumes : ℕ) (server : Server) (call : types.Call) (caller : Caller) (moment : Moment) (starved : Bool) (xid : ℕ)
-    → IsRoomy volumes server → length (replies.reply_record xid (reply_told form (serial server (Ask call caller) moment starved).reply)) ≤ reply_room volumes call
+    → IsRoomy volumes server
+    → length (replies.reply_record xid (reply_told form (serial server (Ask call caller) moment starved).reply)) ≤ reply_room volumes call
 
 module _ (stays : RoomyStays) (volumes : ℕ) where
   roomy-after : (es : List FinishedCall) (server : Server) → IsRoomy volumes server → IsRoomy volumes (server_after server es)

@@ -252,7 +252,8 @@ module _ (offer : Offer) where
   garbage_again : (bytes : List ℕ) (xid : ℕ) → IsBytes bytes → HasGarbageBy offer bytes xid → heard_by offer bytes ≡ refused xid model.GarbageArguments
   garbage_again bytes xid fits g =
       at_arguments bytes xid g.procedure g.who g.arguments _ g.head
-      (garbage_by g.procedure g.arguments (caller_by xid g.who) (call_bytes bytes xid g.procedure g.who g.arguments fits g.head) g.none (asked g.procedure g.arguments) refl)
+      (garbage_by g.procedure g.arguments (caller_by xid g.who) (call_bytes bytes xid g.procedure g.who g.arguments fits g.head) g.none
+      (asked g.procedure g.arguments) refl)
 
   asking_again : (bytes : List ℕ) (xid : ℕ) (call : model.Call) (caller : model.Caller) → IsAskingBy offer bytes xid call caller
       → heard_by offer bytes ≡ Ok (record { xid = xid; asked = model.Ask call caller })

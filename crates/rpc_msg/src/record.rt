@@ -93,10 +93,7 @@ fn hear_request(request: &mut Request, form: HandleForm)
         → Tells xid request.old told → Tells xid request.new (told_heard form told) }
 {
     match request {
-        Request::Call {
-            call,
-            caller: _,
-        } => hear(call, form),
+        Request::Call { call, caller: _ } => hear(call, form),
         Request::Refused(_) | Request::Undecoded => {}
     }
 }

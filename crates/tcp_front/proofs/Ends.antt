@@ -15,6 +15,7 @@ use Rattle.tcp_front.specs.declared.stream.Stopped.{Stopped}
 use Rattle.tcp_front.specs.declared.stream.Stopped.TheVariants as stops
 use Rattle.tcp_front.specs.Arrivals.{Arrival, arrivals}
 use Rattle.tcp_front.specs.Peers.{sender_of}
+use Rattle.engine_feed.specs.Streams.{scan_stream}
 use Rattle.tcp_front.specs.Counts.{device_of, HasFailed, HasNotFailed}
 use Rattle.tcp_front.specs.Reading.{HasRead, AreAll}
 use Rattle.tcp_front.specs.Steps.{HasTaken, end_of, opened}
@@ -36,6 +37,16 @@ module _ {R S : Type 0} (remaining : R → Option (List ℕ)) (came : S → List
     consumed = Consumes-nil (remaining (device_of reader));
     taken = taken-none came layout offer (opened alloc connection peer) sink (none sink) (omega arith);
     same = refl;
+  }
+
+  -- without memory for a block nothing is
+  pub no-block : ((s : S) → came s [] s) → HasRead remaining came layout offer connection.0 (sender_of peer) reader sink ends.NoMemory reader sink
+  no-block none = record {
+    read = [];
+    heard = [];
+    consumed = Consumes-nil (remaining (device_of reader));
+    given = none sink;
+    ends = (((scan_stream offer []).served, refl), refl);
   }
 
   module _ (reader' : Counted R) (stream : Stream) (sink' : S) (so : SoFar reader' stream sink') where

@@ -42,7 +42,8 @@ fn caller_at(peer: Peer, caller: Caller) -> Caller
     }
 }
 
-/// What a call of a peer asks, from there: that the server stops is refused but of a privileged one.
+/// What a call of a peer asks, from there: that the server stops is refused but of a privileged
+/// one.
 fn from_peer(peer: Peer, call: Call, caller: Caller) -> Request
     ensures { asked_of result
         ≡ asked_from (sender_of peer) (asked_of (requests.Call call caller)) }

@@ -59,7 +59,8 @@ same_heard P made h e p =
     subst (λ (h : Heard). P h.asked) same p
 
 decoded : (form : HandleForm) (head : Head) (h : Heard) → heard_from form head ≡ Ok h → IsDecoded h.asked
-decoded form (Call xid procedure credential arguments) h e = same_heard IsDecoded _ h e (asks_decoded form (caller_by xid credential) (asked procedure arguments))
+decoded form (Call xid procedure credential arguments) h e =
+    same_heard IsDecoded _ h e (asks_decoded form (caller_by xid credential) (asked procedure arguments))
 decoded form (Refused xid reply) h e = same_heard IsDecoded _ h e tt
 decoded form (Faulty number) h e = absurd cc
 

@@ -114,7 +114,8 @@ asked_refuses form caller (Ok call) = tt
 asked_refuses form caller (Err fault) = tt
 
 heard_refuses : (form : HandleForm) (head : Head) (h : Heard) → HeadIsSound head → heard_from form head ≡ Ok h → AskedRefuses h.asked
-heard_refuses form (Call xid procedure credential arguments) h s e = same_heard AskedRefuses _ h e (asked_refuses form (caller_by xid credential) (asked procedure arguments))
+heard_refuses form (Call xid procedure credential arguments) h s e =
+    same_heard AskedRefuses _ h e (asked_refuses form (caller_by xid credential) (asked procedure arguments))
 heard_refuses form (Refused xid reply) h s e = same_heard AskedRefuses _ h e s
 heard_refuses form (Faulty number) h s e = absurd cc
 
