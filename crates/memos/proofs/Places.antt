@@ -1,6 +1,6 @@
 -- What is told of a place, and what is kept there.
-use Rattle.std.proofs.Common.{◌≡◌, ℕ, zero, suc, ◌<◌, ◌&&◌, Bool, true, false, cond, List, ◌∷◌, length, replicate, slice_index_or, slice_set, Option, Some, None}
-use Rattle.std.proofs.Common.{if◌then◌else◌, option_map, is_some, refl, sym, ap, ◌∙◌}
+use Rattle.std.proofs.Common.{◌≡◌, ℕ, zero, suc, ◌<◌, ◌&&◌, Bool, true, false, cond, if◌then◌else◌, List, ◌∷◌, length, replicate}
+use Rattle.std.proofs.Common.{slice_index_or, slice_set, Option, Some, None, option_map, is_some, refl, sym, ap, ◌∙◌}
 use Rattle.std.proofs.lemmas.List.{get_or-map, length-map, map-set}
 use Rattle.nfs_model.specs.Types.{Moment, Caller, Call, Answer}
 use Rattle.nfs_model.specs.Memo.{Change, Told, Memo}

@@ -141,8 +141,8 @@ impl KeptChange {
 
     /// Whether it is a RENAME with these arguments.
     fn is_renaming(&self, from: &Target, to: &Target) -> bool
-        ensures { result ≡ asks (change_kept self.now)
-            (change_of (model.Rename from.now.directory from.now.name to.now.directory to.now.name)) }
+        ensures { result ≡ asks (change_kept self.now) (change_of (model.Rename
+            from.now.directory from.now.name to.now.directory to.now.name)) }
     {
         match &self.asked {
             Asked::Rename => self.first.is_of(from) && self.second.is_of(to),

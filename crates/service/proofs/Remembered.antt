@@ -1,6 +1,7 @@
 -- A call that is done once, from what it comes to where nothing is remembered.
 use Rattle.std.proofs.Common.{◌≡◌, ℕ, ◌+◌, arith, Bool, true, false, cond, List, [], Option, Some, None, refl, sym, ap, ◌∙◌, subst}
 use Rattle.std.specs.Prelude.{IsTrue}
+use Rattle.std.specs.Option.{option_map}
 use Rattle.nfs_model.specs.Types as types
 use Rattle.nfs_model.specs.Types.{Caller, Moment, Answer, Success}
 use Rattle.nfs_model.specs.Memo.{Change, Told, Memo}
@@ -14,13 +15,14 @@ use Rattle.nfs_model.specs.Serial.Starve.{takes_memory}
 use Rattle.nfs_model.specs.Serial.Once.{change_of, told_of, told_before, told_among, answer_told, memos_with, memos_after, remembered, or_told, once}
 use Rattle.nfs_model.specs.Work.{Outcome, Replied, Starved, Moved}
 use Rattle.filer_state.specs.state.Calls.{VolumeCall, WorksOn, answer_on, answer_of, volume_left, move_of_located}
+use Rattle.nfs_model.specs.volume.Logical.{LogicalValue}
 use Rattle.filer_state.specs.attributes.lemmas.Setattr.{emptied-none}
 use Rattle.filer_state.specs.laws.lemmas.Steps.{sound-later}
 use Rattle.filer_state.specs.state.Contents.{VolumeContents}
 use Rattle.filer_state.specs.state.Lenses.{LogicalSet, logical_lens}
 use Rattle.filer_state.specs.state.Names.{IsLogical}
 use Rattle.filer_state.specs.state.Partition.{stored, times_in_hand}
-use Rattle.filer_state.specs.state.Running.{RunsOn}
+use Rattle.filer_state.specs.state.Running.{RunsOn, UnlessReplied}
 use Rattle.filer_state.specs.state.Sound.{IsSound, IsYoung}
 use Rattle.filer_state.specs.state.Tree.{volume_of}
 use Rattle.filer_state.specs.state.WellFormed.{WellFormed, StripeFits}
@@ -241,3 +243,39 @@ module _ (layout : Layout) (named : Named) (caller : Caller) (moment : Moment) (
       let r = right p hands hands' made has numbered sound moved in
       let no : reply ≡ Success (answer_on plain p) = r.0.1.0 in
       absurd cc
+
+  -- ---- by what the places gave
+
+  told-of : (o : Option Told) (a : Answer) → Some a ≡ option_map (answer_told named.volume) o
+      → (told : Told) × (o ≡ Some told) × (a ≡ answer_told named.volume told)
+  told-of None a e = absurd cc
+  told-of (Some told) a e = (told, refl, same e)
+    where
+      same : Some a ≡ Some (answer_told named.volume told) → a ≡ answer_told named.volume told
+      same f = cc
+
+  -- an answer was there
+  pub again-runs : (old : LogicalSet) (a : Answer)
+      → Some a ≡ option_map (answer_told named.volume) (told_before old.own.memos caller call moment)
+      → RunsOn named.volume logical_lens whole old (Replied (Success a)) old
+  again-runs old a e =
+      let t = told-of (told_before old.own.memos caller call moment) a e in
+      subst (λ (b : Answer). RunsOn named.volume logical_lens whole old (Replied (Success b)) old) (sym t.2) (told-runs old t.0 t.1)
+
+  none-there : (o : Option Told) → None ≡ option_map (answer_told named.volume) o → o ≡ None
+  none-there None e = refl
+  none-there (Some told) e = absurd cc
+
+  -- none was there
+  pub first-runs : (old new : LogicalSet) (outcome : Outcome)
+      → None ≡ option_map (answer_told named.volume) (told_before old.own.memos caller call moment)
+      → RunsOn named.volume logical_lens plain old outcome new
+      → RunsOn named.volume logical_lens whole old outcome (record new { own = remembering caller call moment outcome new.own })
+  first-runs old new outcome e = done-runs old new outcome (none-there (told_before old.own.memos caller call moment) e)
+
+  -- but for a reply nothing more has changed
+  pub unless-remembered : {H : Type 0} (outcome : Outcome) (held : LogicalValue → H) (own : LogicalValue) (old : H)
+      → UnlessReplied outcome (held own ≡ old) → UnlessReplied outcome (held (remembering caller call moment outcome own) ≡ old)
+  unless-remembered (Replied reply) held own old a = tt
+  unless-remembered Starved held own old a = a
+  unless-remembered (Moved node) held own old a = a

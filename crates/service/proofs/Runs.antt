@@ -77,6 +77,19 @@ writing-runs layout v lens node fileid call handle offset count bytes written ca
     (subst (λ (o : works.Outcome). RunsOn v lens (write_call handle node fileid (asked_to_write offset count bytes moment)) old o new) (sym comes)
     (subst (λ (bs : List ℕ). RunsOn v lens (write_call handle node fileid (asked_to_write offset count bs moment)) old told new) same right))
 
+-- the same under Logical, as where nothing is remembered
+pub writing-effect : (layout : Layout) (named : Named) (call : codes.Call) (handle : List ℕ) (offset count : ℕ) (bytes written : List ℕ)
+    (caller : Caller) (moment : Moment) (old new : LogicalSet) (outcome told : works.Outcome) → call_of call ≡ types.Write handle offset count bytes
+    → written ≡ bytes → outcome ≡ told
+    → RunsOn named.volume logical_lens (write_call handle (Logical named.volume) named.fileid (asked_to_write offset count written moment)) old told new
+    → RunsOn named.volume logical_lens (effect_named layout named caller moment (call_of call)) old outcome new
+writing-effect layout named call handle offset count bytes written caller moment old new outcome told is same comes right =
+    let v = named.volume in
+    let asks = λ (bs : List ℕ). write_call handle (Logical v) named.fileid (asked_to_write offset count bs moment) in
+    subst (λ (c : Call). RunsOn v logical_lens (effect_named layout named caller moment c) old outcome new) (sym is)
+    (subst (λ (o : works.Outcome). RunsOn v logical_lens (asks bytes) old o new) (sym comes)
+    (subst (λ (bs : List ℕ). RunsOn v logical_lens (asks bs) old told new) same right))
+
 -- FSSTAT of what a call names is run as the call
 pub filesystem-status-runs : (layout : Layout) (v : ℕ) (fileid : ℕ) (call : codes.Call) (handle : List ℕ) (caller : Caller) (moment : Moment)
     (old : VolumeSet) (told : Result FilesystemStatusResults Status) → call_of call ≡ types.Fsstat handle → TellsFilesystemStatus v fileid old told

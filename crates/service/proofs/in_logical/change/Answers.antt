@@ -20,7 +20,7 @@ use Rattle.filer_state.specs.state.Sets.{logical_before, logical_after}
 use Rattle.service.specs.renames.NamePromises.{Creates, MakesDirectory, Removes, RemovesDirectory}
 use Rattle.service_data.specs.Writing.{written_outcome}
 use Rattle.service.specs.Running.{effect_named, outcome_of, RunsThere}
-use Rattle.service.proofs.Runs.{served-runs, writing-runs, unless-written}
+use Rattle.service.proofs.Runs.{served-runs, writing-effect, unless-written}
 use Rattle.service.proofs.in_logical.change.Goals as goal
 
 pub returns-in-SetAttributes-clause-runs : goal.returns-in-SetAttributes-clause-runs
@@ -45,10 +45,10 @@ returns-in-Write-clause-runs c =
     let n = named_of c.args.named in
     let asked = c.in-Write in
     let told = c.write_in_logical-told in
-    writing-runs (layout_of c.args.layout.now) n.volume logical_lens (Logical n.volume) n.fileid c.args.run.call.now asked.handle asked.offset asked.count
-    asked.bytes c.as_slice-written.result.now (caller_of c.args.run.caller) (moment_of c.args.run.moment) (logical_before c.args.held.now)
-    (logical_after c.args.held.now told.new.held) (outcome_of c.outcome_written.result) (written_outcome n.volume told.result) (ap call_of asked.is)
-    c.as_slice-written.ensures c.outcome_written.ensures (told.ensures.right n.volume asked.handle)
+    writing-effect (layout_of c.args.layout.now) n c.args.run.call.now asked.handle asked.offset asked.count asked.bytes c.as_slice-written.result.now
+    (caller_of c.args.run.caller) (moment_of c.args.run.moment) (logical_before c.args.held.now) (logical_after c.args.held.now told.new.held)
+    (outcome_of c.outcome_written.result) (written_outcome n.volume told.result) (ap call_of asked.is) c.as_slice-written.ensures
+    c.outcome_written.ensures (told.ensures.right n.volume asked.handle)
 
 pub returns-in-Write-clause-moved : goal.returns-in-Write-clause-moved
 returns-in-Write-clause-moved c =
