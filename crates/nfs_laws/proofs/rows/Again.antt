@@ -540,7 +540,7 @@ create_again_in_the_second_volume :
     serial (second_with (in_first (record made_b { change = Creates (handle_bytes 1 1) b (Guarded no_attributes) })))
     (Ask (Create (handle_bytes 1 1) b (Guarded no_attributes)) ann) (at 3) false
     ≡ stay (second_with (in_first (record made_b { change = Creates (handle_bytes 1 1) b (Guarded no_attributes) })))
-      (MadeDone (handle_bytes 1 3) (ann_file 3) (root_changed 2 2))
+    (MadeDone (handle_bytes 1 3) (ann_file 3) (root_changed 2 2))
 create_again_in_the_second_volume = refl
 
 create_is_remembered_in_the_second_volume :
