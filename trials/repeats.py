@@ -169,8 +169,9 @@ class Place:
         # no two are of one name
         client.places = getattr(client, "places", 0) + 1
         root = opaque(client.service.handle(volume))
-        self.home = self.make(MKDIR, root, b"home%d" % client.places)[0]
-        self.other = self.make(MKDIR, root, b"other%d" % client.places)[0]
+        self.name = b"home%d-%d" % (client.peer.getsockname()[1], client.places)
+        self.home = self.make(MKDIR, root, self.name)[0]
+        self.other = self.make(MKDIR, root, b"other " + self.name)[0]
         self.part = {"directory": self.home, "target": self.home, "name": b"old", "to": b"new"}
         if procedure in (CREATE, MKDIR):
             self.part |= {"name": b"new", "how": GUARDED, "to_set": to_set(0o644), "verifier": b"verifier"}
