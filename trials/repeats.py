@@ -6,7 +6,7 @@ import socket
 from collections import namedtuple
 
 import results
-from peers import NFS, SECONDS, VERSIONS, Differs, hold, reset
+from peers import NFS, SECONDS, VERSIONS, hold, reset
 from results import CREATE, MKDIR, REMOVE, RENAME, RMDIR, SETATTR
 from xdr import Reader, hyper, opaque, words
 
