@@ -71,7 +71,7 @@ class Caller:
     def __init__(self, address, host="127.0.0.1", port=None):
         self.address, self.host = address, host
         # the port stays this client's between its connections
-        self.keeper = socket.socket()
+        self.keeper = self.socket()
         for candidate in PORTS if port is None else (port,):
             try:
                 self.keeper.bind((host, candidate))
@@ -81,8 +81,11 @@ class Caller:
         self.keeper.setsockopt(socket.SOL_SOCKET, socket.SO_REUSEADDR, 1)
         self.port = self.keeper.getsockname()[1]
 
+    def socket(self):
+        return socket.socket(socket.AF_INET6 if ":" in self.host else socket.AF_INET)
+
     def connect(self):
-        peer = socket.socket()
+        peer = self.socket()
         peer.settimeout(SECONDS)
         peer.setsockopt(socket.SOL_SOCKET, socket.SO_REUSEADDR, 1)
         peer.setsockopt(socket.IPPROTO_TCP, socket.TCP_NODELAY, 1)
