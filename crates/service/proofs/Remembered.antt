@@ -189,13 +189,9 @@ module _ (layout : Layout) (named : Named) (caller : Caller) (moment : Moment) (
       × IsSound (logical_lens.put s p) hands' (made + 1)) has (
         (
           not-moved call whole p is,
-          (
-            ap (λ (a : Answer). Success a) (sym answer),
-            (
-              sym (ap (volume_left v) comes),
-              says-nothing call (Logical named.volume) (stored p) is,
-            ),
-          ),
+          ap (λ (a : Answer). Success a) (sym answer),
+          sym (ap (volume_left v) comes),
+          says-nothing call (Logical named.volume) (stored p) is,
         ),
         sound-later p hands hands' made (λ n. let f = moved (times_in_hand p.number n) in omega (arith, f)) sound,
       )
@@ -211,11 +207,9 @@ module _ (layout : Layout) (named : Named) (caller : Caller) (moment : Moment) (
       ap (λ (s : LogicalSet). told_before s.own.memos caller call moment) has ∙ e in (
         (
           r.0.0,
-          (
-            (λ server there. subst (λ (a : Answer). IsTrue (takes_memory server call a))
-                (sym (answer-by (absent_parts call) (volume_of p) (is_done_once call) none)) (r.0.1.0 server there)),
-            r.0.1.1,
-          ),
+          (λ server there. subst (λ (a : Answer). IsTrue (takes_memory server call a))
+              (sym (answer-by (absent_parts call) (volume_of p) (is_done_once call) none)) (r.0.1 server there)),
+          r.0.2,
         ),
         r.1,
       )
@@ -225,23 +219,19 @@ module _ (layout : Layout) (named : Named) (caller : Caller) (moment : Moment) (
       let absent = absent_parts call in
       let none : told_before v.memos caller call moment ≡ None =
       ap (λ (s : LogicalSet). told_before s.own.memos caller call moment) has ∙ e in
-      let same : answer ≡ answer_of absent (on_it v) = answer-in answer (answer_of absent (on_it v)) r.0.1.0 in
+      let same : answer ≡ answer_of absent (on_it v) = answer-in answer (answer_of absent (on_it v)) r.0.1 in
       let memos = memos_after new.own.memos caller call moment answer in (
         (
           r.0.0,
-          (
-            ap (λ (a : Answer). Success a) (same ∙ sym (answer-by absent v (is_done_once call) none)),
-            (
-              ap (kept answer) r.0.1.1.0 ∙ ap (λ (a : Answer). kept a (volume_left v (on_it v))) same ∙ left-so absent v (is_done_once call) refl none,
-              parts-stay call (Logical named.volume) (stored p) (logical_lens.put new p) memos r.0.1.1.1,
-            ),
-          ),
+          ap (λ (a : Answer). Success a) (same ∙ sym (answer-by absent v (is_done_once call) none)),
+          ap (kept answer) r.0.2 ∙ ap (λ (a : Answer). kept a (volume_left v (on_it v))) same ∙ left-so absent v (is_done_once call) refl none,
+          parts-stay call (Logical named.volume) (stored p) (logical_lens.put new p) memos r.0.3,
         ),
         stays-sound (logical_lens.put new p) memos hands' (made + 1) r.1,
       )
   done-runs old new (Replied reply) e right = λ p hands hands' made has numbered sound moved.
       let r = right p hands hands' made has numbered sound moved in
-      let no : reply ≡ Success (answer_on plain p) = r.0.1.0 in
+      let no : reply ≡ Success (answer_on plain p) = r.0.1 in
       absurd cc
 
   -- ---- by what the places gave

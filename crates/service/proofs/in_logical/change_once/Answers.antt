@@ -1,4 +1,5 @@
-use Rattle.std.proofs.Common.{◌≡◌, sym, subst}
+use Rattle.std.proofs.Common.{◌≡◌, ap, ◌∙◌, sym, subst}
+use Rattle.std.specs.Option.{option_map}
 use Rattle.affinity.specs.Layout.{layout_of}
 use Rattle.nfs_model.specs.volume.Logical.{LogicalValue}
 use Rattle.nfs_values.specs.Answer.{answer_of}
@@ -30,7 +31,8 @@ returns-clause-runs c =
     let outcome = outcome_of c.change-outcome.result in
     subst (λ (o : LogicalValue). RunsOn n.volume logical_lens (call_named L n caller moment call) old outcome (record new { own = o }))
     (sym c.remember.ensures)
-    (first-runs L n caller moment call old new outcome c.in_default.ensures c.change-outcome.ensures.runs)
+    (first-runs L n caller moment call old new outcome (sym (ap (option_map answer_of) c.in_default.is) ∙ c.told_before.ensures)
+    c.change-outcome.ensures.runs)
 
 pub returns-clause-moved : goal.returns-clause-moved
 returns-clause-moved c =
