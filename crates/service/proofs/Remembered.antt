@@ -14,7 +14,7 @@ use Rattle.nfs_model.specs.Serial.Absent.{absent_parts}
 use Rattle.nfs_model.specs.Serial.Starve.{takes_memory}
 use Rattle.nfs_model.specs.Serial.Once.{change_of, told_of, told_before, told_among, answer_told, memos_with, memos_after, remembered, or_told, once}
 use Rattle.nfs_model.specs.Work.{Outcome, Replied, Starved, Moved}
-use Rattle.filer_state.specs.state.Calls.{VolumeCall, WorksOn, answer_on, answer_of, volume_left, move_of_located}
+use Rattle.filer_state.specs.state.Calls.{VolumeCall, WorksOn, answer_on, answer_of, volume_left, move_of_located, move_on}
 use Rattle.nfs_model.specs.volume.Logical.{LogicalValue}
 use Rattle.filer_state.specs.attributes.lemmas.Setattr.{emptied-none}
 use Rattle.filer_state.specs.laws.lemmas.Steps.{sound-later}
@@ -87,6 +87,13 @@ not-kept call e = refl
 not-moved : (call : types.Call) (c : VolumeCall) (p : VolumeContents) → is_done_once call ≡ true → move_of_located call c p ≡ None
 not-moved (types.Write handle offset count written) c p e = absurd cc
 not-moved call c p e = refl
+
+-- where a call moves doesn't go by what it does
+alike-moved : (call asked : types.Call) (node : Affinity) (fileid : ℕ) (f g : VolumeState → Effect) (p : VolumeContents)
+    → move_of_located call (record { call = asked; node = node; fileid = fileid; run = f }) p
+    ≡ move_of_located call (record { call = asked; node = node; fileid = fileid; run = g }) p
+alike-moved (types.Write handle offset count written) asked node fileid f g p = refl
+alike-moved call asked node fileid f g p = refl
 
 -- where such a call leaves all as it is, no block moves
 says-nothing : (call : types.Call) (node : Affinity) (s : Stored) → is_done_once call ≡ true → PartsChange call node s s
@@ -196,17 +203,23 @@ module _ (layout : Layout) (named : Named) (caller : Caller) (moment : Moment) (
         sound-later p hands hands' made (λ n. let f = moved (times_in_hand p.number n) in omega (arith, f)) sound,
       )
 
+  same-move : (p : VolumeContents) → move_on whole p ≡ move_on plain p
+  same-move p =
+      alike-moved call call (Logical named.volume) named.fileid (λ volume. done (is_done_once call) volume) on_it p
+
   -- what wasn't is done, and remembered where it succeeded
   pub done-runs : (old new : LogicalSet) (outcome : Outcome) → told_before old.own.memos caller call moment ≡ None
       → RunsOn named.volume logical_lens plain old outcome new
       → RunsOn named.volume logical_lens whole old outcome (record new { own = remembering caller call moment outcome new.own })
-  done-runs old new (Moved node) e right = λ p hands hands' made has numbered sound moved. right p hands hands' made has numbered sound moved
+  done-runs old new (Moved node) e right = λ p hands hands' made has numbered sound moved.
+      let r = right p hands hands' made has numbered sound moved in
+      ((same-move p ∙ r.0.0, r.0.1), r.1)
   done-runs old new Starved e right = λ p hands hands' made has numbered sound moved.
       let r = right p hands hands' made has numbered sound moved in
       let none : told_before (volume_of p).memos caller call moment ≡ None =
       ap (λ (s : LogicalSet). told_before s.own.memos caller call moment) has ∙ e in (
         (
-          r.0.0,
+          same-move p ∙ r.0.0,
           (λ server there. subst (λ (a : Answer). IsTrue (takes_memory server call a))
               (sym (answer-by (absent_parts call) (volume_of p) (is_done_once call) none)) (r.0.1 server there)),
           r.0.2,
@@ -222,7 +235,7 @@ module _ (layout : Layout) (named : Named) (caller : Caller) (moment : Moment) (
       let same : answer ≡ answer_of absent (on_it v) = answer-in answer (answer_of absent (on_it v)) r.0.1 in
       let memos = memos_after new.own.memos caller call moment answer in (
         (
-          r.0.0,
+          same-move p ∙ r.0.0,
           ap (λ (a : Answer). Success a) (same ∙ sym (answer-by absent v (is_done_once call) none)),
           ap (kept answer) r.0.2 ∙ ap (λ (a : Answer). kept a (volume_left v (on_it v))) same ∙ left-so absent v (is_done_once call) refl none,
           parts-stay call (Logical named.volume) (stored p) (logical_lens.put new p) memos r.0.3,
