@@ -14,6 +14,7 @@ use Rattle.nfs_model.specs.Locate.{located_in, located_by, locate}
 use Rattle.nfs_model.specs.Serial.Absent.{absent_parts}
 use Rattle.nfs_model.specs.Serial.Mount.{parts_below}
 use Rattle.nfs_model.specs.Serial.MountBelow.{mount_below}
+use Rattle.nfs_model.specs.Serial.Once.{once}
 use Rattle.nfs_model.specs.Serial.Rename.{rename}
 use Rattle.nfs_model.specs.Serial.Step.{on, on_root, on_two, placed, serve, stay}
 use Rattle.nfs_model.specs.Parts.{Parts}
@@ -137,7 +138,8 @@ on-both layout a from from_name to to_name caller moment is tried =
     let to_id : ℕ = fileid_in (named_by layout to) in
     let from_home = at-logical (named_by layout from) a both.0 in
     let to_home = at-logical (named_by layout to) a both.1 in
-    let run = rename from_name to_name moment in record {
+    let call : types.Call = types.Rename from from_name to to_name in
+    let run = λ (volume : VolumeState) (fileid other : ℕ). once caller call moment volume (rename from_name to_name moment volume fileid other) in record {
       good = from_home.names;
       under = from_home.above;
       tried = tried;

@@ -17,5 +17,5 @@ returns c =
     c.largest_of.ensures.largest c.inodes_of.ensures.inodes c.steps_of.ensures c.range_blocks_of.ensures.blocks
     (moment_of c.begun_of.result) c.begun_of.ensures
     c.in_ok-new.field-0 c.new-directories.result _ c.new.result c.new-3.result c.in_ok-new-2.field-0 c.remembered_of.result c.remembered_of.ensures
-    c.in_ok-new-3.field-0 c.in_ok-new-3.ensures c.in_ok-new.ensures
+    c.in_ok-new-3.field-0 c.in_ok-new-3.ensures.memos c.in_ok-new.ensures
     c.new-directories.ensures c.new.ensures c.in_ok-insert.ensures.ok c.new-3.ensures c.in_ok-new-2.ensures) c.new-6.result c.new-6.ensures
