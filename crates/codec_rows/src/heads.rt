@@ -1,7 +1,7 @@
 //! Heads of calls. Whole heads with their replies, and those at fault, stand in `trials/worked`.
 
 use crate::bytes::{holds, spelled};
-use nfs_values::{Call, Caller, PeerAddress, Refusal};
+use nfs_values::{Call, Credential, Refusal};
 use rpc_msg::{Head, Offer, Request, Served, read_call, read_call_of, read_record};
 use std::mem;
 use std::process::Abort;
@@ -28,32 +28,26 @@ const USERS: [(&str, &[u32], &[u32], &[u32]); 2] = [
     ),
 ];
 
-/// Who makes a NULL call of xid 9.
-fn caller_of(rt: &(impl Abort + AllocGlobal), row: &str, words: &[u32]) -> Caller {
+/// Whose a NULL call of xid 9 is.
+fn user_of(rt: &(impl Abort + AllocGlobal), row: &str, words: &[u32]) -> Credential {
     let heard = read_record(rt.alloc(), spelled(rt, &[words]));
     let heard = heard.ok().expect(rt, row);
     holds(rt, row, heard.xid == 9);
-    let caller = match &heard.request {
+    let user = match &heard.request {
         Request::Call {
             call: Call::Null,
-            caller,
-        } => Some(*caller),
+            credential,
+        } => Some(*credential),
         _ => None,
     };
     mem::forget(heard);
-    caller.expect(rt, row)
+    user.expect(rt, row)
 }
 
 #[test]
 fn users(rt: HostRuntime) {
     for (row, words, groups, others) in &USERS {
-        let caller = caller_of(&rt, row, words);
-        holds(
-            &rt,
-            row,
-            caller.xid == 9 && caller.peer == PeerAddress::NONE,
-        );
-        let user = caller.credential;
+        let user = user_of(&rt, row, words);
         holds(&rt, row, user.uid == 1000 && user.gid == 100);
         for group in *groups {
             holds(&rt, row, user.gids.has(*group));

@@ -53,7 +53,7 @@ pub(crate) fn leave(calls: &mut CallsState, message: Message<Call>, moment: Mome
     let affinity = Some(message.affinity);
     let request = Request::Call {
         call: message.call,
-        caller: message.caller,
+        credential: message.credential,
     };
     keep_entry(calls, origin, request, affinity, moment, starved);
     calls.running -= 1;

@@ -13,5 +13,4 @@ logical_value l = record {
   directories = l.directories;
   stock = l.stock;
   dead = l.dead;
-  memos = l.memos;
 }

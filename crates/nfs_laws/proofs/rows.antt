@@ -17,4 +17,3 @@ mod Happening
 mod Beside
 mod Moving
 mod Answering
-mod Again

@@ -1,5 +1,4 @@
 pub mod Undisturbed
 pub mod Walk
 pub mod Sizes
-pub mod Repeated
 pub mod lemmas

@@ -1,6 +1,4 @@
 -- Lemmas that other crates cite.
 pub mod Evaluate
 pub mod Counting
-pub mod Effects
-pub mod Served
 pub mod Sizes

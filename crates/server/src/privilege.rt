@@ -1,7 +1,6 @@
-//! Who is at the other end of a connection.
+//! Which peers may stop a server.
 
-use nfs_values::PeerAddress;
-use server_options::{address_of, may_stop};
+use server_options::may_stop;
 use std::net::{SocketAddr, TcpStream};
 use tcp_front::Peer;
 
@@ -11,12 +10,5 @@ pub(crate) fn peer_of(stream: &TcpStream, address: Option<SocketAddr>) -> Peer {
         (Some(address), Ok(own)) => may_stop(&own.ip(), &address),
         _ => false,
     };
-    let address = match address {
-        Some(address) => address_of(&address),
-        None => PeerAddress::NONE,
-    };
-    Peer {
-        is_privileged,
-        address,
-    }
+    Peer { is_privileged }
 }

@@ -3,4 +3,3 @@ mod Runs
 mod Handed
 mod InHand
 mod Once
-mod Remembered

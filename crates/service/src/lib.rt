@@ -18,7 +18,6 @@ mod machine;
 mod named;
 mod outcome;
 mod renames;
-mod repeated;
 mod task;
 mod totals;
 mod works;

@@ -1,2 +1,0 @@
-pub mod Peers
-pub mod Places
