@@ -2,12 +2,15 @@
 
 The guest's 10.0.2.2 is this machine's 127.0.0.1, so that nothing leaves the machine and no port mapper is needed."""
 
+import functools
 import re
 import shutil
 import subprocess
 import threading
 import time
 from pathlib import Path
+
+from memory import scratch
 
 HERE = Path(__file__).resolve().parent
 EMULATOR = "qemu-system-x86_64"
@@ -30,9 +33,11 @@ class Unavailable(Exception):
 
 
 def names():
-    """The checks, in order."""
-    found = re.findall(r"^(\w+)\(\) \{", (HERE / "guest" / "checks").read_text(), re.MULTILINE)
-    return [name for name in found if name not in ("fail", "same", "equal", "refused", "bytes")]
+    """The checks that are made where none is named, in order."""
+    lines = (HERE / "guest" / "checks").read_text()
+    found = re.findall(r"^(\w+)\(\) \{", lines, re.MULTILINE)
+    others = re.search(r"^others='(.*)'$", lines, re.MULTILINE)[1].split("|")
+    return [name for name in found if name not in others]
 
 
 def run(command, folder, seconds):
@@ -82,8 +87,10 @@ def in_order(modules):
     return ordered
 
 
-def build(folder):
-    """Fetches kernel and busybox into a folder, and makes the guest's first file system: the paths of both."""
+@functools.cache
+def build():
+    """Fetches kernel and busybox, and makes the guest's first file system: the paths of both."""
+    folder = scratch()
     if not shutil.which(EMULATOR) or not shutil.which("cpio"):
         raise Unavailable(f"{EMULATOR} or cpio isn't there")
     for package in (kernel_package(), "busybox-static"):
@@ -132,10 +139,10 @@ def console(guest, seconds):
         guest.stdout.close()
 
 
-def try_server(server, folder, only=(), sizes=SMALL, seconds=GUEST_SECONDS):
+def try_server(server, _folder, only=(), sizes=SMALL, seconds=GUEST_SECONDS):
     """Puts the client through its checks, or only some: how many passed, and what failed. The server is started anew where the guest
     asks for it."""
-    kernel, image = build(folder)
+    kernel, image = build()
     wanted = only or names()
     begin, passed, failures, ended, last = time.monotonic(), [], [], False, ""
     for line in console(start(kernel, image, server.port, only, sizes), seconds):

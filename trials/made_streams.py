@@ -241,6 +241,11 @@ def calls(rng, service):
     )
 
 
+def sent_again(rng, service):
+    """Some calls, and the same ones once or twice more, as from a client that has no reply."""
+    return calls(rng, service) * rng.choice((2, 3))
+
+
 def with_bits_turned(rng, service):
     stream = bytearray(calls(rng, service))
     for _ in range(rng.choice((1, 1, 2, 8))):
@@ -291,6 +296,7 @@ def at_the_limit(rng, service):
 
 KINDS = {
     calls: 15,
+    sent_again: 5,
     with_bits_turned: 30,
     with_huge_words: 20,
     random_bytes: 12,

@@ -4,6 +4,7 @@ has to show of them."""
 import results
 from peers import hold
 from plain import ADMIN, MOUNT, NFS, VERSIONS, call_of
+from repeats import NAMES as DONE_ONCE
 from xdr import hyper, opaque, words
 
 NAMES = {
@@ -55,6 +56,10 @@ class Asked:
                 reply[28:32] == words(self.status),
                 f"{self.name} is answered with the status {reply[28:32].hex()}",
             )
+
+    def is_done_once(self):
+        """Whether it is told its first reply where it comes again: of those that are, each that succeeds."""
+        return self.program == NFS and self.procedure in DONE_ONCE and self.status == results.OK
 
     def is_shown(self, protocol, protocols, info, way):
         """Whether this is how a dissector shows the call or its reply, by the name of its

@@ -23,6 +23,7 @@ from owners import (
     look_at_root,
     null,
 )
+from repeats import NAMES
 from wire import ADMIN, Files
 
 # How long an answer, or the server's end, may take, in seconds.
@@ -242,25 +243,54 @@ class Trial:
         call.take(reader)
         return False
 
+    def is_remembered(self, call):
+        """Whether the reply to a call that was answered is told once more where it comes again."""
+        is_change = call.program == wire.NFS and call.procedure in NAMES
+        return self.way is EXPORT and is_change and call.status == wire.OK
+
+    def ask_again(self, answered):
+        """Sends calls again whose replies are remembered: on each connection that is open some
+        records, each with its reply. They are told these, whatever memory there is, unless the
+        connection ends for want of it; and nothing changes."""
+        answered = [(link, calls) for link, calls in answered if calls and link.is_open]
+        for link, calls in answered:
+            link.send(b"".join(calls))
+        ended = False
+        for link, calls in answered:
+            wanted = {reply[:4]: reply for reply in calls.values()}
+            while wanted and (record := link.receive()) is not None:
+                if wanted.pop(record[:4], None) != record:
+                    raise Wrong(f"a call that comes again is told {record.hex():.200}")
+            if wanted:
+                self.is_unanswered("a call that comes again")
+                ended = True
+        if ended:
+            self.look()
+
     def run(self, preferred, make_call):
         """Makes a call, and waits for its reply. Where it isn't answered, or not for want of
-        memory, nothing has changed, and the same call again succeeds."""
+        memory, nothing has changed, and the same call again, under its xid, succeeds. Once it is
+        answered it comes again."""
+        self.xid += 1
+        xid = self.xid
         while True:
             call = make_call()
             link = self.link(preferred)
-            self.xid += 1
-            link.send(call.record(self.xid))
+            link.send(call.record(xid))
             record = link.receive()
             if record is None:
                 self.is_unanswered(call.name)
-            elif not self.take(call, record, self.xid):
+            elif not self.take(call, record, xid):
+                if self.is_remembered(call):
+                    self.ask_again([(link, {call.record(xid): record})])
                 return
             self.look()
 
     def run_batch(self, batches):
         """Sends batches of calls, each on its connection, and waits for all replies. A
-        connection that ends has answered all calls before one, and none from it on."""
-        sent = []
+        connection that ends has answered all calls before one, and none from it on. Those that
+        were answered come again."""
+        sent, again = [], []
         for link, calls in batches:
             numbered = {}
             for call in calls:
@@ -271,7 +301,8 @@ class Trial:
             link.send(b"".join(call.record(xid) for xid, call in numbered.items()))
         is_strange = False
         for link, numbered in sent:
-            order = list(numbered)
+            order, answered = list(numbered), {}
+            again.append((link, answered))
             while numbered:
                 record = link.receive()
                 if record is None:
@@ -285,7 +316,12 @@ class Trial:
                 xid = wire.reply(record)[0]
                 if xid not in numbered:
                     raise Wrong("a reply to no call, or a second one")
-                is_strange |= self.take(numbered.pop(xid), record, xid)
+                call = numbered.pop(xid)
+                is_starved = self.take(call, record, xid)
+                is_strange |= is_starved
+                if not is_starved and self.is_remembered(call):
+                    answered[call.record(xid)] = record
+        self.ask_again(again)
         if is_strange:
             self.look()
 

@@ -2,7 +2,7 @@
 use Rattle.std.proofs.Common.{◌≡◌, ℕ, true, false, [], ◌∷◌, replicate, slice_index, Some, None, refl}
 use Rattle.nfs_model.specs.Tree.{Layout, VolumeLayout, Aggregate, Volume, Logical, Stripe, Range, range_blocks_of}
 use Rattle.affinity.specs.Fault.{fault_of, fault_without_sizes}
-use Rattle.affinity.specs.Largest.{begun_of, inodes_of, largest_of, steps_of}
+use Rattle.affinity.specs.Largest.{begun_of, inodes_of, largest_of, remembered_of, steps_of}
 use Rattle.affinity.specs.Tree.{is_above, parent_of}
 use Rattle.affinity.specs.Numbers.{node_count, number_of, parents}
 
@@ -16,6 +16,7 @@ volume_on aggregate ranges stripes = record {
   inodes = 65536;
   most_steps = 9;
   begun = record { seconds = 8; nanoseconds = 7 };
+  remembered = 6;
 }
 
 abbrev two_volumes : Layout
@@ -173,3 +174,9 @@ its_beginning = refl
 
 beginning_of_no_volume : begun_of (sized 1024 16 65536) 1 ≡ record { seconds = 0; nanoseconds = 0 }
 beginning_of_no_volume = refl
+
+its_replies : remembered_of (sized 1024 16 65536) 0 ≡ 6
+its_replies = refl
+
+replies_of_no_volume : remembered_of (sized 1024 16 65536) 1 ≡ 0
+replies_of_no_volume = refl

@@ -1,5 +1,5 @@
--- What a volume's layout says by its number: the size of its largest file, how many inodes and steps it has at most, and
--- when it began.
+-- What a volume's layout says by its number: the size of its largest file, how many inodes and steps it has at most, when
+-- it began, and how many replies it remembers.
 use Rattle.std.specs.Prelude.{ℕ, ◌*◌, Option, Some, None, slice_get}
 use Rattle.nfs_model.specs.Types.{Moment}
 use Rattle.nfs_model.specs.Server.{start_of_times}
@@ -44,3 +44,12 @@ begun_in (Some v) = v.begun
 -- the times of the root of a volume by its number
 abbrev pub begun_of : Layout → ℕ → Moment
 begun_of layout volume = begun_in (slice_get layout.volumes volume)
+
+-- the most replies that a volume remembers, if there is one
+abbrev pub remembered_in : Option VolumeLayout → ℕ
+remembered_in None = 0
+remembered_in (Some v) = v.remembered
+
+-- the most replies that a volume remembers by its number
+abbrev pub remembered_of : Layout → ℕ → ℕ
+remembered_of layout volume = remembered_in (slice_get layout.volumes volume)

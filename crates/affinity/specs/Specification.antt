@@ -11,9 +11,10 @@ use Rattle.affinity.specs.declared.specification.SizedVolumeSpec.{SizedVolumeSpe
 abbrev pub spare_of : AggregateSpec → ℕ
 spare_of a = a.spare
 
--- a volume with ranges of this many blocks, this many inodes and steps of a RENAME at most, and a root of this time
-abbrev pub volume_with : (range_blocks inodes most_steps : ℕ) → Moment → VolumeSpec → trees.VolumeLayout
-volume_with range_blocks inodes most_steps begun v = record {
+-- a volume with ranges of this many blocks, this many inodes and steps of a RENAME at most, a root of this time, and this many
+-- replies remembered
+abbrev pub volume_with : (range_blocks inodes most_steps : ℕ) → Moment → (remembered : ℕ) → VolumeSpec → trees.VolumeLayout
+volume_with range_blocks inodes most_steps begun remembered v = record {
   aggregate = v.aggregate;
   ranges = v.ranges;
   stripes = v.stripes;
@@ -22,16 +23,17 @@ volume_with range_blocks inodes most_steps begun v = record {
   inodes = inodes;
   most_steps = most_steps;
   begun = begun;
+  remembered = remembered;
 }
 
 -- a volume whose sizes aren't given: with ranges of 1,024 blocks, and 65,536 inodes at most; its steps are more than
--- these, and its root has the start of all times
+-- these, its root has the start of all times, and no reply is remembered
 abbrev pub volume_asked : VolumeSpec → trees.VolumeLayout
-volume_asked v = volume_with 1024 65536 4294967295 start_of_times v
+volume_asked v = volume_with 1024 65536 4294967295 start_of_times 0 v
 
 -- a volume with its sizes
 abbrev pub volume_sized : SizedVolumeSpec → trees.VolumeLayout
-volume_sized v = volume_with v.range_blocks v.inodes v.most_steps (moment_of v.begun) v.volume
+volume_sized v = volume_with v.range_blocks v.inodes v.most_steps (moment_of v.begun) v.remembered v.volume
 
 -- a volume of 8 stripes, with files of at most 16 mebibytes
 abbrev pub ordinary : ℕ → ℕ → trees.VolumeLayout

@@ -38,7 +38,7 @@ impl Layout {
     ghost use Rattle.nfs_model.specs.volume.Ranges.{IsRangeSize};
     ghost use Rattle.affinity.specs.Specification.{layout_in, spare_of, volume_sized};
     ghost use Rattle.affinity.specs.Fault.{fault_without_sizes, rule_broken};
-    ghost use Rattle.affinity.specs.Largest.{begun_of, inodes_of, largest_of, mebibytes_in};
+    ghost use Rattle.affinity.specs.Largest.{begun_of, inodes_of, largest_of, mebibytes_in, remembered_of};
     ghost use Rattle.affinity.specs.Largest.{steps_of};
     ghost use Rattle.nfs_values.specs.Moment.{moment_of};
     ghost use Rattle.affinity.specs.Layout.{layout_of};
@@ -212,6 +212,17 @@ impl Layout {
         match self.volume(volume) {
             Some(specification) => specification.begun,
             None => Moment::START,
+        }
+    }
+
+    /// The most replies of a volume that are remembered for calls that come again; none of a volume
+    /// that isn't there.
+    pub fn remembered_of(&self, volume: u32) -> u32
+        ensures { result ≡ remembered_of (layout_of self.now) volume }
+    {
+        match self.volume(volume) {
+            Some(specification) => specification.remembered,
+            None => 0,
         }
     }
 }

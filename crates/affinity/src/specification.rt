@@ -67,6 +67,8 @@ pub struct SizedVolumeSpec {
     pub most_steps: u32,
     /// The times of its root.
     pub begun: Moment,
+    /// How many replies are remembered at most, for calls that come again.
+    pub remembered: u32,
 }
 
 impl VolumeSpec {
@@ -83,7 +85,7 @@ impl VolumeSpec {
     }
 
     /// The volume with ranges of 1,024 blocks, 65,536 inodes at most, as many steps of a RENAME as
-    /// there may be, and a root that has the start of all times.
+    /// there may be, a root that has the start of all times, and no reply remembered.
     pub fn sized(self) -> SizedVolumeSpec
         ensures { volume_sized result ≡ volume_asked self }
     {
@@ -93,6 +95,7 @@ impl VolumeSpec {
             inodes: INODES,
             most_steps: STEPS,
             begun: Moment::START,
+            remembered: 0,
         }
     }
 }

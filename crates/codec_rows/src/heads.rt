@@ -1,7 +1,7 @@
 //! Heads of calls. Whole heads with their replies, and those at fault, stand in `trials/worked`.
 
 use crate::bytes::{holds, spelled};
-use nfs_values::{Call, Credential, Refusal};
+use nfs_values::{Call, Caller, PeerAddress, Refusal};
 use rpc_msg::{Head, Offer, Request, Served, read_call, read_call_of, read_record};
 use std::mem;
 use std::process::Abort;
@@ -28,26 +28,32 @@ const USERS: [(&str, &[u32], &[u32], &[u32]); 2] = [
     ),
 ];
 
-/// Whose a NULL call of xid 9 is.
-fn user_of(rt: &(impl Abort + AllocGlobal), row: &str, words: &[u32]) -> Credential {
+/// Who makes a NULL call of xid 9.
+fn caller_of(rt: &(impl Abort + AllocGlobal), row: &str, words: &[u32]) -> Caller {
     let heard = read_record(rt.alloc(), spelled(rt, &[words]));
     let heard = heard.ok().expect(rt, row);
     holds(rt, row, heard.xid == 9);
-    let user = match &heard.request {
+    let caller = match &heard.request {
         Request::Call {
             call: Call::Null,
-            credential,
-        } => Some(*credential),
+            caller,
+        } => Some(*caller),
         _ => None,
     };
     mem::forget(heard);
-    user.expect(rt, row)
+    caller.expect(rt, row)
 }
 
 #[test]
 fn users(rt: HostRuntime) {
     for (row, words, groups, others) in &USERS {
-        let user = user_of(&rt, row, words);
+        let caller = caller_of(&rt, row, words);
+        holds(
+            &rt,
+            row,
+            caller.xid == 9 && caller.peer == PeerAddress::NONE,
+        );
+        let user = caller.credential;
         holds(&rt, row, user.uid == 1000 && user.gid == 100);
         for group in *groups {
             holds(&rt, row, user.gids.has(*group));

@@ -1,7 +1,8 @@
 -- What contracts name of a connection.
-use Rattle.std.specs.Prelude.{ℕ, Bool, ⊤, ◌+◌, ◌-◌, ◌^◌, ◌==◌, List, Option, Some, None, length, min, max, if◌then◌else◌}
+use Rattle.std.specs.Prelude.{ℕ, ⊤, ◌+◌, ◌-◌, ◌^◌, ◌==◌, List, Option, Some, None, length, min, max, if◌then◌else◌}
 use Rattle.tcp_front.specs.declared.peer.Peer.{Peer}
 use Rattle.tcp_front.specs.declared.stream.Stopped.{Stopped}
+use Rattle.tcp_front.specs.Peers.{Sender, sender_of}
 use Rattle.connections.specs.declared.connection.Connection.{Connection}
 use Rattle.connections.specs.declared.connection.Flags.{Flags}
 use Rattle.connections.specs.declared.due.Due.{Due}
@@ -22,9 +23,9 @@ number_of c = c.stream.connection.0
 abbrev pub peer_of : {D : Type 0} → Connection D → Peer
 peer_of c = c.stream.peer
 
--- whether that may stop the server
-abbrev pub is_privileged : {D : Type 0} → Connection D → Bool
-is_privileged c = c.stream.peer.is_privileged
+-- who sends its records
+abbrev pub sender_at : {D : Type 0} → Connection D → Sender
+sender_at c = sender_of c.stream.peer
 
 -- how many records of it were given on
 abbrev pub records_of : {D : Type 0} → Connection D → ℕ

@@ -18,7 +18,7 @@ use Rattle.connections.specs.declared.reading.Came.TheVariants as cames
 use Rattle.connections.specs.declared.told.Told.TheVariants as tolds
 use Rattle.connections.specs.Incoming.{Incoming, Gives, IsAllRead}
 use Rattle.connections.specs.Told.{HasCalled}
-use Rattle.connections.specs.Connections.{is_privileged, kept_of, now_of, number_of, IsStopped}
+use Rattle.connections.specs.Connections.{sender_at, kept_of, now_of, number_of, IsStopped}
 use Rattle.connections.specs.Cutting.{HasCut}
 
 -- ---- from the first byte on
@@ -87,7 +87,7 @@ pub record HasRead {D S : Type 0} (unread : D → Incoming) (written : D → Opt
   pub heard : List Heard
   pub taken : Gives (unread (now_of old)) (unread (now_of new)) read
   pub apart : Keeps (written (now_of old)) (written (now_of new))
-  pub given : came sink (arrivals layout (number_of old) (is_privileged old) old.stream.records heard) sink'
+  pub given : came sink (arrivals layout (number_of old) (sender_at old) old.stream.records heard) sink'
   pub cuts : Cuts came room layout offer old.stopped old.stream sink (kept_of old) read heard new.stopped new.stream sink'
       (kept_of new)
   pub told : IsTold unread (room sink) size result old new

@@ -4,7 +4,7 @@ use Rattle.std.proofs.Common.{ap, ◌∙◌, subst, arith}
 use Rattle.std.specs.Prelude.{◌^◌, slice_get, slice_set}
 use mathlib.Core.Option.{some, some-injective}
 use Rattle.nfs_model.specs.Types as types
-use Rattle.nfs_model.specs.Types.{Moment, Asked, Ask, Credential}
+use Rattle.nfs_model.specs.Types.{Moment, Asked, Ask, Caller}
 use Rattle.nfs_model.specs.Tree.{Layout, Affinity}
 use Rattle.nfs_model.specs.Server.{Server, opening}
 use Rattle.nfs_model.specs.Parts.{Hand}
@@ -19,7 +19,7 @@ use Rattle.nfs_model.specs.Events.Step as steps
 use Rattle.nfs_model.specs.Events.Step.{worked}
 use Rattle.nfs_values.specs.declared.call.Call.{Call}
 use Rattle.nfs_values.specs.Call.{call_of}
-use Rattle.nfs_values.specs.Credential.{credential_of}
+use Rattle.nfs_values.specs.Caller.{caller_of}
 use Rattle.nfs_values.specs.Reply.{reply_of}
 use Rattle.affinity.specs.Affinity.{call_node}
 use Rattle.scheduler.specs.declared.message.Message.{Message}
@@ -67,8 +67,9 @@ RoomyStays = (volumes : ℕ) (server : Server) (asked : Asked) (moment : Moment)
     → IsRoomy volumes server → IsRoomy volumes (serial server asked moment starved).server
 
 abbrev pub RepliesFit : Type 0
-RepliesFit = (form : HandleForm) (volumes : ℕ) (server : Server) (call : types.Call) (who : Credential) (moment : Moment) (starved : Bool) (xid : ℕ)
-    → IsRoomy volumes server → length (replies.reply_record xid (reply_told form (serial server (Ask call who) moment starved).reply)) ≤ reply_room volumes call
+RepliesFit = (form : HandleForm) (volumes : ℕ) (server : Server) (call : types.Call) (caller : Caller) (moment : Moment) (starved : Bool) (xid : ℕ)
+    → IsRoomy volumes server
+    → length (replies.reply_record xid (reply_told form (serial server (Ask call caller) moment starved).reply)) ≤ reply_room volumes call
 
 module _ (stays : RoomyStays) (volumes : ℕ) where
   roomy-after : (es : List FinishedCall) (server : Server) → IsRoomy volumes server → IsRoomy volumes (server_after server es)
@@ -98,22 +99,22 @@ roomy-now begins stays setup w eight is =
 -- what a message came to may be told
 pub may-end : RepliesFit → (layout : Layout) (m : Message Call) → IsAdmitted layout m → (moment : Moment) (store after : Store)
     → IsRoomy (length layout.volumes) store.server → (o : Outcome)
-    → Works (record { asked = Ask (call_of m.call) (credential_of m.credential); affinity = call_node m.affinity; moment = moment }) store (outcome_of o)
+    → Works (record { asked = Ask (call_of m.call) (caller_of m.caller); affinity = call_node m.affinity; moment = moment }) store (outcome_of o)
     after
     → MovesOn layout m.call (outcome_of o) → MayEnd layout m o
 may-end fit layout m admitted moment store after roomy (Replied reply) works moves = λ form.
     let call = call_of m.call in
     let xid = m.origin.xid in
-    let same : reply_of reply ≡ (serial store.server (Ask call (credential_of m.credential)) moment false).reply = works.1 in
+    let same : reply_of reply ≡ (serial store.server (Ask call (caller_of m.caller)) moment false).reply = works.1 in
     let spelled = ap (λ bs. length bs) (reply_record_is xid (reply_told form (reply_of reply))) in
     let told = ap (λ x. length (replies.reply_record xid (reply_told form x))) same in
-    let fits = fit form (length layout.volumes) store.server call (credential_of m.credential) moment false xid roomy in
+    let fits = fit form (length layout.volumes) store.server call (caller_of m.caller) moment false xid roomy in
     let room = admitted.room in
     omega (arith, spelled, told, fits, room)
 may-end fit layout m admitted moment store after roomy Starved works moves = λ form.
     let xid = m.origin.xid in
     let spelled = ap (λ bs. length bs) (reply_record_is xid (reply_told form types.SystemError)) in
-    let fits = fit form (length layout.volumes) store.server (call_of m.call) (credential_of m.credential) moment true xid roomy in
+    let fits = fit form (length layout.volumes) store.server (call_of m.call) (caller_of m.caller) moment true xid roomy in
     let room = admitted.room in
     omega (arith, spelled, fits, room)
 may-end fit layout m admitted moment store after roomy (Moved a) works moves = moves
@@ -191,15 +192,15 @@ module _ {P C R : Type 0} (job : C → jobs.Job) (told : R → jobs.JobReply) (s
       }
 
   -- and what it comes to is what the message's serving does
-  pub has-worked : (call : Call) (credential : Credential) (moment : Moment) → r.message.asked ≡ Ask (call_of call) credential → r.moment ≡ moment
+  pub has-worked : (call : Call) (caller : Caller) (moment : Moment) → r.message.asked ≡ Ask (call_of call) caller → r.moment ≡ moment
       → (o : Outcome) (c : FilerBooks P C R)
-      → HasWorked (λ layout node before (x : Outcome) after. HasRun call credential moment layout node before x after) b i o c
+      → HasWorked (λ layout node before (x : Outcome) after. HasRun call caller moment layout node before x after) b i o c
       → HasWorked (Serving r) b i (outcome_of o) c
-  has-worked call credential moment asks on o c h = record {
+  has-worked call caller moment asks on o c h = record {
     lent = h.lent;
     is_lent = h.is_lent;
     parcels = h.parcels;
-    did = serves b.layout r h.lent.parcels h.parcels h.lent.affinity (Ask (call_of call) credential) moment (outcome_of o)
+    did = serves b.layout r h.lent.parcels h.parcels h.lent.affinity (Ask (call_of call) caller) moment (outcome_of o)
         (sym (lent-is h.lent h.is_lent).0) asks on h.did.0;
     books = h.books;
     now_is = h.now_is;

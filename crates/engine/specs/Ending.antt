@@ -13,7 +13,7 @@ use Rattle.scheduler.specs.declared.message.Message.{Message}
 use Rattle.service.specs.declared.job.Job.{Job}
 use Rattle.service.specs.declared.job.Job.TheVariants.{Serve}
 use Rattle.nfs_values.specs.declared.call.Call.{Call}
-use Rattle.nfs_values.specs.declared.credential.Credential.{Credential}
+use Rattle.nfs_values.specs.declared.caller.Caller.{Caller}
 use Rattle.service.specs.declared.job.ServedCall.{ServedCall}
 use Rattle.service.specs.declared.job.JobReply.{JobReply}
 use Rattle.service.specs.declared.job.JobReply.TheVariants.{Replied}
@@ -30,13 +30,13 @@ use Rattle.engine.specs.Seen.{connection_seen}
 
 -- ---- the entry
 
-abbrev pub served_made : Origin → Call → Credential → CallNode → Moment → Bool → ServedCall
-served_made origin call credential affinity moment starved = record {
+abbrev pub served_made : Origin → Call → Caller → CallNode → Moment → Bool → ServedCall
+served_made origin call caller affinity moment starved = record {
   connection = origin.connection;
   number = origin.number;
   xid = origin.xid;
   call = call;
-  credential = credential;
+  caller = caller;
   affinity = affinity;
   moment = moment;
   starved = starved;
@@ -44,7 +44,7 @@ served_made origin call credential affinity moment starved = record {
 
 abbrev pub job_made : Running → Bool → Job
 job_made r starved =
-    Serve (served_made r.message.origin r.message.call r.message.credential r.message.affinity r.moment starved)
+    Serve (served_made r.message.origin r.message.call r.message.caller r.message.affinity r.moment starved)
 
 abbrev pub answer_made : Reply → JobReply
 answer_made reply = Replied reply

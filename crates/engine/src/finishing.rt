@@ -25,7 +25,7 @@ use crate::worker::{Running, WorkerRun, set_run, take_run};
 use affinity::CallNode;
 use desk::{Desk, ParcelKinds};
 use engine_feed::{Calls, OpenConnection};
-use nfs_values::{Call, Credential, Moment, Reply};
+use nfs_values::{Call, Caller, Moment, Reply};
 use rpc_msg::tell;
 use scheduler::{Message, Origin};
 use service::{Outcome, ServedCall, Service};
@@ -35,12 +35,12 @@ use slab::Slab;
 fn served(
     origin: Origin,
     call: Call,
-    credential: Credential,
+    caller: Caller,
     affinity: CallNode,
     moment: Moment,
     starved: bool,
 ) -> ServedCall
-    ensures { result ≡ served_made origin call credential affinity moment starved }
+    ensures { result ≡ served_made origin call caller affinity moment starved }
 {
     let Origin {
         connection,
@@ -52,7 +52,7 @@ fn served(
         number,
         xid,
         call,
-        credential,
+        caller,
         affinity,
         moment,
         starved,
@@ -79,17 +79,17 @@ fn end_on(
     let Message {
         origin,
         call,
-        credential,
+        caller,
         affinity,
         room,
     } = message;
-    let served = served(origin, call, credential, affinity, moment, starved);
+    let served = served(origin, call, caller, affinity, moment, starved);
     enter(desk, worker, &served, reply);
     let ServedCall { call, .. } = served;
     let message = Message {
         origin,
         call,
-        credential,
+        caller,
         affinity,
         room,
     };

@@ -62,7 +62,7 @@ fn run_on(
     let call = Run {
         alloc,
         call: &running.message.call,
-        credential: running.message.credential,
+        caller: running.message.caller,
         moment: running.moment,
         ahead: None,
     };

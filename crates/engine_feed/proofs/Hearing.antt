@@ -13,7 +13,7 @@ use Rattle.nfs_model.specs.Serial.AtOnce.{answer_without_home}
 use Rattle.nfs_model.specs.Events.Feed.{admit}
 use Rattle.nfs_values.specs.declared.call.Call.{Call}
 use Rattle.nfs_values.specs.Call.{call_of}
-use Rattle.nfs_values.specs.Credential.{credential_of}
+use Rattle.nfs_values.specs.Caller.{caller_of}
 use Rattle.nfs_values.specs.Reply.{refusal_of}
 use Rattle.rpc_msg.specs.declared.handle_form.HandleForm.{HandleForm}
 use Rattle.rpc_msg.specs.declared.offer.Offer.{Offer}
@@ -40,7 +40,7 @@ use Rattle.engine_feed.proofs.Parts.{lists-same}
 -- ---- a call that waits
 
 pub waits : (offer : Offer) (calls calls' : CallsState) (c c' : ConnectionState) (m : Message Call) (asked : types.Asked) → Waits calls c m calls' c'
-    → types.Ask (call_of m.call) (credential_of m.credential) ≡ asked
+    → types.Ask (call_of m.call) (caller_of m.caller) ≡ asked
     → home_of_asked (layout_in calls) asked ≡ Some (call_node m.affinity)
     → HasHeard offer calls c m.origin asked false calls' c'
 waits offer calls calls' c c' m asked w a h setup v k p =
@@ -61,21 +61,21 @@ waits offer calls calls' c c' m asked w a h setup v k p =
 
 -- a call without a home affinity reads no state, as the law has it
 abbrev pub StaysWithoutHome : Type 0
-StaysWithoutHome = (layout : trees.Layout) (server : servers.Server) (credential : types.Credential) (moment : types.Moment) (call : types.Call)
+StaysWithoutHome = (layout : trees.Layout) (server : servers.Server) (caller : types.Caller) (moment : types.Moment) (call : types.Call)
     → length layout.volumes ≡ length server.volumes → home layout call ≡ None
-    → serve server call credential moment ≡ stay server (answer_without_home layout call)
+    → serve server call caller moment ≡ stay server (answer_without_home layout call)
 
 at-once : (offer : Offer) (calls calls' : CallsState) (c c' : ConnectionState) (origin : Origin) (call : types.Call)
-    (credential : types.Credential) (answer : types.Answer) (told : types.Reply) → StaysWithoutHome
+    (caller : types.Caller) (answer : types.Answer) (told : types.Reply) → StaysWithoutHome
     → home (layout_in calls) call ≡ None → answer ≡ answer_without_home (layout_in calls) call
     → told ≡ reply_told (form_of offer) (types.Success answer)
-    → Finishes calls c (entry_at origin (types.Ask call credential) None start_of_times false) told calls' c'
-    → HasHeard offer calls c origin (types.Ask call credential) false calls' c'
-at-once offer calls calls' c c' origin call credential answer told law h a is f setup v k p =
+    → Finishes calls c (entry_at origin (types.Ask call caller) None start_of_times false) told calls' c'
+    → HasHeard offer calls c origin (types.Ask call caller) false calls' c'
+at-once offer calls calls' c c' origin call caller answer told law h a is f setup v k p =
     let n = origin.connection.0 in
-    let asked : types.Asked = types.Ask call credential in
-    let stays : serve v.server call credential start_of_times ≡ stay v.server (answer_without_home (layout_in calls) call) =
-    law (layout_in calls) v.server credential start_of_times call (sym p.volumes) h in
+    let asked : types.Asked = types.Ask call caller in
+    let stays : serve v.server call caller start_of_times ≡ stay v.server (answer_without_home (layout_in calls) call) =
+    law (layout_in calls) v.server caller start_of_times call (sym p.volumes) h in
     let reply : types.Success answer ≡ (serial v.server asked start_of_times false).reply = ap (λ (x : types.Answer). types.Success x) a
     ∙ sym (ap (λ (t : Step). t.reply) stays) in
     let nowhere : home_of_asked setup.layout asked ≡ None = ap (λ (l : trees.Layout). home l call) k.layout ∙ h in
@@ -92,9 +92,9 @@ pub answered : (offer : Offer) (calls calls' : CallsState) (c c' : ConnectionSta
     → told ≡ reply_told (form_of offer) reply
     → Finishes calls c (entry_at origin (asked_of request) None start_of_times false) told calls' c'
     → HasHeard offer calls c origin (asked_of request) false calls' c'
-answered offer calls calls' c c' origin (requests.Call call credential) reply told law h e is f setup v k p =
+answered offer calls calls' c c' origin (requests.Call call caller) reply told law h e is f setup v k p =
     let answer : types.Answer = answer_without_home (layout_in calls) (call_of call) in
-    at-once offer calls calls' c c' origin (call_of call) (credential_of credential) answer told law h refl
+    at-once offer calls calls' c c' origin (call_of call) (caller_of caller) answer told law h refl
     (is ∙ ap (λ (r : types.Reply). reply_told (form_of offer) r) e) f setup v k p
 answered offer calls calls' c c' origin (requests.Refused refusal) reply told law h e is f setup v k p =
     let refused : types.Reply = refusal_of refusal in

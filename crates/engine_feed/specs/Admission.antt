@@ -11,7 +11,7 @@ use Rattle.engine_feed.specs.declared.admission.Admission.{Admission}
 
 -- the reply to a record for which no state is read
 abbrev pub reply_at_once : Layout → types.Asked → types.Reply
-reply_at_once layout (types.Ask call credential) = types.Success (answer_without_home layout call)
+reply_at_once layout (types.Ask call caller) = types.Success (answer_without_home layout call)
 reply_at_once layout (types.Refused reply) = reply
 reply_at_once layout types.Undecoded = types.SystemError
 

@@ -6,7 +6,7 @@ use Rattle.nfs_model.specs.Replay as replays
 use Rattle.nfs_model.specs.World as worlds
 use Rattle.nfs_values.specs.declared.call.Call.{Call}
 use Rattle.nfs_values.specs.Moment.{moment_of}
-use Rattle.nfs_values.specs.Credential.{credential_of}
+use Rattle.nfs_values.specs.Caller.{caller_of}
 use Rattle.nfs_values.specs.Call.{call_of}
 use Rattle.nfs_values.specs.Reply.{refusal_of}
 use Rattle.affinity.specs.Affinity.{call_node}
@@ -23,7 +23,7 @@ use Rattle.engine_feed.specs.declared.state.CallsState.{CallsState}
 -- ---- messages
 
 abbrev pub asked_of : Request → types.Asked
-asked_of (requests.Call call credential) = types.Ask (call_of call) (credential_of credential)
+asked_of (requests.Call call caller) = types.Ask (call_of call) (caller_of caller)
 asked_of (requests.Refused refusal) = types.Refused (refusal_of refusal)
 asked_of requests.Undecoded = types.Undecoded
 
@@ -36,7 +36,7 @@ message_of m =
       connection = m.origin.connection.0;
       number = m.origin.number;
       xid = m.origin.xid;
-      asked = types.Ask (call_of m.call) (credential_of m.credential);
+      asked = types.Ask (call_of m.call) (caller_of m.caller);
       affinity = call_node m.affinity;
     }
 
@@ -68,7 +68,7 @@ entry_at origin asked affinity moment starved =
 -- a message as it is finished
 abbrev pub finished_message : Message Call → types.Moment → Bool → replays.FinishedCall
 finished_message m moment starved =
-    entry_at m.origin (types.Ask (call_of m.call) (credential_of m.credential)) (Some (call_node m.affinity)) moment starved
+    entry_at m.origin (types.Ask (call_of m.call) (caller_of m.caller)) (Some (call_node m.affinity)) moment starved
 
 -- ---- connections
 

@@ -56,10 +56,7 @@ pub fn reply_at_once(alloc: Global, layout: &Layout, request: &Request) -> Reply
     replies_fit();
     refusals_fit();
     match request {
-        Request::Call {
-            call,
-            credential: _,
-        } => Reply::Success(answer_at_once(alloc, call, layout)),
+        Request::Call { call, caller: _ } => Reply::Success(answer_at_once(alloc, call, layout)),
         Request::Refused(refusal) => Reply::Refused(*refusal),
         Request::Undecoded => Reply::Refused(Refusal::SystemError),
     }

@@ -121,19 +121,19 @@ pub(crate) fn admit(
     ensures keeps { Keeps calls.old connection.old origin.connection.0 calls.new connection.new }
 {
     match request {
-        Request::Call { call, credential } => match admission_of(&calls.layout, &call) {
+        Request::Call { call, caller } => match admission_of(&calls.layout, &call) {
             Some(Admission { affinity, room }) => {
                 let message = Message {
                     origin,
                     call,
-                    credential,
+                    caller,
                     affinity,
                     room,
                 };
                 wait(connection, calls, message);
             }
             None => {
-                let request = Request::Call { call, credential };
+                let request = Request::Call { call, caller };
                 answer_now(connection, calls, offer, origin, request);
             }
         },

@@ -53,7 +53,7 @@ pub(crate) fn leave(calls: &mut CallsState, message: Message<Call>, moment: Mome
     let affinity = Some(message.affinity);
     let request = Request::Call {
         call: message.call,
-        credential: message.credential,
+        caller: message.caller,
     };
     keep_entry(calls, origin, request, affinity, moment, starved);
     calls.running -= 1;

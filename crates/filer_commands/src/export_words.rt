@@ -4,7 +4,7 @@ use crate::byte_size::bytes_in;
 use crate::exporting::Exporting;
 use crate::limits::{
     FEWEST_INODES, MOST_CONNECTIONS, MOST_IDLE, MOST_INODES, MOST_MINUTES, MOST_RANGES,
-    MOST_VOLUMES, MOST_WORKERS, USUAL_WORKERS,
+    MOST_REPLIES, MOST_VOLUMES, MOST_WORKERS, USUAL_WORKERS,
 };
 use crate::machine::Machine;
 use crate::names::{Names, address_of, is_name, networks_of};
@@ -166,8 +166,8 @@ fn with_lines<'a>(
 }
 
 /// `export [--listen ADDR] [--volumes N] [--workers N] [--size BYTES | --ranges N]
-/// [--file-size BYTES] [--inodes N] [--connections N] [--allow NETWORK].. [--idle SECONDS]
-/// [--owed BYTES] [--portmap] [--log] [--stats MINUTES] [--metrics ADDR]`, in any order.
+/// [--file-size BYTES] [--inodes N] [--remember N] [--connections N] [--allow NETWORK]..
+/// [--idle SECONDS] [--owed BYTES] [--portmap] [--log] [--stats MINUTES] [--metrics ADDR]`, in any order.
 pub(crate) fn export<'a>(alloc: Global) -> Result<clap::Command<'a>, AllocError> {
     let listen = optional(alloc, "listen", "ADDR", "Address or host, and port").default_value(
         USUAL_ADDRESS,
@@ -179,12 +179,20 @@ pub(crate) fn export<'a>(alloc: Global) -> Result<clap::Command<'a>, AllocError>
         "Threads that serve, 1 to 64 [one a processor, at most 4]",
     )
     .value_parser(value_parser!(u64).range(1..=MOST_WORKERS));
+    let replies = optional(
+        alloc,
+        "remember",
+        "N",
+        "Replies a volume remembers, 0 to 65536, for calls that come again [4096]",
+    )
+    .value_parser(value_parser!(u64).range(0..=MOST_REPLIES));
     let command = clap::Command::new(alloc, "export")
         .about("Serves clients that mount, until it is ended")
         .after_help(EXAMPLE)
         .arg(listen)?
         .arg(number(alloc, "volumes", MOST_VOLUMES, "1", "Volumes, 1 to 8"))?
-        .arg(workers)?;
+        .arg(workers)?
+        .arg(replies)?;
     with_lines(alloc, with_guests(alloc, with_sizes(alloc, command)?)?)
 }
 
@@ -295,6 +303,13 @@ fn plan_in<'a>(
         plan = match inodes.and_then(|inodes| plan.with_inodes(inodes)) {
             Some(plan) => plan,
             None => return Err(wrong("inodes", "", NUMBER)),
+        };
+    }
+    if let Some(replies) = matches.get_one::<u64>("remember") {
+        let replies = u32::try_from(replies).ok();
+        plan = match replies.and_then(|replies| plan.with_remembered(replies)) {
+            Some(plan) => plan,
+            None => return Err(wrong("remember", "", NUMBER)),
         };
     }
     Ok(plan)

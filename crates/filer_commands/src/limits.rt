@@ -18,6 +18,9 @@ pub(crate) const FEWEST_INODES: i64 = affinity::INODES as i64;
 /// The most inodes that a volume may have.
 pub(crate) const MOST_INODES: i64 = affinity::MOST_INODES as i64;
 
+/// The most replies that a volume may remember.
+pub(crate) const MOST_REPLIES: i64 = server_options::MOST_REPLIES as i64;
+
 /// The most connections after which a server ends.
 pub(crate) const MOST_CONNECTIONS: i64 = 1_000_000;
 

@@ -13,4 +13,5 @@ logical_value l = record {
   directories = l.directories;
   stock = l.stock;
   dead = l.dead;
+  memos = l.memos;
 }

@@ -4,6 +4,7 @@ ghost use Rattle.std.specs.Prelude.{◌≡◌, IfOk};
 
 use crate::directory_map::DirectoryMap;
 use inodes::Inodes;
+use memos::Memos;
 use nfs_values::Verifier;
 use std::alloc::{AllocError, Global};
 use std::marker::Model;
@@ -27,6 +28,8 @@ pub struct Logical {
     pub directories: DirectoryMap,
     pub stock: Stock,
     pub dead: DeadBlocks,
+    /// What is remembered of calls that may come again.
+    pub memos: Memos,
 }
 
 /// What a volume has but for its stripes and ranges, in memory of its own.

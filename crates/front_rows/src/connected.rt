@@ -12,7 +12,7 @@ use crate::texts::{
 };
 use affinity::Layout;
 use connections::{Came, Connection, Sent};
-use nfs_values::ConnectionNumber;
+use nfs_values::{ConnectionNumber, PeerAddress};
 use rpc_msg::Offer;
 use std::mem;
 use std::process::Abort;
@@ -68,6 +68,7 @@ pub(crate) fn device(
 fn connection(rt: &impl AllocGlobal, device: Memory) -> Connection<Memory> {
     let peer = Peer {
         is_privileged: false,
+        address: PeerAddress::NONE,
     };
     Connection::new(rt.alloc(), device, peer, ConnectionNumber(0))
 }

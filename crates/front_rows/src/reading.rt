@@ -10,7 +10,7 @@ use crate::texts::{
     NULL, NULL_IN_TWO, NULL_REPLY, SHORT, STOP, STOP_REPLY, TOO_LONG, TOO_WEAK_REPLY,
 };
 use affinity::{AggregateSpec, CallNode, Layout, VolumeSpec};
-use nfs_values::ConnectionNumber;
+use nfs_values::{ConnectionNumber, PeerAddress};
 use rpc_msg::Offer;
 use std::mem;
 use std::process::Abort;
@@ -152,6 +152,14 @@ pub(crate) fn are_calls(rt: &impl Abort, sink: &Gathered, calls: &[(usize, u32)]
     }
 }
 
+/// Looks whether each call came from there, in its record's name.
+fn come_from(rt: &impl Abort, sink: &Gathered, address: PeerAddress) {
+    for message in sink.calls.iter() {
+        assert!(rt; message.caller.peer == address);
+        assert!(rt; message.caller.xid == message.origin.xid);
+    }
+}
+
 /// Looks whether just these replies came, in order.
 fn are_replies(rt: &(impl Abort + AllocGlobal), sink: &mut Gathered, replies: &[&[u32]]) {
     let connection = ConnectionNumber(0);
@@ -192,6 +200,7 @@ fn read_of(
     assert!(rt; end.number() == row.end);
     assert!(rt; (reader.failures() == 1) == (row.end == 64));
     are_calls(rt, &sink, row.calls);
+    come_from(rt, &sink, peer.address);
     are_replies(rt, &mut sink, row.replies);
     mem::forget(reader);
     mem::forget((stream, layout, sink));
@@ -201,6 +210,7 @@ fn read_of(
 pub(crate) fn read(rt: &(impl Abort + AllocGlobal + Wait), row: &Row, size: usize) {
     let peer = Peer {
         is_privileged: false,
+        address: PeerAddress::NONE,
     };
     read_of(rt, row, size, Offer::basic(), peer);
 }
@@ -213,7 +223,11 @@ fn stop_comes_to(
     row: &Row,
 ) {
     for size in [1, 7, 65_536] {
-        read_of(rt, row, size, offer, Peer { is_privileged });
+        let peer = Peer {
+            is_privileged,
+            address: PeerAddress::NONE,
+        };
+        read_of(rt, row, size, offer, peer);
     }
 }
 
@@ -239,6 +253,47 @@ fn stop_is_for_privileged_peers(rt: HostRuntime) {
     stop_comes_to(&rt, Offer::export(0), false, &too_weak);
     stop_comes_to(&rt, Offer::basic(), true, &not_offered);
     stop_comes_to(&rt, Offer::basic(), false, &not_offered);
+}
+
+/// Whether two addresses and ports are one.
+fn are_one(first: (u128, u16), second: (u128, u16)) -> bool {
+    let first = PeerAddress {
+        address: first.0,
+        port: first.1,
+    };
+    let second = PeerAddress {
+        address: second.0,
+        port: second.1,
+    };
+    first == second
+}
+
+#[test]
+fn calls_come_from_their_peer(rt: HostRuntime) {
+    let row = Row {
+        stream: &[&GETATTR, &NULL, &GETATTR],
+        without: 0,
+        reads: MANY,
+        end: 0,
+        calls: &[(0, 2), (2, 2)],
+        replies: &[&NULL_REPLY],
+    };
+    // 192.0.2.1 from two ports, and 2001:db8::1
+    let places = [
+        (0xc000_0201, 700),
+        (0xc000_0201, 701),
+        (0x2001_0db8_0000_0000_0000_0000_0000_0001, 700),
+    ];
+    for (address, port) in places {
+        let peer = Peer {
+            is_privileged: false,
+            address: PeerAddress { address, port },
+        };
+        read_of(&rt, &row, 7, Offer::basic(), peer);
+    }
+    assert!(rt; are_one(places[0], places[0]));
+    assert!(rt; !are_one(places[0], places[1]));
+    assert!(rt; !are_one(places[0], places[2]));
 }
 
 #[test]

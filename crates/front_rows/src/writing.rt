@@ -8,7 +8,7 @@ use crate::gathered::Gathered;
 use crate::reading::{bytes_of, layout, same, sink};
 use crate::texts::{NO_PROGRAM, NO_PROGRAM_REPLY, NULL, NULL_REPLY};
 use crate::waiting::Waiting;
-use nfs_values::ConnectionNumber;
+use nfs_values::{ConnectionNumber, PeerAddress};
 use rpc_msg::Offer;
 use std::mem;
 use std::process::Abort;
@@ -81,6 +81,7 @@ pub(crate) fn waiting_for(rt: &(impl Abort + AllocGlobal + Wait), records: &[&[u
         connection,
         Peer {
             is_privileged: false,
+            address: PeerAddress::NONE,
         },
         &mut sink,
     );

@@ -4,7 +4,7 @@ use Rattle.nfs_model.specs.Types as types
 use Rattle.nfs_model.specs.Types.{Asked, Ask, SystemError}
 use Rattle.nfs_model.specs.Tree.{Layout, Affinity}
 use Rattle.nfs_values.specs.Call.{call_of}
-use Rattle.nfs_values.specs.Credential.{credential_of}
+use Rattle.nfs_values.specs.Caller.{caller_of}
 use Rattle.nfs_values.specs.Moment.{moment_of}
 use Rattle.nfs_values.specs.Reply.{reply_of}
 use Rattle.nfs_values.specs.declared.moment.Moment.{Moment}
@@ -53,7 +53,7 @@ Parcels = ℕ → Option (FilerParcel Files)
 
 -- what a message asks
 abbrev asked_by : Message → Asked
-asked_by m = Ask (call_of m.call) (credential_of m.credential)
+asked_by m = Ask (call_of m.call) (caller_of m.caller)
 
 module _ (layout : Layout) (lawful : fault_of layout ≡ None) (m : Message) (placed : IsPlaced layout m) (moment : Moment)
     (v w : FilerView) (of_v : v.tree ≡ parents layout) (of_w : w.tree ≡ parents layout)
@@ -67,8 +67,8 @@ module _ (layout : Layout) (lawful : fault_of layout ≡ None) (m : Message) (pl
   here : l.affinity ≡ node
   here = r.done.affinity ∙ r.granted.affinity
 
-  told : HasRun m.call (credential_of m.credential) (moment_of moment) layout node before outcome l.parcels
-  told = subst (λ a. HasRun m.call (credential_of m.credential) (moment_of moment) layout a before outcome l.parcels) r.granted.affinity r.done.did
+  told : HasRun m.call (caller_of m.caller) (moment_of moment) layout node before outcome l.parcels
+  told = subst (λ a. HasRun m.call (caller_of m.caller) (moment_of moment) layout a before outcome l.parcels) r.granted.affinity r.done.did
 
   begun : IsBegun v (number_of layout node) before w
   begun = subst (λ a. IsBegun v (number_of layout a) before w) r.granted.affinity r.granted.begun
@@ -105,12 +105,12 @@ module _ (layout : Layout) (lawful : fault_of layout ≡ None) (m : Message) (pl
       → CanFinish kind_in filer_behaviour layout w l (job_of_message m moment false) (Replied reply)
   may-finish reply is =
       may-enter reply false
-      (subst (λ (o : Outcome). HasRun m.call (credential_of m.credential) (moment_of moment) layout node before o l.parcels) is told).0
+      (subst (λ (o : Outcome). HasRun m.call (caller_of m.caller) (moment_of moment) layout node before o l.parcels) is told).0
 
   pub may-starve : (reply : Reply) → reply_of reply ≡ SystemError → outcome ≡ outcomes.Starved
       → CanFinish kind_in filer_behaviour layout w l (job_of_message m moment true) (Replied reply)
   may-starve reply says is =
-      let ran = subst (λ (o : Outcome). HasRun m.call (credential_of m.credential) (moment_of moment) layout node before o l.parcels) is told in
+      let ran = subst (λ (o : Outcome). HasRun m.call (caller_of m.caller) (moment_of moment) layout node before o l.parcels) is told in
       may-enter reply true
       (subst (λ (x : types.Reply). Enters layout node (asked_by m) (moment_of moment) true before (jobs.Replied x) l.parcels) (sym says) ran.0.0)
 
@@ -160,20 +160,20 @@ module _ (layout : Layout) (lawful : fault_of layout ≡ None) (m : Message) (pl
     pub fits : (reply : Reply) → outcome ≡ outcomes.Replied reply → (form : HandleForm)
         → length (record_of (replies.message m.origin.xid (reply_told form (reply_of reply)))) ≤ m.room
     fits reply is form =
-        let ran = subst (λ (o : Outcome). HasRun m.call (credential_of m.credential) (moment_of moment) layout node before o l.parcels) is told in
+        let ran = subst (λ (o : Outcome). HasRun m.call (caller_of m.caller) (moment_of moment) layout node before o l.parcels) is told in
         let history : SoundHistory filer_behaviour (parents layout) v.first v.seen v.mine left.0 =
         subst (λ ps. SoundHistory filer_behaviour ps v.first v.seen v.mine left.0) of_v left.1 in
         let under : (k : ℕ) → Covers (parents layout) (number_of layout node) k → after (parents layout) (listed v.first) left.0 k ≡ before k =
         as-left layout node placed.node v of_v before left in
         let most = reply-fits layout lawful verifier eight begins stays fit v.first opened v.seen v.mine left.0 history node placed.node before l.parcels under
-        (call_of m.call) (credential_of m.credential) (moment_of moment) m.origin.xid (reply_of reply) ran.0 form in
+        (call_of m.call) (caller_of m.caller) (moment_of moment) m.origin.xid (reply_of reply) ran.0 form in
         let room = placed.room in
         omega (arith, most, room)
 
     pub starved-room : (reply : Reply) → reply_of reply ≡ SystemError → (form : HandleForm)
         → length (record_of (replies.message m.origin.xid (reply_told form (reply_of reply)))) ≤ m.room
     starved-room reply says form =
-        let most = starved-fits layout verifier eight begins fit (call_of m.call) (credential_of m.credential) m.origin.xid form in
+        let most = starved-fits layout verifier eight begins fit (call_of m.call) (caller_of m.caller) m.origin.xid form in
         let same = ap (λ x. length (record_of (replies.message m.origin.xid (reply_told form x)))) says in
         let room = placed.room in
         omega (arith, most, room, same)
@@ -181,8 +181,8 @@ module _ (layout : Layout) (lawful : fault_of layout ≡ None) (m : Message) (pl
   -- ---- it moves
 
   module _ (to : CallNode) (is : outcome ≡ outcomes.Moved to) where
-    moved : HasRun m.call (credential_of m.credential) (moment_of moment) layout node before (outcomes.Moved to) l.parcels
-    moved = subst (λ (o : Outcome). HasRun m.call (credential_of m.credential) (moment_of moment) layout node before o l.parcels) is told
+    moved : HasRun m.call (caller_of m.caller) (moment_of moment) layout node before (outcomes.Moved to) l.parcels
+    moved = subst (λ (o : Outcome). HasRun m.call (caller_of m.caller) (moment_of moment) layout node before o l.parcels) is told
 
     pub may-go-back : CanPutBack layout w l
     may-go-back =

@@ -1,7 +1,7 @@
 -- Each reply of a history of a filer's depot fits its room.
 use Rattle.std.proofs.Common.{◌≡◌, ℕ, ◌≤◌, Bool, true, false, List, [], ◌∷◌, length, Option, None, refl, sym, ap, subst, arith}
 use Rattle.nfs_model.specs.Types as types
-use Rattle.nfs_model.specs.Types.{Asked, Ask, Moment, Credential, SystemError}
+use Rattle.nfs_model.specs.Types.{Asked, Ask, Moment, Caller, SystemError}
 use Rattle.nfs_model.specs.Tree.{Layout, Affinity}
 use Rattle.nfs_model.specs.Server.{Server, opening}
 use Rattle.nfs_model.specs.Serial.Step.{serial}
@@ -46,8 +46,8 @@ RoomyStays = (volumes : ℕ) (server : Server) (asked : Asked) (moment : Moment)
     → IsRoomy volumes server → IsRoomy volumes (serial server asked moment starved).server
 
 abbrev pub RepliesFit : Type 0
-RepliesFit = (form : HandleForm) (volumes : ℕ) (server : Server) (call : types.Call) (who : Credential) (moment : Moment) (starved : Bool) (xid : ℕ)
-    → IsRoomy volumes server → length (reply_record xid (reply_told form (serial server (Ask call who) moment starved).reply)) ≤ reply_room volumes call
+RepliesFit = (form : HandleForm) (volumes : ℕ) (server : Server) (call : types.Call) (caller : Caller) (moment : Moment) (starved : Bool) (xid : ℕ)
+    → IsRoomy volumes server → length (reply_record xid (reply_told form (serial server (Ask call caller) moment starved).reply)) ≤ reply_room volumes call
 
 roomy-after : RoomyStays → (volumes : ℕ) (es : List FinishedCall) (server : Server) → IsRoomy volumes server → IsRoomy volumes (server_after server es)
 roomy-after stays volumes [] server roomy = roomy
@@ -70,31 +70,31 @@ module _ {P : Type 0} (layout : Layout) (lawful : fault_of layout ≡ None) (ver
       → SoundHistory (behaviour job_steps job_takes job_gives IsFiler) (parents layout) first seen mine log
       → (node : Affinity) → IsNode layout node → (f f' : ℕ → Option (FilerParcel P))
       → ((k : ℕ) → Covers (parents layout) (number_of layout node) k → after (parents layout) (listed first) log k ≡ f k)
-      → (call : types.Call) (who : Credential) (moment : Moment) (xid : ℕ) (reply : types.Reply)
-      → Enters layout node (Ask call who) moment false f (jobs.Replied reply) f'
+      → (call : types.Call) (caller : Caller) (moment : Moment) (xid : ℕ) (reply : types.Reply)
+      → Enters layout node (Ask call caller) moment false f (jobs.Replied reply) f'
       → (form : HandleForm) → length (record_of (replies.message xid (reply_told form reply))) ≤ reply_room (length layout.volumes) call
-  reply-fits first opened seen mine log history node there f f' under call who moment xid reply enters form =
+  reply-fits first opened seen mine log history node there f f' under call caller moment xid reply enters form =
       let ps : List ℕ = parents layout in
       let g : ℕ → Option (FilerParcel P) = after ps (listed first) log in
-      let job = Serve (finished_at node (Ask call who) moment 0 0 xid false) in
+      let job = Serve (finished_at node (Ask call caller) moment 0 0 xid false) in
       let step = (steps-local ps (number_of layout node) job f g (jobs.Replied reply) f' (enters 0 0 xid)).1 under in
       let sound : AllSound layout g history.hands (length log) =
       subst (λ c. AreSound c history.hands (length log)) (filer-same history.sound.0 layout (alike history.sound.0 layout history.sound.1.1) g)
       history.sound.2 in
       let did = entry-does layout lawful node there job (jobs.Replied reply) g (patched ps (number_of layout node) f' g) history.hands history.hands
       (length log) step sound (λ weigh. refl) in
-      let same : reply ≡ (serial (tree layout g) (Ask call who) moment false).reply = did.0.works.1 in
+      let same : reply ≡ (serial (tree layout g) (Ask call caller) moment false).reply = did.0.works.1 in
       let roomy = log-roomy (listed first) opened log history.legal history.throughout in
       let spelled = ap (λ bs. length bs) (record_is xid (reply_told form reply)) in
       let told = ap (λ x. length (reply_record xid (reply_told form x))) same in
-      let fits = fit form (length layout.volumes) (tree layout g) call who moment false xid roomy in
+      let fits = fit form (length layout.volumes) (tree layout g) call caller moment false xid roomy in
       omega (arith, spelled, told, fits)
 
 -- and so does the reply that says that memory ran out
-pub starved-fits : (layout : Layout) (verifier : List ℕ) → length verifier ≡ 8 → RoomyBegins → RepliesFit → (call : types.Call) (who : Credential) (xid : ℕ)
+pub starved-fits : (layout : Layout) (verifier : List ℕ) → length verifier ≡ 8 → RoomyBegins → RepliesFit → (call : types.Call) (caller : Caller) (xid : ℕ)
     → (form : HandleForm) → length (record_of (replies.message xid (reply_told form SystemError))) ≤ reply_room (length layout.volumes) call
-starved-fits layout verifier eight begins fit call who xid form =
+starved-fits layout verifier eight begins fit call caller xid form =
     let spelled = ap (λ bs. length bs) (record_is xid (reply_told form SystemError)) in
-    let fits = fit form (length layout.volumes) (opening layout verifier) call who (record { seconds = 0; nanoseconds = 0 }) true xid
+    let fits = fit form (length layout.volumes) (opening layout verifier) call caller (record { seconds = 0; nanoseconds = 0 }) true xid
     (begins layout verifier eight) in
     omega (arith, spelled, fits)

@@ -1,10 +1,10 @@
 -- A message's call, run on what a depot granted, and what is told of it.
 use Rattle.std.proofs.Common.{◌≡◌, subst}
 use Rattle.nfs_model.specs.Tree.{Layout}
-use Rattle.nfs_values.specs.Credential.{credential_of}
+use Rattle.nfs_values.specs.Caller.{caller_of}
 use Rattle.nfs_values.specs.Moment.{moment_of}
 use Rattle.nfs_values.specs.declared.call.Call.{Call}
-use Rattle.nfs_values.specs.declared.credential.Credential.{Credential}
+use Rattle.nfs_values.specs.declared.caller.Caller.{Caller}
 use Rattle.nfs_values.specs.declared.moment.Moment.{Moment}
 use Rattle.parcels.specs.Exact.{kind_in}
 use Rattle.desk.specs.laws.Backing.{IsWhole, IsDone}
@@ -20,15 +20,15 @@ use Rattle.granted_calls.specs.declared.granted.Ended.{Ended}
 use Rattle.granted_calls.specs.declared.granted.Ended.TheVariants as ends
 use Rattle.granted_calls.specs.Runs.{FilerLent, HasRunFrom, HasTold}
 
--- the call and the credential are the message's, and the layout is the filer's
-pub ran-from : (layout x : Layout) → x ≡ layout → (m : Message) (call : Call) (credential : Credential) → call ≡ m.call → credential ≡ m.credential
+-- the call and the caller are the message's, and the layout is the filer's
+pub ran-from : (layout x : Layout) → x ≡ layout → (m : Message) (call : Call) (caller : Caller) → call ≡ m.call → caller ≡ m.caller
     → (moment : Moment) (outcome : Outcome) (before after : Layout → FilerLent)
-    → IsDone (HasRun call (credential_of credential) (moment_of moment)) x (before x) outcome (after x) → IsWhole kind_in x (after x)
+    → IsDone (HasRun call (caller_of caller) (moment_of moment)) x (before x) outcome (after x) → IsWhole kind_in x (after x)
     → HasRunFrom layout m moment (before layout) outcome (after layout)
-ran-from layout x same m call credential is whom moment outcome before after done whole = record {
-  done = subst (λ (y : Layout). IsDone (HasRun m.call (credential_of m.credential) (moment_of moment)) y (before y) outcome (after y)) same
-      (subst (λ (k : Credential). IsDone (HasRun m.call (credential_of k) (moment_of moment)) x (before x) outcome (after x)) whom
-      (subst (λ (k : Call). IsDone (HasRun k (credential_of credential) (moment_of moment)) x (before x) outcome (after x)) is done));
+ran-from layout x same m call caller is whom moment outcome before after done whole = record {
+  done = subst (λ (y : Layout). IsDone (HasRun m.call (caller_of m.caller) (moment_of moment)) y (before y) outcome (after y)) same
+      (subst (λ (k : Caller). IsDone (HasRun m.call (caller_of k) (moment_of moment)) x (before x) outcome (after x)) whom
+      (subst (λ (k : Call). IsDone (HasRun k (caller_of caller) (moment_of moment)) x (before x) outcome (after x)) is done));
   whole = subst (λ (y : Layout). IsWhole kind_in y (after y)) same whole;
 }
 

@@ -6,7 +6,7 @@ use Rattle.depot_rule.specs.declared.view.Entry.{Entry}
 use Rattle.depot_rule.specs.Sums.{total}
 use Rattle.nfs_model.specs.Types.{Asked, Ask}
 use Rattle.nfs_values.specs.Call.{call_of}
-use Rattle.nfs_values.specs.Credential.{credential_of}
+use Rattle.nfs_values.specs.Caller.{caller_of}
 use Rattle.filer_state.specs.state.Parcels.{FilerParcel}
 use Rattle.filer_state.specs.declared.files.Files.{Files}
 use Rattle.service.specs.Jobs.{asked_in}
@@ -34,7 +34,7 @@ abbrev pub Weight : Type 0
 Weight = ℕ → ℕ → ℕ → Asked → ℕ
 
 abbrev pub by_key : Weight → Message → ℕ
-by_key weight m = weight m.origin.connection.0 m.origin.number m.origin.xid (Ask (call_of m.call) (credential_of m.credential))
+by_key weight m = weight m.origin.connection.0 m.origin.number m.origin.xid (Ask (call_of m.call) (caller_of m.caller))
 
 abbrev pub by_kept : Weight → Option Message → ℕ
 by_kept weight None = 0

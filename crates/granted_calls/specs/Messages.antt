@@ -22,7 +22,7 @@ abbrev pub message_of_call : ServedCall → ℕ → Message
 message_of_call s room = record {
   origin = record { connection = s.connection; number = s.number; xid = s.xid };
   call = s.call;
-  credential = s.credential;
+  caller = s.caller;
   affinity = s.affinity;
   room = room;
 }

@@ -5,7 +5,7 @@ use Rattle.nfs_model.specs.Tree.{Layout}
 use Rattle.nfs_model.specs.Types.{Ask}
 use Rattle.nfs_model.specs.Parts.{Hand}
 use Rattle.nfs_values.specs.Call.{call_of}
-use Rattle.nfs_values.specs.Credential.{credential_of}
+use Rattle.nfs_values.specs.Caller.{caller_of}
 use Rattle.nfs_values.specs.Moment.{moment_of}
 use Rattle.nfs_values.specs.declared.moment.Moment.{Moment}
 use Rattle.affinity.specs.declared.affinity.CallNode.{CallNode}
@@ -73,7 +73,7 @@ served_of_message m moment starved = record {
   number = m.origin.number;
   xid = m.origin.xid;
   call = m.call;
-  credential = m.credential;
+  caller = m.caller;
   affinity = m.affinity;
   moment = moment;
   starved = starved;
@@ -118,7 +118,7 @@ pub record HasMoved (layout : Layout) (v : FilerView) (m : Message) (least : Mom
   pub holding : FilerView
   pub begun : IsBegun v (number_of layout (call_node m.affinity)) parcels holding
   pub granted : IsAfter filer_behaviour v (number_of layout (call_node m.affinity)) parcels
-  pub moves : MovesTo layout (call_node m.affinity) (Ask (call_of m.call) (credential_of m.credential)) (moment_of moment) parcels (call_node to)
+  pub moves : MovesTo layout (call_node m.affinity) (Ask (call_of m.call) (caller_of m.caller)) (moment_of moment) parcels (call_node to)
   pub ended : IsEnded holding (number_of layout (call_node m.affinity)) w
 
 -- what came of a message on a seat

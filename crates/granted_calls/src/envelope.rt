@@ -7,7 +7,7 @@ ghost use Rattle.granted_calls.specs.Messages.{readdressed};
 
 use crate::shared_waiting::Fitting;
 use affinity::{Affinity, CallNode, Layout};
-use nfs_values::{Call, Credential, Moment};
+use nfs_values::{Call, Caller, Moment};
 use outboxes::Room;
 use scheduler::{Message, Origin};
 use service::ServedCall;
@@ -59,7 +59,7 @@ impl Envelope {
         let Message {
             origin,
             call,
-            credential,
+            caller,
             affinity,
             room: _,
         } = message;
@@ -68,7 +68,7 @@ impl Envelope {
             number: origin.number,
             xid: origin.xid,
             call,
-            credential,
+            caller,
             affinity,
             moment: Moment::START,
             starved: false,
@@ -109,12 +109,12 @@ impl Envelope {
     }
 
     /// Its call, and whom that acts for.
-    pub(crate) fn asked(&self) -> (&Call, Credential)
+    pub(crate) fn asked(&self) -> (&Call, Caller)
         ensures call { result.0.now ≡ self.now.call }
-        ensures credential { result.1 ≡ self.now.credential }
+        ensures caller { result.1 ≡ self.now.caller }
     {
         let served = &*self.served;
-        (&served.call, served.credential)
+        (&served.call, served.caller)
     }
 
     /// It tries another node.

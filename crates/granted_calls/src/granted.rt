@@ -70,11 +70,11 @@ pub(crate) fn run_on<N: TaskNode<Parcel<Files>, ParcelKinds>, G: Gate>(
         (node_lent L grant.new) }
 {
     let place = place_of(envelope.origin(), Stage::Run);
-    let (call, credential) = envelope.asked();
+    let (call, caller) = envelope.asked();
     let run = Run {
         alloc: filer.alloc,
         call,
-        credential,
+        caller,
         moment,
         ahead: gate.ahead(),
     };
@@ -121,7 +121,7 @@ pub(crate) fn run<N: TaskNode<Parcel<Files>, ParcelKinds>, G: Gate>(
         (view seat.old) (call_affinity envelope.now.affinity) refusal (view seat.new)) }
 {
     let mut grant = begin_on::<N, G>(filer, seat, envelope, gate)?;
-    let (call, _credential) = envelope.asked();
+    let (call, _caller) = envelope.asked();
     let moment = filer.moments.of_call(call, moment);
     let outcome = run_on::<N, G>(filer, &mut grant, envelope, moment, gate, told);
     Ok(Ran {

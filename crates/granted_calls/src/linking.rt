@@ -66,7 +66,7 @@ pub(crate) fn try_on<N: TaskNode<Parcel<Files>, ParcelKinds>, G: Gate>(
         HasRunSo L message moment (node_lent L grant.old) result told.new
         (node_lent L grant.new) }
 {
-    let (call, _credential) = message.asked();
+    let (call, _caller) = message.asked();
     let moment = filer.moments.of_call(call, moment);
     match run_on::<N, G>(filer, grant, &message, moment, gate, told) {
         Ended::Replied => Tried::Entered(enter(message, moment, false), None),

@@ -9,7 +9,7 @@ use crate::opening::{MemoryLane, open_lanes};
 use crate::texts::{GETATTR, NULL, bytes_of};
 use connections::{Came, Sent};
 use lanes::LaneParts;
-use nfs_values::VolumeNumber;
+use nfs_values::{PeerAddress, VolumeNumber};
 use std::process::Abort;
 use std::sync::Wait;
 use tcp_front::Peer;
@@ -28,6 +28,7 @@ pub(crate) fn ask<R: Wait>(
     let key = lane.next_key();
     let peer = Peer {
         is_privileged: false,
+        address: PeerAddress::NONE,
     };
     let opened = lane.open(device(rt, records, takes), peer);
     assert!(rt; opened.ok() == Some(key));

@@ -11,7 +11,7 @@ use Rattle.service.specs.declared.job.Job.{Job}
 use Rattle.service.specs.declared.job.Job.TheVariants.{Serve, Inner}
 use Rattle.granted_calls.specs.Balance.{FilerEntry}
 use Rattle.tcp_front.specs.Arrivals.{Arrival, placed, arrivals, arrival_of}
-use Rattle.tcp_front.specs.Peers.{asked_from, from_peer}
+use Rattle.tcp_front.specs.Peers.{Sender, asked_from, from_peer}
 use Rattle.lanes.specs.Story.{comes_of, of_connection, Ending, Served, AtOnce, said_by, with_reply, replies_to}
 use Rattle.lanes.specs.Story.{served_of, at_once_of, with_served, served_in}
 
@@ -37,11 +37,11 @@ if-own b x xs ys is e = ap (λ (c : Bool). if c then x ∷ xs else xs) is ∙ ap
 if-other : (b : Bool) (x : Arrival) (xs : List Arrival) → b ≡ false → xs ≡ [] → (if b then x ∷ xs else xs) ≡ []
 if-other b x xs is e = ap (λ (c : Bool). if c then x ∷ xs else xs) is ∙ e
 
-arrival-of : (layout : Layout) (n : ℕ) (p : Bool) (k : ℕ) (h : Heard) → comes_of (arrival_of layout n p k h) ≡ n
+arrival-of : (layout : Layout) (n : ℕ) (p : Sender) (k : ℕ) (h : Heard) → comes_of (arrival_of layout n p k h) ≡ n
 arrival-of layout n p k h = placed-of layout n k (from_peer p h) (home_of_asked layout (asked_from p h.asked))
 
 -- what came of one connection is of that alone
-pub of-own : (layout : Layout) (n : ℕ) (p : Bool) (k : ℕ) (hs : List Heard)
+pub of-own : (layout : Layout) (n : ℕ) (p : Sender) (k : ℕ) (hs : List Heard)
     → of_connection n (arrivals layout n p k hs) ≡ arrivals layout n p k hs
 of-own layout n p k [] = refl
 of-own layout n p k (h ∷ hs) =
@@ -50,7 +50,7 @@ of-own layout n p k (h ∷ hs) =
     (ap (λ m. m == n) (arrival-of layout n p k h) ∙ itself n)
     (of-own layout n p (k + 1) hs)
 
-pub of-other : (layout : Layout) (m n : ℕ) (p : Bool) (k : ℕ) (hs : List Heard) → n ≢ m
+pub of-other : (layout : Layout) (m n : ℕ) (p : Sender) (k : ℕ) (hs : List Heard) → n ≢ m
     → of_connection m (arrivals layout n p k hs) ≡ []
 of-other layout m n p k [] d = refl
 of-other layout m n p k (h ∷ hs) d =
@@ -59,7 +59,7 @@ of-other layout m n p k (h ∷ hs) d =
     (ap (λ l. l == m) (arrival-of layout n p k h) ∙ ne_eqb n m d)
     (of-other layout m n p (k + 1) hs d)
 
-pub arrivals-append : (layout : Layout) (n : ℕ) (p : Bool) (k : ℕ) (hs gs : List Heard) (j : ℕ) → j ≡ k + length hs
+pub arrivals-append : (layout : Layout) (n : ℕ) (p : Sender) (k : ℕ) (hs gs : List Heard) (j : ℕ) → j ≡ k + length hs
     → arrivals layout n p k (hs ++ gs) ≡ arrivals layout n p k hs ++ arrivals layout n p j gs
 arrivals-append layout n p k [] gs j e = ap (λ i. arrivals layout n p i gs) (omega (arith, e))
 arrivals-append layout n p k (h ∷ hs) gs j e =

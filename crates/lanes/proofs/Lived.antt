@@ -24,7 +24,7 @@ use Rattle.tcp_front.specs.Admitted.{calls_of}
 use Rattle.tcp_front.specs.Arrivals.{Arrival, arrivals}
 use Rattle.connections.specs.Incoming.{Incoming}
 use Rattle.connections.specs.declared.connection.Connection.{Connection}
-use Rattle.connections.specs.Connections.{is_privileged, number_of}
+use Rattle.connections.specs.Connections.{sender_at, number_of}
 use Rattle.lanes.specs.Intakes.{all_put, answered_of}
 use Rattle.connections.specs.Reading.{Reads}
 use Rattle.lanes.specs.Story.{of_connection, Served, AtOnce, said_by, told_to, served_of, at_once_of, served_in, number_at, IsServed}
@@ -308,7 +308,7 @@ module _ {D : Type 0} (unread : D → Incoming) (written : D → Option (List �
     -- ---- a connection goes on
 
     module _ (slots' : Slots) (key : ℕ) (c c' : Connection D) (was : slots key ≡ Some c) (sets : Sets slots key (Some c') slots')
-        (number : number_of c' ≡ number_of c) (privileged : is_privileged c' ≡ is_privileged c)
+        (number : number_of c' ≡ number_of c) (sender : sender_at c' ≡ sender_at c)
         (same_opened : c'.opened.value ≡ c.opened.value) where
       old : IsServed unread written layout offer s.came s.endings (own-waiting key c was) c
       old = own-served key c was
@@ -334,8 +334,8 @@ module _ {D : Type 0} (unread : D → Incoming) (written : D → Option (List �
           (λ other d at is. sets.1 other (other-key key c was k other d n at is) ∙ at) (s.each k few))
 
       pub story-reads : (messages' : List Message) (heard : List Heard) (boxes' : Boxes)
-          → map message_of messages' ≡ map message_of messages ++ calls_of (arrivals layout (number_of c) (is_privileged c) c.stream.records heard)
-          → boxes' ≡ all_put (map (answer_told (form_of offer)) (answered_of (arrivals layout (number_of c) (is_privileged c) c.stream.records heard))) boxes
+          → map message_of messages' ≡ map message_of messages ++ calls_of (arrivals layout (number_of c) (sender_at c) c.stream.records heard)
+          → boxes' ≡ all_put (map (answer_told (form_of offer)) (answered_of (arrivals layout (number_of c) (sender_at c) c.stream.records heard))) boxes
           → ((before : List Heard) → Reads offer unread c.opened.value c before → Reads offer unread c.opened.value c' (before ++ heard))
           → ((waiting replies : List ReplyMessage) → Writes written c.opened.value c waiting replies → Writes written c.opened.value c' waiting replies)
           → Story unread written layout offer lane lanes entries messages' boxes' slots' closed
@@ -343,14 +343,14 @@ module _ {D : Type 0} (unread : D → Incoming) (written : D → Option (List �
           subst (λ (b : Boxes). Story unread written layout offer lane lanes entries messages' b slots' closed) (sym put) all
         where
           xs : List Arrival
-          xs = arrivals layout (number_of c) (is_privileged c) c.stream.records heard
+          xs = arrivals layout (number_of c) (sender_at c) c.stream.records heard
 
           answers : List Addressed
           answers = answered_of xs
 
           quiet : (n : ℕ) → n ≢ number_of c → of_connection n (s.came ++ xs) ≡ of_connection n s.came
           quiet n d = of-append n s.came xs
-              ∙ ap (λ (l : List Arrival). of_connection n s.came ++ l) (of-other layout n (number_of c) (is_privileged c) c.stream.records heard (λ e. d (sym e)))
+              ∙ ap (λ (l : List Arrival). of_connection n s.came ++ l) (of-other layout n (number_of c) (sender_at c) c.stream.records heard (λ e. d (sym e)))
               ∙ append-nil (of_connection n s.came)
 
           served : IsServed unread written layout offer (s.came ++ xs) s.endings (own-waiting key c was) c'
@@ -358,12 +358,12 @@ module _ {D : Type 0} (unread : D → Incoming) (written : D → Option (List �
             heard = old.heard ++ heard;
             arrived = ap (λ n. of_connection n (s.came ++ xs)) number ∙ of-append (number_of c) s.came xs
                 ∙ ap (λ (l : List Arrival). l ++ of_connection (number_of c) xs) old.arrived
-                ∙ ap (λ (l : List Arrival). arrivals layout (number_of c) (is_privileged c) 0 old.heard ++ l)
-                (of-own layout (number_of c) (is_privileged c) c.stream.records heard)
-                ∙ sym (arrivals-append layout (number_of c) (is_privileged c) 0 old.heard heard c.stream.records
+                ∙ ap (λ (l : List Arrival). arrivals layout (number_of c) (sender_at c) 0 old.heard ++ l)
+                (of-own layout (number_of c) (sender_at c) c.stream.records heard)
+                ∙ sym (arrivals-append layout (number_of c) (sender_at c) 0 old.heard heard c.stream.records
                 (let n = old.reads.count in omega (arith, n)))
-                ∙ ap (λ n. arrivals layout n (is_privileged c) 0 (old.heard ++ heard)) (sym number)
-                ∙ ap (λ p. arrivals layout (number_of c') p 0 (old.heard ++ heard)) (sym privileged);
+                ∙ ap (λ n. arrivals layout n (sender_at c) 0 (old.heard ++ heard)) (sym number)
+                ∙ ap (λ p. arrivals layout (number_of c') p 0 (old.heard ++ heard)) (sym sender);
             reads = subst (λ x. Reads offer unread x c' (old.heard ++ heard)) (sym same_opened) (reads old.heard old.reads);
             writes = subst (λ x. Writes written x c' (own-waiting key c was) (told_to offer (number_of c') s.endings)) (sym same_opened)
                 (subst (λ n. Writes written c.opened.value c' (own-waiting key c was) (told_to offer n s.endings)) (sym number)
@@ -440,8 +440,8 @@ module _ {D : Type 0} (unread : D → Incoming) (written : D → Option (List �
             record {
               heard = old.heard;
               arrived = ap (λ n. of_connection n s.came) number ∙ old.arrived
-                  ∙ ap (λ n. arrivals layout n (is_privileged c) 0 old.heard) (sym number)
-                  ∙ ap (λ p. arrivals layout (number_of c') p 0 old.heard) (sym privileged);
+                  ∙ ap (λ n. arrivals layout n (sender_at c) 0 old.heard) (sym number)
+                  ∙ ap (λ p. arrivals layout (number_of c') p 0 old.heard) (sym sender);
               reads = subst (λ x. Reads offer unread x c' old.heard) (sym same_opened) (reads old.heard old.reads);
               writes = subst (λ x. Writes written x c' left.0 (told_to offer (number_of c') s.endings)) (sym same_opened)
                   (subst (λ n. Writes written c.opened.value c' left.0 (told_to offer n s.endings)) (sym number) left.2);

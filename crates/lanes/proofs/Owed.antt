@@ -44,6 +44,7 @@ use Rattle.engine_feed.specs.Seen.{message_of}
 use Rattle.tcp_front.specs.Admitted.{calls_of}
 use Rattle.tcp_front.specs.Arrivals.{Arrival, Waits, Answered, arrivals}
 use Rattle.tcp_front.specs.declared.peer.Peer.{Peer}
+use Rattle.tcp_front.specs.Peers.{Sender}
 use Rattle.connections.specs.declared.connection.Connection.{Connection}
 use Rattle.connections.specs.declared.connection.Flags.{Flags}
 use Rattle.connections.specs.declared.due.Due.{Due}
@@ -52,7 +53,7 @@ use Rattle.connections.specs.declared.writing.Sent.{Sent}
 use Rattle.tcp_front.specs.declared.stream.Stream.{Stream}
 use Rattle.connections.specs.Keyed.{Closes, Flagged, HasBegun, Opens, WritesUnder}
 use Rattle.connections.specs.Incoming.{Incoming}
-use Rattle.connections.specs.Connections.{is_privileged, due_of, flagged, most_counted, nothing_due, number_of, records_of, with_reply}
+use Rattle.connections.specs.Connections.{sender_at, due_of, flagged, most_counted, nothing_due, number_of, records_of, with_reply}
 use Rattle.connections.specs.Owing.{Pays}
 use Rattle.connections.specs.Taking.{Takes, TakesOf}
 use Rattle.connections.specs.lemmas.Owing.{pays-count, pays-out}
@@ -107,7 +108,7 @@ count-of n (Answered a ∷ xs) =
     let rest = count-of n xs in
     let first = count-if (a.connection == n) (length (of_connection n xs)) (Answered a) (of_connection n xs) refl in omega (arith, rest, first)
 
-arrivals-length : (layout : Layout) (n : ℕ) (p : Bool) (k : ℕ) (hs : List Heard) → length (arrivals layout n p k hs) ≡ length hs
+arrivals-length : (layout : Layout) (n : ℕ) (p : Sender) (k : ℕ) (hs : List Heard) → length (arrivals layout n p k hs) ≡ length hs
 arrivals-length layout n p k [] = refl
 arrivals-length layout n p k (h ∷ hs) = let e = arrivals-length layout n p (k + 1) hs in omega (arith, e)
 
@@ -276,9 +277,9 @@ module _ {D : Type 0} where
     module _ (slots' : Slots D) (key : ℕ) (c c' : Connection D) (was : slots key ≡ Some c) (sets : Sets slots key (Some c') slots')
         (number : number_of c' ≡ number_of c) where
       pub owed-reads : (messages' : List Message) (heard : List Heard) (boxes' : Boxes)
-          → map message_of messages' ≡ map message_of messages ++ calls_of (arrivals layout (number_of c) (is_privileged c) c.stream.records heard)
-          → boxes' ≡ all_put (map (answer_told (form_of offer)) (answered_of (arrivals layout (number_of c) (is_privileged c) c.stream.records heard))) boxes
-          → Adds (arrivals layout (number_of c) (is_privileged c) c.stream.records heard) (due_of c) (due_of c')
+          → map message_of messages' ≡ map message_of messages ++ calls_of (arrivals layout (number_of c) (sender_at c) c.stream.records heard)
+          → boxes' ≡ all_put (map (answer_told (form_of offer)) (answered_of (arrivals layout (number_of c) (sender_at c) c.stream.records heard))) boxes
+          → Adds (arrivals layout (number_of c) (sender_at c) c.stream.records heard) (due_of c) (due_of c')
           → records_of c' ≡ records_of c + length heard → records_of c' ≤ most_counted → AreOwed entries messages' boxes' slots'
       owed-reads messages' heard boxes' admitted is adds count few =
           each-owed entries messages' boxes' slots slots' key c' sets own (λ other d n at.
@@ -288,13 +289,13 @@ module _ {D : Type 0} where
           n = number_of c
 
           xs : List Arrival
-          xs = arrivals layout n (is_privileged c) c.stream.records heard
+          xs = arrivals layout n (sender_at c) c.stream.records heard
 
           old : IsOwed entries messages boxes c
           old = o key c was
 
           size : length xs ≡ length heard
-          size = arrivals-length layout n (is_privileged c) c.stream.records heard
+          size = arrivals-length layout n (sender_at c) c.stream.records heard
 
           more : (due_of c').replies ≡ (due_of c).replies + length heard
           more =
@@ -314,7 +315,7 @@ module _ {D : Type 0} where
                 let put = filled.2 in
                 let all = count-of n xs in
                 let mine : length (of_connection n xs) ≡ length xs =
-                ap (λ (l : List Arrival). length l) (of-own layout n (is_privileged c) c.stream.records heard) in
+                ap (λ (l : List Arrival). length l) (of-own layout n (sender_at c) c.stream.records heard) in
                 let adm = admitted-more n messages messages' xs admitted in
                 let f : finished_of (number_of c') entries ≡ finished_of n entries = ap (λ k. finished_of k entries) number in
                 let a : admitted_of (number_of c') messages' ≡ admitted_of n messages' = ap (λ k. admitted_of k messages') number in
@@ -334,7 +335,7 @@ module _ {D : Type 0} where
               let m = number_of d in
               let none : length (of_connection m xs) ≡ 0 =
               ap (λ (l : List Arrival). length l)
-              (of-other layout m n (is_privileged c) c.stream.records heard (λ e. apart s key other c d was at n' (sym e))) in
+              (of-other layout m n (sender_at c) c.stream.records heard (λ e. apart s key other c d was at n' (sym e))) in
               let all = count-of m xs in
               let adm = admitted-more m messages messages' xs admitted in
               let still : total (weigh_reply m) (answered_of xs) ≡ 0 = omega (arith, none, all) in (
@@ -521,7 +522,7 @@ module _ {D : Type 0} (unread : D → Incoming) (written : D → Option (List �
       known-both t u (λ s o.
       owed-reads unread written layout offer lane lanes entries (known sink.pass).put sink.outboxes (slabs.get slab) closed s o (slabs.get slab') key c after is
       (sets-at slab slab' key c after is now) number (known sink'.pass).put h.heard sink'.outboxes h.given.put h.given.boxes_are
-      (subst (λ (d : Due). Adds (arrivals layout (number_of c) (is_privileged c) c.stream.records h.heard) (due_of c) d) (sym due) h.given.adds) count on.few)
+      (subst (λ (d : Due). Adds (arrivals layout (number_of c) (sender_at c) c.stream.records h.heard) (due_of c) d) (sym due) h.given.adds) count on.few)
 
   pub reads-owed : {R : Type 0} (layout' : Layout) (slab slab' : Slab (Connection D)) (key : ℕ) (sink sink' : Intake R)
       (size : ℕ) (result : Came) → layout' ≡ layout → ReadsUnder unread written layout' offer slab key (slabs.get slab key) sink size result slab' sink'

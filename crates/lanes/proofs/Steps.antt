@@ -38,13 +38,14 @@ use Rattle.turns.specs.declared.worker.Worker.{Worker}
 use Rattle.granted_calls.specs.shared_waiting.Passes.{known}
 use Rattle.connections.specs.Incoming.{Incoming}
 use Rattle.tcp_front.specs.declared.peer.Peer.{Peer}
+use Rattle.tcp_front.specs.Peers.{sender_of}
 use Rattle.connections.specs.declared.connection.Connection.{Connection}
 use Rattle.connections.specs.declared.connection.Flags.{Flags}
 use Rattle.lanes.specs.declared.intake.Intake.{Intake}
 use Rattle.connections.specs.declared.reading.Came.{Came}
 use Rattle.connections.specs.declared.writing.Sent.{Sent}
 use Rattle.tcp_front.specs.declared.stream.Stream.{Stream}
-use Rattle.connections.specs.Connections.{is_privileged, due_of, flagged, number_of}
+use Rattle.connections.specs.Connections.{sender_at, due_of, flagged, number_of}
 use Rattle.lanes.specs.Intakes.{HasTakenIn, has_room_in}
 use Rattle.connections.specs.Keyed.{Closes, Flagged, HasBegun, Opens, WritesUnder}
 use Rattle.lanes.specs.Lanes.{ReadsOn, ReadsUnder, owing_in}
@@ -110,11 +111,11 @@ module _ {D : Type 0} (unread : D → Incoming) (written : D → Option (List �
       ∥∥₁_map t (λ s.
       let h = on.read in
       let number : number_of after ≡ number_of c = ap (λ (x : Connection D). number_of x) on.is ∙ read-number c sink sink' size result on.between h in
-      let privileged : is_privileged after ≡ is_privileged c = ap (λ (x : Connection D). is_privileged x) on.is
-      ∙ ap (λ (p : Peer). p.is_privileged) h.peer in
+      let sender : sender_at after ≡ sender_at c = ap (λ (x : Connection D). sender_at x) on.is
+      ∙ ap (λ (p : Peer). sender_of p) h.peer in
       let same : after.opened.value ≡ c.opened.value = ap (λ (x : Connection D). x.opened.value) on.is ∙ ap (λ x. x.value) h.same.2 in
       story-reads unread written layout offer lane lanes entries (known sink.pass).put sink.outboxes (get slab) closed s (get slab') key c after is
-      (sets-at slab slab' key c after is now) number privileged same (known sink'.pass).put h.heard sink'.outboxes h.given.put h.given.boxes_are
+      (sets-at slab slab' key c after is now) number sender same (known sink'.pass).put h.heard sink'.outboxes h.given.put h.given.boxes_are
       (λ before r. subst (λ (x : Connection D). Reads offer unread c.opened.value x (before ++ h.heard)) (sym on.is)
       (reads-on unread written HasTakenIn has_room_in layout offer c (owing_in (due_of c) (form_of offer) sink) size result on.between sink' h
       c.opened.value before r))
@@ -143,7 +144,7 @@ module _ {D : Type 0} (unread : D → Incoming) (written : D → Option (List �
       let kept = written-same unread written c boxes result after boxes' h in
       let takes = written-takes unread written c boxes result after boxes' h in
       story-writes unread written layout offer lane lanes entries messages boxes (get slab) closed s (get slab') key c after is (sets-at slab slab' key c after is now)
-      (ap (λ (x : Stream). x.connection.0) kept.0) (ap (λ (x : Stream). x.peer.is_privileged) kept.0) (ap (λ x. x.value) kept.3)
+      (ap (λ (x : Stream). x.connection.0) kept.0) (ap (λ (x : Stream). sender_of x.peer) kept.0) (ap (λ x. x.value) kept.3)
       boxes' takes.1.next takes.1.step takes.1.others (reads-kept unread written c boxes result after boxes' h offer c.opened.value)
       (λ waiting replies e r. let w = writes-on unread written c boxes result after boxes' h c.opened.value waiting replies e r in (w.0, w.1.0, w.1.1)))
 

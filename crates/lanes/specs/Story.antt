@@ -20,7 +20,7 @@ use Rattle.tcp_front.specs.Admitted.{calls_of}
 use Rattle.tcp_front.specs.Arrivals.{Arrival, Waits, Answered, arrivals}
 use Rattle.connections.specs.Incoming.{Incoming}
 use Rattle.connections.specs.declared.connection.Connection.{Connection}
-use Rattle.connections.specs.Connections.{is_privileged, number_of}
+use Rattle.connections.specs.Connections.{sender_at, number_of}
 use Rattle.lanes.specs.Intakes.{answered_of}
 use Rattle.connections.specs.Reading.{Reads}
 use Rattle.connections.specs.Writing.{Writes}
@@ -93,7 +93,7 @@ served_in (e ∷ es) = with_served e e.call (served_in es)
 pub record IsServed {D : Type 0} (unread : D → Incoming) (written : D → Option (List ℕ)) (layout : Layout) (offer : Offer) (came : List Arrival)
     (ended : List Ending) (waiting : List ReplyMessage) (c : Connection D) : Type 0 where
   pub heard : List Heard
-  pub arrived : of_connection (number_of c) came ≡ arrivals layout (number_of c) (is_privileged c) 0 heard
+  pub arrived : of_connection (number_of c) came ≡ arrivals layout (number_of c) (sender_at c) 0 heard
   pub reads : Reads offer unread c.opened.value c heard
   pub writes : Writes written c.opened.value c waiting (told_to offer (number_of c) ended)
 

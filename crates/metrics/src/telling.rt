@@ -128,6 +128,13 @@ fn put_waits<W: Write>(out: &mut W, totals: &Totals) -> io::Result<()> {
         "counter",
         "How often a lane waited for what another had.",
         totals.busy(),
+    )?;
+    put_one(
+        out,
+        "filer_repeated_total",
+        "counter",
+        "Calls that came again and were told the reply that was remembered.",
+        totals.repeated(),
     )
 }
 

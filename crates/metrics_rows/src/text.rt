@@ -72,6 +72,7 @@ fn counters_by_label(rt: HostRuntime) {
     tally.count(&Reply::Refused(Refusal::GarbageArguments));
     tally.count(&Reply::Refused(Refusal::SystemError));
     tally.busy();
+    tally.repeated(3);
     let totals = tally.read();
     let text = text_of(&rt, &measured(&totals, 0, &[]));
     has(
@@ -99,6 +100,11 @@ fn counters_by_label(rt: HostRuntime) {
         &rt,
         &text,
         "# TYPE filer_busy_total counter\nfiler_busy_total 1\n",
+    );
+    has(
+        &rt,
+        &text,
+        "# TYPE filer_repeated_total counter\nfiler_repeated_total 3\n",
     );
 }
 

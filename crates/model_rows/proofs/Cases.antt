@@ -2,21 +2,21 @@
 use Rattle.std.specs.Prelude.{ℕ, List, [], ◌∷◌, None}
 use Rattle.std.specs.FinMap.{from_sorted}
 use Rattle.std.specs.FinSet as sets
-use Rattle.nfs_model.specs.Types.{Moment, Credential, Shown, Regular, DirectoryKind, Listed}
+use Rattle.nfs_model.specs.Types.{Moment, Caller, Shown, Regular, DirectoryKind, Listed}
 use Rattle.nfs_model.specs.Server.{Attributes, Node, File, Directory, Server, handle_bytes}
 
 abbrev pub at : ℕ → Moment
 at seconds = record { seconds = seconds; nanoseconds = 0 }
 
--- a caller without further groups, and one with them
-abbrev pub user : ℕ → ℕ → Credential
-user uid gid = record { uid = uid; gid = gid; gids = [] }
+-- a caller with further groups, and one without them
+abbrev pub user_in : ℕ → ℕ → List ℕ → Caller
+user_in uid gid gids = record { credential = record { uid = uid; gid = gid; gids = gids }; xid = 0; peer = 0 }
 
-abbrev pub user_in : ℕ → ℕ → List ℕ → Credential
-user_in uid gid gids = record { uid = uid; gid = gid; gids = gids }
+abbrev pub user : ℕ → ℕ → Caller
+user uid gid = user_in uid gid []
 
 -- the caller without a credential
-abbrev pub nobody : Credential
+abbrev pub nobody : Caller
 nobody = user 65534 65534
 
 abbrev pub h : ℕ → List ℕ
@@ -61,6 +61,7 @@ holding next nodes = record {
         verifier = verifier;
         next = next;
         nodes = from_sorted nodes;
+        memos = [];
       }
       ∷ [];
 }

@@ -7,7 +7,7 @@ use Rattle.nfs_model.specs.Serial.Step.{serial}
 use Rattle.model_rows.proofs.Cases.{at, nobody, verifier}
 
 abbrev one_range : VolumeLayout
-one_range = record { aggregate = 0; ranges = 1; stripes = 8; mebibytes = 16; range_blocks = 1024; inodes = 65536; most_steps = 4; begun = start_of_times }
+one_range = record { aggregate = 0; ranges = 1; stripes = 8; mebibytes = 16; range_blocks = 1024; inodes = 65536; most_steps = 4; begun = start_of_times; remembered = 0 }
 
 -- what MOUNT answers of eight volumes
 abbrev mounting : MountCall → Reply

@@ -11,11 +11,11 @@ use Rattle.model_rows.proofs.Cases.{at, nobody, verifier, root_shown}
 
 -- one range of 1,024 blocks, files of 16 MiB, 65,536 inodes, on aggregate 0
 abbrev small : VolumeLayout
-small = record { aggregate = 0; ranges = 1; stripes = 8; mebibytes = 16; range_blocks = 1024; inodes = 65536; most_steps = 4; begun = start_of_times }
+small = record { aggregate = 0; ranges = 1; stripes = 8; mebibytes = 16; range_blocks = 1024; inodes = 65536; most_steps = 4; begun = start_of_times; remembered = 0 }
 
 -- two ranges of 4,096 blocks, files of 100 MiB, 70,000 inodes, on aggregate 1
 abbrev large : VolumeLayout
-large = record { aggregate = 1; ranges = 2; stripes = 16; mebibytes = 100; range_blocks = 4096; inodes = 70000; most_steps = 4; begun = start_of_times }
+large = record { aggregate = 1; ranges = 2; stripes = 16; mebibytes = 100; range_blocks = 4096; inodes = 70000; most_steps = 4; begun = start_of_times; remembered = 0 }
 
 -- no range of aggregate 0 is spare, and three of aggregate 1
 abbrev start : Server

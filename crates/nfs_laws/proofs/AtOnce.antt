@@ -2,12 +2,11 @@
 use Rattle.std.proofs.Common.{◌≡◌, ℕ, zero, suc, Bool, true, false, List, [], ◌∷◌, length, Option, Some, None, is_some, slice_get, refl, sym, ap, ◌∙◌, subst}
 use Rattle.std.proofs.Common.{min, arith, ◌==◌, ◌&&◌, ◌<◌, if◌then◌else◌}
 use Rattle.std.proofs.lemmas.Bool.{ltb-true}
-use Rattle.nfs_model.specs.Types.{Moment, Credential, Call, Null, Rename, Unsupported, Census, Grow, Stop, Mount, MountBelow, Failed, CrossVolume, BadHandle}
+use Rattle.nfs_model.specs.Types.{Moment, Caller, Call, Null, Rename, Unsupported, Census, Grow, Stop, Mount, MountBelow, Failed, CrossVolume, BadHandle}
 use Rattle.nfs_model.specs.Types.{NoEntry, Success}
 use Rattle.nfs_model.specs.Route.{Route, AtOnce, OfNames, OfBytesRead, OfBytesWritten, OfTwoHandles, OfVolume, OfAggregate, OfEverything, handle_on, route}
 use Rattle.nfs_model.specs.Tree.{Layout, VolumeLayout, Affinity, Logical}
 use Rattle.nfs_model.specs.Server.{VolumeState, Server, Named, named_read, handle_of, most_bytes}
-use Rattle.nfs_model.specs.Serial.Rename.{rename}
 use Rattle.nfs_model.specs.Home.{home, home_of_route, named_by, logical_home, volume_home, bytes_home, grow_home, rename_home}
 use Rattle.nfs_model.specs.Locate.{Effect, Located, located_in, located_by}
 use Rattle.nfs_model.specs.Serial.Step.{Step, serve, on, on_root, on_two, placed, stay}
@@ -124,18 +123,18 @@ same_there (x ∷ xs) [] i e = absurd (omega arith)
 same_there (x ∷ xs) (y ∷ ys) zero e = refl
 same_there (x ∷ xs) (y ∷ ys) (suc i) e = same_there xs ys i (omega arith)
 
-module _ (layout : Layout) (server : Server) (credential : Credential) (moment : Moment) where
+module _ (layout : Layout) (server : Server) (caller : Caller) (moment : Moment) where
   bad_there : (r : Route) → IsOnOneHandle r → length layout.volumes ≡ length server.volumes → home_of_route layout r ≡ None
       → handle_of (length server.volumes) (handle_on r) ≡ None
   bad_there r one volumes e = subst (λ n. handle_of n (handle_on r) ≡ None) volumes (bad_handle layout r one e)
 
   -- A call without a home affinity reads no state and changes nothing.
   pub without_home_stays : (call : Call) → length layout.volumes ≡ length server.volumes → home layout call ≡ None
-      → serve server call credential moment ≡ stay server (answer_without_home layout call)
+      → serve server call caller moment ≡ stay server (answer_without_home layout call)
   without_home_stays Null n e = refl
   without_home_stays (Unsupported which) n e = refl
   without_home_stays (Rename from from_name to to_name) n e =
-      two_answered server 4 (rename from_name to_name moment) (handle_of (length server.volumes) from) (handle_of (length server.volumes) to)
+      two_answered server 4 _ (handle_of (length server.volumes) from) (handle_of (length server.volumes) to)
       (good server.volumes from) (good server.volumes to)
       (subst (λ k. rename_home (handle_of k from) (handle_of k to) ≡ None) n e)
       ∙ ap (λ k. stay server (answer_of_two 4 (handle_of k from) (handle_of k to))) (sym n)

@@ -13,4 +13,7 @@ pub mod Kept
 pub mod KeptByFeed
 pub mod Walked
 pub mod Batches
+pub mod Remembering
+pub mod Repeated
+pub mod Forgetting
 pub mod KeptByBlocks

@@ -42,7 +42,7 @@ module _ (setup : Setup) (old new : World) (later : IsLater setup old.connection
       (a.0, a.1, a.2 n (record { xid = xid; asked = asked }) h.2)
 
   pub own_later : (e : FinishedCall) (asked : Asked) → IsOwn setup old e asked → IsOwn setup new e asked
-  own_later e (Ask call credential) h = heard_later e.connection e.number e.xid (Ask call credential) h
+  own_later e (Ask call caller) h = heard_later e.connection e.number e.xid (Ask call caller) h
   own_later e (Refused reply) h = heard_later e.connection e.number e.xid (Refused reply) h
   own_later e Undecoded h = (h.0, heard_later e.connection e.number e.xid h.0 h.1, h.2, h.3, h.4)
 
@@ -55,7 +55,7 @@ module _ (setup : Setup) (old new : World) (later : IsLater setup old.connection
 -- an entry of a record that is heard is of it
 pub own_of_heard : (setup : Setup) (w : World) (e : FinishedCall) (asked : Asked) → IsScan setup.codec → IsHeard setup w e.connection e.number e.xid asked
     → IsOwn setup w e asked
-own_of_heard setup w e (Ask call credential) scan h = h
+own_of_heard setup w e (Ask call caller) scan h = h
 own_of_heard setup w e (Refused reply) scan h = h
 own_of_heard setup w e Undecoded scan h =
     absurd (All-get (λ (x : Heard). IsDecoded x.asked) (served setup h.0) e.number (record { xid = e.xid; asked = Undecoded }) h.2 (scan.decoded h.0.stream))
@@ -66,7 +66,7 @@ heard_below : (setup : Setup) (w : World) (c n xid : ℕ) (asked : Asked) → Is
 heard_below setup w c n xid asked h = slice_get_below w.connections c h.0 h.1
 
 own_below : (setup : Setup) (w : World) (e : FinishedCall) (asked : Asked) → IsOwn setup w e asked → e.connection < length w.connections
-own_below setup w e (Ask call credential) h = heard_below setup w e.connection e.number e.xid (Ask call credential) h
+own_below setup w e (Ask call caller) h = heard_below setup w e.connection e.number e.xid (Ask call caller) h
 own_below setup w e (Refused reply) h = heard_below setup w e.connection e.number e.xid (Refused reply) h
 own_below setup w e Undecoded h = heard_below setup w e.connection e.number e.xid h.0 h.1
 

@@ -3,7 +3,7 @@ use Rattle.std.proofs.Common.{◌≡◌, ℕ, suc, ◌+◌, ◌*◌, Bool, true,
 use Rattle.std.proofs.Common.{if◌then◌else◌, nat_lt}
 use Rattle.std.specs.Prelude.{slice_index_or}
 use Rattle.std.proofs.lemmas.List.{length-set}
-use Rattle.nfs_model.specs.Types.{Moment, Credential, Call, Null, Rename, Unsupported, Census, Grow, Stop, Mount, MountBelow, Asked, Ask, Refused, Undecoded, Answer}
+use Rattle.nfs_model.specs.Types.{Moment, Caller, Call, Null, Rename, Unsupported, Census, Grow, Stop, Mount, MountBelow, Asked, Ask, Refused, Undecoded, Answer}
 use Rattle.nfs_model.specs.Types.{Failed, GrowDone, Invalid, TooBig, NoSpace}
 use Rattle.nfs_model.specs.Route.{handle_on, route}
 use Rattle.nfs_model.specs.Tree.{Layout, VolumeLayout}
@@ -12,7 +12,6 @@ use Rattle.nfs_model.specs.Locate.{Effect, Fails, Tells, Changes, Located, locat
 use Rattle.nfs_model.specs.Parts.{most_ranges}
 use Rattle.nfs_model.specs.Serial.Absent.{absent_parts}
 use Rattle.nfs_model.specs.Serial.Grow.{Grown, grown, grow_volume}
-use Rattle.nfs_model.specs.Serial.Rename.{rename}
 use Rattle.nfs_model.specs.Serial.Step.{Step, placed, stay, on, on_root, on_two, serve, serial}
 use Rattle.nfs_model.specs.Home.{home_of_asked}
 use Rattle.nfs_model.specs.Replay.{FinishedCall, step_of, server_after}
@@ -67,21 +66,21 @@ module _ (server : Server) where
       (record { answer = GrowDone (v.total + v.range_blocks * ranges); server = grown server i v ranges })
       (length-set server.volumes i (record v { total = v.total + v.range_blocks * ranges }))
 
-  serve_counts : (call : Call) (credential : Credential) (moment : Moment) → volumes_in (serve server call credential moment).server ≡ volumes_in server
-  serve_counts Null credential moment = refl
-  serve_counts (Unsupported which) credential moment = refl
-  serve_counts (Rename from from_name to to_name) credential moment = two_counts 4 (locate server from) (locate server to) (rename from_name to_name moment)
-  serve_counts Census credential moment = refl
-  serve_counts Stop credential moment = refl
-  serve_counts (Mount call) credential moment = refl
-  serve_counts (MountBelow root path) credential moment = root_counts 0 (locate server root) _
-  serve_counts (Grow volume ranges) credential moment = grow_counts volume (slice_get server.volumes volume) ranges
-  serve_counts call credential moment = on_counts (absent_parts call) (locate server (handle_on (route call))) _
+  serve_counts : (call : Call) (caller : Caller) (moment : Moment) → volumes_in (serve server call caller moment).server ≡ volumes_in server
+  serve_counts Null caller moment = refl
+  serve_counts (Unsupported which) caller moment = refl
+  serve_counts (Rename from from_name to to_name) caller moment = two_counts 4 (locate server from) (locate server to) _
+  serve_counts Census caller moment = refl
+  serve_counts Stop caller moment = refl
+  serve_counts (Mount call) caller moment = refl
+  serve_counts (MountBelow root path) caller moment = root_counts 0 (locate server root) _
+  serve_counts (Grow volume ranges) caller moment = grow_counts volume (slice_get server.volumes volume) ranges
+  serve_counts call caller moment = on_counts (absent_parts call) (locate server (handle_on (route call))) _
 
   -- a call on the serial server keeps the number of volumes
   serial_counts : (asked : Asked) (moment : Moment) (starved : Bool) → volumes_in (serial server asked moment starved).server ≡ volumes_in server
   serial_counts asked moment true = refl
-  serial_counts (Ask call credential) moment false = serve_counts call credential moment
+  serial_counts (Ask call caller) moment false = serve_counts call caller moment
   serial_counts (Refused reply) moment false = refl
   serial_counts Undecoded moment false = refl
 
@@ -110,12 +109,12 @@ all_worked_count server (r ∷ rs) = all_worked_count (worked_by server r r.outc
 
 module _ (layout : Layout) (a b : Server) (moment : Moment) (in_a : length layout.volumes ≡ volumes_in a) (in_b : length layout.volumes ≡ volumes_in b) where
   pub at_once_same : (asked : Asked) → home_of_asked layout asked ≡ None → (serial a asked moment false).reply ≡ (serial b asked moment false).reply
-  at_once_same (Ask call credential) e = ap (λ (s : Step). s.reply) (without_home_stays layout a credential moment call in_a e)
-      ∙ sym (ap (λ (s : Step). s.reply) (without_home_stays layout b credential moment call in_b e))
+  at_once_same (Ask call caller) e = ap (λ (s : Step). s.reply) (without_home_stays layout a caller moment call in_a e)
+      ∙ sym (ap (λ (s : Step). s.reply) (without_home_stays layout b caller moment call in_b e))
   at_once_same (Refused reply) e = refl
   at_once_same Undecoded e = refl
 
   pub at_once_stays : (asked : Asked) → home_of_asked layout asked ≡ None → (serial b asked moment false).server ≡ b
-  at_once_stays (Ask call credential) e = ap (λ (s : Step). s.server) (without_home_stays layout b credential moment call in_b e)
+  at_once_stays (Ask call caller) e = ap (λ (s : Step). s.server) (without_home_stays layout b caller moment call in_b e)
   at_once_stays (Refused reply) e = refl
   at_once_stays Undecoded e = refl

@@ -17,3 +17,4 @@ mod Happening
 mod Beside
 mod Moving
 mod Answering
+mod Again

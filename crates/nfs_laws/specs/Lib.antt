@@ -1,4 +1,5 @@
 pub mod Undisturbed
 pub mod Walk
 pub mod Sizes
+pub mod Repeated
 pub mod lemmas

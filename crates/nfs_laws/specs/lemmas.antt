@@ -1,4 +1,6 @@
 -- Lemmas that other crates cite.
 pub mod Evaluate
 pub mod Counting
+pub mod Effects
+pub mod Served
 pub mod Sizes

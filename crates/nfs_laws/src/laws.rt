@@ -1,10 +1,10 @@
 //! What holds of the definitions.
 
-ghost use Rattle.std.specs.Prelude.{◌≡◌, true, None, Result, ℕ};
+ghost use Rattle.std.specs.Prelude.{◌≡◌, ◌≢◌, true, false, Some, None, Result, ℕ};
 ghost use Rattle.std.specs.Prelude.{List, [], ◌∷◌, ◌++◌, length, slice_get};
 ghost use Rattle.std.specs.Ordering.{nat_cmp};
 ghost use Rattle.std.specs.FinSet.{FinSet};
-ghost use Rattle.nfs_model.specs.Types.{Call, Credential, Moment};
+ghost use Rattle.nfs_model.specs.Types.{Call, Caller, Moment};
 ghost use Rattle.nfs_model.specs.Tree.{Layout};
 ghost use Rattle.nfs_model.specs.Server.{opening, Server};
 ghost use Rattle.nfs_model.specs.Home.{home};
@@ -18,7 +18,11 @@ ghost use Rattle.nfs_model.specs.Events.Refusals.{Event, Done, takes_input};
 ghost use Rattle.nfs_model.specs.Events.Step.{Events, Runs};
 ghost use Rattle.nfs_model.specs.Headline.{Kept, opening_world};
 ghost use Rattle.nfs_model.specs.Agreed.{IsAgreed};
-ghost use Rattle.nfs_model.specs.Replay.{server_after, FinishedCall};
+ghost use Rattle.nfs_model.specs.Replay.{step_of, server_after, replay, FinishedCall};
+ghost use Rattle.nfs_model.specs.Memo.{Change};
+ghost use Rattle.nfs_model.specs.Serial.Once.{change_of};
+ghost use Rattle.nfs_laws.specs.Repeated.{Place, memos_of, places_of, volume_of, is_success};
+ghost use Rattle.nfs_laws.specs.Repeated.{remembered_in, AreElsewhere, IsAgain, serve_forgetting};
 ghost use Rattle.nfs_laws.specs.Sizes.{HaveSizes};
 ghost use Rattle.nfs_laws.specs.Undisturbed.{WorksNone};
 ghost use Rattle.nfs_laws.specs.Walk.{Walks};
@@ -30,11 +34,11 @@ pub fn opening_meets_headline()
 
 /// A call without a home affinity reads no state and changes nothing.
 pub fn without_home_stays()
-    ensures { (layout : Layout) (server : Server) (credential : Credential) (moment : Moment)
+    ensures { (layout : Layout) (server : Server) (caller : Caller) (moment : Moment)
         (call : Call)
         → length layout.volumes ≡ length server.volumes
         → home layout call ≡ None
-        → serve server call credential moment ≡ stay server (answer_without_home layout call) }
+        → serve server call caller moment ≡ stay server (answer_without_home layout call) }
 {}
 
 /// An event keeps the headline, refused or not, for any number of workers, where the calls that run
@@ -99,4 +103,66 @@ pub fn batches_are_of_one_range()
 pub fn sizes_stay()
     ensures { (layout : Layout) (verifier : List ℕ) (calls : List FinishedCall)
         → HaveSizes layout (server_after (opening layout verifier) calls) }
+{}
+
+/// A call that comes again is told the first reply, and leaves the server as it is: where the first
+/// was done and remembered, and no call between was remembered in its place (RFC 1813 section 4.5).
+pub fn repeated_is_told()
+    ensures told { (server : Server) (first : FinishedCall) (between : List FinishedCall)
+        (again : FinishedCall) (place : Place)
+        → remembered_in server first ≡ Some place
+        → AreElsewhere place (step_of server first).server between
+        → IsAgain first again
+        → (step_of (server_after server (first ∷ between)) again).reply
+        ≡ (step_of server first).reply }
+    ensures left { (server : Server) (first : FinishedCall) (between : List FinishedCall)
+        (again : FinishedCall) (place : Place)
+        → remembered_in server first ≡ Some place
+        → AreElsewhere place (step_of server first).server between
+        → IsAgain first again
+        → (step_of (server_after server (first ∷ between)) again).server
+        ≡ server_after server (first ∷ between) }
+    ensures replayed { (server : Server) (before between after : List FinishedCall)
+        (first again : FinishedCall) (place : Place)
+        → remembered_in (server_after server before) first ≡ Some place
+        → AreElsewhere place (step_of (server_after server before) first).server between
+        → IsAgain first again
+        → replay server (before ++ first ∷ (between ++ again ∷ after))
+        ≡ replay server (before ++ first ∷ between)
+        ++ (step_of (server_after server before) first).reply
+        ∷ replay (server_after server (before ++ first ∷ between)) after }
+{}
+
+/// What is remembered in a place stays but where a call is remembered there, and a volume keeps as
+/// many places. A call whose reply isn't remembered changes none.
+pub fn memos_stay()
+    ensures elsewhere { (server : Server) (call : FinishedCall) (place : Place)
+        → remembered_in server call ≢ Some place
+        → slice_get (memos_of (step_of server call).server place.volume) place.number
+        ≡ slice_get (memos_of server place.volume) place.number }
+    ensures unremembered { (server : Server) (call : FinishedCall) (volume : ℕ)
+        → remembered_in server call ≡ None
+        → memos_of (step_of server call).server volume ≡ memos_of server volume }
+    ensures places { (server : Server) (calls : List FinishedCall) (volume : ℕ)
+        → length (memos_of (server_after server calls) volume)
+        ≡ length (memos_of server volume) }
+    ensures opening { (layout : Layout) (verifier : List ℕ) (calls : List FinishedCall)
+        (volume : ℕ)
+        → length (memos_of (server_after (opening layout verifier) calls) volume)
+        ≡ places_of layout volume }
+{}
+
+/// A call that doesn't succeed changes nothing.
+pub fn failures_change_nothing()
+    ensures { (server : Server) (call : FinishedCall)
+        → is_success (step_of server call).reply ≡ false
+        → (step_of server call).server ≡ server }
+{}
+
+/// Where a volume has no places, its calls are served as if nothing were ever remembered.
+pub fn without_places_none_is_told()
+    ensures { (server : Server) (call : Call) (caller : Caller) (moment : Moment)
+        → ((change : Change) → change_of call ≡ Some change
+        → memos_of server (volume_of change) ≡ [])
+        → serve server call caller moment ≡ serve_forgetting server call caller moment }
 {}

@@ -67,7 +67,7 @@ IsHeard setup w c n xid asked =
 
 -- a call whose decoding was starved has its record's xid, and that record has a name or data
 abbrev pub IsOwn : Setup → World → FinishedCall → Asked → Type 0
-IsOwn setup w e (Ask call credential) = IsHeard setup w e.connection e.number e.xid (Ask call credential)
+IsOwn setup w e (Ask call caller) = IsHeard setup w e.connection e.number e.xid (Ask call caller)
 IsOwn setup w e (Refused reply) = IsHeard setup w e.connection e.number e.xid (Refused reply)
 IsOwn setup w e Undecoded =
     (asked : Asked) × IsHeard setup w e.connection e.number e.xid asked

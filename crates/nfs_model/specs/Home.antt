@@ -68,6 +68,6 @@ home layout call = home_of_route layout (route call)
 
 -- the affinity of what a record asks; a refusal has none
 abbrev pub home_of_asked : Layout → Asked → Option Affinity
-home_of_asked layout (Ask call credential) = home layout call
+home_of_asked layout (Ask call caller) = home layout call
 home_of_asked layout (Refused reply) = None
 home_of_asked layout Undecoded = None

@@ -22,6 +22,8 @@ pub mod Census
 pub mod Grow
 pub mod Mount
 pub mod MountBelow
+pub mod Same
+pub mod Once
 pub mod Step
 pub mod AtOnce
 pub mod Starve

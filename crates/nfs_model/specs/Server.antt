@@ -1,5 +1,5 @@
 -- The server without its parts: volumes of named nodes, files as lists of bytes.
-use Rattle.std.specs.Prelude.{ℕ, ◌+◌, ◌*◌, List, [], ◌∷◌, length, take, drop, Option, Some, None, slice_set}
+use Rattle.std.specs.Prelude.{ℕ, ◌+◌, ◌*◌, List, [], ◌∷◌, length, take, drop, replicate, Option, Some, None, slice_set}
 use Rattle.std.specs.Prelude.{nat_lt, ◌==◌, ◌&&◌, if◌then◌else◌, ◌++◌}
 use Rattle.std.specs.Int.{w32, w64, to_be_bytes, from_be_bytes}
 use Rattle.std.specs.Ordering.{nat_cmp}
@@ -8,6 +8,7 @@ use Rattle.std.specs.FinSet.{FinSet}
 use Rattle.std.specs.FinSet as sets
 use Rattle.nfs_model.specs.Types.{Moment, Listed}
 use Rattle.nfs_model.specs.Tree.{Layout, VolumeLayout}
+use Rattle.nfs_model.specs.Memo.{Memo}
 
 -- what is stored of fattr3 (RFC 1813 section 2.6)
 pub record Attributes : Type 0 where
@@ -50,6 +51,7 @@ pub record VolumeState : Type 0 where
   pub verifier : List ℕ  -- of writes, fixed for the run
   pub next : ℕ  -- the next fileid
   pub nodes : FinMap nat_cmp Node
+  pub memos : List (Option Memo)  -- the places for what is remembered of calls
 
 -- the whole state that calls see
 pub record Server : Type 0 where
@@ -101,6 +103,7 @@ opening_volume verifier number layout = record {
   verifier = verifier;
   next = 2;
   nodes = from_sorted ((1, root_node layout.begun) ∷ []);
+  memos = replicate layout.remembered None;
 }
 
 -- volumes numbered from a number on

@@ -13,6 +13,7 @@ pub record VolumeLayout : Type 0 where
   pub inodes : ℕ  -- at most, the root with them
   pub most_steps : ℕ  -- of directories whose parents a RENAME looks at
   pub begun : Moment  -- the beginning of the run: the times of its root
+  pub remembered : ℕ  -- the most replies that are remembered for calls that come again
 
 -- aggregates and volumes, each numbered from 0
 pub record Layout : Type 0 where

@@ -18,6 +18,13 @@ pub record Credential : Type 0 where
   pub gid : ℕ
   pub gids : List ℕ  -- further groups, at most 16
 
+-- Who makes a call: whom it acts for, and what tells one call of a client from its others (RFC 5531
+-- section 9, RFC 1813 section 4.5).
+pub record Caller : Type 0 where
+  pub credential : Credential
+  pub xid : ℕ
+  pub peer : ℕ  -- the address and port that it comes from, as one number; 0 where there is none
+
 -- ---- what is asked
 
 -- time_how, with set_atime or set_mtime (RFC 1813 section 2.6)
@@ -229,6 +236,6 @@ pub data Reply : Type 0 where
 -- What a record asks: a call, or one that RPC refuses with this reply. One whose decoding found no
 -- memory shows no call (our profile).
 pub data Asked : Type 0 where
-  Ask : (call : Call) (credential : Credential) → Asked
+  Ask : (call : Call) (caller : Caller) → Asked
   Refused : (reply : Reply) → Asked
   Undecoded : Asked

@@ -106,7 +106,7 @@ move_of_call store affinity call = None
 
 -- where what a record asks moves
 abbrev pub move_of_asked : Store → Affinity → Asked → Option Affinity
-move_of_asked store affinity (Ask call credential) = move_of_call store affinity call
+move_of_asked store affinity (Ask call caller) = move_of_call store affinity call
 move_of_asked store affinity (Refused reply) = None
 move_of_asked store affinity Undecoded = None
 
@@ -138,7 +138,7 @@ PartsAt (Some v) call affinity old new = PartsOfVolume v call affinity old new
 
 -- the parts after a reply to what a record asks
 abbrev pub PartsAfter : Asked → Affinity → Store → Store → Type 0
-PartsAfter (Ask call credential) affinity old new =
+PartsAfter (Ask call caller) affinity old new =
     PartsAt (changed_volume call affinity) call affinity old new
 PartsAfter (Refused reply) affinity old new = new.parts ≡ old.parts
 PartsAfter Undecoded affinity old new = new.parts ≡ old.parts

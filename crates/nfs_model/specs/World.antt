@@ -28,7 +28,7 @@ pub record Codec : Type 0 where
 
 -- the codecs give a call or a refusal
 abbrev pub IsDecoded : Asked → Type 0
-IsDecoded (Ask call credential) = Unit {0}
+IsDecoded (Ask call caller) = Unit {0}
 IsDecoded (Refused reply) = Unit {0}
 IsDecoded Undecoded = ⊥
 

@@ -4,6 +4,7 @@ pub mod OpaqueBytes
 pub mod Name
 pub mod Handle
 pub mod Credential
+pub mod Caller
 pub mod Status
 pub mod Unsupported
 pub mod Attributes

@@ -2,6 +2,7 @@
 
 ghost use Rattle.std.specs.Prelude.{◌≡◌, ◌<◌, ◌++◌, ◌∷◌, ◌==◌, [], length};
 ghost use Rattle.std.specs.List.{list_any};
+ghost use Rattle.nfs_model.specs.Names.{same_name};
 ghost use Rattle.nfs_values.specs.Credential.{gids_in};
 
 /// The most further groups of a user (authsys_parms, RFC 5531 appendix A).
@@ -20,6 +21,13 @@ fn has_gid(gids: &[u32], gid: u32) -> bool
     ensures { result ≡ list_any (λ g. g == gid) gids.now }
 {
     gids.iter().any(|g| *g == gid)
+}
+
+/// Whether two lists of groups are one.
+fn is_same_list(gids: &[u32], other: &[u32]) -> bool
+    ensures { result ≡ same_name gids.now other.now }
+{
+    gids == other
 }
 
 /// All places are there.
@@ -55,6 +63,15 @@ impl GroupList {
     {
         let count = (self.count as usize).min(MOST_GIDS);
         has_gid(&self.gids[..count], gid)
+    }
+
+    /// Whether the groups of another list are the same, in the same order.
+    pub fn is_same(&self, other: &GroupList) -> bool
+        ensures { result ≡ same_name (gids_in self.now) (gids_in other.now) }
+    {
+        let count = (self.count as usize).min(MOST_GIDS);
+        let others = (other.count as usize).min(MOST_GIDS);
+        is_same_list(&self.gids[..count], &other.gids[..others])
     }
 }
 

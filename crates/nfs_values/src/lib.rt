@@ -5,6 +5,7 @@ pub mod answer;
 mod attributes;
 mod bytes;
 mod call;
+mod caller;
 mod credential;
 mod handle;
 mod limits;
@@ -29,6 +30,7 @@ pub use answer::Answer;
 pub use attributes::{Attributes, Change, FileKind, PriorAttributes};
 pub use bytes::{BytesRead, BytesToWrite, room_to_read};
 pub use call::Call;
+pub use caller::{Caller, PeerAddress};
 pub use credential::{Credential, GroupList};
 pub use handle::{FileHandle, HandleMap, Named};
 pub use limits::{

@@ -9,7 +9,7 @@ use affinity::Layout;
 use affinity::homes::home_of;
 use granted_calls::shared_waiting::Pass;
 use granted_calls::{Envelope, Filer};
-use nfs_values::{ConnectionNumber, Credential};
+use nfs_values::{Caller, ConnectionNumber};
 use rpc_msg::room_of_reply;
 use scheduler::{Message, Origin};
 use std::process::Abort;
@@ -41,7 +41,7 @@ fn message_of(
     let message = Message {
         origin,
         call,
-        credential: Credential::NOBODY,
+        caller: Caller::NOBODY,
         affinity,
         room,
     };

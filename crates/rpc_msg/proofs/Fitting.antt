@@ -1,11 +1,13 @@
 -- The reply to a call has its room, and the server after it is as roomy.
 use Rattle.std.proofs.Common.{◌≡◌, ℕ, zero, suc, ◌+◌, ◌-◌, ◌*◌, ◌≤◌, Bool, true, false, cond, List, [], ◌∷◌, length, map, take, drop, Option, Some, None}
-use Rattle.std.proofs.Common.{refl, sym, ap, ◌∙◌, arith}
-use Rattle.std.specs.Prelude.{min, max, not, ◌==◌, nat_le, nat_lt, slice_get, slice_set}
+use Rattle.std.proofs.Common.{refl, sym, ap, subst, ◌∙◌, replicate, arith, ◌⊎◌, inl, inr, ⊎_elim}
+use Rattle.std.specs.Prelude.{min, max, not, ◌==◌, ◌&&◌, nat_le, nat_lt, slice_get, slice_set, slice_index_or}
 use Rattle.std.specs.FinMap.{get}
 use Rattle.std.proofs.lemmas.Bool.{ltb-false}
-use Rattle.std.proofs.lemmas.List.{length-map, length-set, length-take}
-use Rattle.xdr.specs.Shape.{padded}
+use Rattle.std.proofs.lemmas.List.{length-append, length-map, length-set, length-take}
+use Rattle.xdr.specs.Shape.{padded, spelling}
+use Rattle.nfs_types.specs.Shapes.{◌&◌, after_shape, change_shape}
+use Rattle.nfs_types.specs.Results.{made_value}
 use Rattle.nfs_model.specs.Types as model
 use Rattle.nfs_model.specs.Server.{opening_volume, opening_volumes, opening, FileNode, DirectoryNode, Node, File, Directory, VolumeState, Server, Named}
 use Rattle.nfs_model.specs.Server.{handle_bytes, handle_of, most_bytes}
@@ -15,6 +17,10 @@ use Rattle.nfs_model.specs.Shown.{shown}
 use Rattle.nfs_model.specs.Names.{is_dots, name_fault, find_name, same_name, dot, dot_dot}
 use Rattle.nfs_model.specs.Locate.{Effect, Fails, Tells, Changes, unless, on_node, on_directory, on_file, Located, located_in, located_by, locate, Found}
 use Rattle.nfs_model.specs.Locate.{Naming, named_child, on_name}
+use Rattle.nfs_model.specs.Memo.{Change, Sets, Creates, MakesDirectory, Removes, RemovesDirectory, Renames, Told, ToldSet, ToldMade, ToldGone, ToldRenamed, Memo}
+use Rattle.nfs_model.specs.Serial.Same.{same_caller, same_change}
+use Rattle.nfs_model.specs.Serial.Once.{is_short, change_of, place, is_recent, is_of, told_in, told_among, told_before, answer_told, told_of, memos_with}
+use Rattle.nfs_model.specs.Serial.Once.{memos_after, remembered, or_told, once}
 use Rattle.nfs_model.specs.Serial.Setattr.{setattr}
 use Rattle.nfs_model.specs.Serial.Getattr.{getattr, tell_of}
 use Rattle.nfs_model.specs.Serial.Access.{access_given}
@@ -39,7 +45,7 @@ use Rattle.nfs_model.specs.Serial.Absent.{absent_in, absent_parts}
 use Rattle.nfs_model.specs.Serial.AtOnce.{answer_of_two, answer_without_home}
 use Rattle.rpc_msg.specs.Replies.{reply_record}
 use Rattle.rpc_msg.specs.Room.{padded_size, lookup_room, read_room, readdir_room, change_room, made_room, mount_room, results_room, reply_room}
-use Rattle.rpc_msg.specs.Room.{IsRoomy}
+use Rattle.rpc_msg.specs.Room.{IsRoomy, AreShort, change_results, told_results}
 use Rattle.rpc_msg.specs.declared.handle_form.HandleForm.{HandleForm}
 use Rattle.rpc_msg.specs.declared.handle_form.HandleForm.TheVariants.{Plain, OfRun}
 use Rattle.rpc_msg.specs.HandleForm.{told_in_run}
@@ -97,11 +103,11 @@ commit_size w verifier e = record { bytes = omega (arith, eight verifier e) }
 
 -- ---- what a call on a volume comes to
 
--- an answer has at most this many bytes, and the volume's verifier stays
+-- an answer has at most this many bytes, the volume's verifier stays, and what it remembers stays short
 Fits : ℕ → VolumeState → Effect → Type 0
 Fits n old (Fails status) = Unit {0}
 Fits n old (Tells answer) = Takes n answer
-Fits n old (Changes answer new) = Takes n answer × (new.verifier ≡ old.verifier)
+Fits n old (Changes answer new) = Takes n answer × (new.verifier ≡ old.verifier) × (AreShort old.memos → AreShort new.memos)
 
 fails : (n : ℕ) (old : VolumeState) (status : model.Status) → Fits n old (Fails status)
 unfolding Fits
@@ -112,9 +118,9 @@ unfolding Fits
 tells n old answer t = t
 
 changes : (n : ℕ) (old : VolumeState) (answer : model.Answer) (new : VolumeState) → Takes n answer → new.verifier ≡ old.verifier
-    → Fits n old (Changes answer new)
+    → (AreShort old.memos → AreShort new.memos) → Fits n old (Changes answer new)
 unfolding Fits
-changes n old answer new t e = (t, e)
+changes n old answer new t e m = (t, e, m)
 
 unless_fits : (n : ℕ) (old : VolumeState) (o : Option model.Status) (e : Effect) → Fits n old e → Fits n old (unless o e)
 unless_fits n old None e f = f
@@ -158,7 +164,7 @@ getattr_fits volume fileid = node_fits 88 volume (get volume.nodes fileid) _ (λ
 setattr_fits : (set : model.SetAttributes) (guard : Option model.Moment) (moment : model.Moment) (volume : VolumeState) (fileid : ℕ)
     → Fits (4 + change_room) volume (setattr set guard moment volume fileid)
 setattr_fits set guard moment volume fileid =
-    node_fits (4 + change_room) volume (get volume.nodes fileid) _ (λ node. unless_fits (4 + change_room) volume _ _ (changes _ _ _ _ (setattr_size _) refl))
+    node_fits (4 + change_room) volume (get volume.nodes fileid) _ (λ node. unless_fits (4 + change_room) volume _ _ (changes _ _ _ _ (setattr_size _) refl (λ m. m)))
 
 found_fits : (n : Naming) (o : Option Found) → Fits lookup_room n.volume (lookup_told n o)
 found_fits n None = fails _ _ _
@@ -180,7 +186,7 @@ write_some_fits : (volume : VolumeState) (fileid : ℕ) (f : FileNode) (w : Writ
     → Fits 28 volume (write_some volume fileid f w)
 write_some_fits volume fileid f w e =
     unless_fits 28 volume (write_fault volume w.offset (length (bytes_kept w))) _
-    (unless_fits 28 volume (space_fault volume f w.offset (length (bytes_kept w))) _ (changes _ _ _ _ (write_size _ volume.verifier e) refl))
+    (unless_fits 28 volume (space_fault volume f w.offset (length (bytes_kept w))) _ (changes _ _ _ _ (write_size _ volume.verifier e) refl (λ m. m)))
 
 write_fits : (w : Writing) (volume : VolumeState) (fileid : ℕ) → length volume.verifier ≡ 8 → Fits 28 volume (write w volume fileid)
 write_fits w volume fileid e =
@@ -193,12 +199,12 @@ create_over_fits n (model.Guarded set) fileid node = fails _ _ _
 create_over_fits n (model.Unchecked set) fileid (Directory other) = fails _ _ _
 create_over_fits n (model.Exclusive verifier) fileid (Directory other) = fails _ _ _
 create_over_fits n (model.Exclusive verifier) fileid (File f) = if_fits made_room n.volume _ _ _ (tells _ _ _ (made_size _ _ _ _)) (fails _ _ _)
-create_over_fits n (model.Unchecked set) fileid (File f) = unless_fits made_room n.volume _ _ (changes _ _ _ _ (made_size _ _ _ _) refl)
+create_over_fits n (model.Unchecked set) fileid (File f) = unless_fits made_room n.volume _ _ (changes _ _ _ _ (made_size _ _ _ _) refl (λ m. m))
 
 create_at_fits : (n : Naming) (mode : model.CreateMode) (credential : model.Credential) (o : Option Found)
     → Fits made_room n.volume (create_at n mode credential o)
 create_at_fits n mode credential (Some found) = create_over_fits n mode found.fileid found.node
-create_at_fits n mode credential None = unless_fits made_room n.volume _ _ (changes _ _ _ _ (made_size _ _ _ _) refl)
+create_at_fits n mode credential None = unless_fits made_room n.volume _ _ (changes _ _ _ _ (made_size _ _ _ _) refl (λ m. m))
 
 create_fits : (mode : model.CreateMode) (credential : model.Credential) (n : Naming) → Fits made_room n.volume (create mode credential n)
 create_fits mode credential n = if_fits made_room n.volume (is_dots n.name) _ _ (fails _ _ _) (create_at_fits n mode credential (named_child n))
@@ -206,13 +212,13 @@ create_fits mode credential n = if_fits made_room n.volume (is_dots n.name) _ _ 
 mkdir_at_fits : (n : Naming) (set : model.SetAttributes) (credential : model.Credential) (o : Option Found)
     → Fits made_room n.volume (mkdir_at n set credential o)
 mkdir_at_fits n set credential (Some found) = fails _ _ _
-mkdir_at_fits n set credential None = unless_fits made_room n.volume _ _ (changes _ _ _ _ (made_size _ _ _ _) refl)
+mkdir_at_fits n set credential None = unless_fits made_room n.volume _ _ (changes _ _ _ _ (made_size _ _ _ _) refl (λ m. m))
 
 mkdir_fits : (set : model.SetAttributes) (credential : model.Credential) (n : Naming) → Fits made_room n.volume (mkdir set credential n)
 mkdir_fits set credential n = if_fits made_room n.volume (is_dots n.name) _ _ (fails _ _ _) (mkdir_at_fits n set credential (named_child n))
 
 gone_fits : (n : Naming) (fileid : ℕ) → Fits (4 + change_room) n.volume (gone n fileid)
-gone_fits n fileid = changes _ _ _ _ (gone_size _) refl
+gone_fits n fileid = changes _ _ _ _ (gone_size _) refl (λ m. m)
 
 remove_node_fits : (n : Naming) (fileid : ℕ) (node : Node) → Fits (4 + change_room) n.volume (remove_node n fileid node)
 remove_node_fits n fileid (File f) = gone_fits n fileid
@@ -245,8 +251,9 @@ rmdir_fits n =
 abbrev rename_room : ℕ
 rename_room = 4 + change_room + change_room
 
-renamed_fits : (r : Renaming) (new : VolumeState) → new.verifier ≡ r.from.volume.verifier → Fits rename_room r.from.volume (rename_told r new)
-renamed_fits r new e = changes _ _ _ new (rename_size _ _) e
+renamed_fits : (r : Renaming) (new : VolumeState) → new.verifier ≡ r.from.volume.verifier → (AreShort r.from.volume.memos → AreShort new.memos)
+    → Fits rename_room r.from.volume (rename_told r new)
+renamed_fits r new e m = changes _ _ _ new (rename_size _ _) e m
 
 rename_at_fits : (r : Renaming) (from to : Option Found) → Fits rename_room r.from.volume (rename_at r from to)
 rename_at_fits r None to = fails _ _ _
@@ -255,7 +262,7 @@ rename_at_fits r (Some found) to =
     if_fits rename_room old (is_same_entry r) _ _ (tells _ _ _ (rename_size _ _))
     (unless_fits rename_room old (climb_fault (met_above r found.fileid found.node)) _
     (if_fits rename_room old (not (may_go found.node to)) _ _ (fails _ _ model.Exists)
-    (renamed_fits r (renamed_volume r found.fileid to) refl)))
+    (renamed_fits r (renamed_volume r found.fileid to) refl (λ m. m))))
 
 rename_in_fits : (r : Renaming) → Fits rename_room r.from.volume (rename_in r)
 rename_in_fits r =
@@ -353,6 +360,132 @@ below_fits (part ∷ parts) volume fileid =
     directory_fits mount_room volume (get volume.nodes fileid) _ (λ d.
     unless_fits mount_room volume (part_fault part) _ (entry_fits volume (find_name part d.list) _ (λ child. below_fits parts volume child)))
 
+-- ---- a call that is done once
+
+-- what is told again has the length of its kind
+told_takes : (number : ℕ) (told : Told) → Takes (told_results told) (answer_told number told)
+told_takes number (ToldSet change) = setattr_size change
+told_takes number (ToldMade object directory) = made_size number object.fileid object directory
+told_takes number (ToldGone directory) = gone_size directory
+told_takes number (ToldRenamed from to) = rename_size from to
+
+more_takes : (n m : ℕ) (answer : model.Answer) → n ≤ m → Takes n answer → Takes m answer
+more_takes n m answer h t = record { bytes = omega (arith, h, t.bytes) }
+
+-- results that are kept are no longer than a call's, of which there are two lengths
+kept_short : (n : ℕ) (answer : model.Answer) (told : Told) → (n ≡ 120) ⊎ (n ≡ 236) → told_of answer ≡ Some told → Takes n answer → told_results told ≤ n
+kept_short n (model.SetattrDone change) told either e t =
+    let same : ToldSet change ≡ told = cc in
+    subst (λ (x : Told). told_results x ≤ n) same (omega (arith, t.bytes))
+kept_short n (model.MadeDone handle object directory) told either e t =
+    let same : ToldMade object directory ≡ told = cc in
+    subst (λ (x : Told). told_results x ≤ n) same
+    (⊎_elim (λ (h : n ≡ 120). omega (
+      arith,
+      h,
+      t.bytes,
+      length-append (padded handle) (spelling (after_shape & change_shape)
+          (made_value handle object directory).1),
+    )) (λ (h : n ≡ 236). omega (arith, h)) either)
+kept_short n (model.GoneDone directory) told either e t =
+    let same : ToldGone directory ≡ told = cc in
+    subst (λ (x : Told). told_results x ≤ n) same (omega (arith, t.bytes))
+kept_short n (model.RenameDone from to) told either e t =
+    let same : ToldRenamed from to ≡ told = cc in
+    subst (λ (x : Told). told_results x ≤ n) same (omega (arith, t.bytes))
+kept_short n answer told either e t = absurd cc
+
+one_more_short : (memos : List (Option Memo)) (i : ℕ) (memo : Memo) → told_results memo.told ≤ change_results memo.change → AreShort memos
+    → AreShort (slice_set memos i (Some memo))
+one_more_short [] i memo h a k x e = a k x e
+one_more_short (y ∷ ys) zero memo h a zero x e =
+    let same : memo ≡ x = cc in
+    subst (λ (w : Memo). told_results w.told ≤ change_results w.change) same h
+one_more_short (y ∷ ys) zero memo h a (suc k) x e = a (suc k) x e
+one_more_short (y ∷ ys) (suc i) memo h a zero x e = a zero x e
+one_more_short (y ∷ ys) (suc i) memo h a (suc k) x e = one_more_short ys i memo h (λ l z g. a (suc l) z g) k x e
+
+there : (memos : List (Option Memo)) (i : ℕ) (memo : Memo) → slice_index_or memos i None ≡ Some memo → slice_get memos i ≡ Some (Some memo)
+there [] i memo e = absurd cc
+there (x ∷ xs) zero memo e = ap (λ (o : Option Memo). Some o) e
+there (x ∷ xs) (suc i) memo e = there xs i memo e
+
+both_true : (a b : Bool) → (a && b) ≡ true → (a ≡ true) × (b ≡ true)
+both_true true true e = (refl, refl)
+both_true true false e = absurd cc
+both_true false b e = absurd cc
+
+same_results : (a b : Change) → same_change a b ≡ true → change_results a ≡ change_results b
+same_results (Sets h a g) (Sets k b i) e = refl
+same_results (Creates d n m) (Creates f o p) e = refl
+same_results (MakesDirectory d n a) (MakesDirectory f o b) e = refl
+same_results (Removes d n) (Removes f o) e = refl
+same_results (RemovesDirectory d n) (RemovesDirectory f o) e = refl
+same_results (Renames d n f o) (Renames g p h q) e = refl
+same_results a b e = absurd cc
+
+-- a test and what it chooses
+if_results : (b : Bool) (x change : Change) → cond b (Some x) None ≡ Some change → change_results change ≡ change_results x
+if_results true x change e =
+    let same : x ≡ change = cc in
+    ap change_results (sym same)
+if_results false x change e = absurd cc
+
+module _ (n : ℕ) (caller : model.Caller) (call : model.Call) (moment : model.Moment) (either : (n ≡ 120) ⊎ (n ≡ 236))
+    (which : (change : Change) → change_of call ≡ Some change → change_results change ≡ n) where
+  after_short : (memos : List (Option Memo)) (answer : model.Answer) → Takes n answer → AreShort memos
+      → AreShort (memos_after memos caller call moment answer)
+  after_short memos answer t a = by (change_of call) (told_of answer) refl refl
+    where
+      by : (c : Option Change) (o : Option Told) → change_of call ≡ c → told_of answer ≡ o → AreShort (memos_with memos caller c moment o)
+      by None o f g = a
+      by (Some change) None f g = a
+      by (Some change) (Some told) f g =
+          one_more_short memos (place (length memos) caller) (record { caller = caller; change = change; moment = moment; told = told })
+          (subst (λ (k : ℕ). told_results told ≤ k) (sym (which change f)) (kept_short n answer told either g t)) a
+
+  in_short : (change : Change) (told : Told) (memo : Memo) (b : Bool) → is_of caller change moment memo ≡ b
+      → cond b (Some memo.told) None ≡ Some told → told_results memo.told ≤ change_results memo.change → told_results told ≤ change_results change
+  in_short change told memo false f e h = absurd cc
+  in_short change told memo true f e h =
+      let same : memo.told ≡ told = cc in
+      let parts = both_true (same_caller memo.caller caller && same_change memo.change change) (is_recent memo.moment moment) f in
+      let one = both_true (same_caller memo.caller caller) (same_change memo.change change) parts.0 in
+      subst (λ (x : Told). told_results x ≤ change_results change) same
+      (subst (λ (k : ℕ). told_results memo.told ≤ k) (same_results memo.change change one.1) h)
+
+  told_short : (memos : List (Option Memo)) (told : Told) → told_before memos caller call moment ≡ Some told → AreShort memos → told_results told ≤ n
+  told_short memos told e a = by (change_of call) refl e
+    where
+      found : (change : Change) (o : Option Memo) → slice_index_or memos (place (length memos) caller) None ≡ o
+          → told_in caller change moment o ≡ Some told → told_results told ≤ change_results change
+      found change None at f = absurd cc
+      found change (Some memo) at f =
+          in_short change told memo (is_of caller change moment memo) refl f
+          (a (place (length memos) caller) memo (there memos (place (length memos) caller) memo at))
+
+      by : (c : Option Change) → change_of call ≡ c → told_among memos caller c moment ≡ Some told → told_results told ≤ n
+      by None f g = absurd cc
+      by (Some change) f g =
+          subst (λ (k : ℕ). told_results told ≤ k) (which change f)
+          (found change (slice_index_or memos (place (length memos) caller) None) refl g)
+
+  once_fits : (volume : VolumeState) (effect : Effect) → AreShort volume.memos → Fits n volume effect
+      → Fits n volume (once caller call moment volume effect)
+  unfolding Fits
+  once_fits volume effect a f = by (told_before volume.memos caller call moment) refl
+    where
+      keeps : (effect : Effect) → Fits n volume effect → Fits n volume (remembered caller call moment volume effect)
+      keeps (Fails status) f = tt
+      keeps (Tells answer) f = (f, refl, λ m. after_short volume.memos answer f m)
+      keeps (Changes answer new) f = (f.0, f.1, λ m. after_short new.memos answer f.0 (f.2 m))
+
+      by : (o : Option Told) → told_before volume.memos caller call moment ≡ o
+          → Fits n volume (or_told volume o (remembered caller call moment volume effect))
+      by None e = keeps effect f
+      by (Some told) e =
+          more_takes (told_results told) n (answer_told volume.number told) (told_short volume.memos told e a) (told_takes volume.number told)
+
 -- ---- the server
 
 -- a reply with its room, and a server as roomy as before
@@ -390,10 +523,25 @@ set_eight (x ∷ xs) zero new e a (suc i) v h = a (suc i) v h
 set_eight (x ∷ xs) (suc j) new e a zero v h = a zero v h
 set_eight (x ∷ xs) (suc j) new e a (suc i) v h = set_eight xs j new e (λ k w g. a (suc k) w g) i v h
 
-set_roomy : (volumes : ℕ) (server : Server) (spare : List ℕ) (j : ℕ) (new : VolumeState) → length new.verifier ≡ 8 → IsRoomy volumes server
-    → IsRoomy volumes (record { spare = spare; volumes = slice_set server.volumes j new })
-set_roomy volumes server spare j new e r =
-    record { few = omega (arith, r.few, length-set server.volumes j new); verifiers = set_eight server.volumes j new e r.verifiers }
+abbrev AllShort : List VolumeState → Type 0
+AllShort vs = (i : ℕ) (v : VolumeState) → slice_get vs i ≡ Some v → AreShort v.memos
+
+set_short : (vs : List VolumeState) (j : ℕ) (new : VolumeState) → AreShort new.memos → AllShort vs → AllShort (slice_set vs j new)
+set_short [] j new e a i v h = a i v h
+set_short (x ∷ xs) zero new e a zero v h =
+    let same : new ≡ v = cc in
+    subst (λ (w : VolumeState). AreShort w.memos) same e
+set_short (x ∷ xs) zero new e a (suc i) v h = a (suc i) v h
+set_short (x ∷ xs) (suc j) new e a zero v h = a zero v h
+set_short (x ∷ xs) (suc j) new e a (suc i) v h = set_short xs j new e (λ k w g. a (suc k) w g) i v h
+
+set_roomy : (volumes : ℕ) (server : Server) (spare : List ℕ) (j : ℕ) (new : VolumeState) → length new.verifier ≡ 8 → AreShort new.memos
+    → IsRoomy volumes server → IsRoomy volumes (record { spare = spare; volumes = slice_set server.volumes j new })
+set_roomy volumes server spare j new e m r = record {
+  few = omega (arith, r.few, length-set server.volumes j new);
+  verifiers = set_eight server.volumes j new e r.verifiers;
+  memos = set_short server.volumes j new m r.memos;
+}
 
 placed_fits : (n volumes : ℕ) (server : Server) (absent index : ℕ) (old : VolumeState) (e : Effect) → slice_get server.volumes index ≡ Some old
     → Fits n old e → 4 + 4 * absent ≤ n → IsRoomy volumes server → StepFits n volumes (placed server absent index e)
@@ -404,7 +552,7 @@ placed_fits n volumes server absent index old (Changes answer new) i f h r =
     record {
       reply = success_fits n answer f.0;
       server = set_roomy volumes server server.spare index new (ap (λ (v : List ℕ). length v) f.1
-          ∙ r.verifiers index old i) r;
+          ∙ r.verifiers index old i) (f.2 (r.memos index old i)) r;
     }
 
 -- what is located is a volume of the server
@@ -421,11 +569,13 @@ located vs None = tt
 located vs (Some handle) = in_place vs handle (slice_get vs handle.volume) refl
 
 on_located : (n volumes : ℕ) (server : Server) (absent : ℕ) (o : Option Located) (run : VolumeState → ℕ → Effect) → IsIn server.volumes o
-    → ((volume : VolumeState) (fileid : ℕ) → length volume.verifier ≡ 8 → Fits n volume (run volume fileid)) → 4 + 4 * absent ≤ n → IsRoomy volumes server
+    → ((volume : VolumeState) (fileid : ℕ) → length volume.verifier ≡ 8 → AreShort volume.memos → Fits n volume (run volume fileid))
+    → 4 + 4 * absent ≤ n → IsRoomy volumes server
     → StepFits n volumes (on server absent o run)
 on_located n volumes server absent None run i f h r = failed_fits n volumes server model.BadHandle absent h r
 on_located n volumes server absent (Some l) run i f h r =
-    placed_fits n volumes server absent l.named.volume l.volume _ i (f l.volume l.named.fileid (r.verifiers l.named.volume l.volume i)) h r
+    placed_fits n volumes server absent l.named.volume l.volume _ i (f l.volume l.named.fileid (r.verifiers l.named.volume l.volume i)
+    (r.memos l.named.volume l.volume i)) h r
 
 root_located : (n volumes : ℕ) (server : Server) (absent : ℕ) (o : Option Located) (run : VolumeState → ℕ → Effect) → IsIn server.volumes o
     → ((volume : VolumeState) (fileid : ℕ) → Fits n volume (run volume fileid)) → 4 + 4 * absent ≤ n → IsRoomy volumes server
@@ -435,7 +585,8 @@ root_located n volumes server absent (Some l) run i f h r =
     placed_fits n volumes server absent l.named.volume l.volume _ i (f l.volume l.named.fileid) h r
 
 on_fits : (n volumes : ℕ) (server : Server) (absent : ℕ) (bytes : List ℕ) (run : VolumeState → ℕ → Effect)
-    → ((volume : VolumeState) (fileid : ℕ) → length volume.verifier ≡ 8 → Fits n volume (run volume fileid)) → 4 + 4 * absent ≤ n → IsRoomy volumes server
+    → ((volume : VolumeState) (fileid : ℕ) → length volume.verifier ≡ 8 → AreShort volume.memos → Fits n volume (run volume fileid))
+    → 4 + 4 * absent ≤ n → IsRoomy volumes server
     → StepFits n volumes (on server absent (locate server bytes) run)
 on_fits n volumes server absent bytes run =
     on_located n volumes server absent (locate server bytes) run (located server.volumes (handle_of (length server.volumes) bytes))
@@ -445,13 +596,14 @@ if_step n volumes true s t f g = f
 if_step n volumes false s t f g = g
 
 two_located : (n volumes : ℕ) (server : Server) (absent : ℕ) (from to : Option Located) (run : VolumeState → ℕ → ℕ → Effect) → IsIn server.volumes from
-    → ((volume : VolumeState) (a b : ℕ) → Fits n volume (run volume a b)) → 4 + 4 * absent ≤ n → IsRoomy volumes server
+    → ((volume : VolumeState) (a b : ℕ) → AreShort volume.memos → Fits n volume (run volume a b)) → 4 + 4 * absent ≤ n → IsRoomy volumes server
     → StepFits n volumes (on_two server absent from to run)
 two_located n volumes server absent None to run i f h r = failed_fits n volumes server model.BadHandle absent h r
 two_located n volumes server absent (Some from) None run i f h r = failed_fits n volumes server model.BadHandle absent h r
 two_located n volumes server absent (Some from) (Some to) run i f h r =
     if_step n volumes (from.named.volume == to.named.volume) _ _
-    (placed_fits n volumes server absent from.named.volume from.volume _ i (f from.volume from.named.fileid to.named.fileid) h r)
+    (placed_fits n volumes server absent from.named.volume from.volume _ i (f from.volume from.named.fileid to.named.fileid
+    (r.memos from.named.volume from.volume i)) h r)
     (failed_fits n volumes server model.CrossVolume absent h r)
 
 -- ---- GROW
@@ -479,7 +631,7 @@ grow_at_fits volumes server index (Some volume) ranges e r =
     (record {
       answer = grow_size (volume.total + volume.range_blocks * ranges);
       server = set_roomy volumes server _ index
-          (record volume { total = volume.total + volume.range_blocks * ranges }) (r.verifiers index volume e) r;
+          (record volume { total = volume.total + volume.range_blocks * ranges }) (r.verifiers index volume e) (r.memos index volume e) r;
     })))
 
 grow_fits : (volumes : ℕ) (server : Server) (index ranges : ℕ) → IsRoomy volumes server
@@ -501,69 +653,79 @@ length-census (v ∷ vs) = ap suc (length-census vs)
 census_fits : (volumes : ℕ) (server : Server) → IsRoomy volumes server → Takes (4 + 20 * volumes) (census server)
 census_fits volumes server r = record { bytes = omega (arith, r.few, length-census server.volumes, census_size (map count_of server.volumes)) }
 
-serve_fits : (volumes : ℕ) (server : Server) (call : model.Call) (who : model.Credential) (moment : model.Moment) → IsRoomy volumes server
-    → StepFits (results_room volumes call) volumes (serve server call who moment)
-serve_fits volumes server model.Null who moment r = stay_fits 0 volumes server model.NullDone (record { bytes = omega arith }) r
-serve_fits volumes server (model.Getattr handle) who moment r = on_fits 88 volumes server 0 handle _ (λ v f e. getattr_fits v f) (omega arith) r
-serve_fits volumes server (model.Setattr handle set guard) who moment r =
-    on_fits (4 + change_room) volumes server 2 handle _ (λ v f e. setattr_fits set guard moment v f) (omega arith) r
-serve_fits volumes server (model.Lookup directory name) who moment r =
-    on_fits lookup_room volumes server 1 directory _ (λ v f e. name_fits lookup_room name moment _ v f lookup_fits) (omega arith) r
-serve_fits volumes server (model.CheckAccess handle asked) who moment r =
-    on_fits 96 volumes server 1 handle _ (λ v f e. tell_fits 96 _ v f (λ a. access_size a (access_given who asked a))) (omega arith) r
-serve_fits volumes server (model.Read handle offset count) who moment r =
-    on_fits (read_room count) volumes server 1 handle _ (λ v f e. read_fits offset count v f) (omega arith) r
-serve_fits volumes server (model.Write handle offset count written) who moment r =
-    on_fits 28 volumes server 2 handle _ (λ v f e. write_fits (record { offset = offset; count = count; written = written; moment = moment }) v f e)
+serve_fits : (volumes : ℕ) (server : Server) (call : model.Call) (caller : model.Caller) (moment : model.Moment) → IsRoomy volumes server
+    → StepFits (results_room volumes call) volumes (serve server call caller moment)
+serve_fits volumes server model.Null caller moment r = stay_fits 0 volumes server model.NullDone (record { bytes = omega arith }) r
+serve_fits volumes server (model.Getattr handle) caller moment r = on_fits 88 volumes server 0 handle _ (λ v f e m. getattr_fits v f) (omega arith) r
+serve_fits volumes server (model.Setattr handle set guard) caller moment r =
+    on_fits (4 + change_room) volumes server 2 handle _ (λ v f e m. once_fits (4 + change_room) caller (model.Setattr handle set guard) moment (inl refl)
+    (if_results (length handle == 12) (Sets handle set guard)) v _ m (setattr_fits set guard moment v f)) (omega arith) r
+serve_fits volumes server (model.Lookup directory name) caller moment r =
+    on_fits lookup_room volumes server 1 directory _ (λ v f e m. name_fits lookup_room name moment _ v f lookup_fits) (omega arith) r
+serve_fits volumes server (model.CheckAccess handle asked) caller moment r =
+    on_fits 96 volumes server 1 handle _ (λ v f e m. tell_fits 96 _ v f (λ a. access_size a (access_given caller.credential asked a))) (omega arith) r
+serve_fits volumes server (model.Read handle offset count) caller moment r =
+    on_fits (read_room count) volumes server 1 handle _ (λ v f e m. read_fits offset count v f) (omega arith) r
+serve_fits volumes server (model.Write handle offset count written) caller moment r =
+    on_fits 28 volumes server 2 handle _ (λ v f e m. write_fits (record { offset = offset; count = count; written = written; moment = moment }) v f e)
     (omega arith) r
-serve_fits volumes server (model.Create directory name mode) who moment r =
-    on_fits made_room volumes server 2 directory _ (λ v f e. name_fits made_room name moment _ v f (create_fits mode who)) (omega arith) r
-serve_fits volumes server (model.Mkdir directory name set) who moment r =
-    on_fits made_room volumes server 2 directory _ (λ v f e. name_fits made_room name moment _ v f (mkdir_fits set who)) (omega arith) r
-serve_fits volumes server (model.Remove directory name) who moment r =
-    on_fits (4 + change_room) volumes server 2 directory _ (λ v f e. name_fits (4 + change_room) name moment _ v f remove_fits) (omega arith) r
-serve_fits volumes server (model.Rmdir directory name) who moment r =
-    on_fits (4 + change_room) volumes server 2 directory _ (λ v f e. name_fits (4 + change_room) name moment _ v f rmdir_fits) (omega arith) r
-serve_fits volumes server (model.Rename from from_name to to_name) who moment r =
+serve_fits volumes server (model.Create directory name mode) caller moment r =
+    on_fits made_room volumes server 2 directory _ (λ v f e m. once_fits made_room caller (model.Create directory name mode) moment (inr refl)
+    (if_results (is_short directory name) (Creates directory name mode)) v _ m
+    (name_fits made_room name moment _ v f (create_fits mode caller.credential))) (omega arith) r
+serve_fits volumes server (model.Mkdir directory name set) caller moment r =
+    on_fits made_room volumes server 2 directory _ (λ v f e m. once_fits made_room caller (model.Mkdir directory name set) moment (inr refl)
+    (if_results (is_short directory name) (MakesDirectory directory name set)) v _ m
+    (name_fits made_room name moment _ v f (mkdir_fits set caller.credential))) (omega arith) r
+serve_fits volumes server (model.Remove directory name) caller moment r =
+    on_fits (4 + change_room) volumes server 2 directory _ (λ v f e m. once_fits (4 + change_room) caller (model.Remove directory name) moment (inl refl)
+    (if_results (is_short directory name) (Removes directory name)) v _ m (name_fits (4 + change_room) name moment _ v f remove_fits)) (omega arith) r
+serve_fits volumes server (model.Rmdir directory name) caller moment r =
+    on_fits (4 + change_room) volumes server 2 directory _ (λ v f e m. once_fits (4 + change_room) caller (model.Rmdir directory name) moment (inl refl)
+    (if_results (is_short directory name) (RemovesDirectory directory name)) v _ m (name_fits (4 + change_room) name moment _ v f rmdir_fits))
+    (omega arith) r
+serve_fits volumes server (model.Rename from from_name to to_name) caller moment r =
     two_located rename_room volumes server 4 (locate server from) (locate server to) _ (located server.volumes (handle_of (length server.volumes) from))
-    (λ v a b. rename_fits from_name to_name moment v a b) (omega arith) r
-serve_fits volumes server (model.Readdir directory cookie verifier count) who moment r =
-    on_fits (readdir_room count) volumes server 1 directory _ (λ v f e. readdir_fits cookie verifier count v f) (omega arith) r
-serve_fits volumes server (model.Readdirplus directory cookie verifier names_count count) who moment r =
-    on_fits (readdir_room count) volumes server 1 directory _ (λ v f e. readdirplus_fits cookie verifier names_count count v f) (omega arith) r
-serve_fits volumes server (model.Fsstat handle) who moment r = on_fits 144 volumes server 1 handle _ (λ v f e. fsstat_fits v f) (omega arith) r
-serve_fits volumes server (model.Fsinfo handle) who moment r =
-    on_fits 140 volumes server 1 handle _ (λ v f e. tell_fits 140 _ v f (λ a. fsinfo_size a v.largest)) (omega arith) r
-serve_fits volumes server (model.Pathconf handle) who moment r =
-    on_fits 116 volumes server 1 handle _ (λ v f e. tell_fits 116 _ v f pathconf_size) (omega arith) r
-serve_fits volumes server (model.Commit handle) who moment r =
-    on_fits (4 + change_room + 8) volumes server 2 handle _ (λ v f e. commit_fits v f e) (omega arith) r
-serve_fits volumes server (model.Unsupported which) who moment r =
+    (λ v a b m. once_fits rename_room caller (model.Rename from from_name to to_name) moment (inr refl)
+    (if_results (is_short from from_name && is_short to to_name) (Renames from from_name to to_name)) v _ m (rename_fits from_name to_name moment v a b))
+    (omega arith) r
+serve_fits volumes server (model.Readdir directory cookie verifier count) caller moment r =
+    on_fits (readdir_room count) volumes server 1 directory _ (λ v f e m. readdir_fits cookie verifier count v f) (omega arith) r
+serve_fits volumes server (model.Readdirplus directory cookie verifier names_count count) caller moment r =
+    on_fits (readdir_room count) volumes server 1 directory _ (λ v f e m. readdirplus_fits cookie verifier names_count count v f) (omega arith) r
+serve_fits volumes server (model.Fsstat handle) caller moment r = on_fits 144 volumes server 1 handle _ (λ v f e m. fsstat_fits v f) (omega arith) r
+serve_fits volumes server (model.Fsinfo handle) caller moment r =
+    on_fits 140 volumes server 1 handle _ (λ v f e m. tell_fits 140 _ v f (λ a. fsinfo_size a v.largest)) (omega arith) r
+serve_fits volumes server (model.Pathconf handle) caller moment r =
+    on_fits 116 volumes server 1 handle _ (λ v f e m. tell_fits 116 _ v f pathconf_size) (omega arith) r
+serve_fits volumes server (model.Commit handle) caller moment r =
+    on_fits (4 + change_room + 8) volumes server 2 handle _ (λ v f e m. commit_fits v f e) (omega arith) r
+serve_fits volumes server (model.Unsupported which) caller moment r =
     failed_fits 16 volumes server model.NotSupported (absent_in which) (few_absent which) r
-serve_fits volumes server model.Census who moment r = stay_fits (4 + 20 * volumes) volumes server (census server) (census_fits volumes server r) r
-serve_fits volumes server (model.Grow volume ranges) who moment r = grow_fits volumes server volume ranges r
-serve_fits volumes server model.Stop who moment r = stay_fits 0 volumes server model.StopDone (record { bytes = omega arith }) r
-serve_fits volumes server (model.Mount call) who moment r =
+serve_fits volumes server model.Census caller moment r = stay_fits (4 + 20 * volumes) volumes server (census server) (census_fits volumes server r) r
+serve_fits volumes server (model.Grow volume ranges) caller moment r = grow_fits volumes server volume ranges r
+serve_fits volumes server model.Stop caller moment r = stay_fits 0 volumes server model.StopDone (record { bytes = omega arith }) r
+serve_fits volumes server (model.Mount call) caller moment r =
     stay_fits 204 volumes server (mount (length server.volumes) call) (mount_size (length server.volumes) call) r
-serve_fits volumes server (model.MountBelow root path) who moment r =
+serve_fits volumes server (model.MountBelow root path) caller moment r =
     root_located mount_room volumes server 0 (locate server root) _ (located server.volumes (handle_of (length server.volumes) root))
     (below_fits (parts_below path)) (omega arith) r
 
-serial_fits : (volumes : ℕ) (server : Server) (call : model.Call) (who : model.Credential) (moment : model.Moment) (starved : Bool) → IsRoomy volumes server
-    → StepFits (results_room volumes call) volumes (serial server (model.Ask call who) moment starved)
-serial_fits volumes server call who moment true r = record { reply = starved_fits (results_room volumes call); server = r }
-serial_fits volumes server call who moment false r = serve_fits volumes server call who moment r
+serial_fits : (volumes : ℕ) (server : Server) (call : model.Call) (caller : model.Caller) (moment : model.Moment) (starved : Bool) → IsRoomy volumes server
+    → StepFits (results_room volumes call) volumes (serial server (model.Ask call caller) moment starved)
+serial_fits volumes server call caller moment true r = record { reply = starved_fits (results_room volumes call); server = r }
+serial_fits volumes server call caller moment false r = serve_fits volumes server call caller moment r
 
 pub reply_fits : (form : HandleForm) (volumes : ℕ) (server : Server) (call : model.Call)
-    (who : model.Credential) (moment : model.Moment) (starved : Bool) (xid : ℕ)
+    (caller : model.Caller) (moment : model.Moment) (starved : Bool) (xid : ℕ)
     → IsRoomy volumes server
-    → length (reply_record xid (reply_told form (serial server (model.Ask call who) moment starved).reply)) ≤ reply_room volumes call
-reply_fits form volumes server call who moment starved xid r = (serial_fits volumes server call who moment starved r).reply form xid
+    → length (reply_record xid (reply_told form (serial server (model.Ask call caller) moment starved).reply)) ≤ reply_room volumes call
+reply_fits form volumes server call caller moment starved xid r = (serial_fits volumes server call caller moment starved r).reply form xid
 
 pub room_stays : (volumes : ℕ) (server : Server) (asked : model.Asked) (moment : model.Moment) (starved : Bool) → IsRoomy volumes server
     → IsRoomy volumes (serial server asked moment starved).server
 room_stays volumes server asked moment true r = r
-room_stays volumes server (model.Ask call who) moment false r = (serve_fits volumes server call who moment r).server
+room_stays volumes server (model.Ask call caller) moment false r = (serve_fits volumes server call caller moment r).server
 room_stays volumes server (model.Refused reply) moment false r = r
 room_stays volumes server model.Undecoded moment false r = r
 
@@ -576,13 +738,29 @@ opening_eight verifier number (x ∷ xs) e zero v h =
     ap (λ (w : VolumeState). length w.verifier) (sym same) ∙ e
 opening_eight verifier number (x ∷ xs) e (suc i) v h = opening_eight verifier (number + 1) xs e i v h
 
+none_short : (n : ℕ) → AreShort (replicate n None)
+none_short zero k memo e = absurd cc
+none_short (suc n) zero memo e = absurd cc
+none_short (suc n) (suc k) memo e = none_short n k memo e
+
+opening_short : (verifier : List ℕ) (number : ℕ) (vs : List VolumeLayout) → AllShort (opening_volumes verifier number vs)
+opening_short verifier number [] i v h = absurd cc
+opening_short verifier number (x ∷ xs) zero v h =
+    let same : opening_volume verifier number x ≡ v = cc in
+    subst (λ (w : VolumeState). AreShort w.memos) same (none_short x.remembered)
+opening_short verifier number (x ∷ xs) (suc i) v h = opening_short verifier (number + 1) xs i v h
+
 length-opening : (verifier : List ℕ) (number : ℕ) (vs : List VolumeLayout) → length (opening_volumes verifier number vs) ≡ length vs
 length-opening verifier number [] = refl
 length-opening verifier number (x ∷ xs) = ap suc (length-opening verifier (number + 1) xs)
 
 pub opening_is_roomy : (layout : Layout) (verifier : List ℕ) → length verifier ≡ 8 → IsRoomy (length layout.volumes) (opening layout verifier)
 opening_is_roomy layout verifier e =
-    record { few = omega (arith, length-opening verifier 0 layout.volumes); verifiers = opening_eight verifier 0 layout.volumes e }
+    record {
+      few = omega (arith, length-opening verifier 0 layout.volumes);
+      verifiers = opening_eight verifier 0 layout.volumes e;
+      memos = opening_short verifier 0 layout.volumes;
+    }
 
 -- ---- what is answered at once
 

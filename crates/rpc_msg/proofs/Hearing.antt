@@ -6,14 +6,14 @@ use Rattle.nfs_types.specs.Arguments.{asked}
 use Rattle.rpc_msg.specs.declared.handle_form.HandleForm.{HandleForm}
 use Rattle.rpc_msg.specs.declared.handle_form.HandleForm.TheVariants.{Plain}
 use Rattle.rpc_msg.specs.Heads.{Head, Call, Refused, Faulty}
-use Rattle.rpc_msg.specs.Records.{asked_by, heard_from, told_heard}
+use Rattle.rpc_msg.specs.Records.{asked_by, caller_by, heard_from, told_heard}
 
-asked_then : (form : HandleForm) (xid : ℕ) (who : model.Credential) (r : Result model.Call Unread)
-    → told_heard form (Ok (record { xid = xid; asked = asked_by Plain who r })) ≡ Ok (record { xid = xid; asked = asked_by form who r })
-asked_then form xid who (Ok call) = refl
-asked_then form xid who (Err fault) = refl
+asked_then : (form : HandleForm) (xid : ℕ) (caller : model.Caller) (r : Result model.Call Unread)
+    → told_heard form (Ok (record { xid = xid; asked = asked_by Plain caller r })) ≡ Ok (record { xid = xid; asked = asked_by form caller r })
+asked_then form xid caller (Ok call) = refl
+asked_then form xid caller (Err fault) = refl
 
 pub heard_then : (form : HandleForm) (head : Head) → told_heard form (heard_from Plain head) ≡ heard_from form head
-heard_then form (Call xid procedure who arguments) = asked_then form xid who (asked procedure arguments)
+heard_then form (Call xid procedure who arguments) = asked_then form xid (caller_by xid who) (asked procedure arguments)
 heard_then form (Refused xid reply) = refl
 heard_then form (Faulty number) = refl

@@ -22,7 +22,7 @@ use Rattle.rpc_msg.specs.Heads.{◌>>=◌, Stop, Body, whole, numbers_shape, aut
 use Rattle.rpc_msg.specs.Heads.{rejected_credential, version_by, procedures_by, is_numbered, available, of_version, procedure_by, under, xid_of, head_from}
 use Rattle.rpc_msg.specs.Heads.{Refuse}
 use Rattle.rpc_msg.specs.Calls.{IsCallBy, call_shape, call_value}
-use Rattle.rpc_msg.specs.Records.{asked_by, heard_from, heard_by}
+use Rattle.rpc_msg.specs.Records.{asked_by, caller_by, heard_from, heard_by}
 use Rattle.rpc_msg.specs.Hearing.{Begins, BeginsNone, Opens, flavor_of, size_of, Acts, IsHead, NoMessage, NoVersion, NoNumbers, NoBody, NoVerifier, TooLong}
 use Rattle.rpc_msg.specs.Hearing.{BadPadding, NoUser, HasBadCredential, IsHeardBy}
 use Rattle.rpc_msg.specs.lemmas.Numbered.{some_numbered}
@@ -96,9 +96,18 @@ module _ (offer : Offer) where
   call_told : (bytes : List ℕ) (xid : ℕ) (p : Procedure) (who : model.Credential) (arguments : List ℕ) → IsBytes arguments
       → IsCallBy offer bytes xid p who arguments
       → (r : Result model.Call Unread) → asked p arguments ≡ r → IsHeardBy offer bytes
-      (Ok (record { xid = xid; asked = asked_by (form_of offer) who r }))
+      (Ok (record { xid = xid; asked = asked_by (form_of offer) (caller_by xid who) r }))
   call_told bytes xid p who arguments fits c (Ok call) e =
-      record { procedure = p; arguments = arguments; head = c; came = call; asks = asked_found p arguments call fits e; heard = refl }
+      record {
+        procedure = p;
+        who = who;
+        arguments = arguments;
+        head = c;
+        came = call;
+        asks = asked_found p arguments call fits e;
+        caller_is = refl;
+        heard = refl;
+      }
   call_told bytes xid p who arguments fits c (Err fault) e =
       record {
         procedure = p;

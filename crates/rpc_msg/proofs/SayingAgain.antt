@@ -21,7 +21,7 @@ use Rattle.rpc_msg.specs.Replies.{auth_shape}
 use Rattle.rpc_msg.specs.Heads.{◌>>=◌, Stop, Body, whole, numbers_shape, auth_sys_shape, body_of, user_of, acting, credential_at, procedure_by, body_by}
 use Rattle.rpc_msg.specs.Heads.{under, xid_of, head_from, Refuse, bad_credential}
 use Rattle.rpc_msg.specs.Calls.{IsCallBy, call_shape, call_value}
-use Rattle.rpc_msg.specs.Records.{asked_by, heard_from, heard_by}
+use Rattle.rpc_msg.specs.Records.{asked_by, caller_by, heard_from, heard_by}
 use Rattle.rpc_msg.specs.Hearing.{Begins, BeginsNone, Opens, flavor_of, size_of, Acts, IsHead, IsIncomplete, NoMessage, NoVersion, NoNumbers, NoBody}
 use Rattle.rpc_msg.specs.Hearing.{NoVerifier, IsNoCall, IsOfAnotherRpc, HasAnotherFlavor, IsBadBody, TooLong, BadPadding, NoUser, HasBadCredential}
 use Rattle.rpc_msg.specs.Hearing.{IsOfNoProgramBy, IsOfAnotherVersionBy, IsOfNoProcedureBy, HasGarbageBy, IsAskingBy, IsRefusedWithBy, SaysBy, IsHeardBy}
@@ -238,28 +238,30 @@ module _ (offer : Offer) where
   call_bytes bytes xid p who arguments fits c =
       rest_bytes call_shape (call_value xid (numbers_of p) c.version c.cred c.verf) bytes arguments fits (record { fits = c.fits; parts = c.bytes_are })
 
-  garbage_by : (p : Procedure) (arguments : List ℕ) (who : model.Credential) → IsBytes arguments → ((call : model.Call) → Asks p arguments call → ⊥)
-      → (r : Result model.Call Unread) → asked p arguments ≡ r → asked_by (form_of offer) who r ≡ model.Refused model.GarbageArguments
-  garbage_by p arguments who fits none (Ok call) e = absurd (none call (asked_found p arguments call fits e))
-  garbage_by p arguments who fits none (Err fault) e = refl
+  garbage_by : (p : Procedure) (arguments : List ℕ) (caller : model.Caller) → IsBytes arguments → ((call : model.Call) → Asks p arguments call → ⊥)
+      → (r : Result model.Call Unread) → asked p arguments ≡ r → asked_by (form_of offer) caller r ≡ model.Refused model.GarbageArguments
+  garbage_by p arguments caller fits none (Ok call) e = absurd (none call (asked_found p arguments call fits e))
+  garbage_by p arguments caller fits none (Err fault) e = refl
 
   at_arguments : (bytes : List ℕ) (xid : ℕ) (p : Procedure) (who : model.Credential) (arguments : List ℕ) (a : model.Asked)
       → IsCallBy offer bytes xid p who arguments
-      → asked_by (form_of offer) who (asked p arguments) ≡ a → heard_by offer bytes ≡ Ok (record { xid = xid; asked = a })
+      → asked_by (form_of offer) (caller_by xid who) (asked p arguments) ≡ a → heard_by offer bytes ≡ Ok (record { xid = xid; asked = a })
   at_arguments bytes xid p who arguments a c e =
       ap (heard_from (form_of offer)) (call_again offer bytes xid p who arguments c) ∙ ap (λ (b : model.Asked). Ok (record { xid = xid; asked = b })) e
 
   garbage_again : (bytes : List ℕ) (xid : ℕ) → IsBytes bytes → HasGarbageBy offer bytes xid → heard_by offer bytes ≡ refused xid model.GarbageArguments
   garbage_again bytes xid fits g =
       at_arguments bytes xid g.procedure g.who g.arguments _ g.head
-      (garbage_by g.procedure g.arguments g.who (call_bytes bytes xid g.procedure g.who g.arguments fits g.head) g.none (asked g.procedure g.arguments) refl)
+      (garbage_by g.procedure g.arguments (caller_by xid g.who) (call_bytes bytes xid g.procedure g.who g.arguments fits g.head) g.none
+      (asked g.procedure g.arguments) refl)
 
-  asking_again : (bytes : List ℕ) (xid : ℕ) (call : model.Call) (who : model.Credential) → IsAskingBy offer bytes xid call who
-      → heard_by offer bytes ≡ Ok (record { xid = xid; asked = model.Ask call who })
-  asking_again bytes xid call who a =
-      at_arguments bytes xid a.procedure who a.arguments _ a.head
-      (ap (asked_by (form_of offer) who) (asked_again a.procedure a.arguments a.came a.asks)
-      ∙ ap (λ (c : model.Call). model.Ask c who) (sym a.heard))
+  asking_again : (bytes : List ℕ) (xid : ℕ) (call : model.Call) (caller : model.Caller) → IsAskingBy offer bytes xid call caller
+      → heard_by offer bytes ≡ Ok (record { xid = xid; asked = model.Ask call caller })
+  asking_again bytes xid call caller a =
+      at_arguments bytes xid a.procedure a.who a.arguments _ a.head
+      (ap (asked_by (form_of offer) (caller_by xid a.who)) (asked_again a.procedure a.arguments a.came a.asks)
+      ∙ ap (λ (c : model.Call). model.Ask c (caller_by xid a.who)) (sym a.heard)
+      ∙ ap (λ (c : model.Caller). model.Ask call c) (sym a.caller_is))
 
   -- ---- all together
 
@@ -277,7 +279,7 @@ module _ (offer : Offer) where
 
   says_again : (bytes : List ℕ) (xid : ℕ) (a : model.Asked) → IsBytes bytes → SaysBy offer bytes xid a
       → heard_by offer bytes ≡ Ok (record { xid = xid; asked = a })
-  says_again bytes xid (model.Ask call who) fits s = asking_again bytes xid call who s
+  says_again bytes xid (model.Ask call caller) fits s = asking_again bytes xid call caller s
   says_again bytes xid (model.Refused reply) fits s = refused_again bytes xid reply fits s
   says_again bytes xid model.Undecoded fits s = absurd s
 
@@ -353,6 +355,6 @@ module _ (offer : Offer) where
   pub exactly_garbage : (bytes : List ℕ) (xid : ℕ) → IsBytes bytes → Exactly (RefusesBy offer bytes xid model.GarbageArguments) (HasGarbageBy offer bytes xid)
   exactly_garbage bytes xid fits = exactly bytes (refused xid model.GarbageArguments) fits
 
-  pub exactly_call : (bytes : List ℕ) (xid : ℕ) (call : model.Call) (who : model.Credential) → IsBytes bytes
-      → Exactly (AsksForBy offer bytes xid call who) (IsAskingBy offer bytes xid call who)
-  exactly_call bytes xid call who fits = exactly bytes (Ok (record { xid = xid; asked = model.Ask call who })) fits
+  pub exactly_call : (bytes : List ℕ) (xid : ℕ) (call : model.Call) (caller : model.Caller) → IsBytes bytes
+      → Exactly (AsksForBy offer bytes xid call caller) (IsAskingBy offer bytes xid call caller)
+  exactly_call bytes xid call caller fits = exactly bytes (Ok (record { xid = xid; asked = model.Ask call caller })) fits

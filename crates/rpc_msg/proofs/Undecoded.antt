@@ -15,7 +15,7 @@ use Rattle.nfs_types.specs.Arguments.{arguments_shape, call_from, asked, takes_m
 use Rattle.nfs_types.specs.lemmas.Exact.{asked_is}
 use Rattle.rpc_msg.specs.declared.record.Request.TheVariants as requests
 use Rattle.rpc_msg.specs.Heads.{Call}
-use Rattle.rpc_msg.specs.Records.{asked_by, heard_from}
+use Rattle.rpc_msg.specs.Records.{asked_by, caller_by, heard_from}
 use Rattle.rpc_msg.specs.Seen.{Tells}
 
 -- a MNT has its path
@@ -49,8 +49,8 @@ pub undecoded : (xid : ℕ) (procedure : Procedure) (who : model.Credential) (ar
 undecoded xid procedure who arguments m = (
   m.1.0,
   (
-    who,
+    caller_by xid who,
     asked_has_bytes procedure arguments m.1.0 m.1.1 ∙ m.0,
-    ap (λ (r : Result model.Call Unread). Ok (record { xid = xid; asked = asked_by Plain who r })) m.1.1,
+    ap (λ (r : Result model.Call Unread). Ok (record { xid = xid; asked = asked_by Plain (caller_by xid who) r })) m.1.1,
   ),
 )

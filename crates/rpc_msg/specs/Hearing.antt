@@ -12,7 +12,7 @@ use Rattle.nfs_types.specs.Shapes.{◌&◌}
 use Rattle.rpc_msg.specs.Replies.{auth_shape}
 use Rattle.rpc_msg.specs.Heads.{numbers_shape, auth_sys_shape, version_by}
 use Rattle.rpc_msg.specs.Handles.{call_heard}
-use Rattle.rpc_msg.specs.Records.{heard_by}
+use Rattle.rpc_msg.specs.Records.{caller_by, heard_by}
 use Rattle.rpc_msg.specs.Calls.{ActsFor, IsCallBy, call_shape, call_value}
 
 -- ---- beginnings
@@ -144,13 +144,15 @@ pub record HasGarbageBy (offer : Offer) (bytes : List ℕ) (xid : ℕ) : Type 0 
 
 -- ---- calls
 
--- the record asks a call for a user: that of its arguments, as the server has its handles
-pub record IsAskingBy (offer : Offer) (bytes : List ℕ) (xid : ℕ) (call : model.Call) (who : model.Credential) : Type 0 where
+-- the record asks a call of a caller: that of its arguments, as the server has its handles, for its credential's user, under its xid
+pub record IsAskingBy (offer : Offer) (bytes : List ℕ) (xid : ℕ) (call : model.Call) (caller : model.Caller) : Type 0 where
   pub procedure : Procedure
+  pub who : model.Credential
   pub arguments : List ℕ
   pub head : IsCallBy offer bytes xid procedure who arguments
   pub came : model.Call
   pub asks : Asks procedure arguments came
+  pub caller_is : caller ≡ caller_by xid who
   pub heard : call ≡ call_heard (form_of offer) came
 
 -- ---- all together
@@ -166,7 +168,7 @@ IsRefusedWithBy offer bytes xid model.SystemError = ⊥
 IsRefusedWithBy offer bytes xid (model.Success answer) = ⊥
 
 abbrev pub SaysBy : Offer → List ℕ → ℕ → model.Asked → Type 0
-SaysBy offer bytes xid (model.Ask call who) = IsAskingBy offer bytes xid call who
+SaysBy offer bytes xid (model.Ask call caller) = IsAskingBy offer bytes xid call caller
 SaysBy offer bytes xid (model.Refused reply) = IsRefusedWithBy offer bytes xid reply
 SaysBy offer bytes xid model.Undecoded = ⊥
 
@@ -189,8 +191,8 @@ abbrev pub RefusesBy : Offer → List ℕ → ℕ → model.Reply → Type 0
 RefusesBy offer bytes xid reply = heard_by offer bytes ≡ Ok (record { xid = xid; asked = model.Refused reply })
 
 -- the record asks this call
-abbrev pub AsksForBy : Offer → List ℕ → ℕ → model.Call → model.Credential → Type 0
-AsksForBy offer bytes xid call who = heard_by offer bytes ≡ Ok (record { xid = xid; asked = model.Ask call who })
+abbrev pub AsksForBy : Offer → List ℕ → ℕ → model.Call → model.Caller → Type 0
+AsksForBy offer bytes xid call caller = heard_by offer bytes ≡ Ok (record { xid = xid; asked = model.Ask call caller })
 
 -- ---- with the basic offer
 
@@ -206,8 +208,8 @@ IsOfNoProcedure bytes xid = IsOfNoProcedureBy basic bytes xid
 abbrev pub HasGarbage : List ℕ → ℕ → Type 0
 HasGarbage bytes xid = HasGarbageBy basic bytes xid
 
-abbrev pub IsAsking : List ℕ → ℕ → model.Call → model.Credential → Type 0
-IsAsking bytes xid call who = IsAskingBy basic bytes xid call who
+abbrev pub IsAsking : List ℕ → ℕ → model.Call → model.Caller → Type 0
+IsAsking bytes xid call caller = IsAskingBy basic bytes xid call caller
 
 abbrev pub IsHeardAs : List ℕ → Result Heard ℕ → Type 0
 IsHeardAs bytes r = IsHeardBy basic bytes r
@@ -215,5 +217,5 @@ IsHeardAs bytes r = IsHeardBy basic bytes r
 abbrev pub Refuses : List ℕ → ℕ → model.Reply → Type 0
 Refuses bytes xid reply = RefusesBy basic bytes xid reply
 
-abbrev pub AsksFor : List ℕ → ℕ → model.Call → model.Credential → Type 0
-AsksFor bytes xid call who = AsksForBy basic bytes xid call who
+abbrev pub AsksFor : List ℕ → ℕ → model.Call → model.Caller → Type 0
+AsksFor bytes xid call caller = AsksForBy basic bytes xid call caller

@@ -10,20 +10,24 @@ use Rattle.nfs_types.specs.Arguments.{asked}
 use Rattle.rpc_msg.specs.Handles.{call_heard}
 use Rattle.rpc_msg.specs.Heads.{Head, Call, Refused, Faulty, head_by}
 
+-- who makes a call: whom it acts for under its record's xid. A record doesn't say where it comes from
+abbrev pub caller_by : ℕ → model.Credential → model.Caller
+caller_by xid credential = record { credential = credential; xid = xid; peer = 0 }
+
 -- the call, as the server has its handles, or GARBAGE_ARGS where its arguments are no spelling or bytes are left
-abbrev pub asked_by : HandleForm → model.Credential → Result model.Call Unread → model.Asked
-asked_by form credential (Ok call) = model.Ask (call_heard form call) credential
-asked_by form credential (Err fault) = model.Refused model.GarbageArguments
+abbrev pub asked_by : HandleForm → model.Caller → Result model.Call Unread → model.Asked
+asked_by form caller (Ok call) = model.Ask (call_heard form call) caller
+asked_by form caller (Err fault) = model.Refused model.GarbageArguments
 
 abbrev pub heard_from : HandleForm → Head → Result Heard ℕ
 heard_from form (Call xid procedure credential arguments) =
-    Ok (record { xid = xid; asked = asked_by form credential (asked procedure arguments) })
+    Ok (record { xid = xid; asked = asked_by form (caller_by xid credential) (asked procedure arguments) })
 heard_from form (Refused xid reply) = Ok (record { xid = xid; asked = model.Refused reply })
 heard_from form (Faulty number) = Err number
 
 -- what was told of a record, once the handles of its call are heard
 abbrev pub asked_heard : HandleForm → model.Asked → model.Asked
-asked_heard form (model.Ask call credential) = model.Ask (call_heard form call) credential
+asked_heard form (model.Ask call caller) = model.Ask (call_heard form call) caller
 asked_heard form asked = asked
 
 abbrev pub told_heard : HandleForm → Result Heard ℕ → Result Heard ℕ

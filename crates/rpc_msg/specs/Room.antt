@@ -1,6 +1,8 @@
 -- The room of a reply: the most bytes that its record takes, whatever the server answers.
-use Rattle.std.specs.Prelude.{◌≡◌, ℕ, ◌+◌, ◌*◌, ◌/◌, min, max, ◌≤◌, length, Some, slice_get}
+use Rattle.std.specs.Prelude.{◌≡◌, ℕ, ◌+◌, ◌*◌, ◌/◌, min, max, ◌≤◌, List, length, Option, Some, slice_get}
 use Rattle.nfs_model.specs.Types as model
+use Rattle.nfs_model.specs.Memo.{Change, Sets, Creates, MakesDirectory, Removes, RemovesDirectory, Renames, Told, ToldSet, ToldMade}
+use Rattle.nfs_model.specs.Memo.{ToldGone, ToldRenamed, Memo}
 use Rattle.nfs_model.specs.Server.{VolumeState, Server, most_bytes}
 
 -- a record's header, and a reply as far as its accept_stat (RFC 5531 sections 9 and 11)
@@ -71,7 +73,27 @@ results_room volumes (model.MountBelow root path) = mount_room
 abbrev pub reply_room : ℕ → model.Call → ℕ
 reply_room volumes call = head_room + results_room volumes call
 
--- Each write verifier is 8 bytes, and there are at most this many volumes.
+-- the most bytes of the results of a call that is done once, and of what it is told again (RFC 1813 section 3.3)
+abbrev pub change_results : Change → ℕ
+change_results (Sets handle set guard) = 4 + change_room
+change_results (Creates directory name mode) = made_room
+change_results (MakesDirectory directory name set) = made_room
+change_results (Removes directory name) = 4 + change_room
+change_results (RemovesDirectory directory name) = 4 + change_room
+change_results (Renames from from_name to to_name) = 4 + change_room + change_room
+
+abbrev pub told_results : Told → ℕ
+told_results (ToldSet change) = 4 + change_room
+told_results (ToldMade object directory) = made_room
+told_results (ToldGone directory) = 4 + change_room
+told_results (ToldRenamed from to) = 4 + change_room + change_room
+
+-- what is remembered of a call isn't longer than its results may be
+abbrev pub AreShort : List (Option Memo) → Type 0
+AreShort memos = (k : ℕ) (memo : Memo) → slice_get memos k ≡ Some (Some memo) → told_results memo.told ≤ change_results memo.change
+
+-- Each write verifier is 8 bytes, there are at most this many volumes, and what they remember is short.
 pub record IsRoomy (volumes : ℕ) (server : Server) : Type 0 where
   pub few : length server.volumes ≤ volumes
   pub verifiers : (i : ℕ) (volume : VolumeState) → slice_get server.volumes i ≡ Some volume → length volume.verifier ≡ 8
+  pub memos : (i : ℕ) (volume : VolumeState) → slice_get server.volumes i ≡ Some volume → AreShort volume.memos

@@ -6,6 +6,7 @@ use Rattle.nfs_model.specs.World as world
 use Rattle.nfs_model.specs.Serial.Starve.{has_bytes}
 use Rattle.nfs_values.specs.Call.{call_of}
 use Rattle.nfs_values.specs.Credential.{credential_of}
+use Rattle.nfs_values.specs.Caller.{caller_of}
 use Rattle.nfs_values.specs.Reply.{refusal_of}
 use Rattle.rpc_msg.specs.declared.fault.RecordFault.{RecordFault}
 use Rattle.rpc_msg.specs.declared.fault.RecordFault.TheVariants.{BadHeader, NotACall}
@@ -57,10 +58,10 @@ with_rest view x = (view x.0, x.1.now)
 
 -- What a record asks, as it is told. None is told only where memory ran out: where a call has a name or data.
 abbrev pub Tells : ℕ → Request → Result world.Heard ℕ → Type 0
-Tells xid (requests.Call call credential) heard = heard ≡ Ok (record { xid = xid; asked = model.Ask (call_of call) (credential_of credential) })
+Tells xid (requests.Call call caller) heard = heard ≡ Ok (record { xid = xid; asked = model.Ask (call_of call) (caller_of caller) })
 Tells xid (requests.Refused reply) heard = heard ≡ Ok (record { xid = xid; asked = model.Refused (refusal_of reply) })
 Tells xid requests.Undecoded heard =
-    (call : model.Call) × ((credential : model.Credential) × (has_bytes call ≡ true) × (heard ≡ Ok (record { xid = xid; asked = model.Ask call credential })))
+    (call : model.Call) × ((caller : model.Caller) × (has_bytes call ≡ true) × (heard ≡ Ok (record { xid = xid; asked = model.Ask call caller })))
 
 abbrev pub Hears : Result Heard RecordFault → Result world.Heard ℕ → Type 0
 Hears (Ok h) heard = Tells h.xid h.request heard

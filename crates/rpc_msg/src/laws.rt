@@ -35,10 +35,10 @@ ghost use Rattle.nfs_model.specs.Serial.AtOnce.{answer_without_home};
 /// affinity.
 pub fn replies_fit()
     ensures offered { (form : HandleForm) (volumes : ℕ) (server : Server) (call : model.Call)
-        (who : model.Credential) (moment : model.Moment) (starved : Bool) (xid : ℕ)
+        (caller : model.Caller) (moment : model.Moment) (starved : Bool) (xid : ℕ)
         → IsRoomy volumes server
         → length (reply_record xid
-        (reply_told form (serial server (model.Ask call who) moment starved).reply))
+        (reply_told form (serial server (model.Ask call caller) moment starved).reply))
         ≤ reply_room volumes call }
     ensures at_once { (form : HandleForm) (volumes : ℕ) (layout : Layout) (call : model.Call)
         (xid : ℕ)
@@ -182,22 +182,22 @@ pub fn versions_are_spelled()
 {}
 
 /// GARBAGE_ARGS exactly where the arguments are no spelling or bytes are left, and a call exactly
-/// where they spell it (RFC 5531 section 9).
+/// where they spell it, made under the record's xid (RFC 5531 section 9).
 pub fn arguments_are_spelled()
     ensures garbage { (bytes : List ℕ) (xid : ℕ)
         → AreBytes bytes
         → Exactly (Refuses bytes xid model.GarbageArguments) (HasGarbage bytes xid) }
-    ensures call { (bytes : List ℕ) (xid : ℕ) (call : model.Call) (who : model.Credential)
+    ensures call { (bytes : List ℕ) (xid : ℕ) (call : model.Call) (caller : model.Caller)
         → AreBytes bytes
-        → Exactly (AsksFor bytes xid call who) (IsAsking bytes xid call who) }
+        → Exactly (AsksFor bytes xid call caller) (IsAsking bytes xid call caller) }
     ensures any_garbage { (offer : Offer) (bytes : List ℕ) (xid : ℕ)
         → AreBytes bytes
         → Exactly (RefusesBy offer bytes xid model.GarbageArguments)
         (HasGarbageBy offer bytes xid) }
     ensures any_call { (offer : Offer) (bytes : List ℕ) (xid : ℕ) (call : model.Call)
-        (who : model.Credential)
+        (caller : model.Caller)
         → AreBytes bytes
-        → Exactly (AsksForBy offer bytes xid call who) (IsAskingBy offer bytes xid call who) }
+        → Exactly (AsksForBy offer bytes xid call caller) (IsAskingBy offer bytes xid call caller) }
 {}
 
 /// A record asks a call or is refused.

@@ -14,13 +14,13 @@ use crate::handles::hear;
 use crate::head::{Head, read_call_of};
 use crate::offer::Offer;
 use nfs_types::{Bad, decode_in_place};
-use nfs_values::{Call, Credential, Procedure, Refusal};
+use nfs_values::{Call, Caller, Credential, PeerAddress, Procedure, Refusal};
 use std::alloc::Global;
 
 /// What a record asks.
 #[derive(Drop)]
 pub enum Request {
-    Call { call: Call, credential: Credential },
+    Call { call: Call, caller: Caller },
     /// It is refused.
     Refused(Refusal),
     /// A call, but memory for its name ran out.
@@ -48,7 +48,14 @@ fn decode(
         (heard_from Plain (Asks xid procedure (credential_of credential) arguments)) }
 {
     match decode_in_place(alloc, procedure, record, from) {
-        Ok(call) => Request::Call { call, credential },
+        Ok(call) => Request::Call {
+            call,
+            caller: Caller {
+                credential,
+                xid,
+                peer: PeerAddress::NONE,
+            },
+        },
         Err(Bad::Fault(_fault)) => Request::Refused(Refusal::GarbageArguments),
         Err(Bad::NoMemory) => Request::Undecoded,
     }
@@ -86,10 +93,7 @@ fn hear_request(request: &mut Request, form: HandleForm)
         → Tells xid request.old told → Tells xid request.new (told_heard form told) }
 {
     match request {
-        Request::Call {
-            call,
-            credential: _,
-        } => hear(call, form),
+        Request::Call { call, caller: _ } => hear(call, form),
         Request::Refused(_) | Request::Undecoded => {}
     }
 }

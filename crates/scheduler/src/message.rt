@@ -1,7 +1,7 @@
 //! Calls on their way.
 
 use affinity::CallNode;
-use nfs_values::{ConnectionNumber, Credential};
+use nfs_values::{Caller, ConnectionNumber};
 
 /// The record that a call came in.
 #[derive(Clone, Copy)]
@@ -18,7 +18,7 @@ pub struct Origin {
 pub struct Message<C> {
     pub origin: Origin,
     pub call: C,
-    pub credential: Credential,
+    pub caller: Caller,
     /// What it tries: first the node that its call is at home in, then where it moved.
     pub affinity: CallNode,
     /// How many bytes its reply may take of the room that its connection has.

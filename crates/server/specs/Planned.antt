@@ -15,6 +15,7 @@ volume_planned plan begun = record {
   inodes = plan.inodes;
   most_steps = plan.most_steps;
   begun = begun;
+  remembered = plan.remembered;
 }
 
 -- this many volumes of a plan that begin at a moment, on one aggregate with its spare ranges

@@ -135,4 +135,5 @@ pub(crate) fn count_round<R>(
     let finished = waited.saturating_sub(lane.waiting());
     counting.finish(counter.tally, ended, finished);
     counting.answer(counter, lane.at_once(), begun, ended);
+    counter.tally.repeated(lane.repeated());
 }

@@ -40,6 +40,7 @@ pub(crate) fn layout_of(
         inodes: plan.inodes,
         most_steps: plan.most_steps,
         begun,
+        remembered: plan.remembered,
     };
     let specifications = [specification; MOST_VOLUMES];
     match Layout::with_sizes(alloc, &aggregates, &specifications[..volumes]) {

@@ -1,6 +1,7 @@
-//! Which peers may stop a server.
+//! Who is at the other end of a connection.
 
-use server_options::may_stop;
+use nfs_values::PeerAddress;
+use server_options::{address_of, may_stop};
 use std::net::{SocketAddr, TcpStream};
 use tcp_front::Peer;
 
@@ -10,5 +11,12 @@ pub(crate) fn peer_of(stream: &TcpStream, address: Option<SocketAddr>) -> Peer {
         (Some(address), Ok(own)) => may_stop(&own.ip(), &address),
         _ => false,
     };
-    Peer { is_privileged }
+    let address = match address {
+        Some(address) => address_of(&address),
+        None => PeerAddress::NONE,
+    };
+    Peer {
+        is_privileged,
+        address,
+    }
 }

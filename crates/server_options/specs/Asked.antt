@@ -31,6 +31,14 @@ usual_steps = 4294967295
 abbrev pub exported_steps : ℕ
 exported_steps = 4096
 
+-- the replies that a volume of `export` remembers, where nothing else is said
+abbrev pub exported_replies : ℕ
+exported_replies = 4096
+
+-- this many replies that a volume remembers
+abbrev pub AreReplies : ℕ → Type 0
+AreReplies replies = replies ≤ 65536
+
 -- this many bytes of a volume, from 4 MiB to 1 TiB
 abbrev pub IsVolumeSize : ℕ → Type 0
 IsVolumeSize bytes = 4 * mebibyte ≤ bytes × bytes ≤ most_size
@@ -43,7 +51,8 @@ IsFileSize bytes = 16 * mebibyte ≤ bytes × bytes ≤ most_size
 abbrev pub AreInodes : ℕ → Type 0
 AreInodes inodes = fewest_inodes ≤ inodes × inodes ≤ inodes_of_a_volume
 
--- the plan of `serve`: 4 ranges of 1,024 blocks, 8 stripes, files of 16 MiB, 65,536 inodes, more steps than these, and 16 spare ranges
+-- the plan of `serve`: 4 ranges of 1,024 blocks, 8 stripes, files of 16 MiB, 65,536 inodes, more steps than these, no reply
+-- remembered, and 16 spare ranges
 pub record IsBasic (plan : VolumePlan) : Type 0 where
   pub ranges : plan.ranges ≡ 4
   pub range_blocks : plan.range_blocks ≡ 1024
@@ -51,6 +60,7 @@ pub record IsBasic (plan : VolumePlan) : Type 0 where
   pub mib : plan.mib ≡ 16
   pub inodes : plan.inodes ≡ fewest_inodes
   pub steps : plan.most_steps ≡ usual_steps
+  pub remembered : plan.remembered ≡ 0
   pub spare : plan.spare ≡ 16
 
 -- volumes of this many ranges of 1,024 blocks, with files of 64 MiB and 65,536 inodes, which may grow
@@ -61,6 +71,7 @@ pub record HasRanges (ranges : ℕ) (plan : VolumePlan) : Type 0 where
   pub mib : plan.mib ≡ 64
   pub inodes : plan.inodes ≡ fewest_inodes
   pub steps : plan.most_steps ≡ exported_steps
+  pub remembered : plan.remembered ≡ exported_replies
   pub spare : plan.spare ≡ 128
 
 -- the bytes of a range of a volume, and of the volume at the start
@@ -81,6 +92,7 @@ pub record HasSize (bytes : ℕ) (plan : VolumePlan) : Type 0 where
   pub files : plan.mib ≡ max (bytes_of plan / mebibyte) 16
   pub inodes : plan.inodes ≡ max (bytes_of plan / 16384) fewest_inodes
   pub steps : plan.most_steps ≡ exported_steps
+  pub remembered : plan.remembered ≡ exported_replies
   pub spare : plan.spare ≡ 0
 
 -- another plan with files of at most this many bytes, in whole mebibytes, and else the same
@@ -91,6 +103,7 @@ pub record HasFiles (bytes : ℕ) (old new : VolumePlan) : Type 0 where
   pub stripes : new.stripes ≡ old.stripes
   pub inodes : new.inodes ≡ old.inodes
   pub steps : new.most_steps ≡ old.most_steps
+  pub remembered : new.remembered ≡ old.remembered
   pub spare : new.spare ≡ old.spare
 
 -- another plan with this many inodes at most, and else the same
@@ -100,6 +113,18 @@ pub record HasInodes (inodes : ℕ) (old new : VolumePlan) : Type 0 where
   pub range_blocks : new.range_blocks ≡ old.range_blocks
   pub stripes : new.stripes ≡ old.stripes
   pub mib : new.mib ≡ old.mib
+  pub steps : new.most_steps ≡ old.most_steps
+  pub remembered : new.remembered ≡ old.remembered
+  pub spare : new.spare ≡ old.spare
+
+-- another plan with this many replies remembered, and else the same
+pub record RemembersReplies (replies : ℕ) (old new : VolumePlan) : Type 0 where
+  pub given : new.remembered ≡ replies
+  pub ranges : new.ranges ≡ old.ranges
+  pub range_blocks : new.range_blocks ≡ old.range_blocks
+  pub stripes : new.stripes ≡ old.stripes
+  pub mib : new.mib ≡ old.mib
+  pub inodes : new.inodes ≡ old.inodes
   pub steps : new.most_steps ≡ old.most_steps
   pub spare : new.spare ≡ old.spare
 

@@ -1,10 +1,12 @@
 -- Whose connections are served (our profile).
 use Rattle.std.specs.Prelude.{◌≡◌, ℕ, ◌<◌, ◌/◌, ◌^◌, ◌⊎◌, ⊤, Option, Some, None, Any}
-use Rattle.std.specs.Net.Addr.{ipv6_bits, IsLoopbackV4, IsLoopbackV6, MatchIp}
+use Rattle.std.specs.Net.Addr.{ipv4_bits, ipv6_bits, IsLoopbackV4, IsLoopbackV6, MatchIp}
 use Rattle.std.specs.Net.Socket.{socket_ip, socket_port}
 use Rattle.std.specs.declared.net.ipv6_addr.Ipv6Addr.{Ipv6Addr}
 use Rattle.std.specs.declared.net.ip_addr.IpAddr.{IpAddr}
+use Rattle.std.specs.declared.net.ip_addr.IpAddr.TheVariants.{V4, V6}
 use Rattle.std.specs.declared.net.socket_addr.SocketAddr.{SocketAddr}
+use Rattle.nfs_values.specs.declared.caller.PeerAddress.{PeerAddress}
 use Rattle.server_options.specs.declared.network.Network.{Network}
 use Rattle.server_options.specs.declared.peers.Peers.{Peers}
 use Rattle.server_options.specs.declared.peers.Peers.TheVariants.{All, Loopback, Networks}
@@ -34,3 +36,15 @@ IsHere own address = Serves Loopback address ⊎ IsIn own (width_of own) address
 -- A peer of such a connection may stop the server: this machine, from a port below 1024, which systems give to root alone.
 abbrev pub MayStop : IpAddr → SocketAddr → Type 0
 MayStop own peer = (socket_port peer < 1024) × IsHere own (socket_ip peer)
+
+-- ---- where calls come from
+
+-- an address is at a number of 128 bits: an IPv4 address at its 32 bits, also in IPv6's form
+abbrev pub IsAt : IpAddr → ℕ → Type 0
+IsAt (V4 ip) number = number ≡ ipv4_bits ip
+IsAt (V6 ip) number = (IsMapped (ipv6_bits ip) × (number ≡ mapped_in (ipv6_bits ip)))
+    ⊎ ((IsMapped (ipv6_bits ip) → ⊥) × (number ≡ ipv6_bits ip))
+
+-- the calls of a peer come from there
+abbrev pub ComesFrom : SocketAddr → PeerAddress → Type 0
+ComesFrom peer from = IsAt (socket_ip peer) from.address × (from.port ≡ socket_port peer)

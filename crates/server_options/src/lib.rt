@@ -13,6 +13,6 @@ pub use clerk::{MOST_MINUTES, Period};
 pub use idle::{IdleTime, MOST_IDLE_SECONDS};
 pub use network::Network;
 pub use options::Options;
-pub use peers::{MOST_NETWORKS, Peers, may_stop};
-pub use plan::{LEAST_VOLUME, MOST_BYTES, VolumePlan};
+pub use peers::{MOST_NETWORKS, Peers, address_of, may_stop};
+pub use plan::{LEAST_VOLUME, MOST_BYTES, MOST_REPLIES, VolumePlan};
 pub use tends::MOST_WORKERS;

@@ -1,9 +1,11 @@
 //! Whose connections are served.
 
 ghost use Rattle.std.specs.Prelude.{◌↔◌, Any, IsTrue};
-ghost use Rattle.server_options.specs.Peers.{IsHere, IsNamed, IsOwnV6, MayStop, Serves};
+ghost use Rattle.server_options.specs.Peers.{ComesFrom, IsAt, IsHere, IsNamed, IsOwnV6, MayStop};
+ghost use Rattle.server_options.specs.Peers.{Serves};
 
 use crate::network::{Network, is_mapped, mapped_in};
+use nfs_values::PeerAddress;
 use std::fmt;
 use std::net::{IpAddr, Ipv6Addr, SocketAddr};
 
@@ -77,6 +79,32 @@ pub fn may_stop(own: &IpAddr, peer: &SocketAddr) -> bool
     ensures { IsTrue result ↔ MayStop own.now peer.now }
 {
     peer.port() < 1_024 && is_here(own, &peer.ip())
+}
+
+/// The number of an address: of an IPv4 address its 32 bits, also where it is in IPv6's form.
+fn number_of(address: &IpAddr) -> u128
+    ensures { IsAt address.now result }
+{
+    match address {
+        IpAddr::V4(own) => own.to_bits() as u128,
+        IpAddr::V6(own) => {
+            let number = own.to_bits();
+            if is_mapped(number) {
+                return mapped_in(number) as u128;
+            }
+            number
+        }
+    }
+}
+
+/// Where the calls of a peer come from.
+pub fn address_of(peer: &SocketAddr) -> PeerAddress
+    ensures { ComesFrom peer.now result }
+{
+    PeerAddress {
+        address: number_of(&peer.ip()),
+        port: peer.port(),
+    }
 }
 
 /// Tells networks, each after a comma but the first.

@@ -21,6 +21,12 @@ pub const MOST_BYTES: u64 = 1_099_511_627_776;
 /// The most steps of a RENAME of a directory in a volume of `export`.
 const EXPORTED_STEPS: u32 = 4_096;
 
+/// The replies that a volume of `export` remembers.
+const EXPORTED_REPLIES: u32 = 4_096;
+
+/// The most replies that a volume may remember.
+pub const MOST_REPLIES: u32 = 65_536;
+
 /// What each volume has at the start, and what all of them may grow by.
 #[derive(Clone, Copy)]
 pub struct VolumePlan {
@@ -36,6 +42,8 @@ pub struct VolumePlan {
     pub inodes: u32,
     /// How many steps from a directory to its parent a RENAME of a directory takes at most.
     pub most_steps: u32,
+    /// How many replies it remembers at most, for calls that come again.
+    pub remembered: u32,
     /// Ranges by which the volumes may grow, all together.
     pub spare: u32,
     pub ghost some_range: { 0 < ranges },
@@ -44,6 +52,7 @@ pub struct VolumePlan {
     pub ghost files_to: { mib ≤ 1048576 },
     pub ghost inodes_from: { 65536 ≤ inodes },
     pub ghost inodes_to: { inodes ≤ 67108864 },
+    pub ghost replies_fit: { remembered ≤ 65536 },
 }
 
 /// The fewest blocks of a range of which 16 have this many.
@@ -63,6 +72,7 @@ fn range_blocks_for(blocks: u32) -> u32
 impl VolumePlan {
     ghost use Rattle.std.specs.Prelude.{IfNone, IfSome};
     ghost use Rattle.server_options.specs.Asked.{bytes_of, AreInodes, AreRanges, IsBasic};
+    ghost use Rattle.server_options.specs.Asked.{AreReplies, RemembersReplies};
     ghost use Rattle.server_options.specs.Asked.{HasFiles, HasInodes, HasRanges, HasSize};
     ghost use Rattle.server_options.specs.Asked.{IsFileSize, IsVolumeSize};
 
@@ -77,6 +87,7 @@ impl VolumePlan {
             mib: 16,
             inodes: INODES,
             most_steps: STEPS,
+            remembered: 0,
             spare: 16,
         }
     }
@@ -98,6 +109,7 @@ impl VolumePlan {
             mib: 64,
             inodes: INODES,
             most_steps: EXPORTED_STEPS,
+            remembered: EXPORTED_REPLIES,
             spare: 128,
         })
     }
@@ -126,6 +138,7 @@ impl VolumePlan {
             mib: mebibytes as u32,
             inodes: inodes as u32,
             most_steps: EXPORTED_STEPS,
+            remembered: EXPORTED_REPLIES,
             spare: 0,
         })
     }
@@ -155,6 +168,20 @@ impl VolumePlan {
         }
         let mut plan = self;
         plan.inodes = inodes;
+        Some(plan)
+    }
+
+    /// The plan with this many replies remembered, up to 65,536.
+    pub fn with_remembered(self, replies: u32) -> Option<VolumePlan>
+        ensures given { IfSome result (RemembersReplies replies self) }
+        ensures in_range { IfSome result (λ plan. AreReplies replies) }
+        ensures refused { IfNone result (AreReplies replies → ⊥) }
+    {
+        if replies > MOST_REPLIES {
+            return None;
+        }
+        let mut plan = self;
+        plan.remembered = replies;
         Some(plan)
     }
 

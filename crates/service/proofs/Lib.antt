@@ -3,3 +3,4 @@ mod Runs
 mod Handed
 mod InHand
 mod Once
+mod Remembered

@@ -3,7 +3,7 @@ use Rattle.std.proofs.Common.{◌≡◌, ℕ, false, List, [], length, Option, S
 use Rattle.std.specs.Prelude.{IfNone, IfOk, OnErr}
 use Rattle.std.specs.declared.alloc.AllocError.{AllocError}
 use Rattle.nfs_model.specs.Types as types
-use Rattle.nfs_model.specs.Types.{Credential, Moment, Call}
+use Rattle.nfs_model.specs.Types.{Caller, Moment, Call}
 use Rattle.nfs_model.specs.Tree.{Layout, Affinity, Logical, Volume}
 use Rattle.nfs_model.specs.Home.{named_by}
 use Rattle.nfs_model.specs.Server.{Named}
@@ -28,7 +28,7 @@ use Rattle.filer_state.specs.state.Running.{RunsOn, UnlessReplied}
 use Rattle.service_data.specs.Writing.{asked_to_write, writing_outcome, written_outcome}
 use Rattle.service.specs.renames.Promises.{Renames, renaming_outcome}
 use Rattle.service.specs.totals.FilesystemStatus.{TellsFilesystemStatus}
-use Rattle.service.specs.Running.{fileid_in, call_named, call_of_node, call_on}
+use Rattle.service.specs.Running.{fileid_in, effect_named, call_of_node, call_on}
 
 -- an entry of a call is its run
 pub served-runs : (v : ℕ) (c : VolumeCall) (old new : LogicalSet) (answer : types.Answer)
@@ -38,24 +38,24 @@ served-runs v c old new answer right =
     λ p hands hands' made has numbered sound moved. let r = right p hands hands' made has numbered sound moved in (r.0.0, r.1)
 
 -- a call run on the fileid that its handle names is run on its handle
-pub runs-here : {S : Type 0} (layout : Layout) (v : ℕ) (lens : Lens VolumeContents S) (a : Affinity) (fileid : ℕ) (call : Call) (credential : Credential)
+pub runs-here : {S : Type 0} (layout : Layout) (v : ℕ) (lens : Lens VolumeContents S) (a : Affinity) (fileid : ℕ) (call : Call) (caller : Caller)
     (moment : Moment) (old new : S) (outcome : works.Outcome) → fileid ≡ fileid_in (named_by layout (handle_in call))
-    → RunsOn v lens (call_of_node layout a fileid credential moment call) old outcome new
-    → RunsOn v lens (call_on layout a credential moment call) old outcome new
-runs-here layout v lens a fileid call credential moment old new outcome is runs =
-    subst (λ (f : ℕ). RunsOn v lens (call_of_node layout a f credential moment call) old outcome new) is runs
+    → RunsOn v lens (call_of_node layout a fileid caller moment call) old outcome new
+    → RunsOn v lens (call_on layout a caller moment call) old outcome new
+runs-here layout v lens a fileid call caller moment old new outcome is runs =
+    subst (λ (f : ℕ). RunsOn v lens (call_of_node layout a f caller moment call) old outcome new) is runs
 
 -- a RENAME to the directory that its second handle names is run on its first
-pub renaming-runs : (layout : Layout) (named other : Named) (from from_name to to_name : List ℕ) (credential : Credential) (moment : Moment)
+pub renaming-runs : (layout : Layout) (named other : Named) (from from_name to to_name : List ℕ) (caller : Caller) (moment : Moment)
     (old new : LogicalSet) (told : Result (Result RenameResults Status) AllocError) (outcome : works.Outcome)
     → named_by layout to ≡ Some other → other.volume ≡ named.volume → outcome ≡ renaming_outcome told
     → Renames named.volume named.fileid from_name other.fileid to_name moment old told new
-    → RunsOn named.volume logical_lens (call_named layout named credential moment (types.Rename from from_name to to_name)) old outcome new
-renaming-runs layout named other from from_name to to_name credential moment old new told outcome is same comes right =
+    → RunsOn named.volume logical_lens (effect_named layout named caller moment (types.Rename from from_name to to_name)) old outcome new
+renaming-runs layout named other from from_name to to_name caller moment old new told outcome is same comes right =
     let v = named.volume in
     let there : named_by layout to ≡ Some (record { volume = v; fileid = other.fileid }) = is
     ∙ (λ j. Some (record { volume = same j; fileid = other.fileid })) in
-    subst (λ (o : works.Outcome). RunsOn v logical_lens (call_named layout named credential moment (types.Rename from from_name to to_name)) old o new)
+    subst (λ (o : works.Outcome). RunsOn v logical_lens (effect_named layout named caller moment (types.Rename from from_name to to_name)) old o new)
     (sym comes)
     (subst (λ (id : ℕ). RunsOn v logical_lens (rename_call from to (Logical v) named.fileid from_name id to_name moment) old (renaming_outcome told) new)
     (sym (ap fileid_in is)) (right (length layout.volumes) from to there))
@@ -68,22 +68,35 @@ unless-any (Moved other) A a = a
 
 -- a WRITE of the bytes of a call is run as the call
 pub writing-runs : {S : Type 0} (layout : Layout) (v : ℕ) (lens : Lens VolumeContents S) (node : Affinity) (fileid : ℕ) (call : codes.Call)
-    (handle : List ℕ) (offset count : ℕ) (bytes written : List ℕ) (credential : Credential) (moment : Moment) (old new : S)
+    (handle : List ℕ) (offset count : ℕ) (bytes written : List ℕ) (caller : Caller) (moment : Moment) (old new : S)
     (outcome told : works.Outcome) → call_of call ≡ types.Write handle offset count bytes → written ≡ bytes → outcome ≡ told
     → RunsOn v lens (write_call handle node fileid (asked_to_write offset count written moment)) old told new
-    → RunsOn v lens (call_of_node layout node fileid credential moment (call_of call)) old outcome new
-writing-runs layout v lens node fileid call handle offset count bytes written credential moment old new outcome told is same comes right =
-    subst (λ (c : Call). RunsOn v lens (call_of_node layout node fileid credential moment c) old outcome new) (sym is)
+    → RunsOn v lens (call_of_node layout node fileid caller moment (call_of call)) old outcome new
+writing-runs layout v lens node fileid call handle offset count bytes written caller moment old new outcome told is same comes right =
+    subst (λ (c : Call). RunsOn v lens (call_of_node layout node fileid caller moment c) old outcome new) (sym is)
     (subst (λ (o : works.Outcome). RunsOn v lens (write_call handle node fileid (asked_to_write offset count bytes moment)) old o new) (sym comes)
     (subst (λ (bs : List ℕ). RunsOn v lens (write_call handle node fileid (asked_to_write offset count bs moment)) old told new) same right))
 
+-- the same under Logical, as where nothing is remembered
+pub writing-effect : (layout : Layout) (named : Named) (call : codes.Call) (handle : List ℕ) (offset count : ℕ) (bytes written : List ℕ)
+    (caller : Caller) (moment : Moment) (old new : LogicalSet) (outcome told : works.Outcome) → call_of call ≡ types.Write handle offset count bytes
+    → written ≡ bytes → outcome ≡ told
+    → RunsOn named.volume logical_lens (write_call handle (Logical named.volume) named.fileid (asked_to_write offset count written moment)) old told new
+    → RunsOn named.volume logical_lens (effect_named layout named caller moment (call_of call)) old outcome new
+writing-effect layout named call handle offset count bytes written caller moment old new outcome told is same comes right =
+    let v = named.volume in
+    let asks = λ (bs : List ℕ). write_call handle (Logical v) named.fileid (asked_to_write offset count bs moment) in
+    subst (λ (c : Call). RunsOn v logical_lens (effect_named layout named caller moment c) old outcome new) (sym is)
+    (subst (λ (o : works.Outcome). RunsOn v logical_lens (asks bytes) old o new) (sym comes)
+    (subst (λ (bs : List ℕ). RunsOn v logical_lens (asks bs) old told new) same right))
+
 -- FSSTAT of what a call names is run as the call
-pub filesystem-status-runs : (layout : Layout) (v : ℕ) (fileid : ℕ) (call : codes.Call) (handle : List ℕ) (credential : Credential) (moment : Moment)
+pub filesystem-status-runs : (layout : Layout) (v : ℕ) (fileid : ℕ) (call : codes.Call) (handle : List ℕ) (caller : Caller) (moment : Moment)
     (old : VolumeSet) (told : Result FilesystemStatusResults Status) → call_of call ≡ types.Fsstat handle → TellsFilesystemStatus v fileid old told
-    → RunsOn v volume_lens (call_of_node layout (Volume v) fileid credential moment (call_of call)) old
+    → RunsOn v volume_lens (call_of_node layout (Volume v) fileid caller moment (call_of call)) old
     (Replied (types.Success (answer_of (FilesystemStatus told)))) old
-filesystem-status-runs layout v fileid call handle credential moment old told is right =
-    subst (λ (c : Call). RunsOn v volume_lens (call_of_node layout (Volume v) fileid credential moment c) old
+filesystem-status-runs layout v fileid call handle caller moment old told is right =
+    subst (λ (c : Call). RunsOn v volume_lens (call_of_node layout (Volume v) fileid caller moment c) old
     (Replied (types.Success (answer_of (FilesystemStatus told)))) old) (sym is) (right handle)
 
 -- where it moves nothing has changed: in a stripe

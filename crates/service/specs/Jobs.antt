@@ -5,7 +5,7 @@ use Rattle.nfs_model.specs.Parts.{Hand}
 use Rattle.nfs_model.specs.Replay as replay
 use Rattle.affinity.specs.Affinity.{call_node}
 use Rattle.nfs_values.specs.Call.{call_of}
-use Rattle.nfs_values.specs.Credential.{credential_of}
+use Rattle.nfs_values.specs.Caller.{caller_of}
 use Rattle.nfs_values.specs.Moment.{moment_of}
 use Rattle.nfs_values.specs.Reply.{reply_of}
 use Rattle.depot_rule.specs.Machine.{IsLocal, Keeps}
@@ -28,7 +28,7 @@ use Rattle.service.specs.declared.job.JobReply.TheVariants as replies
 
 -- what it asks
 abbrev pub asked_in : ServedCall → types.Asked
-asked_in c = types.Ask (call_of c.call) (credential_of c.credential)
+asked_in c = types.Ask (call_of c.call) (caller_of c.caller)
 
 abbrev pub finished_of : ServedCall → replay.FinishedCall
 finished_of c = record {

@@ -1,7 +1,7 @@
 -- A call run on the parcels under its home.
-use Rattle.std.specs.Prelude.{◌≡◌, ◌⊎◌, ℕ, ◌<◌, min, Bool, true, false, [], Option, Some, None}
+use Rattle.std.specs.Prelude.{◌≡◌, ◌⊎◌, ℕ, ◌<◌, min, Bool, true, false, if◌then◌else◌, [], List, Option, Some, None}
 use Rattle.nfs_model.specs.Types as types
-use Rattle.nfs_model.specs.Types.{Ask, Credential, Moment, Stale}
+use Rattle.nfs_model.specs.Types.{Ask, Caller, Moment, Stale}
 use Rattle.nfs_model.specs.Tree.{Layout, Affinity, Volume, Logical, stripes_of}
 use Rattle.nfs_model.specs.Route.{Route, AtOnce, OfBytesRead, OfBytesWritten, OfVolume, OfAggregate, OfEverything, route}
 use Rattle.nfs_model.specs.Home.{home_of_route, named_by}
@@ -17,6 +17,9 @@ use Rattle.nfs_model.specs.Serial.Fsstat.{fsstat}
 use Rattle.nfs_model.specs.Serial.Lookup.{lookup}
 use Rattle.nfs_model.specs.Serial.Mkdir.{mkdir}
 use Rattle.nfs_model.specs.Serial.Mount.{parts_below}
+use Rattle.nfs_model.specs.Serial.Once.{memos_after, once}
+use Rattle.nfs_model.specs.Memo.{Memo}
+use Rattle.nfs_model.specs.volume.Logical.{LogicalValue}
 use Rattle.nfs_model.specs.Serial.MountBelow.{mount_below}
 use Rattle.nfs_model.specs.Serial.Read.{read}
 use Rattle.nfs_model.specs.Serial.Readdir.{readdir}
@@ -47,6 +50,15 @@ abbrev pub outcome_of : Outcome → works.Outcome
 outcome_of (Replied reply) = works.Replied (reply_of reply)
 outcome_of Starved = works.Starved
 outcome_of (Moved home) = works.Moved (call_node home)
+
+-- what is remembered after an outcome of a call
+abbrev pub memos_left : Caller → types.Call → Moment → works.Outcome → List (Option Memo) → List (Option Memo)
+memos_left caller call moment (works.Replied (types.Success answer)) memos = memos_after memos caller call moment answer
+memos_left caller call moment outcome memos = memos
+
+-- what Volume Logical has, once that is remembered
+abbrev pub remembering : Caller → types.Call → Moment → works.Outcome → LogicalValue → LogicalValue
+remembering caller call moment outcome l = record l { memos = memos_left caller call moment outcome l.memos }
 
 -- ---- what is run
 
@@ -111,49 +123,70 @@ abbrev pub other_in : Layout → types.Call → ℕ
 other_in layout (types.Rename from from_name to to_name) = fileid_in (named_by layout to)
 other_in layout call = 0
 
--- What the serial server does on the volume of the handle, for the calls that are run so far. RENAME is to the directory of another
--- fileid, or of the same.
-abbrev pub procedure : types.Call → ℕ → Credential → Moment → VolumeState → ℕ → Effect
-procedure (types.Getattr handle) other credential moment = getattr
-procedure (types.Setattr handle set guard) other credential moment = setattr set guard moment
-procedure (types.Lookup directory name) other credential moment = on_name name moment lookup
-procedure (types.CheckAccess handle asked) other credential moment = access asked credential
-procedure (types.Read handle offset count) other credential moment = read offset count
-procedure (types.Write handle offset count written) other credential moment =
+-- What the serial server does on the volume of the handle where nothing is remembered, for the calls that are run so far. RENAME is to
+-- the directory of another fileid, or of the same.
+abbrev pub effect : types.Call → ℕ → Caller → Moment → VolumeState → ℕ → Effect
+effect (types.Getattr handle) other caller moment = getattr
+effect (types.Setattr handle set guard) other caller moment = setattr set guard moment
+effect (types.Lookup directory name) other caller moment = on_name name moment lookup
+effect (types.CheckAccess handle asked) other caller moment = access asked caller.credential
+effect (types.Read handle offset count) other caller moment = read offset count
+effect (types.Write handle offset count written) other caller moment =
     write (record { offset = offset; count = count; written = written; moment = moment })
-procedure (types.Create directory name mode) other credential moment = on_name name moment (create mode credential)
-procedure (types.Mkdir directory name set) other credential moment = on_name name moment (mkdir set credential)
-procedure (types.Remove directory name) other credential moment = on_name name moment remove_name
-procedure (types.Rmdir directory name) other credential moment = on_name name moment rmdir
-procedure (types.Rename from from_name to to_name) other credential moment = λ volume fileid. rename from_name to_name moment volume fileid other
-procedure (types.Readdir directory cookie verifier count) other credential moment = readdir cookie verifier count
-procedure (types.Readdirplus directory cookie verifier names_count count) other credential moment =
+effect (types.Create directory name mode) other caller moment = on_name name moment (create mode caller.credential)
+effect (types.Mkdir directory name set) other caller moment = on_name name moment (mkdir set caller.credential)
+effect (types.Remove directory name) other caller moment = on_name name moment remove_name
+effect (types.Rmdir directory name) other caller moment = on_name name moment rmdir
+effect (types.Rename from from_name to to_name) other caller moment = λ volume fileid. rename from_name to_name moment volume fileid other
+effect (types.Readdir directory cookie verifier count) other caller moment = readdir cookie verifier count
+effect (types.Readdirplus directory cookie verifier names_count count) other caller moment =
     readdirplus cookie verifier names_count count
-procedure (types.Fsstat handle) other credential moment = fsstat
-procedure (types.Fsinfo handle) other credential moment = fsinfo
-procedure (types.Pathconf handle) other credential moment = pathconf
-procedure (types.Commit handle) other credential moment = commit
-procedure (types.MountBelow root path) other credential moment = mount_below (parts_below path)
-procedure call other credential moment = λ volume fileid. Fails Stale
+effect (types.Fsstat handle) other caller moment = fsstat
+effect (types.Fsinfo handle) other caller moment = fsinfo
+effect (types.Pathconf handle) other caller moment = pathconf
+effect (types.Commit handle) other caller moment = commit
+effect (types.MountBelow root path) other caller moment = mount_below (parts_below path)
+effect call other caller moment = λ volume fileid. Fails Stale
+
+-- the calls that are done once, also where they come again
+abbrev pub is_done_once : types.Call → Bool
+is_done_once (types.Setattr handle set guard) = true
+is_done_once (types.Create directory name mode) = true
+is_done_once (types.Mkdir directory name set) = true
+is_done_once (types.Remove directory name) = true
+is_done_once (types.Rmdir directory name) = true
+is_done_once (types.Rename from from_name to to_name) = true
+is_done_once call = false
+
+-- what it does there
+abbrev pub procedure : types.Call → ℕ → Caller → Moment → VolumeState → ℕ → Effect
+procedure call other caller moment volume fileid =
+    if is_done_once call then once caller call moment volume (effect call other caller moment volume fileid)
+    else effect call other caller moment volume fileid
 
 -- a call on a fileid, as it is asked of a volume under a node
-abbrev pub call_of_node : Layout → Affinity → ℕ → Credential → Moment → types.Call → VolumeCall
-call_of_node layout node fileid credential moment call = record {
+abbrev pub call_of_node : Layout → Affinity → ℕ → Caller → Moment → types.Call → VolumeCall
+call_of_node layout node fileid caller moment call = record {
   call = call;
   node = node;
   fileid = fileid;
-  run = λ volume. procedure call (other_in layout call) credential moment volume fileid;
+  run = λ volume. procedure call (other_in layout call) caller moment volume fileid;
 }
 
 -- a call on what its handle names, the first of RENAME's, under Logical of its volume
-abbrev pub call_named : Layout → Named → Credential → Moment → types.Call → VolumeCall
-call_named layout named credential moment call =
-    call_of_node layout (Logical named.volume) named.fileid credential moment call
+abbrev pub call_named : Layout → Named → Caller → Moment → types.Call → VolumeCall
+call_named layout named caller moment call =
+    call_of_node layout (Logical named.volume) named.fileid caller moment call
+
+-- the same where nothing is remembered
+abbrev pub effect_named : Layout → Named → Caller → Moment → types.Call → VolumeCall
+effect_named layout named caller moment call =
+    record (call_named layout named caller moment call) { run = λ volume. effect call (other_in layout call) caller moment volume named.fileid }
 
 -- a call on a handle, as it is asked of a volume under a node
-abbrev pub call_on : Layout → Affinity → Credential → Moment → types.Call → VolumeCall
-call_on layout node credential moment call =
-    call_of_node layout node (fileid_in (named_by layout (handle_in call))) credential moment call
+abbrev pub call_on : Layout → Affinity → Caller → Moment → types.Call → VolumeCall
+call_on layout node caller moment call =
+    call_of_node layout node (fileid_in (named_by layout (handle_in call))) caller moment call
 
 -- ---- where it is run
 
@@ -209,7 +242,7 @@ abbrev pub AsksFor : {P : Type 0} → Call → Layout → Affinity → (ℕ → 
 AsksFor call layout node f = IsRunAt layout call node × HasFiler layout node [] f
 
 -- what its run under the node comes to; where it moves, it is run there
-abbrev pub HasRun : {P : Type 0} → Call → Credential → Moment → Layout → Affinity → (ℕ → Option (FilerParcel P)) → Outcome
+abbrev pub HasRun : {P : Type 0} → Call → Caller → Moment → Layout → Affinity → (ℕ → Option (FilerParcel P)) → Outcome
     → (ℕ → Option (FilerParcel P)) → Type 0
-HasRun call credential moment layout node f outcome f' =
-    Runs layout node (Ask (call_of call) credential) moment f (outcome_of outcome) f' × MovesOn layout call (outcome_of outcome)
+HasRun call caller moment layout node f outcome f' =
+    Runs layout node (Ask (call_of call) caller) moment f (outcome_of outcome) f' × MovesOn layout call (outcome_of outcome)

@@ -3,7 +3,7 @@
 ghost use Rattle.affinity.specs.Affinity.{affinity_of};
 ghost use Rattle.affinity.specs.Layout.{layout_of};
 ghost use Rattle.affinity.specs.Tree.{IsNode};
-ghost use Rattle.nfs_values.specs.Credential.{credential_of};
+ghost use Rattle.nfs_values.specs.Caller.{caller_of};
 ghost use Rattle.nfs_values.specs.Moment.{moment_of};
 ghost use Rattle.parcels.specs.Exact.{kind_in, HasExactly};
 ghost use Rattle.service.specs.Running.{AsksFor, HasRun};
@@ -34,7 +34,7 @@ pub fn run<N: TaskNode<Parcel<Files>, ParcelKinds>>(
         HasExactly kind_in L a (N.parcels L a held.new) }
     ensures runs { let L = layout_of layout.now in let a = affinity_of affinity in
         HasRun task.entry.call.now
-        (credential_of task.entry.credential) (moment_of task.entry.moment)
+        (caller_of task.entry.caller) (moment_of task.entry.moment)
         L a (N.parcels L a held.old) result (N.parcels L a held.new) }
 {
     N::work::<Run>(task, layout, affinity, held)

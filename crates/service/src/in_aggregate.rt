@@ -5,7 +5,7 @@ ghost use Rattle.nfs_model.specs.Tree as trees;
 ghost use Rattle.nfs_model.specs.Types.{Ask};
 ghost use Rattle.affinity.specs.Layout.{layout_of};
 ghost use Rattle.nfs_values.specs.Call.{call_of};
-ghost use Rattle.nfs_values.specs.Credential.{credential_of};
+ghost use Rattle.nfs_values.specs.Caller.{caller_of};
 ghost use Rattle.nfs_values.specs.Moment.{moment_of};
 ghost use Rattle.parcels.specs.Filled.{aggregate_alike};
 ghost use Rattle.filer_state.specs.state.Lenses.{aggregate_lens};
@@ -36,7 +36,7 @@ pub fn run_on_aggregate(
         (aggregate_set (layout_of layout.now) aggregate held.old) }
     ensures runs { RunsOnAll (layout_of layout.now) (aggregate_lens aggregate)
         (task_under (trees.Aggregate aggregate)
-        (Ask (call_of run.entry.call.now) (credential_of run.entry.credential))
+        (Ask (call_of run.entry.call.now) (caller_of run.entry.caller))
         (moment_of run.entry.moment))
         (aggregate_set (layout_of layout.now) aggregate held.old) (outcome_of result)
         (aggregate_set (layout_of layout.now) aggregate held.new) }

@@ -6,7 +6,7 @@ ghost use Rattle.nfs_model.specs.Tree as trees;
 ghost use Rattle.nfs_model.specs.Types as types;
 ghost use Rattle.affinity.specs.Layout.{layout_of};
 ghost use Rattle.nfs_values.specs.Call.{call_of};
-ghost use Rattle.nfs_values.specs.Credential.{credential_of};
+ghost use Rattle.nfs_values.specs.Caller.{caller_of};
 ghost use Rattle.nfs_values.specs.Handle.{named_of};
 ghost use Rattle.nfs_values.specs.Moment.{moment_of};
 ghost use Rattle.nfs_values.specs.declared.answer.Answer.TheVariants as answers;
@@ -25,6 +25,7 @@ ghost use Rattle.service.specs.renames.Promises.{renaming_outcome};
 ghost use Rattle.service.specs.Running.{
   call_named,
   call_on,
+  effect_named,
   is_of_object,
   is_of_page_or_object,
   is_told,
@@ -38,6 +39,7 @@ use crate::attributes::get_attributes;
 use crate::named::{fileid_of, fileid_of_call};
 use crate::outcome::{Outcome, outcome_read, outcome_written};
 use crate::renames::{EntryName, rename};
+use crate::repeated::{remember, told_before};
 use crate::task::Run;
 use affinity::{CallNode, Layout};
 use filer_state::Files;
@@ -72,7 +74,7 @@ pub fn run_on_logical(
     requires whole { HasVolume volume.0 logical_lens [] (logical_before held.old) }
     ensures runs { RunsOn volume.0 logical_lens
         (call_on (layout_of layout.now) (trees.Logical volume.0)
-        (credential_of run.entry.credential) (moment_of run.entry.moment)
+        (caller_of run.entry.caller) (moment_of run.entry.moment)
         (call_of run.entry.call.now))
         (logical_before held.old) (outcome_of result) (logical_after held.old held.new) }
     ensures moved { UnlessReplied (outcome_of result) (held.new ≡ held.old) }
@@ -83,7 +85,7 @@ pub fn run_on_logical(
     let named = Named { volume, fileid };
     match tell(run, held, named) {
         Some(outcome) => outcome,
-        None => change(run, layout, held, named),
+        None => change_once(run, layout, held, named),
     }
 }
 
@@ -100,7 +102,7 @@ fn tell(run: Run, held: &LogicalHeld<Files>, named: Named) -> Option<Outcome>
     ensures told { is_some result ≡ is_told run.entry.call.now }
     ensures runs { IfSome result (λ outcome. (layout : trees.Layout)
         → RunsOn named.volume.0 logical_lens
-        (call_named layout (named_of named) (credential_of run.entry.credential)
+        (call_named layout (named_of named) (caller_of run.entry.caller)
         (moment_of run.entry.moment) (call_of run.entry.call.now))
         (logical_before held.now) (outcome_of outcome) (logical_before held.now)) }
 {
@@ -137,7 +139,7 @@ fn tell_page(run: Run, held: &LogicalHeld<Files>, named: Named) -> Option<Outcom
     ensures told { is_some result ≡ is_of_page_or_object run.entry.call.now }
     ensures runs { IfSome result (λ outcome. (layout : trees.Layout)
         → RunsOn named.volume.0 logical_lens
-        (call_named layout (named_of named) (credential_of run.entry.credential)
+        (call_named layout (named_of named) (caller_of run.entry.caller)
         (moment_of run.entry.moment) (call_of run.entry.call.now))
         (logical_before held.now) (outcome_of outcome) (logical_before held.now)) }
 {
@@ -184,14 +186,14 @@ fn tell_object(run: Run, held: &LogicalHeld<Files>, named: Named) -> Option<Outc
     ensures told { is_some result ≡ is_of_object run.entry.call.now }
     ensures runs { IfSome result (λ outcome. (layout : trees.Layout)
         → RunsOn named.volume.0 logical_lens
-        (call_named layout (named_of named) (credential_of run.entry.credential)
+        (call_named layout (named_of named) (caller_of run.entry.caller)
         (moment_of run.entry.moment) (call_of run.entry.call.now))
         (logical_before held.now) (outcome_of outcome) (logical_before held.now)) }
 {
     let Named { volume, fileid } = named;
     match run.call {
         Call::CheckAccess { handle: _, asked } => {
-            let told = check_access(held, volume, fileid, *asked, run.credential);
+            let told = check_access(held, volume, fileid, *asked, run.caller.credential);
             Some(Outcome::Replied(Reply::Success(Answer::CheckAccess(told))))
         }
         Call::FilesystemInfo { .. } => {
@@ -206,7 +208,31 @@ fn tell_object(run: Run, held: &LogicalHeld<Files>, named: Named) -> Option<Outc
     }
 }
 
-/// Runs a call that may change the volume of what its handle names, on the volume's parcels.
+/// Runs a call that may change the volume of what its handle names, on the volume's parcels. One
+/// that comes again is told what it was told before, where that is remembered.
+fn change_once(run: Run, layout: &Layout, held: &mut LogicalHeld<Files>, named: Named) -> Outcome
+    requires run { IsRunInLogical run.call.now }
+    requires changes { is_told run.call.now ≡ false }
+    requires there { RunsThere (layout_of layout.now) (call_of run.call.now)
+        (trees.Logical named.volume.0) }
+    requires whole { HasVolume named.volume.0 logical_lens [] (logical_before held.old) }
+    ensures runs { RunsOn named.volume.0 logical_lens
+        (call_named (layout_of layout.now) (named_of named) (caller_of run.entry.caller)
+        (moment_of run.entry.moment) (call_of run.entry.call.now))
+        (logical_before held.old) (outcome_of result) (logical_after held.old held.new) }
+    ensures moved { UnlessReplied (outcome_of result) (held.new ≡ held.old) }
+    ensures alike { logical_alike held.old held.new }
+{
+    if let Some(answer) = told_before(run, &held.own, named.volume) {
+        return Outcome::Replied(Reply::Success(answer));
+    }
+    let outcome = change(run, layout, held, named);
+    remember(run, &mut held.own, &outcome);
+    outcome
+}
+
+/// Runs a call that may change the volume of what its handle names, on the volume's parcels, as
+/// where nothing is remembered.
 fn change(run: Run, layout: &Layout, held: &mut LogicalHeld<Files>, named: Named) -> Outcome
     requires run { IsRunInLogical run.call.now }
     requires changes { is_told run.call.now ≡ false }
@@ -214,7 +240,7 @@ fn change(run: Run, layout: &Layout, held: &mut LogicalHeld<Files>, named: Named
         (trees.Logical named.volume.0) }
     requires whole { HasVolume named.volume.0 logical_lens [] (logical_before held.old) }
     ensures runs { RunsOn named.volume.0 logical_lens
-        (call_named (layout_of layout.now) (named_of named) (credential_of run.entry.credential)
+        (effect_named (layout_of layout.now) (named_of named) (caller_of run.entry.caller)
         (moment_of run.entry.moment) (call_of run.entry.call.now))
         (logical_before held.old) (outcome_of result) (logical_after held.old held.new) }
     ensures moved { UnlessReplied (outcome_of result) (held.new ≡ held.old) }
@@ -222,7 +248,7 @@ fn change(run: Run, layout: &Layout, held: &mut LogicalHeld<Files>, named: Named
 {
     let Named { volume, fileid } = named;
     let alloc = run.alloc;
-    let credential = run.credential;
+    let credential = run.caller.credential;
     let moment = run.moment;
     match run.call {
         Call::SetAttributes { set, guard, .. } => {
@@ -275,7 +301,7 @@ fn rename_here(
         ≡ Some (trees.Logical named.volume.0) }
     requires whole { HasVolume named.volume.0 logical_lens [] (logical_before held.old) }
     ensures runs { RunsOn named.volume.0 logical_lens
-        (call_named (layout_of layout.now) (named_of named) (credential_of run.entry.credential)
+        (effect_named (layout_of layout.now) (named_of named) (caller_of run.entry.caller)
         (moment_of run.entry.moment) (call_of (calls.Rename from.now to.now)))
         (logical_before held.old) (outcome_of result) (logical_after held.old held.new) }
     ensures moved { UnlessReplied (outcome_of result) (held.new ≡ held.old) }

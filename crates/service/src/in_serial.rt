@@ -4,7 +4,7 @@ ghost use Rattle.nfs_model.specs.Tree as trees;
 ghost use Rattle.nfs_model.specs.Types.{Ask};
 ghost use Rattle.affinity.specs.Layout.{layout_of};
 ghost use Rattle.nfs_values.specs.Call.{call_of};
-ghost use Rattle.nfs_values.specs.Credential.{credential_of};
+ghost use Rattle.nfs_values.specs.Caller.{caller_of};
 ghost use Rattle.nfs_values.specs.Moment.{moment_of};
 ghost use Rattle.filer_state.specs.state.Lenses.{serial_lens};
 ghost use Rattle.filer_state.specs.state.Running.{task_under};
@@ -24,7 +24,7 @@ pub fn run_on_serial(run: Run, layout: &Layout, held: &SerialHeld<Files>) -> Out
     requires at { IsRunAt (layout_of layout.now) run.call.now trees.Serial }
     ensures runs { RunsOnAll (layout_of layout.now) serial_lens
         (task_under trees.Serial (Ask (call_of run.entry.call.now)
-        (credential_of run.entry.credential)) (moment_of run.entry.moment))
+        (caller_of run.entry.caller)) (moment_of run.entry.moment))
         (serial_set (layout_of layout.now) held.now) (outcome_of result)
         (serial_set (layout_of layout.now) held.now) }
 {

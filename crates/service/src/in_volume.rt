@@ -4,7 +4,7 @@ ghost use Rattle.std.specs.Prelude.{◌≡◌, []};
 ghost use Rattle.nfs_model.specs.Tree as trees;
 ghost use Rattle.affinity.specs.Layout.{layout_of};
 ghost use Rattle.nfs_values.specs.Call.{call_of};
-ghost use Rattle.nfs_values.specs.Credential.{credential_of};
+ghost use Rattle.nfs_values.specs.Caller.{caller_of};
 ghost use Rattle.nfs_values.specs.Moment.{moment_of};
 ghost use Rattle.parcels.specs.Filled.{volume_alike};
 ghost use Rattle.filer_state.specs.state.Lenses.{volume_lens};
@@ -35,7 +35,7 @@ pub fn run_on_volume(
     requires at { IsRunAt (layout_of layout.now) run.call.now (trees.Volume volume.0) }
     requires whole { HasVolume volume.0 volume_lens [] (volume_before held.old) }
     ensures runs { RunsOn volume.0 volume_lens
-        (call_on (layout_of layout.now) (trees.Volume volume.0) (credential_of run.entry.credential)
+        (call_on (layout_of layout.now) (trees.Volume volume.0) (caller_of run.entry.caller)
         (moment_of run.entry.moment) (call_of run.entry.call.now))
         (volume_before held.old) (outcome_of result) (volume_after held.old held.new) }
     ensures moved { UnlessReplied (outcome_of result) (held.new ≡ held.old) }

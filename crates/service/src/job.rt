@@ -2,7 +2,7 @@
 
 use crate::batch::BatchInHand;
 use affinity::CallNode;
-use nfs_values::{Call, ConnectionNumber, Credential, Moment, Reply, VolumeNumber};
+use nfs_values::{Call, Caller, ConnectionNumber, Moment, Reply, VolumeNumber};
 
 /// A call that a record asked for, as it is finished.
 #[derive(Drop)]
@@ -13,7 +13,7 @@ pub struct ServedCall {
     pub xid: u32,
     pub call: Call,
     /// Whom it acts for.
-    pub credential: Credential,
+    pub caller: Caller,
     /// The node that it ran on.
     pub affinity: CallNode,
     pub moment: Moment,

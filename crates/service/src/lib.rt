@@ -18,6 +18,7 @@ mod machine;
 mod named;
 mod outcome;
 mod renames;
+mod repeated;
 mod task;
 mod totals;
 mod works;

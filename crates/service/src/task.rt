@@ -9,7 +9,7 @@ use crate::outcome::Outcome;
 use affinity::{Affinity, Layout};
 use desk::{ParcelKinds, Task};
 use filer_state::Files;
-use nfs_values::{Call, Credential, Moment, VolumeNumber};
+use nfs_values::{Call, Caller, Moment, VolumeNumber};
 use parcels::{
     AggrHeld, LogicalHeld, Parcel, SerialHeld, StripeHeld, VolumeHeld, aggregate_number,
     stripe_number, volume_number,
@@ -24,14 +24,14 @@ pub struct Run<'a> {
     pub alloc: Global,
     pub call: &'a Call,
     /// Whom it acts for.
-    pub credential: Credential,
+    pub caller: Caller,
     pub moment: Moment,
     /// What calls to come look for, if that is noted.
     pub ahead: Option<&'a Ahead>,
 }
 
 impl<'a> Task<Parcel<Files>, ParcelKinds> for Run<'a> {
-    ghost use Rattle.nfs_values.specs.Credential.{credential_of};
+    ghost use Rattle.nfs_values.specs.Caller.{caller_of};
     ghost use Rattle.nfs_values.specs.Moment.{moment_of};
     ghost use Rattle.service.specs.Running.{AsksFor, HasRun};
 
@@ -40,7 +40,7 @@ impl<'a> Task<Parcel<Files>, ParcelKinds> for Run<'a> {
     ghost asks = { λ run. AsksFor run.call.now };
 
     ghost does = { λ run. HasRun run.call.now
-        (credential_of run.credential) (moment_of run.moment) };
+        (caller_of run.caller) (moment_of run.moment) };
 
     fn on_stripe(
         self,

@@ -27,9 +27,10 @@ struct Sought {
     read: u64,
 }
 
-/// The names that calls to come look for. In a large directory each step of a search waits for
-/// memory; here each step is done for many names before the next one, so that they wait at the
-/// same time, and a call finds in a cache what it looks for. Nothing rests on it but the time.
+/// What a lane keeps beside its calls. The names that calls to come look for: in a large directory
+/// each step of a search waits for memory; here each step is done for many names before the next
+/// one, so that they wait at the same time, and a call finds in a cache what it looks for. And how
+/// many calls were told a reply again. No reply rests on it.
 pub struct Ahead {
     names: RefCell<Vec<Sought>>,
     /// The volumes that names were noted of, each as a bit.
@@ -38,6 +39,8 @@ pub struct Ahead {
     resting: Cell<u64>,
     /// How many calls more on volumes that rest aren't noted.
     rest: Cell<u32>,
+    /// How many calls were told a reply again, wrapping at 2^64.
+    repeated: Cell<u64>,
 }
 
 // By hand, so that crates above have no proof of the drop of each of its parts.
@@ -48,6 +51,7 @@ impl Drop for Ahead {
             noted: _,
             resting: _,
             rest: _,
+            repeated: _,
         } = self;
     }
 }
@@ -60,7 +64,18 @@ impl Ahead {
             noted: Cell::new(0),
             resting: Cell::new(0),
             rest: Cell::new(0),
+            repeated: Cell::new(0),
         }
+    }
+
+    /// Counts a call that was told a reply again.
+    pub fn count_repeated(&self) {
+        self.repeated.set(self.repeated.get().wrapping_add(1));
+    }
+
+    /// How many calls were told a reply again, wrapping at 2^64.
+    pub fn repeated(&self) -> u64 {
+        self.repeated.get()
     }
 
     /// Notes the name that a call looks for, if it does. Where there is no memory it isn't noted.

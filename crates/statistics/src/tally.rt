@@ -21,6 +21,8 @@ pub struct Tally {
     micros: AtomicU64,
     /// How often a node was refused.
     busy: AtomicU64,
+    /// How many calls were told a reply again.
+    repeated: AtomicU64,
 }
 
 // By hand, so that crates above have no proof of the drop of each of its parts.
@@ -32,6 +34,7 @@ impl Drop for Tally {
             times: _,
             micros: _,
             busy: _,
+            repeated: _,
         } = self;
     }
 }
@@ -70,6 +73,7 @@ impl Tally {
             times: array::from_fn(|_bucket| AtomicU64::new(0)),
             micros: AtomicU64::new(0),
             busy: AtomicU64::new(0),
+            repeated: AtomicU64::new(0),
         }
     }
 
@@ -103,11 +107,23 @@ impl Tally {
         }
     }
 
+    /// This many calls were told a reply again so far, in all. What isn't new isn't written.
+    pub fn repeated(&self, now: u64) {
+        if self.repeated.load(Ordering::Relaxed) != now {
+            self.repeated.store(now, Ordering::Relaxed);
+        }
+    }
+
     /// What was counted so far. Each count is read by itself, while more may be counted.
     pub fn read(&self) -> Totals {
         let mut replies = ReplyCounts::from_counts(read_all(&self.replies));
         replies.add(&ReplyCounts::from_counts(read_all(&self.at_once)));
         let times = Histogram::from_counts(read_all(&self.times));
-        Totals::from_parts(replies, times, self.busy.load(Ordering::Relaxed))
+        Totals::from_parts(
+            replies,
+            times,
+            self.busy.load(Ordering::Relaxed),
+            self.repeated.load(Ordering::Relaxed),
+        )
     }
 }

@@ -9,12 +9,14 @@ use crate::tally::Tally;
 use nfs_values::Procedure;
 use std::fmt;
 
-/// Replies by kind, times of calls, and how often a node was refused. Each count wraps at 2^64.
+/// Replies by kind, times of calls, how often a node was refused, and how many calls were told a
+/// reply again. Each count wraps at 2^64.
 #[derive(Clone, Copy)]
 pub struct Totals {
     replies: ReplyCounts,
     times: Histogram,
     busy: u64,
+    repeated: u64,
 }
 
 impl Totals {
@@ -22,7 +24,7 @@ impl Totals {
     ghost use Rattle.statistics.specs.Counts.{count_of, kinds_in};
     ghost use Rattle.statistics.specs.Kind.{kinds_count};
     ghost use Rattle.statistics.specs.Histogram.{buckets_in};
-    ghost use Rattle.statistics.specs.Totals.{busy_in, replies_in, times_in};
+    ghost use Rattle.statistics.specs.Totals.{busy_in, repeated_in, replies_in, times_in};
     ghost use Rattle.statistics.specs.Totals.{HasAdded, IsNothing, IsSince};
 
     /// Nothing was counted.
@@ -33,19 +35,22 @@ impl Totals {
             replies: ReplyCounts::new(),
             times: Histogram::new(),
             busy: 0,
+            repeated: 0,
         }
     }
 
-    /// These replies, times and refusals of nodes.
-    pub fn from_parts(replies: ReplyCounts, times: Histogram, busy: u64) -> Totals
+    /// These replies, times, refusals of nodes, and calls that were told a reply again.
+    pub fn from_parts(replies: ReplyCounts, times: Histogram, busy: u64, repeated: u64) -> Totals
         ensures replies { replies_in result ≡ replies }
         ensures times { times_in result ≡ times }
         ensures busy { busy_in result ≡ busy }
+        ensures repeated { repeated_in result ≡ repeated }
     {
         Totals {
             replies,
             times,
             busy,
+            repeated,
         }
     }
 
@@ -61,6 +66,7 @@ impl Totals {
         self.replies.add(&more.replies);
         self.times.add(&more.times);
         self.busy = self.busy.wrapping_add(more.busy);
+        self.repeated = self.repeated.wrapping_add(more.repeated);
     }
 
     /// What was counted since an earlier time, at which the counts were those.
@@ -71,6 +77,7 @@ impl Totals {
             replies: self.replies.since(&earlier.replies),
             times: self.times.since(&earlier.times),
             busy: self.busy.wrapping_sub(earlier.busy),
+            repeated: self.repeated.wrapping_sub(earlier.repeated),
         }
     }
 
@@ -124,6 +131,13 @@ impl Totals {
         ensures { result ≡ busy_in self.now }
     {
         self.busy
+    }
+
+    /// How many calls came again and were told the reply that was remembered.
+    pub fn repeated(&self) -> u64
+        ensures { result ≡ repeated_in self.now }
+    {
+        self.repeated
     }
 }
 
@@ -181,6 +195,11 @@ impl fmt::Display for Totals {
         }
         let busy = self.busy;
         let starved = self.replies(ReplyKind::STARVED);
-        write!(f, "; busy {busy}, starved {starved}")
+        write!(f, "; busy {busy}, starved {starved}")?;
+        if self.repeated > 0 {
+            let repeated = self.repeated;
+            write!(f, ", told again {repeated}")?;
+        }
+        Ok(())
     }
 }

@@ -14,6 +14,8 @@ use Rattle.tcp_front.specs.declared.stream.Stream.{Stream}
 use Rattle.tcp_front.specs.declared.stream.Stopped.{Stopped}
 use Rattle.tcp_front.specs.declared.stream.Stopped.TheVariants as stops
 use Rattle.tcp_front.specs.Arrivals.{Arrival, arrivals}
+use Rattle.tcp_front.specs.Peers.{sender_of}
+use Rattle.engine_feed.specs.Streams.{scan_stream}
 use Rattle.tcp_front.specs.Counts.{device_of, HasFailed, HasNotFailed}
 use Rattle.tcp_front.specs.Reading.{HasRead, AreAll}
 use Rattle.tcp_front.specs.Steps.{HasTaken, end_of, opened}
@@ -37,6 +39,16 @@ module _ {R S : Type 0} (remaining : R → Option (List ℕ)) (came : S → List
     same = refl;
   }
 
+  -- without memory for a block nothing is
+  pub no-block : ((s : S) → came s [] s) → HasRead remaining came layout offer connection.0 (sender_of peer) reader sink ends.NoMemory reader sink
+  no-block none = record {
+    read = [];
+    heard = [];
+    consumed = Consumes-nil (remaining (device_of reader));
+    given = none sink;
+    ends = (((scan_stream offer []).served, refl), refl);
+  }
+
   module _ (reader' : Counted R) (stream : Stream) (sink' : S) (so : SoFar reader' stream sink') where
     -- all that the bytes serve was given on
     all-given : AreAll offer so.taken.heard None so.read
@@ -45,7 +57,7 @@ module _ {R S : Type 0} (remaining : R → Option (List ℕ)) (came : S → List
     pub at-end : (after : Counted R) (size : ℕ) (block : List ℕ) → size ≡ 0
         → Consumes (remaining (device_of reader')) (remaining (device_of after)) (take size block)
         → IsAtEnd (remaining (device_of after)) → HasNotFailed reader' after
-        → HasRead remaining came layout offer connection.0 peer.is_privileged reader sink ends.End after sink'
+        → HasRead remaining came layout offer connection.0 (sender_of peer) reader sink ends.End after sink'
     at-end after size block e consumed none same = record {
       read = so.read;
       heard = so.taken.heard;
@@ -58,7 +70,7 @@ module _ {R S : Type 0} (remaining : R → Option (List ℕ)) (came : S → List
 
     pub reader-failed : (after : Counted R) → Keeps (remaining (device_of reader')) (remaining (device_of after))
         → HasFailed reader' after
-        → HasRead remaining came layout offer connection.0 peer.is_privileged reader sink ends.ReaderFailed after sink'
+        → HasRead remaining came layout offer connection.0 (sender_of peer) reader sink ends.ReaderFailed after sink'
     reader-failed after kept failed = record {
       read = so.read;
       heard = so.taken.heard;
@@ -74,8 +86,8 @@ module _ {R S : Type 0} (remaining : R → Option (List ℕ)) (came : S → List
         (same : HasNotFailed reader' after)
         (woken : came mid [] sink'') where
       -- all that was given on before the sink was told
-      given-on : (heard : List Heard) → came sink (arrivals layout connection.0 peer.is_privileged 0 heard) mid
-          → came sink (arrivals layout connection.0 peer.is_privileged 0 heard) sink''
+      given-on : (heard : List Heard) → came sink (arrivals layout connection.0 (sender_of peer) 0 heard) mid
+          → came sink (arrivals layout connection.0 (sender_of peer) 0 heard) sink''
       given-on heard given = subst (λ (l : List Arrival). came sink l sink'') (append-nil _)
           (law sink mid sink'' _ [] given woken)
 
@@ -91,13 +103,13 @@ module _ {R S : Type 0} (remaining : R → Option (List ℕ)) (came : S → List
           }
 
       pub read-to-stop : (stopped : Stopped) → HasTaken came layout offer stream sink' bytes (Some stopped) stream' mid
-          → HasRead remaining came layout offer connection.0 peer.is_privileged reader sink (end_of stopped) after sink''
+          → HasRead remaining came layout offer connection.0 (sender_of peer) reader sink (end_of stopped) after sink''
       read-to-stop stopped h = by stopped (taken-more came layout offer law
           (opened alloc connection peer) stream stream' sink sink' mid so.read bytes (Some stopped) so.taken h)
         where
           by : (stopped : Stopped) → HasTaken came layout offer (opened alloc connection peer) sink (so.read ++ bytes)
               (Some stopped) stream' mid
-              → HasRead remaining came layout offer connection.0 peer.is_privileged reader sink (end_of stopped) after sink''
+              → HasRead remaining came layout offer connection.0 (sender_of peer) reader sink (end_of stopped) after sink''
           by (stops.Fault fault) t = record {
             read = so.read ++ bytes;
             heard = t.heard;

@@ -16,7 +16,7 @@ use Rattle.outboxes.specs.Messages.{message, record_of}
 use Rattle.outboxes.specs.lemmas.Messages.{record_is}
 use Rattle.tcp_front.specs.declared.peer.Peer.{Peer}
 use Rattle.tcp_front.specs.Arrivals.{Arrival, Waits, Answered, placed}
-use Rattle.tcp_front.specs.Peers.{asked_from, asks_stop, is_stop}
+use Rattle.tcp_front.specs.Peers.{Sender, asked_at, asked_from, asks_stop, is_stop, sender_of}
 use Rattle.tcp_front.specs.Steps.{given_of}
 
 pub at-once-fits : (xid : ℕ) (reply : types.Reply) → length (reply_record xid reply) ≤ reply_limit → length (record_of (message xid reply)) ≤ most_bytes
@@ -24,27 +24,33 @@ at-once-fits xid reply fits =
     let same = ap (λ (l : List ℕ). length l) (record_is xid reply ∙ sym (reply_record_is xid reply)) in
     omega (arith, same, fits)
 
--- a call with a home is nobody's that is refused for its peer
-pub placed-asked : (layout : Layout) (p : Bool) (asked : types.Asked) (affinity : Affinity) → home_of_asked layout asked ≡ Some affinity
-    → asked_from p asked ≡ asked
-placed-asked layout p (types.Ask call credential) affinity e = by call e
+-- a call with a home is nobody's that is refused for its sender
+placed-asked : (layout : Layout) (sender : Sender) (asked : types.Asked) (affinity : Affinity) → home_of_asked layout asked ≡ Some affinity
+    → asked_from sender asked ≡ asked_at sender.number asked
+placed-asked layout sender (types.Ask call caller) affinity e = by call e
   where
-    by : (call : types.Call) → home_of_asked layout (types.Ask call credential) ≡ Some affinity
-        → asked_from p (types.Ask call credential) ≡ types.Ask call credential
+    by : (call : types.Call) → home_of_asked layout (types.Ask call caller) ≡ Some affinity
+        → asked_from sender (types.Ask call caller) ≡ asked_at sender.number (types.Ask call caller)
     by types.Stop e = absurd cc
     by types.Null e = refl
     by call e = refl
-placed-asked layout p (types.Refused reply) affinity e = refl
-placed-asked layout p types.Undecoded affinity e = refl
+placed-asked layout sender (types.Refused reply) affinity e = refl
+placed-asked layout sender types.Undecoded affinity e = refl
 
--- what has no home has none for its peer either
-pub unplaced-asked : (layout : Layout) (p : Bool) (asked : types.Asked) → home_of_asked layout asked ≡ None
-    → home_of_asked layout (asked_from p asked) ≡ None
-unplaced-asked layout p asked e = by (asks_stop asked && not p)
+-- where it comes from doesn't change its home
+home-at : (layout : Layout) (number : ℕ) (asked : types.Asked) → home_of_asked layout (asked_at number asked) ≡ home_of_asked layout asked
+home-at layout number (types.Ask call caller) = refl
+home-at layout number (types.Refused reply) = refl
+home-at layout number types.Undecoded = refl
+
+-- what has no home has none of its sender either
+unplaced-asked : (layout : Layout) (sender : Sender) (asked : types.Asked) → home_of_asked layout asked ≡ None
+    → home_of_asked layout (asked_from sender asked) ≡ None
+unplaced-asked layout sender asked e = by (asks_stop asked && not sender.privileged)
   where
-    by : (b : Bool) → home_of_asked layout (if b then types.Refused (types.AuthError 5) else asked) ≡ None
+    by : (b : Bool) → home_of_asked layout (if b then types.Refused (types.AuthError 5) else asked_at sender.number asked) ≡ None
     by true = refl
-    by false = e
+    by false = home-at layout sender.number asked ∙ e
 
 -- a call that isn't STOP
 pub not-stop : (call : Call) → (call ≡ calls.Stop → ⊥) → is_stop (call_of call) ≡ false
@@ -56,15 +62,17 @@ module _ (layout : Layout) (peer : Peer) (origin : Origin) (asked : types.Asked)
   abbrev given_as : types.Asked → Option Affinity → List Arrival
   given_as from home = placed layout origin.connection.0 origin.number (record { xid = origin.xid; asked = from }) home ∷ []
 
-  pub waits-is : (affinity : Affinity) → home_of_asked layout asked ≡ Some affinity
-      → Waits (record { connection = origin.connection.0; number = origin.number; xid = origin.xid; asked = asked; affinity = affinity }) ∷ []
+  pub waits-is : (from : types.Asked) → from ≡ asked_at (sender_of peer).number asked → (affinity : Affinity) → home_of_asked layout asked ≡ Some affinity
+      → Waits (record { connection = origin.connection.0; number = origin.number; xid = origin.xid; asked = from; affinity = affinity }) ∷ []
       ≡ given_of layout peer origin asked
-  waits-is affinity home =
-      sym (ap (λ (a : types.Asked). given_as a (home_of_asked layout a)) (placed-asked layout peer.is_privileged asked affinity home)
-      ∙ ap (given_as asked) home)
+  waits-is from is affinity home =
+      let number = (sender_of peer).number in
+      ap (λ (a : types.Asked). given_as a (Some affinity)) is
+      ∙ sym (ap (λ (a : types.Asked). given_as a (home_of_asked layout a)) (placed-asked layout (sender_of peer) asked affinity home)
+      ∙ ap (given_as (asked_at number asked)) (home-at layout number asked ∙ home))
 
-  pub answered-is : (from : types.Asked) → from ≡ asked_from peer.is_privileged asked → home_of_asked layout asked ≡ None
+  pub answered-is : (from : types.Asked) → from ≡ asked_from (sender_of peer) asked → home_of_asked layout asked ≡ None
       → Answered (addressed origin.connection.0 (message origin.xid (reply_at_once layout from))) ∷ [] ≡ given_of layout peer origin asked
   answered-is from is none =
       ap (λ (a : types.Asked). Answered (addressed origin.connection.0 (message origin.xid (reply_at_once layout a))) ∷ []) is
-      ∙ sym (ap (given_as (asked_from peer.is_privileged asked)) (unplaced-asked layout peer.is_privileged asked none))
+      ∙ sym (ap (given_as (asked_from (sender_of peer) asked)) (unplaced-asked layout (sender_of peer) asked none))

@@ -1,5 +1,5 @@
 -- Records that are given on, part after part.
-use Rattle.std.proofs.Common.{◌≡◌, ◌<◌, ◌+◌, ◌-◌, ℕ, Bool, List, [], ◌∷◌, ◌++◌, length, length-append, length-drop, take, drop}
+use Rattle.std.proofs.Common.{◌≡◌, ◌<◌, ◌+◌, ◌-◌, ℕ, List, [], ◌∷◌, ◌++◌, length, length-append, length-drop, take, drop}
 use Rattle.std.proofs.Common.{Option, Some, None, Result, Ok, Err, refl, sym, ap, subst, ◌∙◌, take-append-drop, arith}
 use Rattle.std.proofs.lemmas.List.{take_all}
 use Rattle.std.proofs.Math.Seq.{take-add}
@@ -13,12 +13,13 @@ use Rattle.tcp_front.specs.declared.stream.Stopped.{Stopped}
 use Rattle.tcp_front.specs.declared.stream.Stopped.TheVariants as stops
 use Rattle.tcp_front.specs.declared.next_record.Next.TheVariants as nexts
 use Rattle.tcp_front.specs.Arrivals.{Arrival, arrivals, arrival_of, most_records}
+use Rattle.tcp_front.specs.Peers.{Sender, sender_of}
 use Rattle.tcp_front.specs.Steps.{Adds, Brings, BringsRecord, Comes, HasGiven, HasGivenRecord, HasTaken, IsSameLine, StopsAs}
 use Rattle.tcp_front.proofs.Adding.{adds-more, adds-nothing, brings-first, brings-longer, brings-more, first-longer, first-more}
 
 -- ---- what records come to, one after another
 
-arrivals-append : (layout : Layout) (connection : ℕ) (p : Bool) (number : ℕ) (hs ks : List Heard)
+arrivals-append : (layout : Layout) (connection : ℕ) (p : Sender) (number : ℕ) (hs ks : List Heard)
     → arrivals layout connection p number (hs ++ ks)
     ≡ arrivals layout connection p number hs ++ arrivals layout connection p (number + length hs) ks
 arrivals-append layout connection p number [] ks = ap (λ (n : ℕ). arrivals layout connection p n ks) (omega arith)
@@ -67,10 +68,10 @@ module _ {S : Type 0} (came : S → List Arrival → S → Type 0) (layout : Lay
       → HasTaken came layout offer s sink (xs ++ ys) stopped s' sink'
   taken-more law s t s' sink mid sink' xs ys stopped f g =
       let c = s.connection.0 in
-      let p = s.peer.is_privileged in
-      let at : arrivals layout t.connection.0 t.peer.is_privileged t.records g.heard ≡ arrivals layout c p (s.records + length f.heard) g.heard =
-      ap (λ k. arrivals layout k.0 t.peer.is_privileged t.records g.heard) f.same.0
-      ∙ ap (λ (q : Peer). arrivals layout c q.is_privileged t.records g.heard) f.same.1
+      let p = sender_of s.peer in
+      let at : arrivals layout t.connection.0 (sender_of t.peer) t.records g.heard ≡ arrivals layout c p (s.records + length f.heard) g.heard =
+      ap (λ k. arrivals layout k.0 (sender_of t.peer) t.records g.heard) f.same.0
+      ∙ ap (λ (q : Peer). arrivals layout c (sender_of q) t.records g.heard) f.same.1
       ∙ ap (λ (n : ℕ). arrivals layout c p n g.heard) f.count in
       let joined = sym (arrivals-append layout c p s.records f.heard g.heard) in
       let both = length-append f.heard g.heard in
@@ -124,9 +125,9 @@ module _ {S : Type 0} (came : S → List Arrival → S → Type 0) (layout : Lay
       record {
         heard = h ∷ [];
         given = subst (λ (l : List Arrival). came sink l sink')
-            (ap (λ k. arrival_of layout k.0 t.peer.is_privileged t.records h ∷ []) c.0
-            ∙ ap (λ (p : Peer). arrival_of layout s.connection.0 p.is_privileged t.records h ∷ []) c.1
-            ∙ ap (λ (n : ℕ). arrival_of layout s.connection.0 s.peer.is_privileged n h ∷ []) r) g.0;
+            (ap (λ k. arrival_of layout k.0 (sender_of t.peer) t.records h ∷ []) c.0
+            ∙ ap (λ (p : Peer). arrival_of layout s.connection.0 (sender_of p) t.records h ∷ []) c.1
+            ∙ ap (λ (n : ℕ). arrival_of layout s.connection.0 (sender_of s.peer) n h ∷ []) r) g.0;
         count = omega (arith, count, r);
         same = (ap (λ (x : Stream). x.connection) g.1 ∙ c.0, ap (λ (x : Stream). x.peer) g.1 ∙ c.1);
         stops = (
@@ -151,9 +152,9 @@ module _ {S : Type 0} (came : S → List Arrival → S → Type 0) (layout : Lay
       record {
         heard = h ∷ [];
         given = subst (λ (l : List Arrival). came sink l sink')
-            (ap (λ k. arrival_of layout k.0 t.peer.is_privileged t.records h ∷ []) c.0
-            ∙ ap (λ (p : Peer). arrival_of layout s.connection.0 p.is_privileged t.records h ∷ []) c.1
-            ∙ ap (λ (n : ℕ). arrival_of layout s.connection.0 s.peer.is_privileged n h ∷ []) r) g.0;
+            (ap (λ k. arrival_of layout k.0 (sender_of t.peer) t.records h ∷ []) c.0
+            ∙ ap (λ (p : Peer). arrival_of layout s.connection.0 (sender_of p) t.records h ∷ []) c.1
+            ∙ ap (λ (n : ℕ). arrival_of layout s.connection.0 (sender_of s.peer) n h ∷ []) r) g.0;
         count = omega (arith, count, r);
         same = (ap (λ (x : Stream). x.connection) g.1 ∙ c.0, ap (λ (x : Stream). x.peer) g.1 ∙ c.1);
         stops = (brings-first offer s.reassembler t.reassembler bytes (h ∷ []) [] a, omega (arith, count, all));

@@ -1,5 +1,5 @@
 -- What a loop over a reader did.
-use Rattle.std.specs.Prelude.{◌≡◌, ℕ, Bool, List, ◌++◌, length, Option, Some, None}
+use Rattle.std.specs.Prelude.{◌≡◌, ℕ, List, ◌++◌, length, Option, Some, None}
 use Rattle.std.specs.Io.KnownBytes.{Consumes, IsAtEnd}
 use Rattle.nfs_model.specs.Tree.{Layout}
 use Rattle.nfs_model.specs.World.{Heard}
@@ -10,6 +10,7 @@ use Rattle.tcp_front.specs.declared.counted.Counted.{Counted}
 use Rattle.tcp_front.specs.declared.read_end.ReadEnd.{ReadEnd}
 use Rattle.tcp_front.specs.declared.read_end.ReadEnd.TheVariants as ends
 use Rattle.tcp_front.specs.Arrivals.{Arrival, arrivals, most_records}
+use Rattle.tcp_front.specs.Peers.{Sender}
 use Rattle.tcp_front.specs.Counts.{device_of, HasFailed, HasNotFailed}
 
 -- These are the first of the records that the stream serves, by what is offered.
@@ -32,12 +33,12 @@ EndsAs offer remaining ends.NumbersUsed read heard old new =
     AreFirst offer heard read × (length heard ≡ most_records) × HasNotFailed old new
 
 -- Bytes were read from one to the other; records of theirs were given on, in order and each once,
--- under the numbers from 0 on, of a peer that is privileged or not; and so it ended. Nothing here hangs on how the reader cut the bytes.
+-- under the numbers from 0 on, of this sender; and so it ended. Nothing here hangs on how the reader cut the bytes.
 pub record HasRead {R S : Type 0} (remaining : R → Option (List ℕ)) (came : S → List Arrival → S → Type 0)
-    (layout : Layout) (offer : Offer) (connection : ℕ) (privileged : Bool) (reader : Counted R) (sink : S) (ended : ReadEnd) (reader' : Counted R)
+    (layout : Layout) (offer : Offer) (connection : ℕ) (sender : Sender) (reader : Counted R) (sink : S) (ended : ReadEnd) (reader' : Counted R)
     (sink' : S) : Type 0 where
   pub read : List ℕ
   pub heard : List Heard
   pub consumed : Consumes (remaining (device_of reader)) (remaining (device_of reader')) read
-  pub given : came sink (arrivals layout connection privileged 0 heard) sink'
+  pub given : came sink (arrivals layout connection sender 0 heard) sink'
   pub ends : EndsAs offer remaining ended read heard reader reader'

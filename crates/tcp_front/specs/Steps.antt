@@ -21,11 +21,12 @@ use Rattle.tcp_front.specs.declared.next_record.Next.TheVariants as nexts
 use Rattle.tcp_front.specs.declared.read_end.ReadEnd.{ReadEnd}
 use Rattle.tcp_front.specs.declared.read_end.ReadEnd.TheVariants as ends
 use Rattle.tcp_front.specs.Arrivals.{Arrival, arrival_of, arrivals, most_records}
+use Rattle.tcp_front.specs.Peers.{sender_of}
 
 -- what a record of a peer comes to
 abbrev pub given_of : Layout → Peer → Origin → Asked → List Arrival
 given_of layout peer origin asked =
-    arrival_of layout origin.connection.0 peer.is_privileged origin.number (record { xid = origin.xid; asked = asked }) ∷ []
+    arrival_of layout origin.connection.0 (sender_of peer) origin.number (record { xid = origin.xid; asked = asked }) ∷ []
 
 -- ---- bytes after a stream that stands here and is at no fault, by what is offered
 
@@ -72,12 +73,12 @@ Comes offer at bytes taken (nexts.Stopped stops.NumbersUsed) at' = ⊥
 abbrev pub HasGiven : {S : Type 0} → (S → List Arrival → S → Type 0) → Layout → Stream → S → Heard → Option Stopped
     → Stream → S → Type 0
 HasGiven came layout s sink h None s' sink' =
-    came sink (arrival_of layout s.connection.0 s.peer.is_privileged s.records h ∷ []) sink' × (s' ≡ record s { records = s.records + 1 })
+    came sink (arrival_of layout s.connection.0 (sender_of s.peer) s.records h ∷ []) sink' × (s' ≡ record s { records = s.records + 1 })
     × (s.records + 1 < most_records)
 HasGiven came layout s sink h (Some (stops.Fault fault)) s' sink' = ⊥
 HasGiven came layout s sink h (Some stops.NoMemory) s' sink' = came sink [] sink' × (s' ≡ s)
 HasGiven came layout s sink h (Some stops.NumbersUsed) s' sink' =
-    came sink (arrival_of layout s.connection.0 s.peer.is_privileged s.records h ∷ []) sink' × (s' ≡ record s { records = s.records + 1 })
+    came sink (arrival_of layout s.connection.0 (sender_of s.peer) s.records h ∷ []) sink' × (s' ≡ record s { records = s.records + 1 })
     × (s.records + 1 ≡ most_records)
 
 -- nothing was given on, since the record is this fault
@@ -110,7 +111,7 @@ IsSameLine s s' = (s'.connection ≡ s.connection) × (s'.peer ≡ s.peer)
 pub record HasTaken {S : Type 0} (came : S → List Arrival → S → Type 0) (layout : Layout) (offer : Offer) (s : Stream) (sink : S)
     (bytes : List ℕ) (stopped : Option Stopped) (s' : Stream) (sink' : S) : Type 0 where
   pub heard : List Heard
-  pub given : came sink (arrivals layout s.connection.0 s.peer.is_privileged s.records heard) sink'
+  pub given : came sink (arrivals layout s.connection.0 (sender_of s.peer) s.records heard) sink'
   pub count : s'.records ≡ s.records + length heard
   pub same : IsSameLine s s'
   pub stops : StopsAs offer s bytes heard stopped s'

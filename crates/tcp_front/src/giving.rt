@@ -7,16 +7,17 @@ ghost use Rattle.outboxes.specs.Messages.{message};
 ghost use Rattle.engine_feed.specs.Admission.{reply_at_once};
 ghost use Rattle.engine_feed.specs.Seen.{asked_of};
 ghost use Rattle.nfs_values.specs.Call.{call_of};
+ghost use Rattle.nfs_values.specs.Caller.{caller_of, peer_of};
 ghost use Rattle.rpc_msg.specs.declared.record.Request.TheVariants as requests;
 ghost use Rattle.tcp_front.specs.Arrivals.{Answered};
-ghost use Rattle.tcp_front.specs.Peers.{asked_from, is_stop};
+ghost use Rattle.tcp_front.specs.Peers.{asked_from, caller_at, is_stop, sender_of};
 ghost use Rattle.tcp_front.specs.Steps.{given_of};
 
 use crate::peer::Peer;
 use crate::sink::RecordSink;
 use affinity::Layout;
 use engine_feed::{admission_of, reply_at_once};
-use nfs_values::{AuthFault, Call, Credential, Refusal};
+use nfs_values::{AuthFault, Call, Caller, Refusal};
 use rpc_msg::Request;
 use scheduler::{Message, Origin};
 use std::alloc::{AllocError, Global};
@@ -31,15 +32,29 @@ fn is_stop(call: &Call) -> bool
     }
 }
 
-/// What a call of a peer asks: that the server stops is refused but of a privileged one.
-fn from_peer(peer: Peer, call: Call, credential: Credential) -> Request
+/// Who makes a call of a peer.
+fn caller_at(peer: Peer, caller: Caller) -> Caller
+    ensures { caller_of result ≡ caller_at (peer_of peer.address) (caller_of caller) }
+{
+    Caller {
+        peer: peer.address,
+        ..caller
+    }
+}
+
+/// What a call of a peer asks, from there: that the server stops is refused but of a privileged
+/// one.
+fn from_peer(peer: Peer, call: Call, caller: Caller) -> Request
     ensures { asked_of result
-        ≡ asked_from peer.is_privileged (asked_of (requests.Call call credential)) }
+        ≡ asked_from (sender_of peer) (asked_of (requests.Call call caller)) }
 {
     if is_stop(&call) && !peer.is_privileged {
         return Request::Refused(Refusal::AuthError(AuthFault::TooWeak));
     }
-    Request::Call { call, credential }
+    Request::Call {
+        call,
+        caller: caller_at(peer, caller),
+    }
 }
 
 /// Answers a record that has no home. It stands apart, so that others have no room for its reply.
@@ -79,16 +94,16 @@ pub(crate) fn give<S: RecordSink>(
     ensures layout { S.layout sink.new ≡ S.layout sink.old }
 {
     match request {
-        Request::Call { call, credential } => match admission_of(layout, &call) {
+        Request::Call { call, caller } => match admission_of(layout, &call) {
             Some(admission) => sink.admit(Message {
                 origin,
                 call,
-                credential,
+                caller: caller_at(peer, caller),
                 affinity: admission.affinity,
                 room: admission.room,
             }),
             None => {
-                let request = from_peer(peer, call, credential);
+                let request = from_peer(peer, call, caller);
                 answer_now(alloc, sink, layout, origin, &request)
             }
         },

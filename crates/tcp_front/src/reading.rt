@@ -3,6 +3,7 @@
 ghost use Rattle.std.specs.Prelude.{◌≡◌, ◌<◌, true, length, IfOk};
 ghost use Rattle.affinity.specs.Layout.{layout_of};
 ghost use Rattle.tcp_front.specs.Counts.{may_fail};
+ghost use Rattle.tcp_front.specs.Peers.{sender_of};
 ghost use Rattle.tcp_front.specs.Reading.{HasRead};
 ghost use Rattle.tcp_front.specs.Steps.{end_of};
 
@@ -62,7 +63,7 @@ pub fn read_loop_in<W: Wait, R: Read, S: RecordSink>(
     requires always { (s : S) → S.room s ≡ true }
     requires layout { S.layout sink.old ≡ layout_of layout.now }
     ensures { HasRead R.remaining S.came (layout_of layout.now) offer connection.0
-        peer.is_privileged reader.old sink.old result reader.new sink.new }
+        (sender_of peer) reader.old sink.old result reader.new sink.new }
 {
     let mut stream = Stream {
         alloc,
@@ -102,7 +103,7 @@ pub fn read_loop<W: Wait, R: Read, S: RecordSink>(
     requires always { (s : S) → S.room s ≡ true }
     requires layout { S.layout sink.old ≡ layout_of layout.now }
     ensures { HasRead R.remaining S.came (layout_of layout.now) offer connection.0
-        peer.is_privileged reader.old sink.old result reader.new sink.new }
+        (sender_of peer) reader.old sink.old result reader.new sink.new }
 {
     match new_block(alloc) {
         Ok(mut block) => {

@@ -29,6 +29,7 @@ fn volume(row: Sizes) -> SizedVolumeSpec {
         inodes: row.3,
         most_steps: 4_096,
         begun: BEGUN,
+        remembered: 7,
     }
 }
 
@@ -175,6 +176,14 @@ fn steps_and_beginnings(rt: HostRuntime) {
     holds(&rt, layout.begun_of(0) == Moment::START);
     holds(&rt, layout.begun_of(1) == BEGUN);
     holds(&rt, layout.begun_of(2) == Moment::START);
+    mem::forget(layout);
+}
+
+#[test]
+fn replies_remembered(rt: HostRuntime) {
+    let layout = two_sizes(&rt);
+    let remembered = [0, 1, 2].map(|volume| layout.remembered_of(volume));
+    holds(&rt, remembered == [0, 7, 0]);
     mem::forget(layout);
 }
 

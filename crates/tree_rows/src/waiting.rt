@@ -5,7 +5,7 @@ ghost use Rattle.scheduler.specs.QueueNumber.{HasQueue};
 
 use crate::holds::holds;
 use affinity::CallNode;
-use nfs_values::{ConnectionNumber, Credential};
+use nfs_values::{Caller, ConnectionNumber};
 use scheduler::{Message, NoSuchCall, Origin, Waiting};
 use std::mem;
 use std::process::Abort;
@@ -33,7 +33,7 @@ fn refused(waiting: &mut Waiting<u32>, number: usize, affinity: CallNode) -> Opt
             xid: 0,
         },
         call: 0,
-        credential: Credential::NOBODY,
+        caller: Caller::NOBODY,
         affinity,
         room: 116,
     };

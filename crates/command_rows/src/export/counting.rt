@@ -235,17 +235,21 @@ fn sum_of(tallies: &[Tally; 2]) -> Totals {
 #[test]
 fn two_lanes_make_one_line(rt: HostRuntime) {
     let tallies = [counted(), counted()];
+    tallies[0].repeated(2);
     let earlier = sum_of(&tallies);
+    holds(&rt, earlier.repeated() == 2);
     holds(&rt, earlier.calls() == 2_406);
     tallies[0].count(&Reply::Success(Answer::Grow(Err(Status::NoSpace))));
     tallies[1].count(&Reply::Success(Answer::ListMounts));
     tallies[0].count(&Reply::Refused(Refusal::GarbageArguments));
     tallies[0].took(7, 1);
+    tallies[0].repeated(3);
+    tallies[1].repeated(4);
     is_told(
         &rt,
         &sum_of(&tallies).since(&earlier),
         "calls 2: DUMP 1, GROW 1; p50 7 us, p99 7 us; refused: GARBAGE_ARGS 1; \
-         busy 0, starved 0",
+         busy 0, starved 0, told again 5",
     );
 }
 

@@ -1,8 +1,8 @@
 //! Networks and peers (RFC 4632 section 3.1). `trials/command_lines` has texts that are no network.
 
 use crate::looking::holds;
-use server_options::{Network, Peers};
-use std::net::IpAddr;
+use server_options::{Network, Peers, address_of};
+use std::net::{IpAddr, SocketAddr};
 use std::process::Abort;
 
 /// An address.
@@ -66,5 +66,23 @@ fn peers_of_the_own_machine(rt: HostRuntime) {
     holds(&rt, Peers::All.has(&there));
     for (peer, is_own) in &OF_SIX {
         holds(&rt, Peers::Loopback.has(&address(&rt, peer)) == *is_own);
+    }
+}
+
+/// The address of a peer, and as one number.
+const NUMBERED: [(&str, u128); 3] = [
+    ("192.0.2.7", 0xc000_0207),
+    // an IPv4 address in IPv6's form (RFC 4291 section 2.5.5.2)
+    ("::ffff:192.0.2.7", 0xc000_0207),
+    ("2001:db8::1", 0x2001_0db8_0000_0000_0000_0000_0000_0001),
+];
+
+#[test]
+fn addresses_that_calls_come_from(rt: HostRuntime) {
+    for (text, number) in &NUMBERED {
+        for port in [1, 65_535] {
+            let from = address_of(&SocketAddr::new(address(&rt, text), port));
+            holds(&rt, from.address == *number && from.port == port);
+        }
     }
 }

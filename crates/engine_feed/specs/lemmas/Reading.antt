@@ -33,9 +33,9 @@ module _ (offer : Offer) (bytes : List ℕ) where
       heard_is offer bytes ∙ reads (subst (λ (r : Request). Tells h.xid r (records.heard_by offer bytes)) is told)
       ∙ ap (λ (x : types.Asked). Ok (record { xid = h.xid; asked = x })) (sym (ap asked_of is))
 
-  pub call_read : (read : Result Heard RecordFault) (h : Heard) (call : _) (credential : _) → read ≡ Ok h → h.request ≡ requests.Call call credential
+  pub call_read : (read : Result Heard RecordFault) (h : Heard) (call : _) (caller : _) → read ≡ Ok h → h.request ≡ requests.Call call caller
       → Hears read (records.heard_by offer bytes) → heard offer bytes ≡ Ok (heard_of h)
-  call_read read h call credential is of told = asks h (requests.Call call credential) of (told_as read (Ok h) is told) (λ t. t)
+  call_read read h call caller is of told = asks h (requests.Call call caller) of (told_as read (Ok h) is told) (λ t. t)
 
   pub refusal_read : (read : Result Heard RecordFault) (h : Heard) (refusal : _) → read ≡ Ok h → h.request ≡ requests.Refused refusal
       → Hears read (records.heard_by offer bytes) → heard offer bytes ≡ Ok (heard_of h)

@@ -1,7 +1,7 @@
 -- What follows from the definitions.
 use Rattle.std.specs.Prelude.{◌≡◌, ℕ, Bool, ◌<◌, ◌≤◌, ◌*◌, List, [], length, map, Option, Some, None}
 use Rattle.std.specs.FinMap.{get, len}
-use Rattle.nfs_model.specs.Types.{Credential, Moment}
+use Rattle.nfs_model.specs.Types.{Caller, Moment}
 use Rattle.nfs_model.specs.Tree.{Layout, Serial, Aggregate, Volume, Logical, Stripe, Vbn, Range, stripes_of, range_blocks_of}
 use Rattle.nfs_model.specs.Server.{opening}
 use Rattle.nfs_model.specs.Headline.{opening_parts}
@@ -229,11 +229,11 @@ module _ (P : Type 0) where
 
 -- a call on a volume is one on all that is stored
 abbrev pub ServesAll : Type 0
-ServesAll = (layout : Layout) (v : ℕ) (q : VolumeCall) (connection number xid : ℕ) (credential : Credential) (moment : Moment)
-    → IsCallOn layout v q credential moment
+ServesAll = (layout : Layout) (v : ℕ) (q : VolumeCall) (connection number xid : ℕ) (caller : Caller) (moment : Moment)
+    → IsCallOn layout v q caller moment
     → (c : FilerContents) → IsLaidOut layout c → (p : VolumeContents) → volume_at c v ≡ Some p → p.number ≡ v
     → (starved : Bool) (reply : JobReply) (after : VolumeContents) → ServesOn q starved p reply after
-    → Does layout q.node (Serve (finished_as q connection number xid credential moment starved)) c reply (with_contents c v after)
+    → Does layout q.node (Serve (finished_as q connection number xid caller moment starved)) c reply (with_contents c v after)
 
 -- and so is an inner call
 abbrev pub InnerDoesAll : Type 0

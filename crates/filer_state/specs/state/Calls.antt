@@ -1,7 +1,7 @@
 -- What a call on a handle comes to on the one volume that the handle names: what a handler promises. That the whole server does the
 -- same follows.
 use Rattle.std.specs.Prelude.{◌≡◌, ◌⊎◌, ℕ, ◌+◌, ◌-◌, ◌/◌, Bool, true, IsTrue, List, length, Option, Some, None, slice_get}
-use Rattle.nfs_model.specs.Types.{Call, Write, Credential, Moment, Ask, Answer, Failed, Success, SystemError}
+use Rattle.nfs_model.specs.Types.{Call, Write, Caller, Moment, Ask, Answer, Failed, Success, SystemError}
 use Rattle.nfs_model.specs.Tree.{Layout, Affinity}
 use Rattle.nfs_model.specs.Server.{Server, VolumeState, handle_of, block_size}
 use Rattle.nfs_model.specs.Route.{handle_on, route}
@@ -34,12 +34,12 @@ pub record VolumeCall : Type 0 where
 
 -- What has to be known of such a call on the volume of a number, else its words say nothing: its handle names the fileid there, its
 -- node is the volume's and at its home or above it, and the serial server serves it by the procedure.
-pub record IsCallOn (layout : Layout) (v : ℕ) (c : VolumeCall) (credential : Credential) (moment : Moment) : Type 0 where
+pub record IsCallOn (layout : Layout) (v : ℕ) (c : VolumeCall) (caller : Caller) (moment : Moment) : Type 0 where
   pub good : handle_of (length layout.volumes) (handle_in c.call) ≡ Some (record { volume = v; fileid = c.fileid })
   pub under : volume_above c.node ≡ Some v
-  pub tried : IsHomeOrAbove layout (Ask c.call credential) c.node
+  pub tried : IsHomeOrAbove layout (Ask c.call caller) c.node
   pub served : (server : Server) (volume : VolumeState) → length server.volumes ≡ length layout.volumes → slice_get server.volumes v ≡ Some volume
-      → serve server c.call credential moment ≡ placed server (absent_parts c.call) v (c.run volume)
+      → serve server c.call caller moment ≡ placed server (absent_parts c.call) v (c.run volume)
 
 -- what the handle names
 abbrev pub located_on : VolumeCall → VolumeContents → Located
@@ -93,12 +93,12 @@ WorksOn c old (Replied reply) new =
     × PartsChange c.call c.node (stored old) (stored new)
 
 -- the call as it is finished
-abbrev pub finished_as : VolumeCall → ℕ → ℕ → ℕ → Credential → Moment → Bool → FinishedCall
-finished_as c connection number xid credential moment starved = record {
+abbrev pub finished_as : VolumeCall → ℕ → ℕ → ℕ → Caller → Moment → Bool → FinishedCall
+finished_as c connection number xid caller moment starved = record {
   connection = connection;
   number = number;
   xid = xid;
-  asked = Ask c.call credential;
+  asked = Ask c.call caller;
   affinity = Some c.node;
   moment = moment;
   starved = starved;

@@ -33,4 +33,5 @@ no_logical = record {
   directories = maps.empty;
   stock = sets.empty;
   dead = no_dead 1024;
+  memos = [];
 }

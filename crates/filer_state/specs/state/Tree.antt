@@ -101,6 +101,7 @@ volume_of p = record {
   verifier = p.logical.verifier;
   next = p.logical.inodes.next;
   nodes = map_values (node_of p.stripes p.logical.directories) p.logical.inodes.inodes;
+  memos = p.logical.memos;
 }
 
 -- all volumes as calls see them

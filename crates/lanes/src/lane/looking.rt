@@ -49,6 +49,11 @@ impl<D: Device, R> Lane<D, R> {
         &self.intake.at_once
     }
 
+    /// How many calls were told a reply again, wrapping at 2^64.
+    pub fn repeated(&self) -> u64 {
+        self.intake.ahead.repeated()
+    }
+
     /// Whether so much may be owed to a connection that is read further.
     pub fn may_owe(&self, owed: usize) -> bool {
         owed < MOST_OWED

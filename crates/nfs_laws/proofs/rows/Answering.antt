@@ -16,7 +16,7 @@ use Rattle.nfs_laws.proofs.rows.Toy.{asked, scan, toy}
 use Rattle.nfs_laws.proofs.rows.Cases.{nobody}
 
 abbrev layout : Layout
-layout = record { spare = 1 ∷ []; volumes = record { aggregate = 0; ranges = 1; stripes = 8; mebibytes = 16; range_blocks = 1024; inodes = 65536; most_steps = 4; begun = start_of_times } ∷ [] }
+layout = record { spare = 1 ∷ []; volumes = record { aggregate = 0; ranges = 1; stripes = 8; mebibytes = 16; range_blocks = 1024; inodes = 65536; most_steps = 4; begun = start_of_times; remembered = 0 } ∷ [] }
 
 abbrev setup : Setup
 setup = record { codec = toy; layout = layout; verifier = replicate 8 1; workers = 2; connections = 64 }
@@ -176,8 +176,8 @@ worked =
 
 abbrev opened_volume : Stored
 opened_volume = record {
-  volume = opening_volume (replicate 8 1) 0 (record { aggregate = 0; ranges = 1; stripes = 8; mebibytes = 16; range_blocks = 1024; inodes = 65536; most_steps = 4; begun = start_of_times });
-  parts = opening_parts (record { aggregate = 0; ranges = 1; stripes = 8; mebibytes = 16; range_blocks = 1024; inodes = 65536; most_steps = 4; begun = start_of_times });
+  volume = opening_volume (replicate 8 1) 0 (record { aggregate = 0; ranges = 1; stripes = 8; mebibytes = 16; range_blocks = 1024; inodes = 65536; most_steps = 4; begun = start_of_times; remembered = 0 });
+  parts = opening_parts (record { aggregate = 0; ranges = 1; stripes = 8; mebibytes = 16; range_blocks = 1024; inodes = 65536; most_steps = 4; begun = start_of_times; remembered = 0 });
 }
 
 getattr_is_worked : Events setup begun (Work 0) (Ok HasReply) worked
@@ -189,7 +189,7 @@ getattr_is_worked = (
     Replied (Success (GetattrDone root_shown)),
     record {
       server = opening layout (replicate 8 1);
-      parts = opening_parts (record { aggregate = 0; ranges = 1; stripes = 8; mebibytes = 16; range_blocks = 1024; inodes = 65536; most_steps = 4; begun = start_of_times }) ∷ [];
+      parts = opening_parts (record { aggregate = 0; ranges = 1; stripes = 8; mebibytes = 16; range_blocks = 1024; inodes = 65536; most_steps = 4; begun = start_of_times; remembered = 0 }) ∷ [];
     },
     refl,
     refl,

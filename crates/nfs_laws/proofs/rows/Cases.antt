@@ -4,14 +4,14 @@ use Rattle.std.specs.Ordering.{nat_cmp}
 use Rattle.std.specs.FinMap.{from_sorted}
 use Rattle.std.specs.FinSet.{FinSet}
 use Rattle.std.specs.FinSet as sets
-use Rattle.nfs_model.specs.Types.{Moment, Credential, Call, Create, Write, Unchecked, Reply, Success, Failed}
+use Rattle.nfs_model.specs.Types.{Moment, Caller, Call, Create, Write, Unchecked, Reply, Success, Failed}
 use Rattle.nfs_model.specs.Types.{Status, Shown, Regular, DirectoryKind, Before, Wcc, Listed, SetAttributes}
 use Rattle.nfs_model.specs.Tree.{Layout, VolumeLayout}
 use Rattle.nfs_model.specs.Server.{Attributes, Node, File, Directory, VolumeState, Server, opening, opening_volume, handle_bytes, start_of_times}
 use Rattle.nfs_model.specs.Serial.Create.{no_attributes}
 
 abbrev pub one_range : VolumeLayout
-one_range = record { aggregate = 0; ranges = 1; stripes = 8; mebibytes = 16; range_blocks = 1024; inodes = 65536; most_steps = 4; begun = start_of_times }
+one_range = record { aggregate = 0; ranges = 1; stripes = 8; mebibytes = 16; range_blocks = 1024; inodes = 65536; most_steps = 4; begun = start_of_times; remembered = 0 }
 
 abbrev pub layout : Layout
 layout = record { spare = 1 ∷ []; volumes = one_range ∷ (one_range ∷ []) }
@@ -28,8 +28,8 @@ abbrev pub at : ℕ → Moment
 at seconds = record { seconds = seconds; nanoseconds = 0 }
 
 -- the caller without a credential
-abbrev pub nobody : Credential
-nobody = record { uid = 65534; gid = 65534; gids = [] }
+abbrev pub nobody : Caller
+nobody = record { credential = record { uid = 65534; gid = 65534; gids = [] }; xid = 0; peer = 0 }
 
 -- a node of volume 0
 abbrev pub h : ℕ → List ℕ
@@ -130,6 +130,7 @@ volume_with total largest next nodes =
       verifier = verifier;
       next = next;
       nodes = from_sorted nodes;
+      memos = [];
     }
 
 -- a server of that volume, and of another as it begins
@@ -150,6 +151,11 @@ narrow node = small 1024 8 3 ((1, root_with 4 (entry 3 a 2 ∷ [])) ∷ ((2, nod
 -- the root with the directory `d`, of fileid 2, with the file `f`, of fileid 3
 abbrev pub with_tree : Server
 with_tree = holding 4 ((1, root_with 4 (entry 3 d 2 ∷ [])) ∷ ((2, directory 1 4 (entry 3 f 3 ∷ [])) ∷ ((3, file [] no_blocks) ∷ [])))
+
+-- the root with the empty directories `d` (2) and `x` (3)
+abbrev pub with_two_directories : Server
+with_two_directories = holding 4 ((1, root_with 5 (entry 3 d 2 ∷ (entry 4 x 3 ∷ [])))
+    ∷ ((2, directory 1 3 []) ∷ ((3, directory 1 3 []) ∷ [])))
 
 -- the root with `a` (2), `b` (3), directories `d` (4) and, in `d`, `e` (5)
 abbrev pub with_four : Server

@@ -6,7 +6,7 @@ use Rattle.nfs_model.specs.Server.{handle_bytes}
 use Rattle.nfs_model.specs.Serial.Create.{no_attributes}
 use Rattle.nfs_model.specs.Serial.Step.{serial}
 use Rattle.nfs_laws.specs.lemmas.Evaluate.{evaluate}
-use Rattle.nfs_laws.proofs.rows.Cases.{start, deep, at, nobody, h, root, fails, a, b, d, e, f, x, entry, block_0, touched_file, exclusive_file, with_file, with_four}
+use Rattle.nfs_laws.proofs.rows.Cases.{start, deep, at, nobody, h, root, fails, a, b, d, e, f, x, entry, block_0, touched_file, exclusive_file, file, no_blocks, with_file, with_four, with_two_directories}
 use Rattle.nfs_laws.proofs.rows.Cases.{root_shown, directory_shown, file_shown, before, changed}
 
 -- ---- checks in order
@@ -215,9 +215,9 @@ rename_takes_a_new_cookie :
 rename_takes_a_new_cookie = simp evaluate refl
 
 cookie_of_a_rename_is_not_used_again :
-    (serial (serial (serial with_four (Ask (Rename root a root x) nobody) (at 2) false).server (Ask (Create root a (Unchecked no_attributes)) nobody)
-    (at 3) false).server (Ask (Readdir root 5 (replicate 8 0) 512) nobody) (at 4) false).reply
-    ≡ Success (ReaddirDone (root_shown 3 3) (entry 6 x 2 ∷ (entry 7 a 6 ∷ [])) true)
+    (serial (serial (serial (with_file (file [] no_blocks)) (Ask (Rename root a root x) nobody) (at 2) false).server
+    (Ask (Create root a (Unchecked no_attributes)) nobody) (at 3) false).server (Ask (Readdir root 3 (replicate 8 0) 512) nobody) (at 4) false).reply
+    ≡ Success (ReaddirDone (root_shown 2 3) (entry 4 x 2 ∷ (entry 5 a 3 ∷ [])) true)
 cookie_of_a_rename_is_not_used_again = simp evaluate refl
 
 rename_settles_the_file :
@@ -247,8 +247,7 @@ rename_over_an_empty_directory :
 rename_over_an_empty_directory = simp evaluate refl
 
 replaced_directory_is_stale :
-    (serial (serial (serial with_four (Ask (Mkdir root x no_attributes) nobody) (at 2) false).server (Ask (Rename (h 4) e root x) nobody)
-    (at 3) false).server (Ask (Getattr (h 6)) nobody) (at 4) false).reply
+    (serial (serial with_two_directories (Ask (Rename root d root x) nobody) (at 3) false).server (Ask (Getattr (h 3)) nobody) (at 4) false).reply
     ≡ fails Stale 0
 replaced_directory_is_stale = simp evaluate refl
 

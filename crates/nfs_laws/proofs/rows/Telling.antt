@@ -1,6 +1,6 @@
 -- ACCESS, FSINFO and PATHCONF, and what isn't supported (RFC 1813 sections 3.3.4, 3.3.5, 3.3.10, 3.3.11, 3.3.15, 3.3.19 and 3.3.20).
 use Rattle.std.proofs.Common.{◌≡◌, ℕ, false, [], ◌∷◌, replicate, None, refl}
-use Rattle.nfs_model.specs.Types.{Credential, Readlink, Symlink, Mknod, Link, CheckAccess, Fsinfo, Pathconf, Unsupported, Ask, Success, AccessDone}
+use Rattle.nfs_model.specs.Types.{Caller, Readlink, Symlink, Mknod, Link, CheckAccess, Fsinfo, Pathconf, Unsupported, Ask, Success, AccessDone}
 use Rattle.nfs_model.specs.Types.{FsinfoDone, PathconfDone, Stale, BadHandle, NotSupported}
 use Rattle.nfs_model.specs.Server.{File, Directory, Server, handle_bytes}
 use Rattle.nfs_model.specs.Serial.Step.{serial}
@@ -11,8 +11,8 @@ use Rattle.nfs_laws.proofs.rows.Cases.{directory_shown}
 -- ---- callers, files and directories
 
 -- a user of no further group
-abbrev user : ℕ → ℕ → Credential
-user uid gid = record { uid = uid; gid = gid; gids = [] }
+abbrev user : ℕ → ℕ → Caller
+user uid gid = record { credential = record { uid = uid; gid = gid; gids = [] }; xid = 0; peer = 0 }
 
 -- a file of nobody with this mode, and a directory
 abbrev file_of : ℕ → Server
@@ -62,7 +62,7 @@ group_has_no_more_than_its_digit :
 group_has_no_more_than_its_digit = simp evaluate refl
 
 further_group_writes :
-    (serial (file_of 16) (Ask (CheckAccess (h 2) 63) (record { uid = 7; gid = 7; gids = 8 ∷ (65534 ∷ []) })) (at 2) false).reply
+    (serial (file_of 16) (Ask (CheckAccess (h 2) 63) (record { credential = record { uid = 7; gid = 7; gids = 8 ∷ (65534 ∷ []) }; xid = 0; peer = 0 })) (at 2) false).reply
     ≡ Success (AccessDone (record (file_shown 2 0 0 1 1) { mode = 16 }) 12)
 further_group_writes = simp evaluate refl
 

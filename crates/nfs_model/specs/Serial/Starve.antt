@@ -26,7 +26,7 @@ has_bytes call = false
 
 -- what a record asks has bytes to be kept
 abbrev pub may_starve_at_decoding : Asked → Bool
-may_starve_at_decoding (Ask call credential) = has_bytes call
+may_starve_at_decoding (Ask call caller) = has_bytes call
 may_starve_at_decoding (Refused reply) = false
 may_starve_at_decoding Undecoded = false
 
@@ -73,7 +73,7 @@ takes_memory_to_reply server call reply = false
 
 -- what a record asks takes memory on this server
 abbrev pub may_starve_later : Server → Asked → Moment → Bool
-may_starve_later server (Ask call credential) moment =
-    takes_memory_to_reply server call (serve server call credential moment).reply
+may_starve_later server (Ask call caller) moment =
+    takes_memory_to_reply server call (serve server call caller moment).reply
 may_starve_later server (Refused reply) moment = false
 may_starve_later server Undecoded moment = false

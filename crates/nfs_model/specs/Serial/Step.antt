@@ -1,7 +1,7 @@
 -- The answer of the serial server, and the server after it (RFC 1813 section 3.3, and appendix I for
 -- MOUNT; CENSUS, GROW and STOP are our profile).
 use Rattle.std.specs.Prelude.{ℕ, Bool, true, false, ◌==◌, length, Option, Some, None, if◌then◌else◌}
-use Rattle.nfs_model.specs.Types.{Moment, Credential, Call, Null, Getattr, Setattr, Lookup, CheckAccess}
+use Rattle.nfs_model.specs.Types.{Moment, Caller, Call, Null, Getattr, Setattr, Lookup, CheckAccess}
 use Rattle.nfs_model.specs.Types.{Read, Write, Create, Mkdir, Remove, Rmdir, Rename, Readdir, Readdirplus, Fsstat, Fsinfo}
 use Rattle.nfs_model.specs.Types.{Pathconf, Commit, Unsupported, Census, Grow, Stop, Mount, MountBelow, Answer, NullDone, StopDone}
 use Rattle.nfs_model.specs.Types.{Failed, BadHandle, CrossVolume, NoEntry, NotSupported, Reply, Success, SystemError, Asked}
@@ -9,6 +9,7 @@ use Rattle.nfs_model.specs.Types.{Ask, Refused, Undecoded}
 use Rattle.nfs_model.specs.Server.{VolumeState, Server, with_volume}
 use Rattle.nfs_model.specs.Locate.{Effect, Fails, Tells, Changes, Located, locate, on_name}
 use Rattle.nfs_model.specs.Serial.Absent.{absent_parts}
+use Rattle.nfs_model.specs.Serial.Once.{once}
 use Rattle.nfs_model.specs.Serial.Getattr.{getattr}
 use Rattle.nfs_model.specs.Serial.Setattr.{setattr}
 use Rattle.nfs_model.specs.Serial.Lookup.{lookup}
@@ -68,57 +69,63 @@ on_two server absent (Some from) (Some to) run =
 
 -- a call that was decoded, by its procedure (RFC 1813 section 3.3); a failure has this many absent
 -- parts
-abbrev pub serve_by : Server → ℕ → Call → Credential → Moment → Step
-serve_by server absent Null credential moment = stay server NullDone
-serve_by server absent (Getattr handle) credential moment = on server absent (locate server handle) getattr
-serve_by server absent (Setattr handle set guard) credential moment =
-    on server absent (locate server handle) (setattr set guard moment)
-serve_by server absent (Lookup directory name) credential moment =
+abbrev pub serve_by : Server → ℕ → Call → Caller → Moment → Step
+serve_by server absent Null caller moment = stay server NullDone
+serve_by server absent (Getattr handle) caller moment = on server absent (locate server handle) getattr
+serve_by server absent (Setattr handle set guard) caller moment =
+    on server absent (locate server handle) (λ volume fileid.
+    once caller (Setattr handle set guard) moment volume (setattr set guard moment volume fileid))
+serve_by server absent (Lookup directory name) caller moment =
     on server absent (locate server directory) (on_name name moment lookup)
-serve_by server absent (CheckAccess handle asked) credential moment =
-    on server absent (locate server handle) (access asked credential)
-serve_by server absent (Read handle offset count) credential moment =
+serve_by server absent (CheckAccess handle asked) caller moment =
+    on server absent (locate server handle) (access asked caller.credential)
+serve_by server absent (Read handle offset count) caller moment =
     on server absent (locate server handle) (read offset count)
-serve_by server absent (Write handle offset count written) credential moment =
+serve_by server absent (Write handle offset count written) caller moment =
     on server absent (locate server handle)
     (write (record { offset = offset; count = count; written = written; moment = moment }))
-serve_by server absent (Create directory name mode) credential moment =
-    on server absent (locate server directory) (on_name name moment (create mode credential))
-serve_by server absent (Mkdir directory name set) credential moment =
-    on server absent (locate server directory) (on_name name moment (mkdir set credential))
-serve_by server absent (Remove directory name) credential moment =
-    on server absent (locate server directory) (on_name name moment remove_name)
-serve_by server absent (Rmdir directory name) credential moment =
-    on server absent (locate server directory) (on_name name moment rmdir)
-serve_by server absent (Rename from from_name to to_name) credential moment =
-    on_two server absent (locate server from) (locate server to) (rename from_name to_name moment)
-serve_by server absent (Readdir directory cookie verifier count) credential moment =
+serve_by server absent (Create directory name mode) caller moment =
+    on server absent (locate server directory) (λ volume fileid.
+    once caller (Create directory name mode) moment volume (on_name name moment (create mode caller.credential) volume fileid))
+serve_by server absent (Mkdir directory name set) caller moment =
+    on server absent (locate server directory) (λ volume fileid.
+    once caller (Mkdir directory name set) moment volume (on_name name moment (mkdir set caller.credential) volume fileid))
+serve_by server absent (Remove directory name) caller moment =
+    on server absent (locate server directory) (λ volume fileid.
+    once caller (Remove directory name) moment volume (on_name name moment remove_name volume fileid))
+serve_by server absent (Rmdir directory name) caller moment =
+    on server absent (locate server directory) (λ volume fileid.
+    once caller (Rmdir directory name) moment volume (on_name name moment rmdir volume fileid))
+serve_by server absent (Rename from from_name to to_name) caller moment =
+    on_two server absent (locate server from) (locate server to) (λ volume fileid other.
+    once caller (Rename from from_name to to_name) moment volume (rename from_name to_name moment volume fileid other))
+serve_by server absent (Readdir directory cookie verifier count) caller moment =
     on server absent (locate server directory) (readdir cookie verifier count)
-serve_by server absent (Readdirplus directory cookie verifier names_count count) credential moment =
+serve_by server absent (Readdirplus directory cookie verifier names_count count) caller moment =
     on server absent (locate server directory) (readdirplus cookie verifier names_count count)
-serve_by server absent (Fsstat handle) credential moment = on server absent (locate server handle) fsstat
-serve_by server absent (Fsinfo handle) credential moment = on server absent (locate server handle) fsinfo
-serve_by server absent (Pathconf handle) credential moment = on server absent (locate server handle) pathconf
-serve_by server absent (Commit handle) credential moment = on server absent (locate server handle) commit
-serve_by server absent (Unsupported which) credential moment = stay server (Failed NotSupported absent)
-serve_by server absent Census credential moment = stay server (census server)
-serve_by server absent (Grow volume ranges) credential moment =
+serve_by server absent (Fsstat handle) caller moment = on server absent (locate server handle) fsstat
+serve_by server absent (Fsinfo handle) caller moment = on server absent (locate server handle) fsinfo
+serve_by server absent (Pathconf handle) caller moment = on server absent (locate server handle) pathconf
+serve_by server absent (Commit handle) caller moment = on server absent (locate server handle) commit
+serve_by server absent (Unsupported which) caller moment = stay server (Failed NotSupported absent)
+serve_by server absent Census caller moment = stay server (census server)
+serve_by server absent (Grow volume ranges) caller moment =
     record {
       reply = Success (grow server volume ranges).answer;
       server = (grow server volume ranges).server;
     }
-serve_by server absent Stop credential moment = stay server StopDone
-serve_by server absent (Mount call) credential moment = stay server (mount (length server.volumes) call)
-serve_by server absent (MountBelow root path) credential moment =
+serve_by server absent Stop caller moment = stay server StopDone
+serve_by server absent (Mount call) caller moment = stay server (mount (length server.volumes) call)
+serve_by server absent (MountBelow root path) caller moment =
     on_root server absent (locate server root) (mount_below (parts_below path))
 
 -- a call that was decoded
-abbrev pub serve : Server → Call → Credential → Moment → Step
-serve server call credential moment = serve_by server (absent_parts call) call credential moment
+abbrev pub serve : Server → Call → Caller → Moment → Step
+serve server call caller moment = serve_by server (absent_parts call) call caller moment
 
 -- The serial server. A call that was starved changes nothing; a refusal gives its reply.
 abbrev pub serial : Server → Asked → Moment → Bool → Step
 serial server asked moment true = record { reply = SystemError; server = server }
-serial server (Ask call credential) moment false = serve server call credential moment
+serial server (Ask call caller) moment false = serve server call caller moment
 serial server (Refused reply) moment false = record { reply = reply; server = server }
 serial server Undecoded moment false = record { reply = SystemError; server = server }

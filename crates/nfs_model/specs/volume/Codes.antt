@@ -7,8 +7,12 @@ use Rattle.std.specs.FinMap.{FinMap}
 use Rattle.std.specs.FinSet as sets
 use Rattle.std.specs.FinSet.{FinSet}
 use Rattle.std.specs.Ordering.{nat_cmp}
-use Rattle.std.specs.Prelude.{Bool}
-use Rattle.nfs_model.specs.Types.{Moment, Listed}
+use Rattle.std.specs.Prelude.{Bool, true, false}
+use Rattle.nfs_model.specs.Types as types
+use Rattle.nfs_model.specs.Types.{Moment, Listed, Caller, SetTime, Keep, ServerTime, ClientTime, SetAttributes, CreateMode, Unchecked, Guarded}
+use Rattle.nfs_model.specs.Types.{Exclusive, Kind, Regular, Shown, Wcc}
+use Rattle.nfs_model.specs.Memo.{Change, Sets, Creates, MakesDirectory, Removes, RemovesDirectory, Renames, Told, ToldSet, ToldMade, ToldGone}
+use Rattle.nfs_model.specs.Memo.{ToldRenamed, Memo}
 use Rattle.nfs_model.specs.Server.{Attributes}
 use Rattle.nfs_model.specs.volume.Directories.{DirectoryValue}
 use Rattle.nfs_model.specs.volume.Inodes.{InodeKind, RegularFile, DirectoryKind, Inode, InodesValue}
@@ -107,14 +111,182 @@ coded_dead =
     code_by (ℕ × FinSet nat_cmp) (coded× coded_ℕ (sets.code coded_ℕ)) (λ d. (d.range_blocks, d.blocks))
     (λ p. record { range_blocks = p.0; blocks = p.1 }) (λ _. refl)
 
+-- ---- what is remembered of calls
+
+abbrev pub coded_caller : Coded Caller
+coded_caller = code_by ((ℕ × (ℕ × List ℕ)) × (ℕ × ℕ)) (coded× (coded× coded_ℕ (coded× coded_ℕ (coded_list coded_ℕ))) (coded× coded_ℕ coded_ℕ))
+    (λ c. ((c.credential.uid, (c.credential.gid, c.credential.gids)), (c.xid, c.peer)))
+    (λ p. record { credential = record { uid = p.0.0; gid = p.0.1.0; gids = p.0.1.1 }; xid = p.1.0; peer = p.1.1 }) (λ _. refl)
+
+abbrev pub time_out : SetTime → Bool ⊎ Moment
+time_out Keep = inl false
+time_out ServerTime = inl true
+time_out (ClientTime t) = inr t
+
+abbrev pub time_back : Bool ⊎ Moment → SetTime
+time_back (inl false) = Keep
+time_back (inl true) = ServerTime
+time_back (inr t) = ClientTime t
+
+pub time_again : (t : SetTime) → time_back (time_out t) ≡ t
+time_again Keep = refl
+time_again ServerTime = refl
+time_again (ClientTime t) = refl
+
+abbrev pub coded_time : Coded SetTime
+coded_time = code_by (Bool ⊎ Moment) (coded⊎ coded_bool coded_moment) time_out time_back time_again
+
+abbrev pub coded_set : Coded SetAttributes
+coded_set =
+    code_by ((Option ℕ × Option ℕ) × ((Option ℕ × Option ℕ) × (SetTime × SetTime)))
+    (coded× (coded× (coded_option coded_ℕ) (coded_option coded_ℕ))
+    (coded× (coded× (coded_option coded_ℕ) (coded_option coded_ℕ)) (coded× coded_time coded_time)))
+    (λ s. ((s.mode, s.uid), ((s.gid, s.size), (s.atime, s.mtime))))
+    (λ p. record { mode = p.0.0; uid = p.0.1; gid = p.1.0.0; size = p.1.0.1; atime = p.1.1.0; mtime = p.1.1.1 }) (λ _. refl)
+
+abbrev pub Made : Type 0
+Made = SetAttributes ⊎ (SetAttributes ⊎ List ℕ)
+
+abbrev pub made_out : CreateMode → Made
+made_out (Unchecked set) = inl set
+made_out (Guarded set) = inr (inl set)
+made_out (Exclusive verifier) = inr (inr verifier)
+
+abbrev pub made_back : Made → CreateMode
+made_back (inl set) = Unchecked set
+made_back (inr (inl set)) = Guarded set
+made_back (inr (inr verifier)) = Exclusive verifier
+
+pub made_again : (m : CreateMode) → made_back (made_out m) ≡ m
+made_again (Unchecked set) = refl
+made_again (Guarded set) = refl
+made_again (Exclusive verifier) = refl
+
+abbrev pub coded_mode : Coded CreateMode
+coded_mode = code_by Made (coded⊎ coded_set (coded⊎ coded_set (coded_list coded_ℕ))) made_out made_back made_again
+
+-- a handle and a name
+abbrev pub Entry : Type 0
+Entry = List ℕ × List ℕ
+
+abbrev pub coded_entry : Coded Entry
+coded_entry = coded× (coded_list coded_ℕ) (coded_list coded_ℕ)
+
+abbrev pub Changed : Type 0
+Changed =
+    ((List ℕ × (SetAttributes × Option Moment)) ⊎ (Entry × CreateMode)) ⊎ (((Entry × SetAttributes) ⊎ Entry) ⊎ (Entry ⊎ (Entry × Entry)))
+
+abbrev pub change_out : Change → Changed
+change_out (Sets handle set guard) = inl (inl (handle, (set, guard)))
+change_out (Creates directory name mode) = inl (inr ((directory, name), mode))
+change_out (MakesDirectory directory name set) = inr (inl (inl ((directory, name), set)))
+change_out (Removes directory name) = inr (inl (inr (directory, name)))
+change_out (RemovesDirectory directory name) = inr (inr (inl (directory, name)))
+change_out (Renames from from_name to to_name) = inr (inr (inr ((from, from_name), (to, to_name))))
+
+abbrev pub change_back : Changed → Change
+change_back (inl (inl p)) = Sets p.0 p.1.0 p.1.1
+change_back (inl (inr p)) = Creates p.0.0 p.0.1 p.1
+change_back (inr (inl (inl p))) = MakesDirectory p.0.0 p.0.1 p.1
+change_back (inr (inl (inr p))) = Removes p.0 p.1
+change_back (inr (inr (inl p))) = RemovesDirectory p.0 p.1
+change_back (inr (inr (inr p))) = Renames p.0.0 p.0.1 p.1.0 p.1.1
+
+pub change_again : (c : Change) → change_back (change_out c) ≡ c
+change_again (Sets handle set guard) = refl
+change_again (Creates directory name mode) = refl
+change_again (MakesDirectory directory name set) = refl
+change_again (Removes directory name) = refl
+change_again (RemovesDirectory directory name) = refl
+change_again (Renames from from_name to to_name) = refl
+
+abbrev pub coded_change : Coded Change
+coded_change =
+    code_by Changed
+    (coded⊎ (coded⊎ (coded× (coded_list coded_ℕ) (coded× coded_set (coded_option coded_moment))) (coded× coded_entry coded_mode))
+    (coded⊎ (coded⊎ (coded× coded_entry coded_set) coded_entry) (coded⊎ coded_entry (coded× coded_entry coded_entry))))
+    change_out change_back change_again
+
+abbrev pub kind_shown : Kind → Bool
+kind_shown Regular = false
+kind_shown types.DirectoryKind = true
+
+abbrev pub shown_kind : Bool → Kind
+shown_kind false = Regular
+shown_kind true = types.DirectoryKind
+
+pub kind_shown_again : (k : Kind) → shown_kind (kind_shown k) ≡ k
+kind_shown_again Regular = refl
+kind_shown_again types.DirectoryKind = refl
+
+abbrev pub coded_shown : Coded Shown
+coded_shown =
+    code_by ((Kind × ((ℕ × ℕ) × (ℕ × ℕ))) × (((ℕ × ℕ) × (ℕ × ℕ)) × (Moment × (Moment × Moment))))
+    (coded× (coded× (code_by Bool coded_bool kind_shown shown_kind kind_shown_again) (coded× (coded× coded_ℕ coded_ℕ) (coded× coded_ℕ coded_ℕ)))
+    (coded× (coded× (coded× coded_ℕ coded_ℕ) (coded× coded_ℕ coded_ℕ)) (coded× coded_moment (coded× coded_moment coded_moment))))
+    (λ s. ((s.kind, ((s.mode, s.links), (s.uid, s.gid))), (((s.size, s.used), (s.fsid, s.fileid)), (s.atime, (s.mtime, s.ctime)))))
+    (λ p. record {
+      kind = p.0.0;
+      mode = p.0.1.0.0;
+      links = p.0.1.0.1;
+      uid = p.0.1.1.0;
+      gid = p.0.1.1.1;
+      size = p.1.0.0.0;
+      used = p.1.0.0.1;
+      fsid = p.1.0.1.0;
+      fileid = p.1.0.1.1;
+      atime = p.1.1.0;
+      mtime = p.1.1.1.0;
+      ctime = p.1.1.1.1;
+    }) (λ _. refl)
+
+abbrev pub coded_wcc : Coded Wcc
+coded_wcc = code_by ((ℕ × (Moment × Moment)) × Shown) (coded× (coded× coded_ℕ (coded× coded_moment coded_moment)) coded_shown)
+    (λ w. ((w.before.size, (w.before.mtime, w.before.ctime)), w.after))
+    (λ p. record { before = record { size = p.0.0; mtime = p.0.1.0; ctime = p.0.1.1 }; after = p.1 }) (λ _. refl)
+
+abbrev pub Results : Type 0
+Results = (Wcc ⊎ (Shown × Wcc)) ⊎ (Wcc ⊎ (Wcc × Wcc))
+
+abbrev pub told_out : Told → Results
+told_out (ToldSet change) = inl (inl change)
+told_out (ToldMade object directory) = inl (inr (object, directory))
+told_out (ToldGone directory) = inr (inl directory)
+told_out (ToldRenamed from to) = inr (inr (from, to))
+
+abbrev pub told_back : Results → Told
+told_back (inl (inl change)) = ToldSet change
+told_back (inl (inr p)) = ToldMade p.0 p.1
+told_back (inr (inl directory)) = ToldGone directory
+told_back (inr (inr p)) = ToldRenamed p.0 p.1
+
+pub told_again : (t : Told) → told_back (told_out t) ≡ t
+told_again (ToldSet change) = refl
+told_again (ToldMade object directory) = refl
+told_again (ToldGone directory) = refl
+told_again (ToldRenamed from to) = refl
+
+abbrev pub coded_told : Coded Told
+coded_told = code_by Results (coded⊎ (coded⊎ coded_wcc (coded× coded_shown coded_wcc)) (coded⊎ coded_wcc (coded× coded_wcc coded_wcc)))
+    told_out told_back told_again
+
+abbrev pub coded_memo : Coded Memo
+coded_memo = code_by ((Caller × Change) × (Moment × Told)) (coded× (coded× coded_caller coded_change) (coded× coded_moment coded_told))
+    (λ m. ((m.caller, m.change), (m.moment, m.told))) (λ p. record { caller = p.0.0; change = p.0.1; moment = p.1.0; told = p.1.1 }) (λ _. refl)
+
 -- ---- what Volume Logical has
 
 abbrev pub coded_logical : Coded LogicalValue
 coded_logical =
-    code_by (((List ℕ × ℕ) × (ℕ × (ℕ × ℕ))) × (InodesValue × (FinMap nat_cmp DirectoryValue × (FinSet nat_cmp × DeadValue))))
+    code_by (((List ℕ × ℕ) × (ℕ × (ℕ × ℕ)))
+    × (InodesValue × (FinMap nat_cmp DirectoryValue × (FinSet nat_cmp × (DeadValue × List (Option Memo))))))
     (coded× (coded× (coded× (coded_list coded_ℕ) coded_ℕ) (coded× coded_ℕ (coded× coded_ℕ coded_ℕ)))
-    (coded× coded_inodes (coded× (maps.code coded_ℕ coded_directory) (coded× (sets.code coded_ℕ) coded_dead))))
-    (λ l. (((l.verifier, l.stripes), (l.largest, (l.most_inodes, l.most_steps))), (l.inodes, (l.directories, (l.stock, l.dead)))))
+    (coded× coded_inodes (coded× (maps.code coded_ℕ coded_directory)
+    (coded× (sets.code coded_ℕ) (coded× coded_dead (coded_list (coded_option coded_memo)))))))
+    (λ l. (
+      ((l.verifier, l.stripes), (l.largest, (l.most_inodes, l.most_steps))),
+      (l.inodes, (l.directories, (l.stock, (l.dead, l.memos)))),
+    ))
     (λ p. record {
       verifier = p.0.0.0;
       stripes = p.0.0.1;
@@ -124,5 +296,6 @@ coded_logical =
       inodes = p.1.0;
       directories = p.1.1.0;
       stock = p.1.1.1.0;
-      dead = p.1.1.1.1;
+      dead = p.1.1.1.1.0;
+      memos = p.1.1.1.1.1;
     }) (λ _. refl)

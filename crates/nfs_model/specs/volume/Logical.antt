@@ -1,11 +1,12 @@
 -- What stands under Volume Logical but its stripes, and the stock and the dead of a volume (our profile).
-use Rattle.std.specs.Prelude.{ℕ, List}
+use Rattle.std.specs.Prelude.{ℕ, List, Option}
 use Rattle.std.specs.Ordering.{nat_cmp}
 use Rattle.std.specs.FinMap.{FinMap}
 use Rattle.std.specs.FinSet.{FinSet}
 use Rattle.nfs_model.specs.volume.Directories.{DirectoryValue}
 use Rattle.nfs_model.specs.volume.Inodes.{InodesValue}
 use Rattle.nfs_model.specs.volume.Ranges.{DeadValue}
+use Rattle.nfs_model.specs.Memo.{Memo}
 
 -- the part of a volume that Volume Logical has
 pub record LogicalValue : Type 0 where
@@ -18,3 +19,4 @@ pub record LogicalValue : Type 0 where
   pub directories : FinMap nat_cmp DirectoryValue  -- by fileid
   pub stock : FinSet nat_cmp  -- block numbers for files
   pub dead : DeadValue  -- block numbers left by files, not yet free
+  pub memos : List (Option Memo)  -- the places for what is remembered of calls

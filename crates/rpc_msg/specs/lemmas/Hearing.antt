@@ -11,7 +11,7 @@ use Rattle.rpc_msg.specs.Offer.{form_of}
 use Rattle.nfs_types.specs.Arguments.{asked}
 use Rattle.nfs_types.specs.Shapes.{◌&◌}
 use Rattle.rpc_msg.specs.Heads.{Stop, Incomplete, Refuse, Body, Head, Call, Refused, Faulty, xid_of, body_by, under, head_from, head_by}
-use Rattle.rpc_msg.specs.Records.{asked_by, heard_from, heard_by}
+use Rattle.rpc_msg.specs.Records.{asked_by, caller_by, heard_from, heard_by}
 
 -- ---- faults
 
@@ -45,9 +45,9 @@ fault_of_record offer bytes = heard_fault (form_of offer) (head_by offer bytes) 
 
 -- ---- what is asked
 
-asks_decoded : (form : HandleForm) (credential : model.Credential) (r : Result model.Call Unread) → IsDecoded (asked_by form credential r)
-asks_decoded form credential (Ok call) = tt
-asks_decoded form credential (Err fault) = tt
+asks_decoded : (form : HandleForm) (caller : model.Caller) (r : Result model.Call Unread) → IsDecoded (asked_by form caller r)
+asks_decoded form caller (Ok call) = tt
+asks_decoded form caller (Err fault) = tt
 
 -- what holds of what is asked, where it is told
 abbrev pub told : Heard → Result Heard ℕ
@@ -59,7 +59,8 @@ same_heard P made h e p =
     subst (λ (h : Heard). P h.asked) same p
 
 decoded : (form : HandleForm) (head : Head) (h : Heard) → heard_from form head ≡ Ok h → IsDecoded h.asked
-decoded form (Call xid procedure credential arguments) h e = same_heard IsDecoded _ h e (asks_decoded form credential (asked procedure arguments))
+decoded form (Call xid procedure credential arguments) h e =
+    same_heard IsDecoded _ h e (asks_decoded form (caller_by xid credential) (asked procedure arguments))
 decoded form (Refused xid reply) h e = same_heard IsDecoded _ h e tt
 decoded form (Faulty number) h e = absurd cc
 

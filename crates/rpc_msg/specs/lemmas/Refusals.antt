@@ -22,7 +22,7 @@ use Rattle.rpc_msg.specs.Heads.{user_of, acting, credential_at, version_by, proc
 use Rattle.rpc_msg.specs.Heads.{xid_of, head_from, head_by}
 use Rattle.rpc_msg.specs.Handles.{reply_told}
 use Rattle.rpc_msg.specs.Room.{refusal_room}
-use Rattle.rpc_msg.specs.Records.{asked_by, heard_from, heard_by}
+use Rattle.rpc_msg.specs.Records.{asked_by, caller_by, heard_from, heard_by}
 use Rattle.rpc_msg.specs.lemmas.Hearing.{same_heard}
 
 -- where a call isn't offered, the reply refuses it
@@ -105,16 +105,17 @@ head_sound offer (Err fault) = tt
 
 -- a reply that is asked to be given refuses
 abbrev AskedRefuses : model.Asked → Type 0
-AskedRefuses (model.Ask call credential) = Unit {0}
+AskedRefuses (model.Ask call caller) = Unit {0}
 AskedRefuses (model.Refused reply) = IsRefusal reply
 AskedRefuses model.Undecoded = Unit {0}
 
-asked_refuses : (form : HandleForm) (credential : model.Credential) (r : Result model.Call Unread) → AskedRefuses (asked_by form credential r)
-asked_refuses form credential (Ok call) = tt
-asked_refuses form credential (Err fault) = tt
+asked_refuses : (form : HandleForm) (caller : model.Caller) (r : Result model.Call Unread) → AskedRefuses (asked_by form caller r)
+asked_refuses form caller (Ok call) = tt
+asked_refuses form caller (Err fault) = tt
 
 heard_refuses : (form : HandleForm) (head : Head) (h : Heard) → HeadIsSound head → heard_from form head ≡ Ok h → AskedRefuses h.asked
-heard_refuses form (Call xid procedure credential arguments) h s e = same_heard AskedRefuses _ h e (asked_refuses form credential (asked procedure arguments))
+heard_refuses form (Call xid procedure credential arguments) h s e =
+    same_heard AskedRefuses _ h e (asked_refuses form (caller_by xid credential) (asked procedure arguments))
 heard_refuses form (Refused xid reply) h s e = same_heard AskedRefuses _ h e s
 heard_refuses form (Faulty number) h s e = absurd cc
 

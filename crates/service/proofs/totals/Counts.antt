@@ -54,10 +54,10 @@ counted-more f v counts new here sofar pushed is =
 
 pub takes-counts : (layout : Layout) (c : FilerContents) (counts : Vec VolumeCount) → map count_of counts.items ≡ map count_held c.volumes
     → TakesCensus layout c (Ok counts)
-takes-counts layout c counts is credential moment =
-    subst (λ (a : Answer). RunsOnAll layout serial_lens (census_task credential moment) c (Replied (Success a)) c) (sym (ap CensusDone is))
-    (census-right layout credential moment c)
+takes-counts layout c counts is caller moment =
+    subst (λ (a : Answer). RunsOnAll layout serial_lens (census_task caller moment) c (Replied (Success a)) c) (sym (ap CensusDone is))
+    (census-right layout caller moment c)
 
 pub takes-none : (layout : Layout) (c : FilerContents) (r : Result (Vec VolumeCount) AllocError) → IsErr r → TakesCensus layout c r
-takes-none layout c (Ok counts) failed credential moment = absurd cc
-takes-none layout c (Err e) failed credential moment = census-starves layout credential moment c
+takes-none layout c (Ok counts) failed caller moment = absurd cc
+takes-none layout c (Err e) failed caller moment = census-starves layout caller moment c

@@ -245,10 +245,10 @@ module _ {P : Type 0} (old : FilerAggregate P) (v more : ℕ) (held : HasVolumeO
 
 pub grow-is-right : {P : Type 0} → GrowIsRight → (v more : ℕ) (old : FilerAggregate P) (result : Result ℕ Status) (new : FilerAggregate P)
     → DoneInAggregate v more old result new → GrowsAggregate v more old result new
-grow-is-right law v more old result new done layout credential moment on =
+grow-is-right law v more old result new done layout caller moment on =
     let a : ℕ = aggregate_of layout v in
     let s : AggregateSet = aggregate_set layout a old in
-    subst (λ (t : AggregateSet). RunsOnAll layout (aggregate_lens a) (task_under (Aggregate a) (Ask (types.Grow v more) credential) moment) s
+    subst (λ (t : AggregateSet). RunsOnAll layout (aggregate_lens a) (task_under (Aggregate a) (Ask (types.Grow v more) caller) moment) s
     (growing_outcome result) t) (sym (done.set layout on))
-    (subst (λ (r : types.Answer). RunsOnAll layout (aggregate_lens a) (task_under (Aggregate a) (Ask (types.Grow v more) credential) moment) s
-    (Replied (Success r)) (grow_aggregate v more s).set) (sym (done.told layout on)) (law layout a v more credential moment s on refl))
+    (subst (λ (r : types.Answer). RunsOnAll layout (aggregate_lens a) (task_under (Aggregate a) (Ask (types.Grow v more) caller) moment) s
+    (Replied (Success r)) (grow_aggregate v more s).set) (sym (done.told layout on)) (law layout a v more caller moment s on refl))

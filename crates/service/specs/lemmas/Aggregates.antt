@@ -2,7 +2,7 @@
 use Rattle.std.proofs.Common.{◌≡◌, ℕ, [], Some, None, Result, sym, subst}
 use Rattle.std.specs.Prelude.{slice_get}
 use Rattle.nfs_model.specs.Types as types
-use Rattle.nfs_model.specs.Types.{Ask, Credential, Moment}
+use Rattle.nfs_model.specs.Types.{Ask, Caller, Moment}
 use Rattle.nfs_model.specs.Tree.{Layout, Affinity, Aggregate}
 use Rattle.nfs_model.specs.Home.{grow_home}
 use Rattle.nfs_model.specs.Work.{Store, Outcome, Replied, Starved, Moved, move_of}
@@ -40,18 +40,18 @@ module _ {P : Type 0} (layout : Layout) (g v more : ℕ) (at : grow_home (slice_
       }
 
   -- its run is the call's
-  pub grown-runs : (call : Call) (credential : Credential) (moment : Moment) (old new : FilerAggregate P) (told : Result ℕ Status) (outcome : Outcome)
+  pub grown-runs : (call : Call) (caller : Caller) (moment : Moment) (old new : FilerAggregate P) (told : Result ℕ Status) (outcome : Outcome)
       → call_of call ≡ types.Grow v more → outcome ≡ growing_outcome told → GrowsAggregate v more old told new
-      → RunsOnAll layout (aggregate_lens g) (task_under (Aggregate g) (Ask (call_of call) credential) moment) (aggregate_set layout g old) outcome
+      → RunsOnAll layout (aggregate_lens g) (task_under (Aggregate g) (Ask (call_of call) caller) moment) (aggregate_set layout g old) outcome
       (aggregate_set layout g new)
-  grown-runs call credential moment old new told outcome asked is right =
+  grown-runs call caller moment old new told outcome asked is right =
       let there = grows-there layout v g at in
-      subst (λ (k : types.Call). RunsOnAll layout (aggregate_lens g) (task_under (Aggregate g) (Ask k credential) moment) (aggregate_set layout g old) outcome
+      subst (λ (k : types.Call). RunsOnAll layout (aggregate_lens g) (task_under (Aggregate g) (Ask k caller) moment) (aggregate_set layout g old) outcome
       (aggregate_set layout g new)) (sym asked)
-      (subst (λ (o : Outcome). RunsOnAll layout (aggregate_lens g) (task_under (Aggregate g) (Ask (types.Grow v more) credential) moment)
+      (subst (λ (o : Outcome). RunsOnAll layout (aggregate_lens g) (task_under (Aggregate g) (Ask (types.Grow v more) caller) moment)
       (aggregate_set layout g old) o (aggregate_set layout g new)) (sym is)
-      (subst (λ (b : ℕ). RunsOnAll layout (aggregate_lens b) (task_under (Aggregate b) (Ask (types.Grow v more) credential) moment)
-      (aggregate_set layout b old) (growing_outcome told) (aggregate_set layout b new)) there.1 (right layout credential moment there.0)))
+      (subst (λ (b : ℕ). RunsOnAll layout (aggregate_lens b) (task_under (Aggregate b) (Ask (types.Grow v more) caller) moment)
+      (aggregate_set layout b old) (growing_outcome told) (aggregate_set layout b new)) there.1 (right layout caller moment there.0)))
 
 -- it is always answered
 pub unless-grown : (told : Result ℕ Status) (outcome : Outcome) (A : Type 0) → outcome ≡ growing_outcome told → UnlessReplied outcome A
@@ -60,19 +60,19 @@ unless-grown told outcome A is = subst (λ (o : Outcome). UnlessReplied o A) (sy
 -- ---- any call that is run there
 
 -- it doesn't move
-never-moves : (layout : Layout) (call : Call) (g : ℕ) → IsRunAt layout call (Aggregate g) → (credential : Credential) (moment : Moment) (store : Store)
-    (other : Affinity) → move_of store (task_under (Aggregate g) (Ask (call_of call) credential) moment) ≡ Some other → ⊥
-never-moves layout (calls.Grow volume more) g at credential moment store other e = cc
-never-moves layout calls.Census g at credential moment store other e = cc
-never-moves layout call g at credential moment store other e = let above = (run-home layout call (Aggregate g) at).above in cc
+never-moves : (layout : Layout) (call : Call) (g : ℕ) → IsRunAt layout call (Aggregate g) → (caller : Caller) (moment : Moment) (store : Store)
+    (other : Affinity) → move_of store (task_under (Aggregate g) (Ask (call_of call) caller) moment) ≡ Some other → ⊥
+never-moves layout (calls.Grow volume more) g at caller moment store other e = cc
+never-moves layout calls.Census g at caller moment store other e = cc
+never-moves layout call g at caller moment store other e = let above = (run-home layout call (Aggregate g) at).above in cc
 
-pub stays-there : (layout : Layout) (call : Call) (g : ℕ) → IsRunAt layout call (Aggregate g) → (credential : Credential) (moment : Moment)
+pub stays-there : (layout : Layout) (call : Call) (g : ℕ) → IsRunAt layout call (Aggregate g) → (caller : Caller) (moment : Moment)
     (old new : AggregateSet) (outcome : Outcome) → HasAll layout (aggregate_lens g) [] old
-    → RunsOnAll layout (aggregate_lens g) (task_under (Aggregate g) (Ask (call_of call) credential) moment) old outcome new → MovesOn layout call outcome
-stays-there layout call g at credential moment old new (Replied reply) w right = tt
-stays-there layout call g at credential moment old new Starved w right = tt
-stays-there layout call g at credential moment old new (Moved other) w right =
-    absurd (never-moves layout call g at credential moment (stored_all w.0) other (right w.0 w.1 w.2 w.3 w.4 w.5 w.8 w.7).0.0.0)
+    → RunsOnAll layout (aggregate_lens g) (task_under (Aggregate g) (Ask (call_of call) caller) moment) old outcome new → MovesOn layout call outcome
+stays-there layout call g at caller moment old new (Replied reply) w right = tt
+stays-there layout call g at caller moment old new Starved w right = tt
+stays-there layout call g at caller moment old new (Moved other) w right =
+    absurd (never-moves layout call g at caller moment (stored_all w.0) other (right w.0 w.1 w.2 w.3 w.4 w.5 w.8 w.7).0.0.0)
 
 module _ {P : Type 0} (layout : Layout) (lawful : fault_of layout ≡ None) where
   -- what is known of the parcels under an Aggregate
@@ -84,14 +84,14 @@ module _ {P : Type 0} (layout : Layout) (lawful : fault_of layout ≡ None) wher
       (sym is) (λ there has. aggregate-has layout lawful [] g there held has) on filer
 
   -- one that was run on the set of an Aggregate, by the set's parcels
-  pub aggregate-ran : (call : Call) (credential : Credential) (moment : Moment) (g : ℕ) (a : Affinity) → a ≡ Aggregate g → IsNode layout a
+  pub aggregate-ran : (call : Call) (caller : Caller) (moment : Moment) (g : ℕ) (a : Affinity) → a ≡ Aggregate g → IsNode layout a
       → IsRunAt layout call a → (old new : FilerAggregate P) (outcome : Outcome) → UnlessReplied outcome (new ≡ old)
-      → RunsOnAll layout (aggregate_lens g) (task_under (Aggregate g) (Ask (call_of call) credential) moment) (aggregate_set layout g old) outcome
+      → RunsOnAll layout (aggregate_lens g) (task_under (Aggregate g) (Ask (call_of call) caller) moment) (aggregate_set layout g old) outcome
       (aggregate_set layout g new)
-      → Runs layout a (Ask (call_of call) credential) moment (aggregate_parcels layout a old) outcome (aggregate_parcels layout a new)
-  aggregate-ran call credential moment g a is on at old new outcome same right =
+      → Runs layout a (Ask (call_of call) caller) moment (aggregate_parcels layout a old) outcome (aggregate_parcels layout a new)
+  aggregate-ran call caller moment g a is on at old new outcome same right =
       subst (λ (b : Affinity). IsNode layout b → IsRunAt layout call b
-      → Runs layout b (Ask (call_of call) credential) moment (aggregate_parcels layout b old) outcome (aggregate_parcels layout b new))
+      → Runs layout b (Ask (call_of call) caller) moment (aggregate_parcels layout b old) outcome (aggregate_parcels layout b new))
       (sym is) (λ there asks.
-      aggregate-runs layout lawful (Ask (call_of call) credential) moment g there (run-tried layout call credential (Aggregate g) asks) old new outcome same
+      aggregate-runs layout lawful (Ask (call_of call) caller) moment g there (run-tried layout call caller (Aggregate g) asks) old new outcome same
       right) on at

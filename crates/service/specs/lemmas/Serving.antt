@@ -5,7 +5,7 @@ use Rattle.std.proofs.lemmas.Bool.{eq-eqb}
 use Rattle.std.specs.Prelude.{List, length, min, nat_lt, ◌&&◌, ◌||◌, ◌==◌, IsTrue, slice_get, if◌then◌else◌}
 use Rattle.std.specs.FinSet.{len}
 use Rattle.nfs_model.specs.Types as types
-use Rattle.nfs_model.specs.Types.{Ask, Credential, Moment}
+use Rattle.nfs_model.specs.Types.{Ask, Caller, Moment}
 use Rattle.nfs_model.specs.Tree.{Layout, Affinity, Serial, Aggregate, Volume, Logical, Stripe, Vbn, Range, path, begins, aggregate_of, stripes_of}
 use Rattle.nfs_model.specs.Server.{Server, Named, VolumeState, handle_of, most_bytes}
 use Rattle.nfs_model.specs.Route.{Route, OfBytesWritten, route}
@@ -14,6 +14,7 @@ use Rattle.nfs_model.specs.Locate.{located_in, located_by, locate}
 use Rattle.nfs_model.specs.Serial.Absent.{absent_parts}
 use Rattle.nfs_model.specs.Serial.Mount.{parts_below}
 use Rattle.nfs_model.specs.Serial.MountBelow.{mount_below}
+use Rattle.nfs_model.specs.Serial.Once.{once}
 use Rattle.nfs_model.specs.Serial.Rename.{rename}
 use Rattle.nfs_model.specs.Serial.Step.{on, on_root, on_two, placed, serve, stay}
 use Rattle.nfs_model.specs.Parts.{Parts}
@@ -83,9 +84,9 @@ leads-tried layout (OfBytesWritten handle offset count) a at =
 leads-tried layout r a at = (a, at, begins-self (path layout a))
 
 -- a call is run at its home or above it
-pub run-tried : (layout : Layout) (call : Call) (credential : Credential) (a : Affinity) → IsRunAt layout call a
-    → IsHomeOrAbove layout (Ask (call_of call) credential) a
-run-tried layout call credential a at = leads-tried layout (route (call_of call)) a at.1
+pub run-tried : (layout : Layout) (call : Call) (caller : Caller) (a : Affinity) → IsRunAt layout call a
+    → IsHomeOrAbove layout (Ask (call_of call) caller) a
+run-tried layout call caller a at = leads-tried layout (route (call_of call)) a at.1
 
 -- what it names on a server of this layout
 located-there : (layout : Layout) (server : Server) (volume : VolumeState) (v fileid : ℕ) (handle : List ℕ) → length server.volumes ≡ length layout.volumes
@@ -96,27 +97,27 @@ located-there layout server volume v fileid handle count there named =
     ∙ ap (located_in (record { volume = v; fileid = fileid })) there
 
 -- a call on one handle
-on-handle : (layout : Layout) (a : Affinity) (call : types.Call) (credential : Credential) (moment : Moment)
-    → IsNodeOf (named_by layout (handle_in call)) a → IsHomeOrAbove layout (Ask call credential) a
+on-handle : (layout : Layout) (a : Affinity) (call : types.Call) (caller : Caller) (moment : Moment)
+    → IsNodeOf (named_by layout (handle_in call)) a → IsHomeOrAbove layout (Ask call caller) a
     → ((server : Server)
-    → serve server call credential moment
-    ≡ on server (absent_parts call) (locate server (handle_in call)) (procedure call (other_in layout call) credential moment))
-    → IsCallOn layout (volume_around a) (call_on layout a credential moment call) credential moment
-on-handle layout a call credential moment at tried serves = record {
+    → serve server call caller moment
+    ≡ on server (absent_parts call) (locate server (handle_in call)) (procedure call (other_in layout call) caller moment))
+    → IsCallOn layout (volume_around a) (call_on layout a caller moment call) caller moment
+on-handle layout a call caller moment at tried serves = record {
   good = at.names;
   under = at.above;
   tried = tried;
   served = λ server volume count there.
       serves server
-      ∙ ap (λ o. on server (absent_parts call) o (procedure call (other_in layout call) credential moment))
+      ∙ ap (λ o. on server (absent_parts call) o (procedure call (other_in layout call) caller moment))
       (located-there layout server volume (volume_around a) (fileid_in (named_by layout (handle_in call))) (handle_in call) count there at.names);
 }
 
 -- MNT below a root
-on-a-root : (layout : Layout) (a : Affinity) (root path : List ℕ) (credential : Credential) (moment : Moment)
-    → IsNodeOf (named_by layout root) a → IsHomeOrAbove layout (Ask (types.MountBelow root path) credential) a
-    → IsCallOn layout (volume_around a) (call_on layout a credential moment (types.MountBelow root path)) credential moment
-on-a-root layout a root path credential moment at tried = record {
+on-a-root : (layout : Layout) (a : Affinity) (root path : List ℕ) (caller : Caller) (moment : Moment)
+    → IsNodeOf (named_by layout root) a → IsHomeOrAbove layout (Ask (types.MountBelow root path) caller) a
+    → IsCallOn layout (volume_around a) (call_on layout a caller moment (types.MountBelow root path)) caller moment
+on-a-root layout a root path caller moment at tried = record {
   good = at.names;
   under = at.above;
   tried = tried;
@@ -126,18 +127,19 @@ on-a-root layout a root path credential moment at tried = record {
 }
 
 -- RENAME, on two handles of one volume
-on-both : (layout : Layout) (a : Affinity) (from from_name to to_name : List ℕ) (credential : Credential) (moment : Moment)
+on-both : (layout : Layout) (a : Affinity) (from from_name to to_name : List ℕ) (caller : Caller) (moment : Moment)
     → rename_home (named_by layout from) (named_by layout to) ≡ Some a
-    → IsHomeOrAbove layout (Ask (types.Rename from from_name to to_name) credential) a
-    → IsCallOn layout (volume_around a) (call_on layout a credential moment (types.Rename from from_name to to_name)) credential moment
-on-both layout a from from_name to to_name credential moment is tried =
+    → IsHomeOrAbove layout (Ask (types.Rename from from_name to to_name) caller) a
+    → IsCallOn layout (volume_around a) (call_on layout a caller moment (types.Rename from from_name to to_name)) caller moment
+on-both layout a from from_name to to_name caller moment is tried =
     let both = both-there (named_by layout from) (named_by layout to) a is in
     let v : ℕ = volume_around a in
     let from_id : ℕ = fileid_in (named_by layout from) in
     let to_id : ℕ = fileid_in (named_by layout to) in
     let from_home = at-logical (named_by layout from) a both.0 in
     let to_home = at-logical (named_by layout to) a both.1 in
-    let run = rename from_name to_name moment in record {
+    let call : types.Call = types.Rename from from_name to to_name in
+    let run = λ (volume : VolumeState) (fileid other : ℕ). once caller call moment volume (rename from_name to_name moment volume fileid other) in record {
       good = from_home.names;
       under = from_home.above;
       tried = tried;
@@ -149,21 +151,21 @@ on-both layout a from from_name to to_name credential moment is tried =
           (eq-eqb v v refl);
     }
 
-run-is-call : (layout : Layout) (call : Call) (credential : Credential) (moment : Moment) (a : Affinity) → IsRunIn layout call a
-    → IsCallOn layout (volume_around a) (call_on layout a credential moment (call_of call)) credential moment
-run-is-call layout (calls.Rename from to) credential moment a at =
-    on-both layout a from.directory from.name to.directory to.name credential moment at.1 (run-tried layout (calls.Rename from to) credential a at)
-run-is-call layout calls.Null credential moment a at = absurd at.0
-run-is-call layout (calls.Unsupported which) credential moment a at = absurd at.0
-run-is-call layout calls.Census credential moment a at = absurd at.0
-run-is-call layout (calls.Grow volume more) credential moment a at = absurd at.0
-run-is-call layout calls.Stop credential moment a at = absurd at.0
-run-is-call layout (calls.Mount asked) credential moment a at = absurd at.0
-run-is-call layout (calls.MountBelow root path) credential moment a at =
+run-is-call : (layout : Layout) (call : Call) (caller : Caller) (moment : Moment) (a : Affinity) → IsRunIn layout call a
+    → IsCallOn layout (volume_around a) (call_on layout a caller moment (call_of call)) caller moment
+run-is-call layout (calls.Rename from to) caller moment a at =
+    on-both layout a from.directory from.name to.directory to.name caller moment at.1 (run-tried layout (calls.Rename from to) caller a at)
+run-is-call layout calls.Null caller moment a at = absurd at.0
+run-is-call layout (calls.Unsupported which) caller moment a at = absurd at.0
+run-is-call layout calls.Census caller moment a at = absurd at.0
+run-is-call layout (calls.Grow volume more) caller moment a at = absurd at.0
+run-is-call layout calls.Stop caller moment a at = absurd at.0
+run-is-call layout (calls.Mount asked) caller moment a at = absurd at.0
+run-is-call layout (calls.MountBelow root path) caller moment a at =
     let call = calls.MountBelow root path in
-    on-a-root layout a root path credential moment (run-home layout call a at) (run-tried layout call credential a at)
-run-is-call layout call credential moment a at =
-    on-handle layout a (call_of call) credential moment (run-home layout call a at) (run-tried layout call credential a at) (λ server. refl)
+    on-a-root layout a root path caller moment (run-home layout call a at) (run-tried layout call caller a at)
+run-is-call layout call caller moment a at =
+    on-handle layout a (call_of call) caller moment (run-home layout call a at) (run-tried layout call caller a at) (λ server. refl)
 
 -- ---- the run
 
@@ -172,68 +174,68 @@ unless-mapped (Replied reply) A B f a = tt
 unless-mapped Starved A B f a = f a
 unless-mapped (Moved other) A B f a = f a
 
-module _ {P : Type 0} (layout : Layout) (lawful : fault_of layout ≡ None) (call : Call) (credential : Credential) (moment : Moment) where
+module _ {P : Type 0} (layout : Layout) (lawful : fault_of layout ≡ None) (call : Call) (caller : Caller) (moment : Moment) where
   -- a call that was run on the set of Logical, by the set's parcels
   logical-runs-at : (v : ℕ) → IsNode layout (Logical v) → IsRunAt layout call (Logical v) → (old new : FilerLogical P) (outcome : Outcome)
       → UnlessReplied outcome (new ≡ old) → old.own.stripes ≡ stripes_of layout v
-      → RunsOn v logical_lens (call_on layout (Logical v) credential moment (call_of call)) (logical_before old) outcome (logical_after old new)
-      → Runs layout (Logical v) (Ask (call_of call) credential) moment
+      → RunsOn v logical_lens (call_on layout (Logical v) caller moment (call_of call)) (logical_before old) outcome (logical_after old new)
+      → Runs layout (Logical v) (Ask (call_of call) caller) moment
       (logical_parcels layout (Logical v) old) outcome (logical_parcels layout (Logical v) new)
   logical-runs-at v on at old new outcome same own right =
-      runs-by layout v on logical_lens (λ s p. refl) (call_on layout (Logical v) credential moment (call_of call)) credential moment
-      (run-is-call layout call credential moment (Logical v) (run-in layout call (Logical v) refl at))
+      runs-by layout v on logical_lens (λ s p. refl) (call_on layout (Logical v) caller moment (call_of call)) caller moment
+      (run-is-call layout call caller moment (Logical v) (run-in layout call (Logical v) refl at))
       (logical_parcels layout (Logical v) old) (logical_parcels layout (Logical v) new)
       (logical_set (stripes_of layout v) old) (logical_set (stripes_of layout v) new) (logical-seen layout lawful v on old)
       (λ job reply step. logical-step layout lawful job reply v on old new step) outcome
-      (subst (λ (n : ℕ). RunsOn v logical_lens (call_on layout (Logical v) credential moment (call_of call)) (logical_set n old) outcome
+      (subst (λ (n : ℕ). RunsOn v logical_lens (call_on layout (Logical v) caller moment (call_of call)) (logical_set n old) outcome
       (logical_set n new)) own right)
       (unless-mapped outcome (new ≡ old) ((k : ℕ) → logical_parcels layout (Logical v) new k ≡ logical_parcels layout (Logical v) old k)
       (λ e k. ap (λ (h : FilerLogical P). logical_parcels layout (Logical v) h k) e) same)
 
   pub logical-runs : (v : ℕ) (a : Affinity) → a ≡ Logical v → IsNode layout a → IsRunAt layout call a → (old new : FilerLogical P) (outcome : Outcome)
       → UnlessReplied outcome (new ≡ old) → old.own.stripes ≡ stripes_of layout v
-      → RunsOn v logical_lens (call_on layout (Logical v) credential moment (call_of call)) (logical_before old) outcome (logical_after old new)
-      → Runs layout a (Ask (call_of call) credential) moment (logical_parcels layout a old) outcome (logical_parcels layout a new)
+      → RunsOn v logical_lens (call_on layout (Logical v) caller moment (call_of call)) (logical_before old) outcome (logical_after old new)
+      → Runs layout a (Ask (call_of call) caller) moment (logical_parcels layout a old) outcome (logical_parcels layout a new)
   logical-runs v a is on at old new outcome same own right =
       subst (λ (b : Affinity). IsNode layout b → IsRunAt layout call b
-      → Runs layout b (Ask (call_of call) credential) moment (logical_parcels layout b old) outcome (logical_parcels layout b new))
+      → Runs layout b (Ask (call_of call) caller) moment (logical_parcels layout b old) outcome (logical_parcels layout b new))
       (sym is) (λ there asks. logical-runs-at v there asks old new outcome same own right) on at
 
   -- one that was run on the set of Volume
   volume-runs-at : (v : ℕ) → IsNode layout (Volume v) → IsRunAt layout call (Volume v) → (old new : FilerVolume P) (outcome : Outcome)
       → UnlessReplied outcome (new ≡ old) → old.logical.own.stripes ≡ stripes_of layout v
-      → RunsOn v volume_lens (call_on layout (Volume v) credential moment (call_of call)) (volume_before old) outcome (volume_after old new)
-      → Runs layout (Volume v) (Ask (call_of call) credential) moment
+      → RunsOn v volume_lens (call_on layout (Volume v) caller moment (call_of call)) (volume_before old) outcome (volume_after old new)
+      → Runs layout (Volume v) (Ask (call_of call) caller) moment
       (volume_parcels layout (Volume v) old) outcome (volume_parcels layout (Volume v) new)
   volume-runs-at v on at old new outcome same own right =
-      runs-by layout v on volume_lens (λ s p. refl) (call_on layout (Volume v) credential moment (call_of call)) credential moment
-      (run-is-call layout call credential moment (Volume v) (run-in layout call (Volume v) refl at))
+      runs-by layout v on volume_lens (λ s p. refl) (call_on layout (Volume v) caller moment (call_of call)) caller moment
+      (run-is-call layout call caller moment (Volume v) (run-in layout call (Volume v) refl at))
       (volume_parcels layout (Volume v) old) (volume_parcels layout (Volume v) new)
       (volume_set (stripes_of layout v) old) (volume_set (stripes_of layout v) new) (volume-seen layout lawful v on old)
       (λ job reply step. volume-step layout lawful job reply v on old new step) outcome
-      (subst (λ (n : ℕ). RunsOn v volume_lens (call_on layout (Volume v) credential moment (call_of call)) (volume_set n old) outcome
+      (subst (λ (n : ℕ). RunsOn v volume_lens (call_on layout (Volume v) caller moment (call_of call)) (volume_set n old) outcome
       (volume_set n new)) own right)
       (unless-mapped outcome (new ≡ old) ((k : ℕ) → volume_parcels layout (Volume v) new k ≡ volume_parcels layout (Volume v) old k)
       (λ e k. ap (λ (h : FilerVolume P). volume_parcels layout (Volume v) h k) e) same)
 
   pub volume-runs : (v : ℕ) (a : Affinity) → a ≡ Volume v → IsNode layout a → IsRunAt layout call a → (old new : FilerVolume P) (outcome : Outcome)
       → UnlessReplied outcome (new ≡ old) → old.logical.own.stripes ≡ stripes_of layout v
-      → RunsOn v volume_lens (call_on layout (Volume v) credential moment (call_of call)) (volume_before old) outcome (volume_after old new)
-      → Runs layout a (Ask (call_of call) credential) moment (volume_parcels layout a old) outcome (volume_parcels layout a new)
+      → RunsOn v volume_lens (call_on layout (Volume v) caller moment (call_of call)) (volume_before old) outcome (volume_after old new)
+      → Runs layout a (Ask (call_of call) caller) moment (volume_parcels layout a old) outcome (volume_parcels layout a new)
   volume-runs v a is on at old new outcome same own right =
       subst (λ (b : Affinity). IsNode layout b → IsRunAt layout call b
-      → Runs layout b (Ask (call_of call) credential) moment (volume_parcels layout b old) outcome (volume_parcels layout b new))
+      → Runs layout b (Ask (call_of call) caller) moment (volume_parcels layout b old) outcome (volume_parcels layout b new))
       (sym is) (λ there asks. volume-runs-at v there asks old new outcome same own right) on at
 
   -- one that was run on the parcel of a stripe
   stripe-runs-at : (v i : ℕ) → IsNode layout (Stripe v i) → IsRunAt layout call (Stripe v i) → (old new : FilerStripe P) (outcome : Outcome)
       → UnlessReplied outcome (new ≡ old)
-      → RunsOn v (stripe_lens i) (call_on layout (Stripe v i) credential moment (call_of call)) old.own outcome new.own
-      → Runs layout (Stripe v i) (Ask (call_of call) credential) moment
+      → RunsOn v (stripe_lens i) (call_on layout (Stripe v i) caller moment (call_of call)) old.own outcome new.own
+      → Runs layout (Stripe v i) (Ask (call_of call) caller) moment
       (stripe_parcels layout (Stripe v i) old) outcome (stripe_parcels layout (Stripe v i) new)
   stripe-runs-at v i on at old new outcome same right =
-      runs-by layout v on.0 (stripe_lens i) (λ s p. refl) (call_on layout (Stripe v i) credential moment (call_of call)) credential moment
-      (run-is-call layout call credential moment (Stripe v i) (run-in layout call (Stripe v i) refl at))
+      runs-by layout v on.0 (stripe_lens i) (λ s p. refl) (call_on layout (Stripe v i) caller moment (call_of call)) caller moment
+      (run-is-call layout call caller moment (Stripe v i) (run-in layout call (Stripe v i) refl at))
       (stripe_parcels layout (Stripe v i) old) (stripe_parcels layout (Stripe v i) new) old.own new.own (stripe-seen layout lawful v on.0 i on.1 old)
       (λ job reply step. stripe-step layout lawful job reply v on.0 i on.1 old new step) outcome right
       (unless-mapped outcome (new ≡ old) ((k : ℕ) → stripe_parcels layout (Stripe v i) new k ≡ stripe_parcels layout (Stripe v i) old k)
@@ -241,11 +243,11 @@ module _ {P : Type 0} (layout : Layout) (lawful : fault_of layout ≡ None) (cal
 
   pub stripe-runs : (v i : ℕ) (a : Affinity) → a ≡ Stripe v i → IsNode layout a → IsRunAt layout call a → (old new : FilerStripe P) (outcome : Outcome)
       → UnlessReplied outcome (new ≡ old)
-      → RunsOn v (stripe_lens i) (call_on layout (Stripe v i) credential moment (call_of call)) old.own outcome new.own
-      → Runs layout a (Ask (call_of call) credential) moment (stripe_parcels layout a old) outcome (stripe_parcels layout a new)
+      → RunsOn v (stripe_lens i) (call_on layout (Stripe v i) caller moment (call_of call)) old.own outcome new.own
+      → Runs layout a (Ask (call_of call) caller) moment (stripe_parcels layout a old) outcome (stripe_parcels layout a new)
   stripe-runs v i a is on at old new outcome same right =
       subst (λ (b : Affinity). IsNode layout b → IsRunAt layout call b
-      → Runs layout b (Ask (call_of call) credential) moment (stripe_parcels layout b old) outcome (stripe_parcels layout b new))
+      → Runs layout b (Ask (call_of call) caller) moment (stripe_parcels layout b old) outcome (stripe_parcels layout b new))
       (sym is) (λ there asks. stripe-runs-at v i there asks old new outcome same right) on at
 
 -- ---- where it moves
@@ -289,29 +291,29 @@ node-above layout v other less up =
     ⊎_elim (λ (e : other ≡ Logical v). subst (IsNode layout) (sym e) less) (λ (e : other ≡ Volume v). subst (IsNode layout) (sym e) less) up
 
 -- where a call moves from a node at which it is run, it is run
-moved-there : (layout : Layout) (a : Affinity) (credential : Credential) (moment : Moment) (call : Call) → IsNode layout a → IsRunAt layout call a
-    → (p : VolumeContents) (other : Affinity) → move_on (call_on layout a credential moment (call_of call)) p ≡ Some other
+moved-there : (layout : Layout) (a : Affinity) (caller : Caller) (moment : Moment) (call : Call) → IsNode layout a → IsRunAt layout call a
+    → (p : VolumeContents) (other : Affinity) → move_on (call_on layout a caller moment (call_of call)) p ≡ Some other
     → IsNode layout other × IsRunAt layout call other
-moved-there layout a credential moment (calls.Write handle offset count bytes) there at p other e =
+moved-there layout a caller moment (calls.Write handle offset count bytes) there at p other e =
     let here = run-home layout (calls.Write handle offset count bytes) a at in
     let v : ℕ = volume_around a in
-    let c = call_on layout a credential moment (call_of (calls.Write handle offset count bytes)) in
+    let c = call_on layout a caller moment (call_of (calls.Write handle offset count bytes)) in
     let up : (other ≡ Logical v) ⊎ (other ≡ Volume v) =
     moves-up a (parts_of p) (ready_at (Some (located_on c p)) offset count (length bytes)) other e in (
       node-above layout v other (node-within layout a v here.above there) up,
       (tt, inr (subst (λ (named : Option Named). RunsAbove named other) (sym here.names) up)),
     )
-moved-there layout a credential moment call there at p other e = absurd cc
+moved-there layout a caller moment call there at p other e = absurd cc
 
 -- a call that was run on a part of its volume is run where it moves
 pub moves-on : {S : Type 0} (layout : Layout) (v : ℕ) (lens : Lens VolumeContents S) (a b : Affinity) → b ≡ a → (call : Call)
     → IsNode layout b → IsRunAt layout call b
-    → (credential : Credential) (moment : Moment) (old new : S) (outcome : Outcome) → HasVolume v lens [] old
-    → RunsOn v lens (call_on layout a credential moment (call_of call)) old outcome new → MovesOn layout call outcome
-moves-on layout v lens a b is call there at credential moment old new (Replied reply) whole right = tt
-moves-on layout v lens a b is call there at credential moment old new Starved whole right = tt
-moves-on layout v lens a b is call there at credential moment old new (Moved other) w right =
-    moved-there layout a credential moment call (subst (IsNode layout) is there) (subst (IsRunAt layout call) is at) w.0 other
+    → (caller : Caller) (moment : Moment) (old new : S) (outcome : Outcome) → HasVolume v lens [] old
+    → RunsOn v lens (call_on layout a caller moment (call_of call)) old outcome new → MovesOn layout call outcome
+moves-on layout v lens a b is call there at caller moment old new (Replied reply) whole right = tt
+moves-on layout v lens a b is call there at caller moment old new Starved whole right = tt
+moves-on layout v lens a b is call there at caller moment old new (Moved other) w right =
+    moved-there layout a caller moment call (subst (IsNode layout) is there) (subst (IsRunAt layout call) is at) w.0 other
     (right w.0 w.1 w.2 w.3 w.4 w.5 w.8 w.7).0.0
 
 -- ---- what a run needs

@@ -2,7 +2,7 @@
 use Rattle.std.specs.Prelude.{Result, Ok, Err}
 use Rattle.std.specs.Global.{Vec}
 use Rattle.std.specs.declared.alloc.AllocError.{AllocError}
-use Rattle.nfs_model.specs.Types.{Credential, Moment, Success}
+use Rattle.nfs_model.specs.Types.{Caller, Moment, Success}
 use Rattle.nfs_model.specs.Tree.{Layout}
 use Rattle.nfs_model.specs.Work.{Outcome, Replied, Starved}
 use Rattle.nfs_values.specs.Answer.{answer_of}
@@ -20,5 +20,5 @@ census_outcome (Err e) = Starved
 
 -- A run of CENSUS by all that is stored is right: for whomever, and at whatever moment.
 abbrev pub TakesCensus : Layout → FilerContents → Result (Vec VolumeCount) AllocError → Type 0
-TakesCensus layout c result = (credential : Credential) (moment : Moment)
-    → RunsOnAll layout serial_lens (census_task credential moment) c (census_outcome result) c
+TakesCensus layout c result = (caller : Caller) (moment : Moment)
+    → RunsOnAll layout serial_lens (census_task caller moment) c (census_outcome result) c

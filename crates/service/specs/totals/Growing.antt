@@ -2,7 +2,7 @@
 use Rattle.std.specs.Prelude.{◌≡◌, ℕ, ◌+◌, ◌*◌, ◌<◌, [], length, Option, Some, None, Result, Ok, Err, OnErr}
 use Rattle.std.specs.Option.{option_map}
 use Rattle.nfs_model.specs.Types as types
-use Rattle.nfs_model.specs.Types.{Ask, Credential, Moment, Success}
+use Rattle.nfs_model.specs.Types.{Ask, Caller, Moment, Success}
 use Rattle.nfs_model.specs.Tree.{Layout, Aggregate, aggregate_of}
 use Rattle.nfs_model.specs.Work.{Outcome, Replied}
 use Rattle.nfs_values.specs.Answer.{answer_of}
@@ -35,9 +35,9 @@ module _ {P : Type 0} where
   -- A run of GROW of a volume by what is under its Aggregate is right: by whatever layout has the volume, for whomever and whenever, and
   -- whatever the rest of what is stored is.
   abbrev pub GrowsAggregate : ℕ → ℕ → FilerAggregate P → Result ℕ Status → FilerAggregate P → Type 0
-  GrowsAggregate v more old result new = (layout : Layout) (credential : Credential) (moment : Moment) → v < length layout.volumes
+  GrowsAggregate v more old result new = (layout : Layout) (caller : Caller) (moment : Moment) → v < length layout.volumes
       → RunsOnAll layout (aggregate_lens (aggregate_of layout v))
-      (task_under (Aggregate (aggregate_of layout v)) (Ask (types.Grow v more) credential) moment)
+      (task_under (Aggregate (aggregate_of layout v)) (Ask (types.Grow v more) caller) moment)
       (aggregate_set layout (aggregate_of layout v) old) (growing_outcome result) (aggregate_set layout (aggregate_of layout v) new)
 
 -- ---- a volume on it

@@ -1,5 +1,5 @@
 use Rattle.std.proofs.Common.{sym, subst}
-use Rattle.nfs_values.specs.Credential.{credential_of}
+use Rattle.nfs_values.specs.Caller.{caller_of}
 use Rattle.nfs_values.specs.Moment.{moment_of}
 use Rattle.filer_state.specs.declared.files.Files.{Files}
 use Rattle.desk.specs.laws.Books.{now}
@@ -26,7 +26,7 @@ pub returns-clause-worked : goal.returns-clause-worked
 returns-clause-worked c =
     let r = c.args.running.now in
     subst (λ (b : FilerBooks Files Job JobReply).
-    HasWorked (HasRun r.message.call (credential_of r.message.credential) (moment_of r.moment)) (books c.args.desk.now) c.args.worker c.work-outcome.result b)
+    HasWorked (HasRun r.message.call (caller_of r.message.caller) (moment_of r.moment)) (books c.args.desk.now) c.args.worker c.work-outcome.result b)
     (sym c.recount.ensures.same)
     c.work-outcome.ensures.worked
 

@@ -13,7 +13,7 @@ use Rattle.nfs_model.specs.Events.Refusals as events
 use Rattle.nfs_model.specs.Events.Step.{Events}
 use Rattle.nfs_model.specs.Events.Step as steps
 use Rattle.nfs_values.specs.declared.call.Call.{Call}
-use Rattle.nfs_values.specs.Credential.{credential_of}
+use Rattle.nfs_values.specs.Caller.{caller_of}
 use Rattle.nfs_values.specs.Moment.{moment_of}
 use Rattle.affinity.specs.Affinity.{call_node}
 use Rattle.scheduler.specs.declared.message.Message.{Message}
@@ -189,7 +189,7 @@ module _ (c : goal.After-set_run-2) where
 
   abbrev Serves : Call → Does (FilerParcel Files) Outcome
   Serves call layout node before x end =
-      HasRun call (credential_of r.message.credential) (moment_of r.moment) layout node before x end
+      HasRun call (caller_of r.message.caller) (moment_of r.moment) layout node before x end
 
   abbrev after : Store
   after = stored_all (filer_contents next.layout (now next))
@@ -218,7 +218,7 @@ module _ (c : goal.After-set_run-2) where
 
   served : HasWorked (Serving (running_as r None)) b i (outcome_of o) next
   served = has-worked job_of job_reply_of setup old b c.requires.whole.0.stands i (worker_seen ran) seen (running_as r None) refl refl
-      r.message.call (credential_of r.message.credential) (moment_of r.moment) refl refl o next did
+      r.message.call (caller_of r.message.caller) (moment_of r.moment) refl refl o next did
 
   are : ks' ≡ slice_set ks i (worker_with (Worked r o) hand)
   are =
@@ -245,7 +245,7 @@ module _ (c : goal.After-set_run-2) where
   stands : StandsFor job_of job_reply_of setup_new new next
   stands =
       let apart = book-apart _ next _ c.run_on-outcome.ensures.kept in
-      let tried = run-tried L r.message.call (credential_of r.message.credential) (call_node r.message.affinity) placed.run in
+      let tried = run-tried L r.message.call (caller_of r.message.caller) (call_node r.message.affinity) placed.run in
       let then = worked-stands job_of job_reply_of setup old b c.requires.whole.0.stands i (worker_seen ran) seen (running_as r None)
       refl refl (outcome_of o) next served apart tried in
       subst (λ (x : Setup). StandsFor job_of job_reply_of x new next) (sym setup_is)

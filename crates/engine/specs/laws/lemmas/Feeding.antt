@@ -3,7 +3,7 @@ use Rattle.std.proofs.Common.{◌≡◌, ℕ, ◌+◌, Bool, true, false, List, 
 use Rattle.std.proofs.Common.{subst}
 use Rattle.std.specs.List.{AllByRecursion}
 use Rattle.std.proofs.lemmas.List.{length-map, append-nil, append_assoc}
-use Rattle.nfs_model.specs.Types.{Call, Credential, Moment, Asked, Ask, Refused, Undecoded}
+use Rattle.nfs_model.specs.Types.{Call, Caller, Moment, Asked, Ask, Refused, Undecoded}
 use Rattle.nfs_model.specs.Tree.{Layout, Affinity}
 use Rattle.nfs_model.specs.Server.{Server, start_of_times}
 use Rattle.nfs_model.specs.Home.{home, home_of_asked}
@@ -24,9 +24,9 @@ use Rattle.engine.specs.laws.lemmas.Recorded.{run-none}
 
 -- a call without a home changes nothing
 abbrev pub WithoutHomeStays : Type 0
-WithoutHomeStays = (layout : Layout) (server : Server) (credential : Credential) (moment : Moment) (call : Call) → length layout.volumes
+WithoutHomeStays = (layout : Layout) (server : Server) (caller : Caller) (moment : Moment) (call : Call) → length layout.volumes
     ≡ length server.volumes
-    → home layout call ≡ None → serve server call credential moment ≡ stay server (answer_without_home layout call)
+    → home layout call ≡ None → serve server call caller moment ≡ stay server (answer_without_home layout call)
 
 -- what calls run on is the same in two worlds
 pub record RunAlike (setup : Setup) (w new : World) : Type 0 where
@@ -75,8 +75,8 @@ module _ (stays : WithoutHomeStays) (setup : Setup) where
   -- a record that is answered at once changes nothing
   at-once-stays : (server : Server) (asked : Asked) → length setup.layout.volumes ≡ length server.volumes → home_of_asked setup.layout asked ≡ None
       → (serial server asked start_of_times false).server ≡ server
-  at-once-stays server (Ask call credential) counted none =
-      ap (λ (x : Step). x.server) (stays setup.layout server credential start_of_times call counted none)
+  at-once-stays server (Ask call caller) counted none =
+      ap (λ (x : Step). x.server) (stays setup.layout server caller start_of_times call counted none)
   at-once-stays server (Refused reply) counted none = refl
   at-once-stays server Undecoded counted none = refl
 

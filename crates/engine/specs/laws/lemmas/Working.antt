@@ -94,7 +94,7 @@ moves-up setup store task to moved tried = (tried.0, tried.1, by task.asked move
   where
     by : (asked : Asked) → move_of_asked store task.affinity asked ≡ Some to
         → IsTrue (begins (path setup.layout to) (path setup.layout tried.0))
-    by (Ask call credential) e = call-moves setup tried.0 store task.affinity to call e tried.2
+    by (Ask call caller) e = call-moves setup tried.0 store task.affinity to call e tried.2
     by (Refused reply) e = absurd cc
     by Undecoded e = absurd cc
 

@@ -68,7 +68,7 @@ module _ (l m : Layout) (s : AreAlike l m) where
   route-home-same OfEverything = refl
 
   home-of-asked-same : (asked : Asked) → home_of_asked l asked ≡ home_of_asked m asked
-  home-of-asked-same (Ask call credential) = route-home-same (route call)
+  home-of-asked-same (Ask call caller) = route-home-same (route call)
   home-of-asked-same (Refused reply) = refl
   home-of-asked-same Undecoded = refl
 

@@ -1,6 +1,6 @@
 -- The parcels as a run begins are sound, and stand for the server as it begins.
 use Rattle.std.proofs.Common.{◌≡◌, ℕ, zero, suc, ◌+◌, ◌*◌, ◌/◌, ◌<◌, ◌≤◌, ◌==◌, Bool, true, false, not, ◌&&◌, cond, List, [], ◌∷◌, ◌++◌, length, map}
-use Rattle.std.proofs.Common.{Option, Some, None}
+use Rattle.std.proofs.Common.{Option, Some, None, replicate}
 use Rattle.std.proofs.Common.{refl, sym, ap, ◌∙◌, subst, arith, eqb, nat_lt, nat_eq, ⊎_elim}
 use Rattle.std.specs.Prelude.{slice_get, slice_index_or, is_some, IfSome, nat_le}
 use Rattle.std.proofs.lemmas.Bool.{cases_lt, lt-ltb, le-ltb, eqb-true, leb-true, and_parts}
@@ -18,7 +18,7 @@ use Rattle.nfs_model.specs.volume.Ranges.{RangeValue, IsRangeSize, range_numbers
 use Rattle.filer_state.specs.state.Contents.{filer_contents, each}
 use Rattle.filer_state.specs.state.Tree.{ranges_used}
 use Rattle.affinity.specs.Fault.{fault_of, is_sized}
-use Rattle.affinity.specs.Largest.{mebibyte, largest_of, mebibytes_in, inodes_in, inodes_of, steps_in, steps_of, begun_in, begun_of}
+use Rattle.affinity.specs.Largest.{mebibyte, largest_of, mebibytes_in, inodes_in, inodes_of, steps_in, steps_of, begun_in, begun_of, remembered_in, remembered_of}
 use Rattle.affinity.specs.lemmas.Lawful.{keeps_rules, stripes_either, mebibytes_between, inodes_between, range_blocks_size}
 use Rattle.nfs_model.specs.Types.{Listed, Moment}
 use Rattle.nfs_model.specs.Tree as trees
@@ -114,9 +114,9 @@ opening-sizes begun largest q = subst (λ o. IfSome (size_of o) (λ size. size �
     by true = tt
     by false = tt
 
-opening-is-logical : (verifier : List ℕ) (stripes largest most steps : ℕ) (begun : Moment) (size : ℕ) → 0 < most
-    → IsLogical (opening_logical verifier stripes largest most steps begun size)
-opening-is-logical verifier stripes largest most steps begun size some = record {
+opening-is-logical : (verifier : List ℕ) (stripes largest most steps : ℕ) (begun : Moment) (size remembered : ℕ) → 0 < most
+    → IsLogical (opening_logical verifier stripes largest most steps begun size remembered)
+opening-is-logical verifier stripes largest most steps begun size remembered some = record {
   inodes = opening-inodes begun;
   few = let one = len-entries (root_inodes begun) ∙ ap length (single-entries (root_inode begun)) in omega (arith, one, some);
   sizes = opening-sizes begun largest;
@@ -206,9 +206,9 @@ range-fits size u r is = ⊎_elim
 
 -- ---- a stripe
 
-opening-fits : (verifier : List ℕ) (stripes largest most steps : ℕ) (begun : Moment) (size i : ℕ)
-    → StripeFits (opening_logical verifier stripes largest most steps begun size) i (opening_stripe verifier stripes largest)
-opening-fits verifier stripes largest most steps begun size i = record {
+opening-fits : (verifier : List ℕ) (stripes largest most steps : ℕ) (begun : Moment) (size remembered i : ℕ)
+    → StripeFits (opening_logical verifier stripes largest most steps begun size remembered) i (opening_stripe verifier stripes largest)
+opening-fits verifier stripes largest most steps begun size remembered i = record {
   verifier = refl;
   stripes = refl;
   largest = refl;
@@ -230,7 +230,7 @@ opening_contents layout verifier v = record {
   number = v;
   aggregate = aggregate_of layout v;
   logical = opening_logical verifier (stripes_of layout v) (largest_of layout v) (inodes_of layout v) (steps_of layout v) (begun_of layout v)
-      (range_blocks_of layout v);
+      (range_blocks_of layout v) (remembered_of layout v);
   stripes = each (λ i. opening_stripe verifier (stripes_of layout v) (largest_of layout v)) 0 (stripes_of layout v);
   ranges = each (opening_range (range_blocks_of layout v) (ranges_in (slice_get layout.volumes v))) 0 most_ranges;
 }
@@ -302,12 +302,13 @@ module _ (layout : Layout) (lawful : fault_of layout ≡ None) (verifier : List 
     most_inodes = inodes_between layout v lawful;
     size = range_blocks_size layout v lawful;
     logical = opening-is-logical verifier n (largest_of layout v) (inodes_of layout v) (steps_of layout v) (begun_of layout v) blocks
-        (let least = (inodes_between layout v lawful).0 in omega (arith, least));
+        (remembered_of layout v) (let least = (inodes_between layout v lawful).0 in omega (arith, least));
     as_many = each-length (λ i. first) 0 n;
     stripes = λ i less.
         let long = each-length (λ k. first) 0 n in
         subst (StripeFits p.logical i) (sym (each-index (λ k. first) no_stripe n i (omega arith)))
-        (opening-fits verifier n (largest_of layout v) (inodes_of layout v) (steps_of layout v) (begun_of layout v) blocks i);
+        (opening-fits verifier n (largest_of layout v) (inodes_of layout v) (steps_of layout v) (begun_of layout v) blocks
+        (remembered_of layout v) i);
     used = sym (total-none (λ s. maps.len s.blocks) (λ i. first) 0 n (λ i. maps.len-empty file_block_cmp Block));
     filled = λ q inode e.
         let is = single-is (root_inode (begun_of layout v)) inode q e in
@@ -387,6 +388,7 @@ volume-opens layout verifier v x lawful there =
       next = 2;
       nodes = (root-nodes (begun_of layout v) (opening_contents layout verifier v).stripes
           ∙ ap (λ o. from_sorted ((root, root_node (begun_in o)) ∷ [])) there) j;
+      memos = replicate (remembered_in (there j)) None;
     }
 
 each-volume : (verifier : List ℕ) (h : ℕ → VolumeState) (vs : List VolumeLayout) (from : ℕ)

@@ -1,6 +1,6 @@
 -- From what a handler promises of a call on a volume to what a run of it comes to by parcels.
 use Rattle.std.proofs.Common.{◌≡◌, ℕ, ◌<◌, Bool, true, false, [], length, Option, Some, None, refl, sym, ap, ◌∙◌, arith}
-use Rattle.nfs_model.specs.Types.{Ask, Credential, Moment, Reply, SystemError}
+use Rattle.nfs_model.specs.Types.{Ask, Caller, Moment, Reply, SystemError}
 use Rattle.nfs_model.specs.Tree.{Layout, Affinity}
 use Rattle.nfs_model.specs.Work.{Outcome, Replied, Starved, Moved}
 use Rattle.affinity.specs.Numbers.{number_of, parents}
@@ -20,22 +20,22 @@ use Rattle.filer_state.specs.laws.lemmas.Served.{serve-lift, stays, inner-lift}
 -- what is right on a call's volume is right for an entry under the call's node
 serve-right : {S : Type 0} (layout : Layout) (v : ℕ) (on : v < length layout.volumes) (lens : Lens VolumeContents S)
     → ((s : S) (p : VolumeContents) → (lens.put s p).number ≡ p.number)
-    → (q : VolumeCall) (connection number xid : ℕ) (credential : Credential) (moment : Moment) (starved : Bool) → IsCallOn layout v q credential moment
+    → (q : VolumeCall) (connection number xid : ℕ) (caller : Caller) (moment : Moment) (starved : Bool) → IsCallOn layout v q caller moment
     → (old : S) (reply : Reply) (new : S) → RightOnVolume v lens (ServesOn q starved) [] [] old (jobs.Replied reply) new
-    → IsRight layout q.node (in_volume v lens) (Serve (finished_as q connection number xid credential moment starved)) old (jobs.Replied reply) new
-serve-right layout v on lens numbered q connection number xid credential moment starved is old reply new right =
-    volume-right layout v on lens (Does layout q.node (Serve (finished_as q connection number xid credential moment starved))) (ServesOn q starved) [] []
+    → IsRight layout q.node (in_volume v lens) (Serve (finished_as q connection number xid caller moment starved)) old (jobs.Replied reply) new
+serve-right layout v on lens numbered q connection number xid caller moment starved is old reply new right =
+    volume-right layout v on lens (Does layout q.node (Serve (finished_as q connection number xid caller moment starved))) (ServesOn q starved) [] []
     old (jobs.Replied reply) new numbered (λ u ne n. refl) (λ u ne n. refl)
     (λ c p after laid there here same does.
-    serve-lift layout v q connection number xid credential moment is c laid p there here starved (jobs.Replied reply) after does) right
+    serve-lift layout v q connection number xid caller moment is c laid p there here starved (jobs.Replied reply) after does) right
 
 module _ {P S : Type 0} (layout : Layout) (v : ℕ) (on : v < length layout.volumes) (lens : Lens VolumeContents S)
-    (numbered : (s : S) (p : VolumeContents) → (lens.put s p).number ≡ p.number) (q : VolumeCall) (credential : Credential) (moment : Moment)
-    (is : IsCallOn layout v q credential moment) (before after : ℕ → Option (FilerParcel P)) (old new : S)
+    (numbered : (s : S) (p : VolumeContents) → (lens.put s p).number ≡ p.number) (q : VolumeCall) (caller : Caller) (moment : Moment)
+    (is : IsCallOn layout v q caller moment) (before after : ℕ → Option (FilerParcel P)) (old new : S)
     (was : IsSeenBy layout q.node (in_volume v lens) before old)
     (step : (job : Job) (reply : JobReply) → IsRight layout q.node (in_volume v lens) job old reply new
     → FilerSteps (parents layout) (number_of layout q.node) job before reply after) where
-  moves-to : (other : Affinity) → RunsOn v lens q old (Moved other) new → MovesTo layout q.node (Ask q.call credential) moment before other
+  moves-to : (other : Affinity) → RunsOn v lens q old (Moved other) new → MovesTo layout q.node (Ask q.call caller) moment before other
   moves-to other right g hands made under sound =
       let c : FilerContents = filer_contents layout g in
       let laid = laid-out layout g in
@@ -43,18 +43,18 @@ module _ {P S : Type 0} (layout : Layout) (v : ℕ) (on : v < length layout.volu
       let s = sound v found.0 found.1 in
       let has : lens.of found.0 ≡ old = ap (λ o. lens.of (volume_or_none o)) (sym found.1) ∙ was.has g under in
       let r = right found.0 hands hands made has s.0 s.1 (λ weigh. refl) in
-      (stays layout v q 0 0 0 credential moment is c laid found.0 found.1 s.0 ∙ r.0.0, refl)
+      (stays layout v q 0 0 0 caller moment is c laid found.0 found.1 s.0 ∙ r.0.0, refl)
 
   -- where a handler's promise is kept by a set, the run is right by its parcels
   pub runs-by : (outcome : Outcome) → RunsOn v lens q old outcome new → UnlessReplied outcome ((k : ℕ) → after k ≡ before k)
-      → Runs layout q.node (Ask q.call credential) moment before outcome after
+      → Runs layout q.node (Ask q.call caller) moment before outcome after
   runs-by (Replied reply) right same = λ connection number xid.
-      step (Serve (finished_as q connection number xid credential moment false)) (jobs.Replied reply)
-      (serve-right layout v on lens numbered q connection number xid credential moment false is old reply new
+      step (Serve (finished_as q connection number xid caller moment false)) (jobs.Replied reply)
+      (serve-right layout v on lens numbered q connection number xid caller moment false is old reply new
       (λ p hands hands' made has at sound moved. let r = right p hands hands' made has at sound moved in ((r.0, λ e. absurd cc), r.1)))
   runs-by Starved right same = (
-    (λ connection number xid. step (Serve (finished_as q connection number xid credential moment true)) (jobs.Replied SystemError)
-        (serve-right layout v on lens numbered q connection number xid credential moment true is old SystemError new
+    (λ connection number xid. step (Serve (finished_as q connection number xid caller moment true)) (jobs.Replied SystemError)
+        (serve-right layout v on lens numbered q connection number xid caller moment true is old SystemError new
         (λ p hands hands' made has at sound moved. let r = right p hands hands' made has at sound moved in ((r.0, λ e. refl), r.1)))),
     same,
   )

@@ -3,7 +3,7 @@ use Rattle.std.proofs.Common.{◌≡◌, ℕ, zero, suc, ◌<◌, Bool, true, fa
 use Rattle.std.specs.Prelude.{slice_get, slice_set}
 use Rattle.std.proofs.lemmas.List.{length-map}
 use Rattle.nfs_model.specs.Types.{Call, Write, Grow}
-use Rattle.nfs_model.specs.Types.{Credential, Moment, Reply, Success}
+use Rattle.nfs_model.specs.Types.{Caller, Moment, Reply, Success}
 use Rattle.nfs_model.specs.Tree.{Layout}
 use Rattle.nfs_model.specs.Server as servers
 use Rattle.nfs_model.specs.Server.{Named, Server, handle_of, with_volume}
@@ -121,8 +121,8 @@ changes-above volumes q named good = by q.call good
     by (Grow volume ranges) e = absurd cc
     by call e = refl
 
-module _ (layout : Layout) (v : ℕ) (q : VolumeCall) (connection number xid : ℕ) (credential : Credential) (moment : Moment)
-    (is : IsCallOn layout v q credential moment)
+module _ (layout : Layout) (v : ℕ) (q : VolumeCall) (connection number xid : ℕ) (caller : Caller) (moment : Moment)
+    (is : IsCallOn layout v q caller moment)
     (c : FilerContents) (laid : IsLaidOut layout c) (p : VolumeContents) (there : volume_at c v ≡ Some p) (numbered : p.number ≡ v) where
   count : length (server_of c).volumes ≡ length layout.volumes
   count = length-map c.volumes volume_of ∙ laid.volumes
@@ -134,17 +134,17 @@ module _ (layout : Layout) (v : ℕ) (q : VolumeCall) (connection number xid : �
       ∙ ap (located_in (record { volume = v; fileid = q.fileid })) (server-there c v p there)
       ∙ ap (λ (n : ℕ). Some (record { named = record { volume = n; fileid = q.fileid }; volume = volume_of p })) (sym numbered)
 
-  step : serve (server_of c) q.call credential moment ≡ placed (server_of c) (absent_parts q.call) v (q.run (volume_of p))
+  step : serve (server_of c) q.call caller moment ≡ placed (server_of c) (absent_parts q.call) v (q.run (volume_of p))
   step = is.served (server_of c) (volume_of p) count (server-there c v p there)
 
   pub stays : move_of_call (stored_all c) q.node q.call ≡ move_on q p
   stays = move-by (stored_all c) q p located (ap (parts_at (all_parts c)) is.under ∙ parts-there c v p there)
 
-  told : (serve (server_of c) q.call credential moment).reply ≡ Success (answer_on q p)
+  told : (serve (server_of c) q.call caller moment).reply ≡ Success (answer_on q p)
   told = ap (λ (s : Step). s.reply) step ∙ placed-reply (server_of c) (absent_parts q.call) v (q.run (volume_of p))
 
   works-by : (starved : Bool) (reply : Reply) (after : VolumeContents) → WorksOn q p (outcome_of starved reply) after
-      → Works (task_at (finished_as q connection number xid credential moment starved) q.node) (stored_all c) (outcome_of starved reply)
+      → Works (task_at (finished_as q connection number xid caller moment starved) q.node) (stored_all c) (outcome_of starved reply)
       (stored_all (with_contents c v after))
   works-by true reply after w = (
     stays ∙ w.0,
@@ -171,7 +171,7 @@ module _ (layout : Layout) (v : ℕ) (q : VolumeCall) (connection number xid : �
 
   -- an entry of the call on its volume is one of all that is stored
   pub serve-lift : (starved : Bool) (reply : JobReply) (after : VolumeContents) → ServesOn q starved p reply after
-      → Does layout q.node (Serve (finished_as q connection number xid credential moment starved)) c reply (with_contents c v after)
+      → Does layout q.node (Serve (finished_as q connection number xid caller moment starved)) c reply (with_contents c v after)
   serve-lift starved (Replied reply) after does = record {
     affinity = refl;
     tried = is.tried;

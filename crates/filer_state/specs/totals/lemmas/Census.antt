@@ -1,7 +1,7 @@
 -- CENSUS by all that is stored.
 use Rattle.std.proofs.Common.{◌≡◌, ℕ, suc, ◌+◌, List, [], ◌∷◌, map, Some, refl, sym, ap, subst, arith}
 use Rattle.std.specs.Prelude.{slice_get}
-use Rattle.nfs_model.specs.Types.{Credential, Moment, CensusDone, Success}
+use Rattle.nfs_model.specs.Types.{Caller, Moment, CensusDone, Success}
 use Rattle.nfs_model.specs.Tree.{Layout}
 use Rattle.nfs_model.specs.Parts.{Hand}
 use Rattle.nfs_model.specs.Serial.Census.{count_of, census}
@@ -39,22 +39,22 @@ all-later c hands hands' made moved sound v p there = (
 )
 
 -- a call that changes nothing is right where it comes to its outcome on all that is sound
-reads-all : (layout : Layout) (credential : Credential) (moment : Moment) (outcome : Outcome) (c : FilerContents)
-    → ((hands : List Hand) (made : ℕ) → AreSound c hands made → WorksOnAll (census_task credential moment) c outcome c)
-    → RunsOnAll layout serial_lens (census_task credential moment) c outcome c
-reads-all layout credential moment outcome c works whole hands hands' made has fits sound moved =
+reads-all : (layout : Layout) (caller : Caller) (moment : Moment) (outcome : Outcome) (c : FilerContents)
+    → ((hands : List Hand) (made : ℕ) → AreSound c hands made → WorksOnAll (census_task caller moment) c outcome c)
+    → RunsOnAll layout serial_lens (census_task caller moment) c outcome c
+reads-all layout caller moment outcome c works whole hands hands' made has fits sound moved =
     let mine : AreSound c hands made = subst (λ (w : FilerContents). AreSound w hands made) has sound in (
-      subst (λ (w : FilerContents). WorksOnAll (census_task credential moment) w outcome c) (sym has) (works hands made mine),
+      subst (λ (w : FilerContents). WorksOnAll (census_task caller moment) w outcome c) (sym has) (works hands made mine),
       all-later c hands hands' made moved mine,
     )
 
-pub census-right : (layout : Layout) (credential : Credential) (moment : Moment) (c : FilerContents)
-    → RunsOnAll layout serial_lens (census_task credential moment) c (Replied (Success (census_answer c))) c
-census-right layout credential moment c =
-    reads-all layout credential moment (Replied (Success (census_answer c))) c
+pub census-right : (layout : Layout) (caller : Caller) (moment : Moment) (c : FilerContents)
+    → RunsOnAll layout serial_lens (census_task caller moment) c (Replied (Success (census_answer c))) c
+census-right layout caller moment c =
+    reads-all layout caller moment (Replied (Success (census_answer c))) c
     (λ hands made sound. ((refl, ap Success (census-told c hands made sound), refl, refl), tt))
 
-pub census-starves : (layout : Layout) (credential : Credential) (moment : Moment) (c : FilerContents)
-    → RunsOnAll layout serial_lens (census_task credential moment) c Starved c
-census-starves layout credential moment c =
-    reads-all layout credential moment Starved c (λ hands made sound. ((refl, refl, refl), refl))
+pub census-starves : (layout : Layout) (caller : Caller) (moment : Moment) (c : FilerContents)
+    → RunsOnAll layout serial_lens (census_task caller moment) c Starved c
+census-starves layout caller moment c =
+    reads-all layout caller moment Starved c (λ hands made sound. ((refl, refl, refl), refl))

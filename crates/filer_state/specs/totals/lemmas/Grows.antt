@@ -6,7 +6,7 @@ use Rattle.std.specs.Prelude.{slice_get, slice_set, slice_index_or, if◌then◌
 use Rattle.std.proofs.Math.Nat.{mul-add, mul-le-mul_left, mul-lt-mul_of_pos_left}
 use Rattle.std.specs.List.{range_with_len}
 use Rattle.std.specs.FinSet.{union, from_list}
-use Rattle.nfs_model.specs.Types.{Status, Invalid, TooBig, NoSpace, GrowDone, Failed, Ask, Grow, Credential, Moment, Success}
+use Rattle.nfs_model.specs.Types.{Status, Invalid, TooBig, NoSpace, GrowDone, Failed, Ask, Grow, Caller, Moment, Success}
 use Rattle.nfs_model.specs.Tree.{Layout, Aggregate, aggregate_of}
 use Rattle.nfs_model.specs.Server.{VolumeState, Server}
 use Rattle.nfs_model.specs.Serial.Grow.{Grown, grown, grow_volume, grow}
@@ -103,7 +103,7 @@ set-same (y ∷ xs) (suc i) x e = ap (λ rest. y ∷ rest) (set-same xs i x e)
 
 -- ---- on all that is stored
 
-module _ (a v more : ℕ) (credential : Credential) (moment : Moment) (c : FilerContents) (p : VolumeContents) (there : volume_at c v ≡ Some p)
+module _ (a v more : ℕ) (caller : Caller) (moment : Moment) (c : FilerContents) (p : VolumeContents) (there : volume_at c v ≡ Some p)
     (on : p.aggregate ≡ a) (hands hands' : List Hand) (made : ℕ) (sound : AreSound c hands made)
     (weigh : (u n : ℕ) → total (times_in_hand u n) hands' ≡ total (times_in_hand u n) hands) where
   abbrev used : ℕ
@@ -134,7 +134,7 @@ module _ (a v more : ℕ) (credential : Credential) (moment : Moment) (c : Filer
   -- with new contents, the run is right and all is sound
   abbrev IsDone : AggregateAnswer → Type 0
   IsDone told =
-      WorksOnAll (task_under (Aggregate a) (Ask (Grow v more) credential) moment) c (Replied (Success told.answer)) ((aggregate_lens a).put told.set c)
+      WorksOnAll (task_under (Aggregate a) (Ask (Grow v more) caller) moment) c (Replied (Success told.answer)) ((aggregate_lens a).put told.set c)
       × AreSound ((aggregate_lens a).put told.set c) hands' (made + 1)
 
   abbrev held : AggregateSet
@@ -157,7 +157,7 @@ module _ (a v more : ℕ) (credential : Credential) (moment : Moment) (c : Filer
   refused : (status : Status) → grow_refusal used spare more ≡ Some status → IsDone (record { answer = Failed status 0; set = held })
   refused status e =
       let is = serial-is ∙ ap (serial_checked (server_of c) v (volume_of p) more) e in
-      subst (λ (x : FilerContents). WorksOnAll (task_under (Aggregate a) (Ask (Grow v more) credential) moment) c (Replied (Success (Failed status 0))) x
+      subst (λ (x : FilerContents). WorksOnAll (task_under (Aggregate a) (Ask (Grow v more) caller) moment) c (Replied (Success (Failed status 0))) x
       × AreSound x hands' (made + 1)) (sym (all-back a c)) (
         (
           (
@@ -223,7 +223,7 @@ module _ (a v more : ℕ) (credential : Credential) (moment : Moment) (c : Filer
     done =
         let is = serial-is ∙ ap (serial_checked (server_of c) v (volume_of p) more) e in
         let count : blocks * (used + more) ≡ (volume_of p).total + blocks * more = mul-add blocks used more in
-        subst (λ (x : FilerContents). WorksOnAll (task_under (Aggregate a) (Ask (Grow v more) credential) moment) c
+        subst (λ (x : FilerContents). WorksOnAll (task_under (Aggregate a) (Ask (Grow v more) caller) moment) c
         (Replied (Success (GrowDone (blocks * (used + more))))) x × AreSound x hands' (made + 1)) (sym put-later) (
           (
             (
@@ -254,14 +254,14 @@ module _ (a v more : ℕ) (credential : Credential) (moment : Moment) (c : Filer
 
 -- ---- for every whole that has what is held
 
-pub grow-right : (layout : Layout) (a v more : ℕ) (credential : Credential) (moment : Moment) (s : AggregateSet)
+pub grow-right : (layout : Layout) (a v more : ℕ) (caller : Caller) (moment : Moment) (s : AggregateSet)
     → v < length layout.volumes → aggregate_of layout v ≡ a
-    → RunsOnAll layout (aggregate_lens a) (task_under (Aggregate a) (Ask (Grow v more) credential) moment) s
+    → RunsOnAll layout (aggregate_lens a) (task_under (Aggregate a) (Ask (Grow v more) caller) moment) s
     (Replied (Success (grow_aggregate v more s).answer)) (grow_aggregate v more s).set
-grow-right layout a v more credential moment s on home c hands hands' made has laid sound moved =
+grow-right layout a v more caller moment s on home c hands hands' made has laid sound moved =
     let found = get-some c.volumes v (let count = laid.volumes in omega (arith, on, count)) in
     subst (λ (t : AggregateSet).
-    WorksOnAll (task_under (Aggregate a) (Ask (Grow v more) credential) moment) c (Replied (Success (grow_aggregate v more t).answer))
+    WorksOnAll (task_under (Aggregate a) (Ask (Grow v more) caller) moment) c (Replied (Success (grow_aggregate v more t).answer))
     ((aggregate_lens a).put (grow_aggregate v more t).set c) × AreSound ((aggregate_lens a).put (grow_aggregate v more t).set c) hands' (made + 1)) has
-    (grow-done a v more credential moment c found.0 found.1 ((laid.volume v found.0 found.1).0 ∙ home) hands hands' made sound
+    (grow-done a v more caller moment c found.0 found.1 ((laid.volume v found.0 found.1).0 ∙ home) hands hands' made sound
     (λ u n. let w = moved (times_in_hand u n) in omega (arith, w)))

@@ -2,7 +2,7 @@ use Rattle.std.proofs.Common.{◌≡◌, ap, subst}
 use Rattle.nfs_model.specs.Tree.{Aggregate}
 use Rattle.affinity.specs.Layout.{layout_of}
 use Rattle.nfs_values.specs.Call.{call_of}
-use Rattle.nfs_values.specs.Credential.{credential_of}
+use Rattle.nfs_values.specs.Caller.{caller_of}
 use Rattle.nfs_values.specs.Moment.{moment_of}
 use Rattle.nfs_values.specs.declared.call.Call.{Call}
 use Rattle.service.specs.Running.{IsRunAt, outcome_of}
@@ -22,7 +22,7 @@ returns-in-Grow-clause-runs c =
     let L = layout_of c.args.layout.now in
     let g = c.args.aggregate in
     let at = subst (λ (k : Call). IsRunAt L k (Aggregate g)) c.in-Grow.is c.requires.at in
-    grown-runs L g c.in-Grow.volume.0 c.in-Grow.ranges at.1 c.args.run.call.now (credential_of c.args.run.credential) (moment_of c.args.run.moment)
+    grown-runs L g c.in-Grow.volume.0 c.in-Grow.ranges at.1 c.args.run.call.now (caller_of c.args.run.caller) (moment_of c.args.run.moment)
     c.args.held.now c.grow.new.held c.grow.result (outcome_of c.outcome_grown.result) (ap call_of c.in-Grow.is) c.outcome_grown.ensures c.grow.ensures.right
 
 pub returns-in-Grow-clause-moved : goal.returns-in-Grow-clause-moved

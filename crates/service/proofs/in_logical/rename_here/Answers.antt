@@ -3,7 +3,7 @@ use Rattle.nfs_model.specs.Home.{named_by}
 use Rattle.nfs_model.specs.Server.{Named}
 use Rattle.nfs_model.specs.Tree.{Logical}
 use Rattle.affinity.specs.Layout.{layout_of}
-use Rattle.nfs_values.specs.Credential.{credential_of}
+use Rattle.nfs_values.specs.Caller.{caller_of}
 use Rattle.nfs_values.specs.Handle.{named_of}
 use Rattle.nfs_values.specs.Moment.{moment_of}
 use Rattle.filer_state.specs.state.Sets.{logical_before, logical_after}
@@ -24,7 +24,7 @@ returns-clause-runs c =
     let moment = moment_of c.args.run.moment in
     let old = logical_before c.args.held.now in
     let new = logical_after c.args.held.now c.rename.new.held in
-    renaming-runs L n other from.directory from.name to.directory to.name (credential_of c.args.run.credential) moment old new
+    renaming-runs L n other from.directory from.name to.directory to.name (caller_of c.args.run.caller) moment old new
     c.rename.result (outcome_of c.outcome_renamed.result) (at-logical (named_by L to.directory) (Logical n.volume) both.1).names refl
     c.outcome_renamed.ensures
     (subst (λ (id : ℕ). Renames n.volume n.fileid from.name id to.name moment old c.rename.result new) c.fileid_of-other.ensures

@@ -4,6 +4,7 @@ use Rattle.nfs_model.specs.Types.{Success}
 use Rattle.nfs_model.specs.Work.{Replied}
 use Rattle.nfs_values.specs.Answer.{answer_of}
 use Rattle.nfs_values.specs.Call.{call_of}
+use Rattle.nfs_values.specs.Caller.{caller_of}
 use Rattle.nfs_values.specs.Credential.{credential_of}
 use Rattle.nfs_values.specs.Handle.{named_of}
 use Rattle.nfs_values.specs.Moment.{moment_of}
@@ -22,11 +23,11 @@ returns-in-CheckAccess c =
     let n = named_of c.args.named in
     let old = logical_before c.args.held.now in
     let told = answer_of (answers.CheckAccess c.check_access-told.result) in
-    let asks = access_call c.in-CheckAccess.handle (Logical n.volume) n.fileid c.in-CheckAccess.asked (credential_of c.args.run.credential) in
+    let asks = access_call c.in-CheckAccess.handle (Logical n.volume) n.fileid c.in-CheckAccess.asked (credential_of c.args.run.caller.credential) in
     record {
       told = sym (ap is_of_object c.in-CheckAccess.is);
       runs = λ layout. subst (λ (call : Call). RunsOn n.volume logical_lens
-          (call_named layout n (credential_of c.args.run.credential) (moment_of c.args.run.moment) (call_of call))
+          (call_named layout n (caller_of c.args.run.caller) (moment_of c.args.run.moment) (call_of call))
           old (Replied (Success told)) old) (sym c.in-CheckAccess.is)
           (served-runs n.volume asks old old told (c.check_access-told.ensures.right c.in-CheckAccess.handle));
     }
@@ -40,7 +41,7 @@ returns-in-FilesystemInfo c =
     record {
       told = sym (ap is_of_object c.in-FilesystemInfo.is);
       runs = λ layout. subst (λ (call : Call). RunsOn n.volume logical_lens
-          (call_named layout n (credential_of c.args.run.credential) (moment_of c.args.run.moment) (call_of call))
+          (call_named layout n (caller_of c.args.run.caller) (moment_of c.args.run.moment) (call_of call))
           old (Replied (Success told)) old) (sym c.in-FilesystemInfo.is)
           (served-runs n.volume asks old old told (c.filesystem_info-told.ensures.right c.in-FilesystemInfo.handle));
     }
@@ -54,7 +55,7 @@ returns-in-PathConfiguration c =
     record {
       told = sym (ap is_of_object c.in-PathConfiguration.is);
       runs = λ layout. subst (λ (call : Call). RunsOn n.volume logical_lens
-          (call_named layout n (credential_of c.args.run.credential) (moment_of c.args.run.moment) (call_of call))
+          (call_named layout n (caller_of c.args.run.caller) (moment_of c.args.run.moment) (call_of call))
           old (Replied (Success told)) old) (sym c.in-PathConfiguration.is)
           (served-runs n.volume asks old old told (c.path_configuration-told.ensures.right c.in-PathConfiguration.handle));
     }

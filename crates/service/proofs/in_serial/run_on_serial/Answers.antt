@@ -4,7 +4,7 @@ use Rattle.nfs_model.specs.Types.{Ask}
 use Rattle.nfs_model.specs.Work.{Outcome}
 use Rattle.affinity.specs.Layout.{layout_of}
 use Rattle.nfs_values.specs.Call.{call_of}
-use Rattle.nfs_values.specs.Credential.{credential_of}
+use Rattle.nfs_values.specs.Caller.{caller_of}
 use Rattle.nfs_values.specs.Moment.{moment_of}
 use Rattle.nfs_values.specs.declared.call.Call.{Call}
 use Rattle.filer_state.specs.state.Lenses.{serial_lens}
@@ -20,11 +20,11 @@ pub returns : goal.returns
 returns c =
     let L = layout_of c.args.layout.now in
     let set = serial_set L c.args.held.now in
-    let credential = credential_of c.args.run.credential in
+    let caller = caller_of c.args.run.caller in
     let moment = moment_of c.args.run.moment in
     record {
-      runs = subst (λ (call : Call). RunsOnAll L serial_lens (task_under Serial (Ask (call_of call) credential) moment) set
+      runs = subst (λ (call : Call). RunsOnAll L serial_lens (task_under Serial (Ask (call_of call) caller) moment) set
           (outcome_of c.outcome_counted.result) set) (sym (is-census L c.args.run.call.now c.requires.at))
-          (subst (λ (o : Outcome). RunsOnAll L serial_lens (census_task credential moment) set o set) (sym c.outcome_counted.ensures)
-          (c.census.ensures.right credential moment));
+          (subst (λ (o : Outcome). RunsOnAll L serial_lens (census_task caller moment) set o set) (sym c.outcome_counted.ensures)
+          (c.census.ensures.right caller moment));
     }

@@ -5,7 +5,7 @@ use Rattle.nfs_model.specs.Work.{Replied}
 use Rattle.affinity.specs.Layout.{layout_of}
 use Rattle.nfs_values.specs.Answer.{answer_of}
 use Rattle.nfs_values.specs.Call.{call_of}
-use Rattle.nfs_values.specs.Credential.{credential_of}
+use Rattle.nfs_values.specs.Caller.{caller_of}
 use Rattle.nfs_values.specs.Moment.{moment_of}
 use Rattle.nfs_values.specs.declared.answer.Answer.TheVariants.{FilesystemStatus}
 use Rattle.filer_state.specs.state.Lenses.{volume_lens}
@@ -25,15 +25,15 @@ returns-in-Write-clause-runs c =
     let v = c.args.volume.0 in
     let f = c.fileid_of_call-fileid.result.0 in
     let call = c.args.run.call.now in
-    let credential = credential_of c.args.run.credential in
+    let caller = caller_of c.args.run.caller in
     let moment = moment_of c.args.run.moment in
     let asked = c.in-Write in
     let told = c.write_in_volume-told in
     let old = volume_before c.args.held.now in
     let new = volume_after c.args.held.now told.new.held in
     let outcome = outcome_of c.outcome_written.result in
-    runs-here L v volume_lens (Volume v) f (call_of call) credential moment old new outcome c.fileid_of_call-fileid.ensures
-    (writing-runs L v volume_lens (Volume v) f call asked.handle asked.offset asked.count asked.bytes c.as_slice-written.result.now credential moment
+    runs-here L v volume_lens (Volume v) f (call_of call) caller moment old new outcome c.fileid_of_call-fileid.ensures
+    (writing-runs L v volume_lens (Volume v) f call asked.handle asked.offset asked.count asked.bytes c.as_slice-written.result.now caller moment
     old new outcome (written_outcome v told.result) (ap call_of asked.is) c.as_slice-written.ensures c.outcome_written.ensures
     (told.ensures.right v asked.handle))
 
@@ -43,14 +43,14 @@ returns-in-FilesystemStatus-clause-runs c =
     let v = c.args.volume.0 in
     let f = c.fileid_of_call-fileid.result.0 in
     let call = c.args.run.call.now in
-    let credential = credential_of c.args.run.credential in
+    let caller = caller_of c.args.run.caller in
     let moment = moment_of c.args.run.moment in
     let asked = c.in-FilesystemStatus in
     let told = c.filesystem_status-told.result in
     let held = volume_before c.args.held.now in
-    runs-here L v volume_lens (Volume v) f (call_of call) credential moment held held (Replied (Success (answer_of (FilesystemStatus told))))
+    runs-here L v volume_lens (Volume v) f (call_of call) caller moment held held (Replied (Success (answer_of (FilesystemStatus told))))
     c.fileid_of_call-fileid.ensures
-    (filesystem-status-runs L v f call asked.handle credential moment held told (ap call_of asked.is) c.filesystem_status-told.ensures.right)
+    (filesystem-status-runs L v f call asked.handle caller moment held told (ap call_of asked.is) c.filesystem_status-told.ensures.right)
 
 pub returns-in_default-clause-runs : goal.returns-in_default-clause-runs
 returns-in_default-clause-runs c =

@@ -1,7 +1,9 @@
-use Rattle.std.proofs.Common.{List, refl, sym, subst}
+use Rattle.std.proofs.Common.{List, refl, sym, ap, subst}
 use Rattle.std.specs.Prelude.{OnOk}
 use Rattle.affinity.specs.Affinity.{call_node}
 use Rattle.affinity.specs.Layout.{layout_of}
+use Rattle.nfs_model.specs.Types as types
+use Rattle.nfs_values.specs.Call.{call_of}
 use Rattle.rpc_msg.specs.declared.record.Request.{Request}
 use Rattle.engine_feed.specs.Seen.{asked_of}
 use Rattle.rpc_msg.specs.declared.record.Request.TheVariants.{Call, Refused, Undecoded}
@@ -16,7 +18,8 @@ returns-in-Some-clause-ok g c =
     subst (λ (r : Request). OnOk c.admit.result (g.S.RecordSink.came c.args.sink.now (given_of layout c.args.peer c.args.origin (asked_of r)) c.admit.new.self))
     (sym c.in-Call.is)
     (subst (λ (xs : List Arrival). OnOk c.admit.result (g.S.RecordSink.came c.args.sink.now xs c.admit.new.self))
-    (waits-is layout c.args.peer c.args.origin (asked_of (Call c.in-Call.call c.in-Call.credential)) (call_node c.in-Some.admission.affinity)
+    (waits-is layout c.args.peer c.args.origin (asked_of (Call c.in-Call.call c.in-Call.caller)) _
+    (ap (λ (k : types.Caller). types.Ask (call_of c.in-Call.call) k) c.caller_at.ensures) (call_node c.in-Some.admission.affinity)
     c.in-Some.ensures.waits.at_home) c.admit.ensures.ok)
 
 pub returns-in-None-clause-ok : goal.returns-in-None-clause-ok
@@ -25,7 +28,7 @@ returns-in-None-clause-ok g c =
     subst (λ (r : Request). OnOk c.answer_now.result (g.S.RecordSink.came c.args.sink.now (given_of layout c.args.peer c.args.origin (asked_of r)) c.answer_now.new.sink))
     (sym c.in-Call.is)
     (subst (λ (xs : List Arrival). OnOk c.answer_now.result (g.S.RecordSink.came c.args.sink.now xs c.answer_now.new.sink))
-    (answered-is layout c.args.peer c.args.origin (asked_of (Call c.in-Call.call c.in-Call.credential)) (asked_of c.from_peer-request.result)
+    (answered-is layout c.args.peer c.args.origin (asked_of (Call c.in-Call.call c.in-Call.caller)) (asked_of c.from_peer-request.result)
     c.from_peer-request.ensures (sym c.in-None.ensures.home)) c.answer_now.ensures.ok)
 
 pub returns-in-Refused-clause-ok : goal.returns-in-Refused-clause-ok

@@ -3,6 +3,7 @@ use Rattle.affinity.specs.Layout.{layout_of}
 use Rattle.rpc_record.specs.Machine.{State}
 use Rattle.tcp_front.specs.declared.stream.Stopped.{Stopped}
 use Rattle.tcp_front.specs.declared.read_end.ReadEnd.{ReadEnd}
+use Rattle.tcp_front.specs.Peers.{sender_of}
 use Rattle.tcp_front.specs.Reading.{HasRead}
 use Rattle.tcp_front.specs.Steps.{HasTaken}
 use Rattle.tcp_front.proofs.Ends.{SoFar, nothing-read, at-end, reader-failed, more-read, read-to-stop}
@@ -55,7 +56,7 @@ returns-in-Some-stopped g c =
     c.loop.sink c.loop.invariant.so_far g.met.S.RecordSink.came_more c.read_some.new.self stream' mid c.read_ended.new.self bytes
     c.in-Ok.ensures.bytes.0
     c.in-Ok.ensures.counts c.read_ended.ensures.none c.in-Some-stopped.stopped h in
-    subst (λ (e : ReadEnd). HasRead g.R.Read.remaining came layout c.args.offer c.args.connection.0 c.args.peer.is_privileged c.args.reader.now c.args.sink.now e
+    subst (λ (e : ReadEnd). HasRead g.R.Read.remaining came layout c.args.offer c.args.connection.0 (sender_of c.args.peer) c.args.reader.now c.args.sink.now e
     c.read_some.new.self c.read_ended.new.self)
     (sym c.end_of.ensures) done
 

@@ -2,7 +2,7 @@ use Rattle.std.proofs.Common.{subst}
 use Rattle.nfs_model.specs.Tree.{Affinity}
 use Rattle.affinity.specs.Affinity.{affinity_of}
 use Rattle.affinity.specs.Layout.{layout_of}
-use Rattle.nfs_values.specs.Credential.{credential_of}
+use Rattle.nfs_values.specs.Caller.{caller_of}
 use Rattle.nfs_values.specs.Moment.{moment_of}
 use Rattle.parcels.specs.lemmas.Around.{is-aggregate}
 use Rattle.parcels.specs.lemmas.Exactly.{aggregate-exact}
@@ -42,13 +42,13 @@ returns-clause-does c =
     let g = c.aggregate_number.result in
     let at = is-aggregate a c.aggregate_number.result
     (aggregate-kind L a held c.requires.node c.requires.exact) c.aggregate_number.ensures in
-    let credential = credential_of c.args.self.credential in
+    let caller = caller_of c.args.self.caller in
     let moment = moment_of c.args.self.moment in
     let known = aggregate-whole L c.args.layout.now.lawful g a at c.requires.node held c.requires.asks.1 in
     let there = subst (λ (b : Affinity). IsRunAt L call b) at c.requires.asks.0 in
     let ran = c.run_on_aggregate.ensures.runs in
     let outcome = outcome_of c.run_on_aggregate.result in (
-      aggregate-ran L c.args.layout.now.lawful call credential moment g a at c.requires.node c.requires.asks.0 held new outcome
+      aggregate-ran L c.args.layout.now.lawful call caller moment g a at c.requires.node c.requires.asks.0 held new outcome
           c.run_on_aggregate.ensures.moved ran,
-      stays-there L call g there credential moment (aggregate_set L g held) (aggregate_set L g new) outcome known ran,
+      stays-there L call g there caller moment (aggregate_set L g held) (aggregate_set L g new) outcome known ran,
     )

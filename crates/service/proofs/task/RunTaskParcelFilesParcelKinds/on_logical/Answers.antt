@@ -2,7 +2,7 @@ use Rattle.std.proofs.Common.{subst}
 use Rattle.nfs_model.specs.Tree.{Affinity, Logical}
 use Rattle.affinity.specs.Affinity.{affinity_of}
 use Rattle.affinity.specs.Layout.{layout_of}
-use Rattle.nfs_values.specs.Credential.{credential_of}
+use Rattle.nfs_values.specs.Caller.{caller_of}
 use Rattle.nfs_values.specs.Moment.{moment_of}
 use Rattle.parcels.specs.lemmas.Around.{is-logical}
 use Rattle.parcels.specs.lemmas.Exactly.{logical-exact}
@@ -43,13 +43,13 @@ returns-clause-does c =
     let v = c.volume_number.result in
     let at = is-logical a c.volume_number.result
     (logical-kind L a held c.requires.node c.requires.exact) c.volume_number.ensures in
-    let credential = credential_of c.args.self.credential in
+    let caller = caller_of c.args.self.caller in
     let moment = moment_of c.args.self.moment in
     let known = logical-whole L c.args.layout.now.lawful v a at c.requires.node held c.requires.asks.1 in
     let ran = c.run_on_logical.ensures.runs in
     let outcome = outcome_of c.run_on_logical.result in (
-      logical-runs L c.args.layout.now.lawful call credential moment v a at c.requires.node c.requires.asks.0 held new outcome
+      logical-runs L c.args.layout.now.lawful call caller moment v a at c.requires.node c.requires.asks.0 held new outcome
           c.run_on_logical.ensures.moved known.0 ran,
-      moves-on L v logical_lens (Logical v) a at call c.requires.node c.requires.asks.0 credential moment (logical_before held) (logical_after held new)
+      moves-on L v logical_lens (Logical v) a at call c.requires.node c.requires.asks.0 caller moment (logical_before held) (logical_after held new)
           outcome known.1 ran,
     )

@@ -2,7 +2,7 @@ use Rattle.std.proofs.Common.{◌≡◌, refl, subst}
 use Rattle.nfs_model.specs.Tree.{Affinity}
 use Rattle.affinity.specs.Affinity.{affinity_of}
 use Rattle.affinity.specs.Layout.{layout_of}
-use Rattle.nfs_values.specs.Credential.{credential_of}
+use Rattle.nfs_values.specs.Caller.{caller_of}
 use Rattle.nfs_values.specs.Moment.{moment_of}
 use Rattle.parcels.specs.lemmas.Sorts.{serial-kind}
 use Rattle.filer_state.specs.state.Sets.{serial_set}
@@ -26,12 +26,12 @@ returns-clause-does c =
     let call = c.args.self.call.now in
     let held = c.args.held.now in
     let set = serial_set L held in
-    let credential = credential_of c.args.self.credential in
+    let caller = caller_of c.args.self.caller in
     let moment = moment_of c.args.self.moment in
     let is = is-serial a (serial-kind L a held c.requires.node c.requires.exact) in
     let outcome = outcome_of c.run_on_serial.result in
     let ran = c.run_on_serial.ensures.runs in (
-      serial-runs L call credential moment lawful a is c.requires.asks.0 held held outcome (unless-any outcome (held ≡ held) refl) ran,
-      serial-moves-on L call credential moment (subst (λ (b : Affinity). IsRunAt L call b) is c.requires.asks.0) set set outcome
+      serial-runs L call caller moment lawful a is c.requires.asks.0 held held outcome (unless-any outcome (held ≡ held) refl) ran,
+      serial-moves-on L call caller moment (subst (λ (b : Affinity). IsRunAt L call b) is c.requires.asks.0) set set outcome
           (serial-whole L lawful a is held c.requires.asks.1) ran,
     )

@@ -1,7 +1,7 @@
 use Rattle.affinity.specs.Affinity.{affinity_of}
 use Rattle.affinity.specs.Layout.{layout_of}
 use Rattle.nfs_model.specs.Tree.{Affinity, Stripe}
-use Rattle.nfs_values.specs.Credential.{credential_of}
+use Rattle.nfs_values.specs.Caller.{caller_of}
 use Rattle.nfs_values.specs.Moment.{moment_of}
 use Rattle.parcels.specs.lemmas.Around.{is-stripe}
 use Rattle.parcels.specs.lemmas.Exactly.{stripe-exact}
@@ -42,12 +42,12 @@ returns-clause-does c =
     let i = c.stripe_number.result in
     let at = is-stripe a c.volume_number.result c.stripe_number.result
     (stripe-kind L a held c.requires.node c.requires.exact) c.volume_number.ensures c.stripe_number.ensures in
-    let credential = credential_of c.args.self.credential in
+    let caller = caller_of c.args.self.caller in
     let moment = moment_of c.args.self.moment in
     let known = stripe-whole L c.args.layout.now.lawful v i a at c.requires.node held c.requires.asks.1 in
     let ran = c.run_on_stripe.ensures.runs in
     let outcome = outcome_of c.run_on_stripe.result in (
-      stripe-runs L c.args.layout.now.lawful call credential moment v i a at c.requires.node c.requires.asks.0 held new outcome
+      stripe-runs L c.args.layout.now.lawful call caller moment v i a at c.requires.node c.requires.asks.0 held new outcome
           c.run_on_stripe.ensures.moved ran,
-      moves-on L v (stripe_lens i) (Stripe v i) a at call c.requires.node c.requires.asks.0 credential moment held.own new.own outcome known.1 ran,
+      moves-on L v (stripe_lens i) (Stripe v i) a at call c.requires.node c.requires.asks.0 caller moment held.own new.own outcome known.1 ran,
     )

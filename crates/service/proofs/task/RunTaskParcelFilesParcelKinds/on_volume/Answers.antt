@@ -2,7 +2,7 @@ use Rattle.std.proofs.Common.{subst}
 use Rattle.nfs_model.specs.Tree.{Affinity, Volume}
 use Rattle.affinity.specs.Affinity.{affinity_of}
 use Rattle.affinity.specs.Layout.{layout_of}
-use Rattle.nfs_values.specs.Credential.{credential_of}
+use Rattle.nfs_values.specs.Caller.{caller_of}
 use Rattle.nfs_values.specs.Moment.{moment_of}
 use Rattle.parcels.specs.lemmas.Around.{is-volume}
 use Rattle.parcels.specs.lemmas.Exactly.{volume-exact}
@@ -43,13 +43,13 @@ returns-clause-does c =
     let v = c.volume_number.result in
     let at = is-volume a c.volume_number.result
     (volume-kind L a held c.requires.node c.requires.exact) c.volume_number.ensures in
-    let credential = credential_of c.args.self.credential in
+    let caller = caller_of c.args.self.caller in
     let moment = moment_of c.args.self.moment in
     let known = volume-whole L c.args.layout.now.lawful v a at c.requires.node held c.requires.asks.1 in
     let ran = c.run_on_volume.ensures.runs in
     let outcome = outcome_of c.run_on_volume.result in (
-      volume-runs L c.args.layout.now.lawful call credential moment v a at c.requires.node c.requires.asks.0 held new outcome
+      volume-runs L c.args.layout.now.lawful call caller moment v a at c.requires.node c.requires.asks.0 held new outcome
           c.run_on_volume.ensures.moved known.0 ran,
-      moves-on L v volume_lens (Volume v) a at call c.requires.node c.requires.asks.0 credential moment (volume_before held) (volume_after held new)
+      moves-on L v volume_lens (Volume v) a at call c.requires.node c.requires.asks.0 caller moment (volume_before held) (volume_after held new)
           outcome known.1 ran,
     )

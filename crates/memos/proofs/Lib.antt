@@ -1,0 +1,2 @@
+pub mod Peers
+pub mod Places

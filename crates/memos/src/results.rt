@@ -1,0 +1,212 @@
+//! Results that are remembered.
+
+ghost use Rattle.std.specs.Prelude.{◌≡◌};
+ghost use Rattle.std.specs.Option.{option_map};
+ghost use Rattle.nfs_model.specs.Memo.{ToldGone, ToldMade};
+ghost use Rattle.nfs_model.specs.Types.{GoneDone};
+ghost use Rattle.nfs_model.specs.Serial.Once.{answer_told, told_of};
+ghost use Rattle.nfs_values.specs.Answer.{
+  answer_of,
+  attributes_set,
+  name_gone,
+  name_moved,
+  node_made,
+  procedure_of,
+  result_of,
+};
+ghost use Rattle.nfs_values.specs.Attributes.{change_of, shown_of};
+ghost use Rattle.nfs_values.specs.Call.{call_of};
+ghost use Rattle.memos.specs.Kept.{told_kept};
+ghost use Rattle.memos.specs.Told.{procedure_told};
+
+use nfs_values::answer::{MakeResults, RenameResults};
+use nfs_values::{
+    Answer, Attributes, Call, Change, FileHandle, FileKind, Fileid, Moment, Named, PriorAttributes,
+    Status, VolumeNumber,
+};
+use std::marker::Model;
+
+/// The results of a call that succeeded (RFC 1813 section 3.3). The handle of what was made follows
+/// from its attributes.
+#[derive(Clone, Copy)]
+pub(crate) enum Results {
+    Set(Change),
+    Made {
+        object: Attributes,
+        directory: Change,
+    },
+    /// The directory.
+    Gone(Change),
+    /// The directories.
+    Renamed {
+        from: Change,
+        to: Change,
+    },
+}
+
+/// Attributes of nothing.
+const NO_ATTRIBUTES: Attributes = Attributes {
+    kind: FileKind::Regular,
+    mode: 0,
+    links: 0,
+    uid: 0,
+    gid: 0,
+    size: 0,
+    used: 0,
+    fsid: 0,
+    fileid: Fileid(0),
+    atime: Moment::START,
+    mtime: Moment::START,
+    ctime: Moment::START,
+};
+
+/// Attributes before and after a call on nothing.
+const NO_CHANGE: Change = Change {
+    before: PriorAttributes {
+        size: 0,
+        mtime: Moment::START,
+        ctime: Moment::START,
+    },
+    after: NO_ATTRIBUTES,
+};
+
+impl Results {
+    /// What stands where none are kept.
+    pub(crate) const EMPTY: Results = Results::Set(NO_CHANGE);
+}
+
+/// What is kept of an answer.
+pub(crate) fn results_of(answer: &Answer) -> Option<Results>
+    ensures { option_map told_kept result ≡ told_of (answer_of answer.now) }
+{
+    match answer {
+        Answer::SetAttributes(results) => results_of_set(results),
+        Answer::Create(results) => results_of_making(results),
+        Answer::MakeDirectory(results) => results_of_making(results),
+        Answer::Remove(results) => results_of_removal(results),
+        Answer::RemoveDirectory(results) => results_of_removal(results),
+        Answer::Rename(results) => results_of_renaming(results),
+        _ => None,
+    }
+}
+
+/// What is kept of a SETATTR's.
+fn results_of_set(results: &Result<Change, Status>) -> Option<Results>
+    ensures { option_map told_kept result ≡ told_of (result_of attributes_set 2 results.now) }
+{
+    match results {
+        Ok(change) => Some(Results::Set(*change)),
+        Err(_) => None,
+    }
+}
+
+/// What is kept of a CREATE's or MKDIR's.
+fn results_of_making(results: &Result<MakeResults, Status>) -> Option<Results>
+    ensures { option_map told_kept result ≡ told_of (result_of node_made 2 results.now) }
+{
+    match results {
+        Ok(made) => Some(Results::Made {
+            object: made.object,
+            directory: made.directory,
+        }),
+        Err(_) => None,
+    }
+}
+
+/// What is kept of a REMOVE's or RMDIR's.
+fn results_of_removal(results: &Result<Change, Status>) -> Option<Results>
+    ensures { option_map told_kept result ≡ told_of (result_of name_gone 2 results.now) }
+{
+    match results {
+        Ok(directory) => Some(Results::Gone(*directory)),
+        Err(_) => None,
+    }
+}
+
+/// What is kept of a RENAME's.
+fn results_of_renaming(results: &Result<RenameResults, Status>) -> Option<Results>
+    ensures { option_map told_kept result ≡ told_of (result_of name_moved 4 results.now) }
+{
+    match results {
+        Ok(moved) => Some(Results::Renamed {
+            from: moved.from,
+            to: moved.to,
+        }),
+        Err(_) => None,
+    }
+}
+
+/// The results that a call was told, where they are kept.
+#[derive(Drop)]
+pub struct Remembered<'a> {
+    results: &'a Results,
+}
+
+impl<'a> Model for Remembered<'a> {
+    ghost use Rattle.nfs_model.specs.Memo.{Told};
+    ghost use Rattle.nfs_model.specs.volume.Codes.{coded_told};
+    ghost use Rattle.memos.specs.Kept.{told_kept};
+
+    ghost Value = { Told };
+
+    ghost coded = { coded_told };
+
+    ghost view = { λ r. told_kept r.results.now };
+}
+
+impl<'a> Remembered<'a> {
+    /// These.
+    pub(crate) fn new(results: &'a Results) -> Remembered<'a>
+        ensures { result ≡ told_kept results.now }
+    {
+        Remembered { results }
+    }
+
+    /// The answer to the call that tells them again, of a volume of this number.
+    #[inline(never)]
+    pub fn answer(&self, call: &Call, volume: VolumeNumber) -> Answer
+        ensures told { answer_of result ≡ answer_told volume.0 self.now }
+        ensures procedure { procedure_of result ≡ procedure_told (call_of call.now) self.now }
+    {
+        match self.results {
+            Results::Set(change) => Answer::SetAttributes(Ok(*change)),
+            Results::Made { object, directory } => made_again(object, directory, call, volume),
+            Results::Gone(directory) => gone_again(directory, call),
+            Results::Renamed { from, to } => Answer::Rename(Ok(RenameResults {
+                from: *from,
+                to: *to,
+            })),
+        }
+    }
+}
+
+/// The answer to a call that made this.
+fn made_again(object: &Attributes, directory: &Change, call: &Call, volume: VolumeNumber) -> Answer
+    ensures told { answer_of result
+        ≡ answer_told volume.0 (ToldMade (shown_of object.now) (change_of directory.now)) }
+    ensures procedure { procedure_of result ≡ procedure_told (call_of call.now)
+        (ToldMade (shown_of object.now) (change_of directory.now)) }
+{
+    let fileid = object.fileid;
+    let made = MakeResults {
+        handle: FileHandle::naming(Named { volume, fileid }),
+        object: *object,
+        directory: *directory,
+    };
+    match call {
+        Call::MakeDirectory { .. } => Answer::MakeDirectory(Ok(made)),
+        _ => Answer::Create(Ok(made)),
+    }
+}
+
+/// The answer to a call that removed a name of this directory.
+fn gone_again(directory: &Change, call: &Call) -> Answer
+    ensures told { answer_of result ≡ GoneDone (change_of directory.now) }
+    ensures procedure { procedure_of result
+        ≡ procedure_told (call_of call.now) (ToldGone (change_of directory.now)) }
+{
+    match call {
+        Call::RemoveDirectory(_) => Answer::RemoveDirectory(Ok(*directory)),
+        _ => Answer::Remove(Ok(*directory)),
+    }
+}
