@@ -1,6 +1,6 @@
 -- What a call on a volume keeps of it, and that its answer can be told again.
 use Rattle.std.proofs.Common.{◌≡◌, ℕ, Bool, true, false, cond, List, [], ◌∷◌, Option, Some, None, refl, ap}
-use Rattle.std.specs.Prelude.{not, ◌==◌, min, nat_le}
+use Rattle.std.specs.Prelude.{not, ◌==◌, ◌&&◌, is_none, min, nat_le}
 use Rattle.std.specs.FinMap.{get}
 use Rattle.nfs_model.specs.Types as model
 use Rattle.nfs_model.specs.Memo.{Told, ToldSet, ToldMade, ToldGone, ToldRenamed}
@@ -10,18 +10,19 @@ use Rattle.nfs_model.specs.Names.{find_name, is_dots, name_fault, same_name, dot
 use Rattle.nfs_model.specs.Locate.{Effect, Fails, Tells, Changes, unless, on_node, on_directory, on_file, Found}
 use Rattle.nfs_model.specs.Locate.{Naming, named_child, on_name}
 use Rattle.nfs_model.specs.Serial.Once.{told_of, answer_told}
-use Rattle.nfs_model.specs.Serial.Setattr.{with_node, set_file, setattr}
+use Rattle.nfs_model.specs.Serial.Permission.{is_change, refusal_by, rename_refusal, refusal_of, permitted, permitted_two}
+use Rattle.nfs_model.specs.Serial.Setattr.{with_node, set_file, set_taken, setattr}
 use Rattle.nfs_model.specs.Serial.Getattr.{getattr, tell_of}
 use Rattle.nfs_model.specs.Serial.Lookup.{lookup_told}
 use Rattle.nfs_model.specs.Serial.Read.{read}
 use Rattle.nfs_model.specs.Serial.Write.{Writing, write_some, write}
-use Rattle.nfs_model.specs.Serial.Create.{made_told, with_child, directory_made, made, there_told, set_there, is_verifier, new_file, create_over, create_at, create}
+use Rattle.nfs_model.specs.Serial.Create.{made_told, with_child, directory_made, made, there_told, set_there, over_taken, is_verifier, new_file, maker, create_over, create_at, create}
 use Rattle.nfs_model.specs.Serial.Mkdir.{new_directory, mkdir_at, mkdir}
 use Rattle.nfs_model.specs.Serial.Remove.{gone, remove_node, remove_at, remove_name}
 use Rattle.nfs_model.specs.Serial.Rmdir.{if_empty, rmdir_node, rmdir_at, rmdir}
 use Rattle.nfs_model.specs.Serial.Rename.{Renaming, climb_fault, met_above, may_go, renamed_volume, rename_told, is_same_entry, rename_at, rename_in, rename}
 use Rattle.nfs_model.specs.Serial.Readdir.{paged, readdir}
-use Rattle.nfs_model.specs.Serial.Readdirplus.{listed_plus, paged_plus, readdirplus}
+use Rattle.nfs_model.specs.Serial.Readdirplus.{listed_for, paged_plus, readdirplus}
 use Rattle.nfs_model.specs.Serial.Fsstat.{fsstat}
 use Rattle.nfs_model.specs.Serial.Commit.{commit}
 use Rattle.nfs_model.specs.Serial.MountBelow.{part_fault, on_entry, mount_below}
@@ -113,6 +114,20 @@ module _ (Q : Fact) where
       directory_ends volume (get volume.nodes fileid) _ (λ d.
       unless_ends volume (name_fault name) _ (f (record { volume = volume; fileid = fileid; directory = d; name = name; moment = moment })))
 
+  -- a call on one handle, and RENAME, that are permitted or refused
+  pub permitted_ends : (caller : model.Caller) (call : model.Call) (run : VolumeState → ℕ → Effect)
+      → ((volume : VolumeState) (fileid : ℕ) → Ends Q volume (run volume fileid)) → (volume : VolumeState) (fileid : ℕ)
+      → Ends Q volume (permitted caller call run volume fileid)
+  permitted_ends caller call run f volume fileid =
+      unless_ends volume (refusal_of caller (is_change call) (refusal_by caller.credential call volume fileid)) (run volume fileid) (f volume fileid)
+
+  pub permitted_two_ends : (caller : model.Caller) (from_name to_name : List ℕ) (run : VolumeState → ℕ → ℕ → Effect)
+      → ((volume : VolumeState) (from to : ℕ) → Ends Q volume (run volume from to)) → (volume : VolumeState) (from to : ℕ)
+      → Ends Q volume (permitted_two caller from_name to_name run volume from to)
+  permitted_two_ends caller from_name to_name run f volume from to =
+      unless_ends volume (refusal_of caller true (rename_refusal caller.credential from_name to_name volume from to)) (run volume from to)
+      (f volume from to)
+
   empty_ends : (old : VolumeState) (list : List model.Listed) (e : Effect) → Ends Q old e → Ends Q old (if_empty list e)
   empty_ends old [] e f = f
   empty_ends old (x ∷ xs) e f = fails old model.NotEmpty
@@ -143,9 +158,9 @@ others old new e f g = record { number = e; range_blocks = f; memos = g }
 
 -- ---- procedures whose reply is remembered
 
-pub setattr_ends : (set : model.SetAttributes) (guard : Option model.Moment) (moment : model.Moment) (volume : VolumeState) (fileid : ℕ)
-    → Ends Telling volume (setattr set guard moment volume fileid)
-setattr_ends set guard moment volume fileid =
+pub setattr_ends : (set : model.SetAttributes) (guard : Option model.Moment) (caller : model.Caller) (moment : model.Moment) (volume : VolumeState)
+    (fileid : ℕ) → Ends Telling volume (setattr set guard caller moment volume fileid)
+setattr_ends set guard caller moment volume fileid =
     node_ends Telling volume (get volume.nodes fileid) _ (λ node. unless_ends Telling volume _ _
     (changes Telling _ _ _ refl (others _ _ refl refl refl, (ToldSet _, (refl, refl)))))
 
@@ -167,30 +182,30 @@ set_there_ends n fileid node =
 there_ends : (n : Naming) (found : Found) → Ends Telling n.volume (Tells (there_told n n.volume found))
 there_ends n found = tells Telling n.volume _ (same n.volume, made_tells n n.volume found (Directory n.directory))
 
-create_over_ends : (n : Naming) (mode : model.CreateMode) (fileid : ℕ) (node : Node) → Ends Telling n.volume (create_over n mode fileid node)
-create_over_ends n (model.Guarded set) fileid node = fails _ _ _
-create_over_ends n (model.Unchecked set) fileid (Directory other) = fails _ _ _
-create_over_ends n (model.Exclusive verifier) fileid (Directory other) = fails _ _ _
-create_over_ends n (model.Exclusive verifier) fileid (File f) =
+create_over_ends : (n : Naming) (mode : model.CreateMode) (caller : model.Caller) (fileid : ℕ) (node : Node)
+    → Ends Telling n.volume (create_over n mode caller fileid node)
+create_over_ends n (model.Guarded set) caller fileid node = fails _ _ _
+create_over_ends n (model.Unchecked set) caller fileid (Directory other) = fails _ _ _
+create_over_ends n (model.Exclusive verifier) caller fileid (Directory other) = fails _ _ _
+create_over_ends n (model.Exclusive verifier) caller fileid (File f) =
     if_ends Telling n.volume (is_verifier f.verifier verifier) _ _ (there_ends n (record { fileid = fileid; node = File f })) (fails _ _ model.Exists)
-create_over_ends n (model.Unchecked set) fileid (File f) =
-    unless_ends Telling n.volume _ _ (set_there_ends n fileid (File (set_file set n.moment f)))
+create_over_ends n (model.Unchecked set) caller fileid (File f) =
+    if_ends Telling n.volume (caller.checked && is_none set.size) _ _ (there_ends n (record { fileid = fileid; node = File f }))
+    (unless_ends Telling n.volume _ _ (set_there_ends n fileid (File (set_file (set_taken caller (over_taken caller set) (File f)) n.moment f))))
 
-create_at_ends : (n : Naming) (mode : model.CreateMode) (credential : model.Credential) (o : Option Found)
-    → Ends Telling n.volume (create_at n mode credential o)
-create_at_ends n mode credential (Some found) = create_over_ends n mode found.fileid found.node
-create_at_ends n mode credential None = unless_ends Telling n.volume _ _ (made_ends n (new_file mode credential n.moment))
+create_at_ends : (n : Naming) (mode : model.CreateMode) (caller : model.Caller) (o : Option Found) → Ends Telling n.volume (create_at n mode caller o)
+create_at_ends n mode caller (Some found) = create_over_ends n mode caller found.fileid found.node
+create_at_ends n mode caller None = unless_ends Telling n.volume _ _ (made_ends n (new_file mode (maker caller n) n.moment))
 
-pub create_ends : (mode : model.CreateMode) (credential : model.Credential) (n : Naming) → Ends Telling n.volume (create mode credential n)
-create_ends mode credential n = if_ends Telling n.volume (is_dots n.name) _ _ (fails _ _ _) (create_at_ends n mode credential (named_child n))
+pub create_ends : (mode : model.CreateMode) (caller : model.Caller) (n : Naming) → Ends Telling n.volume (create mode caller n)
+create_ends mode caller n = if_ends Telling n.volume (is_dots n.name) _ _ (fails _ _ _) (create_at_ends n mode caller (named_child n))
 
-mkdir_at_ends : (n : Naming) (set : model.SetAttributes) (credential : model.Credential) (o : Option Found)
-    → Ends Telling n.volume (mkdir_at n set credential o)
-mkdir_at_ends n set credential (Some found) = fails _ _ _
-mkdir_at_ends n set credential None = unless_ends Telling n.volume _ _ (made_ends n (new_directory n.fileid set credential n.moment))
+mkdir_at_ends : (n : Naming) (set : model.SetAttributes) (caller : model.Caller) (o : Option Found) → Ends Telling n.volume (mkdir_at n set caller o)
+mkdir_at_ends n set caller (Some found) = fails _ _ _
+mkdir_at_ends n set caller None = unless_ends Telling n.volume _ _ (made_ends n (new_directory n.fileid set (maker caller n) n.moment))
 
-pub mkdir_ends : (set : model.SetAttributes) (credential : model.Credential) (n : Naming) → Ends Telling n.volume (mkdir set credential n)
-mkdir_ends set credential n = if_ends Telling n.volume (is_dots n.name) _ _ (fails _ _ _) (mkdir_at_ends n set credential (named_child n))
+pub mkdir_ends : (set : model.SetAttributes) (caller : model.Caller) (n : Naming) → Ends Telling n.volume (mkdir set caller n)
+mkdir_ends set caller n = if_ends Telling n.volume (is_dots n.name) _ _ (fails _ _ _) (mkdir_at_ends n set caller (named_child n))
 
 gone_ends : (n : Naming) (fileid : ℕ) → Ends Telling n.volume (gone n fileid)
 gone_ends n fileid = changes Telling _ _ _ refl (others _ _ refl refl refl, (ToldGone _, (refl, refl)))
@@ -292,11 +307,11 @@ paged_plus_ends count told volume directory [] page = if_ends Keeping volume _ _
 paged_plus_ends count told volume directory (e ∷ es) [] = fails _ _ _
 paged_plus_ends count told volume directory (e ∷ es) (x ∷ xs) = tells Keeping _ _ (same _)
 
-pub readdirplus_ends : (cookie : ℕ) (verifier : List ℕ) (names_count count : ℕ) (volume : VolumeState) (fileid : ℕ)
-    → Ends Keeping volume (readdirplus cookie verifier names_count count volume fileid)
-readdirplus_ends cookie verifier names_count count volume fileid =
+pub readdirplus_ends : (cookie : ℕ) (verifier : List ℕ) (names_count count : ℕ) (caller : model.Caller) (volume : VolumeState) (fileid : ℕ)
+    → Ends Keeping volume (readdirplus cookie verifier names_count count caller volume fileid)
+readdirplus_ends cookie verifier names_count count caller volume fileid =
     directory_ends Keeping volume (get volume.nodes fileid) _ (λ d.
-    if_ends Keeping volume _ _ _ (fails _ _ _) (paged_plus_ends (min count most_bytes) (listed_plus volume) volume _ _ _))
+    if_ends Keeping volume _ _ _ (fails _ _ _) (paged_plus_ends (min count most_bytes) (listed_for caller volume d) volume _ _ _))
 
 pub fsstat_ends : (volume : VolumeState) (fileid : ℕ) → Ends Keeping volume (fsstat volume fileid)
 fsstat_ends volume fileid = node_ends Keeping volume (get volume.nodes fileid) _ (λ node. tells Keeping _ _ (same _))
