@@ -72,24 +72,24 @@ module _ (Q : Fact) where
   unfolding Ends
   ends_changes old answer new q = q
 
-  fails : (old : VolumeState) (status : model.Status) → Ends Q old (Fails status)
+  pub fails : (old : VolumeState) (status : model.Status) → Ends Q old (Fails status)
   unfolding Ends
   fails old status = tt
 
-  tells : (old : VolumeState) (answer : model.Answer) → Q old answer old → Ends Q old (Tells answer)
+  pub tells : (old : VolumeState) (answer : model.Answer) → Q old answer old → Ends Q old (Tells answer)
   unfolding Ends
   tells old answer q = q
 
-  changes : (old : VolumeState) (answer : model.Answer) (new : VolumeState) → is_success (model.Success answer) ≡ true → Q old answer new
+  pub changes : (old : VolumeState) (answer : model.Answer) (new : VolumeState) → is_success (model.Success answer) ≡ true → Q old answer new
       → Ends Q old (Changes answer new)
   unfolding Ends
   changes old answer new e q = (e, q)
 
-  unless_ends : (old : VolumeState) (o : Option model.Status) (e : Effect) → Ends Q old e → Ends Q old (unless o e)
+  pub unless_ends : (old : VolumeState) (o : Option model.Status) (e : Effect) → Ends Q old e → Ends Q old (unless o e)
   unless_ends old None e f = f
   unless_ends old (Some status) e f = fails old status
 
-  if_ends : (old : VolumeState) (b : Bool) (e d : Effect) → Ends Q old e → Ends Q old d → Ends Q old (cond b e d)
+  pub if_ends : (old : VolumeState) (b : Bool) (e d : Effect) → Ends Q old e → Ends Q old d → Ends Q old (cond b e d)
   if_ends old true e d f g = f
   if_ends old false e d f g = g
 
@@ -262,22 +262,70 @@ rename_ends from_name to_name moment volume from to =
       to = record { volume = volume; fileid = to; directory = e; name = to_name; moment = moment };
     })))
 
--- ---- the others
+-- ---- procedures that only tell
 
-pub tell_ends : (answer : model.Shown → model.Answer) (volume : VolumeState) (fileid : ℕ) → Ends Keeping volume (tell_of answer volume fileid)
-tell_ends answer volume fileid = node_ends Keeping volume (get volume.nodes fileid) _ (λ node. tells Keeping _ _ (same _))
+-- what holds of a volume that stays, whatever is told
+module _ (Q : Fact) (stays : (volume : VolumeState) (answer : model.Answer) → Q volume answer volume) where
+  stays_told : (volume : VolumeState) (answer : model.Answer) → Ends Q volume (Tells answer)
+  stays_told volume answer = tells Q volume answer (stays volume answer)
 
-pub getattr_ends : (volume : VolumeState) (fileid : ℕ) → Ends Keeping volume (getattr volume fileid)
-getattr_ends volume fileid = node_ends Keeping volume (get volume.nodes fileid) _ (λ node. tells Keeping _ _ (same _))
+  pub tell_ends : (answer : model.Shown → model.Answer) (volume : VolumeState) (fileid : ℕ) → Ends Q volume (tell_of answer volume fileid)
+  tell_ends answer volume fileid = node_ends Q volume (get volume.nodes fileid) _ (λ node. stays_told volume _)
 
-pub found_ends : (n : Naming) (o : Option Found) → Ends Keeping n.volume (lookup_told n o)
-found_ends n None = fails _ _ _
-found_ends n (Some found) = tells Keeping _ _ (same _)
+  pub getattr_ends : (volume : VolumeState) (fileid : ℕ) → Ends Q volume (getattr volume fileid)
+  getattr_ends volume fileid = node_ends Q volume (get volume.nodes fileid) _ (λ node. stays_told volume _)
 
-pub read_ends : (offset count : ℕ) (volume : VolumeState) (fileid : ℕ) → Ends Keeping volume (read offset count volume fileid)
-read_ends offset count volume fileid =
-    file_ends Keeping volume (get volume.nodes fileid) _ (λ f.
-    if_ends Keeping volume (nat_le _ offset) _ _ (tells Keeping _ _ (same _)) (tells Keeping _ _ (same _)))
+  pub found_ends : (n : Naming) (o : Option Found) → Ends Q n.volume (lookup_told n o)
+  found_ends n None = fails _ _ _
+  found_ends n (Some found) = stays_told n.volume _
+
+  pub read_ends : (offset count : ℕ) (volume : VolumeState) (fileid : ℕ) → Ends Q volume (read offset count volume fileid)
+  read_ends offset count volume fileid =
+      file_ends Q volume (get volume.nodes fileid) _ (λ f.
+      if_ends Q volume (nat_le _ offset) _ _ (stays_told volume _) (stays_told volume _))
+
+  paged_ends : (count : ℕ) (volume : VolumeState) (directory : model.Shown) (remaining page : List model.Listed)
+      → Ends Q volume (paged count directory remaining page)
+  paged_ends count volume directory [] page = if_ends Q volume _ _ _ (fails _ _ _) (stays_told volume _)
+  paged_ends count volume directory (e ∷ es) [] = fails _ _ _
+  paged_ends count volume directory (e ∷ es) (x ∷ xs) = stays_told volume _
+
+  pub readdir_ends : (cookie : ℕ) (verifier : List ℕ) (count : ℕ) (volume : VolumeState) (fileid : ℕ)
+      → Ends Q volume (readdir cookie verifier count volume fileid)
+  readdir_ends cookie verifier count volume fileid =
+      directory_ends Q volume (get volume.nodes fileid) _ (λ d.
+      if_ends Q volume _ _ _ (fails _ _ _) (paged_ends (min count most_bytes) volume _ _ _))
+
+  paged_plus_ends : (count : ℕ) (told : model.Listed → model.ListedPlus) (volume : VolumeState) (directory : model.Shown)
+      (remaining page : List model.Listed) → Ends Q volume (paged_plus count told directory remaining page)
+  paged_plus_ends count told volume directory [] page = if_ends Q volume _ _ _ (fails _ _ _) (stays_told volume _)
+  paged_plus_ends count told volume directory (e ∷ es) [] = fails _ _ _
+  paged_plus_ends count told volume directory (e ∷ es) (x ∷ xs) = stays_told volume _
+
+  pub readdirplus_ends : (cookie : ℕ) (verifier : List ℕ) (names_count count : ℕ) (caller : model.Caller) (volume : VolumeState) (fileid : ℕ)
+      → Ends Q volume (readdirplus cookie verifier names_count count caller volume fileid)
+  readdirplus_ends cookie verifier names_count count caller volume fileid =
+      directory_ends Q volume (get volume.nodes fileid) _ (λ d.
+      if_ends Q volume _ _ _ (fails _ _ _) (paged_plus_ends (min count most_bytes) (listed_for caller volume d) volume _ _ _))
+
+  pub fsstat_ends : (volume : VolumeState) (fileid : ℕ) → Ends Q volume (fsstat volume fileid)
+  fsstat_ends volume fileid = node_ends Q volume (get volume.nodes fileid) _ (λ node. stays_told volume _)
+
+  pub commit_ends : (volume : VolumeState) (fileid : ℕ) → Ends Q volume (commit volume fileid)
+  commit_ends volume fileid = file_ends Q volume (get volume.nodes fileid) _ (λ f. stays_told volume _)
+
+  pub mount_below_ends : (parts : List (List ℕ)) (volume : VolumeState) (fileid : ℕ) → Ends Q volume (mount_below parts volume fileid)
+  mount_below_ends [] volume fileid = directory_ends Q volume (get volume.nodes fileid) _ (λ d. stays_told volume _)
+  mount_below_ends (part ∷ parts) volume fileid =
+      directory_ends Q volume (get volume.nodes fileid) _ (λ d.
+      unless_ends Q volume (part_fault part) _
+      (entry_ends Q volume (find_name part d.list) (mount_below parts volume) (mount_below_ends parts volume)))
+
+-- a volume keeps what it is
+pub keeping : (volume : VolumeState) (answer : model.Answer) → Keeping volume answer volume
+keeping volume answer = same volume
+
+-- ---- WRITE
 
 write_some_ends : (volume : VolumeState) (fileid : ℕ) (f : FileNode) (w : Writing) → Ends Keeping volume (write_some volume fileid f w)
 write_some_ends volume fileid f w =
@@ -288,40 +336,3 @@ write_ends w volume fileid =
     file_ends Keeping volume (get volume.nodes fileid) _ (λ f.
     if_ends Keeping volume _ _ _ (fails _ _ _)
     (if_ends Keeping volume (w.count == 0) _ _ (tells Keeping _ _ (same _)) (write_some_ends volume fileid f w)))
-
-paged_ends : (count : ℕ) (volume : VolumeState) (directory : model.Shown) (remaining page : List model.Listed)
-    → Ends Keeping volume (paged count directory remaining page)
-paged_ends count volume directory [] page = if_ends Keeping volume _ _ _ (fails _ _ _) (tells Keeping _ _ (same _))
-paged_ends count volume directory (e ∷ es) [] = fails _ _ _
-paged_ends count volume directory (e ∷ es) (x ∷ xs) = tells Keeping _ _ (same _)
-
-pub readdir_ends : (cookie : ℕ) (verifier : List ℕ) (count : ℕ) (volume : VolumeState) (fileid : ℕ)
-    → Ends Keeping volume (readdir cookie verifier count volume fileid)
-readdir_ends cookie verifier count volume fileid =
-    directory_ends Keeping volume (get volume.nodes fileid) _ (λ d.
-    if_ends Keeping volume _ _ _ (fails _ _ _) (paged_ends (min count most_bytes) volume _ _ _))
-
-paged_plus_ends : (count : ℕ) (told : model.Listed → model.ListedPlus) (volume : VolumeState) (directory : model.Shown)
-    (remaining page : List model.Listed) → Ends Keeping volume (paged_plus count told directory remaining page)
-paged_plus_ends count told volume directory [] page = if_ends Keeping volume _ _ _ (fails _ _ _) (tells Keeping _ _ (same _))
-paged_plus_ends count told volume directory (e ∷ es) [] = fails _ _ _
-paged_plus_ends count told volume directory (e ∷ es) (x ∷ xs) = tells Keeping _ _ (same _)
-
-pub readdirplus_ends : (cookie : ℕ) (verifier : List ℕ) (names_count count : ℕ) (caller : model.Caller) (volume : VolumeState) (fileid : ℕ)
-    → Ends Keeping volume (readdirplus cookie verifier names_count count caller volume fileid)
-readdirplus_ends cookie verifier names_count count caller volume fileid =
-    directory_ends Keeping volume (get volume.nodes fileid) _ (λ d.
-    if_ends Keeping volume _ _ _ (fails _ _ _) (paged_plus_ends (min count most_bytes) (listed_for caller volume d) volume _ _ _))
-
-pub fsstat_ends : (volume : VolumeState) (fileid : ℕ) → Ends Keeping volume (fsstat volume fileid)
-fsstat_ends volume fileid = node_ends Keeping volume (get volume.nodes fileid) _ (λ node. tells Keeping _ _ (same _))
-
-pub commit_ends : (volume : VolumeState) (fileid : ℕ) → Ends Keeping volume (commit volume fileid)
-commit_ends volume fileid = file_ends Keeping volume (get volume.nodes fileid) _ (λ f. tells Keeping _ _ (same _))
-
-pub mount_below_ends : (parts : List (List ℕ)) (volume : VolumeState) (fileid : ℕ) → Ends Keeping volume (mount_below parts volume fileid)
-mount_below_ends [] volume fileid = directory_ends Keeping volume (get volume.nodes fileid) _ (λ d. tells Keeping _ _ (same _))
-mount_below_ends (part ∷ parts) volume fileid =
-    directory_ends Keeping volume (get volume.nodes fileid) _ (λ d.
-    unless_ends Keeping volume (part_fault part) _
-    (entry_ends Keeping volume (find_name part d.list) (mount_below parts volume) (mount_below_ends parts volume)))
