@@ -1,8 +1,8 @@
 -- CREATE (RFC 1813 section 3.3.8), and what it shares with MKDIR.
-use Rattle.std.specs.Prelude.{ℕ, ◌+◌, nat_le, Bool, false, ◌&&◌, List, replicate, Option, Some, None, is_none, if◌then◌else◌}
+use Rattle.std.specs.Prelude.{ℕ, ◌+◌, nat_le, Bool, false, not, ◌==◌, ◌&&◌, ◌||◌, List, replicate, Option, Some, None, is_none, if◌then◌else◌}
 use Rattle.std.specs.FinMap.{insert, len}
 use Rattle.std.specs.FinSet as sets
-use Rattle.nfs_model.specs.Types.{Moment, Caller, SetAttributes, Keep, CreateMode, Unchecked, Guarded, Kind, Regular, DirectoryKind}
+use Rattle.nfs_model.specs.Types.{Moment, Credential, Caller, SetAttributes, Keep, CreateMode, Unchecked, Guarded, Kind, Regular, DirectoryKind}
 use Rattle.nfs_model.specs.Types.{Exclusive, Answer, MadeDone, Status, Exists, Invalid, TooBig, NoSpace}
 use Rattle.nfs_model.specs.Server.{Attributes, FileNode, Node, File, Directory, VolumeState, handle_bytes}
 use Rattle.nfs_model.specs.Shown.{shown, wcc}
@@ -10,7 +10,7 @@ use Rattle.nfs_model.specs.Names.{same_name, is_dots, with_name}
 use Rattle.nfs_model.specs.Locate.{Effect, Fails, Tells, Changes, unless, Found, Naming, named_child}
 use Rattle.nfs_model.specs.Serial.Setattr.{has_bad_time, is_past, given, given_mode, time_after, set_file}
 use Rattle.nfs_model.specs.Serial.Setattr.{setattr_fault, set_taken, with_node}
-use Rattle.nfs_model.specs.Serial.Rights.{protected, with_bit, gives_group, group_made, mode_of_group}
+use Rattle.nfs_model.specs.Serial.Rights.{Protection, protected, with_bit, gives_group, group_made, is_in_group, mode_of_group}
 
 -- ---- what CREATE and MKDIR share
 
@@ -23,10 +23,20 @@ pub record Maker : Type 0 where
   pub caller : Caller
   pub directory : Attributes
 
--- the group of what is made, if none is given: where callers are checked, a directory may give its own
-abbrev pub maker_group : Maker → ℕ
-maker_group m =
-    if m.caller.checked then group_made m.caller.credential (protected DirectoryKind m.directory) else m.caller.credential.gid
+-- Where callers are checked, another than uid 0 makes its own, whatever it gives: some clients always give both. A group is its own too,
+-- or the one that is made anyway.
+abbrev pub made_uid : SetAttributes → Maker → ℕ
+made_uid set m =
+    if m.caller.checked && not (m.caller.credential.uid == 0) then m.caller.credential.uid else given set.uid m.caller.credential.uid
+
+abbrev pub checked_gid : Option ℕ → Credential → Protection → ℕ
+checked_gid None who directory = group_made who directory
+checked_gid (Some gid) who directory = if (who.uid == 0) || is_in_group who gid then gid else group_made who directory
+
+abbrev pub made_gid : SetAttributes → Maker → ℕ
+made_gid set m =
+    if m.caller.checked then checked_gid set.gid m.caller.credential (protected DirectoryKind m.directory)
+    else given set.gid m.caller.credential.gid
 
 -- the mode of what is made in a group, where callers are checked: a directory hands 02000 on to directories; to a file only those of the
 -- group give it
@@ -42,9 +52,9 @@ made_mode m kind gid mode = if m.caller.checked then checked_mode m kind gid mod
 -- the attributes of a new node: those given, else the mode, the caller and the moment
 abbrev pub new_attributes : SetAttributes → Kind → ℕ → Maker → Moment → Attributes
 new_attributes set kind mode m moment = record {
-  mode = made_mode m kind (given set.gid (maker_group m)) (given_mode set.mode mode);
-  uid = given set.uid m.caller.credential.uid;
-  gid = given set.gid (maker_group m);
+  mode = made_mode m kind (made_gid set m) (given_mode set.mode mode);
+  uid = made_uid set m;
+  gid = made_gid set m;
   atime = time_after set.atime moment moment;
   mtime = time_after set.mtime moment moment;
   ctime = moment;

@@ -5,13 +5,12 @@ use Rattle.std.specs.Prelude.{ℕ, Bool, true, false, not, ◌&&◌, ◌||◌, �
 use Rattle.std.specs.FinMap.{get}
 use Rattle.nfs_model.specs.Types.{Credential, Caller, SetTime, Keep, ServerTime, ClientTime, SetAttributes}
 use Rattle.nfs_model.specs.Types.{CreateMode, Unchecked, Status, Access, NotPermitted, ReadOnly}
-use Rattle.nfs_model.specs.Types.{Call, Setattr, Lookup, Read, Write, Create, Mkdir, Remove, Rmdir, Readdir, Readdirplus, Commit}
+use Rattle.nfs_model.specs.Types.{Call, Setattr, Lookup, Read, Write, Create, Mkdir, Remove, Rmdir, Rename, Readdir, Readdirplus, Commit}
 use Rattle.nfs_model.specs.Server.{DirectoryNode, Node, File, Directory, VolumeState}
 use Rattle.nfs_model.specs.Names.{is_dots, name_fault, find_name, same_name}
 use Rattle.nfs_model.specs.Locate.{Effect, unless, Found, child}
 use Rattle.nfs_model.specs.Serial.Rights.{Protection, protection, is_in_group, may_read, may_write, may_search, may_list}
-use Rattle.nfs_model.specs.Serial.Rights.{may_change, may_drop, group_made}
-use Rattle.nfs_model.specs.Serial.Create.{asked_attributes}
+use Rattle.nfs_model.specs.Serial.Rights.{may_change, may_drop, rights_of}
 
 -- ---- refusals
 
@@ -88,12 +87,6 @@ set_refusal who set object =
     (then_asks (reserved (is_kept set.uid object.uid && is_own_group who set.gid object.gid))
     (needs (not (sets_written set) || may_write who object)))
 
--- What another than uid 0 makes is its own, in one of its groups or the one that it has anyway.
-abbrev pub made_refusal : Credential → SetAttributes → Protection → Option Status
-made_refusal who set directory =
-    if who.uid == 0 then None
-    else reserved (is_kept set.uid who.uid && is_own_group who set.gid (group_made who directory))
-
 -- ---- names
 
 -- a name that no entry has: a bad one, `.` or `..`
@@ -108,10 +101,9 @@ of_name who name volume fileid ask = of_directory (get volume.nodes fileid) (λ 
     else ask (protection (Directory d)) (child volume (find_name name d.list))))
 
 -- a new name: nothing is asked where it is there, which its procedure tells
-abbrev pub new_refusal : Credential → SetAttributes → Protection → Option Found → Option Status
-new_refusal who set directory None =
-    then_asks (needs (may_change who directory)) (made_refusal who set directory)
-new_refusal who set directory (Some found) = None
+abbrev pub new_refusal : Credential → Protection → Option Found → Option Status
+new_refusal who directory None = needs (may_change who directory)
+new_refusal who directory (Some found) = None
 
 -- UNCHECKED over a file that is there sets the size alone
 abbrev pub over_refusal : Credential → CreateMode → Node → Option Status
@@ -120,7 +112,7 @@ over_refusal who mode node = None
 
 -- CREATE (section 3.3.8)
 abbrev pub create_refusal : Credential → CreateMode → Protection → Option Found → Option Status
-create_refusal who mode directory None = new_refusal who (asked_attributes mode) directory None
+create_refusal who mode directory None = new_refusal who directory None
 create_refusal who mode directory (Some found) = over_refusal who mode found.node
 
 -- a name that goes
@@ -134,10 +126,10 @@ abbrev pub target_refusal : Credential → Protection → Option Found → Optio
 target_refusal who directory None = needs (may_change who directory)
 target_refusal who directory (Some found) = gone_refusal who directory (Some found)
 
--- a directory that comes into another one has to be writable, since its `..` changes
+-- a directory that comes into another one needs w, since its `..` changes
 abbrev pub moved_refusal : Credential → Bool → Node → Option Status
 moved_refusal who stays (File f) = None
-moved_refusal who stays (Directory d) = needs (stays || may_write who (protection (Directory d)))
+moved_refusal who stays (Directory d) = needs (stays || (rights_of who (protection (Directory d))).writes)
 
 -- what moves: its name goes, the other comes
 abbrev pub move_refusal : Credential → Bool → Protection → Protection → Option Found → Option Found → Option Status
@@ -162,7 +154,7 @@ rename_refusal who from_name to_name volume from to =
 
 -- ---- calls
 
--- a call on one handle that changes what it is on
+-- a call that changes what it is on
 abbrev pub is_change : Call → Bool
 is_change (Setattr handle set guard) = true
 is_change (Write handle offset count written) = true
@@ -170,44 +162,52 @@ is_change (Create directory name mode) = true
 is_change (Mkdir directory name set) = true
 is_change (Remove directory name) = true
 is_change (Rmdir directory name) = true
+is_change (Rename from from_name to to_name) = true
 is_change call = false
 
--- A call on one handle, by its procedure. GETATTR, ACCESS, FSSTAT, FSINFO and PATHCONF need no right.
-abbrev pub refusal_by : Credential → Call → VolumeState → ℕ → Option Status
-refusal_by who (Setattr handle set guard) volume fileid = of_node (get volume.nodes fileid) (set_refusal who set)
-refusal_by who (Lookup directory name) volume fileid =
-    of_directory (get volume.nodes fileid) (λ d. needs (may_search who (protection (Directory d))))
-refusal_by who (Read handle offset count) volume fileid =
-    of_file (get volume.nodes fileid) (λ file. needs (may_read who file))
-refusal_by who (Write handle offset count written) volume fileid =
-    of_file (get volume.nodes fileid) (λ file. needs (may_write who file))
-refusal_by who (Create directory name mode) volume fileid = of_name who name volume fileid (create_refusal who mode)
-refusal_by who (Mkdir directory name set) volume fileid = of_name who name volume fileid (new_refusal who set)
-refusal_by who (Remove directory name) volume fileid = of_name who name volume fileid (gone_refusal who)
-refusal_by who (Rmdir directory name) volume fileid = of_name who name volume fileid (gone_refusal who)
-refusal_by who (Readdir directory cookie verifier count) volume fileid =
-    of_directory (get volume.nodes fileid) (λ d. needs (may_list who (protection (Directory d))))
-refusal_by who (Readdirplus directory cookie verifier names_count count) volume fileid =
-    of_directory (get volume.nodes fileid) (λ d. needs (may_list who (protection (Directory d))))
-refusal_by who (Commit handle) volume fileid =
-    of_file (get volume.nodes fileid) (λ file. needs (may_write who file))
-refusal_by who call volume fileid = None
+-- WRITE to a file
+abbrev pub write_rights : Credential → Protection → Option Status
+write_rights who file = needs (may_write who file)
 
--- what of a caller is asked first: whether it may change anything; then the rights, if it is checked
+-- A call on a node and, of a RENAME, on another, by its procedure. GETATTR, ACCESS, FSSTAT, FSINFO and PATHCONF need no right.
+abbrev pub refusal_by : Credential → Call → VolumeState → ℕ → ℕ → Option Status
+refusal_by who (Setattr handle set guard) volume fileid other = of_node (get volume.nodes fileid) (set_refusal who set)
+refusal_by who (Lookup directory name) volume fileid other =
+    of_directory (get volume.nodes fileid) (λ d. needs (may_search who (protection (Directory d))))
+refusal_by who (Read handle offset count) volume fileid other =
+    of_file (get volume.nodes fileid) (λ file. needs (may_read who file))
+refusal_by who (Write handle offset count written) volume fileid other = of_file (get volume.nodes fileid) (write_rights who)
+refusal_by who (Create directory name mode) volume fileid other = of_name who name volume fileid (create_refusal who mode)
+refusal_by who (Mkdir directory name set) volume fileid other = of_name who name volume fileid (new_refusal who)
+refusal_by who (Remove directory name) volume fileid other = of_name who name volume fileid (gone_refusal who)
+refusal_by who (Rmdir directory name) volume fileid other = of_name who name volume fileid (gone_refusal who)
+refusal_by who (Rename from from_name to to_name) volume fileid other = rename_refusal who from_name to_name volume fileid other
+refusal_by who (Readdir directory cookie verifier count) volume fileid other =
+    of_directory (get volume.nodes fileid) (λ d. needs (may_list who (protection (Directory d))))
+refusal_by who (Readdirplus directory cookie verifier names_count count) volume fileid other =
+    of_directory (get volume.nodes fileid) (λ d. needs (may_list who (protection (Directory d))))
+refusal_by who (Commit handle) volume fileid other =
+    of_file (get volume.nodes fileid) (λ file. needs (may_read who file || may_write who file))
+refusal_by who call volume fileid other = None
+
+-- what of a caller is asked first: whether it may change anything; then its rights, if it is checked
 abbrev pub refusal_of : Caller → Bool → Option Status → Option Status
 refusal_of caller changes rights =
     if caller.reads_only && changes then Some ReadOnly else if caller.checked then rights else None
 
--- a call on one handle, if it is permitted
-abbrev pub permitted : Caller → Call → (VolumeState → ℕ → Effect) → VolumeState → ℕ → Effect
-permitted caller call run volume fileid =
-    unless (refusal_of caller (is_change call) (refusal_by caller.credential call volume fileid)) (run volume fileid)
-
--- RENAME, which is on two
-abbrev pub permitted_two : Caller → List ℕ → List ℕ → (VolumeState → ℕ → ℕ → Effect) → VolumeState → ℕ → ℕ → Effect
-permitted_two caller from_name to_name run volume from to =
-    unless (refusal_of caller true (rename_refusal caller.credential from_name to_name volume from to)) (run volume from to)
+-- a call on a node and another
+abbrev pub refusal : Caller → Call → VolumeState → ℕ → ℕ → Option Status
+refusal caller call volume fileid other =
+    refusal_of caller (is_change call) (refusal_by caller.credential call volume fileid other)
 
 -- WRITE to a file
 abbrev pub write_refusal : Caller → Protection → Option Status
-write_refusal caller file = refusal_of caller true (needs (may_write caller.credential file))
+write_refusal caller file = refusal_of caller true (write_rights caller.credential file)
+
+-- what a call on one node comes to, if it is permitted
+abbrev pub permitted : Caller → Call → (VolumeState → ℕ → Effect) → VolumeState → ℕ → Effect
+permitted caller call run volume fileid = unless (refusal caller call volume fileid 0) (run volume fileid)
+
+-- and RENAME, which is on two
+abbrev pub permitted_two : Caller → Call → (VolumeState → ℕ → ℕ → Effect) → VolumeState → ℕ → ℕ → Effect
+permitted_two caller call run volume from to = unless (refusal caller call volume from to) (run volume from to)

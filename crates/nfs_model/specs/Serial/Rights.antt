@@ -71,16 +71,16 @@ rights_of who object =
 -- ---- what a call needs
 
 -- the owner, and uid 0
-abbrev pub may_own : Credential → Protection → Bool
-may_own who object = (who.uid == 0) || (who.uid == object.uid)
+abbrev pub is_owner_or_root : Credential → Protection → Bool
+is_owner_or_root who object = (who.uid == 0) || (who.uid == object.uid)
 
 -- Bytes are read by r, and by x, since a program that is run is read; the owner reads what it opened before its mode changed (section 4.4).
 abbrev pub may_read : Credential → Protection → Bool
-may_read who file = may_own who file || (rights_of who file).reads || (rights_of who file).executes
+may_read who file = is_owner_or_root who file || (rights_of who file).reads || (rights_of who file).executes
 
 -- bytes are written by w; the owner writes what it opened (section 4.4)
 abbrev pub may_write : Credential → Protection → Bool
-may_write who file = may_own who file || (rights_of who file).writes
+may_write who file = is_owner_or_root who file || (rights_of who file).writes
 
 -- a name of a directory is looked for by x
 abbrev pub may_search : Credential → Protection → Bool
@@ -101,7 +101,7 @@ is_sticky directory = has_bit directory.mode 512
 -- whether a name may go from a directory that its caller may change: of a sticky one only for the owner of what is named, or of the
 -- directory
 abbrev pub may_drop : Credential → Protection → Protection → Bool
-may_drop who directory object = not (is_sticky directory) || may_own who directory || may_own who object
+may_drop who directory object = not (is_sticky directory) || is_owner_or_root who directory || is_owner_or_root who object
 
 -- ---- what is made
 

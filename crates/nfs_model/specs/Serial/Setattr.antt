@@ -74,10 +74,11 @@ set_file set moment f =
 
 -- ---- what a checked caller's attributes are taken as
 
--- the mode, where none is given: a new size, owner or group ends that a file is run as its owner, unless uid 0 gives it
+-- the mode, where none is given: a new owner or group ends that a file is run as its owner, and so does a new size that another than uid 0
+-- gives
 abbrev pub mode_kept : Credential → SetAttributes → Protection → Option ℕ
 mode_kept who set object =
-    if not (who.uid == 0) && (is_some set.size || is_some set.uid || is_some set.gid)
+    if is_some set.uid || is_some set.gid || (is_some set.size && not (who.uid == 0))
     then Some (without_set_ids object.mode) else None
 
 -- the mode of a file, by the group that it comes to have

@@ -102,7 +102,7 @@ serve_by server absent (Rmdir directory name) caller moment =
 serve_by server absent (Rename from from_name to to_name) caller moment =
     on_two server absent (locate server from) (locate server to) (λ volume fileid other.
     once caller (Rename from from_name to to_name) moment volume
-    (permitted_two caller from_name to_name (rename from_name to_name moment) volume fileid other))
+    (permitted_two caller (Rename from from_name to to_name) (rename from_name to_name moment) volume fileid other))
 serve_by server absent (Readdir directory cookie verifier count) caller moment =
     on server absent (locate server directory)
     (permitted caller (Readdir directory cookie verifier count) (readdir cookie verifier count))
@@ -124,7 +124,7 @@ serve_by server absent (Grow volume ranges) caller moment =
 serve_by server absent Stop caller moment = stay server StopDone
 serve_by server absent (Mount call) caller moment = stay server (mount (length server.volumes) call)
 serve_by server absent (MountBelow root path) caller moment =
-    on_root server absent (locate server root) (mount_below (parts_below path))
+    on_root server absent (locate server root) (mount_below (parts_below path) caller)
 
 -- a call that was decoded
 abbrev pub serve : Server → Call → Caller → Moment → Step
