@@ -1,6 +1,6 @@
 -- MNT of a directory below the root of a volume (RFC 1813 appendix I, section 5.2.1; which paths, our profile):
 -- the parts of its path below the volume's are looked up from the root on, as LOOKUP does, one after the other.
-use Rattle.std.specs.Prelude.{ℕ, List, [], ◌∷◌, Option, Some, None, if◌then◌else◌}
+use Rattle.std.specs.Prelude.{ℕ, false, List, [], ◌∷◌, Option, Some, None, if◌then◌else◌}
 use Rattle.std.specs.FinMap.{get}
 use Rattle.nfs_model.specs.Types.{Caller, Status, Access, NoEntry, MountDone, Listed}
 use Rattle.nfs_model.specs.Server.{DirectoryNode, Directory, VolumeState, handle_bytes}
