@@ -108,5 +108,5 @@ forgetting server (model.Rmdir directory name) who moment none =
     (permitted_ends Telling who (model.Rmdir directory name) _ (λ v f. name_ends Telling name moment rmdir v f rmdir_ends))
 forgetting server (model.Rename from from_name to to_name) who moment none =
     two_forgotten server (model.Rename from from_name to to_name) who moment none _ from _ _ _ refl (located server from)
-    (permitted_two_ends Telling who from_name to_name _ (rename_ends from_name to_name moment))
+    (permitted_two_ends Telling who (model.Rename from from_name to to_name) _ (rename_ends from_name to_name moment))
 forgetting server call who moment none = refl

@@ -14,6 +14,7 @@ pub mod KeptByFeed
 pub mod Walked
 pub mod Batches
 pub mod Remembering
+pub mod Refusals
 pub mod Repeated
 pub mod Forgetting
 pub mod KeptByBlocks

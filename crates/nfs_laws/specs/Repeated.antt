@@ -114,5 +114,5 @@ serve_forgetting server (Rmdir directory name) caller moment =
     (permitted caller (Rmdir directory name) (on_name name moment rmdir))
 serve_forgetting server (Rename from from_name to to_name) caller moment =
     on_two server (absent_parts (Rename from from_name to to_name)) (locate server from) (locate server to)
-    (permitted_two caller from_name to_name (rename from_name to_name moment))
+    (permitted_two caller (Rename from from_name to to_name) (rename from_name to_name moment))
 serve_forgetting server call caller moment = serve server call caller moment

@@ -10,7 +10,7 @@ use Rattle.nfs_model.specs.Names.{find_name, is_dots, name_fault, same_name, dot
 use Rattle.nfs_model.specs.Locate.{Effect, Fails, Tells, Changes, unless, on_node, on_directory, on_file, Found}
 use Rattle.nfs_model.specs.Locate.{Naming, named_child, on_name}
 use Rattle.nfs_model.specs.Serial.Once.{told_of, answer_told}
-use Rattle.nfs_model.specs.Serial.Permission.{is_change, refusal_by, rename_refusal, refusal_of, permitted, permitted_two}
+use Rattle.nfs_model.specs.Serial.Permission.{refusal, permitted, permitted_two}
 use Rattle.nfs_model.specs.Serial.Setattr.{with_node, set_file, set_taken, setattr}
 use Rattle.nfs_model.specs.Serial.Getattr.{getattr, tell_of}
 use Rattle.nfs_model.specs.Serial.Lookup.{lookup_told}
@@ -25,7 +25,7 @@ use Rattle.nfs_model.specs.Serial.Readdir.{paged, readdir}
 use Rattle.nfs_model.specs.Serial.Readdirplus.{listed_for, paged_plus, readdirplus}
 use Rattle.nfs_model.specs.Serial.Fsstat.{fsstat}
 use Rattle.nfs_model.specs.Serial.Commit.{commit}
-use Rattle.nfs_model.specs.Serial.MountBelow.{part_fault, on_entry, mount_below}
+use Rattle.nfs_model.specs.Serial.MountBelow.{part_fault, on_entry, search_refusal, mount_below}
 use Rattle.nfs_laws.specs.Repeated.{is_success}
 
 -- ---- what is kept
@@ -119,14 +119,13 @@ module _ (Q : Fact) where
       → ((volume : VolumeState) (fileid : ℕ) → Ends Q volume (run volume fileid)) → (volume : VolumeState) (fileid : ℕ)
       → Ends Q volume (permitted caller call run volume fileid)
   permitted_ends caller call run f volume fileid =
-      unless_ends volume (refusal_of caller (is_change call) (refusal_by caller.credential call volume fileid)) (run volume fileid) (f volume fileid)
+      unless_ends volume (refusal caller call volume fileid 0) (run volume fileid) (f volume fileid)
 
-  pub permitted_two_ends : (caller : model.Caller) (from_name to_name : List ℕ) (run : VolumeState → ℕ → ℕ → Effect)
+  pub permitted_two_ends : (caller : model.Caller) (call : model.Call) (run : VolumeState → ℕ → ℕ → Effect)
       → ((volume : VolumeState) (from to : ℕ) → Ends Q volume (run volume from to)) → (volume : VolumeState) (from to : ℕ)
-      → Ends Q volume (permitted_two caller from_name to_name run volume from to)
-  permitted_two_ends caller from_name to_name run f volume from to =
-      unless_ends volume (refusal_of caller true (rename_refusal caller.credential from_name to_name volume from to)) (run volume from to)
-      (f volume from to)
+      → Ends Q volume (permitted_two caller call run volume from to)
+  permitted_two_ends caller call run f volume from to =
+      unless_ends volume (refusal caller call volume from to) (run volume from to) (f volume from to)
 
   empty_ends : (old : VolumeState) (list : List model.Listed) (e : Effect) → Ends Q old e → Ends Q old (if_empty list e)
   empty_ends old [] e f = f
@@ -314,12 +313,14 @@ module _ (Q : Fact) (stays : (volume : VolumeState) (answer : model.Answer) → 
   pub commit_ends : (volume : VolumeState) (fileid : ℕ) → Ends Q volume (commit volume fileid)
   commit_ends volume fileid = file_ends Q volume (get volume.nodes fileid) _ (λ f. stays_told volume _)
 
-  pub mount_below_ends : (parts : List (List ℕ)) (volume : VolumeState) (fileid : ℕ) → Ends Q volume (mount_below parts volume fileid)
-  mount_below_ends [] volume fileid = directory_ends Q volume (get volume.nodes fileid) _ (λ d. stays_told volume _)
-  mount_below_ends (part ∷ parts) volume fileid =
+  pub mount_below_ends : (parts : List (List ℕ)) (caller : model.Caller) (volume : VolumeState) (fileid : ℕ)
+      → Ends Q volume (mount_below parts caller volume fileid)
+  mount_below_ends [] caller volume fileid = directory_ends Q volume (get volume.nodes fileid) _ (λ d. stays_told volume _)
+  mount_below_ends (part ∷ parts) caller volume fileid =
       directory_ends Q volume (get volume.nodes fileid) _ (λ d.
-      unless_ends Q volume (part_fault part) _
-      (entry_ends Q volume (find_name part d.list) (mount_below parts volume) (mount_below_ends parts volume)))
+      unless_ends Q volume (search_refusal caller d) _
+      (unless_ends Q volume (part_fault part) _
+      (entry_ends Q volume (find_name part d.list) (mount_below parts caller volume) (mount_below_ends parts caller volume))))
 
 -- a volume keeps what it is
 pub keeping : (volume : VolumeState) (answer : model.Answer) → Keeping volume answer volume

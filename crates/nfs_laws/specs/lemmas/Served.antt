@@ -208,7 +208,7 @@ served server (model.Rmdir directory name) who moment P w =
     (permitted_ends Telling who (model.Rmdir directory name) _ (λ v f. name_ends Telling name moment rmdir v f rmdir_ends))
 served server (model.Rename from from_name to to_name) who moment P w =
     two_kept server (model.Rename from from_name to to_name) who moment P w _ from to _ _ _ refl refl (located server from) (located server to)
-    (permitted_two_ends Telling who from_name to_name _ (rename_ends from_name to_name moment))
+    (permitted_two_ends Telling who (model.Rename from from_name to to_name) _ (rename_ends from_name to_name moment))
 served server (model.Readdir directory cookie verifier count) who moment P w =
     on_plain server (model.Readdir directory cookie verifier count) who moment P w _ directory _ _ refl (located server directory)
     (permitted_ends Keeping who (model.Readdir directory cookie verifier count) _ (readdir_ends Keeping keeping cookie verifier count))
@@ -234,4 +234,5 @@ served server (model.Grow volume ranges) who moment P w =
 served server model.Stop who moment P w = stays server model.Stop who moment P w refl _
 served server (model.Mount call) who moment P w = stays server (model.Mount call) who moment P w refl _
 served server (model.MountBelow root path) who moment P w =
-    root_plain server (model.MountBelow root path) who moment P w _ root _ _ refl (located server root) (mount_below_ends Keeping keeping (parts_below path))
+    root_plain server (model.MountBelow root path) who moment P w _ root _ _ refl (located server root)
+    (mount_below_ends Keeping keeping (parts_below path) who)
