@@ -15,6 +15,7 @@ pub mod Walked
 pub mod Batches
 pub mod Remembering
 pub mod Refusals
+pub mod Strangers
 pub mod Repeated
 pub mod Forgetting
 pub mod KeptByBlocks

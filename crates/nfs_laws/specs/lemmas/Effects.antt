@@ -127,7 +127,7 @@ module _ (Q : Fact) where
   permitted_two_ends caller call run f volume from to =
       unless_ends volume (refusal caller call volume from to) (run volume from to) (f volume from to)
 
-  empty_ends : (old : VolumeState) (list : List model.Listed) (e : Effect) → Ends Q old e → Ends Q old (if_empty list e)
+  pub empty_ends : (old : VolumeState) (list : List model.Listed) (e : Effect) → Ends Q old e → Ends Q old (if_empty list e)
   empty_ends old [] e f = f
   empty_ends old (x ∷ xs) e f = fails old model.NotEmpty
 
