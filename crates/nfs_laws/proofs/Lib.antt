@@ -16,6 +16,7 @@ pub mod Batches
 pub mod Remembering
 pub mod Refusals
 pub mod Strangers
+pub mod StrangersServed
 pub mod Repeated
 pub mod Forgetting
 pub mod KeptByBlocks

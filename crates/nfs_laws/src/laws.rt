@@ -1,8 +1,9 @@
 //! What holds of the definitions.
 
 ghost use Rattle.std.specs.Prelude.{◌≡◌, ◌≢◌, true, false, Some, None, Result, ℕ};
-ghost use Rattle.std.specs.Prelude.{List, [], ◌∷◌, ◌++◌, length, slice_get};
+ghost use Rattle.std.specs.Prelude.{List, [], ◌∷◌, ◌++◌, length, nat_lt, slice_get};
 ghost use Rattle.std.specs.Ordering.{nat_cmp};
+ghost use Rattle.std.specs.FinMap.{get};
 ghost use Rattle.std.specs.FinSet.{FinSet};
 ghost use Rattle.nfs_model.specs.Types.{Call, Caller, Moment, Kind, Listed};
 ghost use Rattle.nfs_model.specs.Types.{SetAttributes, Status, Failed};
@@ -11,7 +12,7 @@ ghost use Rattle.nfs_model.specs.Server.{opening, FileNode, DirectoryNode, Node}
 ghost use Rattle.nfs_model.specs.Server.{File, Directory, VolumeState, Server};
 ghost use Rattle.nfs_model.specs.Locate.{Effect};
 ghost use Rattle.nfs_model.specs.Serial.Absent.{absent_parts};
-ghost use Rattle.nfs_model.specs.Serial.Rights.{Rights};
+ghost use Rattle.nfs_model.specs.Serial.Rights.{protection, Rights};
 ghost use Rattle.nfs_model.specs.Serial.Access.{bits_given};
 ghost use Rattle.nfs_model.specs.Serial.Setattr.{set_taken};
 ghost use Rattle.nfs_model.specs.Serial.Write.{file_taken};
@@ -36,7 +37,8 @@ ghost use Rattle.nfs_model.specs.Serial.Once.{change_of};
 ghost use Rattle.nfs_laws.specs.Repeated.{Place, memos_of, places_of, volume_of, is_success};
 ghost use Rattle.nfs_laws.specs.Repeated.{remembered_in, AreElsewhere, IsAgain, serve_forgetting};
 ghost use Rattle.nfs_laws.specs.Permissions.{refused, remembered_of, IsFree, bits_of};
-ghost use Rattle.nfs_laws.specs.Permissions.{free_attributes};
+ghost use Rattle.nfs_laws.specs.Permissions.{free_attributes, MayNotWrite, MayNotChange};
+ghost use Rattle.nfs_laws.specs.Permissions.{AreAskedBy, node_of, IsAsWas};
 ghost use Rattle.nfs_laws.specs.Sizes.{HaveSizes};
 ghost use Rattle.nfs_laws.specs.Undisturbed.{WorksNone};
 ghost use Rattle.nfs_laws.specs.Walk.{Walks};
@@ -250,4 +252,29 @@ pub fn unchecked_callers_are_free()
     ensures rights { (caller : Caller) (asked : ℕ) (kind : Kind) (rights : Rights)
         → IsFree caller
         → bits_given caller asked kind rights ≡ bits_of asked kind rights }
+{}
+
+/// While strangers alone call, a directory keeps its names, its mode, its owner and its group, as
+/// long as it is there: callers that are checked, are neither uid 0 nor its owner, and haven't both
+/// w and x of it. Its fileid is one that was given, so that no other node gets it.
+pub fn strangers_change_no_names()
+    ensures { (server : Server) (volume fileid : ℕ) (state : VolumeState)
+        (directory : DirectoryNode) (calls : List FinishedCall)
+        → slice_get server.volumes volume ≡ Some state
+        → get state.nodes fileid ≡ Some (Directory directory)
+        → nat_lt fileid state.next ≡ true
+        → AreAskedBy (MayNotChange (protection (Directory directory))) calls
+        → IsAsWas (Directory directory) (node_of (server_after server calls) volume fileid) }
+{}
+
+/// While strangers alone call, a file keeps its bytes, its mode, its owner and its group, as long as
+/// it is there: callers that are checked, are neither uid 0 nor its owner, and haven't w of it.
+pub fn strangers_change_no_bytes()
+    ensures { (server : Server) (volume fileid : ℕ) (state : VolumeState) (file : FileNode)
+        (calls : List FinishedCall)
+        → slice_get server.volumes volume ≡ Some state
+        → get state.nodes fileid ≡ Some (File file)
+        → nat_lt fileid state.next ≡ true
+        → AreAskedBy (MayNotWrite (protection (File file))) calls
+        → IsAsWas (File file) (node_of (server_after server calls) volume fileid) }
 {}
