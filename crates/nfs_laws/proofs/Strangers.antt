@@ -11,7 +11,7 @@ use Rattle.nfs_model.specs.Types as model
 use Rattle.nfs_model.specs.Server.{Attributes, FileNode, DirectoryNode, Node, File, Directory, VolumeState}
 use Rattle.nfs_model.specs.Shown.{effective_attributes, settled}
 use Rattle.nfs_model.specs.Names.{find_name, is_dots, name_fault, same_name, dot, dot_dot, dropped_name, with_name}
-use Rattle.nfs_model.specs.Locate.{Effect, Fails, Tells, Changes, unless, on_node, on_directory, on_file, Found, found_at, child, Naming, on_name}
+use Rattle.nfs_model.specs.Locate.{Effect, Fails, Tells, Changes, unless, on_node, on_directory, on_file, Found, child, Naming, on_name}
 use Rattle.nfs_model.specs.Serial.Rights.{Protection, protected, protection, rights_of, is_owner_or_root, may_write, may_change, may_search, may_drop}
 use Rattle.nfs_model.specs.Serial.Permission.{needs, reserved, then_asks, of_node, of_file, of_directory, sets_owned, sets_written, set_refusal}
 use Rattle.nfs_model.specs.Serial.Permission.{is_no_child, new_refusal, over_refusal, create_refusal, gone_refusal, target_refusal, moved_refusal, move_refusal}
@@ -25,6 +25,7 @@ use Rattle.nfs_model.specs.Serial.Rmdir.{rmdir_node, rmdir_at, rmdir}
 use Rattle.nfs_model.specs.Serial.Rename.{Renaming, Nodes, changed_node, in_directory, moved_node, without_entry, with_entry, without_target, with_moved}
 use Rattle.nfs_model.specs.Serial.Rename.{renamed_nodes, renamed_volume, climb_fault, met_above, may_go, is_same_entry, rename_at, rename_in, rename}
 use Rattle.nfs_laws.specs.Permissions.{IsStranger, IsAsIt, IsAsWas}
+use Rattle.nfs_laws.specs.lemmas.Fileids.{below_more, found_there}
 use Rattle.nfs_laws.specs.lemmas.Effects.{Fact, Ends, fails, tells, changes, unless_ends, if_ends, empty_ends}
 
 -- ---- refusals
@@ -188,25 +189,8 @@ module _ (old : Node) (q : ℕ) where
   with_node_stays : (volume : VolumeState) (k : ℕ) (node : Node) → (k ≡ q → IsAsIt old node) → Stays volume → Stays (with_node volume k node)
   with_node_stays volume k node a h = record { node = insert_as volume.nodes k node a h.node; below = h.below }
 
--- ---- what names stand for
-
-found_node : (k : ℕ) (volume : VolumeState) (o : Option Node) (found : Found) → get volume.nodes k ≡ o → found_at k o ≡ Some found
-    → get volume.nodes found.fileid ≡ Some found.node
-found_node k volume None found e f = absurd cc
-found_node k volume (Some node) found e f =
-    let same : Prim.Path Found (record { fileid = k; node = node }) found = cc in
-    subst (λ (x : Found). get volume.nodes x.fileid ≡ Some x.node) same e
-
-found_there : (volume : VolumeState) (o : Option model.Listed) (found : Found) → child volume o ≡ Some found
-    → get volume.nodes found.fileid ≡ Some found.node
-found_there volume None found e = absurd cc
-found_there volume (Some x) found e = found_node x.fileid volume (get volume.nodes x.fileid) found refl e
-
 not_next : (q next : ℕ) → nat_lt q next ≡ true → next ≡ q → ⊥
 not_next q next e f = grind (arith, nat_tests)
-
-below_more : (q next : ℕ) → nat_lt q next ≡ true → nat_lt q (next + 1) ≡ true
-below_more q next e = grind (arith, nat_tests)
 
 -- ---- procedures
 

@@ -130,7 +130,7 @@ module _ (old : Node) (i q : ℕ) where
         (setattr_stays old q who s handle set guard moment) h
     serve_stays server (model.Lookup directory name) h =
         on_stays server _ directory _ _ (located server directory) (permitted_ends (Staying old q) who (model.Lookup directory name) _
-        (λ v k. name_ends (Staying old q) name moment lookup v k (λ n. found_ends (Staying old q) (staying old q) n (looked_up n)))) h
+        (λ v k. name_ends (Staying old q) name moment lookup v k (λ n e. found_ends (Staying old q) (staying old q) n (looked_up n)))) h
     serve_stays server (model.CheckAccess handle asked) h =
         on_stays server _ handle _ _ (located server handle)
         (λ v k. tell_ends (Staying old q) (staying old q) (λ object. model.AccessDone object (access_given who asked object)) v k) h

@@ -182,7 +182,7 @@ served server (model.Setattr handle set guard) who moment P w =
     (permitted_ends Telling who (model.Setattr handle set guard) _ (setattr_ends set guard who moment))
 served server (model.Lookup directory name) who moment P w =
     on_plain server (model.Lookup directory name) who moment P w _ directory _ _ refl (located server directory)
-    (permitted_ends Keeping who (model.Lookup directory name) _ (λ v f. name_ends Keeping name moment lookup v f (λ n. found_ends Keeping keeping n (looked_up n))))
+    (permitted_ends Keeping who (model.Lookup directory name) _ (λ v f. name_ends Keeping name moment lookup v f (λ n e. found_ends Keeping keeping n (looked_up n))))
 served server (model.CheckAccess handle asked) who moment P w =
     on_plain server (model.CheckAccess handle asked) who moment P w _ handle _ _ refl (located server handle)
     (λ v f. tell_ends Keeping keeping (λ object. model.AccessDone object (access_given who asked object)) v f)
