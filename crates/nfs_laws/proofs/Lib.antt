@@ -17,6 +17,7 @@ pub mod Remembering
 pub mod Refusals
 pub mod Strangers
 pub mod StrangersServed
+pub mod FileidsBelow
 pub mod Repeated
 pub mod Forgetting
 pub mod KeptByBlocks

@@ -254,27 +254,52 @@ pub fn unchecked_callers_are_free()
         → bits_given caller asked kind rights ≡ bits_of asked kind rights }
 {}
 
+/// A node's fileid is one that was given, so that no other node gets it: those to come are given
+/// from the next one on.
+pub fn fileids_are_given_once()
+    ensures { (layout : Layout) (verifier : List ℕ) (calls : List FinishedCall)
+        (volume fileid : ℕ) (state : VolumeState) (node : Node)
+        → slice_get (server_after (opening layout verifier) calls).volumes volume ≡ Some state
+        → get state.nodes fileid ≡ Some node
+        → nat_lt fileid state.next ≡ true }
+{}
+
 /// While strangers alone call, a directory keeps its names, its mode, its owner and its group, as
 /// long as it is there: callers that are checked, are neither uid 0 nor its owner, and haven't both
-/// w and x of it. Its fileid is one that was given, so that no other node gets it.
+/// w and x of it. So it is on any server whose fileids are below the next one, and at any time of a
+/// run.
 pub fn strangers_change_no_names()
-    ensures { (server : Server) (volume fileid : ℕ) (state : VolumeState)
+    ensures any { (server : Server) (volume fileid : ℕ) (state : VolumeState)
         (directory : DirectoryNode) (calls : List FinishedCall)
         → slice_get server.volumes volume ≡ Some state
         → get state.nodes fileid ≡ Some (Directory directory)
         → nat_lt fileid state.next ≡ true
         → AreAskedBy (MayNotChange (protection (Directory directory))) calls
         → IsAsWas (Directory directory) (node_of (server_after server calls) volume fileid) }
+    ensures run { (layout : Layout) (verifier : List ℕ) (before after : List FinishedCall)
+        (volume fileid : ℕ) (directory : DirectoryNode)
+        → node_of (server_after (opening layout verifier) before) volume fileid
+        ≡ Some (Directory directory)
+        → AreAskedBy (MayNotChange (protection (Directory directory))) after
+        → IsAsWas (Directory directory)
+        (node_of (server_after (opening layout verifier) (before ++ after)) volume fileid) }
 {}
 
 /// While strangers alone call, a file keeps its bytes, its mode, its owner and its group, as long as
 /// it is there: callers that are checked, are neither uid 0 nor its owner, and haven't w of it.
 pub fn strangers_change_no_bytes()
-    ensures { (server : Server) (volume fileid : ℕ) (state : VolumeState) (file : FileNode)
+    ensures any { (server : Server) (volume fileid : ℕ) (state : VolumeState) (file : FileNode)
         (calls : List FinishedCall)
         → slice_get server.volumes volume ≡ Some state
         → get state.nodes fileid ≡ Some (File file)
         → nat_lt fileid state.next ≡ true
         → AreAskedBy (MayNotWrite (protection (File file))) calls
         → IsAsWas (File file) (node_of (server_after server calls) volume fileid) }
+    ensures run { (layout : Layout) (verifier : List ℕ) (before after : List FinishedCall)
+        (volume fileid : ℕ) (file : FileNode)
+        → node_of (server_after (opening layout verifier) before) volume fileid
+        ≡ Some (File file)
+        → AreAskedBy (MayNotWrite (protection (File file))) after
+        → IsAsWas (File file)
+        (node_of (server_after (opening layout verifier) (before ++ after)) volume fileid) }
 {}
