@@ -1,28 +1,28 @@
 -- What strangers leave of a node: a call of one keeps its mode, owner and group, and its bytes or names.
-use Rattle.std.proofs.Common.{◌≡◌, ℕ, ◌+◌, Bool, true, false, not, cond, List, length, [], ◌∷◌, Option, Some, None, refl, sym, ap, ◌∙◌, subst, arith}
+use Rattle.std.proofs.Common.{◌≡◌, ℕ, Bool, true, false, not, cond, List, length, Option, Some, None, refl, sym, ap, ◌∙◌, subst, arith}
 use Rattle.std.specs.Prelude.{◌&&◌, ◌||◌, ◌==◌, is_some, is_none, nat_lt, if◌then◌else◌}
 use Rattle.std.proofs.lemmas.Bool.Decides.{nat_tests}
 use Rattle.std.specs.Ordering.{nat_cmp, is_eq}
 use Rattle.std.specs.declared.cmp.Ordering.{Ordering}
 use Rattle.std.specs.declared.cmp.Ordering.TheVariants.{Less, Equal, Greater}
 use Rattle.std.specs.Cmp.{nat_cmp_total}
-use Rattle.std.specs.FinMap.{FinMap, get, insert, remove, get-insert, get-remove, nat_cmp-IsAntisymmetric}
+use Rattle.std.specs.FinMap.{get, insert, remove, get-insert, get-remove, nat_cmp-IsAntisymmetric}
 use Rattle.nfs_model.specs.Types as model
 use Rattle.nfs_model.specs.Server.{Attributes, FileNode, DirectoryNode, Node, File, Directory, VolumeState}
-use Rattle.nfs_model.specs.Shown.{effective_attributes, settled}
-use Rattle.nfs_model.specs.Names.{find_name, is_dots, name_fault, same_name, dot, dot_dot, dropped_name, with_name}
-use Rattle.nfs_model.specs.Locate.{Effect, Fails, Tells, Changes, unless, on_node, on_directory, on_file, Found, child, Naming, on_name}
-use Rattle.nfs_model.specs.Serial.Rights.{Protection, protected, protection, rights_of, is_owner_or_root, may_write, may_change, may_search, may_drop}
+use Rattle.nfs_model.specs.Shown.{effective_attributes}
+use Rattle.nfs_model.specs.Names.{find_name, is_dots, name_fault, same_name, dot, dot_dot}
+use Rattle.nfs_model.specs.Locate.{Effect, Fails, Tells, unless, on_node, on_directory, on_file, Found, child, Naming, on_name}
+use Rattle.nfs_model.specs.Serial.Rights.{Protection, protected, protection, rights_of, is_owner_or_root, may_write, may_change, may_search}
 use Rattle.nfs_model.specs.Serial.Permission.{needs, reserved, then_asks, of_node, of_file, of_directory, sets_owned, sets_written, set_refusal}
 use Rattle.nfs_model.specs.Serial.Permission.{is_no_child, new_refusal, over_refusal, create_refusal, gone_refusal, target_refusal, moved_refusal, move_refusal}
-use Rattle.nfs_model.specs.Serial.Permission.{is_one_entry, rename_refusal, write_rights, is_change, refusal_by, refusal_of, permitted, permitted_two}
-use Rattle.nfs_model.specs.Serial.Setattr.{given, given_mode, set_node, set_taken, setattr_fault, replaced, with_node, set_file, setattr}
+use Rattle.nfs_model.specs.Serial.Permission.{is_one_entry, write_rights, is_change, refusal_by, permitted, permitted_two}
+use Rattle.nfs_model.specs.Serial.Setattr.{given, given_mode, set_node, set_taken, setattr_fault, replaced, with_node, setattr}
 use Rattle.nfs_model.specs.Serial.Write.{Writing, write_some, write}
-use Rattle.nfs_model.specs.Serial.Create.{with_child, made, set_there, told_as_it_is, over_taken, set_over, is_verifier, new_file, maker, create_over, create_at, create}
+use Rattle.nfs_model.specs.Serial.Create.{with_child, made, is_verifier, new_file, maker, create_over, create_at, create}
 use Rattle.nfs_model.specs.Serial.Mkdir.{new_directory, mkdir_at, mkdir}
 use Rattle.nfs_model.specs.Serial.Remove.{without_child, gone, remove_node, remove_at, remove_name}
 use Rattle.nfs_model.specs.Serial.Rmdir.{rmdir_node, rmdir_at, rmdir}
-use Rattle.nfs_model.specs.Serial.Rename.{Renaming, Nodes, changed_node, in_directory, moved_node, without_entry, with_entry, without_target, with_moved}
+use Rattle.nfs_model.specs.Serial.Rename.{Renaming, Nodes, changed_node, in_directory, moved_node, without_entry, with_entry, without_target}
 use Rattle.nfs_model.specs.Serial.Rename.{renamed_nodes, renamed_volume, climb_fault, met_above, may_go, is_same_entry, rename_at, rename_in, rename}
 use Rattle.nfs_laws.specs.Permissions.{IsStranger, IsAsIt, IsAsWas}
 use Rattle.nfs_laws.specs.lemmas.Fileids.{below_more, found_there}

@@ -5,17 +5,16 @@ use Rattle.std.specs.FinMap.{get}
 use Rattle.nfs_model.specs.Types as model
 use Rattle.nfs_model.specs.Memo.{Told}
 use Rattle.nfs_model.specs.Parts.{most_ranges}
-use Rattle.nfs_model.specs.Server.{FileNode, DirectoryNode, Node, File, Directory, VolumeState, Server}
-use Rattle.nfs_model.specs.Locate.{Effect, Fails, Tells, Changes, Located, locate, on_name}
+use Rattle.nfs_model.specs.Server.{Node, VolumeState, Server}
+use Rattle.nfs_model.specs.Locate.{Effect, Fails, Tells, Changes, Located, locate}
 use Rattle.nfs_model.specs.Replay.{FinishedCall, step_of, server_after}
-use Rattle.nfs_model.specs.Serial.Absent.{absent_parts}
 use Rattle.nfs_model.specs.Serial.Access.{access_given}
 use Rattle.nfs_model.specs.Serial.Lookup.{looked_up, lookup}
 use Rattle.nfs_model.specs.Serial.Mount.{parts_below}
 use Rattle.nfs_model.specs.Serial.Grow.{Grown, grown, grow_volume}
 use Rattle.nfs_model.specs.Serial.Once.{told_before, remembering, remembered, or_told, once}
-use Rattle.nfs_model.specs.Serial.Step.{Step, stay, placed, on, on_root, on_two, changing, serve, serial}
-use Rattle.nfs_laws.specs.Permissions.{MayNotWrite, MayNotChange, IsStranger, IsAskedBy, AreAskedBy, node_in, node_of, IsAsIt, IsAsWas}
+use Rattle.nfs_model.specs.Serial.Step.{Step, stay, placed, on, on_root, on_two, serve, serial}
+use Rattle.nfs_laws.specs.Permissions.{IsStranger, IsAskedBy, AreAskedBy, node_in, node_of, IsAsWas}
 use Rattle.nfs_laws.specs.lemmas.Effects.{Ends, ends_changes, permitted_ends, name_ends, tell_ends, getattr_ends, found_ends, read_ends, readdir_ends}
 use Rattle.nfs_laws.specs.lemmas.Effects.{readdirplus_ends, fsstat_ends, commit_ends, mount_below_ends}
 use Rattle.nfs_laws.specs.lemmas.Served.{IsIn, located}

@@ -1,11 +1,11 @@
 -- What permissions come to (RFC 1813 sections 2.5 and 4.4): why a call is refused, who is a stranger to an object, and what of it stays
 -- while strangers alone call.
-use Rattle.std.specs.Prelude.{◌≡◌, ℕ, ◌+◌, Bool, true, false, ◌==◌, List, [], ◌∷◌, Option, Some, None, slice_get, if◌then◌else◌}
+use Rattle.std.specs.Prelude.{◌≡◌, ℕ, ◌+◌, true, false, ◌==◌, List, [], ◌∷◌, Option, Some, None, slice_get, if◌then◌else◌}
 use Rattle.std.specs.FinMap.{get}
 use Rattle.nfs_model.specs.Types.{Moment, Caller, Kind, Regular, DirectoryKind, SetAttributes, Status}
 use Rattle.nfs_model.specs.Types.{Call, Setattr, Lookup, Read, Write, Create, Mkdir, Remove, Rmdir, Rename, Readdir, Readdirplus, Commit, Asked, Ask}
 use Rattle.nfs_model.specs.Memo.{Told}
-use Rattle.nfs_model.specs.Server.{Attributes, FileNode, DirectoryNode, Node, File, Directory, VolumeState, Server}
+use Rattle.nfs_model.specs.Server.{Attributes, Node, File, Directory, VolumeState, Server}
 use Rattle.nfs_model.specs.Locate.{Located, locate}
 use Rattle.nfs_model.specs.Serial.Rights.{Protection, protection, Rights, rights_of, is_owner_or_root, may_change}
 use Rattle.nfs_model.specs.Serial.Access.{bit_given}
