@@ -12,14 +12,14 @@ use Rattle.nfs_model.specs.Serial.Rights.{without_set_ids}
 use Rattle.nfs_model.specs.Serial.Access.{bit_given, writes_given, changes_given, bits_given}
 use Rattle.nfs_model.specs.Serial.Absent.{absent_parts}
 use Rattle.nfs_model.specs.Serial.Setattr.{given, given_mode, time_after, mode_taken, set_taken}
-use Rattle.nfs_model.specs.Serial.Write.{file_taken}
+use Rattle.nfs_model.specs.Serial.Write.{clears_set_ids, file_taken}
 use Rattle.nfs_model.specs.Serial.Create.{no_attributes, Maker, made_uid, checked_gid, made_gid, checked_mode, made_mode, over_taken, new_attributes}
 use Rattle.nfs_model.specs.Serial.Readdirplus.{listed_plus, listed_bare, listed_for}
 use Rattle.nfs_model.specs.Serial.Once.{told_before, or_told, once}
 use Rattle.nfs_model.specs.Serial.Permission.{needs, then_asks, of_node, of_file, of_directory, set_refusal, is_no_child, new_refusal, over_refusal}
 use Rattle.nfs_model.specs.Serial.Permission.{create_refusal, gone_refusal, target_refusal, moved_refusal, move_refusal, is_one_entry}
 use Rattle.nfs_model.specs.Serial.MountBelow.{search_refusal}
-use Rattle.nfs_model.specs.Serial.Permission.{is_change, write_rights, refusal_by, refusal_of, refusal, permitted, permitted_two}
+use Rattle.nfs_model.specs.Serial.Permission.{is_change, write_rights, refusal_by, refusal_of, refusal, write_refusal, permitted, permitted_two}
 use Rattle.nfs_model.specs.Serial.Step.{Step, stay, placed, on, on_two, changing, serve}
 use Rattle.nfs_laws.specs.Permissions.{refusal_on, refusal_on_two, refused, told_on, remembered_of, IsFree, bits_of, free_attributes}
 
@@ -246,6 +246,13 @@ pub free_writes : (caller : model.Caller) (f : FileNode) → caller.checked ≡ 
 free_writes caller f e =
     ap (λ b. cond (b && not (caller.credential.uid == 0) && not (without_set_ids f.attributes.mode == f.attributes.mode))
     (record f { attributes = record f.attributes { mode = without_set_ids f.attributes.mode } }) f) e
+
+pub free_clears : (caller : model.Caller) (f : FileNode) → caller.checked ≡ false → clears_set_ids caller f ≡ false
+free_clears caller f e =
+    ap (λ b. b && not (caller.credential.uid == 0) && not (without_set_ids f.attributes.mode == f.attributes.mode)) e
+
+pub free_is_written : (caller : model.Caller) (file : Protection) → IsFree caller → write_refusal caller file ≡ None
+free_is_written caller file free = free_is_asked_nothing caller true _ free
 
 pub free_lists : (caller : model.Caller) (volume : VolumeState) (d : DirectoryNode) (e : model.Listed) → caller.checked ≡ false
     → listed_for caller volume d e ≡ listed_plus volume e

@@ -12,14 +12,15 @@ ghost use Rattle.nfs_model.specs.Server.{opening, FileNode, DirectoryNode, Node}
 ghost use Rattle.nfs_model.specs.Server.{File, Directory, VolumeState, Server};
 ghost use Rattle.nfs_model.specs.Locate.{Effect};
 ghost use Rattle.nfs_model.specs.Serial.Absent.{absent_parts};
-ghost use Rattle.nfs_model.specs.Serial.Rights.{protection, Rights};
+ghost use Rattle.nfs_model.specs.Serial.Rights.{Protection, protection, Rights};
 ghost use Rattle.nfs_model.specs.Serial.Access.{bits_given};
 ghost use Rattle.nfs_model.specs.Serial.Setattr.{set_taken};
-ghost use Rattle.nfs_model.specs.Serial.Write.{file_taken};
+ghost use Rattle.nfs_model.specs.Serial.Write.{clears_set_ids, file_taken};
 ghost use Rattle.nfs_model.specs.Serial.Create.{Maker, over_taken, new_attributes};
 ghost use Rattle.nfs_model.specs.Serial.Readdirplus.{listed_plus, listed_for};
 ghost use Rattle.nfs_model.specs.Serial.MountBelow.{search_refusal};
-ghost use Rattle.nfs_model.specs.Serial.Permission.{refusal, permitted, permitted_two};
+ghost use Rattle.nfs_model.specs.Serial.Permission.{refusal, write_refusal};
+ghost use Rattle.nfs_model.specs.Serial.Permission.{permitted, permitted_two};
 ghost use Rattle.nfs_model.specs.Home.{home};
 ghost use Rattle.nfs_model.specs.Serial.Step.{serve, stay};
 ghost use Rattle.nfs_model.specs.Serial.AtOnce.{answer_without_home};
@@ -240,6 +241,12 @@ pub fn unchecked_callers_are_free()
     ensures writes { (caller : Caller) (file : FileNode)
         → caller.checked ≡ false
         → file_taken caller file ≡ file }
+    ensures clears { (caller : Caller) (file : FileNode)
+        → caller.checked ≡ false
+        → clears_set_ids caller file ≡ false }
+    ensures written { (caller : Caller) (file : Protection)
+        → IsFree caller
+        → write_refusal caller file ≡ None }
     ensures makes { (set : SetAttributes) (kind : Kind) (mode : ℕ) (maker : Maker)
         (moment : Moment)
         → maker.caller.checked ≡ false

@@ -1,4 +1,4 @@
-use Rattle.nfs_laws.proofs.Refusals.{free_is_served, free_searches, free_is_permitted, free_is_permitted_two, free_sets, free_sets_over, free_writes, free_makes, free_lists, free_has}
+use Rattle.nfs_laws.proofs.Refusals.{free_is_served, free_searches, free_is_permitted, free_is_permitted_two, free_sets, free_sets_over, free_writes, free_clears, free_is_written, free_makes, free_lists, free_has}
 use Rattle.nfs_laws.proofs.laws.unchecked_callers_are_free.Goals as goal
 
 pub returns-clause-served : goal.returns-clause-served
@@ -30,3 +30,9 @@ returns-clause-rights c = free_has
 
 pub returns-clause-mounts : goal.returns-clause-mounts
 returns-clause-mounts c = free_searches
+
+pub returns-clause-clears : goal.returns-clause-clears
+returns-clause-clears c = free_clears
+
+pub returns-clause-written : goal.returns-clause-written
+returns-clause-written c = free_is_written
