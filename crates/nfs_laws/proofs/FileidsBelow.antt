@@ -91,9 +91,9 @@ opens_below verifier from (x ∷ xs) (suc i) v e = opens_below verifier (from + 
 run_below : (layout : Layout) (verifier : List ℕ) (calls : List FinishedCall) → HaveBelow (server_after (opening layout verifier) calls)
 run_below layout verifier calls = below_after calls (opening layout verifier) (opens_below verifier 0 layout.volumes)
 
-pub given_once : (layout : Layout) (verifier : List ℕ) (calls : List FinishedCall) (i q : ℕ) (v : VolumeState) (node : Node)
+pub lies_below : (layout : Layout) (verifier : List ℕ) (calls : List FinishedCall) (i q : ℕ) (v : VolumeState) (node : Node)
     → slice_get (server_after (opening layout verifier) calls).volumes i ≡ Some v → get v.nodes q ≡ Some node → nat_lt q v.next ≡ true
-given_once layout verifier calls i q v node at there = run_below layout verifier calls i v at q node there
+lies_below layout verifier calls i q v node at there = run_below layout verifier calls i v at q node there
 
 -- ---- strangers on a server that calls led to
 

@@ -261,9 +261,8 @@ pub fn unchecked_callers_are_free()
         → bits_given caller asked kind rights ≡ bits_of asked kind rights }
 {}
 
-/// A node's fileid is one that was given, so that no other node gets it: those to come are given
-/// from the next one on.
-pub fn fileids_are_given_once()
+/// At any time of a run, the fileid of a node is below the next one that is given.
+pub fn fileids_lie_below_the_next()
     ensures { (layout : Layout) (verifier : List ℕ) (calls : List FinishedCall)
         (volume fileid : ℕ) (state : VolumeState) (node : Node)
         → slice_get (server_after (opening layout verifier) calls).volumes volume ≡ Some state
