@@ -18,3 +18,5 @@ mod Beside
 mod Moving
 mod Answering
 mod Again
+mod Checked
+mod Permitted
