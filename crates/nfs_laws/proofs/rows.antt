@@ -20,3 +20,4 @@ mod Answering
 mod Again
 mod Checked
 mod Permitted
+mod Named
