@@ -21,3 +21,4 @@ mod Again
 mod Checked
 mod Permitted
 mod Named
+mod Owned
