@@ -22,3 +22,4 @@ mod Checked
 mod Permitted
 mod Named
 mod Owned
+mod Reading
